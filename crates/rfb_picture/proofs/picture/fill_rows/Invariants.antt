@@ -1,0 +1,10 @@
+use Rattle.std.proofs.Common.{◌≡◌, ℕ, ◌+◌, ◌*◌, ◌<◌, slice_index_or, if◌then◌else◌}
+use Rattle.rfb_picture.specs.Rect.{contains}
+use Rattle.rfb_picture.proofs.picture.fill_rows.Given as goal
+
+-- the rectangle's rows so far have the value, and the other places are as they were
+abbrev pub invariant-loop-row : goal.invariant-loop-row
+invariant-loop-row g l =
+    (x y : ℕ) (d : g.row.T.Denot) →
+    x < l.width →
+    slice_index_or l.places (y * l.width + x) d ≡ (if contains (record l.rect { h = l.row }) x y then l.value else slice_index_or l.initial.places (y * l.width + x) d)

@@ -1,0 +1,7 @@
+-- Rectangles of places, RFC 6143 section 7.6.1: x-position, y-position, width and height.
+use Rattle.std.specs.Prelude.{ℕ, Bool, ◌+◌, ◌&&◌, nat_le, nat_lt}
+use Rattle.rfb_picture.specs.declared.rect.Rect.{Rect}
+
+-- place (x, y) lies in the rectangle
+abbrev pub contains : Rect → ℕ → ℕ → Bool
+contains r x y = nat_le r.x x && nat_lt x (r.x + r.w) && nat_le r.y y && nat_lt y (r.y + r.h)

@@ -1,0 +1,161 @@
+//! A picture of places, each with a value.
+
+ghost use Rattle.std.specs.Prelude.{◌≡◌, ℕ, ◌+◌, ◌-◌, ◌*◌, ◌<◌, ◌≤◌, ◌↔◌, ◌&&◌, nat_le, nat_lt, length, slice_index_or, if◌then◌else◌, IfOk, IsTrue};
+ghost use Rattle.rfb_picture.specs.Rect.{contains};
+
+use crate::rect::Rect;
+use std::alloc::{AllocError, Global};
+use std::marker::Model;
+
+/// `height` rows of `width` places, each with a value of `T`. Place (0, 0) is at the top left. It owns
+/// its values, keeps its size, and has exactly one value for each place; either size may be 0.
+#[derive(Drop)]
+pub struct Picture<T> {
+    width: u16,
+    height: u16,
+    places: Vec<T>,
+}
+
+impl<T> Model for Picture<T> {
+    ghost use Rattle.rfb_picture.specs.Grid.{Grid, grid, grid_code, IsGrid};
+
+    ghost Value = { Grid T };
+
+    ghost coded = { grid_code T.code };
+
+    ghost view = { λ p. grid p.width p.height p.places.items };
+
+    ghost invariant = { λ p. IsGrid (grid p.width p.height p.places.items) };
+}
+
+impl<T: Copy> Picture<T> {
+    ghost use Rattle.rfb_picture.specs.Grid.{IsGrid, Holds, at_or, row_of, filled, with_row, uniform};
+
+    /// A picture of `width` by `height` places with `value` at each. It asks for room for exactly
+    /// that many values, in one piece; where there is none it gives the error, and nothing is kept.
+    #[tactic(auto, unfolding(crate::specs::Grid::uniform))]
+    pub fn new(alloc: Global, width: u16, height: u16, value: T) -> Result<Picture<T>, AllocError>
+        ensures value { IfOk result (λ p. p ≡ uniform width height value) }
+        ensures width { IfOk result (λ p. p.width ≡ width) }
+        ensures height { IfOk result (λ p. p.height ≡ height) }
+    {
+        let count = usize::from(height) * usize::from(width);
+        let mut places = Vec::with_capacity(alloc, count)?;
+        places.resize(count, value)?;
+        Ok(Picture {
+            width,
+            height,
+            places,
+        })
+    }
+
+    /// How many places a row has. It also tells that the picture has a value for each place.
+    #[inline]
+    pub fn width(&self) -> u16
+        ensures value { result ≡ self.now.width }
+        ensures whole { IsGrid self.now }
+    {
+        self.width
+    }
+
+    /// How many rows the picture has.
+    #[inline]
+    pub fn height(&self) -> u16
+        ensures { result ≡ self.now.height }
+    {
+        self.height
+    }
+
+    /// Whether no edge of the rectangle passes the picture's. A rectangle with no place is judged
+    /// by its edges too.
+    pub fn holds(&self, rect: Rect) -> bool
+        ensures { IsTrue result ↔ Holds self.now rect }
+    {
+        // In 32 bits, since an edge may pass 65,535.
+        u32::from(rect.x) + u32::from(rect.w) <= u32::from(self.width)
+            && u32::from(rect.y) + u32::from(rect.h) <= u32::from(self.height)
+    }
+
+    /// The value at column `x` of row `y`.
+    #[inline]
+    pub fn at(&self, x: u16, y: u16) -> T
+        requires column { x < self.now.width }
+        requires row { y < self.now.height }
+        ensures { (d : T) → result ≡ at_or self.now x y d }
+    {
+        self.places[usize::from(y) * usize::from(self.width) + usize::from(x)]
+    }
+
+    /// Lends the values at `w` places of row `y`, from column `x` on.
+    #[inline]
+    pub fn row(&self, x: u16, y: u16, w: u16) -> &[T]
+        requires columns { x + w ≤ self.now.width }
+        requires row { y < self.now.height }
+        ensures value { result.now ≡ row_of self.now x y w }
+        ensures len { length result.now ≡ w }
+    {
+        let start = usize::from(y) * usize::from(self.width) + usize::from(x);
+        &self.places[start..start + usize::from(w)]
+    }
+
+    /// Gives `value` to each place of the rectangle.
+    pub fn fill(&mut self, rect: Rect, value: T)
+        requires { Holds self.old rect }
+        ensures value { self.new ≡ filled rect value self.old }
+        ensures width { self.new.width ≡ self.old.width }
+        ensures height { self.new.height ≡ self.old.height }
+    {
+        fill_rows(&mut self.places, usize::from(self.width), rect, value);
+    }
+
+    /// Writes `row` at (`x`, `y`) and on to the right. `row` stays the caller's.
+    pub fn put_row(&mut self, x: u16, y: u16, row: &[T])
+        requires columns { x + length row.now ≤ self.old.width }
+        requires row { y < self.old.height }
+        ensures value { self.new ≡ with_row x y row.now self.old }
+        ensures width { self.new.width ≡ self.old.width }
+        ensures height { self.new.height ≡ self.old.height }
+    {
+        let start = usize::from(y) * usize::from(self.width) + usize::from(x);
+        put_places(&mut self.places, start, row);
+    }
+
+    /// Becomes a copy of `other`, which has the same size and stays the caller's.
+    pub fn copy_from(&mut self, other: &Picture<T>)
+        requires width { self.old.width ≡ other.now.width }
+        requires height { self.old.height ≡ other.now.height }
+        ensures { self.new ≡ other.now }
+    {
+        self.places.copy_from_slice(&other.places);
+    }
+}
+
+// Gives `value` to each place of the rectangle, in rows of `width` places.
+fn fill_rows<T: Copy>(places: &mut [T], width: usize, rect: Rect, value: T)
+    requires columns { rect.x + rect.w ≤ width }
+    requires rows { (rect.y + rect.h) * width ≤ length places.old }
+    ensures { (x y : ℕ) (d : T) → x < width → slice_index_or places.new (y * width + x) d ≡ (if contains rect x y then value else slice_index_or places.old (y * width + x) d) }
+{
+    for row in 0..usize::from(rect.h) {
+        let start = (usize::from(rect.y) + row) * width + usize::from(rect.x);
+        fill_places(places, start, usize::from(rect.w), value);
+    }
+}
+
+// Gives `value` to `count` places in a row.
+fn fill_places<T: Copy>(places: &mut [T], start: usize, count: usize, value: T)
+    requires { start + count ≤ length places.old }
+    ensures { (i : ℕ) (d : T) → slice_index_or places.new i d ≡ (if nat_le start i && nat_lt i (start + count) then value else slice_index_or places.old i d) }
+{
+    for i in start..start + count {
+        places[i] = value;
+    }
+}
+
+// Writes `row` over as many places from `start` on.
+fn put_places<T: Copy>(places: &mut [T], start: usize, row: &[T])
+    requires { start + length row.now ≤ length places.old }
+    ensures { (i : ℕ) (d : T) → slice_index_or places.new i d ≡ (if nat_le start i && nat_lt i (start + length row.now) then slice_index_or row.now (i - start) d else slice_index_or places.old i d) }
+{
+    places[start..start + row.len()].copy_from_slice(row);
+}

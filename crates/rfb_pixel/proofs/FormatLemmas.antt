@@ -1,0 +1,146 @@
+-- Laws of pixel formats.
+use Rattle.std.proofs.Common.{◌≡◌, ℕ, ◌+◌, ◌-◌, ◌*◌, ◌/◌, ◌%◌, ◌^◌, ◌<◌, ◌≤◌, List, [], ◌∷◌, ◌++◌, Bool, true, false, cond, length, set, arith, refl, ap, ◌∙◌, sym, append-nil}
+use Rattle.std.specs.Prelude.{bit_and, bit_or, max}
+use Rattle.std.specs.Int.{bit_at}
+use Rattle.std.proofs.Math.Nat.{div-one}
+use Rattle.std.proofs.lemmas.Nat.{and_mask, mod_below, pow_pos}
+use Rattle.std.proofs.lemmas.Nat.Bits.{bit_at_or}
+use Rattle.byteorder.specs.Endian.{big_bytes, big_number, little_bytes, little_number}
+use Rattle.byteorder.specs.Numbers.{big_from-bytes, little_from-bytes}
+use Rattle.byteorder.proofs.Bytes.{pow256}
+use Rattle.rfb_pixel.specs.declared.colour.Colour.{Colour}
+use Rattle.rfb_pixel.specs.declared.channel.Channel.{Channel}
+use Rattle.rfb_pixel.specs.Channel.{max_of, IsField, IsInField, AgreeInField, held_in, field_for, component_in}
+use Rattle.rfb_pixel.specs.Format.{PixelFormat, IsFormat, IsColour, IsOutsideFields, FieldsHold, AgreeInFields, size_of, pixel_of, colour_of, pixel_bytes, pixel_number, rgb888, seen_through}
+use Rattle.rfb_pixel.proofs.ChannelLemmas.{rescaled-le, rescaled-same, bit_at-held_in, held_in-is, bit_at-placed, bit_at-outside}
+
+-- ---- bytes
+
+-- a slice of one byte holds the byte that is put there
+only_byte : (bytes : List ℕ) (b : ℕ) → length bytes ≡ 1 → set bytes 0 b ≡ b ∷ []
+only_byte [] b h = absurd (omega arith)
+only_byte (x ∷ []) b h = refl
+only_byte (x ∷ y ∷ bytes) b h = absurd (omega arith)
+
+-- a pixel of 8 bits is its low byte, in either byte order
+pub one_byte : (f : PixelFormat) (pixel : ℕ) (bytes : List ℕ) → f.bits_per_pixel ≡ 8 → length bytes ≡ size_of f → set bytes 0 (bit_and pixel 255) ≡ pixel_bytes f pixel
+one_byte f pixel bytes e h =
+    let size : size_of f ≡ 1 = ap (λ (n : ℕ). n / 8) e in
+    let low : bit_and pixel 255 ≡ pixel % 256 = and_mask pixel 8 in
+    let big : big_bytes (size_of f) pixel ≡ pixel % 256 ∷ [] = rw size refl in
+    let little : little_bytes (size_of f) pixel ≡ pixel % 256 ∷ [] = rw size refl in
+    let same : (b : Bool) → cond b (big_bytes (size_of f) pixel) (little_bytes (size_of f) pixel) ≡ pixel % 256 ∷ [] = λ b. elim b as (λ (v : Bool). cond v (big_bytes (size_of f) pixel) (little_bytes (size_of f) pixel) ≡ pixel % 256 ∷ []) [ true ↦ big | false ↦ little ] in
+    only_byte bytes (bit_and pixel 255) (h ∙ size) ∙ ap (λ (x : ℕ). x ∷ []) low ∙ sym (same f.big_endian)
+
+-- what is read back of a pixel's bytes is the pixel's low bits, whatever follows
+pub pixel_number-pixel_bytes : (f : PixelFormat) (pixel : ℕ) (rest : List ℕ) → pixel_number f (pixel_bytes f pixel ++ rest) ≡ pixel % 2 ^ (8 * size_of f)
+pixel_number-pixel_bytes f pixel rest = ordered f.big_endian
+  where
+    ordered : (b : Bool) → cond b (big_number (size_of f) (cond b (big_bytes (size_of f) pixel) (little_bytes (size_of f) pixel) ++ rest)) (little_number (size_of f) (cond b (big_bytes (size_of f) pixel) (little_bytes (size_of f) pixel) ++ rest)) ≡ pixel % 2 ^ (8 * size_of f)
+    ordered true = big_from-bytes (size_of f) pixel rest ∙ ap (λ (m : ℕ). pixel % m) (pow256 (size_of f))
+    ordered false = little_from-bytes (size_of f) 0 pixel rest ∙ rw div-one (ap (λ (m : ℕ). pixel % m) (pow256 (size_of f)))
+
+-- ---- fields
+
+-- colours with the same components are one
+pub same_colour : (a b : Colour) → a.r ≡ b.r → a.g ≡ b.g → a.b ≡ b.b → a ≡ b
+same_colour a b red green blue = λ i. record { r = red i; g = green i; b = blue i }
+
+-- a component is rounded into its field
+pub field_for-lt : (bits : ℕ) (c : Channel) (component : ℕ) → IsField bits c → component ≤ 255 → field_for c component < 2 ^ c.width
+field_for-lt bits c component ok small =
+    omega (arith, rescaled-le 255 (max_of c) component (omega arith) small, pow_pos c.width)
+
+-- a bit of a pixel value: the greatest of the three fields' bits there
+bit_at-pixel_of : (f : PixelFormat) (c : Colour) (i : ℕ) → bit_at (pixel_of f c) i ≡ max (max (bit_at (field_for f.red c.r * 2 ^ f.red.shift) i) (bit_at (field_for f.green c.g * 2 ^ f.green.shift) i)) (bit_at (field_for f.blue c.b * 2 ^ f.blue.shift) i)
+bit_at-pixel_of f c i =
+    let red = field_for f.red c.r * 2 ^ f.red.shift in
+    let green = field_for f.green c.g * 2 ^ f.green.shift in
+    let blue = field_for f.blue c.b * 2 ^ f.blue.shift in
+    bit_at_or (bit_or red green) blue i ∙ ap (λ (m : ℕ). max m (bit_at blue i)) (bit_at_or red green i)
+
+-- bits outside the fields are zero
+pub pixel_of-outside : (f : PixelFormat) (c : Colour) → IsFormat f → IsColour c → (i : ℕ) → IsOutsideFields f i → bit_at (pixel_of f c) i ≡ 0
+pixel_of-outside f c ok small i out =
+    let red = bit_at-outside f.red (field_for f.red c.r) i (field_for-lt f.bits_per_pixel f.red c.r ok.red small.0) out.red in
+    let green = bit_at-outside f.green (field_for f.green c.g) i (field_for-lt f.bits_per_pixel f.green c.g ok.green small.1) out.green in
+    let blue = bit_at-outside f.blue (field_for f.blue c.b) i (field_for-lt f.bits_per_pixel f.blue c.b ok.blue small.2) out.blue in
+    bit_at-pixel_of f c i ∙ rw (red, green, blue) refl
+
+-- each field of a colour's pixel value holds its component, rounded
+pub pixel_of-fields : (f : PixelFormat) (c : Colour) → IsFormat f → IsColour c → FieldsHold f c (pixel_of f c)
+pixel_of-fields f c ok small =
+    let red_small = field_for-lt f.bits_per_pixel f.red c.r ok.red small.0 in
+    let green_small = field_for-lt f.bits_per_pixel f.green c.g ok.green small.1 in
+    let blue_small = field_for-lt f.bits_per_pixel f.blue c.b ok.blue small.2 in
+    let red_out = λ (i : ℕ) (out : IsInField f.red i → ⊥). bit_at-outside f.red (field_for f.red c.r) i red_small out in
+    let green_out = λ (i : ℕ) (out : IsInField f.green i → ⊥). bit_at-outside f.green (field_for f.green c.g) i green_small out in
+    let blue_out = λ (i : ℕ) (out : IsInField f.blue i → ⊥). bit_at-outside f.blue (field_for f.blue c.b) i blue_small out in
+    record {
+      red = held_in-is f.red (pixel_of f c) (field_for f.red c.r) red_small (λ i low.
+          let here : IsInField f.red (f.red.shift + i) = (omega arith, omega arith) in
+          let own = bit_at-placed f.red.shift (field_for f.red c.r) i in
+          let green = green_out (f.red.shift + i) (λ there. ok.red_green (f.red.shift + i) here there) in
+          let blue = blue_out (f.red.shift + i) (λ there. ok.red_blue (f.red.shift + i) here there) in
+          bit_at-pixel_of f c (f.red.shift + i) ∙ rw (own, green, blue) (omega arith));
+      green = held_in-is f.green (pixel_of f c) (field_for f.green c.g) green_small (λ i low.
+          let here : IsInField f.green (f.green.shift + i) = (omega arith, omega arith) in
+          let own = bit_at-placed f.green.shift (field_for f.green c.g) i in
+          let red = red_out (f.green.shift + i) (λ there. ok.red_green (f.green.shift + i) there here) in
+          let blue = blue_out (f.green.shift + i) (λ there. ok.green_blue (f.green.shift + i) here there) in
+          bit_at-pixel_of f c (f.green.shift + i) ∙ rw (red, own, blue) (omega arith));
+      blue = held_in-is f.blue (pixel_of f c) (field_for f.blue c.b) blue_small (λ i low.
+          let here : IsInField f.blue (f.blue.shift + i) = (omega arith, omega arith) in
+          let own = bit_at-placed f.blue.shift (field_for f.blue c.b) i in
+          let red = red_out (f.blue.shift + i) (λ there. ok.red_blue (f.blue.shift + i) there here) in
+          let green = green_out (f.blue.shift + i) (λ there. ok.green_blue (f.blue.shift + i) there here) in
+          bit_at-pixel_of f c (f.blue.shift + i) ∙ rw (red, green, own) (omega arith));
+    }
+
+-- a field that has the same bits holds the same
+held_in-agree : (bits : ℕ) (c : Channel) (p q : ℕ) → AgreeInField c p q → held_in c p ≡ held_in c q
+held_in-agree bits c p q same =
+    held_in-is c p (held_in c q) (mod_below (q / 2 ^ c.shift) (2 ^ c.width) (pow_pos c.width)) (λ i low.
+    same (c.shift + i) (omega arith, omega arith) ∙ sym (bit_at-held_in c q i low))
+
+-- pixel values with the same bits in the fields have one colour
+pub colour_of-agree : (f : PixelFormat) (p q : ℕ) → AgreeInFields f p q → colour_of f p ≡ colour_of f q
+colour_of-agree f p q same =
+    let red = held_in-agree 32 f.red p q same.red in
+    let green = held_in-agree 32 f.green p q same.green in
+    let blue = held_in-agree 32 f.blue p q same.blue in
+    rw (red, green, blue) refl
+
+-- a component comes back from a field of eight bits as it was
+component-exact : (c : Channel) (component pixel : ℕ) → c.width ≡ 8 → held_in c pixel ≡ field_for c component → component_in c pixel ≡ component
+component-exact c component pixel wide held =
+    let max : max_of c ≡ 255 = ap (λ (n : ℕ). 2 ^ n - 1) wide in
+    let there : field_for c component ≡ component = rw max (rescaled-same 255 component (omega arith)) in
+    rw (max, held, there) (rescaled-same 255 component (omega arith))
+
+-- a colour comes back as it was where each field has eight bits
+pub seen_through-exact : (f : PixelFormat) (c : Colour) → IsFormat f → f.red.width ≡ 8 → f.green.width ≡ 8 → f.blue.width ≡ 8 → IsColour c → seen_through f c ≡ c
+seen_through-exact f c ok red_wide green_wide blue_wide small =
+    let held = pixel_of-fields f c ok small in
+    let red = component-exact f.red c.r (pixel_of f c) red_wide held.red in
+    let green = component-exact f.green c.g (pixel_of f c) green_wide held.green in
+    let blue = component-exact f.blue c.b (pixel_of f c) blue_wide held.blue in
+    same_colour (seen_through f c) c red green blue
+
+-- rgb888 is a format
+pub rgb888-is_format : IsFormat rgb888
+rgb888-is_format = record {
+  whole = refl;
+  deep = omega arith;
+  red = (omega arith, omega arith, omega arith);
+  green = (omega arith, omega arith, omega arith);
+  blue = (omega arith, omega arith, omega arith);
+  red_green = λ i here there. omega arith;
+  red_blue = λ i here there. omega arith;
+  green_blue = λ i here there. omega arith;
+}
+
+-- what a pixel's bytes read as
+pub low_bits : (f : PixelFormat) (pixel : ℕ) (bytes : List ℕ) → bytes ≡ pixel_bytes f pixel → pixel_number f bytes ≡ pixel % 2 ^ (8 * size_of f)
+low_bits f pixel bytes e =
+    ap (pixel_number f) (e ∙ sym (append-nil (pixel_bytes f pixel))) ∙ pixel_number-pixel_bytes f pixel []

@@ -1,0 +1,2 @@
+pub mod ChannelLemmas
+pub mod FormatLemmas

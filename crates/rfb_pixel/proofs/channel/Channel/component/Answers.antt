@@ -1,0 +1,8 @@
+use Rattle.std.proofs.Common.{◌^◌, ◌/◌, refl}
+use Rattle.std.proofs.lemmas.Nat.{and_mask}
+use Rattle.rfb_pixel.proofs.channel.Channel.component.Goals as goal
+
+pub returns : goal.returns
+returns c =
+    let field = and_mask (c.args.pixel / 2 ^ c.args.self.shift) c.args.self.width in
+    rw (c.rescale.ensures.value, c.max-max.ensures.value, field) refl

@@ -1,0 +1,91 @@
+-- Pixel formats, RFC 6143 section 7.4: what contracts see of a `Format`, and what a pixel means.
+use Rattle.std.specs.Prelude.{◌≡◌, ℕ, ◌*◌, ◌/◌, ◌^◌, ◌≤◌, ◌==◌, ◌||◌, Bool, false, List, bit_or, IsTrue, if◌then◌else◌}
+use Rattle.byteorder.specs.Endian.{big_bytes, big_number, little_bytes, little_number}
+use Rattle.rfb_pixel.specs.declared.colour.Colour.{Colour}
+use Rattle.rfb_pixel.specs.declared.channel.Channel.{Channel}
+use Rattle.rfb_pixel.specs.declared.colour.TheConstants.{COMPONENT_MAX}
+use Rattle.rfb_pixel.specs.Channel.{IsField, IsInField, AgreeInField, held_in, field_for, component_in}
+
+-- the fields of a PIXEL_FORMAT whose true-colour-flag is set
+pub record PixelFormat : Type 0 where
+  pub bits_per_pixel : ℕ
+  pub depth : ℕ
+  pub big_endian : Bool
+  pub red : Channel
+  pub green : Channel
+  pub blue : Channel
+
+-- no bit of a pixel is in both fields
+abbrev pub IsApart : Channel → Channel → Type 0
+IsApart a b = (i : ℕ) → IsInField a i → IsInField b i → ⊥
+
+-- a format that a peer may ask for: 8, 16 or 32 bits, and three fields inside them that share no bit
+pub record IsFormat (f : PixelFormat) : Type 0 where
+  pub whole : IsTrue (f.bits_per_pixel == 8 || f.bits_per_pixel == 16 || f.bits_per_pixel == 32)
+  pub deep : f.depth ≤ f.bits_per_pixel
+  pub red : IsField f.bits_per_pixel f.red
+  pub green : IsField f.bits_per_pixel f.green
+  pub blue : IsField f.bits_per_pixel f.blue
+  pub red_green : IsApart f.red f.green
+  pub red_blue : IsApart f.red f.blue
+  pub green_blue : IsApart f.green f.blue
+
+-- how many bytes a pixel has
+abbrev pub size_of : PixelFormat → ℕ
+size_of f = f.bits_per_pixel / 8
+
+-- the pixel value of a colour: each component's field at its shift
+abbrev pub pixel_of : PixelFormat → Colour → ℕ
+pixel_of f c =
+    bit_or
+    (bit_or (field_for f.red c.r * 2 ^ f.red.shift) (field_for f.green c.g * 2 ^ f.green.shift))
+    (field_for f.blue c.b * 2 ^ f.blue.shift)
+
+-- bit i of a pixel belongs to none of the three fields
+pub record IsOutsideFields (f : PixelFormat) (i : ℕ) : Type 0 where
+  pub red : IsInField f.red i → ⊥
+  pub green : IsInField f.green i → ⊥
+  pub blue : IsInField f.blue i → ⊥
+
+-- each field of the pixel value holds what its component is rounded to
+pub record FieldsHold (f : PixelFormat) (c : Colour) (p : ℕ) : Type 0 where
+  pub red : held_in f.red p ≡ field_for f.red c.r
+  pub green : held_in f.green p ≡ field_for f.green c.g
+  pub blue : held_in f.blue p ≡ field_for f.blue c.b
+
+-- two pixel values have the same bits in all three fields
+pub record AgreeInFields (f : PixelFormat) (p q : ℕ) : Type 0 where
+  pub red : AgreeInField f.red p q
+  pub green : AgreeInField f.green p q
+  pub blue : AgreeInField f.blue p q
+
+-- a colour's components are at most COMPONENT_MAX
+abbrev pub IsColour : Colour → Type 0
+IsColour c = (c.r ≤ COMPONENT_MAX) × (c.g ≤ COMPONENT_MAX) × (c.b ≤ COMPONENT_MAX)
+
+-- the colour of a pixel value
+abbrev pub colour_of : PixelFormat → ℕ → Colour
+colour_of f p = record { r = component_in f.red p; g = component_in f.green p; b = component_in f.blue p }
+
+-- what a colour looks like through a format
+abbrev pub seen_through : PixelFormat → Colour → Colour
+seen_through f c = colour_of f (pixel_of f c)
+
+-- the bytes of a pixel value on the wire; bits above the size are not sent
+abbrev pub pixel_bytes : PixelFormat → ℕ → List ℕ
+pixel_bytes f p = if f.big_endian then big_bytes (size_of f) p else little_bytes (size_of f) p
+
+-- the pixel value that bytes begin with
+abbrev pub pixel_number : PixelFormat → List ℕ → ℕ
+pixel_number f bytes = if f.big_endian then big_number (size_of f) bytes else little_number (size_of f) bytes
+
+-- the format that this project announces
+abbrev pub rgb888 : PixelFormat
+rgb888 = record {
+  bits_per_pixel = 32;
+  depth = 24;
+  big_endian = false;
+  red = record { width = 8; shift = 16 };
+  green = record { width = 8; shift = 8 };
+  blue = record { width = 8; shift = 0 };
+}
