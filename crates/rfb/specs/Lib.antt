@@ -1,0 +1,6 @@
+pub mod Messages
+pub mod Number
+pub mod Pair
+pub mod PairFields
+pub mod Pixmap
+pub mod Run

@@ -1,0 +1,109 @@
+//! What can go wrong, told apart for a caller. Each prints as its number and its name.
+
+ghost use Rattle.std.specs.Prelude.{◌≡◌, ◌≢◌, ◌⊎◌};
+ghost use Rattle.std.specs.IoError.{error_kind};
+ghost use Rattle.std.specs.declared.io.ErrorKind.TheVariants.{OutOfMemory};
+
+use std::alloc::{AllocError, AllocFailed};
+use std::io;
+use std::io::ErrorKind;
+use thiserror::Error;
+
+/// A drawing leaves the screen. It changed nothing.
+#[derive(Clone, Copy, Debug, PartialEq, Eq, Error)]
+#[error("24 Outside")]
+pub struct Outside;
+
+/// Why a viewer refuses a call of its own side. The call changed nothing.
+#[derive(Clone, Copy, Debug, PartialEq, Eq, Error)]
+pub enum CallFault {
+    /// The viewer has no picture yet.
+    #[error("25 NotReady")]
+    NotReady,
+    /// An update that was requested has not come yet.
+    #[error("26 Busy")]
+    Busy,
+    /// The requested area has no place, or leaves the screen.
+    #[error("27 AreaOutside")]
+    AreaOutside,
+}
+
+/// A call that was refused on the spot, by the end that it was made on. It changed nothing, and later
+/// calls are judged as if it had not been made.
+#[derive(Clone, Copy, Debug, PartialEq, Eq, Error)]
+pub enum Refused {
+    /// A drawing on the server's screen.
+    #[error("{0}")]
+    Drawing(Outside),
+    /// A call of the viewer.
+    #[error("{0}")]
+    Call(CallFault),
+}
+
+/// Why the program stops before its work is done.
+#[derive(Clone, Copy, Debug, PartialEq, Eq, Error)]
+pub enum Fault {
+    /// There is no picture to write.
+    #[error("25 NotReady")]
+    NotReady,
+    /// A read or a write failed.
+    #[error("29 Device")]
+    Device,
+    /// Memory was refused.
+    #[error("30 NoMemory")]
+    NoMemory,
+}
+
+impl From<AllocError> for Fault {
+    ghost use Rattle.rfb.specs.declared.fault.Fault.TheVariants.{NoMemory};
+
+    ghost from_gives = { λ _ fault. fault ≡ NoMemory };
+
+    fn from(_error: AllocError) -> Fault {
+        Fault::NoMemory
+    }
+}
+
+impl<T: Drop> From<AllocFailed<T>> for Fault {
+    ghost use Rattle.rfb.specs.declared.fault.Fault.TheVariants.{NoMemory};
+
+    ghost from_gives = { λ _ fault. fault ≡ NoMemory };
+
+    fn from(_error: AllocFailed<T>) -> Fault {
+        Fault::NoMemory
+    }
+}
+
+impl From<io::Error> for Fault {
+    ghost use Rattle.rfb.specs.declared.fault.Fault.TheVariants.{Device, NoMemory};
+
+    ghost from_gives = { λ error fault. ((error_kind error ≡ OutOfMemory) × (fault ≡ NoMemory)) ⊎ ((error_kind error ≢ OutOfMemory) × (fault ≡ Device)) };
+
+    fn from(error: io::Error) -> Fault {
+        if error.kind() == ErrorKind::OutOfMemory {
+            Fault::NoMemory
+        } else {
+            Fault::Device
+        }
+    }
+}
+
+/// Why a command ends with status 1. Its text is the command's last line on standard error.
+#[derive(Clone, Copy, Debug, PartialEq, Eq, Error)]
+pub enum Failure {
+    /// The first bad line of a script, counted from 1. Nothing was run.
+    #[error("line {0}: bad line")]
+    BadLine(u64),
+    /// Something that no script is to blame for.
+    #[error("fault {0}")]
+    Fault(Fault),
+}
+
+impl<E> From<E> for Failure
+where
+    Fault: From<E>,
+{
+    fn from(error: E) -> Failure {
+        Failure::Fault(Fault::from(error))
+    }
+}

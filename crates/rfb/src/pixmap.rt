@@ -1,0 +1,48 @@
+//! Pictures as PPM files, the portable pixmaps of Netpbm.
+
+ghost use Rattle.std.specs.Prelude.{◌≡◌, ℕ, ◌*◌, ◌<◌, length};
+ghost use Rattle.rfb.specs.Pixmap.{ShowsColour};
+
+use rfb_picture::Picture;
+use rfb_pixel::Colour;
+use std::alloc::Global;
+use std::io;
+use std::io::{BufWriter, Write};
+
+// Red, green and blue, a byte each.
+const BYTES_PER_PLACE: usize = 3;
+
+/// Writes a picture as PPM: the header `P6`, the width and the height, the largest component, then
+/// three bytes a place, row by row from the top. All is written and flushed where it gives `Ok`;
+/// where it gives an error, the beginning may have been written. It takes memory for a row and for
+/// a buffer, and writes nothing where that is refused.
+pub fn write_pixmap<W: Write>(
+    alloc: Global,
+    picture: &Picture<Colour>,
+    output: &mut W,
+) -> io::Result<()> {
+    let width = picture.width();
+    let height = picture.height();
+    let mut bytes = Vec::new(alloc);
+    bytes.resize(BYTES_PER_PLACE * usize::from(width), 0)?;
+    let mut output = BufWriter::new(alloc, output)?;
+    write!(output, "P6\n{width} {height}\n255\n")?;
+    for y in 0..height {
+        put_components(picture.row(0, y, width), &mut bytes);
+        output.write_all(&bytes)?;
+    }
+    output.flush()
+}
+
+// Writes the components of each colour, red first, one colour after the other.
+fn put_components(colours: &[Colour], bytes: &mut [u8])
+    requires { length bytes.old ≡ 3 * length colours.now }
+    ensures { (i : ℕ) → i < length colours.now → ShowsColour bytes.new colours.now i }
+{
+    for (i, colour) in colours.iter().enumerate() {
+        let start = BYTES_PER_PLACE * i;
+        bytes[start] = colour.r;
+        bytes[start + 1] = colour.g;
+        bytes[start + 2] = colour.b;
+    }
+}

@@ -1,0 +1,180 @@
+//! Inputs and outputs that fail.
+
+use super::SCRIPT;
+use super::picture::LEFT_PLACE_FILLED;
+use crate::command_line::command;
+use std::io;
+use std::io::{ErrorKind, Read, Write};
+
+/// Gives its bytes, and then fails.
+#[derive(Drop)]
+struct FailingReader<'a> {
+    bytes: &'a [u8],
+    kind: ErrorKind,
+}
+
+impl Read for FailingReader<'_> {
+    fn read(&mut self, buf: &mut [u8]) -> io::Result<usize> {
+        if self.bytes.is_empty() {
+            return Err(io::Error::from(self.kind));
+        }
+        self.bytes.read(buf)
+    }
+}
+
+/// Takes as many bytes as it has room for, and then fails.
+#[derive(Drop)]
+struct FailingWriter {
+    room: usize,
+    can_flush: bool,
+}
+
+impl Write for FailingWriter {
+    fn write(&mut self, buf: &[u8]) -> io::Result<usize> {
+        if self.room == 0 {
+            return Err(io::Error::from(ErrorKind::StorageFull));
+        }
+        let count = buf.len().min(self.room);
+        self.room -= count;
+        Ok(count)
+    }
+
+    fn flush(&mut self) -> io::Result<()> {
+        if self.can_flush {
+            Ok(())
+        } else {
+            Err(io::Error::from(ErrorKind::BrokenPipe))
+        }
+    }
+}
+
+// Outputs that fail at a picture of 12,301 bytes or before.
+const FAILING_OUTPUTS: [(usize, bool); 6] = [
+    (0, true),
+    (5, true),
+    (8_192, true),
+    (12_300, true),
+    (12_301, false),
+    (usize::MAX, false),
+];
+
+#[test]
+fn a_failing_output_is_told_after_the_refusals(rt: HostRuntime) {
+    let script = b"screen 64 64
+request full 0 0 1 1
+settle
+fill 64 0 1 1 FF8001
+";
+    let told = b"line 2: refused 25 NotReady
+line 4: refused 24 Outside
+fault 29 Device
+";
+    for (room, can_flush) in FAILING_OUTPUTS {
+        let mut input = script.as_slice();
+        let mut output = FailingWriter { room, can_flush };
+        let mut errors = Vec::new(rt.alloc());
+        let words = SCRIPT.as_slice();
+        let status = command(&rt, words, &mut input, &mut output, &mut errors);
+        assert_eq!(rt; errors.as_slice(), told.as_slice(), "room {room}");
+        assert_eq!(rt; status, 1, "room {room}");
+    }
+}
+
+#[test]
+fn help_that_cannot_be_written_is_a_fault(rt: HostRuntime) {
+    for (room, can_flush) in [(0, true), (5, true), (usize::MAX, false)] {
+        let mut input = b"".as_slice();
+        let mut output = FailingWriter { room, can_flush };
+        let mut errors = Vec::new(rt.alloc());
+        let words = ["rfb", "--help"].as_slice();
+        let status = command(&rt, words, &mut input, &mut output, &mut errors);
+        assert_eq!(rt;
+            errors.as_slice(),
+            b"fault 29 Device\n".as_slice(),
+            "room {room}"
+        );
+        assert_eq!(rt; status, 1, "room {room}");
+    }
+}
+
+#[test]
+fn a_failing_input_is_told_and_nothing_runs(rt: HostRuntime) {
+    for (bytes, kind, told) in [
+        (
+            b"".as_slice(),
+            ErrorKind::Other,
+            b"fault 29 Device\n".as_slice(),
+        ),
+        (
+            b"screen 2 1\nsettle\n".as_slice(),
+            ErrorKind::Other,
+            b"fault 29 Device\n".as_slice(),
+        ),
+        // Not even a bad line is told.
+        (
+            b"screen 2 1\nsettler\n".as_slice(),
+            ErrorKind::TimedOut,
+            b"fault 29 Device\n".as_slice(),
+        ),
+        (
+            b"screen 2 1\nsettle\n".as_slice(),
+            ErrorKind::OutOfMemory,
+            b"fault 30 NoMemory\n".as_slice(),
+        ),
+    ] {
+        let mut input = FailingReader { bytes, kind };
+        let mut output = Vec::new(rt.alloc());
+        let mut errors = Vec::new(rt.alloc());
+        let words = SCRIPT.as_slice();
+        let status = command(&rt, words, &mut input, &mut output, &mut errors);
+        assert_eq!(rt; errors.as_slice(), told);
+        assert_eq!(rt; output.as_slice(), b"".as_slice());
+        assert_eq!(rt; status, 1);
+    }
+}
+
+#[test]
+fn failing_errors_change_no_status(rt: HostRuntime) {
+    let script = SCRIPT.as_slice();
+    for (words, bytes, status, written) in [
+        // A refusal, and then the picture.
+        (
+            script,
+            b"screen 2 1
+fill 2 0 1 1 000000
+fill 0 0 1 1 FF8001
+settle
+request full 0 0 2 1
+settle
+compose
+settle
+"
+                .as_slice(),
+            0,
+            LEFT_PLACE_FILLED,
+        ),
+        (
+            script,
+            b"screen 2 1\nfill 2 0 1 1 000000\n".as_slice(),
+            1,
+            b"".as_slice(),
+        ),
+        (script, b"screen 2 1\npaint\n".as_slice(), 1, b"".as_slice()),
+        (
+            ["rfb", "paint"].as_slice(),
+            b"".as_slice(),
+            2,
+            b"".as_slice(),
+        ),
+    ] {
+        let mut input = bytes;
+        let mut output = Vec::new(rt.alloc());
+        let mut errors = FailingWriter {
+            room: 3,
+            can_flush: true,
+        };
+        let answered = command(&rt, words, &mut input, &mut output, &mut errors);
+        assert_eq!(rt; output.as_slice(), written);
+        assert_eq!(rt; answered, status);
+    }
+}

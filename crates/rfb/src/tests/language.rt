@@ -1,0 +1,174 @@
+//! Which lines a script may have.
+
+use super::picture::LEFT_PLACE_FILLED;
+use super::run;
+use std::test::Fail;
+
+// Lines that are bad wherever they stand after the first, each for one reason.
+const BAD_LINES: [&[u8]; 57] = [
+    // No keyword, or none that is known.
+    b"paint 0 0 1 1 FF8001",
+    b"Fill 0 0 1 1 FF8001",
+    b"COMPOSE",
+    b"# a remark",
+    b"request inc 0 0 2 1",
+    b"request Full 0 0 2 1",
+    b"request 0 0 2 1",
+    // A screen is there already.
+    b"screen 2 1",
+    // Words too many or too few.
+    b"fill",
+    b"fill 0 0 1 1",
+    b"fill 0 0 1 FF8001",
+    b"fill 0 0 1 1 FF8001 0",
+    b"request full 0 0 2",
+    b"request full 0 0 2 1 1",
+    b"compose 1",
+    b"settle 8",
+    b"settle settle",
+    // Spaces other than one between two words.
+    b" ",
+    b"  ",
+    b" compose",
+    b"compose ",
+    b"fill  0 0 1 1 FF8001",
+    b"fill 0 0 1 1  FF8001",
+    // Characters that no line has.
+    b"\t",
+    b"compose\t",
+    b"fill\t0 0 1 1 FF8001",
+    b"compose\r",
+    b"\r",
+    b"compose\0",
+    b"compose\x7F",
+    b"compose\x80",
+    b"compose\xC3\xA9",
+    b"fill 0 0 1 1 \xEF\xBC\xA6F8001",
+    b"fill \xEF\xBC\x91 0 1 1 FF8001",
+    // Numbers out of range, and what is no number.
+    b"fill 65536 0 1 1 FF8001",
+    b"fill 0 65536 1 1 FF8001",
+    b"fill 0 0 65536 1 FF8001",
+    b"fill 0 0 1 65536 FF8001",
+    b"fill 4294967296 0 1 1 FF8001",
+    b"fill 4295032831 0 1 1 FF8001",
+    b"fill 9999999999 0 1 1 FF8001",
+    b"fill 00000000001 0 1 1 FF8001",
+    b"fill 18446744073709551616 0 1 1 FF8001",
+    b"fill +1 0 1 1 FF8001",
+    b"fill -1 0 1 1 FF8001",
+    b"fill 0x1 0 1 1 FF8001",
+    b"fill 1. 0 1 1 FF8001",
+    b"fill A 0 1 1 FF8001",
+    b"request full 0 0 2 65536",
+    b"request full 0 0 -2 1",
+    // What is no colour.
+    b"fill 0 0 1 1 FF80",
+    b"fill 0 0 1 1 FF800",
+    b"fill 0 0 1 1 FF80011",
+    b"fill 0 0 1 1 FF800100",
+    b"fill 0 0 1 1 #F8001",
+    b"fill 0 0 1 1 FG8001",
+    b"fill 0 0 1 1 0xFF80",
+];
+
+#[test]
+fn a_bad_line_is_told_and_nothing_runs(rt: HostRuntime) -> Result<(), Fail> {
+    for line in BAD_LINES {
+        // The fill would be refused, and the last line is bad too.
+        let mut script = b"screen 2 1\n\nfill 9 9 9 9 FF8001\n".to_vec(rt.alloc())?;
+        script.extend_from_slice(line)?;
+        script.extend_from_slice(b"\nsettle\nsettle it\n")?;
+        let ended = run(&rt, script.as_slice());
+        let text = line.escape_ascii();
+        assert_eq!(rt;
+            ended.errors.as_slice(),
+            b"line 4: bad line\n".as_slice(),
+            "{text}"
+        );
+        assert_eq!(rt; ended.output.as_slice(), b"".as_slice(), "{text}");
+        assert_eq!(rt; ended.status, 1, "{text}");
+    }
+    Ok(())
+}
+
+#[test]
+fn the_first_bad_line_is_told_by_its_number(rt: HostRuntime) -> Result<(), Fail> {
+    for (script, line) in [
+        // No line but empty ones: the line after the last.
+        (b"".as_slice(), 1),
+        (b"\n".as_slice(), 2),
+        (b"\n\n".as_slice(), 3),
+        // The first line that is not empty has to be a good `screen`.
+        (b"compose\nscreen 2 1\nsettle\n".as_slice(), 1),
+        (b"\nsettle\nscreen 2 1\nsettle\n".as_slice(), 2),
+        (b" screen 2 1\nsettle\n".as_slice(), 1),
+        (b"Screen 2 1\nsettle\n".as_slice(), 1),
+        (b"screen 2 1\r\nsettle\r\n".as_slice(), 1),
+        (b"screen 2\nsettle\n".as_slice(), 1),
+        (b"screen 2 1 1\nsettle\n".as_slice(), 1),
+        (b"\n\nscreen 0 1\nsettle\n".as_slice(), 3),
+        (b"screen 1 0".as_slice(), 1),
+        (b"screen 4097 1\nsettle\n".as_slice(), 1),
+        (b"screen 1 4097\nsettle\n".as_slice(), 1),
+        (b"screen 65537 1\nsettle\n".as_slice(), 1),
+        (b"screen 00000000002 1\nsettle\n".as_slice(), 1),
+        // Later lines, the last one also without its newline.
+        (b"screen 2 1\n\n\nscreen 2 1\nsettle\n".as_slice(), 4),
+        (b"screen 2 1\nsettle\n \n".as_slice(), 3),
+        (b"screen 2 1\nsettle\n\nsettle settle".as_slice(), 4),
+        (b"screen 2 1\nsettle\0\nsettle\n".as_slice(), 2),
+        (b"screen 2 1\nsettle\nrequest\nsettle\nfill\n".as_slice(), 3),
+    ] {
+        let ended = run(&rt, script);
+        let told = format!(in rt.alloc(); "line {line}: bad line\n")?;
+        let text = script.escape_ascii();
+        assert_eq!(rt; ended.errors.as_slice(), told.as_bytes(), "{text}");
+        assert_eq!(rt; ended.output.as_slice(), b"".as_slice(), "{text}");
+        assert_eq!(rt; ended.status, 1, "{text}");
+    }
+    Ok(())
+}
+
+#[test]
+fn each_spelling_of_a_script_is_read(rt: HostRuntime) {
+    for script in [
+        b"screen 2 1\nfill 0 0 1 1 FF8001\nsettle\nrequest full 0 0 2 1\nsettle\ncompose\nsettle\n".as_slice(),
+        b"screen 2 1\nfill 0 0 1 1 ff8001\nsettle\nrequest full 0 0 2 1\nsettle\ncompose\nsettle".as_slice(),
+        b"\n\nscreen 0000000002 01\n\nfill 00 0000000000 0000000001 001 fF8001\n\n\nsettle
+request full 000 0 02 1\nsettle\ncompose\nsettle\n\n\n"
+            .as_slice(),
+    ] {
+        let ended = run(&rt, script);
+        let text = script.escape_ascii();
+        assert_eq!(rt; ended.errors.as_slice(), b"".as_slice(), "{text}");
+        assert_eq!(rt; ended.output.as_slice(), LEFT_PLACE_FILLED, "{text}");
+        assert_eq!(rt; ended.status, 0, "{text}");
+    }
+}
+
+#[test]
+fn a_side_of_the_screen_has_1_to_4096_places(rt: HostRuntime) {
+    for (script, header, len) in [
+        (
+            b"screen 1 1\nsettle\n".as_slice(),
+            b"P6\n1 1\n255\n".as_slice(),
+            14,
+        ),
+        (
+            b"screen 4096 1\nsettle\n".as_slice(),
+            b"P6\n4096 1\n255\n".as_slice(),
+            12_302,
+        ),
+        (
+            b"screen 1 4096\nsettle\n".as_slice(),
+            b"P6\n1 4096\n255\n".as_slice(),
+            12_302,
+        ),
+    ] {
+        let ended = run(&rt, script);
+        assert_eq!(rt; ended.status, 0);
+        assert!(rt; ended.output.starts_with(header));
+        assert_eq!(rt; ended.output.len(), len);
+    }
+}

@@ -1,0 +1,129 @@
+//! Scripts that end with a picture.
+
+ghost use Rattle.std.specs.Prelude.{◌<◌};
+
+use super::{Ended, run};
+
+// `screen 2 1` with its left place FF8001 and its right one black.
+pub const LEFT_PLACE_FILLED: &[u8] = b"P6\n2 1\n255\n\xFF\x80\x01\0\0\0";
+
+#[test]
+fn one_update_shows_a_filled_place(rt: HostRuntime) {
+    let script = b"screen 2 1
+fill 0 0 1 1 FF8001
+settle
+request full 0 0 2 1
+settle
+compose
+settle
+";
+    let ended = run(&rt, script);
+    assert_eq!(rt; ended.output.as_slice(), LEFT_PLACE_FILLED);
+    assert_eq!(rt; ended.errors.as_slice(), b"".as_slice());
+    assert_eq!(rt; ended.status, 0);
+}
+
+#[test]
+fn a_second_request_is_refused_and_the_update_comes(rt: HostRuntime) {
+    let script = b"screen 2 1
+fill 0 0 1 1 FF8001
+settle
+request full 0 0 2 1
+request full 0 0 2 1
+settle
+compose
+settle
+";
+    let ended = run(&rt, script);
+    assert_eq!(rt; ended.output.as_slice(), LEFT_PLACE_FILLED);
+    assert_eq!(rt;
+        ended.errors.as_slice(),
+        b"line 5: refused 26 Busy\n".as_slice()
+    );
+    assert_eq!(rt; ended.status, 0);
+}
+
+#[test]
+fn each_refusal_is_told_at_its_line_and_the_script_goes_on(rt: HostRuntime) {
+    let script = b"screen 2 1
+request full 0 0 2 1
+fill 1 0 2 1 0000FF
+settle
+
+fill 65535 65535 65535 65535 0000FF
+fill 2 1 0 0 0000FF
+request full 0 0 3 1
+request full 0 0 0 1
+request full 0 0 2 1
+request full 0 0 3 1
+fill 0 0 1 1 FF8001
+settle
+compose
+settle
+compose
+";
+    let refused = b"line 2: refused 25 NotReady
+line 3: refused 24 Outside
+line 6: refused 24 Outside
+line 8: refused 27 AreaOutside
+line 9: refused 27 AreaOutside
+line 11: refused 26 Busy
+";
+    let ended = run(&rt, script);
+    assert_eq!(rt; ended.errors.as_slice(), refused.as_slice());
+    assert_eq!(rt; ended.output.as_slice(), LEFT_PLACE_FILLED);
+    assert_eq!(rt; ended.status, 0);
+}
+
+#[test]
+fn without_a_picture_nothing_is_written(rt: HostRuntime) {
+    let ended = run(&rt, b"screen 2 1");
+    assert_eq!(rt; ended.errors.as_slice(), b"fault 25 NotReady\n".as_slice());
+    assert_eq!(rt; ended.output.as_slice(), b"".as_slice());
+    assert_eq!(rt; ended.status, 1);
+}
+
+// The colour of a place of a picture of 4,096 by 4,096, whose header has 17 bytes.
+fn colour_at(ended: &Ended, x: usize, y: usize) -> Option<&[u8]>
+    requires { (x < 4096) × (y < 4096) }
+{
+    let (_, colour) = ended.output.split_at_checked(17 + 3 * (4_096 * y + x))?;
+    colour.get(..3)
+}
+
+#[test]
+fn the_largest_screen_is_written_whole(rt: HostRuntime) {
+    let script = b"screen 4096 4096
+fill 0 0 4096 2048 FF8001
+fill 0 2048 4096 2048 0180FF
+settle
+request full 0 0 4096 4096
+settle
+compose
+settle
+";
+    let ended = run(&rt, script);
+    assert_eq!(rt; ended.errors.as_slice(), b"".as_slice());
+    assert_eq!(rt; ended.status, 0);
+    assert_eq!(rt; ended.output.len(), 50_331_665);
+    assert_eq!(rt;
+        ended.output.get(..17),
+        Some(b"P6\n4096 4096\n255\n".as_slice())
+    );
+    let upper = Some(b"\xFF\x80\x01".as_slice());
+    let lower = Some(b"\x01\x80\xFF".as_slice());
+    for (x, y, colour) in [
+        (0, 0, upper),
+        (4_095, 0, upper),
+        (0, 2_047, upper),
+        (4_095, 2_047, upper),
+        (0, 2_048, lower),
+        (4_095, 2_048, lower),
+        (0, 4_095, lower),
+        (4_095, 4_095, lower),
+    ] {
+        if x < 4_096 && y < 4_096 {
+            assert_eq!(rt; colour_at(&ended, x, y), colour, "at {x}, {y}");
+        }
+    }
+}
