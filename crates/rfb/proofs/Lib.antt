@@ -1,3 +1,4 @@
 pub mod MessageLemmas
 pub mod PairLemmas
+pub mod PixmapLemmas
 pub mod RunLemmas

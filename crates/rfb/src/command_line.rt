@@ -72,8 +72,8 @@ fn parse<'a, S: AsStr>(alloc: Global, words: &'a [S]) -> Result<ArgMatches<'a>, 
 
 // Prints a help text that the words asked for.
 fn show<W: Write>(answer: &clap::Error, output: &mut W) -> Result<(), Failure> {
-    write!(output, "{answer}")?;
-    output.flush()?;
+    write!(output, "{answer}").map_err(Fault::from)?;
+    output.flush().map_err(Fault::from)?;
     Ok(())
 }
 
@@ -86,16 +86,18 @@ fn script<R: Read, W: Write, E: Write>(
     errors: &mut E,
 ) -> Result<(), Failure> {
     let mut text = Vec::new(alloc);
-    input.read_to_end(&mut text)?;
+    input.read_to_end(&mut text).map_err(Fault::from)?;
     let script = read_script(alloc, &text)?;
-    let mut pair = Pair::new(alloc, script.screen.width, script.screen.height)?;
+    let mut pair = Pair::new(alloc, script.screen.width, script.screen.height).map_err(
+        Fault::from,
+    )?;
     for numbered in &script.events {
-        if let Some(refused) = pair.step(&numbered.event)? {
+        if let Some(refused) = pair.step(&numbered.event).map_err(Fault::from)? {
             let line = numbered.line;
             let _ = writeln!(errors, "line {line}: refused {refused}");
         }
     }
     let picture = pair.picture().ok_or(Fault::NotReady)?;
-    write_pixmap(alloc, picture, output)?;
+    write_pixmap(alloc, picture, output).map_err(Fault::from)?;
     Ok(())
 }

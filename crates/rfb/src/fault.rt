@@ -33,10 +33,10 @@ pub enum CallFault {
 #[derive(Clone, Copy, Debug, PartialEq, Eq, Error)]
 pub enum Refused {
     /// A drawing on the server's screen.
-    #[error("{0}")]
+    #[error(transparent)]
     Drawing(Outside),
     /// A call of the viewer.
-    #[error("{0}")]
+    #[error(transparent)]
     Call(CallFault),
 }
 
@@ -96,14 +96,5 @@ pub enum Failure {
     BadLine(u64),
     /// Something that no script is to blame for.
     #[error("fault {0}")]
-    Fault(Fault),
-}
-
-impl<E> From<E> for Failure
-where
-    Fault: From<E>,
-{
-    fn from(error: E) -> Failure {
-        Failure::Fault(Fault::from(error))
-    }
+    Fault(#[from] Fault),
 }

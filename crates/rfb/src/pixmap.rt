@@ -1,7 +1,8 @@
-//! Pictures as PPM files, the portable pixmaps of Netpbm.
+//! Pictures as portable pixmaps (PPM), the files of Netpbm.
 
-ghost use Rattle.std.specs.Prelude.{◌≡◌, ℕ, ◌*◌, ◌<◌, length};
-ghost use Rattle.rfb.specs.Pixmap.{ShowsColour};
+ghost use Rattle.std.specs.Prelude.{◌≡◌, ◌*◌, length, OnOk};
+ghost use Rattle.std.specs.Io.KnownBytes.{Appends};
+ghost use Rattle.rfb.specs.Pixmap.{components, pixmap};
 
 use rfb_picture::Picture;
 use rfb_pixel::Colour;
@@ -21,23 +22,36 @@ pub fn write_pixmap<W: Write>(
     picture: &Picture<Colour>,
     output: &mut W,
 ) -> io::Result<()> {
+    let mut row = Vec::new(alloc);
+    row.resize(BYTES_PER_PLACE * usize::from(picture.width()), 0)?;
+    let mut output = BufWriter::new(alloc, output)?;
+    write_through(picture, &mut row, &mut output)?;
+    output.flush()
+}
+
+// Writes a picture as PPM, by way of `row`, which has room for the bytes of a row.
+fn write_through<W: Write>(
+    picture: &Picture<Colour>,
+    row: &mut [u8],
+    output: &mut W,
+) -> io::Result<()>
+    requires { length row.old ≡ 3 * picture.now.width }
+    ensures { OnOk result (Appends (W.contents output.old) (W.contents output.new) (pixmap picture.now)) }
+{
     let width = picture.width();
     let height = picture.height();
-    let mut bytes = Vec::new(alloc);
-    bytes.resize(BYTES_PER_PLACE * usize::from(width), 0)?;
-    let mut output = BufWriter::new(alloc, output)?;
     write!(output, "P6\n{width} {height}\n255\n")?;
     for y in 0..height {
-        put_components(picture.row(0, y, width), &mut bytes);
-        output.write_all(&bytes)?;
+        put_components(picture.row(0, y, width), row);
+        output.write_all(row)?;
     }
-    output.flush()
+    Ok(())
 }
 
 // Writes the components of each colour, red first, one colour after the other.
 fn put_components(colours: &[Colour], bytes: &mut [u8])
     requires { length bytes.old ≡ 3 * length colours.now }
-    ensures { (i : ℕ) → i < length colours.now → ShowsColour bytes.new colours.now i }
+    ensures { bytes.new ≡ components colours.now }
 {
     for (i, colour) in colours.iter().enumerate() {
         let start = BYTES_PER_PLACE * i;

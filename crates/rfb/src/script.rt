@@ -17,7 +17,7 @@
 mod line;
 mod number;
 
-use crate::fault::Failure;
+use crate::fault::{Failure, Fault};
 use crate::pair::PairEvent;
 use crate::script::line::{Line, Screen, read_line};
 use std::alloc::Global;
@@ -52,10 +52,12 @@ pub fn read_script(alloc: Global, text: &[u8]) -> Result<Script, Failure> {
         }
         match (read_line(line), screen) {
             (Some(Line::Screen(size)), None) => screen = Some(size),
-            (Some(Line::Event(event)), Some(_)) => events.push(Numbered {
-                line: number,
-                event,
-            })?,
+            (Some(Line::Event(event)), Some(_)) => events
+                .push(Numbered {
+                    line: number,
+                    event,
+                })
+                .map_err(Fault::from)?,
             _ => return Err(Failure::BadLine(number)),
         }
     }

@@ -4,9 +4,10 @@ ghost use Rattle.std.specs.Prelude.{◌≡◌, ◌↔◌, ◌≤◌, ◌∷◌, 
 ghost use Rattle.std.specs.List.{AllPass};
 ghost use Rattle.std.specs.Str.Parse.{digits_value};
 ghost use Rattle.hex.specs.Hex.{decode_of, is_hex_digit};
+ghost use Rattle.rfb.specs.declared.pair.TheConstants.{MAX_SIDE};
 ghost use Rattle.rfb.specs.Number.{IsNumber};
 
-use crate::pair::PairEvent;
+use crate::pair::{MAX_SIDE, PairEvent};
 use crate::script::number::read_number;
 use arrayvec::ArrayVec;
 use hex::FromHex;
@@ -21,8 +22,8 @@ const WORDS_MAX: usize = 6;
 pub struct Screen {
     pub width: u16,
     pub height: u16,
-    ghost wide: { (1 ≤ width) × (width ≤ 4096) },
-    ghost high: { (1 ≤ height) × (height ≤ 4096) },
+    ghost wide: { (1 ≤ width) × (width ≤ MAX_SIDE) },
+    ghost high: { (1 ≤ height) × (height ≤ MAX_SIDE) },
 }
 
 /// A good line that is not empty.
@@ -64,7 +65,7 @@ fn read_side(word: &[u8]) -> Option<u16>
     ensures value { IfSome result (λ side. side ≡ digits_value 10 word.now) }
     ensures found { IsSome result ↔ (IsNumber word.now × (1 ≤ digits_value 10 word.now) × (digits_value 10 word.now ≤ 4096)) }
 {
-    read_number(word).filter(|side| (1..=4096).contains(side))
+    read_number(word).filter(|side| (1..=MAX_SIDE).contains(side))
 }
 
 fn read_rect(x: &[u8], y: &[u8], w: &[u8], h: &[u8]) -> Option<Rect>

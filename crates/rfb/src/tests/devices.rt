@@ -1,10 +1,10 @@
 //! Inputs and outputs that fail.
 
-use super::SCRIPT;
-use super::picture::LEFT_PLACE_FILLED;
+use super::calls::{FILL_LEFT_PLACE, LEFT_PLACE_FILLED, SCRIPT};
 use crate::command_line::command;
 use std::io;
 use std::io::{ErrorKind, Read, Write};
+use std::test::Fail;
 
 /// Gives its bytes, and then fails.
 #[derive(Drop)]
@@ -134,40 +134,20 @@ fn a_failing_input_is_told_and_nothing_runs(rt: HostRuntime) {
 }
 
 #[test]
-fn failing_errors_change_no_status(rt: HostRuntime) {
+fn failing_errors_change_no_status(rt: HostRuntime) -> Result<(), Fail> {
     let script = SCRIPT.as_slice();
-    for (words, bytes, status, written) in [
-        // A refusal, and then the picture.
-        (
-            script,
-            b"screen 2 1
-fill 2 0 1 1 000000
-fill 0 0 1 1 FF8001
-settle
-request full 0 0 2 1
-settle
-compose
-settle
-"
-                .as_slice(),
-            0,
-            LEFT_PLACE_FILLED,
-        ),
-        (
-            script,
-            b"screen 2 1\nfill 2 0 1 1 000000\n".as_slice(),
-            1,
-            b"".as_slice(),
-        ),
-        (script, b"screen 2 1\npaint\n".as_slice(), 1, b"".as_slice()),
-        (
-            ["rfb", "paint"].as_slice(),
-            b"".as_slice(),
-            2,
-            b"".as_slice(),
-        ),
+    let paint = ["rfb", "paint"].as_slice();
+    // A refusal, and the picture all the same.
+    let mut refused = FILL_LEFT_PLACE.to_vec(rt.alloc())?;
+    refused.extend_from_slice(b"fill 2 0 1 1 000000")?;
+    let unready = b"screen 2 1\nfill 2 0 1 1 000000\n".as_slice();
+    let bad = b"screen 2 1\npaint\n".as_slice();
+    for (words, mut input, status, written) in [
+        (script, refused.as_slice(), 0, LEFT_PLACE_FILLED),
+        (script, unready, 1, b"".as_slice()),
+        (script, bad, 1, b"".as_slice()),
+        (paint, b"".as_slice(), 2, b"".as_slice()),
     ] {
-        let mut input = bytes;
         let mut output = Vec::new(rt.alloc());
         let mut errors = FailingWriter {
             room: 3,
@@ -177,4 +157,5 @@ settle
         assert_eq!(rt; output.as_slice(), written);
         assert_eq!(rt; answered, status);
     }
+    Ok(())
 }

@@ -1,7 +1,6 @@
 //! Which lines a script may have.
 
-use super::picture::LEFT_PLACE_FILLED;
-use super::run;
+use super::calls::{LEFT_PLACE_FILLED, run};
 use std::test::Fail;
 
 // Lines that are bad wherever they stand after the first, each for one reason.

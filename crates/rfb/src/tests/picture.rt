@@ -2,22 +2,11 @@
 
 ghost use Rattle.std.specs.Prelude.{◌<◌};
 
-use super::{Ended, run};
-
-// `screen 2 1` with its left place FF8001 and its right one black.
-pub const LEFT_PLACE_FILLED: &[u8] = b"P6\n2 1\n255\n\xFF\x80\x01\0\0\0";
+use super::calls::{Ended, FILL_LEFT_PLACE, LEFT_PLACE_FILLED, run};
 
 #[test]
 fn one_update_shows_a_filled_place(rt: HostRuntime) {
-    let script = b"screen 2 1
-fill 0 0 1 1 FF8001
-settle
-request full 0 0 2 1
-settle
-compose
-settle
-";
-    let ended = run(&rt, script);
+    let ended = run(&rt, FILL_LEFT_PLACE);
     assert_eq!(rt; ended.output.as_slice(), LEFT_PLACE_FILLED);
     assert_eq!(rt; ended.errors.as_slice(), b"".as_slice());
     assert_eq!(rt; ended.status, 0);

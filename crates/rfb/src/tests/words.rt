@@ -1,6 +1,6 @@
 //! The words of the command line.
 
-use super::call;
+use super::calls::call;
 
 const BAD_WORDS: [&[&str]; 7] = [
     &[],

@@ -1,5 +1,5 @@
 use Rattle.std.proofs.Common.{ℕ, ◌<◌}
-use Rattle.rfb.specs.Pixmap.{ShowsColour}
+use Rattle.rfb.proofs.PixmapLemmas.{ShowsColour}
 use Rattle.rfb.proofs.pixmap.put_components.Given as goal
 
 abbrev pub invariant-loop-i : goal.invariant-loop-i

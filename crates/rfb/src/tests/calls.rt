@@ -1,0 +1,44 @@
+//! Calls of `command` over memory, and the script that most tests begin with.
+
+use crate::command_line::command;
+
+/// What a call of `command` answered, and what it wrote.
+#[derive(Drop)]
+pub struct Ended {
+    pub status: u8,
+    pub output: Vec<u8>,
+    pub errors: Vec<u8>,
+}
+
+/// The words that run a script.
+pub const SCRIPT: [&str; 2] = ["rfb", "script"];
+
+/// Fills the left place of two, and requests both.
+pub const FILL_LEFT_PLACE: &[u8] = b"screen 2 1
+fill 0 0 1 1 FF8001
+settle
+request full 0 0 2 1
+settle
+compose
+settle
+";
+
+/// The picture of two places, of which the left one is filled.
+pub const LEFT_PLACE_FILLED: &[u8] = b"P6\n2 1\n255\n\xFF\x80\x01\0\0\0";
+
+/// A call of `command` with these words and this input.
+pub fn call(rt: &impl AllocGlobal, words: &[&str], mut input: &[u8]) -> Ended {
+    let mut output = Vec::new(rt.alloc());
+    let mut errors = Vec::new(rt.alloc());
+    let status = command(rt, words, &mut input, &mut output, &mut errors);
+    Ended {
+        status,
+        output,
+        errors,
+    }
+}
+
+/// A run of a script.
+pub fn run(rt: &impl AllocGlobal, script: &[u8]) -> Ended {
+    call(rt, SCRIPT.as_slice(), script)
+}
