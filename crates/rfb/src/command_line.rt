@@ -88,9 +88,8 @@ fn script<R: Read, W: Write, E: Write>(
     let mut text = Vec::new(alloc);
     input.read_to_end(&mut text).map_err(Fault::from)?;
     let script = read_script(alloc, &text)?;
-    let mut pair = Pair::new(alloc, script.screen.width, script.screen.height).map_err(
-        Fault::from,
-    )?;
+    let size = script.screen;
+    let mut pair = Pair::new(alloc, size.width, size.height).map_err(Fault::from)?;
     for numbered in &script.events {
         if let Some(refused) = pair.step(&numbered.event).map_err(Fault::from)? {
             let line = numbered.line;

@@ -1,6 +1,6 @@
 //! One line of a script, by itself.
 
-ghost use Rattle.std.specs.Prelude.{◌≡◌, ◌↔◌, ◌≤◌, ◌∷◌, [], Ok, IfSome, IsSome, MatchOption, length};
+ghost use Rattle.std.specs.Prelude.{◌≡◌, ◌↔◌, ◌≤◌, ◌∷◌, [], Ok, IfSome, IsSome, length};
 ghost use Rattle.std.specs.List.{AllPass};
 ghost use Rattle.std.specs.Str.Parse.{digits_value};
 ghost use Rattle.hex.specs.Hex.{decode_of, is_hex_digit};

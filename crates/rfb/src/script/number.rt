@@ -1,7 +1,6 @@
 //! The numbers of a script.
 
-ghost use Rattle.std.specs.Prelude.{◌≡◌, ◌↔◌, EachIndex, IsTrue, MatchOption, slice_index, length};
-ghost use Rattle.std.specs.Int.{IsInRange};
+ghost use Rattle.std.specs.Prelude.{◌≡◌, ◌↔◌, IsTrue, MatchOption};
 ghost use Rattle.std.specs.Str.Parse.{digits_value};
 ghost use Rattle.rfb.specs.Number.{IsDigits, IsNumber};
 
