@@ -13,17 +13,29 @@ mod script;
 mod tests;
 
 use command_line::command;
-use std::env;
+use fault::Fault;
 use std::process::ExitCode;
+use std::{env, io};
 
-fn main(rt: HostRuntime) -> anyhow::Result<ExitCode> {
-    let words: Vec<String> = env::args(&rt)?.collect(rt.alloc())?;
-    let status = command(
-        &rt,
-        words.as_slice(),
-        &mut rt.stdin(),
-        &mut rt.stdout(),
-        &mut rt.stderr(),
-    );
-    Ok(ExitCode::from(status))
+fn main(rt: HostRuntime) -> ExitCode {
+    let status = match words(&rt) {
+        Ok(words) => command(
+            &rt,
+            words.as_slice(),
+            &mut rt.stdin(),
+            &mut rt.stdout(),
+            &mut rt.stderr(),
+        ),
+        Err(error) => {
+            let fault = Fault::from(error);
+            let _ = eprintln!(rt; "fault {fault}");
+            1
+        }
+    };
+    ExitCode::from(status)
+}
+
+// The words that the program was called with, its own name first.
+fn words(rt: &HostRuntime) -> io::Result<Vec<String>> {
+    Ok(env::args(rt)?.collect(rt.alloc())?)
 }

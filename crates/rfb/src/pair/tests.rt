@@ -26,6 +26,12 @@ const FIRST_PLACE: Rect = Rect {
 // RFC 6143, 7.5.3: type 3, not incremental, x 0, y 0, width 2, height 1.
 const REQUEST_FOR_ALL: [u8; 10] = [3, 0, 0, 0, 0, 0, 0, 2, 0, 1];
 
+// 7.6.1: type 0, padding, one rectangle: x 0, y 0, width 1, height 1, encoding 0. 7.7.1: the pixel
+// FF8001 with its lowest byte first.
+const UPDATE_OF_ONE_PLACE: [u8; 20] = [
+    0, 0, 0, 1, 0, 0, 0, 0, 0, 1, 0, 1, 0, 0, 0, 0, 0x01, 0x80, 0xFF, 0,
+];
+
 // 7.6.1: type 0, padding, one rectangle: x 0, y 0, width 2, height 1, encoding 0. 7.7.1: two pixels,
 // each with its lowest byte first: FF8001, and black.
 const UPDATE_OF_ALL: [u8; 24] = [
@@ -45,6 +51,19 @@ fn a_picture_is_asked_for_sent_and_shown(rt: HostRuntime) -> Result<(), Fail> {
     assert_eq!(rt; pair.to_viewer.as_slice(), UPDATE_OF_ALL.as_slice());
     pair.settle();
     assert_shows(&rt, &pair, [ORANGE, BLACK]);
+    Ok(())
+}
+
+#[test]
+fn one_place_is_sent_in_twenty_bytes(rt: HostRuntime) -> Result<(), Fail> {
+    let mut pair = Pair::new(rt.alloc(), 1, 1)?;
+    assert!(rt; pair.fill(FIRST_PLACE, ORANGE).is_ok());
+    pair.settle();
+    assert!(rt; pair.request(FIRST_PLACE).is_ok());
+    pair.settle();
+    assert!(rt; pair.compose()?);
+    assert_eq!(rt; pair.to_viewer.as_slice(), UPDATE_OF_ONE_PLACE.as_slice());
+    assert!(rt; !pair.compose()?);
     Ok(())
 }
 
