@@ -220,5 +220,5 @@ painted_agrees width height r bytes screen g fits screened coloured raw sized x 
     let line : r.y + (y - r.y) ≡ y = omega arith in
     let pixel = raw.pixels (x - r.x) (y - r.y) d (omega arith) (omega arith) in
     let colour : IsColour (at_or screen x y d) = coloured x y d (omega (arith, screened.wide)) (omega (arith, screened.high)) in
-    let seen = seen_through-exact rgb888 (at_or screen x y d) rgb888-is_format refl refl refl colour in
+    let seen = seen_through-exact rgb888 (at_or screen x y d) rgb888-is_format (omega arith, omega arith, omega arith) colour in
     at-changed drawing g x y d sized.whole left below ∙ rw (within, pixel, column, line) seen

@@ -1,1 +1,9 @@
 pub mod GridLemmas
+pub mod CopyLemmas
+pub mod LoanLemmas
+pub mod PlaceSetLemmas
+pub mod WordLemmas
+pub mod GatherLemmas
+pub mod EdgesLemmas
+pub mod BoxLemmas
+pub mod AreaLemmas

@@ -1,9 +1,15 @@
 //! A picture of places, each with a value.
 
 ghost use Rattle.std.specs.Prelude.{◌≡◌, ℕ, ◌+◌, ◌-◌, ◌*◌, ◌<◌, ◌≤◌, ◌↔◌, ◌&&◌, nat_le, nat_lt, length, slice_index_or, if◌then◌else◌, IfOk, IsTrue};
+ghost use Rattle.std.specs.Borrow.{sem};
 ghost use Rattle.rfb_picture.specs.Rect.{contains};
 
+mod copying;
+#[cfg(test)]
+mod tests;
+
 use crate::rect::Rect;
+use copying::copy_rows;
 use std::alloc::{AllocError, Global};
 use std::marker::Model;
 
@@ -29,7 +35,8 @@ impl<T> Model for Picture<T> {
 }
 
 impl<T: Copy> Picture<T> {
-    ghost use Rattle.rfb_picture.specs.Grid.{IsGrid, Holds, at_or, row_of, filled, with_row, uniform};
+    ghost use Rattle.rfb_picture.specs.Grid.{IsGrid, Holds, at_or, row_of, filled, copied, with_row, uniform};
+    ghost use Rattle.rfb_picture.specs.Loan.{LendsRow};
 
     /// A picture of `width` by `height` places with `value` at each. It asks for room for exactly
     /// that many values, in one piece; where there is none it gives the error, and nothing is kept.
@@ -98,6 +105,20 @@ impl<T: Copy> Picture<T> {
         &self.places[start..start + usize::from(w)]
     }
 
+    /// Lends `w` places of row `y` for writing, from column `x` on.
+    #[inline]
+    pub fn row_mut(&mut self, x: u16, y: u16, w: u16) -> &mut [T]
+        requires columns { x + w ≤ self.old.width }
+        requires row { y < self.old.height }
+        ensures* writes_back { sem 𝓛 (LendsRow T.row self.entry x y result) }
+        ensures value { result.now ≡ row_of self.old x y w }
+        ensures len { length result.now ≡ w }
+        ensures whole { IsGrid self.old }
+    {
+        let start = usize::from(y) * usize::from(self.width) + usize::from(x);
+        self.places.slice_mut(start..start + usize::from(w))
+    }
+
     /// Gives `value` to each place of the rectangle.
     pub fn fill(&mut self, rect: Rect, value: T)
         requires { Holds self.old rect }
@@ -118,6 +139,18 @@ impl<T: Copy> Picture<T> {
     {
         let start = usize::from(y) * usize::from(self.width) + usize::from(x);
         put_places(&mut self.places, start, row);
+    }
+
+    /// Gives each place of `dst` what its place of the rectangle of that size at (`sx`, `sy`) had, as
+    /// CopyRect does (RFC 6143 section 7.7.2). The two rectangles may lie over one another.
+    pub fn copy(&mut self, dst: Rect, sx: u16, sy: u16)
+        requires target { Holds self.old dst }
+        requires source { Holds self.old (record dst { x = sx; y = sy }) }
+        ensures value { self.new ≡ copied dst sx sy self.old }
+        ensures width { self.new.width ≡ self.old.width }
+        ensures height { self.new.height ≡ self.old.height }
+    {
+        copy_rows(&mut self.places, usize::from(self.width), dst, sx, sy);
     }
 
     /// Becomes a copy of `other`, which has the same size and stays the caller's.

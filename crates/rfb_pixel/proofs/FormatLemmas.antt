@@ -3,7 +3,7 @@ use Rattle.std.proofs.Common.{◌≡◌, ℕ, ◌+◌, ◌-◌, ◌*◌, ◌/◌
 use Rattle.std.specs.Prelude.{bit_and, bit_or, max}
 use Rattle.std.specs.Int.{bit_at}
 use Rattle.std.proofs.Math.Nat.{div-one}
-use Rattle.std.proofs.lemmas.Nat.{and_mask, mod_below, pow_pos}
+use Rattle.std.proofs.lemmas.Nat.{and_mask, mod_below, pow_below, pow_pos}
 use Rattle.std.proofs.lemmas.Nat.Bits.{bit_at_or}
 use Rattle.byteorder.specs.Endian.{big_bytes, big_number, little_bytes, little_number}
 use Rattle.byteorder.specs.Numbers.{big_from-bytes, little_from-bytes}
@@ -11,8 +11,8 @@ use Rattle.byteorder.proofs.Bytes.{pow256}
 use Rattle.rfb_pixel.specs.declared.colour.Colour.{Colour}
 use Rattle.rfb_pixel.specs.declared.channel.Channel.{Channel}
 use Rattle.rfb_pixel.specs.Channel.{max_of, IsField, IsInField, AgreeInField, held_in, field_for, component_in}
-use Rattle.rfb_pixel.specs.Format.{PixelFormat, IsFormat, IsColour, IsOutsideFields, FieldsHold, AgreeInFields, size_of, pixel_of, colour_of, pixel_bytes, pixel_number, rgb888, seen_through}
-use Rattle.rfb_pixel.proofs.ChannelLemmas.{rescaled-le, rescaled-same, bit_at-held_in, held_in-is, bit_at-placed, bit_at-outside}
+use Rattle.rfb_pixel.specs.Format.{PixelFormat, IsFormat, IsColour, IsOutsideFields, FieldsHold, AgreeInFields, KeepsColours, FieldsKept, size_of, pixel_of, colour_of, pixel_bytes, pixel_number, rgb888, seen_through}
+use Rattle.rfb_pixel.proofs.ChannelLemmas.{rescaled-le, rescaled-back, max_of-odd, bit_at-held_in, held_in-is, bit_at-placed, bit_at-outside}
 
 -- ---- bytes
 
@@ -111,21 +111,43 @@ colour_of-agree f p q same =
     let blue = held_in-agree 32 f.blue p q same.blue in
     rw (red, green, blue) refl
 
--- a component comes back from a field of eight bits as it was
-component-exact : (c : Channel) (component pixel : ℕ) → c.width ≡ 8 → held_in c pixel ≡ field_for c component → component_in c pixel ≡ component
-component-exact c component pixel wide held =
-    let max : max_of c ≡ 255 = ap (λ (n : ℕ). 2 ^ n - 1) wide in
-    let there : field_for c component ≡ component = rw max (rescaled-same 255 component (omega arith)) in
-    rw (max, held, there) (rescaled-same 255 component (omega arith))
+-- a component comes back as it was from a field at least as fine
+component-exact : (c : Channel) (component pixel : ℕ) → 1 ≤ c.width → 255 ≤ max_of c → held_in c pixel ≡ field_for c component → component_in c pixel ≡ component
+component-exact c component pixel some fine held =
+    rw held (rescaled-back 255 (max_of c) 127 (2 ^ (c.width - 1) - 1) component refl (max_of-odd c.width some) fine)
 
--- a colour comes back as it was where each field has eight bits
-pub seen_through-exact : (f : PixelFormat) (c : Colour) → IsFormat f → f.red.width ≡ 8 → f.green.width ≡ 8 → f.blue.width ≡ 8 → IsColour c → seen_through f c ≡ c
-seen_through-exact f c ok red_wide green_wide blue_wide small =
+-- a colour comes back as it was where each field is at least as fine as a component
+pub seen_through-exact : (f : PixelFormat) (c : Colour) → IsFormat f → KeepsColours f → IsColour c → seen_through f c ≡ c
+seen_through-exact f c ok fine small =
     let held = pixel_of-fields f c ok small in
-    let red = component-exact f.red c.r (pixel_of f c) red_wide held.red in
-    let green = component-exact f.green c.g (pixel_of f c) green_wide held.green in
-    let blue = component-exact f.blue c.b (pixel_of f c) blue_wide held.blue in
+    let red = component-exact f.red c.r (pixel_of f c) (omega (arith, ok.red)) fine.0 held.red in
+    let green = component-exact f.green c.g (pixel_of f c) (omega (arith, ok.green)) fine.1 held.green in
+    let blue = component-exact f.blue c.b (pixel_of f c) (omega (arith, ok.blue)) fine.2 held.blue in
     same_colour (seen_through f c) c red green blue
+
+-- what a field no finer than a component holds comes back as it was
+field-kept : (c : Channel) (p q : ℕ) → 1 ≤ c.width → max_of c ≤ 255 → held_in c q ≡ field_for c (component_in c p) → held_in c q ≡ held_in c p
+field-kept c p q some coarse held =
+    held ∙ rescaled-back (max_of c) 255 (2 ^ (c.width - 1) - 1) 127 (held_in c p) (max_of-odd c.width some) refl coarse
+
+-- a component is at most 255
+component_in-le : (bits : ℕ) (c : Channel) (p : ℕ) → IsField bits c → component_in c p ≤ 255
+component_in-le bits c p ok =
+    let some = pow_below 0 c.width (omega arith) in
+    let held = mod_below (p / 2 ^ c.shift) (2 ^ c.width) (pow_pos c.width) in
+    rescaled-le (max_of c) 255 (held_in c p) (omega arith) (omega arith)
+
+-- a pixel value's colour has a pixel value that agrees in the fields that are no finer than a component
+pub colour_of-kept : (f : PixelFormat) (p : ℕ) → IsFormat f → FieldsKept f p (pixel_of f (colour_of f p))
+colour_of-kept f p ok =
+    let small : IsColour (colour_of f p) = (component_in-le f.bits_per_pixel f.red p ok.red, component_in-le f.bits_per_pixel f.green p ok.green, component_in-le f.bits_per_pixel f.blue p ok.blue) in
+    let held = pixel_of-fields f (colour_of f p) ok small in
+    let q = pixel_of f (colour_of f p) in
+    record {
+      red = λ coarse. field-kept f.red p q (omega (arith, ok.red)) coarse held.red;
+      green = λ coarse. field-kept f.green p q (omega (arith, ok.green)) coarse held.green;
+      blue = λ coarse. field-kept f.blue p q (omega (arith, ok.blue)) coarse held.blue;
+    }
 
 -- rgb888 is a format
 pub rgb888-is_format : IsFormat rgb888

@@ -1,2 +1,3 @@
 pub mod ChannelLemmas
 pub mod FormatLemmas
+pub mod ReadingLemmas

@@ -4,7 +4,7 @@ use Rattle.byteorder.specs.Endian.{big_bytes, big_number, little_bytes, little_n
 use Rattle.rfb_pixel.specs.declared.colour.Colour.{Colour}
 use Rattle.rfb_pixel.specs.declared.channel.Channel.{Channel}
 use Rattle.rfb_pixel.specs.declared.colour.TheConstants.{COMPONENT_MAX}
-use Rattle.rfb_pixel.specs.Channel.{IsField, IsInField, AgreeInField, held_in, field_for, component_in}
+use Rattle.rfb_pixel.specs.Channel.{max_of, IsField, IsInField, AgreeInField, held_in, field_for, component_in}
 
 -- the fields of a PIXEL_FORMAT whose true-colour-flag is set
 pub record PixelFormat : Type 0 where
@@ -71,6 +71,16 @@ colour_of f p = record { r = component_in f.red p; g = component_in f.green p; b
 abbrev pub seen_through : PixelFormat → Colour → Colour
 seen_through f c = colour_of f (pixel_of f c)
 
+-- each field is fine enough for a colour to come back from a pixel value as it was
+abbrev pub KeepsColours : PixelFormat → Type 0
+KeepsColours f = (COMPONENT_MAX ≤ max_of f.red) × (COMPONENT_MAX ≤ max_of f.green) × (COMPONENT_MAX ≤ max_of f.blue)
+
+-- each field that is no finer than a component holds the same in q as in p
+pub record FieldsKept (f : PixelFormat) (p q : ℕ) : Type 0 where
+  pub red : max_of f.red ≤ COMPONENT_MAX → held_in f.red q ≡ held_in f.red p
+  pub green : max_of f.green ≤ COMPONENT_MAX → held_in f.green q ≡ held_in f.green p
+  pub blue : max_of f.blue ≤ COMPONENT_MAX → held_in f.blue q ≡ held_in f.blue p
+
 -- the bytes of a pixel value on the wire; bits above the size are not sent
 abbrev pub pixel_bytes : PixelFormat → ℕ → List ℕ
 pixel_bytes f p = if f.big_endian then big_bytes (size_of f) p else little_bytes (size_of f) p
@@ -88,4 +98,26 @@ rgb888 = record {
   red = record { width = 8; shift = 16 };
   green = record { width = 8; shift = 8 };
   blue = record { width = 8; shift = 0 };
+}
+
+-- 16 bits: five of red above six of green above five of blue
+abbrev pub rgb565 : PixelFormat
+rgb565 = record {
+  bits_per_pixel = 16;
+  depth = 16;
+  big_endian = false;
+  red = record { width = 5; shift = 11 };
+  green = record { width = 6; shift = 5 };
+  blue = record { width = 5; shift = 0 };
+}
+
+-- 8 bits: two of blue above three of green above three of red
+abbrev pub bgr233 : PixelFormat
+bgr233 = record {
+  bits_per_pixel = 8;
+  depth = 8;
+  big_endian = false;
+  red = record { width = 3; shift = 0 };
+  green = record { width = 3; shift = 3 };
+  blue = record { width = 2; shift = 6 };
 }

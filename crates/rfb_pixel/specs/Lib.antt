@@ -1,2 +1,4 @@
 pub mod Channel
 pub mod Format
+pub mod Reading
+pub mod Rows

@@ -1,9 +1,11 @@
 //! One component's field in a pixel value, and the conversion between components and fields.
 
-ghost use Rattle.std.specs.Prelude.{◌≡◌, ◌*◌, ◌^◌, ◌<◌, ◌≤◌};
-ghost use Rattle.rfb_pixel.specs.Channel.{IsField, max_of, rescaled, field_for, component_in};
+ghost use Rattle.std.specs.Prelude.{◌≡◌, ◌*◌, ◌^◌, ◌<◌, ◌≤◌, ◌+◌, OnErr, IfOk, if◌then◌else◌};
+ghost use Rattle.byteorder.specs.Endian.{big_bytes};
+ghost use Rattle.rfb_pixel.specs.Channel.{IsField, IsMax, IsMaxOf, max_of, rescaled, field_for, component_in, width_of, is_max, is_apart, are_within, are_apart};
 
 use crate::colour::COMPONENT_MAX;
+use crate::fault::FormatFault;
 
 /// Where a component stands in a pixel value: `width` bits, with `shift` bits below them.
 #[derive(Clone, Copy, Debug, PartialEq, Eq)]
@@ -13,6 +15,31 @@ pub struct Channel {
 }
 
 impl Channel {
+    /// The field of a maximum and a shift. `BadMax` where the maximum is not 2^N - 1 with N from 1
+    /// to 16.
+    pub fn read(max: u16, shift: u8) -> Result<Channel, FormatFault>
+        ensures value { result ≡ if is_max max then Ok (record { width = width_of max; shift = shift }) else Err FormatFault.BadMax }
+        ensures maximum { IfOk result (λ c. IsMaxOf max c.width) }
+        ensures refused { OnErr result (IsMax max → ⊥) }
+    {
+        let width = max.count_ones();
+        let is_max = max != 0 && u32::from(max) == (1 << width) - 1;
+        if !is_max {
+            return Err(FormatFault::BadMax);
+        }
+        Ok(Channel {
+            width: width as u8,
+            shift,
+        })
+    }
+
+    /// The first bit above the field.
+    fn end(self) -> u32
+        ensures { result ≡ self.shift + self.width }
+    {
+        u32::from(self.shift) + u32::from(self.width)
+    }
+
     /// The greatest value of the field, as red-max is of the red one.
     fn max(self) -> u32
         requires { IsField 32 self }
@@ -21,6 +48,14 @@ impl Channel {
         ensures bound { result < 2 ^ 16 }
     {
         (1 << self.width) - 1
+    }
+
+    /// The maximum in two bytes, the high one first.
+    pub fn max_bytes(self) -> [u8; 2]
+        requires { IsField 32 self }
+        ensures { result ≡ big_bytes 2 (max_of self) }
+    {
+        (self.max() as u16).to_be_bytes()
     }
 
     /// A pixel value with this component in the field, and no other bit.
@@ -39,6 +74,27 @@ impl Channel {
         let max = self.max();
         rescale((pixel >> self.shift) & max, max, COMPONENT_MAX) as u8
     }
+}
+
+/// Whether the three fields lie in a pixel of so many bits.
+pub fn are_within(bits_per_pixel: u8, red: Channel, green: Channel, blue: Channel) -> bool
+    ensures value { result ≡ are_within bits_per_pixel red green blue }
+{
+    let bits = u32::from(bits_per_pixel);
+    red.end() <= bits && green.end() <= bits && blue.end() <= bits
+}
+
+/// Whether no two of the three fields share a bit. One ends where the other begins, or below.
+pub fn are_apart(red: Channel, green: Channel, blue: Channel) -> bool
+    ensures value { result ≡ are_apart red green blue }
+{
+    is_apart(red, green) && is_apart(red, blue) && is_apart(green, blue)
+}
+
+fn is_apart(a: Channel, b: Channel) -> bool
+    ensures { result ≡ is_apart a b }
+{
+    a.end() <= u32::from(b.shift) || b.end() <= u32::from(a.shift)
 }
 
 /// A value out of `0..=from` as the nearest out of `0..=to`.

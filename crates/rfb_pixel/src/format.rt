@@ -1,11 +1,15 @@
 //! True-colour pixel formats, RFC 6143 section 7.4.
 
-ghost use Rattle.std.specs.Prelude.{◌≡◌, ℕ, ◌*◌, ◌%◌, ◌^◌, length};
+ghost use Rattle.std.specs.Prelude.{◌≡◌, ℕ, ◌*◌, ◌%◌, ◌^◌, length, IfOk, ◌==◌, ◌||◌, ◌≤◌, IsTrue, List, map};
+ghost use Rattle.std.specs.Result.{result_err};
 ghost use Rattle.std.specs.Int.{bit_at};
-ghost use Rattle.rfb_pixel.specs.Format.{size_of, pixel_of, colour_of, pixel_bytes, pixel_number, seen_through, IsColour, FieldsHold, IsOutsideFields, AgreeInFields};
+ghost use Rattle.rfb_pixel.specs.Format.{size_of, pixel_of, colour_of, pixel_bytes, pixel_number, seen_through, IsColour, FieldsHold, IsOutsideFields, AgreeInFields, KeepsColours, FieldsKept};
+ghost use Rattle.rfb_pixel.specs.Reading.{AreBytes, Spells, Passes, IsFirstFault, first_fault, fault_of_fields, format_bytes};
+ghost use Rattle.rfb_pixel.specs.Channel.{HasWidth};
 
-use crate::channel::Channel;
+use crate::channel::{Channel, are_apart, are_within};
 use crate::colour::Colour;
+use crate::fault::FormatFault;
 use byteorder::{BigEndian, ByteOrder, LittleEndian};
 use std::marker::Model;
 
@@ -35,7 +39,7 @@ impl Model for Format {
 
 impl Format {
     ghost use Rattle.rfb_pixel.specs.declared.colour.Colour.{Colour};
-    ghost use Rattle.rfb_pixel.specs.Format.{rgb888};
+    ghost use Rattle.rfb_pixel.specs.Format.{PixelFormat, rgb888, rgb565, bgr233};
 
     /// 32 bits, little-endian: eight bits each of red, green and blue at shifts 16, 8 and 0.
     /// A colour comes back from it as it was.
@@ -56,6 +60,131 @@ impl Format {
         }
     }
 
+    /// 16 bits, little-endian: five bits of red, six of green and five of blue at shifts 11, 5 and 0.
+    pub fn rgb565() -> Format
+        ensures { result ≡ rgb565 }
+    {
+        Format {
+            bits_per_pixel: 16,
+            depth: 16,
+            big_endian: false,
+            red: Channel {
+                width: 5,
+                shift: 11,
+            },
+            green: Channel { width: 6, shift: 5 },
+            blue: Channel { width: 5, shift: 0 },
+        }
+    }
+
+    /// 8 bits: two bits of blue above three of green above three of red.
+    pub fn bgr233() -> Format
+        ensures { result ≡ bgr233 }
+    {
+        Format {
+            bits_per_pixel: 8,
+            depth: 8,
+            big_endian: false,
+            red: Channel { width: 3, shift: 0 },
+            green: Channel { width: 3, shift: 3 },
+            blue: Channel { width: 2, shift: 6 },
+        }
+    }
+
+    /// The format that a PIXEL_FORMAT spells. A flag is true where it is not zero, depth is kept and
+    /// compared with bits-per-pixel alone, and padding is ignored. The first check that fails, in
+    /// the order of `FormatFault`, is the error.
+    pub fn read(bytes: &[u8; 16]) -> Result<Format, FormatFault>
+        ensures found { IfOk result (λ f. Spells f bytes.now) }
+        ensures fault { result_err result ≡ first_fault bytes.now }
+    {
+        let (bits_per_pixel, depth) = (bytes[0], bytes[1]);
+        if !matches!(bits_per_pixel, 8 | 16 | 32) {
+            return Err(FormatFault::BadBits);
+        }
+        if depth > bits_per_pixel {
+            return Err(FormatFault::DepthTooLarge);
+        }
+        if bytes[3] == 0 {
+            return Err(FormatFault::NotTrueColour);
+        }
+        let red = Channel::read(BigEndian::read_u16(&bytes[4..]), bytes[10])?;
+        let green = Channel::read(BigEndian::read_u16(&bytes[6..]), bytes[11])?;
+        let blue = Channel::read(BigEndian::read_u16(&bytes[8..]), bytes[12])?;
+        Format::of_fields(bits_per_pixel, depth, bytes[2] != 0, red, green, blue)
+    }
+
+    /// A law about `first_fault`, with nothing to run: where it tells a fault, that one's check fails
+    /// and each check before it passes; where it tells none, every check passes.
+    pub fn first_fault_is_of_the_first_check()
+        ensures told { (bytes : List ℕ) (fault : FormatFault) → AreBytes bytes → first_fault bytes ≡ Some fault → IsFirstFault fault bytes }
+        ensures none { (bytes : List ℕ) (fault : FormatFault) → AreBytes bytes → first_fault bytes ≡ None → Passes fault bytes }
+    {}
+
+    // A format of a red, a green and a blue field, if they lie in the pixel and share no bit.
+    fn of_fields(
+        bits_per_pixel: u8,
+        depth: u8,
+        big_endian: bool,
+        red: Channel,
+        green: Channel,
+        blue: Channel,
+    ) -> Result<Format, FormatFault>
+        requires whole { IsTrue (bits_per_pixel == 8 || bits_per_pixel == 16 || bits_per_pixel == 32) }
+        requires deep { depth ≤ bits_per_pixel }
+        requires red { HasWidth red }
+        requires green { HasWidth green }
+        requires blue { HasWidth blue }
+        ensures found { IfOk result (λ f. f ≡ record { bits_per_pixel = bits_per_pixel; depth = depth; big_endian = big_endian; red = red; green = green; blue = blue }) }
+        ensures fault { result_err result ≡ fault_of_fields bits_per_pixel red green blue }
+    {
+        if !are_within(bits_per_pixel, red, green, blue) {
+            return Err(FormatFault::ShiftTooLarge);
+        }
+        if !are_apart(red, green, blue) {
+            return Err(FormatFault::FieldsOverlap);
+        }
+        Ok(Format {
+            bits_per_pixel,
+            depth,
+            big_endian,
+            red,
+            green,
+            blue,
+        })
+    }
+
+    /// The PIXEL_FORMAT that spells this format, with flags of 0 or 1 and padding of zeros. `read`
+    /// takes it, and gives this format back.
+    pub fn write(&self) -> [u8; 16]
+        ensures value { result ≡ format_bytes self.now }
+        ensures spells { Spells self.now result }
+        ensures accepted { first_fault result ≡ None }
+        ensures read_back { (f : PixelFormat) → Spells f result → f ≡ self.now }
+    {
+        let red = self.red.max_bytes();
+        let green = self.green.max_bytes();
+        let blue = self.blue.max_bytes();
+        [
+            self.bits_per_pixel,
+            self.depth,
+            u8::from(self.big_endian),
+            1,
+            red[0],
+            red[1],
+            green[0],
+            green[1],
+            blue[0],
+            blue[1],
+            self.red.shift,
+            self.green.shift,
+            self.blue.shift,
+            0,
+            0,
+            0,
+        ]
+    }
+
     /// How many bytes a pixel has: 1, 2 or 4.
     pub fn size(&self) -> usize
         ensures value { result ≡ size_of self.now }
@@ -68,14 +197,28 @@ impl Format {
         ensures value { result ≡ pixel_of self.now colour }
         ensures fields { FieldsHold self.now colour result }
         ensures outside { (i : ℕ) → IsOutsideFields self.now i → bit_at result i ≡ 0 }
+        ensures exact { KeepsColours self.now → colour_of self.now result ≡ colour }
     {
         self.red.place(colour.r) | self.green.place(colour.g) | self.blue.place(colour.b)
+    }
+
+    /// Writes the pixel value of each colour of a row.
+    pub fn pack_row(&self, colours: &[Colour], pixels: &mut [u32])
+        requires { length colours.now ≡ length pixels.old }
+        ensures { pixels.new ≡ map (pixel_of self.now) colours.now }
+    {
+        // A copy, which no pixel that is written can change: what it alone decides stays the same.
+        let format = *self;
+        for i in 0..colours.len() {
+            pixels[i] = format.pack(colours[i]);
+        }
     }
 
     /// The colour of a pixel value. Bits outside the three fields are ignored.
     pub fn unpack(&self, pixel: u32) -> Colour
         ensures value { result ≡ colour_of self.now pixel }
         ensures ignored { (other : ℕ) → AgreeInFields self.now pixel other → result ≡ colour_of self.now other }
+        ensures kept { FieldsKept self.now pixel (pixel_of self.now result) }
     {
         Colour {
             r: self.red.component(pixel),

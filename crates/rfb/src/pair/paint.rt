@@ -6,7 +6,6 @@ ghost use Rattle.rfb_pixel.specs.Format.{rgb888, colour_of, pixel_number};
 ghost use Rattle.rfb_picture.specs.Grid.{Holds, IsGrid};
 ghost use Rattle.rfb.specs.Messages.{painted};
 
-use crate::pair::{BLACK, MAX_SIDE};
 use rfb_picture::{Picture, Rect};
 use rfb_pixel::{Colour, Format};
 
@@ -15,16 +14,14 @@ pub fn paint(bytes: &[u8], rect: Rect, picture: &mut Picture<Colour>)
     requires area { Holds picture.old rect }
     requires all { IsGrid picture.old }
     requires low { rect.y + rect.h < 2 ^ 16 }
-    requires narrow { rect.w ≤ MAX_SIDE }
     requires whole { length bytes.now ≡ 4 * (rect.h * rect.w) }
     ensures { picture.new ≡ painted rect bytes.now picture.old }
 {
-    let width = usize::from(rect.w);
-    let mut places = [BLACK; MAX_SIDE as usize];
+    let size = 4 * usize::from(rect.w);
     for row in 0..rect.h {
-        let start = 4 * (usize::from(row) * width);
-        unpack_row(&bytes[start..start + 4 * width], &mut places[..width]);
-        picture.put_row(rect.x, rect.y + row, &places[..width]);
+        let start = usize::from(row) * size;
+        let places = picture.row_mut(rect.x, rect.y + row, rect.w);
+        unpack_row(&bytes[start..start + size], places);
     }
 }
 

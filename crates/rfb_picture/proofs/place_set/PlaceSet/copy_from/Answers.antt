@@ -1,0 +1,20 @@
+use Rattle.std.proofs.Common.{◌≡◌, ◌*◌, refl, arith}
+use Rattle.rfb_picture.proofs.PlaceSetLemmas.{same_across}
+use Rattle.rfb_picture.proofs.place_set.PlaceSet.copy_from.Goals as goal
+
+pub copy_from_slice-requires : goal.copy_from_slice-requires
+copy_from_slice-requires c =
+    let wide : c.self.inside.width ≡ c.other.inside.width = rw (← c.self.view_is, ← c.other.view_is) at c.requires.width in
+    let high : c.self.inside.height ≡ c.other.inside.height = rw (← c.self.view_is, ← c.other.view_is) at c.requires.height in
+    let across = same_across c.self.inside.width c.self.inside.height c.self.inside.across c.self.inside.words.items c.other.inside.height c.other.inside.across c.other.inside.words.items c.self.invariant (rw wide c.other.invariant) in
+    let size = c.self.invariant.size in
+    let size_too = c.other.invariant.size in
+    let product : c.self.inside.height * c.self.inside.across ≡ c.other.inside.height * c.other.inside.across = rw (high, across) refl in
+    omega arith
+
+pub returns : goal.returns
+returns c =
+    let wide : c.self.inside.width ≡ c.other.inside.width = rw (← c.self.view_is, ← c.other.view_is) at c.requires.width in
+    let high : c.self.inside.height ≡ c.other.inside.height = rw (← c.self.view_is, ← c.other.view_is) at c.requires.height in
+    let across = same_across c.self.inside.width c.self.inside.height c.self.inside.across c.self.inside.words.items c.other.inside.height c.other.inside.across c.other.inside.words.items c.self.invariant (rw wide c.other.invariant) in
+    rw (c.copy_from_slice.ensures.items, c.deref.ensures.value, wide, high, across) c.other.view_is

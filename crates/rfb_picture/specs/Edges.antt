@@ -1,0 +1,34 @@
+-- The outermost of the marked places of a rectangle, on the way to the least rectangle that holds them.
+use Rattle.std.specs.Prelude.{ℕ, Bool, true, false, Option, ◌≡◌, ◌^◌, ◌<◌, ◌≤◌, MatchOption}
+use Rattle.rfb_picture.specs.declared.rect.Rect.{Rect}
+use Rattle.rfb_picture.specs.declared.edges.Edges.{Edges}
+use Rattle.rfb_picture.specs.declared.edges.Gathered.{Gathered}
+use Rattle.rfb_picture.specs.Rect.{contains}
+use Rattle.rfb_picture.specs.PlaceSet.{has_bit}
+
+-- no marked place of the zone lies outside the edges, and each edge has one
+pub record IsEdges (p : ℕ → ℕ → Bool) (zone : Rect) (e : Edges) : Type 0 where
+  pub holds : (x y : ℕ) → contains zone x y ≡ true → p x y ≡ true → (e.left ≤ x) × (x ≤ e.right) × (e.top ≤ y) × (y ≤ e.bottom)
+  pub at_left : (y : ℕ) × (contains zone e.left y ≡ true) × (p e.left y ≡ true)
+  pub at_right : (y : ℕ) × (contains zone e.right y ≡ true) × (p e.right y ≡ true)
+  pub at_top : (x : ℕ) × (contains zone x e.top ≡ true) × (p x e.top ≡ true)
+  pub at_bottom : (x : ℕ) × (contains zone x e.bottom ≡ true) × (p x e.bottom ≡ true)
+
+-- the zone's marked places have these edges, or it has no marked place
+abbrev pub HasEdges : (ℕ → ℕ → Bool) → Rect → Option Edges → Type 0
+HasEdges p zone found =
+    MatchOption found ((x y : ℕ) → contains zone x y ≡ true → p x y ≡ false) (λ e. IsEdges p zone e)
+
+-- of the rows from the first up to another, each with 64 marks: the columns that have a mark, as bits,
+-- and the first and last row that has one
+pub record IsGathered (q : ℕ → ℕ → Bool) (from to : ℕ) (g : Gathered) : Type 0 where
+  pub small : g.bits < 2 ^ 64
+  pub each : (y i : ℕ) → from ≤ y → y < to → i < 64 → q y i ≡ true → (has_bit g.bits i ≡ true) × (g.top ≤ y) × (y ≤ g.bottom)
+  pub some : (i : ℕ) → i < 64 → has_bit g.bits i ≡ true → (y : ℕ) × (from ≤ y) × (y < to) × (q y i ≡ true)
+  pub at_top : (i : ℕ) × (from ≤ g.top) × (g.top < to) × (i < 64) × (q g.top i ≡ true)
+  pub at_bottom : (i : ℕ) × (from ≤ g.bottom) × (g.bottom < to) × (i < 64) × (q g.bottom i ≡ true)
+
+-- that is so of what was gathered, or the rows have no mark
+abbrev pub HasGathered : (ℕ → ℕ → Bool) → ℕ → ℕ → Option Gathered → Type 0
+HasGathered q from to found =
+    MatchOption found ((y i : ℕ) → from ≤ y → y < to → i < 64 → q y i ≡ false) (λ g. IsGathered q from to g)

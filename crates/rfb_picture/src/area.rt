@@ -1,0 +1,130 @@
+//! The part of a screen that a client asked for.
+
+ghost use Rattle.std.specs.Prelude.{◌≡◌, ◌+◌, ◌<◌, IfOk, MatchOption};
+ghost use Rattle.rfb_picture.specs.Grid.{Holds};
+ghost use Rattle.rfb_picture.specs.Box.{IsClear, IsBox};
+ghost use Rattle.rfb_picture.specs.Area.{IsArea, asked_at, whole_at, no_places, nothing, added};
+
+use crate::place_set::PlaceSet;
+use crate::rect::Rect;
+use std::alloc::{AllocError, Global};
+use std::marker::Model;
+
+#[cfg(test)]
+mod tests;
+
+/// The places of a screen of that size that were asked for, RFC 6143 section 7.5.3, and those of them
+/// that are to be sent whole: whatever the client has there. Only an asked place is whole. It keeps
+/// its size; either may be 0. It owns two bits for each place, and a few more for each row.
+#[derive(Drop)]
+pub struct Area {
+    asked: PlaceSet,
+    whole: PlaceSet,
+}
+
+impl Model for Area {
+    ghost use Rattle.rfb_picture.specs.Area.{Places, places_code, IsArea};
+
+    ghost Value = { Places };
+
+    ghost coded = { places_code };
+
+    ghost view = { λ a. record { asked = a.asked; whole = a.whole } };
+
+    ghost invariant = { λ a. IsArea (record { asked = a.asked; whole = a.whole }) };
+}
+
+impl Area {
+    /// An area of a screen of `width` by `height` places, of which none is asked. It asks for room
+    /// for all its bits, in two pieces; where there is none it gives the error, and nothing is kept.
+    pub fn new(alloc: Global, width: u16, height: u16) -> Result<Area, AllocError>
+        ensures value { IfOk result (λ a. a ≡ no_places width height) }
+        ensures width { IfOk result (λ a. a.asked.width ≡ width) }
+        ensures height { IfOk result (λ a. a.asked.height ≡ height) }
+    {
+        let asked = PlaceSet::new(alloc, width, height)?;
+        let whole = PlaceSet::new(alloc, width, height)?;
+        Ok(Area { asked, whole })
+    }
+
+    /// How many places a row of the screen has. It also tells that each place is asked or not, and
+    /// whole only where it is asked.
+    #[inline]
+    pub fn width(&self) -> u16
+        ensures value { result ≡ self.now.asked.width }
+        ensures sound { IsArea self.now }
+    {
+        self.asked.width()
+    }
+
+    /// How many rows the screen has.
+    #[inline]
+    pub fn height(&self) -> u16
+        ensures { result ≡ self.now.asked.height }
+    {
+        self.asked.height()
+    }
+
+    /// Whether the place at column `x` of row `y` is asked.
+    #[inline]
+    pub fn is_asked(&self, x: u16, y: u16) -> bool
+        requires column { x < self.now.asked.width }
+        requires row { y < self.now.asked.height }
+        ensures { result ≡ asked_at self.now x y }
+    {
+        self.asked.has(x, y)
+    }
+
+    /// Whether the place at column `x` of row `y` is whole.
+    #[inline]
+    pub fn is_whole(&self, x: u16, y: u16) -> bool
+        requires column { x < self.now.asked.width }
+        requires row { y < self.now.asked.height }
+        ensures { result ≡ whole_at self.now x y }
+    {
+        self.whole.has(x, y)
+    }
+
+    /// The least rectangle that holds the asked places of the cell, which lies on the screen; `None`
+    /// where no place of the cell is asked.
+    pub fn bounds_in(&self, cell: Rect) -> Option<Rect>
+        requires { Holds self.now.asked cell }
+        ensures { MatchOption result (IsClear (asked_at self.now) cell.x (cell.x + cell.w) cell.y (cell.y + cell.h)) (λ r. IsBox (asked_at self.now) cell r) }
+    {
+        self.asked.bounds_in(cell)
+    }
+
+    /// Asks for the places of the rectangle, which lies on the screen, and for them whole if `whole`.
+    /// A place that is whole already stays whole.
+    pub fn add(&mut self, rect: Rect, whole: bool)
+        requires { Holds self.old.asked rect }
+        ensures value { self.new ≡ added rect whole self.old }
+        ensures width { self.new.asked.width ≡ self.old.asked.width }
+        ensures height { self.new.asked.height ≡ self.old.asked.height }
+    {
+        self.asked.add(rect);
+        if whole {
+            self.whole.add(rect);
+        }
+    }
+
+    /// No place is asked any more.
+    pub fn clear(&mut self)
+        ensures value { self.new ≡ nothing self.old }
+        ensures width { self.new.asked.width ≡ self.old.asked.width }
+        ensures height { self.new.asked.height ≡ self.old.asked.height }
+    {
+        self.asked.clear();
+        self.whole.clear();
+    }
+
+    /// Becomes a copy of `other`, which is of the same size and stays the caller's.
+    pub fn copy_from(&mut self, other: &Area)
+        requires width { self.old.asked.width ≡ other.now.asked.width }
+        requires height { self.old.asked.height ≡ other.now.asked.height }
+        ensures { self.new ≡ other.now }
+    {
+        self.asked.copy_from(&other.asked);
+        self.whole.copy_from(&other.whole);
+    }
+}
