@@ -6,6 +6,8 @@ use Rattle.std.proofs.lemmas.Nat.{same_from_place, mul-add-lt}
 use Rattle.std.proofs.Math.Nat.{mul_comm}
 use Rattle.std.proofs.lemmas.Nat.Bits.{bit_at_and, bit_at_or, bit_at-lt, bit_at_mask_inside, bit_at_mask_below, bit_at_ones, bit_at_ones_above, ones_shl, ones_shr}
 use Rattle.std.proofs.lemmas.List.{get_or-set_same, get_or-set_other}
+use Rattle.rfb_picture.specs.declared.rect.Rect.{Rect}
+use Rattle.rfb_picture.specs.Rect.{contains}
 use Rattle.rfb_picture.specs.PlaceSet.{has_bit, has_at}
 
 -- ---- one word
@@ -106,3 +108,15 @@ one_row_more words first across column top row mask k y i p q l was from =
 pub word_of_row : (row bottom column across n : ℕ) →
     row < bottom → column < across → bottom * across ≤ n → row * across + column < n
 word_of_row row bottom column across n p q l = let below = mul-add-lt row across column bottom p q in omega (arith, mul_comm bottom across)
+
+-- with the words of one column more
+pub one_column_more : (rect : Rect) (column k y i : ℕ) (now before first mask : Bool) →
+    (k ≡ column → mask ≡ (nat_le rect.x (column * 64 + i) && nat_lt (column * 64 + i) (rect.x + rect.w))) →
+    before ≡ (first || (nat_lt k column && contains rect (k * 64 + i) y)) →
+    now ≡ (before || ((nat_eq k column && (nat_le rect.y y && nat_lt y (rect.y + rect.h))) && mask)) →
+    now ≡ (first || (nat_lt k (column + 1) && contains rect (k * 64 + i) y))
+one_column_more rect column k y i now before first mask is was here =
+    elim (cases_eq k column) [
+      | inl e ↦ let same = is e in grind (arith, nat_tests)
+      | inr e ↦ grind (arith, nat_tests)
+    ]
