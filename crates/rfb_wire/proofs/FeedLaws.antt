@@ -1,0 +1,64 @@
+-- How an end that steps by units of bytes is fed a slice: a unit is a byte, or a run of them of one item.
+use Rattle.std.proofs.Common.{◌≡◌, ℕ, ◌+◌, List, [], ◌++◌, Option, None, Ok, Err, take, drop, refl, sym, subst, ◌∙◌, ap, arith, take-append-drop}
+use Rattle.std.proofs.lemmas.List.{take-take, drop-take}
+use Rattle.rfb_wire.specs.Reading.{Next, More, Got, Bad}
+use Rattle.rfb_wire.specs.End.{Machine, IsMachine, Takes, Refuses, FedBy, RefusedBy, Steps, StepsBy}
+use Rattle.rfb_wire.proofs.EndLaws.{takes_none, takes_part, takes_last, takes_then, refuses_unit, refuses_then, refuses_more}
+
+-- the first bytes, and then the next
+pub take_add : (i n : ℕ) (xs : List ℕ) → take (i + n) xs ≡ take i xs ++ take n (drop i xs)
+take_add i n xs =
+    sym (take-append-drop i (take (i + n) xs)) ∙ ap (λ (ys : List ℕ). ys ++ drop i (take (i + n) xs)) (take-take i (i + n) xs (omega arith)) ∙ ap (λ (ys : List ℕ). take i xs ++ ys) (drop-take i n xs)
+
+module _ {S P I F E V : Type 0} where
+  -- no bytes leave an end as it is, where what it stands for waits for more
+  pub fed_start : (m : Machine S P I F E) (stands : V → S → List ℕ → Type 0) (v : V) → ((s : S) (prefix : List ℕ) → stands v s prefix → m.grammar.next (m.point s) prefix ≡ More) → FedBy m stands v [] None v
+  fed_start m stands v waits = λ s prefix now. (s, prefix, now, takes_none m s prefix (waits s prefix now))
+
+  -- bytes behind bytes
+  pub fed_then : (m : Machine S P I F E) → IsMachine m → (stands : V → S → List ℕ → Type 0) (old mid new : V) (xs ys : List ℕ) (event : Option E) → FedBy m stands old xs None mid → FedBy m stands mid ys event new → FedBy m stands old (xs ++ ys) event new
+  fed_then m is stands old mid new xs ys event one two = λ s prefix now.
+      let a = one s prefix now in
+      let b = two a.0 a.1 a.2 in
+      (b.0, b.1, b.2, takes_then m is s a.0 b.0 prefix a.1 b.1 xs ys event a.3 b.3)
+
+  -- a fault behind bytes
+  pub refused_then : (m : Machine S P I F E) → IsMachine m → (stands : V → S → List ℕ → Type 0) (old mid : V) (xs ys : List ℕ) (fault : F) → FedBy m stands old xs None mid → RefusedBy m stands mid ys fault → RefusedBy m stands old (xs ++ ys) fault
+  refused_then m is stands old mid xs ys fault one two = λ s prefix now.
+      let a = one s prefix now in
+      refuses_then m is s a.0 prefix a.1 xs ys fault a.3 (two a.0 a.1 a.2)
+
+  -- further bytes are refused too
+  pub refused_more : (m : Machine S P I F E) → IsMachine m → (stands : V → S → List ℕ → Type 0) (old : V) (xs ys : List ℕ) (fault : F) → RefusedBy m stands old xs fault → RefusedBy m stands old (xs ++ ys) fault
+  refused_more m is stands old xs ys fault one = λ s prefix now. refuses_more m is s prefix xs ys fault (one s prefix now)
+
+  -- a step is a call of its unit
+  pub step_feeds : (m : Machine S P I F E) → IsMachine m → (stands : V → S → List ℕ → Type 0) (old new : V) (unit : List ℕ) (event : Option E) → StepsBy m stands old unit (Ok event) new → FedBy m stands old unit event new
+  step_feeds m is stands old new unit event steps = λ s prefix now. by s prefix (m.grammar.next (m.point s) (prefix ++ unit)) refl (steps s prefix now)
+    where
+      by : (s : S) (prefix : List ℕ) (next : Next I F) → m.grammar.next (m.point s) (prefix ++ unit) ≡ next → Steps m stands new s (prefix ++ unit) next (Ok event) → (t : S) × (rest : List ℕ) × stands new t rest × Takes m s prefix unit event t rest
+      by s prefix More e h = (s, prefix ++ unit, h.1, rw h.0 (takes_part m s prefix unit e))
+      by s prefix (Got i rest) e h = (m.act s i, [], h.2, subst (λ (told : Option E). Takes m s prefix unit told (m.act s i) []) h.1 (takes_last m is s prefix unit i (e ∙ ap (λ (ys : List ℕ). Got i ys) h.0)))
+      by s prefix (Bad f) e h = absurd h
+
+  step_refuses : (m : Machine S P I F E) (stands : V → S → List ℕ → Type 0) (old new : V) (unit : List ℕ) (fault : F) → StepsBy m stands old unit (Err fault) new → RefusedBy m stands old unit fault
+  step_refuses m stands old new unit fault steps = λ s prefix now. by s prefix (m.grammar.next (m.point s) (prefix ++ unit)) refl (steps s prefix now)
+    where
+      by : (s : S) (prefix : List ℕ) (next : Next I F) → m.grammar.next (m.point s) (prefix ++ unit) ≡ next → Steps m stands new s (prefix ++ unit) next (Err fault) → Refuses m s prefix unit fault
+      by s prefix More e h = absurd h
+      by s prefix (Got i rest) e h = absurd h
+      by s prefix (Bad f) e h = refuses_unit m s prefix unit fault (e ∙ ap (λ (k : F). Bad k) (sym h))
+
+  -- ---- a slice, of which i bytes are taken, and now n more
+
+  -- the call goes on, or ends with an event
+  pub fed_step : (m : Machine S P I F E) → IsMachine m → (stands : V → S → List ℕ → Type 0) (old mid new : V) (i n : ℕ) (bytes : List ℕ) (event : Option E) → FedBy m stands old (take i bytes) None mid → StepsBy m stands mid (take n (drop i bytes)) (Ok event) new → FedBy m stands old (take (i + n) bytes) event new
+  fed_step m is stands old mid new i n bytes event fed steps =
+      rw (take_add i n bytes) (fed_then m is stands old mid new (take i bytes) (take n (drop i bytes)) event fed (step_feeds m is stands mid new (take n (drop i bytes)) event steps))
+
+  -- the call ends with a fault
+  pub fault_step : (m : Machine S P I F E) → IsMachine m → (stands : V → S → List ℕ → Type 0) (old mid new : V) (i n : ℕ) (bytes : List ℕ) (fault : F) → FedBy m stands old (take i bytes) None mid → StepsBy m stands mid (take n (drop i bytes)) (Err fault) new → RefusedBy m stands old bytes fault
+  fault_step m is stands old mid new i n bytes fault fed steps =
+      let here = refused_then m is stands old mid (take i bytes) (take n (drop i bytes)) fault fed (step_refuses m stands mid new (take n (drop i bytes)) fault steps) in
+      let all = refused_more m is stands old (take i bytes ++ take n (drop i bytes)) (drop (i + n) bytes) fault here in
+      subst (λ (zs : List ℕ). RefusedBy m stands old zs fault) (ap (λ (ys : List ℕ). ys ++ drop (i + n) bytes) (sym (take_add i n bytes)) ∙ take-append-drop (i + n) bytes) all
