@@ -1,0 +1,21 @@
+//! The heads of RFC 6143's messages and rectangles: what stands before their lists, texts and data.
+//!
+//! `ClientHead`, `ServerHead` and `RectHead` are read from the front of a slice, which may hold less
+//! than a head or more, and are spelled as bytes. Nothing here takes memory, keeps bytes or asks what
+//! was read before; the caller owns the slice, and drops from it what a `Read::Got` has used.
+#![tactic(auto)]
+
+mod client_head;
+mod encoding;
+mod fault;
+mod fields;
+mod read;
+mod rect_head;
+mod server_head;
+
+pub use client_head::ClientHead;
+pub use encoding::Encoding;
+pub use fault::WireFault;
+pub use read::Read;
+pub use rect_head::RectHead;
+pub use server_head::ServerHead;
