@@ -1,3 +1,9 @@
+pub mod FieldLemmas
+pub mod HeadLemmas
+pub mod ClientLemmas
+pub mod ServerLemmas
+pub mod RectLemmas
+mod StandardFacts
 pub mod PartLaws
 pub mod RepeatLaws
 pub mod ReadingLaws

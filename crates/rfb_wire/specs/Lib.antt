@@ -1,3 +1,9 @@
+pub mod Fields
+pub mod Encoding
+pub mod Heads
+pub mod ClientHead
+pub mod ServerHead
+pub mod RectHead
 pub mod Reading
 pub mod Parts
 pub mod Stream

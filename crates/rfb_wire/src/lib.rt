@@ -1,6 +1,23 @@
-//! The bytes of the Remote Framebuffer protocol: streams.
+//! The bytes of RFC 6143's messages: their heads, and the streams that both ends stand on.
+//!
+//! `ClientHead`, `ServerHead` and `RectHead` are read from the front of a slice, which may hold less
+//! than a head or more, and are spelled as bytes. Nothing here takes memory, keeps bytes or asks what
+//! was read before; the caller owns the slice, and drops from it what a `Read::Got` has used. `law`
+//! says of streams of messages, in contracts alone, what every end that is fed one rests on.
 #![tactic(auto)]
 
-mod law;
+mod client_head;
+mod encoding;
+mod fault;
+mod fields;
+pub mod law;
+mod read;
+mod rect_head;
+mod server_head;
 
-pub use law::grammar_laws;
+pub use client_head::ClientHead;
+pub use encoding::Encoding;
+pub use fault::WireFault;
+pub use read::Read;
+pub use rect_head::RectHead;
+pub use server_head::ServerHead;

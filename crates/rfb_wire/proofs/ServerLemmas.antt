@@ -1,0 +1,41 @@
+-- Heads of server messages: a head for bytes of the right size.
+use Rattle.std.proofs.Common.{◌≡◌, ℕ, ◌==◌, ◌<◌, if◌then◌else◌, List, [], ◌∷◌, length, slice_index, drop, Option, Some, None, inl, inr, refl, arith}
+use Rattle.std.proofs.lemmas.Bool.{cases_eq}
+use Rattle.std.proofs.lemmas.Bool.Decides.{nat_tests}
+use Rattle.rfb_wire.specs.declared.server_head.ServerHead.{ServerHead}
+use Rattle.rfb_wire.specs.declared.server_head.ServerHead.TheVariants.{Update, ColourMap, Bell, CutText}
+use Rattle.rfb_wire.specs.Fields.{u8_at, u16_at, u32_at}
+use Rattle.rfb_wire.specs.ServerHead.{SpellsServerHead, server_head_size}
+use Rattle.rfb_wire.proofs.HeadLemmas.{SizesSpell}
+
+-- bytes of the size that their type asks for are a head
+pub server-sizes : SizesSpell SpellsServerHead server_head_size
+server-sizes bytes h =
+    elim (cases_eq (slice_index bytes 0) 0) [
+      | inl is ↦ (Update (u16_at 2 bytes), record { size = grind (arith, nat_tests); message_type = is; number_is = refl })
+      | inr not_0 ↦ elim (cases_eq (slice_index bytes 0) 1) [
+        | inl is ↦ (ColourMap (u16_at 2 bytes) (u16_at 4 bytes), record { size = grind (arith, nat_tests); message_type = is; first_is = refl; number_is = refl })
+        | inr not_1 ↦ elim (cases_eq (slice_index bytes 0) 2) [
+          | inl is ↦ (Bell, record { size = grind (arith, nat_tests); message_type = is })
+          | inr not_2 ↦ elim (cases_eq (slice_index bytes 0) 3) [
+            | inl is ↦ (CutText (u32_at 4 bytes), record { size = grind (arith, nat_tests); message_type = is; length_is = refl })
+            | inr not_3 ↦ absurd (grind (arith, nat_tests))
+          ]
+        ]
+      ]
+    ]
+
+-- the head that bytes of the right size are
+abbrev pub server_head_in : List ℕ → ServerHead
+server_head_in bytes =
+    let message_type = slice_index bytes 0 in
+    if message_type == 0 then Update (u16_at 2 bytes) else
+    if message_type == 1 then ColourMap (u16_at 2 bytes) (u16_at 4 bytes) else
+    if message_type == 2 then Bell else CutText (u32_at 4 bytes)
+
+-- bytes spell no other head than that, have its size, and are not none
+pub server-spelled : (head : ServerHead) (bytes : List ℕ) → SpellsServerHead head bytes → (head ≡ server_head_in bytes) × (server_head_size (slice_index bytes 0) ≡ Some (length bytes)) × (0 < length bytes)
+server-spelled (Update count) bytes s = (grind (arith, nat_tests), grind (arith, nat_tests), omega arith)
+server-spelled (ColourMap first count) bytes s = (grind (arith, nat_tests), grind (arith, nat_tests), omega arith)
+server-spelled Bell bytes s = (grind (arith, nat_tests), grind (arith, nat_tests), omega arith)
+server-spelled (CutText text_length) bytes s = (grind (arith, nat_tests), grind (arith, nat_tests), omega arith)
