@@ -6,8 +6,11 @@ pub mod RectLemmas
 mod StandardFacts
 pub mod PartLaws
 pub mod RepeatLaws
+pub mod HeadedLaws
 pub mod ReadingLaws
 pub mod StreamLaws
+pub mod ClientStreamLaws
+pub mod ServerMessageLaws
 pub mod EndLaws
 pub mod FeedLaws
 pub mod SequelLaws

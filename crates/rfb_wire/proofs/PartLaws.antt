@@ -1,5 +1,5 @@
 -- The law of each part: which relation it reads, in both directions, its faults too.
-use Rattle.std.proofs.Common.{◌≡◌, ℕ, ◌≤◌, ◌<◌, ◌⊎◌, inl, inr, List, [], ◌++◌, Bool, true, false, nat_le, Option, Some, None, if◌then◌else◌, length, take, drop, refl, sym, ◌∙◌, ap, append_assoc, arith, length-append, take-append-drop}
+use Rattle.std.proofs.Common.{◌≡◌, ℕ, ◌≤◌, ◌<◌, ◌⊎◌, inl, inr, List, [], ◌++◌, Bool, true, false, nat_le, Option, Some, None, if◌then◌else◌, length, take, drop, refl, sym, ◌∙◌, ap, append_assoc, append-nil, arith, length-append, take-append-drop}
 use Rattle.std.proofs.lemmas.List.{take_at, drop_at, length-take-le}
 use Rattle.std.proofs.lemmas.Bool.Decides.{nat_tests}
 use Rattle.rfb_wire.specs.Reading.{Next, More, Got, Bad, Reading, Says, Reads, Same}
@@ -35,6 +35,10 @@ module _ {A B F : Type 0} where
 
   abbrev pub then_says : Says A F → (A → Says B F) → Says B F
   then_says s t = record { item = ThenItem s t; fault = ThenFault s t }
+
+-- bytes with nothing behind them
+pub alone : (bytes front back : List ℕ) → bytes ≡ front ++ back → back ≡ [] → bytes ≡ front
+alone bytes front back e none = e ∙ ap (λ (ys : List ℕ). front ++ ys) none ∙ append-nil front
 
 -- ---- the laws
 

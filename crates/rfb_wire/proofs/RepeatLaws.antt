@@ -4,7 +4,7 @@ use Rattle.std.proofs.lemmas.List.{take_at}
 use Rattle.rfb_wire.specs.Reading.{Next, More, Got, Bad, Reading, Says, Reads, Same, Listed, ListedAfter, Optionally}
 use Rattle.rfb_wire.specs.Parts.{named, renamed, piece, done, taken, kept, behind, and_then, valued, optional, many, each}
 
-use Rattle.rfb_wire.proofs.PartLaws.{kept_says, piece_says, done_says, then_says, piece_reads, done_reads, then_reads, same_reads}
+use Rattle.rfb_wire.proofs.PartLaws.{alone, kept_says, piece_says, done_says, then_says, piece_reads, done_reads, then_reads, same_reads}
 
 -- a fault of a part that is there
 abbrev pub FaultIf : {F : Type 0} → Bool → (F → List ℕ → Type 0) → F → List ℕ → Type 0
@@ -56,7 +56,7 @@ module _ {A F : Type 0} where
     where
       same : Same (then_says (piece_says {F = F} n) (λ bytes. done_says (value bytes))) (valued_says n value)
       same = record {
-        item = λ a bytes h. let all : bytes ≡ h.0 = h.3 ∙ ap (λ (ys : List ℕ). h.1 ++ ys) h.5.1 ∙ append-nil h.1 ∙ h.4.0 in rw all (ap length (sym h.4.0) ∙ h.4.1, h.5.0);
+        item = λ a bytes h. let all : bytes ≡ h.0 = alone bytes h.1 h.2 h.3 h.5.1 ∙ h.4.0 in rw all (ap length (sym h.4.0) ∙ h.4.1, h.5.0);
         fault = λ f bytes h. elim h [ | inl none ↦ none | inr none ↦ none.5 ];
         item_back = λ a bytes h. (bytes, bytes, [], sym (append-nil bytes), (refl, h.0), (h.1, refl));
         fault_back = λ f bytes h. absurd h;
@@ -71,7 +71,7 @@ module _ {A F : Type 0} where
     where
       same : Same (then_says s (λ a. done_says (Some a))) (optional_says true s)
       same = record {
-        item = λ o bytes h. let all : bytes ≡ h.1 = h.3 ∙ ap (λ (ys : List ℕ). h.1 ++ ys) h.5.1 ∙ append-nil h.1 in (h.0, h.5.0, rw all h.4);
+        item = λ o bytes h. let all : bytes ≡ h.1 = alone bytes h.1 h.2 h.3 h.5.1 in (h.0, h.5.0, rw all h.4);
         fault = λ f bytes h. elim h [ | inl bad ↦ bad | inr none ↦ absurd none.5 ];
         item_back = λ o bytes h. (h.0, bytes, [], sym (append-nil bytes), h.2, (h.1, refl));
         fault_back = λ f bytes h. inl h;
@@ -87,7 +87,7 @@ module _ {A F : Type 0} where
       item : (items : List A) (bytes : List ℕ) → (each_more n s before).item items bytes → (each_says (suc n) s before).item items bytes
       item items bytes h =
           let w = h.5 in
-          let back : h.2 ≡ w.1 = w.3 ∙ ap (λ (ys : List ℕ). w.1 ++ ys) w.5.1 ∙ append-nil w.1 in
+          let back : h.2 ≡ w.1 = alone h.2 w.1 w.2 w.3 w.5.1 in
           let more : ListedAfter (λ xs. (s xs).item) (before ++ h.0 ∷ []) w.0 h.2 = rw back w.4.1 in
           rw w.5.0 (ap suc w.4.0, (h.1, h.2, h.3, h.4, more))
       fault : (f : F) (bytes : List ℕ) → (each_more n s before).fault f bytes → (each_says (suc n) s before).fault f bytes

@@ -123,6 +123,10 @@ module _ {P I F : Type 0} where
   pub got_one : (g : Grammar P I F) (p : P) (bytes : List ℕ) (i j : I) (xs ys : List ℕ) → g.next p bytes ≡ Got i xs → g.next p bytes ≡ Got j ys → (i ≡ j) × (xs ≡ ys)
   got_one g p bytes i j xs ys one two = (cc, cc)
 
+  -- no item's bytes go on as another's
+  pub item_apart : (g : Grammar P I F) → IsGrammar g → (p : P) (front rest : List ℕ) (i j : I) → g.next p front ≡ Got i [] → g.next p (front ++ rest) ≡ Got j [] → (i ≡ j) × (rest ≡ [])
+  item_apart g laws p front rest i j one two = got_one g p (front ++ rest) i j rest [] (laws.got p front rest i [] one) two
+
   -- bytes that were read as far as they go were read as the same items, with the same rest and end
   pub all_one : (g : Grammar P I F) (p : P) (bytes : List ℕ) (xs ys : List I) (one two : List ℕ) (v w : Option F) → ReadsAll g p bytes xs one → EndsIn v (g.next (past_all g p xs) one) → ReadsAll g p bytes ys two → EndsIn w (g.next (past_all g p ys) two) → (xs ≡ ys) × (one ≡ two) × (v ≡ w)
   all_one g p bytes [] [] one two v w a e b h =

@@ -9,3 +9,6 @@ pub mod Parts
 pub mod Stream
 pub mod End
 pub mod Sequel
+pub mod ClientMessage
+pub mod ClientStream
+pub mod ServerMessage

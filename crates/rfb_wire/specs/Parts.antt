@@ -1,5 +1,5 @@
 -- The parts that the reading of a grammar is put together of.
-use Rattle.std.specs.Prelude.{ℕ, zero, suc, Bool, true, false, List, [], ◌∷◌, ◌++◌, ◌-◌, Option, Some, None, nat_le, length, take, drop, if◌then◌else◌}
+use Rattle.std.specs.Prelude.{ℕ, zero, suc, Bool, true, false, List, [], ◌∷◌, ◌++◌, ◌-◌, Option, Some, None, nat_le, slice_index, length, take, drop, if◌then◌else◌}
 use Rattle.rfb_wire.specs.Reading.{Next, More, Got, Bad, Reading}
 
 -- so many bytes
@@ -15,6 +15,10 @@ module _ {A F : Type 0} where
   abbrev pub judged : Option F → A → Reading A F
   judged None a bytes = Got a bytes
   judged (Some f) a bytes = Bad f
+
+  -- no bytes: what was read before is refused
+  abbrev pub refused : F → Reading A F
+  refused f bytes = Bad f
 
   -- the bytes that an item took, in place of the item
   abbrev pub taken : List ℕ → Next A F → Next (List ℕ) F
@@ -55,6 +59,16 @@ module _ {A F : Type 0} where
   -- one part so many times
   abbrev pub many : ℕ → Reading A F → Reading (List A) F
   many n p = each n (λ _. p) []
+
+module _ {A F : Type 0} where
+  -- the rest of a head of so many bytes, or none where there is no such head
+  abbrev pub rest_of_head : (ℕ → F) → (List ℕ → A) → ℕ → Option ℕ → Reading A F
+  rest_of_head unknown head_in first None = refused (unknown first)
+  rest_of_head unknown head_in first (Some size) = valued (size - 1) (λ rest. head_in (first ∷ rest))
+
+  -- a head whose first byte decides how many bytes it has
+  abbrev pub headed : (ℕ → Option ℕ) → (ℕ → F) → (List ℕ → A) → Reading A F
+  headed size unknown head_in = and_then (valued 1 (λ bytes. slice_index bytes 0)) (λ first. rest_of_head unknown head_in first (size first))
 
 module _ {A B F H : Type 0} where
   -- what was read, its item and its fault named otherwise

@@ -1,0 +1,8 @@
+use Rattle.rfb_wire.proofs.EndLaws.{delivered, not_refused}
+use Rattle.rfb_wire.proofs.law.deliveries_take_from_the_front.Goals as goal
+
+pub returns-clause-taken : goal.returns-clause-taken
+returns-clause-taken g c = λ m s t prefix bytes later rest queue event is flight takes. delivered m is s t prefix bytes later rest queue event takes flight
+
+pub returns-clause-good : goal.returns-clause-good
+returns-clause-good g c = λ m s prefix bytes later queue fault is flight refused. not_refused m is s prefix bytes later queue fault flight refused

@@ -1,0 +1,93 @@
+-- The messages from server to client, RFC 6143 section 7.6, whole but for the rectangles of an update.
+use Rattle.std.specs.Prelude.{◌≡◌, ℕ, ◌+◌, ◌*◌, ◌==◌, List, [], ◌∷◌, ◌++◌, length, if◌then◌else◌}
+use Rattle.rfb_wire.specs.declared.server_head.ServerHead.{ServerHead}
+use Rattle.rfb_wire.specs.declared.server_head.ServerHead.TheVariants.{Update, ColourMap, Bell as BellHead, CutText}
+use Rattle.rfb_wire.specs.Fields.{u8_at, u16_at, u32_at}
+use Rattle.rfb_wire.specs.Heads.{BeginsNone}
+use Rattle.rfb_wire.specs.ServerHead.{SpellsServerHead, SpellsUpdate, SpellsColourMap, SpellsBell, SpellsServerCutText, server_head_size}
+use Rattle.rfb_wire.specs.Reading.{Reading, Says, Listed}
+use Rattle.rfb_wire.specs.Parts.{piece, done, and_then, valued, many, headed}
+
+-- an entry of a colour map, 16 bits each
+pub record Color : Type 0 where
+  pub red : ℕ
+  pub green : ℕ
+  pub blue : ℕ
+
+-- a message: an update and how many rectangles follow, a colour map from its first color on, a bell,
+-- or a text
+pub data ServerMessage : Type 0 where
+  FramebufferUpdate : (rectangles : ℕ) → ServerMessage
+  SetColorMapEntries : (first : ℕ) → (colors : List Color) → ServerMessage
+  Bell : ServerMessage
+  ServerCutText : (text : List ℕ) → ServerMessage
+
+-- why bytes are no message: a type that no server message has
+pub data ServerFault : Type 0 where
+  UnknownType : (message_type : ℕ) → ServerFault
+
+-- a color of SetColorMapEntries
+pub record SpellsColor (color : Color) (bytes : List ℕ) : Type 0 where
+  pub size : length bytes ≡ 6
+  pub red_is : u16_at 0 bytes ≡ color.red
+  pub green_is : u16_at 2 bytes ≡ color.green
+  pub blue_is : u16_at 4 bytes ≡ color.blue
+
+-- SetColorMapEntries, section 7.6.2: the head tells how many colors follow
+pub record SpellsColorsMessage (first : ℕ) (colors : List Color) (bytes : List ℕ) : Type 0 where
+  pub head : List ℕ
+  pub list : List ℕ
+  pub whole : bytes ≡ head ++ list
+  pub head_is : SpellsColourMap first (length colors) head
+  pub listed : Listed SpellsColor colors list
+
+-- ServerCutText, section 7.6.4: the head tells how many bytes of text follow
+pub record SpellsServerTextMessage (text bytes : List ℕ) : Type 0 where
+  pub head : List ℕ
+  pub whole : bytes ≡ head ++ text
+  pub head_is : SpellsServerCutText (length text) head
+
+-- the bytes are this message on the wire; of an update they are its head, and its rectangles follow
+abbrev pub SpellsServerMessage : ServerMessage → List ℕ → Type 0
+SpellsServerMessage (FramebufferUpdate rectangles) bytes = SpellsUpdate rectangles bytes
+SpellsServerMessage (SetColorMapEntries first colors) bytes = SpellsColorsMessage first colors bytes
+SpellsServerMessage Bell bytes = SpellsBell bytes
+SpellsServerMessage (ServerCutText text) bytes = SpellsServerTextMessage text bytes
+
+-- the bytes end in this fault: a type is judged at its byte
+abbrev pub FaultsServerMessage : ServerFault → List ℕ → Type 0
+FaultsServerMessage (UnknownType message_type) bytes = (bytes ≡ message_type ∷ []) × BeginsNone SpellsServerHead message_type
+
+-- what the bytes of a server say, between two messages
+abbrev pub server_says : Says ServerMessage ServerFault
+server_says = record { item = SpellsServerMessage; fault = FaultsServerMessage }
+
+-- how many bytes a message has, of an update its head
+abbrev pub server_message_size : ServerMessage → ℕ
+server_message_size (FramebufferUpdate rectangles) = 4
+server_message_size (SetColorMapEntries first colors) = 6 + length colors * 6
+server_message_size Bell = 1
+server_message_size (ServerCutText text) = 8 + length text
+
+-- the head that bytes of its size are
+abbrev pub server_head_of : List ℕ → ServerHead
+server_head_of bytes =
+    let message_type = u8_at 0 bytes in
+    if message_type == 0 then Update (u16_at 2 bytes) else
+    if message_type == 1 then ColourMap (u16_at 2 bytes) (u16_at 4 bytes) else
+    if message_type == 2 then BellHead else CutText (u32_at 4 bytes)
+
+-- the color that six bytes are
+abbrev pub color_of : List ℕ → Color
+color_of bytes = record { red = u16_at 0 bytes; green = u16_at 2 bytes; blue = u16_at 4 bytes }
+
+-- what is read behind a head
+abbrev pub behind_head : ServerHead → Reading ServerMessage ServerFault
+behind_head (Update count) = done (FramebufferUpdate count)
+behind_head (ColourMap first count) = and_then (many count (valued 6 color_of)) (λ colors. done (SetColorMapEntries first colors))
+behind_head BellHead = done Bell
+behind_head (CutText text_length) = and_then (piece text_length) (λ text. done (ServerCutText text))
+
+-- a message, or the head of an update
+unfoldable pub server_message : Reading ServerMessage ServerFault
+server_message = and_then (headed server_head_size (λ first. UnknownType first) server_head_of) behind_head
