@@ -3,7 +3,7 @@ use Rattle.std.proofs.Common.{◌≡◌, ℕ, List, [], ◌∷◌, ◌++◌, Opt
 use Rattle.std.specs.Option.{IfSome}
 use Rattle.rfb_wire.specs.Reading.{More, Got, Bad}
 use Rattle.rfb_wire.specs.Stream.{ReadsAll, past_all}
-use Rattle.rfb_wire.specs.End.{Machine, IsMachine, acts, EndsWith, told, with_event, Takes, Refuses, Runs, Call, CallsTo, bytes_of, events_of, Delivers}
+use Rattle.rfb_wire.specs.End.{Machine, IsMachine, acts, EndsWith, told, with_event, Takes, Refuses, RunsOut, Runs, Call, CallsTo, bytes_of, events_of, Delivers}
 use Rattle.rfb_wire.proofs.StreamLaws.{all_more, all_append, all_length, all_rest, all_good, all_one, within_first}
 
 module _ {S P I F E : Type 0} where
@@ -81,6 +81,28 @@ module _ {S P I F E : Type 0} where
       reads = subst (λ (zs : List ℕ). ReadsAll m.grammar (m.point s) zs one.items (one.rest ++ ys)) (append_assoc prefix xs ys) (all_more m.grammar is.laws (m.point s) (prefix ++ xs) ys one.items one.rest one.reads);
       quiet = one.quiet;
       bad = is.laws.bad (m.point (acts m s one.items)) one.rest ys fault one.bad;
+    }
+
+  -- want of memory behind bytes
+  pub runs_out_then : (m : Machine S P I F E) → IsMachine m → (asks : S → List ℕ → Type 0) (s t : S) (prefix mid xs ys : List ℕ) → Takes m s prefix xs None t mid → RunsOut m asks t mid ys → RunsOut m asks s prefix (xs ++ ys)
+  runs_out_then m is asks s t prefix mid xs ys one two = record {
+      items = one.items ++ two.items;
+      front = two.front;
+      later = two.later;
+      reads = reads_then m is s t prefix mid xs ys (two.front ++ two.later) one.items two.items one.state one.reads two.reads;
+      quiet = ends_append m s one.items two.items None one.ends (subst (λ (v : S). EndsWith m v two.items None) one.state two.quiet);
+      asked = rw (acts_append m s one.items two.items) (subst (λ (v : S). asks (acts m v two.items) two.front) one.state two.asked);
+    }
+
+  -- and before bytes
+  pub runs_out_more : (m : Machine S P I F E) → IsMachine m → (asks : S → List ℕ → Type 0) (s : S) (prefix xs ys : List ℕ) → RunsOut m asks s prefix xs → RunsOut m asks s prefix (xs ++ ys)
+  runs_out_more m is asks s prefix xs ys one = record {
+      items = one.items;
+      front = one.front;
+      later = one.later ++ ys;
+      reads = subst (λ (zs : List ℕ). ReadsAll m.grammar (m.point s) zs one.items (one.front ++ (one.later ++ ys))) (append_assoc prefix xs ys) (subst (λ (zs : List ℕ). ReadsAll m.grammar (m.point s) ((prefix ++ xs) ++ ys) one.items zs) (append_assoc one.front one.later ys) (all_more m.grammar is.laws (m.point s) (prefix ++ xs) ys one.items (one.front ++ one.later) one.reads));
+      quiet = one.quiet;
+      asked = one.asked;
     }
 
   -- ---- one unit of bytes, of one item

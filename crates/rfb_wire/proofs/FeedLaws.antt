@@ -2,8 +2,8 @@
 use Rattle.std.proofs.Common.{◌≡◌, ℕ, ◌+◌, List, [], ◌++◌, Option, None, Ok, Err, take, drop, refl, sym, subst, ◌∙◌, ap, arith, take-append-drop}
 use Rattle.std.proofs.lemmas.List.{take-take, drop-take}
 use Rattle.rfb_wire.specs.Reading.{Next, More, Got, Bad}
-use Rattle.rfb_wire.specs.End.{Machine, IsMachine, Takes, Refuses, FedBy, RefusedBy, Steps, StepsBy}
-use Rattle.rfb_wire.proofs.EndLaws.{takes_none, takes_part, takes_last, takes_then, refuses_unit, refuses_then, refuses_more}
+use Rattle.rfb_wire.specs.End.{Machine, IsMachine, Takes, Refuses, RunsOut, FedBy, RefusedBy, RunsOutBy, Steps, StepsBy}
+use Rattle.rfb_wire.proofs.EndLaws.{takes_none, takes_part, takes_last, takes_then, refuses_unit, refuses_then, refuses_more, runs_out_then, runs_out_more}
 
 -- the first bytes, and then the next
 pub take_add : (i n : ℕ) (xs : List ℕ) → take (i + n) xs ≡ take i xs ++ take n (drop i xs)
@@ -62,3 +62,11 @@ module _ {S P I F E V : Type 0} where
       let here = refused_then m is stands old mid (take i bytes) (take n (drop i bytes)) fault fed (step_refuses m stands mid new (take n (drop i bytes)) fault steps) in
       let all = refused_more m is stands old (take i bytes ++ take n (drop i bytes)) (drop (i + n) bytes) fault here in
       subst (λ (zs : List ℕ). RefusedBy m stands old zs fault) (ap (λ (ys : List ℕ). ys ++ drop (i + n) bytes) (sym (take_add i n bytes)) ∙ take-append-drop (i + n) bytes) all
+
+  -- the call ends with want of memory
+  pub memory_step : (m : Machine S P I F E) → IsMachine m → (asks : S → List ℕ → Type 0) (stands : V → S → List ℕ → Type 0) (old mid : V) (i n : ℕ) (bytes : List ℕ) → FedBy m stands old (take i bytes) None mid → RunsOutBy m asks stands mid (take n (drop i bytes)) → RunsOutBy m asks stands old bytes
+  memory_step m is asks stands old mid i n bytes fed wants = λ s prefix now.
+      let a = fed s prefix now in
+      let here = runs_out_then m is asks s a.0 prefix a.1 (take i bytes) (take n (drop i bytes)) a.3 (wants a.0 a.1 a.2) in
+      let all = runs_out_more m is asks s prefix (take i bytes ++ take n (drop i bytes)) (drop (i + n) bytes) here in
+      subst (λ (zs : List ℕ). RunsOut m asks s prefix zs) (ap (λ (ys : List ℕ). ys ++ drop (i + n) bytes) (sym (take_add i n bytes)) ∙ take-append-drop (i + n) bytes) all

@@ -1,13 +1,13 @@
 -- The law of a head whose first byte decides its size.
 use Rattle.std.proofs.Common.{◌≡◌, ℕ, ◌-◌, ◌<◌, inl, inr, List, [], ◌∷◌, ◌++◌, Option, Some, None, length, slice_index, refl, sym, subst, ◌∙◌, ap, arith}
 use Rattle.rfb_wire.specs.Reading.{Says, Reads, Same}
-use Rattle.rfb_wire.specs.Parts.{refused, valued, rest_of_head, headed}
+use Rattle.rfb_wire.specs.Parts.{waiting, refused, valued, rest_of_head, headed}
 use Rattle.rfb_wire.specs.Heads.{BeginsNone}
 use Rattle.rfb_wire.proofs.PartLaws.{then_says, then_reads, same_reads}
 use Rattle.rfb_wire.proofs.RepeatLaws.{valued_says, valued_reads}
 
 -- one byte is a list of one
-one_byte : (bytes : List ℕ) (first : ℕ) → length bytes ≡ 1 → first ≡ slice_index bytes 0 → bytes ≡ first ∷ []
+pub one_byte : (bytes : List ℕ) (first : ℕ) → length bytes ≡ 1 → first ≡ slice_index bytes 0 → bytes ≡ first ∷ []
 one_byte [] first l e = absurd (omega (arith, l))
 one_byte (x ∷ []) first l e = ap (λ (n : ℕ). n ∷ []) (sym e)
 one_byte (x ∷ y ∷ bytes) first l e = absurd (omega (arith, l))
@@ -20,6 +20,18 @@ pub record IsHeaded {A : Type 0} (Spells : A → List ℕ → Type 0) (size : �
   pub begins : (first n : ℕ) → size first ≡ Some n → BeginsNone Spells first → ⊥
 
 module _ {A F : Type 0} where
+  -- nothing
+  abbrev pub waiting_says : Says A F
+  waiting_says = record { item = λ _ _. ⊥; fault = λ _ _. ⊥ }
+
+  pub waiting_reads : Reads (waiting {A = A} {F = F}) waiting_says
+  waiting_reads = record {
+      found = λ bytes a rest e. absurd cc;
+      only = λ a front rest h. absurd h;
+      blamed = λ bytes f e. absurd cc;
+      blames = λ f front rest h. absurd h;
+    }
+
   -- that fault, without bytes
   abbrev pub refused_says : F → Says A F
   refused_says f = record { item = λ _ _. ⊥; fault = λ g bytes. (g ≡ f) × (bytes ≡ []) }

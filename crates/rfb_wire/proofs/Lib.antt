@@ -14,3 +14,4 @@ pub mod ServerMessageLaws
 pub mod EndLaws
 pub mod FeedLaws
 pub mod SequelLaws
+mod StreamFacts

@@ -2,9 +2,9 @@
 use Rattle.std.proofs.Common.{◌≡◌, ℕ, zero, suc, ◌-◌, ◌<◌, inl, inr, List, [], ◌∷◌, ◌++◌, Bool, true, false, Option, Some, None, length, take, refl, sym, subst, ◌∙◌, ap, append_assoc, append-nil, arith, length-append}
 use Rattle.std.proofs.lemmas.List.{take_at}
 use Rattle.rfb_wire.specs.Reading.{Next, More, Got, Bad, Reading, Says, Reads, Same, Listed, ListedAfter, Optionally}
-use Rattle.rfb_wire.specs.Parts.{named, renamed, piece, done, taken, kept, behind, and_then, valued, optional, many, each}
+use Rattle.rfb_wire.specs.Parts.{named, renamed, checked, judged, piece, done, taken, kept, behind, and_then, valued, optional, many, each}
 
-use Rattle.rfb_wire.proofs.PartLaws.{alone, kept_says, piece_says, done_says, then_says, piece_reads, done_reads, then_reads, same_reads}
+use Rattle.rfb_wire.proofs.PartLaws.{alone, judged_says, judged_reads, kept_says, piece_says, done_says, then_says, piece_reads, done_reads, then_reads, same_reads}
 
 -- a fault of a part that is there
 abbrev pub FaultIf : {F : Type 0} → Bool → (F → List ℕ → Type 0) → F → List ℕ → Type 0
@@ -15,6 +15,10 @@ module _ {A F : Type 0} where
   -- what so many bytes say
   abbrev pub valued_says : ℕ → (List ℕ → A) → Says A F
   valued_says n value = record { item = λ a bytes. (length bytes ≡ n) × (a ≡ value bytes); fault = λ _ _. ⊥ }
+
+  -- what so many good bytes say, and the fault of others
+  abbrev pub checked_says : ℕ → (List ℕ → Option F) → (List ℕ → A) → Says A F
+  checked_says n fault value = record { item = λ a bytes. (length bytes ≡ n) × (fault bytes ≡ None) × (a ≡ value bytes); fault = λ f bytes. (length bytes ≡ n) × (fault bytes ≡ Some f) }
 
   -- an item of the part where it is there
   abbrev pub optional_says : Bool → Says A F → Says (Option A) F
@@ -60,6 +64,17 @@ module _ {A F : Type 0} where
         fault = λ f bytes h. elim h [ | inl none ↦ none | inr none ↦ none.5 ];
         item_back = λ a bytes h. (bytes, bytes, [], sym (append-nil bytes), (refl, h.0), (h.1, refl));
         fault_back = λ f bytes h. absurd h;
+      }
+
+  pub checked_reads : (n : ℕ) (fault : List ℕ → Option F) (value : List ℕ → A) → Reads (checked n fault value) (checked_says n fault value)
+  checked_reads n fault value = same_reads (checked n fault value) (then_says (piece_says n) (λ bytes. judged_says (fault bytes) (value bytes))) (checked_says n fault value) same (then_reads (piece n) (λ bytes. judged (fault bytes) (value bytes)) (piece_says n) (λ bytes. judged_says (fault bytes) (value bytes)) (piece_reads n) (λ bytes. judged_reads (fault bytes) (value bytes)))
+    where
+      same : Same (then_says (piece_says {F = F} n) (λ bytes. judged_says (fault bytes) (value bytes))) (checked_says n fault value)
+      same = record {
+        item = λ a bytes h. let all : bytes ≡ h.0 = alone bytes h.1 h.2 h.3 h.5.2 ∙ h.4.0 in rw all (ap length (sym h.4.0) ∙ h.4.1, h.5.0, h.5.1);
+        fault = λ f bytes h. elim h [ | inl none ↦ absurd none | inr w ↦ let all : bytes ≡ w.0 = alone bytes w.1 w.2 w.3 w.5.1 ∙ w.4.0 in rw all (ap length (sym w.4.0) ∙ w.4.1, w.5.0) ];
+        item_back = λ a bytes h. (bytes, bytes, [], sym (append-nil bytes), (refl, h.0), (h.1, h.2, refl));
+        fault_back = λ f bytes h. inr (bytes, bytes, [], sym (append-nil bytes), (refl, h.0), (h.1, refl));
       }
 
   pub optional_reads : (flag : Bool) (p : Reading A F) (s : Says A F) → Reads p s → Reads (optional flag p) (optional_says flag s)

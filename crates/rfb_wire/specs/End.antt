@@ -70,6 +70,16 @@ module _ {S P I F E : Type 0} where
     pub quiet : EndsWith m old items None
     pub bad : m.grammar.next (m.point (acts m old items)) rest ≡ Bad fault
 
+  -- it wants memory that there is not: whole items without an event, and then bytes at which it asks
+  -- for some, whatever follows these
+  pub record RunsOut (m : Machine S P I F E) (asks : S → List ℕ → Type 0) (old : S) (prefix bytes : List ℕ) : Type 0 where
+    pub items : List I
+    pub front : List ℕ
+    pub later : List ℕ
+    pub reads : ReadsAll m.grammar (m.point old) (prefix ++ bytes) items (front ++ later)
+    pub quiet : EndsWith m old items None
+    pub asked : asks (acts m old items) front
+
   -- what it made of the bytes that follow a prefix, over any number of calls: whole items, their
   -- events, and what is too few for another
   pub record Runs (m : Machine S P I F E) (old : S) (prefix bytes : List ℕ) (events : List E) (new : S) (rest : List ℕ) : Type 0 where
@@ -107,6 +117,11 @@ module _ {S P I F E V : Type 0} where
   -- what a fault says: from each state and prefix that the end stood for, the bytes are refused by it
   abbrev pub RefusedBy : Machine S P I F E → (V → S → List ℕ → Type 0) → V → List ℕ → F → Type 0
   RefusedBy m stands old bytes fault = (s : S) (prefix : List ℕ) → stands old s prefix → Refuses m s prefix bytes fault
+
+  -- what want of memory says: from each state and prefix that the end stood for, the bytes lead to where
+  -- it asks for some
+  abbrev pub RunsOutBy : Machine S P I F E → (S → List ℕ → Type 0) → (V → S → List ℕ → Type 0) → V → List ℕ → Type 0
+  RunsOutBy m asks stands old bytes = (s : S) (prefix : List ℕ) → stands old s prefix → RunsOut m asks s prefix bytes
 
   -- what one step answers to a unit of bytes, a byte or a run of them, of one item: `next` is what the
   -- prefix with the unit behind it begins with

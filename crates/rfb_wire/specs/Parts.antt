@@ -16,6 +16,10 @@ module _ {A F : Type 0} where
   judged None a bytes = Got a bytes
   judged (Some f) a bytes = Bad f
 
+  -- nothing is ever read
+  abbrev pub waiting : Reading A F
+  waiting bytes = More
+
   -- no bytes: what was read before is refused
   abbrev pub refused : F → Reading A F
   refused f bytes = Bad f
@@ -45,6 +49,10 @@ module _ {A F : Type 0} where
   -- so many bytes, and what they say
   abbrev pub valued : ℕ → (List ℕ → A) → Reading A F
   valued n value = and_then (piece n) (λ bytes. done (value bytes))
+
+  -- so many bytes, judged, and what they say if they are good
+  abbrev pub checked : ℕ → (List ℕ → Option F) → (List ℕ → A) → Reading A F
+  checked n fault value = and_then (piece n) (λ bytes. judged (fault bytes) (value bytes))
 
   -- a part that is there or not
   abbrev pub optional : Bool → Reading A F → Reading (Option A) F

@@ -1,0 +1,4 @@
+pub mod VersionLaws
+pub mod ClientHandshakeLaws
+pub mod ServerHandshakeLaws
+pub mod ServerStreamLaws

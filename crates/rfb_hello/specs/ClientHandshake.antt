@@ -1,0 +1,84 @@
+-- The handshake as a client's bytes have it, RFC 6143 sections 7.1 and 7.3.1 and Appendix A: its version,
+-- from version 3.7 on its choice of a security type, and ClientInit.
+use Rattle.std.specs.Prelude.{◌≡◌, ◌≢◌, ℕ, ◌≤◌, ◌<◌, ◌==◌, Bool, List, [], ◌∷◌, length, Option, Some, None, nat_le, if◌then◌else◌}
+use Rattle.rfb_wire.specs.Fields.{u8_at, flag_at}
+use Rattle.rfb_wire.specs.Reading.{Reading, Says}
+use Rattle.rfb_wire.specs.Parts.{valued, checked, waiting}
+use Rattle.rfb_wire.specs.Stream.{Grammar}
+use Rattle.rfb_hello.specs.declared.version.Version.{Version}
+use Rattle.rfb_hello.specs.declared.version.Version.TheVariants.{V33, V37, V38}
+use Rattle.rfb_hello.specs.declared.fault.HelloFault.{HelloFault}
+use Rattle.rfb_hello.specs.declared.fault.HelloFault.TheVariants.{BadVersion, VersionTooHigh, BadSecurityChoice}
+use Rattle.rfb_hello.specs.Version.{IsVersionText, SpellsVersion, is_version_text, version_of, minor_of}
+
+-- where a client's bytes stand in the handshake, and behind it
+pub data ClientPoint : Type 0 where
+  AwaitsVersion : ClientPoint
+  AwaitsChoice : (version : Version) → ClientPoint
+  AwaitsInit : (version : Version) → ClientPoint
+  Begun : (version : Version) → (shared : Bool) → ClientPoint
+
+-- what a client sends: a version, its choice of type None, the shared-flag
+pub data ClientStep : Type 0 where
+  ProtocolVersion : (version : Version) → ClientStep
+  SecurityType : ClientStep
+  ClientInit : (shared : Bool) → ClientStep
+
+-- the bytes are this step at this point, where the server has offered a version
+abbrev pub SpellsClientStep : Version → ClientPoint → ClientStep → List ℕ → Type 0
+SpellsClientStep offer AwaitsVersion (ProtocolVersion version) bytes = SpellsVersion version bytes × (minor_of version ≤ minor_of offer)
+SpellsClientStep offer (AwaitsChoice version) SecurityType bytes = bytes ≡ 1 ∷ []
+SpellsClientStep offer (AwaitsInit version) (ClientInit shared) bytes = (length bytes ≡ 1) × (flag_at 0 bytes ≡ shared)
+SpellsClientStep offer point step bytes = ⊥
+
+-- the bytes end in this fault at this point: twelve that are no version, a version above the one that was
+-- offered, and a choice of another type
+abbrev pub FaultsClientStep : Version → ClientPoint → HelloFault → List ℕ → Type 0
+FaultsClientStep offer AwaitsVersion BadVersion bytes = (length bytes ≡ 12) × (IsVersionText bytes → ⊥)
+FaultsClientStep offer AwaitsVersion VersionTooHigh bytes = (version : Version) × SpellsVersion version bytes × (minor_of offer < minor_of version)
+FaultsClientStep offer (AwaitsChoice version) BadSecurityChoice bytes = (choice : ℕ) × (bytes ≡ choice ∷ []) × (choice ≢ 1)
+FaultsClientStep offer point fault bytes = ⊥
+
+abbrev pub client_step_says : Version → ClientPoint → Says ClientStep HelloFault
+client_step_says offer point = record { item = SpellsClientStep offer point; fault = FaultsClientStep offer point }
+
+-- the point behind a version: 3.3 leaves no choice
+abbrev pub behind_version : Version → ClientPoint
+behind_version V33 = AwaitsInit V33
+behind_version V37 = AwaitsChoice V37
+behind_version V38 = AwaitsChoice V38
+
+-- the point behind a step
+abbrev pub past_client_step : ClientPoint → ClientStep → ClientPoint
+past_client_step AwaitsVersion (ProtocolVersion version) = behind_version version
+past_client_step (AwaitsChoice version) SecurityType = AwaitsInit version
+past_client_step (AwaitsInit version) (ClientInit shared) = Begun version shared
+past_client_step point step = point
+
+-- how many bytes a step has
+abbrev pub client_step_size : ClientStep → ℕ
+client_step_size (ProtocolVersion version) = 12
+client_step_size SecurityType = 1
+client_step_size (ClientInit shared) = 1
+
+-- the fault of twelve bytes, if they have one
+abbrev pub client_version_fault : Version → List ℕ → Option HelloFault
+client_version_fault offer bytes =
+    if is_version_text bytes
+    then (if nat_le (minor_of (version_of bytes)) (minor_of offer) then None else Some VersionTooHigh)
+    else Some BadVersion
+
+-- the fault of a choice, if it has one
+abbrev pub choice_fault : List ℕ → Option HelloFault
+choice_fault bytes = if u8_at 0 bytes == 1 then None else Some BadSecurityChoice
+
+-- what is read at a point; behind ClientInit nothing is
+abbrev pub client_step : Version → ClientPoint → Reading ClientStep HelloFault
+client_step offer AwaitsVersion = checked 12 (client_version_fault offer) (λ bytes. ProtocolVersion (version_of bytes))
+client_step offer (AwaitsChoice version) = checked 1 choice_fault (λ bytes. SecurityType)
+client_step offer (AwaitsInit version) = valued 1 (λ bytes. ClientInit (flag_at 0 bytes))
+client_step offer (Begun version shared) = waiting
+
+-- the handshake of a client's bytes, where the server has offered a version
+abbrev pub client_handshake : Version → Grammar ClientPoint ClientStep HelloFault
+client_handshake offer = record { next = client_step offer; past = past_client_step; size = client_step_size }

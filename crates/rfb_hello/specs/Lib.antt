@@ -1,0 +1,4 @@
+pub mod Version
+pub mod ClientHandshake
+pub mod ServerHandshake
+pub mod ServerReading
