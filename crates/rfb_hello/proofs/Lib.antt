@@ -2,3 +2,4 @@ pub mod VersionLaws
 pub mod ClientHandshakeLaws
 pub mod ServerHandshakeLaws
 pub mod ServerStreamLaws
+pub mod ServerHelloLemmas

@@ -19,28 +19,28 @@ pub data ClientPoint : Type 0 where
   Begun : (version : Version) → (shared : Bool) → ClientPoint
 
 -- what a client sends: a version, its choice of type None, the shared-flag
-pub data ClientStep : Type 0 where
-  ProtocolVersion : (version : Version) → ClientStep
-  SecurityType : ClientStep
-  ClientInit : (shared : Bool) → ClientStep
+pub data ClientItem : Type 0 where
+  ProtocolVersion : (version : Version) → ClientItem
+  SecurityType : ClientItem
+  ClientInit : (shared : Bool) → ClientItem
 
 -- the bytes are this step at this point, where the server has offered a version
-abbrev pub SpellsClientStep : Version → ClientPoint → ClientStep → List ℕ → Type 0
-SpellsClientStep offer AwaitsVersion (ProtocolVersion version) bytes = SpellsVersion version bytes × (minor_of version ≤ minor_of offer)
-SpellsClientStep offer (AwaitsChoice version) SecurityType bytes = bytes ≡ 1 ∷ []
-SpellsClientStep offer (AwaitsInit version) (ClientInit shared) bytes = (length bytes ≡ 1) × (flag_at 0 bytes ≡ shared)
-SpellsClientStep offer point step bytes = ⊥
+abbrev pub SpellsClientItem : Version → ClientPoint → ClientItem → List ℕ → Type 0
+SpellsClientItem offer AwaitsVersion (ProtocolVersion version) bytes = SpellsVersion version bytes × (minor_of version ≤ minor_of offer)
+SpellsClientItem offer (AwaitsChoice version) SecurityType bytes = bytes ≡ 1 ∷ []
+SpellsClientItem offer (AwaitsInit version) (ClientInit shared) bytes = (length bytes ≡ 1) × (flag_at 0 bytes ≡ shared)
+SpellsClientItem offer point step bytes = ⊥
 
 -- the bytes end in this fault at this point: twelve that are no version, a version above the one that was
 -- offered, and a choice of another type
-abbrev pub FaultsClientStep : Version → ClientPoint → HelloFault → List ℕ → Type 0
-FaultsClientStep offer AwaitsVersion BadVersion bytes = (length bytes ≡ 12) × (IsVersionText bytes → ⊥)
-FaultsClientStep offer AwaitsVersion VersionTooHigh bytes = (version : Version) × SpellsVersion version bytes × (minor_of offer < minor_of version)
-FaultsClientStep offer (AwaitsChoice version) BadSecurityChoice bytes = (choice : ℕ) × (bytes ≡ choice ∷ []) × (choice ≢ 1)
-FaultsClientStep offer point fault bytes = ⊥
+abbrev pub FaultsClientItem : Version → ClientPoint → HelloFault → List ℕ → Type 0
+FaultsClientItem offer AwaitsVersion BadVersion bytes = (length bytes ≡ 12) × (IsVersionText bytes → ⊥)
+FaultsClientItem offer AwaitsVersion VersionTooHigh bytes = (version : Version) × SpellsVersion version bytes × (minor_of offer < minor_of version)
+FaultsClientItem offer (AwaitsChoice version) BadSecurityChoice bytes = (choice : ℕ) × (bytes ≡ choice ∷ []) × (choice ≢ 1)
+FaultsClientItem offer point fault bytes = ⊥
 
-abbrev pub client_step_says : Version → ClientPoint → Says ClientStep HelloFault
-client_step_says offer point = record { item = SpellsClientStep offer point; fault = FaultsClientStep offer point }
+abbrev pub client_item_says : Version → ClientPoint → Says ClientItem HelloFault
+client_item_says offer point = record { item = SpellsClientItem offer point; fault = FaultsClientItem offer point }
 
 -- the point behind a version: 3.3 leaves no choice
 abbrev pub behind_version : Version → ClientPoint
@@ -49,17 +49,17 @@ behind_version V37 = AwaitsChoice V37
 behind_version V38 = AwaitsChoice V38
 
 -- the point behind a step
-abbrev pub past_client_step : ClientPoint → ClientStep → ClientPoint
-past_client_step AwaitsVersion (ProtocolVersion version) = behind_version version
-past_client_step (AwaitsChoice version) SecurityType = AwaitsInit version
-past_client_step (AwaitsInit version) (ClientInit shared) = Begun version shared
-past_client_step point step = point
+abbrev pub past_client_item : ClientPoint → ClientItem → ClientPoint
+past_client_item AwaitsVersion (ProtocolVersion version) = behind_version version
+past_client_item (AwaitsChoice version) SecurityType = AwaitsInit version
+past_client_item (AwaitsInit version) (ClientInit shared) = Begun version shared
+past_client_item point step = point
 
 -- how many bytes a step has
-abbrev pub client_step_size : ClientStep → ℕ
-client_step_size (ProtocolVersion version) = 12
-client_step_size SecurityType = 1
-client_step_size (ClientInit shared) = 1
+abbrev pub client_item_size : ClientItem → ℕ
+client_item_size (ProtocolVersion version) = 12
+client_item_size SecurityType = 1
+client_item_size (ClientInit shared) = 1
 
 -- the fault of twelve bytes, if they have one
 abbrev pub client_version_fault : Version → List ℕ → Option HelloFault
@@ -73,12 +73,12 @@ abbrev pub choice_fault : List ℕ → Option HelloFault
 choice_fault bytes = if u8_at 0 bytes == 1 then None else Some BadSecurityChoice
 
 -- what is read at a point; behind ClientInit nothing is
-abbrev pub client_step : Version → ClientPoint → Reading ClientStep HelloFault
-client_step offer AwaitsVersion = checked 12 (client_version_fault offer) (λ bytes. ProtocolVersion (version_of bytes))
-client_step offer (AwaitsChoice version) = checked 1 choice_fault (λ bytes. SecurityType)
-client_step offer (AwaitsInit version) = valued 1 (λ bytes. ClientInit (flag_at 0 bytes))
-client_step offer (Begun version shared) = waiting
+abbrev pub client_item : Version → ClientPoint → Reading ClientItem HelloFault
+client_item offer AwaitsVersion = checked 12 (client_version_fault offer) (λ bytes. ProtocolVersion (version_of bytes))
+client_item offer (AwaitsChoice version) = checked 1 choice_fault (λ bytes. SecurityType)
+client_item offer (AwaitsInit version) = valued 1 (λ bytes. ClientInit (flag_at 0 bytes))
+client_item offer (Begun version shared) = waiting
 
 -- the handshake of a client's bytes, where the server has offered a version
-abbrev pub client_handshake : Version → Grammar ClientPoint ClientStep HelloFault
-client_handshake offer = record { next = client_step offer; past = past_client_step; size = client_step_size }
+abbrev pub client_handshake : Version → Grammar ClientPoint ClientItem HelloFault
+client_handshake offer = record { next = client_item offer; past = past_client_item; size = client_item_size }

@@ -2,3 +2,6 @@ pub mod Version
 pub mod ClientHandshake
 pub mod ServerHandshake
 pub mod ServerReading
+pub mod ServerEnd
+pub mod ServerProgress
+pub mod ServerStanding

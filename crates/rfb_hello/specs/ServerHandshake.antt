@@ -1,7 +1,7 @@
 -- The handshake as a server's bytes have it, RFC 6143 sections 7.1 and 7.3.2 and Appendix A: its version,
 -- the security types, from version 3.8 on the SecurityResult, and ServerInit with the name.
-use Rattle.std.specs.Prelude.{◌≡◌, ◌≢◌, ℕ, zero, suc, ◌+◌, ◌-◌, ◌*◌, ◌≤◌, ◌<◌, ◌⊎◌, ◌==◌, ◌||◌, ◌&&◌, Bool, true, false, List, [], ◌∷◌, ◌++◌, length, drop, slice_index, Option, Some, None, nat_le, nat_lt, if◌then◌else◌}
-use Rattle.rfb_wire.specs.Fields.{u8_at, u16_at, u32_at}
+use Rattle.std.specs.Prelude.{◌≡◌, ◌≢◌, ℕ, zero, suc, ◌+◌, ◌*◌, ◌≤◌, ◌<◌, ◌==◌, ◌||◌, Bool, true, false, List, [], ◌∷◌, ◌++◌, length}
+use Rattle.rfb_wire.specs.Fields.{u16_at, u32_at}
 use Rattle.rfb_wire.specs.Reading.{Says}
 use Rattle.rfb_hello.specs.declared.version.Version.{Version}
 use Rattle.rfb_hello.specs.declared.version.Version.TheVariants.{V33, V37, V38}
@@ -21,13 +21,13 @@ pub data ServerPoint : Type 0 where
 
 -- what a server sends: a version; type None alone, as 3.3 has it; types, None among them; success;
 -- ServerInit up to the name; the name
-pub data ServerStep : Type 0 where
-  ProtocolVersion : (version : Version) → ServerStep
-  SecurityNone : ServerStep
-  SecurityTypes : (types : List ℕ) → ServerStep
-  SecurityResult : ServerStep
-  ServerInit : (width : ℕ) → (height : ℕ) → (name_length : ℕ) → ServerStep
-  Name : (text : List ℕ) → ServerStep
+pub data ServerItem : Type 0 where
+  ProtocolVersion : (version : Version) → ServerItem
+  SecurityNone : ServerItem
+  SecurityTypes : (types : List ℕ) → ServerItem
+  SecurityResult : ServerItem
+  ServerInit : (width : ℕ) → (height : ℕ) → (name_length : ℕ) → ServerItem
+  Name : (text : List ℕ) → ServerItem
 
 -- the type None is among these
 abbrev pub has_none : List ℕ → Bool
@@ -72,15 +72,15 @@ abbrev pub IsAdmitted : ℕ → ℕ → ℕ → Type 0
 IsAdmitted max_places width height = (0 < width) × (0 < height) × (width * height ≤ max_places)
 
 -- the bytes are this step at this point
-abbrev pub SpellsServerStep : ℕ → ServerPoint → ServerStep → List ℕ → Type 0
-SpellsServerStep max_places AwaitsVersion (ProtocolVersion version) bytes = SpellsVersion version bytes
-SpellsServerStep max_places (AwaitsSecurity V33) SecurityNone bytes = IsWord 1 bytes
-SpellsServerStep max_places (AwaitsSecurity V37) (SecurityTypes types) bytes = IsTypes types bytes × (has_none types ≡ true)
-SpellsServerStep max_places (AwaitsSecurity V38) (SecurityTypes types) bytes = IsTypes types bytes × (has_none types ≡ true)
-SpellsServerStep max_places (AwaitsResult version) SecurityResult bytes = IsWord 0 bytes
-SpellsServerStep max_places (AwaitsInit version) (ServerInit width height name_length) bytes = SpellsServerInit width height name_length bytes × IsAdmitted max_places width height
-SpellsServerStep max_places (AwaitsName version width height name_length) (Name text) bytes = (bytes ≡ text) × (length text ≡ name_length) × (0 < name_length)
-SpellsServerStep max_places point step bytes = ⊥
+abbrev pub SpellsServerItem : ℕ → ServerPoint → ServerItem → List ℕ → Type 0
+SpellsServerItem max_places AwaitsVersion (ProtocolVersion version) bytes = SpellsVersion version bytes
+SpellsServerItem max_places (AwaitsSecurity V33) SecurityNone bytes = IsWord 1 bytes
+SpellsServerItem max_places (AwaitsSecurity V37) (SecurityTypes types) bytes = IsTypes types bytes × (has_none types ≡ true)
+SpellsServerItem max_places (AwaitsSecurity V38) (SecurityTypes types) bytes = IsTypes types bytes × (has_none types ≡ true)
+SpellsServerItem max_places (AwaitsResult version) SecurityResult bytes = IsWord 0 bytes
+SpellsServerItem max_places (AwaitsInit version) (ServerInit width height name_length) bytes = SpellsServerInit width height name_length bytes × IsAdmitted max_places width height
+SpellsServerItem max_places (AwaitsName version width height name_length) (Name text) bytes = (bytes ≡ text) × (length text ≡ name_length) × (0 < name_length)
+SpellsServerItem max_places point step bytes = ⊥
 
 -- types without None, told at the last of them
 abbrev pub IsWithoutNone : List ℕ → Type 0
@@ -92,22 +92,22 @@ IsRefusal reason_length bytes = (reason : List ℕ) × (bytes ≡ 0 ∷ reason) 
 
 -- the bytes end in this fault at this point: a refusal at the last byte of its reason, a screen at the
 -- last byte before the name
-abbrev pub FaultsServerStep : ℕ → ServerPoint → HelloFault → List ℕ → Type 0
-FaultsServerStep max_places AwaitsVersion BadVersion bytes = (length bytes ≡ 12) × (IsVersionText bytes → ⊥)
-FaultsServerStep max_places (AwaitsSecurity V33) (Refused reason_length) bytes = IsWordWithReason 0 reason_length bytes
-FaultsServerStep max_places (AwaitsSecurity V33) NoneNotOffered bytes = IsWord 2 bytes
-FaultsServerStep max_places (AwaitsSecurity V33) BadSecurityWord bytes = (word : ℕ) × IsWord word bytes × (2 < word)
-FaultsServerStep max_places (AwaitsSecurity V37) (Refused reason_length) bytes = IsRefusal reason_length bytes
-FaultsServerStep max_places (AwaitsSecurity V37) NoneNotOffered bytes = IsWithoutNone bytes
-FaultsServerStep max_places (AwaitsSecurity V38) (Refused reason_length) bytes = IsRefusal reason_length bytes
-FaultsServerStep max_places (AwaitsSecurity V38) NoneNotOffered bytes = IsWithoutNone bytes
-FaultsServerStep max_places (AwaitsResult version) (SecurityFailed reason_length) bytes = (word : ℕ) × (word ≢ 0) × IsWordWithReason word reason_length bytes
-FaultsServerStep max_places (AwaitsInit version) ScreenEmpty bytes = (width height name_length : ℕ) × SpellsServerInit width height name_length bytes × (width * height ≡ 0)
-FaultsServerStep max_places (AwaitsInit version) ScreenTooLarge bytes = (width height name_length : ℕ) × SpellsServerInit width height name_length bytes × (0 < width * height) × (max_places < width * height)
-FaultsServerStep max_places point fault bytes = ⊥
+abbrev pub FaultsServerItem : ℕ → ServerPoint → HelloFault → List ℕ → Type 0
+FaultsServerItem max_places AwaitsVersion BadVersion bytes = (length bytes ≡ 12) × (IsVersionText bytes → ⊥)
+FaultsServerItem max_places (AwaitsSecurity V33) (Refused reason_length) bytes = IsWordWithReason 0 reason_length bytes
+FaultsServerItem max_places (AwaitsSecurity V33) NoneNotOffered bytes = IsWord 2 bytes
+FaultsServerItem max_places (AwaitsSecurity V33) BadSecurityWord bytes = (word : ℕ) × IsWord word bytes × (2 < word)
+FaultsServerItem max_places (AwaitsSecurity V37) (Refused reason_length) bytes = IsRefusal reason_length bytes
+FaultsServerItem max_places (AwaitsSecurity V37) NoneNotOffered bytes = IsWithoutNone bytes
+FaultsServerItem max_places (AwaitsSecurity V38) (Refused reason_length) bytes = IsRefusal reason_length bytes
+FaultsServerItem max_places (AwaitsSecurity V38) NoneNotOffered bytes = IsWithoutNone bytes
+FaultsServerItem max_places (AwaitsResult version) (SecurityFailed reason_length) bytes = (word : ℕ) × (word ≢ 0) × IsWordWithReason word reason_length bytes
+FaultsServerItem max_places (AwaitsInit version) ScreenEmpty bytes = (width height name_length : ℕ) × SpellsServerInit width height name_length bytes × (width * height ≡ 0)
+FaultsServerItem max_places (AwaitsInit version) ScreenTooLarge bytes = (width height name_length : ℕ) × SpellsServerInit width height name_length bytes × (0 < width * height) × (max_places < width * height)
+FaultsServerItem max_places point fault bytes = ⊥
 
-abbrev pub server_step_says : ℕ → ServerPoint → Says ServerStep HelloFault
-server_step_says max_places point = record { item = SpellsServerStep max_places point; fault = FaultsServerStep max_places point }
+abbrev pub server_item_says : ℕ → ServerPoint → Says ServerItem HelloFault
+server_item_says max_places point = record { item = SpellsServerItem max_places point; fault = FaultsServerItem max_places point }
 
 -- the point behind the security types
 abbrev pub behind_types : Version → ServerPoint
@@ -121,20 +121,20 @@ behind_init version width height zero = Begun version width height
 behind_init version width height (suc n) = AwaitsName version width height (suc n)
 
 -- the point behind a step, where the viewer goes up to a version
-abbrev pub past_server_step : Version → ServerPoint → ServerStep → ServerPoint
-past_server_step limit AwaitsVersion (ProtocolVersion version) = AwaitsSecurity (lower limit version)
-past_server_step limit (AwaitsSecurity version) SecurityNone = behind_types version
-past_server_step limit (AwaitsSecurity version) (SecurityTypes types) = behind_types version
-past_server_step limit (AwaitsResult version) SecurityResult = AwaitsInit version
-past_server_step limit (AwaitsInit version) (ServerInit width height name_length) = behind_init version width height name_length
-past_server_step limit (AwaitsName version width height name_length) (Name text) = Begun version width height
-past_server_step limit point step = point
+abbrev pub past_server_item : Version → ServerPoint → ServerItem → ServerPoint
+past_server_item limit AwaitsVersion (ProtocolVersion version) = AwaitsSecurity (lower limit version)
+past_server_item limit (AwaitsSecurity version) SecurityNone = behind_types version
+past_server_item limit (AwaitsSecurity version) (SecurityTypes types) = behind_types version
+past_server_item limit (AwaitsResult version) SecurityResult = AwaitsInit version
+past_server_item limit (AwaitsInit version) (ServerInit width height name_length) = behind_init version width height name_length
+past_server_item limit (AwaitsName version width height name_length) (Name text) = Begun version width height
+past_server_item limit point step = point
 
 -- how many bytes a step has
-abbrev pub server_step_size : ServerStep → ℕ
-server_step_size (ProtocolVersion version) = 12
-server_step_size SecurityNone = 4
-server_step_size (SecurityTypes types) = 1 + length types
-server_step_size SecurityResult = 4
-server_step_size (ServerInit width height name_length) = 24
-server_step_size (Name text) = length text
+abbrev pub server_item_size : ServerItem → ℕ
+server_item_size (ProtocolVersion version) = 12
+server_item_size SecurityNone = 4
+server_item_size (SecurityTypes types) = 1 + length types
+server_item_size SecurityResult = 4
+server_item_size (ServerInit width height name_length) = 24
+server_item_size (Name text) = length text

@@ -65,4 +65,6 @@ lower a b = if nat_le (minor_of a) (minor_of b) then a else b
 
 -- the text of a version
 abbrev pub version_text : Version → List ℕ
-version_text version = 82 ∷ 70 ∷ 66 ∷ 32 ∷ 48 ∷ 48 ∷ 51 ∷ 46 ∷ 48 ∷ 48 ∷ (48 + minor_of version) ∷ 10 ∷ []
+version_text V33 = 82 ∷ 70 ∷ 66 ∷ 32 ∷ 48 ∷ 48 ∷ 51 ∷ 46 ∷ 48 ∷ 48 ∷ 51 ∷ 10 ∷ []
+version_text V37 = 82 ∷ 70 ∷ 66 ∷ 32 ∷ 48 ∷ 48 ∷ 51 ∷ 46 ∷ 48 ∷ 48 ∷ 55 ∷ 10 ∷ []
+version_text V38 = 82 ∷ 70 ∷ 66 ∷ 32 ∷ 48 ∷ 48 ∷ 51 ∷ 46 ∷ 48 ∷ 48 ∷ 56 ∷ 10 ∷ []

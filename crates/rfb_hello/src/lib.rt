@@ -2,7 +2,13 @@
 #![tactic(auto)]
 
 mod fault;
+mod fed;
+mod server_hello;
+mod step;
 mod version;
 
 pub use fault::HelloFault;
+pub use fed::Fed;
+pub use server_hello::ServerHello;
+pub use step::ServerStep;
 pub use version::Version;

@@ -29,11 +29,11 @@ client_head_some first n e = grind (arith, nat_tests)
 
 pub client_headed : IsHeaded SpellsClientHead client_head_size client_head_of
 client_headed = record {
-    made = λ bytes e. let head = client-sizes bytes e in let same : head.0 ≡ client_head_of bytes = (client-spelled head.0 bytes head.1).0 in subst (λ (h : ClientHead). SpellsClientHead h bytes) same head.1;
-    only = λ head bytes s. client-spelled head bytes s;
-    some = client_head_some;
-    begins = λ first n e none. begins_some SpellsClientHead client_head_size client-sizes first n (client_head_some first n e) e none;
-  }
+  made = λ bytes e. let head = client-sizes bytes e in let same : head.0 ≡ client_head_of bytes = (client-spelled head.0 bytes head.1).0 in subst (λ (h : ClientHead). SpellsClientHead h bytes) same head.1;
+  only = λ head bytes s. client-spelled head bytes s;
+  some = client_head_some;
+  begins = λ first n e none. begins_some SpellsClientHead client_head_size client-sizes first n (client_head_some first n e) e none;
+}
 
 -- ---- formats
 
@@ -94,7 +94,7 @@ number_reads = same_reads (valued 4 (λ bytes. s32_at 0 bytes)) (valued_says 4 (
   where
     same : Same (valued_says 4 (λ bytes. s32_at 0 bytes)) number_says
     same = record {
-      item = λ number bytes h. record { size = h.0; number_is = sym h.1; };
+      item = λ number bytes h. record { size = h.0; number_is = sym h.1 };
       fault = λ f bytes h. h;
       item_back = λ number bytes h. (h.size, sym h.number_is);
       fault_back = λ f bytes h. h;
@@ -126,14 +126,14 @@ spells_item : (head : ClientHead) (m : ClientMessage) (bytes front back : List �
 spells_item (FormatHead pixel_format) m bytes front back e s h =
     let good = fault_none (first_fault pixel_format) h.0 in
     let size : length pixel_format ≡ 16 = ap length (sym s.pixel_format_is) ∙ length-drop 4 front ∙ omega (arith, s.size) in
-    rw (h.1, alone bytes front back e h.2) (record { pixel_format = pixel_format; head = s; spelled = format_spelled pixel_format size good; passes = good; })
+    rw (h.1, alone bytes front back e h.2) (record { pixel_format = pixel_format; head = s; spelled = format_spelled pixel_format size good; passes = good })
 spells_item (EncodingsHead count) m bytes front back e s (numbers, one, two, split, many, is) =
     let all : back ≡ one = alone back one two split is.1 in
     rw is.0 (record {
       head = front;
       list = back;
       whole = e;
-      head_is = record { size = s.size; message_type = s.message_type; number_is = s.number_is ∙ sym many.0; };
+      head_is = record { size = s.size; message_type = s.message_type; number_is = s.number_is ∙ sym many.0 };
       listed = rw all many.1;
     })
 spells_item (Request incremental rect) m bytes front back e s h = rw (h.0, alone bytes front back e h.1) s
@@ -145,7 +145,7 @@ spells_item (CutText text_length) m bytes front back e s (text, one, two, split,
     rw is.0 (record {
       head = front;
       whole = e ∙ ap (λ (ys : List ℕ). front ++ ys) all;
-      head_is = record { size = s.size; message_type = s.message_type; length_is = s.length_is ∙ count; };
+      head_is = record { size = s.size; message_type = s.message_type; length_is = s.length_is ∙ count };
     })
 
 spells_fault : (head : ClientHead) (f : ClientFault) (bytes front back : List ℕ) → bytes ≡ front ++ back → SpellsClientHead head front → (behind_says head).fault f back → FaultsClientMessage f bytes
@@ -179,11 +179,11 @@ fault_back (UnknownType message_type) bytes h = inl (message_type, refl, h.0, h.
 
 client_same : Same parts_say client_says
 client_same = record {
-    item = λ m bytes h. spells_item h.0 m bytes h.1 h.2 h.3 h.4 h.5;
-    fault = fault;
-    item_back = item_back;
-    fault_back = fault_back;
-  }
+  item = λ m bytes h. spells_item h.0 m bytes h.1 h.2 h.3 h.4 h.5;
+  fault = fault;
+  item_back = item_back;
+  fault_back = fault_back;
+}
   where
     fault : (f : ClientFault) (bytes : List ℕ) → parts_say.fault f bytes → FaultsClientMessage f bytes
     fault f bytes (inl (first, e, all, none)) = rw e (all, none)
@@ -226,8 +226,8 @@ fault_some (UnknownType message_type) bytes h = rw h.0 (omega arith)
 -- the stream of client messages is spelled as RFC 6143 says
 pub client_spelled : IsSpelled client_stream (λ _. client_says)
 client_spelled = record {
-    reads = λ _. client_message_reads;
-    sized = λ _ m bytes s. (message_sized m bytes s).0;
-    some = λ _ m bytes s. (message_sized m bytes s).1;
-    some_fault = λ _ f bytes h. fault_some f bytes h;
-  }
+  reads = λ _. client_message_reads;
+  sized = λ _ m bytes s. (message_sized m bytes s).0;
+  some = λ _ m bytes s. (message_sized m bytes s).1;
+  some_fault = λ _ f bytes h. fault_some f bytes h;
+}

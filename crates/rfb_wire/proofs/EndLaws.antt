@@ -48,7 +48,7 @@ module _ {S P I F E : Type 0} where
 
   -- no bytes are taken where the prefix waits
   pub takes_none : (m : Machine S P I F E) (s : S) (prefix : List ℕ) → m.grammar.next (m.point s) prefix ≡ More → Takes m s prefix [] None s prefix
-  takes_none m s prefix more = record { items = []; reads = append-nil prefix; state = refl; ends = refl; partial = more; whole = tt; }
+  takes_none m s prefix more = record { items = []; reads = append-nil prefix; state = refl; ends = refl; partial = more; whole = tt }
 
   -- bytes behind bytes
   pub takes_then : (m : Machine S P I F E) → IsMachine m → (s t u : S) (prefix mid rest xs ys : List ℕ) (event : Option E) → Takes m s prefix xs None t mid → Takes m t mid ys event u rest → Takes m s prefix (xs ++ ys) event u rest
@@ -76,44 +76,44 @@ module _ {S P I F E : Type 0} where
   -- further bytes are refused too
   pub refuses_more : (m : Machine S P I F E) → IsMachine m → (s : S) (prefix xs ys : List ℕ) (fault : F) → Refuses m s prefix xs fault → Refuses m s prefix (xs ++ ys) fault
   refuses_more m is s prefix xs ys fault one = record {
-      items = one.items;
-      rest = one.rest ++ ys;
-      reads = subst (λ (zs : List ℕ). ReadsAll m.grammar (m.point s) zs one.items (one.rest ++ ys)) (append_assoc prefix xs ys) (all_more m.grammar is.laws (m.point s) (prefix ++ xs) ys one.items one.rest one.reads);
-      quiet = one.quiet;
-      bad = is.laws.bad (m.point (acts m s one.items)) one.rest ys fault one.bad;
-    }
+    items = one.items;
+    rest = one.rest ++ ys;
+    reads = subst (λ (zs : List ℕ). ReadsAll m.grammar (m.point s) zs one.items (one.rest ++ ys)) (append_assoc prefix xs ys) (all_more m.grammar is.laws (m.point s) (prefix ++ xs) ys one.items one.rest one.reads);
+    quiet = one.quiet;
+    bad = is.laws.bad (m.point (acts m s one.items)) one.rest ys fault one.bad;
+  }
 
   -- want of memory behind bytes
   pub runs_out_then : (m : Machine S P I F E) → IsMachine m → (asks : S → List ℕ → Type 0) (s t : S) (prefix mid xs ys : List ℕ) → Takes m s prefix xs None t mid → RunsOut m asks t mid ys → RunsOut m asks s prefix (xs ++ ys)
   runs_out_then m is asks s t prefix mid xs ys one two = record {
-      items = one.items ++ two.items;
-      front = two.front;
-      later = two.later;
-      reads = reads_then m is s t prefix mid xs ys (two.front ++ two.later) one.items two.items one.state one.reads two.reads;
-      quiet = ends_append m s one.items two.items None one.ends (subst (λ (v : S). EndsWith m v two.items None) one.state two.quiet);
-      asked = rw (acts_append m s one.items two.items) (subst (λ (v : S). asks (acts m v two.items) two.front) one.state two.asked);
-    }
+    items = one.items ++ two.items;
+    front = two.front;
+    later = two.later;
+    reads = reads_then m is s t prefix mid xs ys (two.front ++ two.later) one.items two.items one.state one.reads two.reads;
+    quiet = ends_append m s one.items two.items None one.ends (subst (λ (v : S). EndsWith m v two.items None) one.state two.quiet);
+    asked = rw (acts_append m s one.items two.items) (subst (λ (v : S). asks (acts m v two.items) two.front) one.state two.asked);
+  }
 
   -- and before bytes
   pub runs_out_more : (m : Machine S P I F E) → IsMachine m → (asks : S → List ℕ → Type 0) (s : S) (prefix xs ys : List ℕ) → RunsOut m asks s prefix xs → RunsOut m asks s prefix (xs ++ ys)
   runs_out_more m is asks s prefix xs ys one = record {
-      items = one.items;
-      front = one.front;
-      later = one.later ++ ys;
-      reads = subst (λ (zs : List ℕ). ReadsAll m.grammar (m.point s) zs one.items (one.front ++ (one.later ++ ys))) (append_assoc prefix xs ys) (subst (λ (zs : List ℕ). ReadsAll m.grammar (m.point s) ((prefix ++ xs) ++ ys) one.items zs) (append_assoc one.front one.later ys) (all_more m.grammar is.laws (m.point s) (prefix ++ xs) ys one.items (one.front ++ one.later) one.reads));
-      quiet = one.quiet;
-      asked = one.asked;
-    }
+    items = one.items;
+    front = one.front;
+    later = one.later ++ ys;
+    reads = subst (λ (zs : List ℕ). ReadsAll m.grammar (m.point s) zs one.items (one.front ++ (one.later ++ ys))) (append_assoc prefix xs ys) (subst (λ (zs : List ℕ). ReadsAll m.grammar (m.point s) ((prefix ++ xs) ++ ys) one.items zs) (append_assoc one.front one.later ys) (all_more m.grammar is.laws (m.point s) (prefix ++ xs) ys one.items (one.front ++ one.later) one.reads));
+    quiet = one.quiet;
+    asked = one.asked;
+  }
 
   -- ---- one unit of bytes, of one item
 
   -- a unit behind which more is wanted
   pub takes_part : (m : Machine S P I F E) (s : S) (prefix unit : List ℕ) → m.grammar.next (m.point s) (prefix ++ unit) ≡ More → Takes m s prefix unit None s (prefix ++ unit)
-  takes_part m s prefix unit more = record { items = []; reads = refl; state = refl; ends = refl; partial = more; whole = tt; }
+  takes_part m s prefix unit more = record { items = []; reads = refl; state = refl; ends = refl; partial = more; whole = tt }
 
   -- a unit that is an item's last
   pub takes_last : (m : Machine S P I F E) → IsMachine m → (s : S) (prefix unit : List ℕ) (i : I) → m.grammar.next (m.point s) (prefix ++ unit) ≡ Got i [] → Takes m s prefix unit (m.tells s i) (m.act s i) []
-  takes_last m is s prefix unit i got = record { items = i ∷ []; reads = ([], got, refl); state = refl; ends = refl; partial = is.laws.empty (m.point (m.act s i)); whole = nothing_left (m.tells s i); }
+  takes_last m is s prefix unit i got = record { items = i ∷ []; reads = ([], got, refl); state = refl; ends = refl; partial = is.laws.empty (m.point (m.act s i)); whole = nothing_left (m.tells s i) }
     where
       nothing_left : (event : Option E) → IfSome event (λ _. ◌≡◌ {A = List ℕ} [] [])
       nothing_left None = tt
@@ -121,7 +121,7 @@ module _ {S P I F E : Type 0} where
 
   -- a unit that shows a fault
   pub refuses_unit : (m : Machine S P I F E) (s : S) (prefix unit : List ℕ) (fault : F) → m.grammar.next (m.point s) (prefix ++ unit) ≡ Bad fault → Refuses m s prefix unit fault
-  refuses_unit m s prefix unit fault bad = record { items = []; rest = prefix ++ unit; reads = refl; quiet = refl; bad = bad; }
+  refuses_unit m s prefix unit fault bad = record { items = []; rest = prefix ++ unit; reads = refl; quiet = refl; bad = bad }
 
   -- ---- delivered bytes
 
@@ -167,7 +167,7 @@ module _ {S P I F E : Type 0} where
 
   -- a call is a run
   pub takes_runs : (m : Machine S P I F E) (s t : S) (prefix bytes rest : List ℕ) (event : Option E) → Takes m s prefix bytes event t rest → Runs m s prefix bytes (with_event event []) t rest
-  takes_runs m s t prefix bytes rest event one = record { items = one.items; reads = one.reads; state = one.state; told_is = sym (told_ends m s one.items event one.ends); partial = one.partial; }
+  takes_runs m s t prefix bytes rest event one = record { items = one.items; reads = one.reads; state = one.state; told_is = sym (told_ends m s one.items event one.ends); partial = one.partial }
 
   -- a run behind a run is one
   pub runs_then : (m : Machine S P I F E) → IsMachine m → (s t u : S) (prefix mid rest xs ys : List ℕ) (one two : List E) → Runs m s prefix xs one t mid → Runs m t mid ys two u rest → Runs m s prefix (xs ++ ys) (one ++ two) u rest

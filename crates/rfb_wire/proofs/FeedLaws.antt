@@ -41,7 +41,7 @@ module _ {S P I F E V : Type 0} where
       by s prefix (Got i rest) e h = (m.act s i, [], h.2, subst (λ (told : Option E). Takes m s prefix unit told (m.act s i) []) h.1 (takes_last m is s prefix unit i (e ∙ ap (λ (ys : List ℕ). Got i ys) h.0)))
       by s prefix (Bad f) e h = absurd h
 
-  step_refuses : (m : Machine S P I F E) (stands : V → S → List ℕ → Type 0) (old new : V) (unit : List ℕ) (fault : F) → StepsBy m stands old unit (Err fault) new → RefusedBy m stands old unit fault
+  pub step_refuses : (m : Machine S P I F E) (stands : V → S → List ℕ → Type 0) (old new : V) (unit : List ℕ) (fault : F) → StepsBy m stands old unit (Err fault) new → RefusedBy m stands old unit fault
   step_refuses m stands old new unit fault steps = λ s prefix now. by s prefix (m.grammar.next (m.point s) (prefix ++ unit)) refl (steps s prefix now)
     where
       by : (s : S) (prefix : List ℕ) (next : Next I F) → m.grammar.next (m.point s) (prefix ++ unit) ≡ next → Steps m stands new s (prefix ++ unit) next (Err fault) → Refuses m s prefix unit fault
@@ -49,7 +49,27 @@ module _ {S P I F E V : Type 0} where
       by s prefix (Got i rest) e h = absurd h
       by s prefix (Bad f) e h = refuses_unit m s prefix unit fault (e ∙ ap (λ (k : F). Bad k) (sym h))
 
+  -- a step by the first bytes of a slice that shows a fault refuses the slice
+  pub front_refuses : (m : Machine S P I F E) → IsMachine m → (stands : V → S → List ℕ → Type 0) (old new : V) (n : ℕ) (bytes : List ℕ) (fault : F) → StepsBy m stands old (take n bytes) (Err fault) new → RefusedBy m stands old bytes fault
+  front_refuses m is stands old new n bytes fault steps =
+      subst (λ (zs : List ℕ). RefusedBy m stands old zs fault) (take-append-drop n bytes) (refused_more m is stands old (take n bytes) (drop n bytes) fault (step_refuses m stands old new (take n bytes) fault steps))
+
   -- ---- a slice, of which i bytes are taken, and now n more
+
+  -- the same where what comes next was fed as a call
+  pub fed_more : (m : Machine S P I F E) → IsMachine m → (stands : V → S → List ℕ → Type 0) (old mid new : V) (i n : ℕ) (bytes : List ℕ) (event : Option E) → FedBy m stands old (take i bytes) None mid → FedBy m stands mid (take n (drop i bytes)) event new → FedBy m stands old (take (i + n) bytes) event new
+  fed_more m is stands old mid new i n bytes event one two = rw (take_add i n bytes) (fed_then m is stands old mid new (take i bytes) (take n (drop i bytes)) event one two)
+
+  -- what comes next is refused, and so all is
+  pub refused_later : (m : Machine S P I F E) → IsMachine m → (stands : V → S → List ℕ → Type 0) (old mid : V) (i : ℕ) (bytes : List ℕ) (fault : F) → FedBy m stands old (take i bytes) None mid → RefusedBy m stands mid (drop i bytes) fault → RefusedBy m stands old bytes fault
+  refused_later m is stands old mid i bytes fault one two =
+      subst (λ (zs : List ℕ). RefusedBy m stands old zs fault) (take-append-drop i bytes) (refused_then m is stands old mid (take i bytes) (drop i bytes) fault one two)
+
+  -- what comes next wants memory that there is not
+  pub runs_out_later : (m : Machine S P I F E) → IsMachine m → (asks : S → List ℕ → Type 0) (stands : V → S → List ℕ → Type 0) (old mid : V) (i : ℕ) (bytes : List ℕ) → FedBy m stands old (take i bytes) None mid → RunsOutBy m asks stands mid (drop i bytes) → RunsOutBy m asks stands old bytes
+  runs_out_later m is asks stands old mid i bytes one two = λ s prefix now.
+      let a = one s prefix now in
+      subst (λ (zs : List ℕ). RunsOut m asks s prefix zs) (take-append-drop i bytes) (runs_out_then m is asks s a.0 prefix a.1 (take i bytes) (drop i bytes) a.3 (two a.0 a.1 a.2))
 
   -- the call goes on, or ends with an event
   pub fed_step : (m : Machine S P I F E) → IsMachine m → (stands : V → S → List ℕ → Type 0) (old mid new : V) (i n : ℕ) (bytes : List ℕ) (event : Option E) → FedBy m stands old (take i bytes) None mid → StepsBy m stands mid (take n (drop i bytes)) (Ok event) new → FedBy m stands old (take (i + n) bytes) event new

@@ -26,11 +26,11 @@ module _ {A F : Type 0} where
 
   pub waiting_reads : Reads (waiting {A = A} {F = F}) waiting_says
   waiting_reads = record {
-      found = λ bytes a rest e. absurd cc;
-      only = λ a front rest h. absurd h;
-      blamed = λ bytes f e. absurd cc;
-      blames = λ f front rest h. absurd h;
-    }
+    found = λ bytes a rest e. absurd cc;
+    only = λ a front rest h. absurd h;
+    blamed = λ bytes f e. absurd cc;
+    blames = λ f front rest h. absurd h;
+  }
 
   -- that fault, without bytes
   abbrev pub refused_says : F → Says A F
@@ -38,11 +38,11 @@ module _ {A F : Type 0} where
 
   pub refused_reads : (f : F) → Reads (refused f) (refused_says f)
   refused_reads f = record {
-      found = λ bytes a rest e. absurd cc;
-      only = λ a front rest h. absurd h;
-      blamed = λ bytes g e. let same : f ≡ g = cc in ([], bytes, refl, (sym same, refl));
-      blames = λ g front rest h. rw h.0 refl;
-    }
+    found = λ bytes a rest e. absurd cc;
+    only = λ a front rest h. absurd h;
+    blamed = λ bytes g e. let same : f ≡ g = cc in ([], bytes, refl, (sym same, refl));
+    blames = λ g front rest h. rw h.0 refl;
+  }
 
   abbrev rest_says : (ℕ → F) → (List ℕ → A) → ℕ → Option ℕ → Says A F
   rest_says unknown head_in first None = refused_says (unknown first)
@@ -60,7 +60,7 @@ module _ {A F : Type 0} where
   headed_says Spells unknown = record { item = Spells; fault = IsUnknownByte Spells unknown }
 
   headed_same : (Spells : A → List ℕ → Type 0) (size : ℕ → Option ℕ) (unknown : ℕ → F) (head_in : List ℕ → A) → IsHeaded Spells size head_in → Same (then_says (valued_says 1 (λ bytes. slice_index bytes 0)) (λ first. rest_says unknown head_in first (size first))) (headed_says Spells unknown)
-  headed_same Spells size unknown head_in is = record { item = item; fault = fault; item_back = item_back; fault_back = fault_back; }
+  headed_same Spells size unknown head_in is = record { item = item; fault = fault; item_back = item_back; fault_back = fault_back }
     where
       whole : (first : ℕ) (front back : List ℕ) (a : A) (told : Option ℕ) → size first ≡ told → front ≡ first ∷ [] → (rest_says unknown head_in first told).item a back → Spells a (front ++ back)
       whole first front back a None e all h = absurd h
@@ -68,23 +68,29 @@ module _ {A F : Type 0} where
           let some = is.some first n e in
           let length_is : size first ≡ Some (length (first ∷ back)) = e ∙ ap (λ (k : ℕ). Some k) (omega (arith, some, h.0)) in
           rw (all, h.1) (is.made (first ∷ back) length_is)
+
       item : (a : A) (bytes : List ℕ) → (then_says (valued_says 1 (λ bytes. slice_index bytes 0)) (λ first. rest_says unknown head_in first (size first))).item a bytes → Spells a bytes
       item a bytes (first, front, back, e, value, rest) = rw e (whole first front back a (size first) refl (one_byte front first value.0 value.1) rest)
+
       no_head : (first : ℕ) (front back : List ℕ) (f : F) (told : Option ℕ) → size first ≡ told → front ≡ first ∷ [] → (rest_says unknown head_in first told).fault f back → IsUnknownByte Spells unknown f (front ++ back)
       no_head first front back f None e all h = (first, h.0, rw (all, h.1) refl, λ v rest s. let size_is = (is.only v (first ∷ rest) s).1 in let none : size first ≡ None = e in cc)
       no_head first front back f (Some n) e all h = absurd h
+
       fault : (f : F) (bytes : List ℕ) → (then_says (valued_says 1 (λ bytes. slice_index bytes 0)) (λ first. rest_says unknown head_in first (size first))).fault f bytes → IsUnknownByte Spells unknown f bytes
       fault f bytes (inl none) = absurd none
       fault f bytes (inr (first, front, back, e, value, rest)) = rw e (no_head first front back f (size first) refl (one_byte front first value.0 value.1) rest)
+
       item_back : (a : A) (bytes : List ℕ) → Spells a bytes → (then_says (valued_says 1 (λ bytes. slice_index bytes 0)) (λ first. rest_says unknown head_in first (size first))).item a bytes
       item_back a [] s = absurd (omega (arith, (is.only a [] s).2))
       item_back a (first ∷ rest) s =
           let told = is.only a (first ∷ rest) s in
           let size_is : size first ≡ Some (length (first ∷ rest)) = told.1 in
           (first, first ∷ [], rest, refl, (refl, refl), subst (λ (n : Option ℕ). (rest_says unknown head_in first n).item a rest) (sym size_is) (omega arith, told.0))
+
       no_size : (first : ℕ) (told : Option ℕ) → size first ≡ told → BeginsNone Spells first → told ≡ None
       no_size first None e none = refl
       no_size first (Some n) e none = absurd (is.begins first n e none)
+
       fault_back : (f : F) (bytes : List ℕ) → IsUnknownByte Spells unknown f bytes → (then_says (valued_says 1 (λ bytes. slice_index bytes 0)) (λ first. rest_says unknown head_in first (size first))).fault f bytes
       fault_back f bytes (first, e, all, none) =
           let size_is : size first ≡ None = no_size first (size first) refl none in

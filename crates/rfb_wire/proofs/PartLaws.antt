@@ -73,20 +73,20 @@ module _ {F : Type 0} where
 
   pub piece_reads : (n : ℕ) → Reads (piece {F = F} n) (piece_says n)
   piece_reads n = record {
-      found = λ bytes xs rest e. let parts = piece_found n bytes xs rest e in (xs, parts.0, (refl, parts.1));
-      only = λ xs front rest h. let whole : piece {F = F} n (front ++ rest) ≡ Got front rest = piece_only n front rest h.1 in whole ∙ ap (λ (ys : List ℕ). Got ys rest) h.0;
-      blamed = λ bytes f e. absurd (piece_good n bytes f e);
-      blames = λ f front rest h. absurd h;
-    }
+    found = λ bytes xs rest e. let parts = piece_found n bytes xs rest e in (xs, parts.0, (refl, parts.1));
+    only = λ xs front rest h. let whole : piece {F = F} n (front ++ rest) ≡ Got front rest = piece_only n front rest h.1 in whole ∙ ap (λ (ys : List ℕ). Got ys rest) h.0;
+    blamed = λ bytes f e. absurd (piece_good n bytes f e);
+    blames = λ f front rest h. absurd h;
+  }
 
 module _ {A F : Type 0} where
   pub done_reads : (a : A) → Reads (done {F = F} a) (done_says a)
   done_reads a = record {
-      found = λ bytes b rest e. let same : a ≡ b = cc in let all : bytes ≡ rest = cc in ([], all, (sym same, refl));
-      only = λ b front rest h. rw (h.0, h.1) refl;
-      blamed = λ bytes f e. absurd cc;
-      blames = λ f front rest h. absurd h;
-    }
+    found = λ bytes b rest e. let same : a ≡ b = cc in let all : bytes ≡ rest = cc in ([], all, (sym same, refl));
+    only = λ b front rest h. rw (h.0, h.1) refl;
+    blamed = λ bytes f e. absurd cc;
+    blames = λ f front rest h. absurd h;
+  }
 
   judged_found : (fault : Option F) (a b : A) (bytes rest : List ℕ) → judged fault a bytes ≡ Got b rest → (fault ≡ None) × (b ≡ a) × (bytes ≡ rest)
   judged_found None a b bytes rest e = (refl, cc, cc)
@@ -98,11 +98,11 @@ module _ {A F : Type 0} where
 
   pub judged_reads : (fault : Option F) (a : A) → Reads (judged fault a) (judged_says fault a)
   judged_reads fault a = record {
-      found = λ bytes b rest e. let told = judged_found fault a b bytes rest e in ([], told.2, (told.0, told.1, refl));
-      only = λ b front rest h. rw (h.0, h.1, h.2) refl;
-      blamed = λ bytes f e. ([], bytes, refl, (judged_blamed fault a bytes f e, refl));
-      blames = λ f front rest h. rw h.0 refl;
-    }
+    found = λ bytes b rest e. let told = judged_found fault a b bytes rest e in ([], told.2, (told.0, told.1, refl));
+    only = λ b front rest h. rw (h.0, h.1, h.2) refl;
+    blamed = λ bytes f e. ([], bytes, refl, (judged_blamed fault a bytes f e, refl));
+    blames = λ f front rest h. rw h.0 refl;
+  }
 
 module _ {A B F : Type 0} where
   -- what a sequence gives: what its first part gave, and then what the second gives behind it
@@ -118,37 +118,37 @@ module _ {A B F : Type 0} where
 
   pub then_reads : (p : Reading A F) (k : A → Reading B F) (s : Says A F) (t : A → Says B F) → Reads p s → ((a : A) → Reads (k a) (t a)) → Reads (and_then p k) (then_says s t)
   then_reads p k s t first second = record {
-      found = λ bytes b rest e.
-          let step = then_found (p bytes) k b rest e in
+    found = λ bytes b rest e.
+        let step = then_found (p bytes) k b rest e in
+        let one = first.found bytes step.0 step.1 step.2 in
+        let two = (second step.0).found step.1 b rest step.3 in
+        (one.0 ++ two.0, one.1 ∙ ap (λ (ys : List ℕ). one.0 ++ ys) two.1 ∙ sym (append_assoc one.0 two.0 rest), (step.0, one.0, two.0, refl, one.2, two.2));
+    only = λ b front rest h.
+        let one : p (h.1 ++ (h.2 ++ rest)) ≡ Got h.0 (h.2 ++ rest) = first.only h.0 h.1 (h.2 ++ rest) h.4 in
+        let two : k h.0 (h.2 ++ rest) ≡ Got b rest = (second h.0).only b h.2 rest h.5 in
+        rw (h.3, append_assoc h.1 h.2 rest, one) two;
+    blamed = λ bytes f e. elim (then_blamed (p bytes) k f e) [
+      | inl bad ↦ let one = first.blamed bytes f bad in (one.0, one.1, one.2, inl one.3)
+      | inr step ↦
           let one = first.found bytes step.0 step.1 step.2 in
-          let two = (second step.0).found step.1 b rest step.3 in
-          (one.0 ++ two.0, one.1 ∙ ap (λ (ys : List ℕ). one.0 ++ ys) two.1 ∙ sym (append_assoc one.0 two.0 rest), (step.0, one.0, two.0, refl, one.2, two.2));
-      only = λ b front rest h.
-          let one : p (h.1 ++ (h.2 ++ rest)) ≡ Got h.0 (h.2 ++ rest) = first.only h.0 h.1 (h.2 ++ rest) h.4 in
-          let two : k h.0 (h.2 ++ rest) ≡ Got b rest = (second h.0).only b h.2 rest h.5 in
-          rw (h.3, append_assoc h.1 h.2 rest, one) two;
-      blamed = λ bytes f e. elim (then_blamed (p bytes) k f e) [
-        | inl bad ↦ let one = first.blamed bytes f bad in (one.0, one.1, one.2, inl one.3)
-        | inr step ↦
-            let one = first.found bytes step.0 step.1 step.2 in
-            let two = (second step.0).blamed step.1 f step.3 in
-            (one.0 ++ two.0, two.1, one.1 ∙ ap (λ (ys : List ℕ). one.0 ++ ys) two.2 ∙ sym (append_assoc one.0 two.0 two.1), inr (step.0, one.0, two.0, refl, one.2, two.3))
-      ];
-      blames = λ f front rest h. elim h [
-        | inl bad ↦ rw (first.blames f front rest bad) refl
-        | inr w ↦
-            let one : p (w.1 ++ (w.2 ++ rest)) ≡ Got w.0 (w.2 ++ rest) = first.only w.0 w.1 (w.2 ++ rest) w.4 in
-            let two : k w.0 (w.2 ++ rest) ≡ Bad f = (second w.0).blames f w.2 rest w.5 in
-            rw (w.3, append_assoc w.1 w.2 rest, one) two
-      ];
-    }
+          let two = (second step.0).blamed step.1 f step.3 in
+          (one.0 ++ two.0, two.1, one.1 ∙ ap (λ (ys : List ℕ). one.0 ++ ys) two.2 ∙ sym (append_assoc one.0 two.0 two.1), inr (step.0, one.0, two.0, refl, one.2, two.3))
+    ];
+    blames = λ f front rest h. elim h [
+      | inl bad ↦ rw (first.blames f front rest bad) refl
+      | inr w ↦
+          let one : p (w.1 ++ (w.2 ++ rest)) ≡ Got w.0 (w.2 ++ rest) = first.only w.0 w.1 (w.2 ++ rest) w.4 in
+          let two : k w.0 (w.2 ++ rest) ≡ Bad f = (second w.0).blames f w.2 rest w.5 in
+          rw (w.3, append_assoc w.1 w.2 rest, one) two
+    ];
+  }
 
 module _ {A F : Type 0} where
   -- a reading that says one relation says each other that is the same
   pub same_reads : (p : Reading A F) (s t : Says A F) → Same s t → Reads p s → Reads p t
   same_reads p s t same reads = record {
-      found = λ bytes a rest e. let one = reads.found bytes a rest e in (one.0, one.1, same.item a one.0 one.2);
-      only = λ a front rest h. reads.only a front rest (same.item_back a front h);
-      blamed = λ bytes f e. let one = reads.blamed bytes f e in (one.0, one.1, one.2, same.fault f one.0 one.3);
-      blames = λ f front rest h. reads.blames f front rest (same.fault_back f front h);
-    }
+    found = λ bytes a rest e. let one = reads.found bytes a rest e in (one.0, one.1, same.item a one.0 one.2);
+    only = λ a front rest h. reads.only a front rest (same.item_back a front h);
+    blamed = λ bytes f e. let one = reads.blamed bytes f e in (one.0, one.1, one.2, same.fault f one.0 one.3);
+    blames = λ f front rest h. reads.blames f front rest (same.fault_back f front h);
+  }

@@ -2,7 +2,6 @@
 use Rattle.std.proofs.Common.{◌≡◌, ℕ, zero, suc, ◌<◌, List, [], ◌∷◌, ◌++◌, length, refl, subst, append_assoc, append-nil, arith}
 use Rattle.rfb_wire.specs.Reading.{Next, More, Got, Bad, Reading, Says, Reads, Listed, ListedAfter}
 use Rattle.rfb_wire.specs.Parts.{many, each}
-
 use Rattle.rfb_wire.proofs.RepeatLaws.{listed_to}
 
 module _ {A F : Type 0} where
@@ -45,9 +44,9 @@ module _ {A F : Type 0} where
   -- of bytes that are too few no front says anything
   pub waits_reads : (p : Reading A F) (s : Says A F) → Reads p s → (bytes : List ℕ) → p bytes ≡ More → ((a : A) (front rest : List ℕ) → bytes ≡ front ++ rest → s.item a front → ⊥) × ((f : F) (front rest : List ℕ) → bytes ≡ front ++ rest → s.fault f front → ⊥)
   waits_reads p s reads bytes e = (
-      (λ a front rest is says. let got : p (front ++ rest) ≡ Got a rest = reads.only a front rest says in let more : p (front ++ rest) ≡ More = subst (λ (ys : List ℕ). p ys ≡ More) is e in cc),
-      (λ f front rest is says. let bad : p (front ++ rest) ≡ Bad f = reads.blames f front rest says in let more : p (front ++ rest) ≡ More = subst (λ (ys : List ℕ). p ys ≡ More) is e in cc)
-    )
+    (λ a front rest is says. let got : p (front ++ rest) ≡ Got a rest = reads.only a front rest says in let more : p (front ++ rest) ≡ More = subst (λ (ys : List ℕ). p ys ≡ More) is e in cc),
+    (λ f front rest is says. let bad : p (front ++ rest) ≡ Bad f = reads.blames f front rest says in let more : p (front ++ rest) ≡ More = subst (λ (ys : List ℕ). p ys ≡ More) is e in cc),
+  )
 
   -- a run of whole units, fewer than asked, waits where the part waits behind them
   pub each_waits : (n : ℕ) (p : List A → Reading A F) (s : List A → Says A F) → ((xs : List A) → Reads (p xs) (s xs)) → (before items : List A) (front rest : List ℕ) → ListedAfter (λ xs. (s xs).item) before items front → length items < n → p (before ++ items) rest ≡ More → each n p before (front ++ rest) ≡ More

@@ -3,7 +3,6 @@ use Rattle.std.proofs.Common.{◌≡◌, ℕ, zero, suc, ◌-◌, ◌<◌, inl, 
 use Rattle.std.proofs.lemmas.List.{take_at}
 use Rattle.rfb_wire.specs.Reading.{Next, More, Got, Bad, Reading, Says, Reads, Same, Listed, ListedAfter, Optionally}
 use Rattle.rfb_wire.specs.Parts.{named, renamed, checked, judged, piece, done, taken, kept, behind, and_then, valued, optional, many, each}
-
 use Rattle.rfb_wire.proofs.PartLaws.{alone, judged_says, judged_reads, kept_says, piece_says, done_says, then_says, piece_reads, done_reads, then_reads, same_reads}
 
 -- a fault of a part that is there
@@ -61,7 +60,7 @@ module _ {A F : Type 0} where
       same : Same (then_says (piece_says {F = F} n) (λ bytes. done_says (value bytes))) (valued_says n value)
       same = record {
         item = λ a bytes h. let all : bytes ≡ h.0 = alone bytes h.1 h.2 h.3 h.5.1 ∙ h.4.0 in rw all (ap length (sym h.4.0) ∙ h.4.1, h.5.0);
-        fault = λ f bytes h. elim h [ | inl none ↦ none | inr none ↦ none.5 ];
+        fault = λ f bytes h. elim h [ inl none ↦ none | inr none ↦ none.5 ];
         item_back = λ a bytes h. (bytes, bytes, [], sym (append-nil bytes), (refl, h.0), (h.1, refl));
         fault_back = λ f bytes h. absurd h;
       }
@@ -72,7 +71,7 @@ module _ {A F : Type 0} where
       same : Same (then_says (piece_says {F = F} n) (λ bytes. judged_says (fault bytes) (value bytes))) (checked_says n fault value)
       same = record {
         item = λ a bytes h. let all : bytes ≡ h.0 = alone bytes h.1 h.2 h.3 h.5.2 ∙ h.4.0 in rw all (ap length (sym h.4.0) ∙ h.4.1, h.5.0, h.5.1);
-        fault = λ f bytes h. elim h [ | inl none ↦ absurd none | inr w ↦ let all : bytes ≡ w.0 = alone bytes w.1 w.2 w.3 w.5.1 ∙ w.4.0 in rw all (ap length (sym w.4.0) ∙ w.4.1, w.5.0) ];
+        fault = λ f bytes h. elim h [ inl none ↦ absurd none | inr w ↦ let all : bytes ≡ w.0 = alone bytes w.1 w.2 w.3 w.5.1 ∙ w.4.0 in rw all (ap length (sym w.4.0) ∙ w.4.1, w.5.0) ];
         item_back = λ a bytes h. (bytes, bytes, [], sym (append-nil bytes), (refl, h.0), (h.1, h.2, refl));
         fault_back = λ f bytes h. inr (bytes, bytes, [], sym (append-nil bytes), (refl, h.0), (h.1, refl));
       }
@@ -81,13 +80,13 @@ module _ {A F : Type 0} where
   optional_reads false p s reads = same_reads (optional false p) (done_says None) (optional_says false s) same (done_reads None)
     where
       same : Same (done_says None) (optional_says false s)
-      same = record { item = λ a bytes h. h; fault = λ f bytes h. h; item_back = λ a bytes h. h; fault_back = λ f bytes h. h; }
+      same = record { item = λ a bytes h. h; fault = λ f bytes h. h; item_back = λ a bytes h. h; fault_back = λ f bytes h. h }
   optional_reads true p s reads = same_reads (optional true p) (then_says s (λ a. done_says (Some a))) (optional_says true s) same (then_reads p (λ a. done (Some a)) s (λ a. done_says (Some a)) reads (λ a. done_reads (Some a)))
     where
       same : Same (then_says s (λ a. done_says (Some a))) (optional_says true s)
       same = record {
         item = λ o bytes h. let all : bytes ≡ h.1 = alone bytes h.1 h.2 h.3 h.5.1 in (h.0, h.5.0, rw all h.4);
-        fault = λ f bytes h. elim h [ | inl bad ↦ bad | inr none ↦ absurd none.5 ];
+        fault = λ f bytes h. elim h [ inl bad ↦ bad | inr none ↦ absurd none.5 ];
         item_back = λ o bytes h. (h.0, bytes, [], sym (append-nil bytes), h.2, (h.1, refl));
         fault_back = λ f bytes h. inl h;
       }
@@ -97,7 +96,7 @@ module _ {A F : Type 0} where
   each_more n s before = then_says (s before) (λ a. then_says (each_says n s (before ++ a ∷ [])) (λ more. done_says (a ∷ more)))
 
   each_same : (n : ℕ) (s : List A → Says A F) (before : List A) → Same (each_more n s before) (each_says (suc n) s before)
-  each_same n s before = record { item = item; fault = fault; item_back = item_back; fault_back = fault_back; }
+  each_same n s before = record { item = item; fault = fault; item_back = item_back; fault_back = fault_back }
     where
       item : (items : List A) (bytes : List ℕ) → (each_more n s before).item items bytes → (each_says (suc n) s before).item items bytes
       item items bytes h =
@@ -105,16 +104,19 @@ module _ {A F : Type 0} where
           let back : h.2 ≡ w.1 = alone h.2 w.1 w.2 w.3 w.5.1 in
           let more : ListedAfter (λ xs. (s xs).item) (before ++ h.0 ∷ []) w.0 h.2 = rw back w.4.1 in
           rw w.5.0 (ap suc w.4.0, (h.1, h.2, h.3, h.4, more))
+
       fault : (f : F) (bytes : List ℕ) → (each_more n s before).fault f bytes → (each_says (suc n) s before).fault f bytes
       fault f bytes (inl bad) = ([], [], bytes, omega arith, refl, refl, rw (append-nil before) bad)
       fault f bytes (inr (a, front, back, e, is, inl w)) =
           (a ∷ w.0, front ++ w.1, w.2, omega (arith, w.3), e ∙ ap (λ (ys : List ℕ). front ++ ys) w.4 ∙ sym (append_assoc front w.1 w.2), (front, w.1, refl, is, w.5), rw (sym (append_assoc before (a ∷ []) w.0)) w.6)
       fault f bytes (inr (a, front, back, e, is, inr w)) = absurd w.5
+
       item_back : (items : List A) (bytes : List ℕ) → (each_says (suc n) s before).item items bytes → (each_more n s before).item items bytes
       item_back [] bytes h = absurd (omega (arith, h.0))
       item_back (a ∷ more) bytes h =
           let w = h.1 in
           (a, w.0, w.1, w.2, w.3, (more, w.1, [], sym (append-nil w.1), (omega (arith, h.0), w.4), (refl, refl)))
+
       fault_back : (f : F) (bytes : List ℕ) → (each_says (suc n) s before).fault f bytes → (each_more n s before).fault f bytes
       fault_back f bytes ([], front, back, l, e, none, bad) =
           let all : bytes ≡ back = e ∙ ap (λ (ys : List ℕ). ys ++ back) none in
@@ -124,11 +126,11 @@ module _ {A F : Type 0} where
 
   none_same : (s : List A → Says A F) (before : List A) → Same (done_says []) (each_says zero s before)
   none_same s before = record {
-      item = λ items bytes h. rw h.0 (refl, h.1);
-      fault = λ f bytes h. absurd h;
-      item_back = λ items bytes h. none items bytes h;
-      fault_back = λ f bytes h. omega (arith, h.3);
-    }
+    item = λ items bytes h. rw h.0 (refl, h.1);
+    fault = λ f bytes h. absurd h;
+    item_back = λ items bytes h. none items bytes h;
+    fault_back = λ f bytes h. omega (arith, h.3);
+  }
     where
       none : (items : List A) (bytes : List ℕ) → (each_says zero s before).item items bytes → (items ≡ []) × (bytes ≡ [])
       none [] bytes h = (refl, h.1)
@@ -167,17 +169,17 @@ module _ {A F : Type 0} where
 
   pub kept_reads : (p : Reading A F) (s : Says A F) → Reads p s → Reads (kept p) (kept_says s)
   kept_reads p s reads = record {
-      found = λ bytes body rest e.
-          let step = taken_found bytes (p bytes) body rest e in
-          let one = reads.found bytes step.0 rest step.1 in
-          let same : body ≡ one.0 = step.2 ∙ front_is bytes one.0 rest one.1 in
-          (one.0, one.1, (sym same, (step.0, subst (λ (ys : List ℕ). s.item step.0 ys) (sym same) one.2)));
-      only = λ body front rest h.
-          let one : p (front ++ rest) ≡ Got h.1.0 rest = reads.only h.1.0 front rest (rw h.0 h.1.1) in
-          rw one (ap (λ (ys : List ℕ). Got ys rest) (front_is (front ++ rest) front rest refl ∙ h.0));
-      blamed = λ bytes f e. reads.blamed bytes f (taken_blamed bytes (p bytes) f e);
-      blames = λ f front rest h. rw (reads.blames f front rest h) refl;
-    }
+    found = λ bytes body rest e.
+        let step = taken_found bytes (p bytes) body rest e in
+        let one = reads.found bytes step.0 rest step.1 in
+        let same : body ≡ one.0 = step.2 ∙ front_is bytes one.0 rest one.1 in
+        (one.0, one.1, (sym same, (step.0, subst (λ (ys : List ℕ). s.item step.0 ys) (sym same) one.2)));
+    only = λ body front rest h.
+        let one : p (front ++ rest) ≡ Got h.1.0 rest = reads.only h.1.0 front rest (rw h.0 h.1.1) in
+        rw one (ap (λ (ys : List ℕ). Got ys rest) (front_is (front ++ rest) front rest refl ∙ h.0));
+    blamed = λ bytes f e. reads.blamed bytes f (taken_blamed bytes (p bytes) f e);
+    blames = λ f front rest h. rw (reads.blames f front rest h) refl;
+  }
 
 module _ {A B F H : Type 0} where
   -- an item or a fault under its other name
@@ -199,14 +201,14 @@ module _ {A B F H : Type 0} where
 
   pub renamed_reads : (item : A → B) (fault : F → H) (p : Reading A F) (s : Says A F) → Reads p s → Reads (renamed item fault p) (renamed_says item fault s)
   renamed_reads item fault p s reads = record {
-      found = λ bytes b rest e.
-          let told = named_got item fault (p bytes) b rest e in
-          let front = reads.found bytes told.0 rest told.1 in
-          (front.0, front.1, (told.0, told.2, front.2));
-      only = λ b front rest h. rw (h.1, reads.only h.0 front rest h.2) refl;
-      blamed = λ bytes h e.
-          let told = named_bad item fault (p bytes) h e in
-          let front = reads.blamed bytes told.0 told.1 in
-          (front.0, front.1, front.2, (told.0, told.2, front.3));
-      blames = λ h front rest w. rw (w.1, reads.blames w.0 front rest w.2) refl;
-    }
+    found = λ bytes b rest e.
+        let told = named_got item fault (p bytes) b rest e in
+        let front = reads.found bytes told.0 rest told.1 in
+        (front.0, front.1, (told.0, told.2, front.2));
+    only = λ b front rest h. rw (h.1, reads.only h.0 front rest h.2) refl;
+    blamed = λ bytes h e.
+        let told = named_bad item fault (p bytes) h e in
+        let front = reads.blamed bytes told.0 told.1 in
+        (front.0, front.1, front.2, (told.0, told.2, front.3));
+    blames = λ h front rest w. rw (w.1, reads.blames w.0 front rest w.2) refl;
+  }

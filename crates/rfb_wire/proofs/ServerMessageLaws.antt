@@ -20,11 +20,11 @@ server_head_some first n e = grind (arith, nat_tests)
 
 pub server_headed : IsHeaded SpellsServerHead server_head_size server_head_of
 server_headed = record {
-    made = λ bytes e. let head = server-sizes bytes e in let same : head.0 ≡ server_head_of bytes = (server-spelled head.0 bytes head.1).0 in subst (λ (h : ServerHead). SpellsServerHead h bytes) same head.1;
-    only = λ head bytes s. server-spelled head bytes s;
-    some = server_head_some;
-    begins = λ first n e none. begins_some SpellsServerHead server_head_size server-sizes first n (server_head_some first n e) e none;
-  }
+  made = λ bytes e. let head = server-sizes bytes e in let same : head.0 ≡ server_head_of bytes = (server-spelled head.0 bytes head.1).0 in subst (λ (h : ServerHead). SpellsServerHead h bytes) same head.1;
+  only = λ head bytes s. server-spelled head bytes s;
+  some = server_head_some;
+  begins = λ first n e none. begins_some SpellsServerHead server_head_size server-sizes first n (server_head_some first n e) e none;
+}
 
 -- ---- what stands behind a head
 
@@ -37,9 +37,9 @@ color_reads = same_reads (valued 6 color_of) (valued_says 6 color_of) color_says
   where
     same : Same (valued_says 6 color_of) color_says
     same = record {
-      item = λ color bytes h. record { size = h.0; red_is = sym (ap (λ (c : Color). c.red) h.1); green_is = sym (ap (λ (c : Color). c.green) h.1); blue_is = sym (ap (λ (c : Color). c.blue) h.1); };
+      item = λ color bytes h. record { size = h.0; red_is = sym (ap (λ (c : Color). c.red) h.1); green_is = sym (ap (λ (c : Color). c.green) h.1); blue_is = sym (ap (λ (c : Color). c.blue) h.1) };
       fault = λ f bytes h. h;
-      item_back = λ color bytes h. (h.size, λ k. record { red = sym h.red_is k; green = sym h.green_is k; blue = sym h.blue_is k; });
+      item_back = λ color bytes h. (h.size, λ k. record { red = sym h.red_is k; green = sym h.green_is k; blue = sym h.blue_is k });
       fault_back = λ f bytes h. h;
     }
 
@@ -69,7 +69,7 @@ spells_item (ColourMap first count) m bytes front back e s (colors, one, two, sp
       head = front;
       list = back;
       whole = e;
-      head_is = record { size = s.size; message_type = s.message_type; first_is = s.first_is; number_is = s.number_is ∙ sym many.0; };
+      head_is = record { size = s.size; message_type = s.message_type; first_is = s.first_is; number_is = s.number_is ∙ sym many.0 };
       listed = rw all many.1;
     })
 spells_item BellHead m bytes front back e s h = rw (h.0, alone bytes front back e h.1) s
@@ -79,7 +79,7 @@ spells_item (CutText text_length) m bytes front back e s (text, one, two, split,
     rw is.0 (record {
       head = front;
       whole = e ∙ ap (λ (ys : List ℕ). front ++ ys) all;
-      head_is = record { size = s.size; message_type = s.message_type; length_is = s.length_is ∙ count; };
+      head_is = record { size = s.size; message_type = s.message_type; length_is = s.length_is ∙ count };
     })
 
 spells_fault : (head : ServerHead) (f : ServerFault) (back : List ℕ) → (behind_says head).fault f back → ⊥
@@ -98,15 +98,16 @@ item_back (ServerCutText text) bytes s = (CutText (length text), s.head, text, s
 
 server_same : Same parts_say server_says
 server_same = record {
-    item = λ m bytes h. spells_item h.0 m bytes h.1 h.2 h.3 h.4 h.5;
-    fault = fault;
-    item_back = item_back;
-    fault_back = fault_back;
-  }
+  item = λ m bytes h. spells_item h.0 m bytes h.1 h.2 h.3 h.4 h.5;
+  fault = fault;
+  item_back = item_back;
+  fault_back = fault_back;
+}
   where
     fault : (f : ServerFault) (bytes : List ℕ) → parts_say.fault f bytes → FaultsServerMessage f bytes
     fault f bytes (inl (first, e, all, none)) = rw e (all, none)
     fault f bytes (inr (head, front, back, e, s, h)) = absurd (spells_fault head f back h)
+
     fault_back : (f : ServerFault) (bytes : List ℕ) → FaultsServerMessage f bytes → parts_say.fault f bytes
     fault_back (UnknownType message_type) bytes h = inl (message_type, refl, h.0, h.1)
 

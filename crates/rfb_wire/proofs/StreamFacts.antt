@@ -1,10 +1,10 @@
 -- Whole messages as RFC 6143 lays them out, computed from the readings: a wrong byte here fails the check.
-use Rattle.std.proofs.Common.{◌≡◌, ℕ, ℤ, List, [], ◌∷◌, ◌++◌, true, false, refl, negsuc}
+use Rattle.std.proofs.Common.{◌≡◌, [], ◌∷◌, true, refl, negsuc}
 use Rattle.std.specs.Prelude.{pos}
 use lib.Count.{ones}
-use Rattle.rfb_pixel.specs.declared.fault.FormatFault.TheVariants.{NotTrueColour, FieldsOverlap}
+use Rattle.rfb_pixel.specs.declared.fault.FormatFault.TheVariants.{NotTrueColour}
 use Rattle.rfb_pixel.specs.Format.{rgb888}
-use Rattle.rfb_wire.specs.Reading.{Next, More, Got, Bad}
+use Rattle.rfb_wire.specs.Reading.{More, Got, Bad}
 use Rattle.rfb_wire.specs.ClientMessage.{SetPixelFormat, SetEncodings, FramebufferUpdateRequest, KeyEvent, PointerEvent, ClientCutText, BadFormat, UnknownType}
 use Rattle.rfb_wire.specs.ClientStream.{client_message}
 use Rattle.rfb_wire.specs.ServerMessage.{FramebufferUpdate, SetColorMapEntries, Bell, ServerCutText, UnknownType as UnknownServerType, server_message}

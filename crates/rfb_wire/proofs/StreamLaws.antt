@@ -26,15 +26,16 @@ module _ {P I F : Type 0} where
   -- a grammar that is spelled has the laws
   pub spelled_grammar : (g : Grammar P I F) (says : P → Says I F) → IsSpelled g says → IsGrammar g
   spelled_grammar g says spelled = record {
-      got = λ p bytes tail i rest e. reads_more (g.next p) (says p) (spelled.reads p) bytes tail i rest e;
-      bad = λ p bytes tail f e. reads_bad (g.next p) (says p) (spelled.reads p) bytes tail f e;
-      cut = λ p bytes i rest e. let alone = reads_alone (g.next p) (says p) (spelled.reads p) bytes i rest e in (alone.0, alone.1, alone.2, spelled.sized p i alone.0 alone.3);
-      empty = λ p. nothing p (g.next p []) refl;
-    }
+    got = λ p bytes tail i rest e. reads_more (g.next p) (says p) (spelled.reads p) bytes tail i rest e;
+    bad = λ p bytes tail f e. reads_bad (g.next p) (says p) (spelled.reads p) bytes tail f e;
+    cut = λ p bytes i rest e. let alone = reads_alone (g.next p) (says p) (spelled.reads p) bytes i rest e in (alone.0, alone.1, alone.2, spelled.sized p i alone.0 alone.3);
+    empty = λ p. nothing p (g.next p []) refl;
+  }
     where
       none : (front rest : List ℕ) → [] ≡ front ++ rest → 0 < length front → ⊥
       none [] rest e l = omega (arith, l)
       none (x ∷ front) rest e l = cc
+
       nothing : (p : P) (n : Next I F) → g.next p [] ≡ n → n ≡ More
       nothing p More e = refl
       nothing p (Got i rest) e =
@@ -163,11 +164,11 @@ module _ {P I F : Type 0} where
   verdict_step g laws p bytes smaller = by (g.next p bytes) refl
     where
       by : (next : Next I F) → g.next p bytes ≡ next → (items : List I) × (v : Option F) × HasVerdict g p bytes items v
-      by More e = ([], None, record { rest = bytes; reads = refl; ends = e; })
-      by (Bad f) e = ([], Some f, record { rest = bytes; reads = refl; ends = e; })
+      by More e = ([], None, record { rest = bytes; reads = refl; ends = e })
+      by (Bad f) e = ([], Some f, record { rest = bytes; reads = refl; ends = e })
       by (Got i rest) e =
           let others = smaller (g.past p i) rest (shorter g laws p bytes i rest e) in
-          (i ∷ others.0, others.1, record { rest = others.2.rest; reads = (rest, e, others.2.reads); ends = others.2.ends; })
+          (i ∷ others.0, others.1, record { rest = others.2.rest; reads = (rest, e, others.2.reads); ends = others.2.ends })
 
   verdict_within : (g : Grammar P I F) → IsGrammar g → (n : ℕ) (p : P) (bytes : List ℕ) → length bytes ≤ n → (items : List I) × (v : Option F) × HasVerdict g p bytes items v
   verdict_within g laws zero p bytes l = verdict_step g laws p bytes (λ q rest less. absurd (omega arith))
@@ -180,22 +181,22 @@ module _ {P I F : Type 0} where
   -- what was read before belongs to the verdict
   pub verdict_behind : (g : Grammar P I F) → IsGrammar g → (p : P) (bytes tail : List ℕ) (here later : List I) (rest : List ℕ) (v : Option F) → ReadsAll g p bytes here rest → HasVerdict g (past_all g p here) (rest ++ tail) later v → HasVerdict g p (bytes ++ tail) (here ++ later) v
   verdict_behind g laws p bytes tail here later rest v reads others = record {
-      rest = others.rest;
-      reads = all_append g p (bytes ++ tail) here later (rest ++ tail) others.rest (all_more g laws p bytes tail here rest reads) others.reads;
-      ends = rw (past_append g p here later) others.ends;
-    }
+    rest = others.rest;
+    reads = all_append g p (bytes ++ tail) here later (rest ++ tail) others.rest (all_more g laws p bytes tail here rest reads) others.reads;
+    ends = rw (past_append g p here later) others.ends;
+  }
 
   -- a fault stays one
   pub verdict_fault : (g : Grammar P I F) → IsGrammar g → (p : P) (bytes tail : List ℕ) (here : List I) (rest : List ℕ) (f : F) → ReadsAll g p bytes here rest → g.next (past_all g p here) rest ≡ Bad f → HasVerdict g p (bytes ++ tail) here (Some f)
   verdict_fault g laws p bytes tail here rest f reads bad = record {
-      rest = rest ++ tail;
-      reads = all_more g laws p bytes tail here rest reads;
-      ends = laws.bad (past_all g p here) rest tail f bad;
-    }
+    rest = rest ++ tail;
+    reads = all_more g laws p bytes tail here rest reads;
+    ends = laws.bad (past_all g p here) rest tail f bad;
+  }
 
   -- the verdict of slices read one after another is the verdict of their bytes
   pub cut_verdict : (g : Grammar P I F) → IsGrammar g → (p : P) (front : List ℕ) (slices : List (List ℕ)) (items : List I) (v : Option F) → CutVerdict g p front slices items v → HasVerdict g p (front ++ concat slices) items v
-  cut_verdict g laws p front [] items v (none, no_fault, more) = rw (none, no_fault, append-nil front) (record { rest = front; reads = refl; ends = more; })
+  cut_verdict g laws p front [] items v (none, no_fault, more) = rw (none, no_fault, append-nil front) (record { rest = front; reads = refl; ends = more })
   cut_verdict g laws p front (slice ∷ slices) items v (here, later, rest, None, all, reads, ends, goes) =
       let others : HasVerdict g (past_all g p here) (rest ++ concat slices) later v = cut_verdict g laws (past_all g p here) rest slices later v goes in
       rw (all, ← append_assoc front slice (concat slices)) (verdict_behind g laws p (front ++ slice) (concat slices) here later rest v reads others)

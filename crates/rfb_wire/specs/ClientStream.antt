@@ -25,13 +25,13 @@ client_head_of bytes =
 -- the format that sixteen bytes are
 abbrev pub format_of : List ℕ → PixelFormat
 format_of bytes = record {
-    bits_per_pixel = u8_at 0 bytes;
-    depth = u8_at 1 bytes;
-    big_endian = flag_at 2 bytes;
-    red = red_at bytes;
-    green = green_at bytes;
-    blue = blue_at bytes;
-  }
+  bits_per_pixel = u8_at 0 bytes;
+  depth = u8_at 1 bytes;
+  big_endian = flag_at 2 bytes;
+  red = red_at bytes;
+  green = green_at bytes;
+  blue = blue_at bytes;
+}
 
 -- the fault of a format, as one of a message
 abbrev pub format_fault : Option FormatFault → Option ClientFault

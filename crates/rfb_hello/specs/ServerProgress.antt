@@ -1,0 +1,38 @@
+-- How far a server's handshake has come: what it stands for, and whether it goes on.
+use Rattle.std.specs.Prelude.{◌≡◌, ◌<◌, ℕ, List, [], length, Option, Some, None, Bool, true, false}
+use Rattle.rfb_hello.specs.declared.version.Version.{Version}
+use Rattle.rfb_hello.specs.declared.version.Version.TheVariants.{V33, V37, V38}
+use Rattle.rfb_hello.specs.declared.fault.HelloFault.{HelloFault}
+use Rattle.rfb_hello.specs.declared.server_hello.progress.Progress.{Progress}
+use Rattle.rfb_hello.specs.declared.server_hello.progress.Progress.TheVariants.{Version as VersionPart, Choice, Init, Done, Failed}
+use Rattle.rfb_hello.specs.ClientHandshake.{ClientPoint, AwaitsVersion, AwaitsChoice, AwaitsInit, Begun}
+
+-- so much progress stands for that point and that prefix; one that has failed stands for none
+abbrev pub ProgressStandsFor : Progress → ClientPoint → List ℕ → Type 0
+ProgressStandsFor (VersionPart text) point prefix = (point ≡ AwaitsVersion) × (prefix ≡ text.items) × (length text.items < 12)
+ProgressStandsFor (Choice version) point prefix = (point ≡ AwaitsChoice version) × (prefix ≡ [])
+ProgressStandsFor (Init version) point prefix = (point ≡ AwaitsInit version) × (prefix ≡ [])
+ProgressStandsFor (Done version shared) point prefix = (point ≡ Begun version shared) × (prefix ≡ [])
+ProgressStandsFor (Failed fault) point prefix = ⊥
+
+-- the fault that it has failed with, if it has
+abbrev pub fault_in : Progress → Option HelloFault
+fault_in (VersionPart text) = None
+fault_in (Choice version) = None
+fault_in (Init version) = None
+fault_in (Done version shared) = None
+fault_in (Failed fault) = Some fault
+
+-- the client's bytes go on in the handshake
+abbrev pub is_open : Progress → Bool
+is_open (VersionPart text) = true
+is_open (Choice version) = true
+is_open (Init version) = true
+is_open (Done version shared) = false
+is_open (Failed fault) = false
+
+-- what comes next of a client that goes by this version
+abbrev pub progress_behind : Version → Progress
+progress_behind V33 = Init V33
+progress_behind V37 = Choice V37
+progress_behind V38 = Choice V38

@@ -1,0 +1,265 @@
+//! The server's end of a handshake.
+
+ghost use Rattle.std.specs.Prelude.{◌≡◌, ◌≤◌, ◌<◌, ◌+◌, ℕ, [], ◌∷◌, ◌++◌, length, take, true, IfOk, IfErr, Some, None, Ok};
+ghost use Rattle.std.specs.Result.{result_err};
+ghost use Rattle.rfb_wire.specs.End.{FedBy, RefusedBy, StepsBy, StaysFailed};
+ghost use Rattle.rfb_hello.specs.Version.{version_of, version_text};
+ghost use Rattle.rfb_hello.specs.ClientHandshake.{AwaitsVersion, client_version_fault};
+ghost use Rattle.rfb_hello.specs.ServerEnd.{ServerSetup, as_reply, server_end, server_init_bytes, security_bytes};
+ghost use Rattle.rfb_hello.specs.ServerStanding.{StandsFor, setup_of};
+ghost use Rattle.rfb_hello.specs.ServerProgress.{fault_in, is_open, progress_behind};
+ghost use Rattle.rfb_hello.specs.declared.server_hello.progress.Progress.{Progress};
+ghost use Rattle.arrayvec.specs.ArrayVec.{ArrayVec as Items, array_vec_len};
+
+mod progress;
+
+use crate::fault::HelloFault;
+use crate::fed::Fed;
+use crate::server_hello::progress::Progress;
+use crate::step::{MAX_REPLY, ServerStep};
+use crate::version::{VERSION_SIZE, Version};
+use arrayvec::ArrayVec;
+use byteorder::{BigEndian, ByteOrder};
+use rfb_pixel::Format;
+
+/// How many bytes the name of a screen has at most.
+pub const MAX_NAME: usize = 255;
+
+/// The server's end of a handshake: it is fed what the client sends, and tells what is to be answered. It
+/// offers one version, and security type None alone; it takes no memory.
+#[derive(Drop)]
+pub struct ServerHello {
+    offer: Version,
+    width: u16,
+    height: u16,
+    name: ArrayVec<u8, MAX_NAME>,
+    progress: Progress,
+}
+
+impl ServerHello {
+    /// An end that has sent nothing and was fed nothing. It goes up to version `offer`, and will tell the
+    /// screen's size and its name.
+    pub fn new(offer: Version, width: u16, height: u16, name: &[u8]) -> ServerHello
+        requires { length name.now ≤ 255 }
+        ensures { StandsFor (record { offer = offer; width = width; height = height; name = name.now }) result AwaitsVersion [] }
+    {
+        let mut kept = ArrayVec::new();
+        append(&mut kept, name);
+        ServerHello {
+            offer,
+            width,
+            height,
+            name: kept,
+            progress: Progress::Version(ArrayVec::new()),
+        }
+    }
+
+    /// The ProtocolVersion that is sent before all else.
+    pub fn greeting(&self) -> [u8; VERSION_SIZE]
+        ensures { result ≡ version_text self.now.offer }
+    {
+        self.offer.text()
+    }
+
+    /// Takes bytes of the client's, up to the last of its first item that is told of, or all. A fault is
+    /// told at its last byte, and by every later call, which take nothing. Once the handshake is done no
+    /// bytes are taken: they are the messages'.
+    pub fn feed(&mut self, bytes: &[u8]) -> Result<Fed<ServerStep>, HelloFault>
+        // What was taken, what it was, and what is left.
+        ensures used { IfOk result (λ fed. fed.used ≤ length bytes.now) }
+        ensures all { IfOk result (λ fed. fed.event ≡ None → is_open self.old.progress ≡ true → fed.used ≡ length bytes.now) }
+        ensures fed { IfOk result (λ fed. (setup : ServerSetup) → FedBy (server_end setup) (StandsFor setup) self.old (take fed.used bytes.now) fed.event self.new) }
+
+        // When a fault comes, and that it stays.
+        ensures fault { IfErr result (λ fault. fault_in self.old.progress ≡ None → (setup : ServerSetup) → RefusedBy (server_end setup) (StandsFor setup) self.old bytes.now fault) }
+        ensures fails { IfErr result (λ fault. fault_in self.new.progress ≡ Some fault) }
+        ensures failed { StaysFailed (fault_in self.old.progress) self.old result self.new }
+    {
+        if let Progress::Failed(fault) = self.progress {
+            return Err(fault);
+        }
+        let mut used = 0;
+        while used < bytes.len() && self.progress.is_open() {
+            let (n, event) = self.take(&bytes[used..])?;
+            used += n;
+            if event.is_some() {
+                return Ok(Fed { used, event });
+            }
+        }
+        Ok(Fed { used, event: None })
+    }
+
+    // Takes bytes for the client's next item, as many of it as there are: how many these were, and what
+    // is told of it once it is whole.
+    fn take(&mut self, bytes: &[u8]) -> Result<(usize, Option<ServerStep>), HelloFault>
+        requires some { 0 < length bytes.now }
+        requires open { is_open self.old.progress ≡ true }
+        ensures used { IfOk result (λ taken. (0 < taken.0) × (taken.0 ≤ length bytes.now)) }
+        ensures open { IfOk result (λ taken. taken.1 ≡ None → is_open self.new.progress ≡ true) }
+        ensures going { IfOk result (λ taken. fault_in self.new.progress ≡ None) }
+        ensures fed { IfOk result (λ taken. (setup : ServerSetup) → FedBy (server_end setup) (StandsFor setup) self.old (take taken.0 bytes.now) taken.1 self.new) }
+        ensures fault { IfErr result (λ fault. (setup : ServerSetup) → RefusedBy (server_end setup) (StandsFor setup) self.old bytes.now fault) }
+        ensures fails { IfErr result (λ fault. fault_in self.new.progress ≡ Some fault) }
+    {
+        match self.progress {
+            Progress::Choice(version) => {
+                let event = self.take_choice(version, bytes[0])?;
+                Ok((1, event))
+            }
+            Progress::Init(version) => Ok((1, Some(self.take_init(version, bytes[0])))),
+            _ => self.take_version(bytes),
+        }
+    }
+
+    // Takes bytes of the client's version.
+    fn take_version(&mut self, bytes: &[u8]) -> Result<(usize, Option<ServerStep>), HelloFault>
+        requires some { 0 < length bytes.now }
+        requires open { (text : Items ℕ) × (self.old.progress ≡ Progress.Version text) }
+        ensures used { IfOk result (λ taken. (0 < taken.0) × (taken.0 ≤ length bytes.now)) }
+        ensures open { IfOk result (λ taken. is_open self.new.progress ≡ true) }
+        ensures fed { IfOk result (λ taken. (setup : ServerSetup) → FedBy (server_end setup) (StandsFor setup) self.old (take taken.0 bytes.now) taken.1 self.new) }
+        ensures fault { IfErr result (λ fault. (setup : ServerSetup) → RefusedBy (server_end setup) (StandsFor setup) self.old bytes.now fault) }
+        ensures fails { IfErr result (λ fault. fault_in self.new.progress ≡ Some fault) }
+    {
+        let Progress::Version(text) = &mut self.progress else {
+            unreachable!()
+        };
+        let missing = VERSION_SIZE - text.len();
+        if bytes.len() < missing {
+            append(text, bytes);
+            return Ok((bytes.len(), None));
+        }
+        let mut whole = ArrayVec::<u8, VERSION_SIZE>::new();
+        append(&mut whole, text.as_slice());
+        append(&mut whole, &bytes[..missing]);
+        match offered(self.offer, whole.as_slice()) {
+            Ok(version) => {
+                self.progress = behind_version(version);
+                Ok((missing, Some(ServerStep::Reply(security(version)))))
+            }
+            Err(fault) => Err(self.fail(fault)),
+        }
+    }
+
+    // Takes a choice of a security type, which is one byte.
+    fn take_choice(
+        &mut self,
+        version: Version,
+        choice: u8,
+    ) -> Result<Option<ServerStep>, HelloFault>
+        requires { self.old.progress ≡ Progress.Choice version }
+        ensures steps { (setup : ServerSetup) → StepsBy (server_end setup) (StandsFor setup) self.old (choice ∷ []) result self.new }
+        ensures open { IfOk result (λ event. is_open self.new.progress ≡ true) }
+        ensures fails { IfErr result (λ fault. fault_in self.new.progress ≡ Some fault) }
+    {
+        if choice != SECURITY_NONE {
+            return Err(self.fail(HelloFault::BadSecurityChoice));
+        }
+        self.progress = Progress::Init(version);
+        Ok(match version {
+            Version::V38 => Some(ServerStep::Reply(reply_of(&[0, 0, 0, 0]))),
+            Version::V33 | Version::V37 => None,
+        })
+    }
+
+    // Takes ClientInit, which is one byte.
+    fn take_init(&mut self, version: Version, shared_flag: u8) -> ServerStep
+        requires { self.old.progress ≡ Progress.Init version }
+        ensures steps { (setup : ServerSetup) → StepsBy (server_end setup) (StandsFor setup) self.old (shared_flag ∷ []) (Ok (Some result)) self.new }
+        ensures going { fault_in self.new.progress ≡ None }
+    {
+        let shared = shared_flag != 0;
+        self.progress = Progress::Done(version, shared);
+        ServerStep::Ready {
+            reply: self.server_init(),
+            version,
+            shared,
+        }
+    }
+
+    // Holds a fault from now on.
+    fn fail(&mut self, fault: HelloFault) -> HelloFault
+        ensures value { result ≡ fault }
+        ensures after { self.new ≡ record self.old { progress = Progress.Failed fault } }
+    {
+        self.progress = Progress::Failed(fault);
+        fault
+    }
+
+    // ServerInit, with the name.
+    fn server_init(&self) -> ArrayVec<u8, MAX_REPLY>
+        ensures { result ≡ as_reply (server_init_bytes (setup_of self.now)) }
+    {
+        let name = self.name.as_slice();
+        let mut sizes = [0; 4];
+        BigEndian::write_u16(&mut sizes, self.width);
+        BigEndian::write_u16(&mut sizes[2..], self.height);
+        let mut length = [0; 4];
+        BigEndian::write_u32(&mut length, name.len() as u32);
+        let mut reply = ArrayVec::new();
+        append(&mut reply, &sizes);
+        append(&mut reply, &Format::rgb888().write());
+        append(&mut reply, &length);
+        append(&mut reply, name);
+        reply
+    }
+}
+
+// The security type None, as 3.3 sends it and as its list has it.
+const SECURITY_NONE: u8 = 1;
+
+// The version that the client's text stands for, where it is not above the one that was offered.
+fn offered(offer: Version, text: &[u8]) -> Result<Version, HelloFault>
+    requires { length text.now ≡ 12 }
+    ensures ok { IfOk result (λ version. version ≡ version_of text.now) }
+    ensures fault { result_err result ≡ client_version_fault offer text.now }
+{
+    let Some(version) = Version::of_text(text) else {
+        return Err(HelloFault::BadVersion);
+    };
+    if version.minor() > offer.minor() {
+        return Err(HelloFault::VersionTooHigh);
+    }
+    Ok(version)
+}
+
+// What comes next of a client that goes by this version.
+fn behind_version(version: Version) -> Progress
+    ensures { result ≡ progress_behind version }
+{
+    match version {
+        Version::V33 => Progress::Init(version),
+        Version::V37 | Version::V38 => Progress::Choice(version),
+    }
+}
+
+// The security type None, as this version has it.
+fn security(version: Version) -> ArrayVec<u8, MAX_REPLY>
+    ensures { result ≡ as_reply (security_bytes version) }
+{
+    match version {
+        Version::V33 => reply_of(&[0, 0, 0, SECURITY_NONE]),
+        Version::V37 | Version::V38 => reply_of(&[1, SECURITY_NONE]),
+    }
+}
+
+// An answer of these bytes.
+fn reply_of(bytes: &[u8]) -> ArrayVec<u8, MAX_REPLY>
+    requires { length bytes.now ≤ 279 }
+    ensures { result ≡ as_reply bytes.now }
+{
+    let mut reply = ArrayVec::new();
+    append(&mut reply, bytes);
+    reply
+}
+
+// Appends bytes for which there is room.
+fn append<const CAP: usize>(kept: &mut ArrayVec<u8, CAP>, bytes: &[u8])
+    requires { array_vec_len kept.old + length bytes.now ≤ CAP }
+    ensures { kept.new.items ≡ kept.old.items ++ bytes.now }
+{
+    match kept.try_extend_from_slice(bytes) {
+        Ok(()) => {}
+        Err(_) => unreachable!(),
+    }
+}

@@ -1,0 +1,32 @@
+//! How far a server's handshake has come.
+
+ghost use Rattle.std.specs.Prelude.{◌≡◌};
+ghost use Rattle.rfb_hello.specs.ServerProgress.{is_open};
+
+use crate::fault::HelloFault;
+use crate::version::Version;
+use arrayvec::ArrayVec;
+
+/// What the client's next bytes are.
+#[derive(Drop)]
+pub enum Progress {
+    /// Its version: the bytes of it that have come, which are never all.
+    Version(ArrayVec<u8, 11>),
+    /// Its choice of a security type.
+    Choice(Version),
+    /// ClientInit.
+    Init(Version),
+    /// No part of the handshake.
+    Done(Version, bool),
+    /// None that are taken.
+    Failed(HelloFault),
+}
+
+impl Progress {
+    /// Whether the client's bytes go on in the handshake.
+    pub fn is_open(&self) -> bool
+        ensures { result ≡ is_open self.now }
+    {
+        !matches!(self, Progress::Done(..) | Progress::Failed(_))
+    }
+}
