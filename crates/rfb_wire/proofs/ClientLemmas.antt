@@ -1,9 +1,8 @@
 -- Heads of client messages: a head for bytes of the right size.
-use Rattle.std.proofs.Common.{◌≡◌, ℕ, ◌==◌, if◌then◌else◌, List, [], ◌∷◌, length, slice_index, drop, Option, Some, None, inl, inr, refl, arith, ◌<◌, ◌++◌, sym, ap, ◌∙◌, length-append}
+use Rattle.std.proofs.Common.{◌≡◌, ℕ, ◌==◌, if◌then◌else◌, List, [], length, slice_index, drop, Some, inl, inr, refl, arith, ◌<◌, ◌++◌, sym, ap, ◌∙◌, length-append}
 use Rattle.std.proofs.lemmas.List.{append-nil, get_or_append_left, nil_from_length}
 use Rattle.std.proofs.lemmas.Bool.{cases_eq}
 use Rattle.std.proofs.lemmas.Bool.Decides.{nat_tests}
-use Rattle.rfb_picture.specs.declared.rect.Rect.{Rect}
 use Rattle.rfb_wire.specs.declared.client_head.ClientHead.{ClientHead}
 use Rattle.rfb_wire.specs.declared.client_head.ClientHead.TheVariants.{SetPixelFormat, SetEncodings, Request, Key, Pointer, CutText}
 use Rattle.rfb_wire.specs.Fields.{u8_at, u16_at, u32_at, flag_at}

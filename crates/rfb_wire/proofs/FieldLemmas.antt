@@ -1,10 +1,10 @@
 -- Fields of bytes that others stand before or behind.
-use Rattle.std.proofs.Common.{◌≡◌, ℕ, ◌+◌, ◌-◌, ◌≤◌, ◌^◌, ◌<◌, List, ◌++◌, take, drop, sym, ap, ◌∙◌, arith}
+use Rattle.std.proofs.Common.{◌≡◌, ℕ, ◌+◌, ◌-◌, ◌≤◌, List, take, drop, sym, ap, ◌∙◌, arith}
 use Rattle.std.proofs.lemmas.List.{drop-take}
-use Rattle.byteorder.specs.Endian.{big_number, big_from}
-use Rattle.byteorder.specs.Numbers.{big_from-take, big_number-reads_back}
+use Rattle.byteorder.specs.Endian.{big_number}
+use Rattle.byteorder.specs.Numbers.{big_from-take}
 use Rattle.rfb_picture.specs.declared.rect.Rect.{Rect}
-use Rattle.rfb_wire.specs.Fields.{IsRectAt, rect_bytes, u16_at, u32_at}
+use Rattle.rfb_wire.specs.Fields.{IsRectAt}
 
 -- a number of n bytes is read from those alone
 pub number-take : (n at m : ℕ) (bytes : List ℕ) → at + n ≤ m → big_number n (drop at (take m bytes)) ≡ big_number n (drop at bytes)

@@ -1,10 +1,10 @@
 -- Heads of server messages: a head for bytes of the right size.
-use Rattle.std.proofs.Common.{◌≡◌, ℕ, ◌==◌, ◌<◌, if◌then◌else◌, List, [], ◌∷◌, length, slice_index, drop, Option, Some, None, inl, inr, refl, arith}
+use Rattle.std.proofs.Common.{◌≡◌, ℕ, ◌==◌, ◌<◌, if◌then◌else◌, List, length, slice_index, Some, inl, inr, refl, arith}
 use Rattle.std.proofs.lemmas.Bool.{cases_eq}
 use Rattle.std.proofs.lemmas.Bool.Decides.{nat_tests}
 use Rattle.rfb_wire.specs.declared.server_head.ServerHead.{ServerHead}
 use Rattle.rfb_wire.specs.declared.server_head.ServerHead.TheVariants.{Update, ColourMap, Bell, CutText}
-use Rattle.rfb_wire.specs.Fields.{u8_at, u16_at, u32_at}
+use Rattle.rfb_wire.specs.Fields.{u16_at, u32_at}
 use Rattle.rfb_wire.specs.ServerHead.{SpellsServerHead, server_head_size}
 use Rattle.rfb_wire.proofs.HeadLemmas.{SizesSpell}
 

@@ -1,4 +1,4 @@
-use Rattle.std.proofs.Common.{◌≡◌, ◌<◌, length, slice_index, Some, arith, ap, sym, ◌∙◌}
+use Rattle.std.proofs.Common.{◌≡◌, slice_index, Some, arith}
 use Rattle.rfb_wire.specs.ServerHead.{SpellsServerHead, server_head_size}
 use Rattle.rfb_wire.proofs.HeadLemmas.{misses_rest, begins_some}
 use Rattle.rfb_wire.proofs.ServerLemmas.{server-sizes}
