@@ -1,4 +1,4 @@
--- Heads of client messages: a head for bytes of the right size.
+-- Heads of client messages: one for bytes of the right size, and no other for the same bytes.
 use Rattle.std.proofs.Common.{◌≡◌, ℕ, ◌==◌, if◌then◌else◌, List, [], length, slice_index, drop, Some, inl, inr, refl, arith, ◌<◌, ◌++◌, sym, ap, ◌∙◌, length-append}
 use Rattle.std.proofs.lemmas.List.{append-nil, get_or_append_left, nil_from_length}
 use Rattle.std.proofs.lemmas.Bool.{cases_eq}

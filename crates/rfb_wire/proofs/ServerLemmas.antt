@@ -1,4 +1,4 @@
--- Heads of server messages: a head for bytes of the right size.
+-- Heads of server messages: one for bytes of the right size, and no other for the same bytes.
 use Rattle.std.proofs.Common.{◌≡◌, ℕ, ◌==◌, ◌<◌, if◌then◌else◌, List, length, slice_index, Some, inl, inr, refl, arith}
 use Rattle.std.proofs.lemmas.Bool.{cases_eq}
 use Rattle.std.proofs.lemmas.Bool.Decides.{nat_tests}
