@@ -101,6 +101,7 @@ impl ClientHead {
                 x: BigEndian::read_u16(&bytes[2..]),
                 y: BigEndian::read_u16(&bytes[4..]),
             },
+            // ClientCutText, the only type that is left.
             _ => ClientHead::CutText(BigEndian::read_u32(&bytes[4..])),
         }
     }

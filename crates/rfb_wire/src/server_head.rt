@@ -80,6 +80,7 @@ impl ServerHead {
                 count: BigEndian::read_u16(&bytes[4..]),
             },
             BELL => ServerHead::Bell,
+            // ServerCutText, the only type that is left.
             _ => ServerHead::CutText(BigEndian::read_u32(&bytes[4..])),
         }
     }
