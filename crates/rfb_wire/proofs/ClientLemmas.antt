@@ -1,5 +1,5 @@
--- Heads of client messages: a head for bytes of the right size.
-use Rattle.std.proofs.Common.{◌≡◌, ℕ, ◌==◌, if◌then◌else◌, List, [], length, slice_index, drop, Some, inl, inr, refl, arith, ◌<◌, ◌++◌, sym, ap, ◌∙◌, length-append}
+-- Heads of client messages: one for bytes of the right size, and no other for the same bytes.
+use Rattle.std.proofs.Common.{◌≡◌, ℕ, List, [], length, slice_index, drop, Some, inl, inr, refl, arith, ◌<◌, ◌++◌, sym, ap, ◌∙◌, length-append}
 use Rattle.std.proofs.lemmas.List.{append-nil, get_or_append_left, nil_from_length}
 use Rattle.std.proofs.lemmas.Bool.{cases_eq}
 use Rattle.std.proofs.lemmas.Bool.Decides.{nat_tests}
@@ -7,6 +7,7 @@ use Rattle.rfb_wire.specs.declared.client_head.ClientHead.{ClientHead}
 use Rattle.rfb_wire.specs.declared.client_head.ClientHead.TheVariants.{SetPixelFormat, SetEncodings, Request, Key, Pointer, CutText}
 use Rattle.rfb_wire.specs.Fields.{u8_at, u16_at, u32_at, flag_at}
 use Rattle.rfb_wire.specs.ClientHead.{SpellsClientHead, client_head_size}
+use Rattle.rfb_wire.specs.ClientStream.{client_head_of}
 use Rattle.rfb_wire.proofs.HeadLemmas.{SizesSpell}
 
 -- bytes of the size that their type asks for are a head
@@ -40,18 +41,8 @@ client-sizes bytes h =
       ]
     ]
 
--- the head that bytes of the right size are
-abbrev pub client_head_in : List ℕ → ClientHead
-client_head_in bytes =
-    let message_type = slice_index bytes 0 in
-    if message_type == 0 then SetPixelFormat (drop 4 bytes) else
-    if message_type == 2 then SetEncodings (u16_at 2 bytes) else
-    if message_type == 3 then Request (flag_at 1 bytes) (record { x = u16_at 2 bytes; y = u16_at 4 bytes; w = u16_at 6 bytes; h = u16_at 8 bytes }) else
-    if message_type == 4 then Key (flag_at 1 bytes) (u32_at 4 bytes) else
-    if message_type == 5 then Pointer (u8_at 1 bytes) (u16_at 2 bytes) (u16_at 4 bytes) else CutText (u32_at 4 bytes)
-
--- bytes spell no other head than that, have its size, and are not none
-pub client-spelled : (head : ClientHead) (bytes : List ℕ) → SpellsClientHead head bytes → (head ≡ client_head_in bytes) × (client_head_size (slice_index bytes 0) ≡ Some (length bytes)) × (0 < length bytes)
+-- bytes spell no other head than their own, have its size, and are not none
+pub client-spelled : (head : ClientHead) (bytes : List ℕ) → SpellsClientHead head bytes → (head ≡ client_head_of bytes) × (client_head_size (slice_index bytes 0) ≡ Some (length bytes)) × (0 < length bytes)
 client-spelled (SetPixelFormat format) bytes s = (grind (arith, nat_tests), grind (arith, nat_tests), omega arith)
 client-spelled (SetEncodings count) bytes s = (grind (arith, nat_tests), grind (arith, nat_tests), omega arith)
 client-spelled (Request incremental rect) bytes s = (grind (arith, nat_tests), grind (arith, nat_tests), omega arith)
@@ -70,4 +61,4 @@ client-apart head other front rest a b =
     let same : length front ≡ length (front ++ rest) = cc in
     let none : rest ≡ [] = nil_from_length rest (omega (arith, length-append front rest)) in
     let whole : front ++ rest ≡ front = ap (λ (xs : List ℕ). front ++ xs) none ∙ append-nil front in
-    (two.0 ∙ ap client_head_in whole ∙ sym one.0, none)
+    (two.0 ∙ ap client_head_of whole ∙ sym one.0, none)

@@ -1,11 +1,12 @@
--- Heads of server messages: a head for bytes of the right size.
-use Rattle.std.proofs.Common.{◌≡◌, ℕ, ◌==◌, ◌<◌, if◌then◌else◌, List, length, slice_index, Some, inl, inr, refl, arith}
+-- Heads of server messages: one for bytes of the right size, and no other for the same bytes.
+use Rattle.std.proofs.Common.{◌≡◌, ℕ, ◌<◌, List, length, slice_index, Some, inl, inr, refl, arith}
 use Rattle.std.proofs.lemmas.Bool.{cases_eq}
 use Rattle.std.proofs.lemmas.Bool.Decides.{nat_tests}
 use Rattle.rfb_wire.specs.declared.server_head.ServerHead.{ServerHead}
 use Rattle.rfb_wire.specs.declared.server_head.ServerHead.TheVariants.{Update, ColourMap, Bell, CutText}
 use Rattle.rfb_wire.specs.Fields.{u16_at, u32_at}
 use Rattle.rfb_wire.specs.ServerHead.{SpellsServerHead, server_head_size}
+use Rattle.rfb_wire.specs.ServerMessage.{server_head_of}
 use Rattle.rfb_wire.proofs.HeadLemmas.{SizesSpell}
 
 -- bytes of the size that their type asks for are a head
@@ -25,16 +26,8 @@ server-sizes bytes h =
       ]
     ]
 
--- the head that bytes of the right size are
-abbrev pub server_head_in : List ℕ → ServerHead
-server_head_in bytes =
-    let message_type = slice_index bytes 0 in
-    if message_type == 0 then Update (u16_at 2 bytes) else
-    if message_type == 1 then ColourMap (u16_at 2 bytes) (u16_at 4 bytes) else
-    if message_type == 2 then Bell else CutText (u32_at 4 bytes)
-
--- bytes spell no other head than that, have its size, and are not none
-pub server-spelled : (head : ServerHead) (bytes : List ℕ) → SpellsServerHead head bytes → (head ≡ server_head_in bytes) × (server_head_size (slice_index bytes 0) ≡ Some (length bytes)) × (0 < length bytes)
+-- bytes spell no other head than their own, have its size, and are not none
+pub server-spelled : (head : ServerHead) (bytes : List ℕ) → SpellsServerHead head bytes → (head ≡ server_head_of bytes) × (server_head_size (slice_index bytes 0) ≡ Some (length bytes)) × (0 < length bytes)
 server-spelled (Update count) bytes s = (grind (arith, nat_tests), grind (arith, nat_tests), omega arith)
 server-spelled (ColourMap first count) bytes s = (grind (arith, nat_tests), grind (arith, nat_tests), omega arith)
 server-spelled Bell bytes s = (grind (arith, nat_tests), grind (arith, nat_tests), omega arith)

@@ -1,12 +1,13 @@
 -- Heads byte for byte as RFC 6143 lays them out, computed from the relations: these bytes spell this
 -- head, and no other.
-use Rattle.std.proofs.Common.{◌≡◌, ℕ, List, [], ◌∷◌, true, false, refl, negsuc, arith}
+use Rattle.std.proofs.Common.{◌≡◌, ℕ, List, [], ◌∷◌, true, false, length, Some, None, refl, negsuc, arith}
 use Rattle.rfb_wire.specs.declared.client_head.ClientHead.TheVariants.{SetPixelFormat, SetEncodings, Request, Key, Pointer, CutText}
 use Rattle.rfb_wire.specs.declared.server_head.ServerHead.TheVariants.{Update, ColourMap, Bell, CutText as ServerCutText}
 use Rattle.rfb_wire.specs.declared.encoding.Encoding.{Encoding}
 use Rattle.rfb_wire.specs.declared.encoding.Encoding.TheVariants.{Raw, CopyRect, Rre, Hextile}
 use Rattle.rfb_wire.specs.Encoding.{number_of, IsNoEncoding}
 use Rattle.rfb_wire.specs.Fields.{s32_at}
+use Rattle.rfb_wire.specs.Heads.{BeginsNone}
 use Rattle.rfb_wire.specs.ClientHead.{SpellsClientHead}
 use Rattle.rfb_wire.specs.ServerHead.{SpellsServerHead}
 use Rattle.rfb_wire.specs.RectHead.{SpellsRectHead, IsOnScreen}
@@ -56,6 +57,12 @@ pointer_is = (record { size = refl; message_type = refl; button_mask_is = refl; 
 client_cut_text_is : SpellsOnly SpellsClientHead (CutText 16909060) (6 ∷ 0 ∷ 0 ∷ 0 ∷ 1 ∷ 2 ∷ 3 ∷ 4 ∷ [])
 client_cut_text_is = (record { size = refl; message_type = refl; length_is = refl }, λ other s. (client-spelled other _ s).0)
 
+-- 01 is no message of a client
+client_type_1_is_unknown : BeginsNone SpellsClientHead 1
+client_type_1_is_unknown head rest s =
+    let size : None ≡ Some (length (1 ∷ rest)) = (client-spelled head (1 ∷ rest) s).1 in
+    cc
+
 -- ---- from server to client, section 7.6
 
 -- 00 00 0102
@@ -73,6 +80,12 @@ bell_is = (record { size = refl; message_type = refl }, λ other s. (server-spel
 -- 03 000000 01020304
 server_cut_text_is : SpellsOnly SpellsServerHead (ServerCutText 16909060) (3 ∷ 0 ∷ 0 ∷ 0 ∷ 1 ∷ 2 ∷ 3 ∷ 4 ∷ [])
 server_cut_text_is = (record { size = refl; message_type = refl; length_is = refl }, λ other s. (server-spelled other _ s).0)
+
+-- 04 is no message of a server
+server_type_4_is_unknown : BeginsNone SpellsServerHead 4
+server_type_4_is_unknown head rest s =
+    let size : None ≡ Some (length (4 ∷ rest)) = (server-spelled head (4 ∷ rest) s).1 in
+    cc
 
 -- ---- a rectangle, section 7.6.1
 

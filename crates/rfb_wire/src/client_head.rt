@@ -56,9 +56,11 @@ impl ClientHead {
 
         // And it is told wherever it is so: of bytes that begin with a head, of none, of a front of a
         // head, and of a type byte that no head has.
-        ensures head { (head : ClientHead) (front rest : List ℕ) → bytes.now ≡ front ++ rest → SpellsClientHead head front → result ≡ Got head (length front) }
+        ensures head { (head : ClientHead) (front rest : List ℕ) → bytes.now ≡ front ++ rest →
+            SpellsClientHead head front → result ≡ Got head (length front) }
         ensures empty { bytes.now ≡ [] → result ≡ More 1 }
-        ensures front { (head : ClientHead) (missing : List ℕ) → 0 < length bytes.now → 0 < length missing → SpellsClientHead head (bytes.now ++ missing) → result ≡ More (length missing) }
+        ensures front { (head : ClientHead) (missing : List ℕ) → 0 < length bytes.now → 0 < length missing →
+            SpellsClientHead head (bytes.now ++ missing) → result ≡ More (length missing) }
         ensures unknown { (first : ℕ) (rest : List ℕ) → bytes.now ≡ first ∷ rest → BeginsNone SpellsClientHead first → result ≡ Bad (UnknownMessage first) }
     {
         let Some(&kind) = bytes.first() else {
@@ -99,6 +101,7 @@ impl ClientHead {
                 x: BigEndian::read_u16(&bytes[2..]),
                 y: BigEndian::read_u16(&bytes[4..]),
             },
+            // ClientCutText, the only type that is left.
             _ => ClientHead::CutText(BigEndian::read_u32(&bytes[4..])),
         }
     }
@@ -146,7 +149,16 @@ impl ClientHead {
     /// A law about `SpellsClientHead`, with nothing to run: bytes spell one head at most, and no
     /// head's bytes go on as another's.
     pub fn spellings_are_apart()
-        ensures { (head other : ClientHead) (front rest : List ℕ) → SpellsClientHead head front → SpellsClientHead other (front ++ rest) → (other ≡ head) × (rest ≡ []) }
+        ensures { (head other : ClientHead) (front rest : List ℕ) →
+            SpellsClientHead head front → SpellsClientHead other (front ++ rest) → (other ≡ head) × (rest ≡ []) }
+    {}
+
+    /// A law about `SpellsClientHead`, with nothing to run: a head has as many bytes as its type byte asks
+    /// for, and as many bytes as their first asks for are always a head.
+    pub fn type_tells_the_size()
+        ensures size { (head : ClientHead) (bytes : List ℕ) →
+            SpellsClientHead head bytes → client_head_size (slice_index bytes 0) ≡ Some (length bytes) }
+        ensures whole { (bytes : List ℕ) → client_head_size (slice_index bytes 0) ≡ Some (length bytes) → (head : ClientHead) × SpellsClientHead head bytes }
     {}
 }
 

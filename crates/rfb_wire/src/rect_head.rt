@@ -39,10 +39,12 @@ impl RectHead {
 
         // And it is told wherever it is so: of bytes that begin with a head on the screen, of fewer
         // than a head's, of a number that no encoding has, and of a head that leaves the screen.
-        ensures head { (head : RectHead) (front rest : List ℕ) → bytes.now ≡ front ++ rest → SpellsRectHead head front → IsOnScreen width height head.rect → result ≡ Got head (length front) }
+        ensures head { (head : RectHead) (front rest : List ℕ) → bytes.now ≡ front ++ rest →
+            SpellsRectHead head front → IsOnScreen width height head.rect → result ≡ Got head (length front) }
         ensures front { (n : ℕ) → 0 < n → length bytes.now + n ≡ 12 → result ≡ More n }
         ensures unknown { 12 ≤ length bytes.now → IsNoEncoding (s32_at 8 bytes.now) → result ≡ Bad (UnknownEncoding (s32_at 8 bytes.now)) }
-        ensures outside { (head : RectHead) (front rest : List ℕ) → bytes.now ≡ front ++ rest → SpellsRectHead head front → (IsOnScreen width height head.rect → ⊥) → result ≡ Bad RectOutside }
+        ensures outside { (head : RectHead) (front rest : List ℕ) → bytes.now ≡ front ++ rest →
+            SpellsRectHead head front → (IsOnScreen width height head.rect → ⊥) → result ≡ Bad RectOutside }
     {
         if bytes.len() < HEAD_SIZE {
             return Read::More(HEAD_SIZE - bytes.len());
@@ -73,7 +75,8 @@ impl RectHead {
     /// A law about `SpellsRectHead`, with nothing to run: bytes spell one head at most, and no head's
     /// bytes go on as another's.
     pub fn spellings_are_apart()
-        ensures { (head other : RectHead) (front rest : List ℕ) → SpellsRectHead head front → SpellsRectHead other (front ++ rest) → (other ≡ head) × (rest ≡ []) }
+        ensures { (head other : RectHead) (front rest : List ℕ) →
+            SpellsRectHead head front → SpellsRectHead other (front ++ rest) → (other ≡ head) × (rest ≡ []) }
     {}
 }
 

@@ -48,9 +48,11 @@ impl ServerHead {
 
         // And it is told wherever it is so: of bytes that begin with a head, of none, of a front of a
         // head, and of a type byte that no head has.
-        ensures head { (head : ServerHead) (front rest : List ℕ) → bytes.now ≡ front ++ rest → SpellsServerHead head front → result ≡ Got head (length front) }
+        ensures head { (head : ServerHead) (front rest : List ℕ) → bytes.now ≡ front ++ rest →
+            SpellsServerHead head front → result ≡ Got head (length front) }
         ensures empty { bytes.now ≡ [] → result ≡ More 1 }
-        ensures front { (head : ServerHead) (missing : List ℕ) → 0 < length bytes.now → 0 < length missing → SpellsServerHead head (bytes.now ++ missing) → result ≡ More (length missing) }
+        ensures front { (head : ServerHead) (missing : List ℕ) → 0 < length bytes.now → 0 < length missing →
+            SpellsServerHead head (bytes.now ++ missing) → result ≡ More (length missing) }
         ensures unknown { (first : ℕ) (rest : List ℕ) → bytes.now ≡ first ∷ rest → BeginsNone SpellsServerHead first → result ≡ Bad (UnknownMessage first) }
     {
         let Some(&kind) = bytes.first() else {
@@ -78,6 +80,7 @@ impl ServerHead {
                 count: BigEndian::read_u16(&bytes[4..]),
             },
             BELL => ServerHead::Bell,
+            // ServerCutText, the only type that is left.
             _ => ServerHead::CutText(BigEndian::read_u32(&bytes[4..])),
         }
     }
@@ -111,7 +114,16 @@ impl ServerHead {
     /// A law about `SpellsServerHead`, with nothing to run: bytes spell one head at most, and no
     /// head's bytes go on as another's.
     pub fn spellings_are_apart()
-        ensures { (head other : ServerHead) (front rest : List ℕ) → SpellsServerHead head front → SpellsServerHead other (front ++ rest) → (other ≡ head) × (rest ≡ []) }
+        ensures { (head other : ServerHead) (front rest : List ℕ) →
+            SpellsServerHead head front → SpellsServerHead other (front ++ rest) → (other ≡ head) × (rest ≡ []) }
+    {}
+
+    /// A law about `SpellsServerHead`, with nothing to run: a head has as many bytes as its type byte asks
+    /// for, and as many bytes as their first asks for are always a head.
+    pub fn type_tells_the_size()
+        ensures size { (head : ServerHead) (bytes : List ℕ) →
+            SpellsServerHead head bytes → server_head_size (slice_index bytes 0) ≡ Some (length bytes) }
+        ensures whole { (bytes : List ℕ) → server_head_size (slice_index bytes 0) ≡ Some (length bytes) → (head : ServerHead) × SpellsServerHead head bytes }
     {}
 }
 
