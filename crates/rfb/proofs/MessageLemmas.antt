@@ -2,7 +2,7 @@
 use Rattle.std.proofs.Common.{◌≡◌, ℕ, ◌+◌, ◌-◌, ◌*◌, ◌%◌, ◌^◌, ◌<◌, ◌≤◌, List, [], ◌∷◌, ◌++◌, length, take, drop, arith, refl, sym, ap, ◌∙◌, inl, inr, Bool, true, false, if◌then◌else◌, ◌||◌, length-append, length-drop, zero-add}
 use Rattle.std.specs.Prelude.{slice_index_or}
 use Rattle.std.proofs.Math.Nat.{mod-eq_of_lt, mul-le-mul_right}
-use Rattle.std.proofs.lemmas.List.{drop-append-le, drop-drop, drop-take, drop_at, get_or_default, length-take-le}
+use Rattle.std.proofs.lemmas.List.{drop-append-le, drop-drop, drop-take, drop_at, get_or_default, length-take-le, take-append-drop, take_rest}
 use borrow.Rule.Slice.PartMut.{put_mid, post_of}
 use Rattle.std.proofs.lemmas.Bool.{cases_lt}
 use Rattle.byteorder.specs.Numbers.{big_number-reads_back, little_from-append, little_from-take}
@@ -12,7 +12,8 @@ use Rattle.rfb_picture.specs.declared.rect.Rect.{Rect}
 use Rattle.rfb_picture.specs.Rect.{contains}
 use Rattle.rfb_picture.specs.Grid.{Grid, Holds, IsGrid, at_or, row_of, with_row}
 use Rattle.rfb_picture.proofs.GridLemmas.{at-changed, at-with_row, contains_more, contains_true, height-changed, same_grid, slice_index_or-row_of, whole-changed, width-changed}
-use Rattle.rfb.specs.Messages.{ArePixels, IsRaw, painted, raw_pixel, rect_bytes, rect_of, request_bytes, update_head}
+use Rattle.rfb_wire.specs.Fields.{rect_bytes}
+use Rattle.rfb.specs.Messages.{ArePixels, IsRaw, painted, raw_pixel, rect_at, request_bytes, requested_area, update_head, updated_area}
 use Rattle.rfb.specs.Run.{AgreeOver}
 use Rattle.rfb_pixel.proofs.FormatLemmas.{rgb888-is_format, seen_through-exact}
 
@@ -165,27 +166,32 @@ same_rect r q x y w h = λ i. record { x = x i; y = y i; w = w i; h = h i }
 abbrev pub FitsIn : ℕ → ℕ → Rect → Type 0
 FitsIn width height r = (r.x + r.w ≤ width) × (r.y + r.h ≤ height)
 
--- a rectangle of a screen is read back from its bytes
-pub rect_of-rect_bytes : (r : Rect) (rest : List ℕ) → FitsIn 4096 4096 r → rect_of (rect_bytes r ++ rest) ≡ r
-rect_of-rect_bytes r rest fits =
+-- a rectangle of a screen is read back from the bytes that it is written as
+pub rect_at-rect_bytes : (r : Rect) (rest : List ℕ) → FitsIn 4096 4096 r → rect_at 0 (rect_bytes r ++ rest) ≡ r
+rect_at-rect_bytes r rest fits =
     let x : r.x < 256 ^ 2 = omega arith in
     let y : r.y < 256 ^ 2 = omega arith in
     let w : r.w < 256 ^ 2 = omega arith in
     let h : r.h < 256 ^ 2 = omega arith in
-    same_rect (rect_of (rect_bytes r ++ rest)) r (big_number-reads_back 2 r.x [] x) (big_number-reads_back 2 r.y [] y)
+    same_rect (rect_at 0 (rect_bytes r ++ rest)) r (big_number-reads_back 2 r.x [] x) (big_number-reads_back 2 r.y [] y)
     (big_number-reads_back 2 r.w [] w) (big_number-reads_back 2 r.h [] h)
 
 -- so the area of a request is read back
-pub rect_of-request : (r : Rect) → FitsIn 4096 4096 r → rect_of (drop 2 (request_bytes r)) ≡ r
-rect_of-request r fits = rect_of-rect_bytes r [] fits
+pub requested_area-request : (r : Rect) → FitsIn 4096 4096 r → requested_area (request_bytes r) ≡ r
+requested_area-request r fits = rect_at-rect_bytes r [] fits
 
 -- and that of an update
-pub rect_of-update : (r : Rect) (pixels : List ℕ) → FitsIn 4096 4096 r → rect_of (drop 4 (update_head r ++ pixels)) ≡ r
-rect_of-update r pixels fits = rect_of-rect_bytes r ((0 ∷ 0 ∷ 0 ∷ 0 ∷ []) ++ pixels) fits
+pub updated_area-update : (r : Rect) (pixels : List ℕ) → FitsIn 4096 4096 r → updated_area (update_head r ++ pixels) ≡ r
+updated_area-update r pixels fits = rect_at-rect_bytes r ((0 ∷ 0 ∷ 0 ∷ 0 ∷ []) ++ pixels) fits
 
 -- behind its head an update has its pixels
 pub drop-update : (r : Rect) (pixels : List ℕ) → drop 16 (update_head r ++ pixels) ≡ pixels
 drop-update r pixels = refl
+
+-- behind the message's head of an update are the rectangle's, and then the pixels
+pub behind_update_head : (bytes : List ℕ) (used : ℕ) → used ≡ 4 → take (length bytes - used) (drop used bytes) ≡ take 12 (drop 4 bytes) ++ drop 16 bytes
+behind_update_head bytes used e =
+    rw e (take_rest bytes 4 ∙ sym (take-append-drop 12 (drop 4 bytes)) ∙ ap (λ (rest : List ℕ). take 12 (drop 4 bytes) ++ rest) (drop-drop 12 4 bytes))
 
 -- ---- what is shown
 

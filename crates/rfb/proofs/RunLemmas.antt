@@ -1,5 +1,5 @@
 -- What holds of a pair however it got where it is, and the theorem on what the viewer shows.
-use Rattle.std.proofs.Common.{◌≡◌, ℕ, ◌+◌, ◌<◌, ◌≤◌, List, [], ◌∷◌, ◌++◌, drop, Option, Some, None, Bool, true, false, arith, refl, sym, ap, subst, ◌∙◌}
+use Rattle.std.proofs.Common.{◌≡◌, ℕ, ◌+◌, ◌<◌, ◌≤◌, List, [], ◌∷◌, ◌++◌, Option, Some, None, Bool, true, false, arith, refl, sym, ap, subst, ◌∙◌}
 use Rattle.std.specs.Prelude.{IfSome, IsSomeAnd, unwrap_or, is_some, if◌then◌else◌}
 use Rattle.std.proofs.lemmas.Bool.Decides.{nat_tests}
 use Rattle.rfb_pixel.specs.declared.colour.Colour.{Colour}
@@ -13,10 +13,10 @@ use Rattle.rfb.specs.declared.pair.event.PairEvent.TheVariants.{Fill, Request, C
 use Rattle.rfb.specs.declared.pair.progress.Progress.{Progress}
 use Rattle.rfb.specs.declared.pair.progress.Progress.TheVariants.{Idle, Sent, Delivered, Answered}
 use Rattle.rfb.specs.declared.fault.CallFault.TheVariants.{AreaOutside, Busy, NotReady}
-use Rattle.rfb.specs.Messages.{IsRaw, after_update, painted, rect_of, request_bytes, update_head}
+use Rattle.rfb.specs.Messages.{IsRaw, after_update, painted, request_bytes, requested_area, update_head}
 use Rattle.rfb.specs.Pair.{Composing, Composes, ComposesAt, PairState, arrived, black, delivered_to, drawn, first_picture, fresh, is_area, is_idle, is_on, requested, settled}
 use Rattle.rfb.specs.Run.{AgreeOver, AreColours, Does, IsReached, IsShown, Steps}
-use Rattle.rfb.proofs.MessageLemmas.{FitsIn, IsColoured, IsSized, painted_agrees, rect_of-request, rect_of-update, sized-painted}
+use Rattle.rfb.proofs.MessageLemmas.{FitsIn, IsColoured, IsSized, painted_agrees, requested_area-request, updated_area-update, sized-painted}
 
 -- ---- runs
 
@@ -210,12 +210,12 @@ sized_or width height None g h sized = sized
 sized_or width height (Some p) g h sized = h
 
 -- the area that arrives is the one that was asked for
-asked_area : (width height : ℕ) (bytes : List ℕ) → width ≤ 4096 → height ≤ 4096 → IsAsking width height bytes → FitsIn width height (rect_of (drop 2 bytes))
+asked_area : (width height : ℕ) (bytes : List ℕ) → width ≤ 4096 → height ≤ 4096 → IsAsking width height bytes → FitsIn width height (requested_area bytes)
 asked_area width height bytes narrow low asking =
     let fits = asking.fits in
     let IsFitting : Rect → Type 0 = λ r. FitsIn width height r in
-    let area : rect_of (drop 2 bytes) ≡ asking.area =
-    ap (λ (b : List ℕ). rect_of (drop 2 b)) asking.bytes_are ∙ rect_of-request asking.area (omega arith, omega arith) in
+    let area : requested_area bytes ≡ asking.area =
+    ap (λ (b : List ℕ). requested_area b) asking.bytes_are ∙ requested_area-request asking.area (omega arith, omega arith) in
     subst IsFitting (sym area) fits
 
 -- the update that arrives makes the picture the screen that it was composed of
@@ -227,7 +227,7 @@ updated_shows width height bytes latest g narrow low h sized =
     let IsAgreeing : Grid Colour → Type 0 = λ q. AgreeOver area q h.composing.screen in
     let drawn : after_update bytes g ≡ painted area h.pixels g =
     ap (λ (b : List ℕ). after_update b g) h.bytes_are
-    ∙ ap (λ (r : Rect). painted r h.pixels g) (rect_of-update area h.pixels (omega arith, omega arith)) in
+    ∙ ap (λ (r : Rect). painted r h.pixels g) (updated_area-update area h.pixels (omega arith, omega arith)) in
     subst IsAgreeing (sym drawn) agrees
 
 settled_sound : (width height : ℕ) (s : PairState) → width ≤ 4096 → height ≤ 4096 → Sound width height s → Sound width height (settled s)

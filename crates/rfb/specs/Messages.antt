@@ -1,33 +1,55 @@
 -- The two messages between the ends, as RFC 6143 lays them out: the viewer's FramebufferUpdateRequest,
 -- section 7.5.3, and a FramebufferUpdate of one rectangle in Raw, sections 7.6.1 and 7.7.1.
-use Rattle.std.specs.Prelude.{◌≡◌, ℕ, ◌+◌, ◌-◌, ◌*◌, ◌<◌, List, [], ◌∷◌, ◌++◌, length, drop, slice_index_or, if◌then◌else◌}
-use Rattle.byteorder.specs.Endian.{big_bytes, big_number}
+use Rattle.std.specs.Prelude.{◌≡◌, ℕ, ◌+◌, ◌-◌, ◌*◌, ◌<◌, false, List, ◌++◌, length, take, drop, slice_index_or, if◌then◌else◌}
 use Rattle.rfb_pixel.specs.declared.colour.Colour.{Colour}
 use Rattle.rfb_pixel.specs.Format.{pixel_of, colour_of, pixel_number, rgb888}
 use Rattle.rfb_picture.specs.declared.rect.Rect.{Rect}
 use Rattle.rfb_picture.specs.Rect.{contains}
 use Rattle.rfb_picture.specs.Grid.{Grid, at_or, changed}
+use Rattle.rfb_wire.specs.declared.client_head.ClientHead.TheVariants.{Request}
+use Rattle.rfb_wire.specs.declared.server_head.ServerHead.TheVariants.{Update}
+use Rattle.rfb_wire.specs.declared.encoding.Encoding.TheVariants.{Raw}
+use Rattle.rfb_wire.specs.Fields.{u16_at}
+use Rattle.rfb_wire.specs.ClientHead.{SpellsClientHead, client_head_bytes}
+use Rattle.rfb_wire.specs.ServerHead.{SpellsServerHead, server_head_bytes}
+use Rattle.rfb_wire.specs.RectHead.{SpellsRectHead, IsOnScreen, rect_head_bytes}
 
--- a rectangle on the wire: x-position, y-position, width and height
-abbrev pub rect_bytes : Rect → List ℕ
-rect_bytes r = big_bytes 2 r.x ++ big_bytes 2 r.y ++ big_bytes 2 r.w ++ big_bytes 2 r.h
+-- a request for all of an area, not incremental
+abbrev pub request_bytes : Rect → List ℕ
+request_bytes area = client_head_bytes (Request false area)
 
--- the rectangle that bytes begin with
-abbrev pub rect_of : List ℕ → Rect
-rect_of bytes = record {
-  x = big_number 2 bytes;
-  y = big_number 2 (drop 2 bytes);
-  w = big_number 2 (drop 4 bytes);
-  h = big_number 2 (drop 6 bytes);
+-- the head of an update of one rectangle in Raw: the message's, and then the rectangle's
+abbrev pub update_head : Rect → List ℕ
+update_head area = server_head_bytes (Update 1) ++ rect_head_bytes (record { rect = area; encoding = Raw })
+
+-- the rectangle that stands in bytes from an offset on
+abbrev pub rect_at : ℕ → List ℕ → Rect
+rect_at offset bytes = record {
+  x = u16_at offset bytes;
+  y = u16_at (offset + 2) bytes;
+  w = u16_at (offset + 4) bytes;
+  h = u16_at (offset + 6) bytes;
 }
 
--- a request for all of an area: the type, the incremental flag, and the area
-abbrev pub request_bytes : Rect → List ℕ
-request_bytes r = (3 ∷ 0 ∷ []) ++ rect_bytes r
+-- the area that a request asks for
+abbrev pub requested_area : List ℕ → Rect
+requested_area bytes = rect_at 2 bytes
 
--- the head of an update of one rectangle: the type, padding and the count, then the place and encoding 0, Raw
-abbrev pub update_head : Rect → List ℕ
-update_head r = (0 ∷ 0 ∷ 0 ∷ 1 ∷ []) ++ rect_bytes r ++ (0 ∷ 0 ∷ 0 ∷ 0 ∷ [])
+-- the rectangle of an update
+abbrev pub updated_area : List ℕ → Rect
+updated_area bytes = rect_at 4 bytes
+
+-- bytes are a request for all of an area, not incremental
+abbrev pub IsRequest : List ℕ → Type 0
+IsRequest bytes = SpellsClientHead (Request false (requested_area bytes)) bytes
+
+-- bytes are an update of one rectangle in Raw, on a screen of that size: the message's head, the
+-- rectangle's, and four bytes for each of its places
+pub record IsUpdate (width height : ℕ) (bytes : List ℕ) : Type 0 where
+  pub announced : SpellsServerHead (Update 1) (take 4 bytes)
+  pub placed : SpellsRectHead (record { rect = updated_area bytes; encoding = Raw }) (take 12 (drop 4 bytes))
+  pub on : IsOnScreen width height (updated_area bytes)
+  pub size : length bytes ≡ 16 + 4 * ((updated_area bytes).h * (updated_area bytes).w)
 
 -- bytes hold the pixels of the first n colours of a row, one after the other
 pub record ArePixels (n : ℕ) (row : List Colour) (bytes : List ℕ) : Type 0 where
@@ -50,4 +72,4 @@ painted r bytes g =
 
 -- the picture once an update of one rectangle was applied to it
 abbrev pub after_update : List ℕ → Grid Colour → Grid Colour
-after_update bytes g = painted (rect_of (drop 4 bytes)) (drop 16 bytes) g
+after_update bytes g = painted (updated_area bytes) (drop 16 bytes) g

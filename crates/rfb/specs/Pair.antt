@@ -1,5 +1,5 @@
 -- Both ends and all bytes between them: what contracts see of a `Pair`, and what each call does to it.
-use Rattle.std.specs.Prelude.{◌≡◌, ℕ, ◌+◌, ◌&&◌, nat_lt, nat_le, Bool, true, false, List, [], ◌++◌, drop, Option, Some, None, is_some, unwrap_or, if◌then◌else◌}
+use Rattle.std.specs.Prelude.{◌≡◌, ℕ, ◌+◌, ◌&&◌, nat_lt, nat_le, Bool, true, false, List, [], ◌++◌, Option, Some, None, is_some, unwrap_or, if◌then◌else◌}
 use Rattle.rfb_pixel.specs.declared.colour.Colour.{Colour}
 use Rattle.rfb_picture.specs.declared.rect.Rect.{Rect}
 use Rattle.rfb_picture.specs.Grid.{Grid, filled, uniform}
@@ -7,7 +7,7 @@ use Rattle.rfb.specs.declared.fault.CallFault.{CallFault}
 use Rattle.rfb.specs.declared.fault.CallFault.TheVariants.{NotReady, Busy, AreaOutside}
 use Rattle.rfb.specs.declared.pair.progress.Progress.{Progress}
 use Rattle.rfb.specs.declared.pair.progress.Progress.TheVariants.{Idle, Sent, Delivered, Answered}
-use Rattle.rfb.specs.Messages.{IsRaw, request_bytes, update_head, rect_of, after_update}
+use Rattle.rfb.specs.Messages.{IsRaw, request_bytes, requested_area, update_head, after_update}
 
 -- what the latest composing answered, and the screen as it was then
 pub record Composing : Type 0 where
@@ -91,7 +91,7 @@ Composes s t = ComposesAt s.request s t
 -- how far a request has come once all bytes in flight were delivered
 abbrev pub arrived : Progress → List ℕ → Progress
 arrived Idle bytes = Idle
-arrived Sent bytes = Delivered (rect_of (drop 2 bytes))
+arrived Sent bytes = Delivered (requested_area bytes)
 arrived (Delivered area) bytes = Delivered area
 arrived Answered bytes = Idle
 

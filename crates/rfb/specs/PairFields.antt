@@ -1,11 +1,11 @@
 -- How the fields of a `Pair` show its state, and what is true of them.
-use Rattle.std.specs.Prelude.{◌≡◌, ℕ, ◌+◌, ◌*◌, ◌≤◌, false, List, [], length, drop, Some, None, option_map, if◌then◌else◌}
+use Rattle.std.specs.Prelude.{◌≡◌, ℕ, ◌≤◌, false, List, [], Some, None, option_map, if◌then◌else◌}
 use Rattle.rfb_pixel.specs.declared.colour.Colour.{Colour}
 use Rattle.rfb_picture.specs.Grid.{Grid, Holds, IsGrid}
 use Rattle.rfb.specs.declared.pair.progress.Progress.{Progress}
 use Rattle.rfb.specs.declared.pair.progress.Progress.TheVariants.{Idle, Sent, Delivered, Answered}
 use Rattle.rfb.specs.declared.pair.Pair.TheInside.{Inside}
-use Rattle.rfb.specs.Messages.{rect_of}
+use Rattle.rfb.specs.Messages.{IsRequest, IsUpdate, requested_area}
 use Rattle.rfb.specs.Pair.{PairState, first_picture}
 
 -- the state that the fields stand for: the picture is shown once the viewer is ready
@@ -19,19 +19,13 @@ state_of p = record {
   latest = option_map (λ area. record { area = area; screen = p.latest_screen }) p.latest;
 }
 
--- so many bytes are an update of a rectangle on the screen
-pub record IsWhole (screen : Grid Colour) (bytes : List ℕ) : Type 0 where
-  pub head : 16 ≤ length bytes
-  pub on : Holds screen (rect_of (drop 4 bytes))
-  pub size : length bytes ≡ 16 + 4 * ((rect_of (drop 4 bytes)).h * (rect_of (drop 4 bytes)).w)
-
 -- there are bytes in flight just where the request's progress says so, and they are whole messages
 abbrev pub IsInFlight : Grid Colour → Progress → List ℕ → List ℕ → Type 0
 IsInFlight screen Idle to_server to_viewer = (to_server ≡ []) × (to_viewer ≡ [])
 IsInFlight screen Sent to_server to_viewer =
-    (length to_server ≡ 10) × Holds screen (rect_of (drop 2 to_server)) × (to_viewer ≡ [])
+    IsRequest to_server × Holds screen (requested_area to_server) × (to_viewer ≡ [])
 IsInFlight screen (Delivered area) to_server to_viewer = (to_server ≡ []) × Holds screen area × (to_viewer ≡ [])
-IsInFlight screen Answered to_server to_viewer = (to_server ≡ []) × IsWhole screen to_viewer
+IsInFlight screen Answered to_server to_viewer = (to_server ≡ []) × IsUpdate screen.width screen.height to_viewer
 
 -- the three pictures have one size; before the viewer is ready its picture is black and nothing was asked
 pub record IsPair (p : Inside) : Type 0 where

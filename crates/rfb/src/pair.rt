@@ -11,7 +11,7 @@ mod paint;
 mod progress;
 
 use crate::fault::{CallFault, Outside, Refused};
-use crate::pair::message::{REQUEST_SIZE, UPDATE_HEAD_SIZE};
+use crate::pair::message::UPDATE_HEAD_SIZE;
 use crate::pair::progress::Progress;
 use arrayvec::ArrayVec;
 pub use event::PairEvent;
@@ -36,7 +36,8 @@ pub struct Pair {
     picture: Picture<Colour>,
     ready: bool,
     request: Progress,
-    to_server: ArrayVec<u8, REQUEST_SIZE>,
+    // One request at most, as `ClientHead::spell` gives it.
+    to_server: ArrayVec<u8, 20>,
     to_viewer: Vec<u8>,
     latest: Option<Rect>,
     latest_screen: Picture<Colour>,
@@ -111,7 +112,7 @@ impl Pair {
         if area.w == 0 || area.h == 0 || !self.screen.holds(area) {
             return Err(CallFault::AreaOutside);
         }
-        self.to_server = ArrayVec::from(message::request(area));
+        self.to_server = message::request(area);
         self.request = Progress::Sent;
         Ok(())
     }
@@ -130,7 +131,7 @@ impl Pair {
         };
         let pixels = 4 * (usize::from(area.h) * usize::from(area.w));
         self.to_viewer.reserve_exact(UPDATE_HEAD_SIZE + pixels)?;
-        encode::append_within(&mut self.to_viewer, &message::update_head(area));
+        message::append_update_head(&mut self.to_viewer, area);
         encode::append_rows(&mut self.to_viewer, &self.screen, area);
         self.latest_screen.copy_from(&self.screen);
         self.latest = Some(area);
@@ -151,8 +152,9 @@ impl Pair {
                 self.request = Progress::Delivered(area);
             }
             Progress::Answered => {
-                let area = message::updated_area(&self.to_viewer);
-                paint::paint(&self.to_viewer[UPDATE_HEAD_SIZE..], area, &mut self.picture);
+                let (width, height) = (self.picture.width(), self.picture.height());
+                let (area, pixels) = message::read_update(&self.to_viewer, width, height);
+                paint::paint(pixels, area, &mut self.picture);
                 self.to_viewer.clear();
                 self.request = Progress::Idle;
             }
