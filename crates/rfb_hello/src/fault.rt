@@ -36,3 +36,6 @@ pub enum HelloFault {
     #[error("30 NoMemory")]
     NoMemory,
 }
+
+#[cfg(test)]
+mod tests;

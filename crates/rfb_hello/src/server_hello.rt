@@ -263,3 +263,6 @@ fn append<const CAP: usize>(kept: &mut ArrayVec<u8, CAP>, bytes: &[u8])
         Err(_) => unreachable!(),
     }
 }
+
+#[cfg(test)]
+mod tests;
