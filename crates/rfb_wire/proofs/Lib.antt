@@ -11,6 +11,7 @@ pub mod ReadingLaws
 pub mod StreamLaws
 pub mod ClientStreamLaws
 pub mod ServerMessageLaws
+pub mod RectStreamLaws
 pub mod EndLaws
 pub mod FeedLaws
 pub mod SequelLaws

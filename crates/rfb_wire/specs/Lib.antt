@@ -12,3 +12,4 @@ pub mod Sequel
 pub mod ClientMessage
 pub mod ClientStream
 pub mod ServerMessage
+pub mod RectStream

@@ -7,6 +7,7 @@ ghost use Rattle.rfb_wire.specs.Stream.{Grammar, IsSpelled, IsGrammar, ReadsAll,
 ghost use Rattle.rfb_wire.specs.End.{Machine, IsMachine, Takes, Refuses, Call, CallsTo, bytes_of, events_of, Delivers};
 ghost use Rattle.rfb_wire.specs.ClientMessage.{ClientMessage, ClientFault, SpellsClientMessage, client_says};
 ghost use Rattle.rfb_wire.specs.ClientStream.{client_message, client_stream};
+ghost use Rattle.rfb_wire.specs.RectStream.{rect_head, rect_head_says};
 ghost use Rattle.rfb_wire.specs.ServerMessage.{ServerMessage, SpellsServerMessage, server_says, server_message};
 
 /// At each point of a stream bytes have one verdict: the items that they begin with, and then one
@@ -61,4 +62,10 @@ pub fn client_verdict_is_of_the_bytes()
 pub fn server_messages_are_spelled()
     ensures reads { Reads server_message server_says }
     ensures apart { (m other : ServerMessage) (front rest : List ℕ) → SpellsServerMessage m front → SpellsServerMessage other (front ++ rest) → (m ≡ other) × (rest ≡ []) }
+{}
+
+/// Reading the head of a rectangle gives exactly those that twelve bytes spell on a screen of that
+/// size, and exactly the faults of others, whatever follows.
+pub fn rect_heads_are_spelled()
+    ensures { (width height : ℕ) → Reads (rect_head width height) (rect_head_says width height) }
 {}
