@@ -125,7 +125,7 @@ begun_same offer v shared = record { item = λ step bytes h. absurd h; fault = �
 
 -- ---- the stream
 
-client_item_reads : (offer : Version) (point : ClientPoint) → Reads (client_item offer point) (client_item_says offer point)
+pub client_item_reads : (offer : Version) (point : ClientPoint) → Reads (client_item offer point) (client_item_says offer point)
 client_item_reads offer AwaitsVersion = same_reads (client_item offer AwaitsVersion) (checked_says 12 (client_version_fault offer) (λ bytes. ProtocolVersion (version_of bytes))) (client_item_says offer AwaitsVersion) (version_same offer) (checked_reads 12 (client_version_fault offer) (λ bytes. ProtocolVersion (version_of bytes)))
 client_item_reads offer (AwaitsChoice v) = same_reads (client_item offer (AwaitsChoice v)) (checked_says 1 choice_fault (λ bytes. SecurityType)) (client_item_says offer (AwaitsChoice v)) (choice_same offer v) (checked_reads 1 choice_fault (λ bytes. SecurityType))
 client_item_reads offer (AwaitsInit v) = same_reads (client_item offer (AwaitsInit v)) (valued_says 1 (λ bytes. ClientInit (flag_at 0 bytes))) (client_item_says offer (AwaitsInit v)) (init_same offer v) (valued_reads 1 (λ bytes. ClientInit (flag_at 0 bytes)))

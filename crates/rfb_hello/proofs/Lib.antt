@@ -3,3 +3,4 @@ pub mod ClientHandshakeLaws
 pub mod ServerHandshakeLaws
 pub mod ServerStreamLaws
 pub mod ServerHelloLemmas
+pub mod AnswerLaws

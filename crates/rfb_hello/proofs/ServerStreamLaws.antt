@@ -218,7 +218,7 @@ begun_same max v w h = record { item = λ step bytes is. absurd is; fault = λ f
 
 -- ---- the stream
 
-server_item_reads : (max : ℕ) (point : ServerPoint) → Reads (server_item max point) (server_item_says max point)
+pub server_item_reads : (max : ℕ) (point : ServerPoint) → Reads (server_item max point) (server_item_says max point)
 server_item_reads max AwaitsVersion = same_reads (server_item max AwaitsVersion) (checked_says 12 text_fault (λ bytes. ProtocolVersion (version_of bytes))) (server_item_says max AwaitsVersion) (version_same max) (checked_reads 12 text_fault (λ bytes. ProtocolVersion (version_of bytes)))
 server_item_reads max (AwaitsSecurity v) = security_reads max v
 server_item_reads max (AwaitsResult v) = same_reads (server_item max (AwaitsResult v)) results_say (server_item_says max (AwaitsResult v)) (results_same max v) (then_reads (valued 4 (λ bytes. u32_at 0 bytes)) behind_result (valued_says 4 (λ bytes. u32_at 0 bytes)) result_says (valued_reads 4 (λ bytes. u32_at 0 bytes)) result_reads)

@@ -3,5 +3,6 @@ pub mod ClientHandshake
 pub mod ServerHandshake
 pub mod ServerReading
 pub mod ServerEnd
+pub mod ServerAnswers
 pub mod ServerProgress
 pub mod ServerStanding

@@ -51,3 +51,9 @@ server_tells setup point item = None
 -- the server's end: its state is where the client's bytes stand
 abbrev pub server_end : ServerSetup → Machine ClientPoint ClientPoint ClientItem HelloFault ServerStep
 server_end setup = record { grammar = client_handshake setup.offer; point = λ point. point; act = past_client_item; tells = server_tells setup }
+
+-- the bytes of an answer
+abbrev pub answer_bytes : Option ServerStep → List ℕ
+answer_bytes None = []
+answer_bytes (Some (Reply reply)) = reply.items
+answer_bytes (Some (Ready reply version shared)) = reply.items

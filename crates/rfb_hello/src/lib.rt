@@ -3,6 +3,7 @@
 
 mod fault;
 mod fed;
+pub mod law;
 mod server_hello;
 mod step;
 mod version;

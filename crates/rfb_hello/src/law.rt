@@ -1,0 +1,36 @@
+//! Laws of the handshakes, with nothing to run.
+
+ghost use Rattle.std.specs.Prelude.{ℕ, Bool, [], ◌∷◌};
+ghost use Rattle.rfb_wire.specs.Stream.{IsSpelled, IsGrammar, ReadsAll};
+ghost use Rattle.rfb_hello.specs.declared.version.Version.{Version};
+ghost use Rattle.rfb_hello.specs.Version.{version_text};
+ghost use Rattle.rfb_hello.specs.ClientHandshake.{AwaitsVersion, AwaitsChoice, AwaitsInit, ProtocolVersion, SecurityType, ClientInit, client_item_says, client_handshake};
+ghost use Rattle.rfb_hello.specs.ServerHandshake.{AwaitsVersion as AwaitsServerVersion, AwaitsSecurity, AwaitsResult, AwaitsInit as AwaitsServerInit, ProtocolVersion as ServerVersion, server_item_says};
+ghost use Rattle.rfb_hello.specs.ServerReading.{server_handshake};
+ghost use Rattle.rfb_hello.specs.ServerEnd.{ServerSetup, server_tells, answer_bytes};
+ghost use Rattle.rfb_hello.specs.ServerAnswers.{types_asked, result_asked, init_asked, IsSetup};
+
+/// A client's handshake is read as RFC 6143 has it, whatever the server offers.
+pub fn client_handshakes_are_spelled()
+    ensures stream { (offer : Version) → IsSpelled (client_handshake offer) (client_item_says offer) }
+    ensures laws { (offer : Version) → IsGrammar (client_handshake offer) }
+{}
+
+/// A server's handshake is read as RFC 6143 has it, up to whatever version the viewer goes and
+/// however many places it admits.
+pub fn server_handshakes_are_spelled()
+    ensures stream { (limit : Version) (max_places : ℕ) → IsSpelled (server_handshake limit max_places) (server_item_says max_places) }
+    ensures laws { (limit : Version) (max_places : ℕ) → IsGrammar (server_handshake limit max_places) }
+{}
+
+/// The greeting and each answer of the server's end are the items that the handshake asks next, in
+/// the server's own stream, with nothing behind them.
+pub fn answers_are_asked_next()
+    ensures greeting { (offer limit : Version) (max_places : ℕ) → ReadsAll (server_handshake limit max_places) AwaitsServerVersion (version_text offer) (ServerVersion offer ∷ []) [] }
+    ensures types { (setup : ServerSetup) (limit version : Version) (max_places : ℕ) →
+        ReadsAll (server_handshake limit max_places) (AwaitsSecurity version) (answer_bytes (server_tells setup AwaitsVersion (ProtocolVersion version))) (types_asked version) [] }
+    ensures result { (setup : ServerSetup) (limit version : Version) (max_places : ℕ) →
+        ReadsAll (server_handshake limit max_places) (AwaitsResult version) (answer_bytes (server_tells setup (AwaitsChoice version) SecurityType)) (result_asked version) [] }
+    ensures init { (setup : ServerSetup) (limit version : Version) (max_places : ℕ) (shared : Bool) → IsSetup max_places setup →
+        ReadsAll (server_handshake limit max_places) (AwaitsServerInit version) (answer_bytes (server_tells setup (AwaitsInit version) (ClientInit shared))) (init_asked setup) [] }
+{}
