@@ -4,3 +4,4 @@ pub mod ServerHandshakeLaws
 pub mod ServerStreamLaws
 pub mod ServerHelloLemmas
 pub mod AnswerLaws
+mod HandshakeFacts
