@@ -6,7 +6,7 @@ use Rattle.std.proofs.lemmas.Bool.{cases_lt, cases_eq, both_ways, or_cases, or_l
 use Rattle.std.proofs.lemmas.Nat.{leading_top, le-div, div_below, pow_pos, or_lt}
 use Rattle.std.proofs.lemmas.Nat.Bits.{bit_at-trailing_zeros, bit_at_above, bit_at-zero}
 use Rattle.rfb_picture.specs.declared.edges.Gathered.{Gathered}
-use Rattle.rfb_picture.specs.PlaceSet.{has_bit}
+use Rattle.rfb_picture.specs.Plane.{has_bit}
 use Rattle.rfb_picture.specs.Edges.{IsGathered, HasGathered}
 use Rattle.rfb_picture.proofs.WordLemmas.{has_bit-or}
 

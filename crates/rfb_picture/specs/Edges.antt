@@ -4,7 +4,7 @@ use Rattle.rfb_picture.specs.declared.rect.Rect.{Rect}
 use Rattle.rfb_picture.specs.declared.edges.Edges.{Edges}
 use Rattle.rfb_picture.specs.declared.edges.Gathered.{Gathered}
 use Rattle.rfb_picture.specs.Rect.{contains}
-use Rattle.rfb_picture.specs.PlaceSet.{has_bit}
+use Rattle.rfb_picture.specs.Plane.{has_bit}
 
 -- no marked place of the zone lies outside the edges, and each edge has one
 pub record IsEdges (p : ℕ → ℕ → Bool) (zone : Rect) (e : Edges) : Type 0 where

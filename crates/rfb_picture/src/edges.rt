@@ -2,7 +2,7 @@
 
 ghost use Rattle.std.specs.Prelude.{◌≡◌, ℕ, Bool, ◌+◌, ◌-◌, ◌*◌, ◌^◌, ◌<◌, ◌≤◌, ◌||◌, length, slice_index_or, bit_and};
 ghost use Rattle.rfb_picture.specs.Rect.{contains};
-ghost use Rattle.rfb_picture.specs.PlaceSet.{has_bit, has_place};
+ghost use Rattle.rfb_picture.specs.Plane.{has_bit, has_place};
 ghost use Rattle.rfb_picture.specs.Edges.{HasEdges, IsGathered, HasGathered};
 
 use crate::rect::Rect;
@@ -18,6 +18,19 @@ pub(crate) struct Edges {
 }
 
 impl Edges {
+    /// The edges of a rectangle, which has a place.
+    pub(crate) fn of(rect: Rect) -> Edges
+        requires { (0 < rect.w) × (0 < rect.h) }
+        ensures { result ≡ record { left = rect.x; right = rect.x + rect.w - 1; top = rect.y; bottom = rect.y + rect.h - 1 } }
+    {
+        Edges {
+            left: usize::from(rect.x),
+            right: usize::from(rect.x) + usize::from(rect.w) - 1,
+            top: usize::from(rect.y),
+            bottom: usize::from(rect.y) + usize::from(rect.h) - 1,
+        }
+    }
+
     /// The rectangle with these edges.
     pub(crate) fn rect(self) -> Rect
         requires columns { (self.left ≤ self.right) × (self.right < 65535) }
@@ -62,8 +75,8 @@ pub(crate) fn edges_in(words: &[u64], across: usize, cell: Rect) -> Option<Edges
     found
 }
 
-// The edges of two parts together.
-fn joined(a: Option<Edges>, b: Option<Edges>) -> Option<Edges>
+/// The edges of two parts together.
+pub(crate) fn joined(a: Option<Edges>, b: Option<Edges>) -> Option<Edges>
     ensures { (p : ℕ → ℕ → Bool) (first second all : _) → ((x y : ℕ) → contains all x y ≡ (contains first x y || contains second x y)) → HasEdges p first a → HasEdges p second b → HasEdges p all result }
 {
     match a {

@@ -1,5 +1,5 @@
 use Rattle.std.proofs.Common.{◌+◌, ◌*◌, slice_index_or, bit_and}
-use Rattle.rfb_picture.specs.PlaceSet.{has_bit}
+use Rattle.rfb_picture.specs.Plane.{has_bit}
 use Rattle.rfb_picture.proofs.EdgesLemmas.{edges_of_column}
 use Rattle.rfb_picture.proofs.edges.column_edges.Goals as goal
 

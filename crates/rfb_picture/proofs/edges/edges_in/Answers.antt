@@ -2,7 +2,7 @@ use Rattle.std.proofs.Common.{◌≡◌, ◌+◌, ◌*◌, ◌/◌, ◌-◌, ◌
 use Rattle.std.proofs.lemmas.Bool.{both_ways}
 use Rattle.rfb_picture.specs.declared.rect.Rect.{Rect}
 use Rattle.rfb_picture.specs.Rect.{contains}
-use Rattle.rfb_picture.specs.PlaceSet.{has_bit, has_place}
+use Rattle.rfb_picture.specs.Plane.{has_bit, has_place}
 use Rattle.rfb_picture.proofs.EdgesLemmas.{same_edges}
 use Rattle.rfb_picture.proofs.BoxLemmas.{zone_of, zone_more, zone_empty, zone_done, column_marks}
 use Rattle.rfb_picture.proofs.edges.edges_in.Goals as goal

@@ -1,6 +1,6 @@
 use Rattle.std.proofs.Common.{◌/◌, ◌*◌, ◌-◌, ◌&&◌}
 use Rattle.rfb_picture.specs.Rect.{contains}
-use Rattle.rfb_picture.specs.PlaceSet.{has_place}
+use Rattle.rfb_picture.specs.Plane.{has_place}
 use Rattle.rfb_picture.specs.Edges.{HasEdges}
 use Rattle.rfb_picture.proofs.edges.edges_in.Given as goal
 

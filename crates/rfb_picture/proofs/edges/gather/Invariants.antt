@@ -1,5 +1,5 @@
 use Rattle.std.proofs.Common.{◌+◌, ◌*◌, slice_index_or, bit_and}
-use Rattle.rfb_picture.specs.PlaceSet.{has_bit}
+use Rattle.rfb_picture.specs.Plane.{has_bit}
 use Rattle.rfb_picture.specs.Edges.{HasGathered}
 use Rattle.rfb_picture.proofs.edges.gather.Given as goal
 
