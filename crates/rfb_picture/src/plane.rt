@@ -1,6 +1,6 @@
 //! A mark for each place of a picture, or for each of its cells.
 
-ghost use Rattle.std.specs.Prelude.{◌≡◌, ◌+◌, ◌*◌, ◌<◌, false, true, IfOk};
+ghost use Rattle.std.specs.Prelude.{◌≡◌, ◌+◌, ◌*◌, ◌/◌, ◌<◌, ◌≤◌, false, true, IfOk};
 
 use crate::edges::{Edges, edges_in};
 use crate::rect::Rect;
@@ -88,10 +88,12 @@ impl Plane {
         word >> (x % 64) & 1 == 1
     }
 
-    /// The edges of the marked places of the zone, which lies in the rectangle; `None` where none is
-    /// marked.
+    /// The edges of the marked places of the zone, which lies in one column of cells; `None` where none
+    /// is marked.
     pub(crate) fn edges_in(&self, zone: Rect) -> Option<Edges>
-        requires { Holds self.now zone }
+        requires room { Holds self.now zone }
+        requires some { 0 < zone.w }
+        requires column { zone.x + zone.w ≤ zone.x / 64 * 64 + 64 }
         ensures { HasEdges (is_in self.now) zone result }
     {
         edges_in(&self.words, self.across, zone)

@@ -6,7 +6,7 @@ ghost use Rattle.rfb_picture.specs.Edges.{HasEdges};
 ghost use Rattle.rfb_picture.specs.PlaceSet.{in_set, IsLayers};
 
 use super::layers::Layers;
-use super::parts::{in_column, in_row};
+use super::parts::{in_column, in_row, is_of_one_cell};
 use crate::edges::{Edges, joined};
 use crate::rect::Rect;
 
@@ -17,6 +17,9 @@ impl Layers {
         requires room { Holds self.now.places zone }
         ensures { HasEdges (in_set self.now) zone result }
     {
+        if is_of_one_cell(zone) {
+            return self.edges_in_cell(zone);
+        }
         let mut found = None;
         for column in zone.x / 64..(zone.x + zone.w).div_ceil(64) {
             let here = self.edges_in_column(in_column(zone, column));

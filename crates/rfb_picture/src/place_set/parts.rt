@@ -1,6 +1,6 @@
 //! Rectangles by cells: which a rectangle has whole, what lies about them, which it touches.
 
-ghost use Rattle.std.specs.Prelude.{◌≡◌, ℕ, ◌+◌, ◌*◌, ◌/◌, ◌<◌, ◌≤◌};
+ghost use Rattle.std.specs.Prelude.{◌≡◌, ◌↔◌, IsTrue, ℕ, ◌+◌, ◌*◌, ◌/◌, ◌<◌, ◌≤◌};
 ghost use Rattle.rfb_picture.specs.Cells.{in_span, is_whole, touched, in_column, in_row, IsOfCells, IsParts};
 
 use crate::rect::Rect;
@@ -92,6 +92,15 @@ pub(super) fn cells_of(rect: Rect) -> Rect
         w: (rect.x + rect.w).div_ceil(64) - column,
         h: (rect.y + rect.h).div_ceil(64) - row,
     }
+}
+
+/// Whether the zone's places are all of one cell.
+pub(super) fn is_of_one_cell(zone: Rect) -> bool
+    ensures { IsTrue result
+        ↔ (zone.x + zone.w ≤ zone.x / 64 * 64 + 64) × (zone.y + zone.h ≤ zone.y / 64 * 64 + 64) }
+{
+    u32::from(zone.x % 64) + u32::from(zone.w) <= 64
+        && u32::from(zone.y % 64) + u32::from(zone.h) <= 64
 }
 
 /// The zone's part in that column of cells.

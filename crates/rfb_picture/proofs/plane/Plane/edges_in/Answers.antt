@@ -7,7 +7,7 @@ edges_in-requires-clause-small c = let least = c.self.invariant.least in let nar
 
 pub returns : goal.returns
 returns c =
-    let room = rw (← c.self.view_is) at c.requires in
+    let room = rw (← c.self.view_is) at c.requires.room in
     let found = rw c.deref.ensures.value at c.edges_in.ensures in
     rw (← c.self.view_is)
     (edges-plane c.self.inside.width c.self.inside.height c.self.inside.across c.self.inside.words.items c.args.zone c.edges_in.result room found)
