@@ -110,11 +110,7 @@ impl PlaceSet {
         ensures width { self.new.width ≡ self.old.width }
         ensures height { self.new.height ≡ self.old.height }
     {
-        let parts = parts_of(
-            rect,
-            self.layers.places.width(),
-            self.layers.places.height(),
-        );
+        let parts = parts_of(rect, self.width(), self.height());
         self.add_cells(parts.inner);
         self.add_part(parts.above);
         self.add_part(parts.below);
