@@ -1,11 +1,10 @@
 -- Bits of words one above the other, put together: which columns have one, and the first and last row.
-use Rattle.std.proofs.Common.{ℕ, suc, Bool, true, false, Option, Some, None, ◌≡◌, ◌+◌, ◌-◌, ◌*◌, ◌/◌, ◌^◌, ◌<◌, ◌≤◌, refl, sym, ◌∙◌, arith, bit_and, List, slice_index_or, inl, inr}
+use Rattle.std.proofs.Common.{ℕ, suc, Bool, true, false, ◌≡◌, ◌+◌, ◌-◌, ◌*◌, ◌/◌, ◌^◌, ◌<◌, ◌≤◌, refl, arith, bit_and, List, slice_index_or, inl, inr}
 use Rattle.std.specs.Int.{w64, trailing_zeros, leading_zeros}
 use Rattle.std.proofs.Math.Nat.{one-mul, pow-suc}
-use Rattle.std.proofs.lemmas.Bool.{cases_lt, cases_eq, both_ways, or_cases, or_left, or_right}
-use Rattle.std.proofs.lemmas.Nat.{leading_top, le-div, div_below, pow_pos, or_lt}
+use Rattle.std.proofs.lemmas.Bool.{cases_lt, cases_eq, both_ways}
+use Rattle.std.proofs.lemmas.Nat.{leading_top, le-div, div_below, pow_pos}
 use Rattle.std.proofs.lemmas.Nat.Bits.{bit_at-trailing_zeros, bit_at_above, bit_at-zero}
-use Rattle.rfb_picture.specs.declared.edges.Gathered.{Gathered}
 use Rattle.rfb_picture.specs.Plane.{has_bit, has_masked}
 use Rattle.rfb_picture.specs.Edges.{HasMark, IsFirstRow, IsLastRow, IsGathered}
 use Rattle.rfb_picture.proofs.WordLemmas.{has_bit-and}

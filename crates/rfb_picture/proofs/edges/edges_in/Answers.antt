@@ -1,4 +1,3 @@
-use Rattle.std.proofs.Common.{◌*◌, ◌/◌}
 use Rattle.rfb_picture.proofs.BoxLemmas.{word_none, word_some}
 use Rattle.rfb_picture.proofs.edges.edges_in.Goals as goal
 
