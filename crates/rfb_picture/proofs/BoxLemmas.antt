@@ -1,80 +1,110 @@
 -- The edges of a cell's marked places from those of its columns of words, and the least rectangle.
-use Rattle.std.proofs.Common.{ℕ, List, Bool, true, false, Option, Some, None, ◌≡◌, ◌+◌, ◌-◌, ◌*◌, ◌/◌, ◌%◌, ◌<◌, ◌≤◌, ◌&&◌, ◌||◌, refl, arith, slice_index_or, nat_le, nat_lt, bit_and, inl, inr}
+use Rattle.std.proofs.Common.{ℕ, List, Bool, true, false, Option, Some, None, ◌≡◌, ◌+◌, ◌-◌, ◌*◌, ◌/◌, ◌%◌, ◌<◌, ◌≤◌, ◌&&◌, refl, arith, nat_le, nat_lt, inl, inr}
 use Rattle.std.proofs.lemmas.Bool.{both_ways, and_parts, and_cases, and_from}
 use Rattle.std.proofs.lemmas.Bool.Decides.{nat_tests}
 use Rattle.rfb_picture.specs.declared.rect.Rect.{Rect}
 use Rattle.rfb_picture.specs.declared.edges.Edges.{Edges}
+use Rattle.rfb_picture.specs.declared.edges.Gathered.{Gathered}
+use Rattle.std.specs.Int.{w64, trailing_zeros, leading_zeros}
 use Rattle.rfb_picture.specs.Rect.{contains}
-use Rattle.rfb_picture.specs.PlaceSet.{has_bit, has_place}
+use Rattle.rfb_picture.specs.Plane.{has_bit, has_place, has_masked}
 use Rattle.rfb_picture.specs.Box.{IsClear, IsBox}
-use Rattle.rfb_picture.specs.Edges.{IsEdges, HasEdges}
+use Rattle.rfb_picture.specs.Edges.{IsEdges, HasEdges, NoMarks, IsGathered}
 use Rattle.rfb_picture.proofs.GridLemmas.{contains_true}
-use Rattle.rfb_picture.proofs.WordLemmas.{has_bit-and}
-use Rattle.rfb_picture.proofs.EdgesLemmas.{contains_from}
+use Rattle.rfb_picture.proofs.EdgesLemmas.{contains_from, same_edges, edges_of_column}
 
--- ---- columns of words
+-- ---- a column of words
 
--- a zone of whole columns of words: those from the first up to another, in the cell's rows
-abbrev pub zone_of : Rect → ℕ → ℕ → Rect
-zone_of cell first column = record { x = first * 64; y = cell.y; w = (column - first) * 64; h = cell.h }
+-- its words' places in the rows of a zone
+abbrev pub word_zone : Rect → ℕ → Rect
+word_zone zone column = record { x = column * 64; y = zone.y; w = 64; h = zone.h }
 
--- with one column more
-pub zone_more : (cell : Rect) (first column x y : ℕ) →
-    first ≤ column →
-    contains (zone_of cell first (column + 1)) x y ≡ (contains (zone_of cell first column) x y || contains (record { x = column * 64; y = cell.y; w = 64; h = cell.h }) x y)
-zone_more cell first column x y p = grind (arith, nat_tests)
-
--- with no column
-pub zone_empty : (cell : Rect) (first x y : ℕ) → contains (zone_of cell first first) x y ≡ false
-zone_empty cell first x y = grind (arith, nat_tests)
-
--- a marked place of a column, as a place of the cell
-pub column_marks : (words : List ℕ) (across column mask : ℕ) (cell : Rect) (x y : ℕ) →
-    ((i : ℕ) → i < 64 → has_bit mask i ≡ (nat_le cell.x (column * 64 + i) && nat_lt (column * 64 + i) (cell.x + cell.w))) →
-    contains (record { x = column * 64; y = cell.y; w = 64; h = cell.h }) x y ≡ true →
-    has_bit (bit_and (slice_index_or words (y * across + column) 0) mask) (x - column * 64) ≡ (has_place words across x y && contains cell x y)
-column_marks words across column mask cell x y is c =
-    let (x0, x1, y0, y1) = contains_true (record { x = column * 64; y = cell.y; w = 64; h = cell.h }) x y c in
+-- a mark that a mask leaves there, as a place of the zone
+pub word_marks : (words : List ℕ) (across column mask : ℕ) (zone : Rect) (x y : ℕ) →
+    ((i : ℕ) → i < 64 → has_bit mask i ≡ (nat_le zone.x (column * 64 + i) && nat_lt (column * 64 + i) (zone.x + zone.w))) →
+    contains (word_zone zone column) x y ≡ true →
+    has_masked words across column mask y (x - column * 64) ≡ (has_place words across x y && contains zone x y)
+word_marks words across column mask zone x y is c =
+    let (x0, x1, y0, y1) = contains_true (word_zone zone column) x y c in
     let e : column * 64 + (x - column * 64) ≡ x = omega arith in
     let word : x / 64 ≡ column = omega arith in
     let bit : x % 64 ≡ x - column * 64 = omega arith in
     let masked = rw e at (is (x - column * 64) (omega arith)) in
-    let inside : contains cell x y ≡ (nat_le cell.x x && nat_lt x (cell.x + cell.w)) = grind (arith, nat_tests) in
-    rw (word, bit, has_bit-and, masked, inside) refl
+    let inside : contains zone x y ≡ (nat_le zone.x x && nat_lt x (zone.x + zone.w)) = grind (arith, nat_tests) in
+    rw (word, bit, masked, inside) refl
 
-zone_holds : (cell : Rect) (column x y : ℕ) →
-    cell.x + cell.w ≤ column * 64 → contains cell x y ≡ true → contains (zone_of cell (cell.x / 64) column) x y ≡ true
-zone_holds cell column x y done c =
-    let (x0, x1, y0, y1) = contains_true cell x y c in
-    contains_from (zone_of cell (cell.x / 64) column) x y (omega arith) (omega arith) y0 y1
+-- a zone of that column has its places there
+pub word_holds : (zone : Rect) (x y : ℕ) →
+    zone.x + zone.w ≤ zone.x / 64 * 64 + 64 →
+    contains zone x y ≡ true →
+    contains (word_zone zone (zone.x / 64)) x y ≡ true
+word_holds zone x y one c =
+    let (x0, x1, y0, y1) = contains_true zone x y c in
+    contains_from (word_zone zone (zone.x / 64)) x y (omega arith) (omega arith) y0 y1
 
--- all columns that the cell reaches have all its marked places
-pub zone_done : (p : ℕ → ℕ → Bool) (cell : Rect) (column : ℕ) (found : Option Edges) →
-    cell.x + cell.w ≤ column * 64 →
-    HasEdges (λ x y. p x y && contains cell x y) (zone_of cell (cell.x / 64) column) found →
-    HasEdges p cell found
-zone_done p cell column None done was =
+-- ---- a part of a rectangle
+
+-- the edges of those marked places that lie in the part are the part's
+pub edges_of_part : (p : ℕ → ℕ → Bool) (all part : Rect) (found : Option Edges) →
+    ((x y : ℕ) → contains part x y ≡ true → contains all x y ≡ true) →
+    HasEdges (λ x y. p x y && contains part x y) all found →
+    HasEdges p part found
+edges_of_part p all part None within was =
     λ x y c.
-    elim (and_cases (p x y) (contains cell x y) (was x y (zone_holds cell column x y done c))) [
+    elim (and_cases (p x y) (contains part x y) (was x y (within x y c))) [
       | inl e ↦ e
-      | inr e ↦ absurd (both_ways (contains cell x y) e c)
+      | inr e ↦ absurd (both_ways (contains part x y) e c)
     ]
-zone_done p cell column (Some e) done was =
+edges_of_part p all part (Some e) within was =
     let (y0, in0, m0) = was.at_left in
     let (y1, in1, m1) = was.at_right in
     let (x0, in2, m2) = was.at_top in
     let (x1, in3, m3) = was.at_bottom in
-    let left = and_parts (p e.left y0) (contains cell e.left y0) m0 in
-    let right = and_parts (p e.right y1) (contains cell e.right y1) m1 in
-    let top = and_parts (p x0 e.top) (contains cell x0 e.top) m2 in
-    let bottom = and_parts (p x1 e.bottom) (contains cell x1 e.bottom) m3 in
+    let left = and_parts (p e.left y0) (contains part e.left y0) m0 in
+    let right = and_parts (p e.right y1) (contains part e.right y1) m1 in
+    let top = and_parts (p x0 e.top) (contains part x0 e.top) m2 in
+    let bottom = and_parts (p x1 e.bottom) (contains part x1 e.bottom) m3 in
     record {
-      holds = λ x y c m. was.holds x y (zone_holds cell column x y done c) (and_from (p x y) (contains cell x y) m c);
+      holds = λ x y c m. was.holds x y (within x y c) (and_from (p x y) (contains part x y) m c);
       at_left = (y0, left.1, left.0);
       at_right = (y1, right.1, right.0);
       at_top = (x0, top.1, top.0);
       at_bottom = (x1, bottom.1, bottom.0);
     }
+
+-- ---- a zone of one column of words
+
+-- where a mask leaves no mark, the zone has none
+pub word_none : (words : List ℕ) (across mask : ℕ) (zone : Rect) (x y : ℕ) →
+    ((i : ℕ) → i < 64 → has_bit mask i ≡ (nat_le zone.x (zone.x / 64 * 64 + i) && nat_lt (zone.x / 64 * 64 + i) (zone.x + zone.w))) →
+    zone.x + zone.w ≤ zone.x / 64 * 64 + 64 →
+    NoMarks (has_masked words across (zone.x / 64) mask) zone.y (zone.y + zone.h) →
+    contains zone x y ≡ true →
+    has_place words across x y ≡ false
+word_none words across mask zone x y is one none c =
+    let there = word_holds zone x y one c in
+    let (x0, x1, y0, y1) = contains_true (word_zone zone (zone.x / 64)) x y there in
+    let empty = none y (x - zone.x / 64 * 64) y0 y1 (omega arith) in
+    let both = rw (word_marks words across (zone.x / 64) mask zone x y is there) at empty in
+    elim (and_cases (has_place words across x y) (contains zone x y) both) [
+      | inl e ↦ e
+      | inr e ↦ absurd (both_ways (contains zone x y) e c)
+    ]
+
+-- else what was gathered of its words has its edges
+pub word_some : (words : List ℕ) (across mask : ℕ) (zone : Rect) (g : Gathered) →
+    ((i : ℕ) → i < 64 → has_bit mask i ≡ (nat_le zone.x (zone.x / 64 * 64 + i) && nat_lt (zone.x / 64 * 64 + i) (zone.x + zone.w))) →
+    zone.x + zone.w ≤ zone.x / 64 * 64 + 64 →
+    IsGathered (has_masked words across (zone.x / 64) mask) zone.y (zone.y + zone.h) g →
+    IsEdges (has_place words across) zone (record { left = zone.x / 64 * 64 + trailing_zeros w64 g.bits; right = zone.x / 64 * 64 + 63 - leading_zeros w64 g.bits; top = g.top; bottom = g.bottom })
+word_some words across mask zone g is one found =
+    let high : zone.y + zone.h - zone.y ≡ zone.h = omega arith in
+    let edges : Edges = record { left = zone.x / 64 * 64 + trailing_zeros w64 g.bits; right = zone.x / 64 * 64 + 63 - leading_zeros w64 g.bits; top = g.top; bottom = g.bottom } in
+    let column = rw high at (edges_of_column (has_masked words across (zone.x / 64) mask) (zone.x / 64 * 64) zone.y (zone.y + zone.h) g found) in
+    edges_of_part (has_place words across) (word_zone zone (zone.x / 64)) zone (Some edges) (λ x y c. word_holds zone x y one c)
+    (same_edges (λ x y. has_masked words across (zone.x / 64) mask y (x - zone.x / 64 * 64)) (λ x y. has_place words across x y && contains zone x y) (word_zone zone (zone.x / 64)) (Some edges)
+    (λ x y c. word_marks words across (zone.x / 64) mask zone x y is c)
+    column)
 
 -- ---- the least rectangle
 

@@ -1,14 +1,13 @@
 -- Bits of words one above the other, put together: which columns have one, and the first and last row.
-use Rattle.std.proofs.Common.{ℕ, suc, Bool, true, false, Option, Some, None, ◌≡◌, ◌+◌, ◌-◌, ◌*◌, ◌/◌, ◌^◌, ◌<◌, ◌≤◌, refl, sym, ◌∙◌, arith, bit_or, inl, inr}
+use Rattle.std.proofs.Common.{ℕ, suc, Bool, true, false, ◌≡◌, ◌+◌, ◌-◌, ◌*◌, ◌/◌, ◌^◌, ◌<◌, ◌≤◌, refl, arith, bit_and, List, slice_index_or, inl, inr}
 use Rattle.std.specs.Int.{w64, trailing_zeros, leading_zeros}
 use Rattle.std.proofs.Math.Nat.{one-mul, pow-suc}
-use Rattle.std.proofs.lemmas.Bool.{cases_lt, cases_eq, both_ways, or_cases, or_left, or_right}
-use Rattle.std.proofs.lemmas.Nat.{leading_top, le-div, div_below, pow_pos, or_lt}
+use Rattle.std.proofs.lemmas.Bool.{cases_lt, cases_eq, both_ways}
+use Rattle.std.proofs.lemmas.Nat.{leading_top, le-div, div_below, pow_pos}
 use Rattle.std.proofs.lemmas.Nat.Bits.{bit_at-trailing_zeros, bit_at_above, bit_at-zero}
-use Rattle.rfb_picture.specs.declared.edges.Gathered.{Gathered}
-use Rattle.rfb_picture.specs.PlaceSet.{has_bit}
-use Rattle.rfb_picture.specs.Edges.{IsGathered, HasGathered}
-use Rattle.rfb_picture.proofs.WordLemmas.{has_bit-or}
+use Rattle.rfb_picture.specs.Plane.{has_bit, has_masked}
+use Rattle.rfb_picture.specs.Edges.{HasMark, IsFirstRow, IsLastRow, IsGathered}
+use Rattle.rfb_picture.proofs.WordLemmas.{has_bit-and}
 
 -- ---- one word
 
@@ -71,84 +70,49 @@ last_bit n some small =
 
 -- ---- words one above the other
 
--- the first row with a bit
-pub gathered_first : (q : ℕ → ℕ → Bool) (from row word : ℕ) →
-    0 < word →
-    word < 2 ^ 64 →
-    from ≤ row →
-    ((i : ℕ) → i < 64 → q row i ≡ has_bit word i) →
-    ((y i : ℕ) → from ≤ y → y < row → i < 64 → q y i ≡ false) →
-    IsGathered q from (row + 1) (record { bits = word; top = row; bottom = row })
-gathered_first q from row word some small start is clear =
-    let first = first_bit word some small in
-    let there : q row (trailing_zeros w64 word) ≡ true = is (trailing_zeros w64 word) first.0 ∙ first.1 in
+-- what a mask leaves of a word is a mark of its row
+pub some_masked : (words : List ℕ) (across column mask row : ℕ) →
+    (bit_and (slice_index_or words (row * across + column) 0) mask ≡ 0 → ⊥) →
+    bit_and (slice_index_or words (row * across + column) 0) mask < 2 ^ 64 →
+    HasMark (has_masked words across column mask) row
+some_masked words across column mask row some small =
+    let word = slice_index_or words (row * across + column) 0 in
+    let first = first_bit (bit_and word mask) (omega arith) small in
+    let i = trailing_zeros w64 (bit_and word mask) in
+    (i, first.0, rw has_bit-and at first.1)
+
+-- where it leaves nothing, there is none
+pub none_masked : (words : List ℕ) (across column mask row i : ℕ) →
+    bit_and (slice_index_or words (row * across + column) 0) mask ≡ 0 → has_masked words across column mask row i ≡ false
+none_masked words across column mask row i none =
+    let zero : has_bit (bit_and (slice_index_or words (row * across + column) 0) mask) i ≡ false = rw (none, bit_at-zero i) refl in
+    rw has_bit-and at zero
+
+-- the bits of the rows from the first that has one to the last are those of all rows
+pub gathered : (q : ℕ → ℕ → Bool) (from to first last bits : ℕ) →
+    IsFirstRow q from to first →
+    IsLastRow q first to last →
+    bits < 2 ^ 64 →
+    ((y i : ℕ) → first ≤ y → y < last + 1 → q y i ≡ true → has_bit bits i ≡ true) →
+    ((i : ℕ) → has_bit bits i ≡ true → (y : ℕ) × (first ≤ y) × (y < last + 1) × (q y i ≡ true)) →
+    IsGathered q from to (record { bits = bits; top = first; bottom = last })
+gathered q from to first last bits is_first is_last small each some =
+    let (i, a, b) = is_first.here in
+    let (j, d, e) = is_last.here in
+    let start = is_first.above in
+    let order = is_last.above in
+    let end = is_last.below in
     record {
       small = small;
-      each = λ y i p l m e.
-          elim (cases_eq y row) [
-            | inl same ↦ (sym (is i m) ∙ (rw same at e), omega arith, omega arith)
-            | inr other ↦ absurd (both_ways (q y i) (clear y i p (omega arith) m) e)
+      each = λ y k p l m h.
+          elim (cases_lt y first) [
+            | inl above ↦ absurd (both_ways (q y k) (is_first.none y k p above m) h)
+            | inr under ↦ elim (cases_lt last y) [
+              | inl below ↦ absurd (both_ways (q y k) (is_last.none y k (omega arith) l m) h)
+              | inr within ↦ (each y k under (omega arith) h, under, within)
+            ]
           ];
-      some = λ i m e. (row, start, omega arith, is i m ∙ e);
-      at_top = (trailing_zeros w64 word, start, omega arith, first.0, there);
-      at_bottom = (trailing_zeros w64 word, start, omega arith, first.0, there);
-    }
-
--- and one row more with a bit
-pub gathered_more : (q : ℕ → ℕ → Bool) (from row word : ℕ) (g : Gathered) →
-    0 < word →
-    word < 2 ^ 64 →
-    from ≤ row →
-    ((i : ℕ) → i < 64 → q row i ≡ has_bit word i) →
-    IsGathered q from row g →
-    IsGathered q from (row + 1) (record { bits = bit_or g.bits word; top = g.top; bottom = row })
-gathered_more q from row word g some small start is above =
-    let first = first_bit word some small in
-    let there : q row (trailing_zeros w64 word) ≡ true = is (trailing_zeros w64 word) first.0 ∙ first.1 in
-    let top = above.at_top in
-    let over = top.2 in
-    record {
-      small = or_lt 64 g.bits word above.small small;
-      each = λ y i p l m e.
-          elim (cases_eq y row) [
-            | inl same ↦
-                let here : has_bit word i ≡ true = sym (is i m) ∙ (rw same at e) in
-                (rw has_bit-or (or_right (has_bit g.bits i) (has_bit word i) here), omega arith, omega arith)
-            | inr other ↦
-                let was = above.each y i p (omega arith) m e in
-                (rw has_bit-or (or_left (has_bit g.bits i) (has_bit word i) was.0), was.1, omega arith)
-          ];
-      some = λ i m e.
-          elim (or_cases (has_bit g.bits i) (has_bit word i) (rw has_bit-or at e)) [
-            | inl old ↦ let was = above.some i m old in (was.0, was.1, omega (arith, was.2), was.3)
-            | inr here ↦ (row, start, omega arith, is i m ∙ here)
-          ];
-      at_top = (top.0, top.1, omega arith, top.3, top.4);
-      at_bottom = (trailing_zeros w64 word, start, omega arith, first.0, there);
-    }
-
--- a row with no bit
-pub gathered_same : (q : ℕ → ℕ → Bool) (from row : ℕ) (found : Option Gathered) →
-    ((i : ℕ) → i < 64 → q row i ≡ false) → HasGathered q from row found → HasGathered q from (row + 1) found
-gathered_same q from row None none was =
-    λ y i p l m.
-    elim (cases_eq y row) [
-      | inl same ↦ rw same (none i m)
-      | inr other ↦ was y i p (omega arith) m
-    ]
-gathered_same q from row (Some g) none was =
-    let top = was.at_top in
-    let over = top.2 in
-    let bottom = was.at_bottom in
-    let under = bottom.2 in
-    record {
-      small = was.small;
-      each = λ y i p l m e.
-          elim (cases_eq y row) [
-            | inl same ↦ absurd (both_ways (q row i) (none i m) (rw same at e))
-            | inr other ↦ was.each y i p (omega arith) m e
-          ];
-      some = λ i m e. let here = was.some i m e in (here.0, here.1, omega (arith, here.2), here.3);
-      at_top = (top.0, top.1, omega arith, top.3, top.4);
-      at_bottom = (bottom.0, bottom.1, omega arith, bottom.3, bottom.4);
+      some = λ k m h. let (y, p, l, t) = some k h in (y, omega arith, omega arith, t);
+      at_top = (i, start, omega arith, a, b);
+      at_bottom = (j, omega arith, end, d, e);
     }

@@ -1,7 +1,9 @@
 pub mod GridLemmas
 pub mod CopyLemmas
 pub mod LoanLemmas
+pub mod PlaneLemmas
 pub mod PlaceSetLemmas
+pub mod CellLemmas
 pub mod WordLemmas
 pub mod GatherLemmas
 pub mod EdgesLemmas

@@ -1,128 +1,327 @@
--- What a set of places says of each place, from the words that it is made of.
-use Rattle.std.proofs.Common.{ℕ, List, Bool, true, false, ◌≡◌, ◌+◌, ◌-◌, ◌*◌, ◌/◌, ◌%◌, ◌<◌, length, replicate, refl, sym, ◌∙◌, arith, slice_index_or, inl, inr, Option, subst, ◌||◌, if◌then◌else◌, take, [], ◌++◌}
-use Rattle.std.proofs.Math.Nat.{sub-zero}
-use Rattle.std.proofs.lemmas.List.{get_or-replicate, get_or_past, take_all, length-replicate}
-use Rattle.std.proofs.lemmas.Nat.Bits.{bit_at-zero}
-use Rattle.std.proofs.lemmas.Bool.{cases_lt}
-use Rattle.std.proofs.lemmas.Nat.{rows, div-add-mod', mod_below}
-use Rattle.rfb_picture.specs.declared.edges.Edges.{Edges}
-use Rattle.rfb_picture.specs.Box.{is_in}
-use Rattle.rfb_picture.specs.Edges.{HasEdges}
-use Rattle.rfb_picture.proofs.EdgesLemmas.{same_edges}
-use Rattle.rfb_picture.specs.Grid.{Grid, IsGrid, Holds, at_or, changed, filled, uniform}
+-- What a set of places says of each place, from the marks of its places and of its cells.
+use Rattle.std.proofs.Common.{ℕ, Bool, true, false, ◌≡◌, ◌/◌, ◌^◌, ◌<◌, ◌≤◌, ◌&&◌, ◌||◌, refl, sym, ◌∙◌, arith, if◌then◌else◌, inl, inr, ◌⊎◌}
+use Rattle.std.proofs.lemmas.Bool.{cases_Bool, both_ways, or_cases, false≢true}
+use Rattle.std.proofs.lemmas.Bool.Decides.{nat_tests}
 use Rattle.rfb_picture.specs.declared.rect.Rect.{Rect}
+use Rattle.rfb_picture.specs.declared.place_set.layers.Layers.{Layers}
+use Rattle.rfb_picture.specs.declared.place_set.parts.Parts.{Parts}
 use Rattle.rfb_picture.specs.Rect.{contains}
-use Rattle.rfb_picture.specs.PlaceSet.{has_at, has_place, plane, IsPlane}
-use Rattle.rfb_picture.proofs.GridLemmas.{contains_true, at-changed, width-changed, height-changed, length-changed, whole-changed, width-uniform, height-uniform, whole-uniform, at-uniform, at-filled, same_grid}
+use Rattle.rfb_picture.specs.Grid.{Grid, IsGrid, at_or, filled, uniform}
+use Rattle.rfb_picture.specs.Box.{is_in}
+use Rattle.rfb_picture.specs.Cells.{cells_in, cell_at, one_cell, touched, IsOfCells}
+use Rattle.rfb_picture.specs.PlaceSet.{in_set, layered, IsLayers, IsOpened}
+use Rattle.rfb_picture.proofs.GridLemmas.{contains_true, width-changed, height-changed, whole-changed, whole-uniform, width-uniform, height-uniform, at-uniform, at-filled, changed_twice, same_changes, same_grid}
+use Rattle.rfb_picture.proofs.PlaneLemmas.{whole-marked, at-marked, marked_is}
+use Rattle.rfb_picture.proofs.EdgesLemmas.{contains_from}
 
--- ---- the grid that words make
+-- ---- places and their cells
 
--- it has a value for each place
-pub whole-plane : (w h across : ℕ) (words : List ℕ) → IsGrid (plane w h across words)
-whole-plane w h across words =
-    length-changed _ (uniform w h false) ∙ (rw (whole-uniform w h false, width-uniform, height-uniform) refl)
+-- the cell of a place is one
+pub cell_below : (x w n : ℕ) → n ≡ cells_in w → x < w → x / 64 < n
+cell_below x w n e p = omega arith
 
--- which is whether the place is in the set
-pub at-plane : (w h across : ℕ) (words : List ℕ) (x y : ℕ) (d : Bool) →
-    x < w → y < h → at_or (plane w h across words) x y d ≡ has_place words across x y
-at-plane w h across words x y d p q =
-    let f : ℕ → ℕ → Bool → Bool = λ i j _. has_place words across i j in
-    let wide : x < (uniform w h false).width = rw width-uniform p in
-    let high : y < (uniform w h false).height = rw height-uniform q in
-    let P : ℕ → Type 0 = λ n. slice_index_or (changed f (uniform w h false)).places (y * n + x) d ≡ has_place words across x y in
-    subst P (width-changed f (uniform w h false) ∙ width-uniform w h false) (at-changed f (uniform w h false) x y d (whole-uniform w h false) wide high)
-
--- a grid that says the same of each place is the one that the words make
-pub plane_is : (w h across : ℕ) (words : List ℕ) (g : Grid Bool) →
+-- a grid that says the same of each place is what the marks say
+pub layered_is : (l : Layers) (g : Grid Bool) →
     IsGrid g →
-    g.width ≡ w →
-    g.height ≡ h →
-    ((x y : ℕ) (d : Bool) → x < w → y < h → has_place words across x y ≡ at_or g x y d) →
-    plane w h across words ≡ g
-plane_is w h across words g whole wide high each =
-    same_grid (plane w h across words) g (whole-plane w h across words) whole (sym wide) (sym high)
-    (λ x y d p q. at-plane w h across words x y d p q ∙ each x y d p q)
+    g.width ≡ l.places.width →
+    g.height ≡ l.places.height →
+    ((x y : ℕ) (d : Bool) → x < l.places.width → y < l.places.height → in_set l x y ≡ at_or g x y d) →
+    layered l ≡ g
+layered_is l g whole wide high each = marked_is l.places.width l.places.height (in_set l) g whole wide high each
 
--- a word of a list of zeros is 0
-zero_there : (n i : ℕ) → slice_index_or (replicate {A = ℕ} n 0) i 0 ≡ 0
-zero_there n i =
-    elim (cases_lt i n) [
-      | inl l ↦ get_or-replicate n i 0 0 l
-      | inr l ↦ get_or_past (replicate n 0) i 0 (rw length-replicate l)
-    ]
+-- what the marks say of a place
+pub at-layered : (l : Layers) (x y : ℕ) (d : Bool) →
+    x < l.places.width → y < l.places.height → at_or (layered l) x y d ≡ in_set l x y
+at-layered l x y d p q = at-marked l.places.width l.places.height (in_set l) x y d p q
 
--- the words of a new set
-pub resized_zeros : (n len : ℕ) (old new : List ℕ) →
-    new ≡ take n old ++ replicate (n - len) 0 → old ≡ [] → len ≡ 0 → new ≡ replicate n 0
-resized_zeros n len old new e none no_len = rw (e, none, no_len, take_all {A = ℕ} n [] (omega arith), sub-zero) refl
+pub whole-layered : (l : Layers) → IsGrid (layered l)
+whole-layered l = whole-marked l.places.width l.places.height (in_set l)
 
--- words that are all 0 make the set with no place
-pub plane-zeros : (w h across n : ℕ) → plane w h across (replicate n 0) ≡ uniform w h false
-plane-zeros w h across n =
-    plane_is w h across (replicate n 0) (uniform w h false) (whole-uniform w h false) (width-uniform w h false) (height-uniform w h false)
+-- marks of the same sizes
+pub same_sizes : (l m : Layers) →
+    IsLayers l →
+    m.places.width ≡ l.places.width →
+    m.places.height ≡ l.places.height →
+    m.full.width ≡ l.full.width →
+    m.full.height ≡ l.full.height →
+    m.used.width ≡ l.used.width →
+    m.used.height ≡ l.used.height →
+    IsGrid m.places →
+    IsGrid m.full →
+    IsGrid m.used →
+    IsLayers m
+same_sizes l m sound a b c d e f places full used = record {
+  narrow = rw a sound.narrow;
+  low = rw b sound.low;
+  all_places = places;
+  all_full = full;
+  all_used = used;
+  full_wide = rw (c, a) sound.full_wide;
+  full_high = rw (d, b) sound.full_high;
+  used_wide = rw (e, a) sound.used_wide;
+  used_high = rw (f, b) sound.used_high;
+}
+
+-- ---- no place
+
+pub uniform_none : (g : Grid Bool) (w h i j : ℕ) →
+    g ≡ uniform w h false → i < w → j < h → is_in g i j ≡ false
+uniform_none g w h i j e p q = rw e (at-uniform w h false i j false p q)
+
+-- where no cell is full or used, the set has no place
+pub layered-none : (l : Layers) →
+    IsLayers l →
+    ((i j : ℕ) → i < l.full.width → j < l.full.height → is_in l.full i j ≡ false) →
+    ((i j : ℕ) → i < l.used.width → j < l.used.height → is_in l.used i j ≡ false) →
+    layered l ≡ uniform l.places.width l.places.height false
+layered-none l sound full used =
+    layered_is l (uniform l.places.width l.places.height false) (whole-uniform _ _ _) (width-uniform _ _ _) (height-uniform _ _ _)
     (λ x y d p q.
-    let none : has_place (replicate n 0) across x y ≡ false = rw (zero_there n (y * across + x / 64), bit_at-zero (x % 64)) refl in
-    none ∙ sym (at-uniform w h false x y d p q))
+    let f = full (x / 64) (y / 64) (cell_below x l.places.width l.full.width sound.full_wide p) (cell_below y l.places.height l.full.height sound.full_high q) in
+    let u = used (x / 64) (y / 64) (cell_below x l.places.width l.used.width sound.used_wide p) (cell_below y l.places.height l.used.height sound.used_high q) in
+    let none : in_set l x y ≡ false = rw (f, u) refl in
+    none ∙ sym (at-uniform l.places.width l.places.height false x y d p q))
 
--- ---- its words
+-- a new set has no mark
+pub fresh_sizes : (w h i j : ℕ) (l : Layers) →
+    w < 2 ^ 16 →
+    h < 2 ^ 16 →
+    i ≡ cells_in w →
+    j ≡ cells_in h →
+    l.places ≡ uniform w h false →
+    l.full ≡ uniform i j false →
+    l.used ≡ uniform i j false →
+    IsLayers l
+fresh_sizes w h i j l narrow low wide high places full used = record {
+  narrow = rw (places, width-uniform) narrow;
+  low = rw (places, height-uniform) low;
+  all_places = rw places (whole-uniform w h false);
+  all_full = rw full (whole-uniform i j false);
+  all_used = rw used (whole-uniform i j false);
+  full_wide = rw (places, full, width-uniform, width-uniform) wide;
+  full_high = rw (places, full, height-uniform, height-uniform) high;
+  used_wide = rw (places, used, width-uniform, width-uniform) wide;
+  used_high = rw (places, used, height-uniform, height-uniform) high;
+}
 
--- word k of a row of the set is one of its words
-pub word_below : (w h across : ℕ) (words : List ℕ) (k y : ℕ) →
-    IsPlane w h across words → k < across → y < h → y * across + k < length words
-word_below w h across words k y plane p q = rw plane.size (grind (arith, rows))
+-- so it has no place
+pub layered-fresh : (w h i j : ℕ) (l : Layers) →
+    w < 2 ^ 16 →
+    h < 2 ^ 16 →
+    i ≡ cells_in w →
+    j ≡ cells_in h →
+    l.places ≡ uniform w h false →
+    l.full ≡ uniform i j false →
+    l.used ≡ uniform i j false →
+    layered l ≡ uniform w h false
+layered-fresh w h i j l narrow low wide high places full used =
+    let sound = fresh_sizes w h i j l narrow low wide high places full used in
+    let full_width : l.full.width ≡ i = rw full (width-uniform i j false) in
+    let full_height : l.full.height ≡ j = rw full (height-uniform i j false) in
+    let used_width : l.used.width ≡ i = rw used (width-uniform i j false) in
+    let used_height : l.used.height ≡ j = rw used (height-uniform i j false) in
+    let width : l.places.width ≡ w = rw places (width-uniform w h false) in
+    let height : l.places.height ≡ h = rw places (height-uniform w h false) in
+    layered-none l sound
+    (λ a b p q. uniform_none l.full i j a b full (rw full_width at p) (rw full_height at q))
+    (λ a b p q. uniform_none l.used i j a b used (rw used_width at p) (rw used_height at q)) ∙ (rw (width, height) refl)
 
--- the word of a place is one of its row
-pub column_below : (w h across : ℕ) (words : List ℕ) (x : ℕ) → IsPlane w h across words → x < w → x / 64 < across
-column_below w h across words x plane p = let room = plane.room in omega arith
+-- ---- whole cells
 
--- so the word of a place is one
-pub place_word_below : (w h across : ℕ) (words : List ℕ) (x y : ℕ) →
-    IsPlane w h across words → x < w → y < h → y * across + x / 64 < length words
-place_word_below w h across words x y plane p q =
-    word_below w h across words (x / 64) y plane (column_below w h across words x plane p) q
+or_if : (b f t : Bool) → ((if b then true else f) || t) ≡ (if b then true else (f || t))
+or_if true f t = refl
+or_if false f t = refl
 
--- the number of words in a row follows from the width
-pub same_across : (w h across : ℕ) (words : List ℕ) (j other : ℕ) (more : List ℕ) →
-    IsPlane w h across words → IsPlane w j other more → across ≡ other
-same_across w h across words j other more a b = let p = a.room in let q = a.least in let r = b.room in let s = b.least in omega arith
-
--- ---- with a rectangle's places
-
-or_is_if : (b c : Bool) → (b || c) ≡ (if c then true else b)
-or_is_if true true = refl
-or_is_if true false = refl
-or_is_if false true = refl
-or_is_if false false = refl
-
--- words that have the rectangle's bits too make the set with its places
-pub plane-filled : (w h across : ℕ) (old new : List ℕ) (rect : Rect) →
-    IsPlane w h across old →
-    ((k y i : ℕ) → k < across → i < 64 → has_at new across y k i ≡ (has_at old across y k i || contains rect (k * 64 + i) y)) →
-    plane w h across new ≡ filled rect true (plane w h across old)
-plane-filled w h across old new rect sound each =
-    plane_is w h across new (filled rect true (plane w h across old))
-    (whole-changed _ (plane w h across old) (whole-plane w h across old))
-    (width-changed _ (plane w h across old))
-    (height-changed _ (plane w h across old))
+-- with the cells of a rectangle that has all their places
+pub layered-full : (l : Layers) (inner : Rect) →
+    IsLayers l →
+    0 < inner.w →
+    0 < inner.h →
+    IsOfCells inner.x inner.w l.places.width →
+    IsOfCells inner.y inner.h l.places.height →
+    layered (record { places = l.places; full = filled (touched inner) true l.full; used = l.used }) ≡ filled inner true (layered l)
+layered-full l inner sound wide high columns rows =
+    layered_is (record { places = l.places; full = filled (touched inner) true l.full; used = l.used }) (filled inner true (layered l))
+    (whole-changed _ (layered l) (whole-layered l))
+    (width-changed _ (layered l))
+    (height-changed _ (layered l))
     (λ x y d p q.
-    let column = column_below w h across old x sound p in
-    let place : x / 64 * 64 + x % 64 ≡ x = div-add-mod' x 64 in
-    let here = each (x / 64) y (x % 64) column (mod_below x 64 (omega arith)) in
-    let there = at-filled rect true (plane w h across old) x y d (whole-plane w h across old) p q in
-    let was = at-plane w h across old x y d p q in
-    let joined = rw place at here in
-    joined ∙ (or_is_if (has_place old across x y) (contains rect x y) ∙ (rw (← was) (sym there))))
+    let i = cell_below x l.places.width l.full.width sound.full_wide p in
+    let j = cell_below y l.places.height l.full.height sound.full_high q in
+    let column = columns wide x p in
+    let row = rows high y q in
+    let same : contains (touched inner) (x / 64) (y / 64) ≡ contains inner x y = grind (arith, nat_tests, column, row) in
+    let there = at-filled (touched inner) true l.full (x / 64) (y / 64) false sound.all_full i j in
+    let after = at-filled inner true (layered l) x y d (whole-layered l) p q in
+    let was = at-layered l x y d p q in
+    rw (there, same, or_if) (rw (← was) (sym after)))
 
--- ---- the edges of its places
+-- ---- opened cells
 
--- the edges by the bits of the words are those of the set's places
-pub edges-plane : (w h across : ℕ) (words : List ℕ) (cell : Rect) (found : Option Edges) →
-    Holds (plane w h across words) cell →
-    HasEdges (has_place words across) cell found →
-    HasEdges (is_in (plane w h across words)) cell found
-edges-plane w h across words cell found room has =
-    same_edges (has_place words across) (is_in (plane w h across words)) cell found
-    (λ x y inside.
-    let (x0, x1, y0, y1) = contains_true cell x y inside in
-    sym (at-plane w h across words x y false (omega (arith, room.0)) (omega (arith, room.1))))
-    has
+-- a place's mark counts in an open cell
+open_mark : (f u p m was : Bool) →
+    (f || u) ≡ true → (f || (u && p)) ≡ was → (f || (u && (if m then true else p))) ≡ (if m then true else was)
+open_mark true u p true was o e = refl
+open_mark false true p true was o e = refl
+open_mark false false p true was o e = absurd (false≢true o)
+open_mark f u p false was o e = e
+
+unmarked : (f u p m was : Bool) →
+    m ≡ false → (f || (u && p)) ≡ was → (f || (u && (if m then true else p))) ≡ (if m then true else was)
+unmarked f u p m was e is = rw e is
+
+-- the cell of a place of a rectangle is one of those that it touches
+touched_cell : (r : Rect) (x y : ℕ) → contains r x y ≡ true → contains (touched r) (x / 64) (y / 64) ≡ true
+touched_cell r x y c =
+    let (x0, x1, y0, y1) = contains_true r x y c in
+    contains_from (touched r) (x / 64) (y / 64) (omega arith) (omega arith) (omega arith) (omega arith)
+
+-- with the marks of a rectangle's places, in cells that were opened
+pub layered-part : (old new : Layers) (part : Rect) →
+    IsLayers old →
+    IsOpened (touched part) old new →
+    layered (record { places = filled part true new.places; full = new.full; used = new.used }) ≡ filled part true (layered old)
+layered-part old new part sound opens =
+    layered_is (record { places = filled part true new.places; full = new.full; used = new.used }) (filled part true (layered old))
+    (whole-changed _ (layered old) (whole-layered old))
+    (width-changed _ (layered old) ∙ (sym opens.wide ∙ sym (width-changed _ new.places)))
+    (height-changed _ (layered old) ∙ (sym opens.high ∙ sym (height-changed _ new.places)))
+    (λ x y d p0 q0.
+    let p1 : x < new.places.width = rw width-changed at p0 in
+    let q1 : y < new.places.height = rw height-changed at q0 in
+    let p = rw (opens.wide) at p1 in
+    let q = rw (opens.high) at q1 in
+    let there = at-filled part true new.places x y false opens.sound.all_places p1 q1 in
+    let after = at-filled part true (layered old) x y d (whole-layered old) p q in
+    let was = at-layered old x y d p q in
+    let i = cell_below x old.places.width old.full.width sound.full_wide p in
+    let j = cell_below y old.places.height old.full.height sound.full_high q in
+    let f = is_in new.full (x / 64) (y / 64) in
+    let u = is_in new.used (x / 64) (y / 64) in
+    let m = is_in new.places x y in
+    let step : (f || (u && (if contains part x y then true else m))) ≡ (if contains part x y then true else in_set old x y) =
+    elim (cases_Bool (contains part x y)) [
+      | inl e ↦ open_mark f u m (contains part x y) (in_set old x y) (opens.opened (x / 64) (y / 64) i j (touched_cell part x y e)) (opens.same x y p q)
+      | inr e ↦ unmarked f u m (contains part x y) (in_set old x y) e (opens.same x y p q)
+    ] in
+    rw there (step ∙ (rw (← was) (sym after))))
+
+-- no cell was opened
+pub opened_none : (cells : Rect) (l : Layers) →
+    IsLayers l → ((i j : ℕ) → contains cells i j ≡ false) → IsOpened cells l l
+opened_none cells l sound none = record {
+  sound = sound;
+  wide = refl;
+  high = refl;
+  same_full = refl;
+  same = λ x y p q. refl;
+  kept = λ i j p q o. o;
+  opened = λ i j p q c. absurd (both_ways (contains cells i j) (none i j) c);
+}
+
+-- one set of cells was opened after another
+pub opened_then : (first next all : Rect) (a b d : Layers) →
+    ((i j : ℕ) → contains all i j ≡ (contains first i j || contains next i j)) →
+    IsOpened first a b →
+    IsOpened next b d →
+    IsOpened all a d
+opened_then first next all a b d parts one two =
+    record {
+      sound = two.sound;
+      wide = two.wide ∙ one.wide;
+      high = two.high ∙ one.high;
+      same_full = two.same_full ∙ one.same_full;
+      same = λ x y p q. two.same x y (rw one.wide p) (rw one.high q) ∙ one.same x y p q;
+      kept = λ i j p q o. two.kept i j (rw one.same_full p) (rw one.same_full q) (one.kept i j p q o);
+      opened = λ i j p q c.
+          elim (or_cases (contains first i j) (contains next i j) (sym (parts i j) ∙ c)) [
+            | inl e ↦ two.kept i j (rw one.same_full p) (rw one.same_full q) (one.opened i j p q e)
+            | inr e ↦ two.opened i j (rw one.same_full p) (rw one.same_full q) e
+          ];
+    }
+
+-- a cell whose marks did not count says nothing until they are cleared
+opened_mark : (b f u p : Bool) → (b ≡ true → f ≡ false) → (b ≡ true → u ≡ false) → (f || ((if b then true else u) && (if b then false else p))) ≡ (f || (u && p))
+opened_mark true f u p no_f no_u = rw (no_f refl, no_u refl) refl
+opened_mark false f u p no_f no_u = refl
+
+-- a cell that was open stays so
+still_open : (b f u : Bool) → (f || u) ≡ true → (f || (if b then true else u)) ≡ true
+still_open true true u o = refl
+still_open true false u o = refl
+still_open false f u o = o
+
+now_open : (b f u : Bool) → b ≡ true → (f || (if b then true else u)) ≡ true
+now_open b true u e = refl
+now_open b false u e = rw e refl
+
+-- one cell was opened, which was neither full nor used
+pub opened_cell : (l : Layers) (column row : ℕ) →
+    IsLayers l →
+    column < l.full.width →
+    row < l.full.height →
+    is_in l.full column row ≡ false →
+    is_in l.used column row ≡ false →
+    IsOpened (one_cell column row) l (record { places = filled (cell_at column row) false l.places; full = l.full; used = filled (one_cell column row) true l.used })
+opened_cell l column row sound p q no_full no_used =
+    let new : Layers = record { places = filled (cell_at column row) false l.places; full = l.full; used = filled (one_cell column row) true l.used } in
+    let used_at : (i j : ℕ) → i < l.full.width → j < l.full.height → is_in new.used i j ≡ (if contains (one_cell column row) i j then true else is_in l.used i j) =
+    λ i j a b.
+    let a1 : i < l.used.width = rw (sound.used_wide, ← sound.full_wide) a in
+    let b1 : j < l.used.height = rw (sound.used_high, ← sound.full_high) b in
+    at-filled (one_cell column row) true l.used i j false sound.all_used a1 b1 in
+    record {
+      sound = same_sizes l new sound (width-changed _ l.places) (height-changed _ l.places) refl refl (width-changed _ l.used) (height-changed _ l.used) (whole-changed _ l.places sound.all_places) sound.all_full (whole-changed _ l.used sound.all_used);
+      wide = width-changed _ l.places;
+      high = height-changed _ l.places;
+      same_full = refl;
+      same = λ x y a b.
+          let i = cell_below x l.places.width l.full.width sound.full_wide a in
+          let j = cell_below y l.places.height l.full.height sound.full_high b in
+          let there = at-filled (cell_at column row) false l.places x y false sound.all_places a b in
+          let cell : contains (cell_at column row) x y ≡ contains (one_cell column row) (x / 64) (y / 64) = grind (arith, nat_tests) in
+          let is : contains (one_cell column row) (x / 64) (y / 64) ≡ true → (x / 64 ≡ column) × (y / 64 ≡ row) =
+          λ c. let (c0, c1, c2, c3) = contains_true (one_cell column row) (x / 64) (y / 64) c in (omega arith, omega arith) in
+          rw (used_at (x / 64) (y / 64) i j, there, cell)
+          (opened_mark (contains (one_cell column row) (x / 64) (y / 64)) _ _ _
+          (λ c. let e = is c in rw (e.0, e.1) no_full)
+          (λ c. let e = is c in rw (e.0, e.1) no_used));
+      kept = λ i j a b o. rw (used_at i j a b) (still_open (contains (one_cell column row) i j) _ _ o);
+      opened = λ i j a b c. rw (used_at i j a b) (now_open (contains (one_cell column row) i j) _ _ c);
+    }
+
+-- ---- a rectangle in parts
+
+or_put : (a b : Bool) (old : Bool) → (if b then true else (if a then true else old)) ≡ (if a || b then true else old)
+or_put true true old = refl
+or_put true false old = refl
+or_put false b old = refl
+
+parts_put : (i a b l r all old : Bool) →
+    all ≡ (i || a || b || l || r) →
+    (if r then true else (if l then true else (if b then true else (if a then true else (if i then true else old))))) ≡ (if all then true else old)
+parts_put i a b l r all old e =
+    rw (e, or_put i a old, or_put (i || a) b old, or_put (i || a || b) l old, or_put (i || a || b || l) r old) refl
+
+-- the places of all parts are those of the rectangle
+pub filled-parts : (g : Grid Bool) (r : Rect) (p : Parts) →
+    IsGrid g →
+    ((x y : ℕ) → contains r x y ≡ (contains p.inner x y || contains p.above x y || contains p.below x y || contains p.left x y || contains p.right x y)) →
+    filled p.right true (filled p.left true (filled p.below true (filled p.above true (filled p.inner true g)))) ≡ filled r true g
+filled-parts g r p whole all =
+    rw (changed_twice, changed_twice, changed_twice, changed_twice)
+    (same_changes _ _ g whole
+    (λ x y d a b.
+    parts_put (contains p.inner x y) (contains p.above x y) (contains p.below x y) (contains p.left x y) (contains p.right x y) (contains r x y) _ (all x y)))
+
+-- a rectangle with no column or no row has no place
+pub no_place : (r : Rect) (x y : ℕ) → ((0 < r.w × r.h ≤ 0) ⊎ (r.w ≤ 0)) → contains r x y ≡ false
+no_place r x y (inl e) = let low = e.1 in grind (arith, nat_tests)
+no_place r x y (inr e) = grind (arith, nat_tests)
+
+-- so it adds none
+pub filled-none : (g : Grid Bool) (r : Rect) →
+    IsGrid g → ((x y : ℕ) → contains r x y ≡ false) → g ≡ filled r true g
+filled-none g r whole none =
+    same_grid g (filled r true g) whole (whole-changed _ g whole) (sym (width-changed _ g)) (sym (height-changed _ g))
+    (λ x y d p q. sym (at-filled r true g x y d whole p q ∙ (rw (none x y) refl)))

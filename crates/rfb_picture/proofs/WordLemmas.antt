@@ -1,14 +1,14 @@
 -- Bits of words, and of rows of words.
-use Rattle.std.proofs.Common.{ℕ, List, Bool, true, false, ◌≡◌, ◌+◌, ◌-◌, ◌*◌, ◌/◌, ◌%◌, ◌^◌, ◌<◌, ◌≤◌, ◌&&◌, ◌||◌, min, length, refl, ◌∙◌, arith, slice_index_or, slice_set, nat_eq, nat_le, nat_lt, bit_and, bit_or, inl, inr, ◌⊎◌}
+use Rattle.std.proofs.Common.{ℕ, List, Bool, true, false, ◌≡◌, ◌+◌, ◌-◌, ◌*◌, ◌/◌, ◌%◌, ◌^◌, ◌<◌, ◌≤◌, ◌&&◌, ◌||◌, min, length, refl, ◌∙◌, arith, slice_index_or, slice_set, nat_eq, nat_le, nat_lt, bit_and, bit_or, inl, inr, ◌⊎◌, if◌then◌else◌}
 use Rattle.std.proofs.lemmas.Bool.{cases_lt, cases_eq}
 use Rattle.std.proofs.lemmas.Bool.Decides.{nat_tests}
 use Rattle.std.proofs.lemmas.Nat.{same_from_place, mul-add-lt}
 use Rattle.std.proofs.Math.Nat.{mul_comm}
-use Rattle.std.proofs.lemmas.Nat.Bits.{bit_at_and, bit_at_or, bit_at-lt, bit_at_mask_inside, bit_at_mask_below, bit_at_ones, bit_at_ones_above, ones_shl, ones_shr}
+use Rattle.std.proofs.lemmas.Nat.Bits.{bit_at_and, bit_at_or, bit_at-lt, bit_at_mask_inside, bit_at_mask_below, bit_at_ones, bit_at_ones_above, bit_at-zero, ones_shl, ones_shr}
 use Rattle.std.proofs.lemmas.List.{get_or-set_same, get_or-set_other}
 use Rattle.rfb_picture.specs.declared.rect.Rect.{Rect}
 use Rattle.rfb_picture.specs.Rect.{contains}
-use Rattle.rfb_picture.specs.PlaceSet.{has_bit, has_at}
+use Rattle.rfb_picture.specs.Plane.{has_bit, has_at}
 
 -- ---- one word
 
@@ -102,6 +102,30 @@ one_row_more words first across column top row mask k y i p q l was from =
           let apart : (y * across + k ≡ row * across + column) → ⊥ =
           λ e. let place = same_from_place y k row column across q p e in other place.1 place.0 in
           rw (get_or-set_other words (row * across + column) (y * across + k) (bit_or (slice_index_or words (row * across + column) 0) mask) 0 apart, ← unreached k column y top row other) was
+    ]
+
+-- with the word of one row more cleared
+pub one_row_cleared : (words first : List ℕ) (across column top row k y i : ℕ) →
+    column < across →
+    k < across →
+    row * across + column < length words →
+    has_at words across y k i ≡ (if nat_eq k column && (nat_le top y && nat_lt y row) then false else has_at first across y k i) →
+    top ≤ row →
+    has_at (slice_set words (row * across + column) 0) across y k i ≡ (if nat_eq k column && (nat_le top y && nat_lt y (row + 1)) then false else has_at first across y k i)
+one_row_cleared words first across column top row k y i p q l was from =
+    elim (cases_place k column y row) [
+      | inl same ↦
+          let e = same.0 in
+          let f = same.1 in
+          let index : y * across + k ≡ row * across + column = rw (e, f) refl in
+          let some : (nat_eq k column && (nat_le top y && nat_lt y (row + 1))) ≡ true = grind (arith, nat_tests) in
+          let here : has_at (slice_set words (row * across + column) 0) across y k i ≡ false =
+          rw (index, get_or-set_same words (row * across + column) 0 0 l, bit_at-zero i) refl in
+          rw some here
+      | inr other ↦
+          let apart : (y * across + k ≡ row * across + column) → ⊥ =
+          λ e. let place = same_from_place y k row column across q p e in other place.1 place.0 in
+          rw (get_or-set_other words (row * across + column) (y * across + k) 0 0 apart, ← unreached k column y top row other) was
     ]
 
 -- a word of a row is one of the words

@@ -1,10 +1,10 @@
 -- The outermost of the marked places of a rectangle, on the way to the least rectangle that holds them.
-use Rattle.std.specs.Prelude.{ℕ, Bool, true, false, Option, ◌≡◌, ◌^◌, ◌<◌, ◌≤◌, MatchOption}
+use Rattle.std.specs.Prelude.{ℕ, Bool, true, false, Option, ◌≡◌, ◌+◌, ◌^◌, ◌<◌, ◌≤◌, MatchOption}
 use Rattle.rfb_picture.specs.declared.rect.Rect.{Rect}
 use Rattle.rfb_picture.specs.declared.edges.Edges.{Edges}
 use Rattle.rfb_picture.specs.declared.edges.Gathered.{Gathered}
 use Rattle.rfb_picture.specs.Rect.{contains}
-use Rattle.rfb_picture.specs.PlaceSet.{has_bit}
+use Rattle.rfb_picture.specs.Plane.{has_bit}
 
 -- no marked place of the zone lies outside the edges, and each edge has one
 pub record IsEdges (p : ℕ → ℕ → Bool) (zone : Rect) (e : Edges) : Type 0 where
@@ -19,6 +19,28 @@ abbrev pub HasEdges : (ℕ → ℕ → Bool) → Rect → Option Edges → Type 
 HasEdges p zone found =
     MatchOption found ((x y : ℕ) → contains zone x y ≡ true → p x y ≡ false) (λ e. IsEdges p zone e)
 
+-- no row from the first up to another, each with 64 marks, has a mark
+abbrev pub NoMarks : (ℕ → ℕ → Bool) → ℕ → ℕ → Type 0
+NoMarks q from to = (y i : ℕ) → from ≤ y → y < to → i < 64 → q y i ≡ false
+
+-- that row has a mark
+abbrev pub HasMark : (ℕ → ℕ → Bool) → ℕ → Type 0
+HasMark q y = (i : ℕ) × (i < 64) × (q y i ≡ true)
+
+-- it is the first of those rows that has one
+pub record IsFirstRow (q : ℕ → ℕ → Bool) (from to row : ℕ) : Type 0 where
+  pub above : from ≤ row
+  pub below : row < to
+  pub none : NoMarks q from row
+  pub here : HasMark q row
+
+-- it is the last
+pub record IsLastRow (q : ℕ → ℕ → Bool) (from to row : ℕ) : Type 0 where
+  pub above : from ≤ row
+  pub below : row < to
+  pub none : NoMarks q (row + 1) to
+  pub here : HasMark q row
+
 -- of the rows from the first up to another, each with 64 marks: the columns that have a mark, as bits,
 -- and the first and last row that has one
 pub record IsGathered (q : ℕ → ℕ → Bool) (from to : ℕ) (g : Gathered) : Type 0 where
@@ -31,4 +53,4 @@ pub record IsGathered (q : ℕ → ℕ → Bool) (from to : ℕ) (g : Gathered) 
 -- that is so of what was gathered, or the rows have no mark
 abbrev pub HasGathered : (ℕ → ℕ → Bool) → ℕ → ℕ → Option Gathered → Type 0
 HasGathered q from to found =
-    MatchOption found ((y i : ℕ) → from ≤ y → y < to → i < 64 → q y i ≡ false) (λ g. IsGathered q from to g)
+    MatchOption found (NoMarks q from to) (λ g. IsGathered q from to g)

@@ -1,7 +1,9 @@
 pub mod Rect
 pub mod Grid
 pub mod Loan
-pub mod PlaceSet
+pub mod Plane
 pub mod Box
+pub mod Cells
+pub mod PlaceSet
 pub mod Edges
 pub mod Area

@@ -1,29 +1,44 @@
--- How a `PlaceSet` holds which places are in it, as bits of words: a row is so many words across.
-use Rattle.std.specs.Prelude.{ℕ, Bool, false, List, ◌≡◌, ◌+◌, ◌*◌, ◌/◌, ◌%◌, ◌^◌, ◌<◌, ◌≤◌, length, nat_eq, slice_index_or}
-use Rattle.std.specs.Int.{bit_at}
-use Rattle.rfb_picture.specs.Grid.{Grid, grid, changed, uniform}
+-- How a `PlaceSet` holds which places are in it: by marks of its places, and by marks of its cells.
+use Rattle.std.specs.Prelude.{ℕ, Bool, true, ◌≡◌, ◌/◌, ◌^◌, ◌<◌, ◌&&◌, ◌||◌}
+use Rattle.rfb_picture.specs.declared.rect.Rect.{Rect}
+use Rattle.rfb_picture.specs.declared.place_set.layers.Layers.{Layers}
+use Rattle.rfb_picture.specs.Rect.{contains}
+use Rattle.rfb_picture.specs.Grid.{Grid, IsGrid}
+use Rattle.rfb_picture.specs.Box.{is_in}
+use Rattle.rfb_picture.specs.Plane.{marked}
+use Rattle.rfb_picture.specs.Cells.{cells_in}
 
--- bit i of the word is set
-abbrev pub has_bit : ℕ → ℕ → Bool
-has_bit word i = nat_eq (bit_at word i) 1
+-- cell (i, j) is in the set whole, or its places' marks count
+abbrev pub is_open : Layers → ℕ → ℕ → Bool
+is_open l i j = is_in l.full i j || is_in l.used i j
 
--- bit i of word k of row y is set
-abbrev pub has_at : List ℕ → ℕ → ℕ → ℕ → ℕ → Bool
-has_at words across y k i = has_bit (slice_index_or words (y * across + k) 0) i
+-- place (x, y) is in the set
+abbrev pub in_set : Layers → ℕ → ℕ → Bool
+in_set l x y = is_in l.full (x / 64) (y / 64) || (is_in l.used (x / 64) (y / 64) && is_in l.places x y)
 
--- place (x, y) is in the set: a word holds 64 places of a row, the lowest bit the leftmost place
-abbrev pub has_place : List ℕ → ℕ → ℕ → ℕ → Bool
-has_place words across x y = has_at words across y (x / 64) (x % 64)
+-- the places, each true where it is in the set
+abbrev pub layered : Layers → Grid Bool
+layered l = marked l.places.width l.places.height (in_set l)
 
--- the places of that width and height, each true where it is in the set
-abbrev pub plane : ℕ → ℕ → ℕ → List ℕ → Grid Bool
-plane width height across words =
-    grid width height (changed (λ x y _. has_place words across x y) (uniform width height false)).places
+-- there is a mark for each place, and two for each cell; the sizes fit 16 bits
+pub record IsLayers (l : Layers) : Type 0 where
+  pub narrow : l.places.width < 2 ^ 16
+  pub low : l.places.height < 2 ^ 16
+  pub all_places : IsGrid l.places
+  pub all_full : IsGrid l.full
+  pub all_used : IsGrid l.used
+  pub full_wide : l.full.width ≡ cells_in l.places.width
+  pub full_high : l.full.height ≡ cells_in l.places.height
+  pub used_wide : l.used.width ≡ cells_in l.places.width
+  pub used_high : l.used.height ≡ cells_in l.places.height
 
--- the sizes fit 16 bits, a row has as few words as hold its places, and there is a word for each
-pub record IsPlane (width height across : ℕ) (words : List ℕ) : Type 0 where
-  pub narrow : width < 2 ^ 16
-  pub low : height < 2 ^ 16
-  pub room : width ≤ across * 64
-  pub least : across * 64 < width + 64
-  pub size : length words ≡ height * across
+-- the cells of the rectangle were opened: their places' marks count, unless they are in the set whole.
+-- It has the places that it had
+pub record IsOpened (cells : Rect) (old new : Layers) : Type 0 where
+  pub sound : IsLayers new
+  pub wide : new.places.width ≡ old.places.width
+  pub high : new.places.height ≡ old.places.height
+  pub same_full : new.full ≡ old.full
+  pub same : (x y : ℕ) → x < old.places.width → y < old.places.height → in_set new x y ≡ in_set old x y
+  pub kept : (i j : ℕ) → i < old.full.width → j < old.full.height → is_open old i j ≡ true → is_open new i j ≡ true
+  pub opened : (i j : ℕ) → i < old.full.width → j < old.full.height → contains cells i j ≡ true → is_open new i j ≡ true

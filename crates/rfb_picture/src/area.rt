@@ -15,7 +15,8 @@ mod tests;
 
 /// The places of a screen of that size that were asked for, RFC 6143 section 7.5.3, and those of them
 /// that are to be sent whole: whatever the client has there. Only an asked place is whole. It keeps
-/// its size; either may be 0. It owns two bits for each place, and a few more for each row.
+/// its size; either may be 0. It owns two sets, `PlaceSet`: two bits for each place, and a few more for
+/// each row and for each cell of 64 by 64 places.
 #[derive(Drop)]
 pub struct Area {
     asked: PlaceSet,
@@ -36,7 +37,7 @@ impl Model for Area {
 
 impl Area {
     /// An area of a screen of `width` by `height` places, of which none is asked. It asks for room
-    /// for all its bits, in two pieces; where there is none it gives the error, and nothing is kept.
+    /// for all its bits, in six pieces; where there is none it gives the error, and nothing is kept.
     pub fn new(alloc: Global, width: u16, height: u16) -> Result<Area, AllocError>
         ensures value { IfOk result (λ a. a ≡ no_places width height) }
         ensures width { IfOk result (λ a. a.asked.width ≡ width) }

@@ -1,9 +1,9 @@
-//! The outermost of the places whose bits are set, found by words.
+//! The outermost of the places whose bits are set in rows of words.
 
-ghost use Rattle.std.specs.Prelude.{◌≡◌, ℕ, Bool, ◌+◌, ◌-◌, ◌*◌, ◌^◌, ◌<◌, ◌≤◌, ◌||◌, length, slice_index_or, bit_and};
+ghost use Rattle.std.specs.Prelude.{◌≡◌, ℕ, Bool, true, ◌+◌, ◌-◌, ◌*◌, ◌/◌, ◌^◌, ◌<◌, ◌≤◌, ◌||◌, length, MatchOption};
 ghost use Rattle.rfb_picture.specs.Rect.{contains};
-ghost use Rattle.rfb_picture.specs.PlaceSet.{has_bit, has_place};
-ghost use Rattle.rfb_picture.specs.Edges.{HasEdges, IsGathered, HasGathered};
+ghost use Rattle.rfb_picture.specs.Plane.{has_bit, has_at, has_place, has_masked};
+ghost use Rattle.rfb_picture.specs.Edges.{HasEdges, HasGathered, HasMark, IsFirstRow, IsLastRow, NoMarks};
 
 use crate::rect::Rect;
 use crate::words::columns_between;
@@ -18,6 +18,19 @@ pub(crate) struct Edges {
 }
 
 impl Edges {
+    /// The edges of a rectangle, which has a place.
+    pub(crate) fn of(rect: Rect) -> Edges
+        requires { (0 < rect.w) × (0 < rect.h) }
+        ensures { result ≡ record { left = rect.x; right = rect.x + rect.w - 1; top = rect.y; bottom = rect.y + rect.h - 1 } }
+    {
+        Edges {
+            left: usize::from(rect.x),
+            right: usize::from(rect.x) + usize::from(rect.w) - 1,
+            top: usize::from(rect.y),
+            bottom: usize::from(rect.y) + usize::from(rect.h) - 1,
+        }
+    }
+
     /// The rectangle with these edges.
     pub(crate) fn rect(self) -> Rect
         requires columns { (self.left ≤ self.right) × (self.right < 65535) }
@@ -41,29 +54,37 @@ struct Gathered {
     bottom: usize,
 }
 
-/// The edges of the places in the cell whose bits are set, where a row is `across` words; `None`
-/// where none is.
-pub(crate) fn edges_in(words: &[u64], across: usize, cell: Rect) -> Option<Edges>
+/// The edges of the zone's places whose bits are set, where a row is `across` words; `None` where none
+/// is. The zone's places of a row are of one word.
+pub(crate) fn edges_in(words: &[u64], across: usize, zone: Rect) -> Option<Edges>
     requires small { across < 2 ^ 16 }
-    requires columns { cell.x + cell.w ≤ across * 64 }
-    requires rows { (cell.y + cell.h) * across ≤ length words.now }
-    ensures { HasEdges (has_place words.now across) cell result }
+    requires columns { zone.x + zone.w ≤ across * 64 }
+    requires rows { (zone.y + zone.h) * across ≤ length words.now }
+    requires some { 0 < zone.w }
+    requires word { zone.x + zone.w ≤ zone.x / 64 * 64 + 64 }
+    ensures { HasEdges (has_place words.now across) zone result }
 {
-    let from = usize::from(cell.x);
-    let to = from + usize::from(cell.w);
-    let top = usize::from(cell.y);
-    let bottom = top + usize::from(cell.h);
-    let mut found = None;
-    for column in from / 64..to.div_ceil(64) {
-        let mask = columns_between(column, from, to);
-        let here = column_edges(words, across, column, top, bottom, mask);
-        found = joined(found, here);
+    let from = usize::from(zone.x);
+    let top = usize::from(zone.y);
+    let bottom = top + usize::from(zone.h);
+    let column = from / 64;
+    let mask = columns_between(column, from, from + usize::from(zone.w));
+    match gather(words, across, column, top, bottom, mask) {
+        None => None,
+        Some(found) => {
+            let start = column * 64;
+            Some(Edges {
+                left: start + found.bits.trailing_zeros() as usize,
+                right: start + 63 - found.bits.leading_zeros() as usize,
+                top: found.top,
+                bottom: found.bottom,
+            })
+        }
     }
-    found
 }
 
-// The edges of two parts together.
-fn joined(a: Option<Edges>, b: Option<Edges>) -> Option<Edges>
+/// The edges of two parts together.
+pub(crate) fn joined(a: Option<Edges>, b: Option<Edges>) -> Option<Edges>
     ensures { (p : ℕ → ℕ → Bool) (first second all : _) → ((x y : ℕ) → contains all x y ≡ (contains first x y || contains second x y)) → HasEdges p first a → HasEdges p second b → HasEdges p all result }
 {
     match a {
@@ -80,35 +101,6 @@ fn joined(a: Option<Edges>, b: Option<Edges>) -> Option<Edges>
     }
 }
 
-// The edges of what the mask leaves of word `column` of the rows from `top` up to `bottom`.
-fn column_edges(
-    words: &[u64],
-    across: usize,
-    column: usize,
-    top: usize,
-    bottom: usize,
-    mask: u64,
-) -> Option<Edges>
-    requires small { across < 2 ^ 16 }
-    requires column { column < across }
-    requires order { top ≤ bottom }
-    requires rows { bottom * across ≤ length words.now }
-    ensures { HasEdges (λ x y. has_bit (bit_and (slice_index_or words.now (y * across + column) 0) mask) (x - column * 64)) (record { x = column * 64; y = top; w = 64; h = bottom - top }) result }
-{
-    match gather(words, across, column, top, bottom, mask) {
-        None => None,
-        Some(found) => {
-            let start = column * 64;
-            Some(Edges {
-                left: start + found.bits.trailing_zeros() as usize,
-                right: start + 63 - found.bits.leading_zeros() as usize,
-                top: found.top,
-                bottom: found.bottom,
-            })
-        }
-    }
-}
-
 // What the mask leaves of word `column` of the rows from `top` up to `bottom`, put together; `None`
 // where it leaves no bit.
 fn gather(
@@ -120,35 +112,77 @@ fn gather(
     mask: u64,
 ) -> Option<Gathered>
     requires column { column < across }
-    requires order { top ≤ bottom }
     requires rows { bottom * across ≤ length words.now }
-    ensures { HasGathered (λ y i. has_bit (bit_and (slice_index_or words.now (y * across + column) 0) mask) i) top bottom result }
+    ensures { HasGathered (has_masked words.now across column mask) top bottom result }
 {
-    let mut found = None;
-    for row in top..bottom {
-        let word = words[row * across + column] & mask;
-        if word != 0 {
-            found = Some(with_row(found, word, row));
+    match first_row(words, across, column, top, bottom, mask) {
+        None => None,
+        Some(first) => {
+            let last = last_row(words, across, column, first, bottom, mask);
+            Some(Gathered {
+                bits: all_bits(words, across, column, first, last + 1) & mask,
+                top: first,
+                bottom: last,
+            })
         }
     }
-    found
 }
 
-// With the word of one row more.
-fn with_row(found: Option<Gathered>, word: u64, row: usize) -> Gathered
-    requires { 0 < word }
-    ensures { (q : ℕ → ℕ → Bool) (from : ℕ) → from ≤ row → ((i : ℕ) → i < 64 → q row i ≡ has_bit word i) → HasGathered q from row found → IsGathered q from (row + 1) result }
+// The first of the rows from `top` up to `bottom` of whose word `column` the mask leaves a bit.
+fn first_row(
+    words: &[u64],
+    across: usize,
+    column: usize,
+    top: usize,
+    bottom: usize,
+    mask: u64,
+) -> Option<usize>
+    requires column { column < across }
+    requires rows { bottom * across ≤ length words.now }
+    ensures { MatchOption result (NoMarks (has_masked words.now across column mask) top bottom) (λ r. IsFirstRow (has_masked words.now across column mask) top bottom r) }
 {
-    match found {
-        None => Gathered {
-            bits: word,
-            top: row,
-            bottom: row,
-        },
-        Some(above) => Gathered {
-            bits: above.bits | word,
-            top: above.top,
-            bottom: row,
-        },
+    for row in top..bottom {
+        if words[row * across + column] & mask != 0 {
+            return Some(row);
+        }
     }
+    None
+}
+
+// The last of the rows from `top` up to `bottom` of whose word `column` the mask leaves a bit, as it
+// does of that of the row `top`.
+fn last_row(
+    words: &[u64],
+    across: usize,
+    column: usize,
+    top: usize,
+    bottom: usize,
+    mask: u64,
+) -> usize
+    requires column { column < across }
+    requires rows { bottom * across ≤ length words.now }
+    requires order { top < bottom }
+    requires some { HasMark (has_masked words.now across column mask) top }
+    ensures { IsLastRow (has_masked words.now across column mask) top bottom result }
+{
+    let mut last = bottom - 1;
+    while last > top && words[last * across + column] & mask == 0 {
+        last -= 1;
+    }
+    last
+}
+
+// Word `column` of the rows from `top` up to `bottom`, or-ed together.
+fn all_bits(words: &[u64], across: usize, column: usize, top: usize, bottom: usize) -> u64
+    requires column { column < across }
+    requires order { top ≤ bottom }
+    requires rows { bottom * across ≤ length words.now }
+    ensures each { (y i : ℕ) → top ≤ y → y < bottom → has_at words.now across y column i ≡ true → has_bit result i ≡ true }
+    ensures some { (i : ℕ) → has_bit result i ≡ true → (y : ℕ) × (top ≤ y) × (y < bottom) × (has_at words.now across y column i ≡ true) }
+{
+    let mut bits = 0;
+    for row in top..bottom {
+        bits |= words[row * across + column];
+    }
+    bits
 }

@@ -11,6 +11,7 @@ mod area;
 mod edges;
 mod picture;
 mod place_set;
+mod plane;
 mod rect;
 #[cfg(test)]
 mod tests;

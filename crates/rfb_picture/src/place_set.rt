@@ -2,62 +2,62 @@
 
 ghost use Rattle.std.specs.Prelude.{◌≡◌, ◌+◌, ◌<◌, false, true, IfOk, MatchOption};
 
-use crate::edges::edges_in;
+use crate::plane::Plane;
 use crate::rect::Rect;
-use crate::words::add_places;
+use layers::Layers;
+use parts::{cells_of, parts_of};
 use std::alloc::{AllocError, Global};
 use std::marker::Model;
 
+mod bounding;
+mod layers;
+mod parts;
 #[cfg(test)]
 mod tests;
 
 /// Some of the places of a picture of that size, numbered from the top left. It keeps its size; either
-/// may be 0. It owns one bit for each place, and up to 63 bits more for each row.
+/// may be 0. It owns one bit for each place, up to 63 bits more for each row, and two bits, with up to
+/// 126 more for each row of them, for each cell of 64 by 64 places. By these a cell that is in the set
+/// whole, or has no place in it, needs no look at its places.
 #[derive(Drop)]
 pub struct PlaceSet {
-    width: u16,
-    height: u16,
-    // How many words a row has.
-    across: usize,
-    // Row after row; of a row each word has 64 places, the lowest bit the leftmost.
-    words: Vec<u64>,
+    layers: Layers,
 }
 
 impl Model for PlaceSet {
     ghost use Rattle.std.specs.Prelude.{Bool};
     ghost use Rattle.std.specs.Coded.{coded_bool};
     ghost use Rattle.rfb_picture.specs.Grid.{Grid, grid_code};
-    ghost use Rattle.rfb_picture.specs.PlaceSet.{plane, IsPlane};
+    ghost use Rattle.rfb_picture.specs.PlaceSet.{layered, IsLayers};
 
     ghost Value = { Grid Bool };
 
     ghost coded = { grid_code coded_bool };
 
-    ghost view = { λ s. plane s.width s.height s.across s.words.items };
+    ghost view = { λ s. layered s.layers };
 
-    ghost invariant = { λ s. IsPlane s.width s.height s.across s.words.items };
+    ghost invariant = { λ s. IsLayers s.layers };
 }
 
 impl PlaceSet {
     ghost use Rattle.rfb_picture.specs.Grid.{IsGrid, Holds, at_or, filled, uniform};
     ghost use Rattle.rfb_picture.specs.Box.{is_in, IsClear, IsBox};
+    ghost use Rattle.rfb_picture.specs.Cells.{IsOfCells};
 
     /// The set with no place, of a picture of `width` by `height` places. It asks for room for all
-    /// its bits, in one piece; where there is none it gives the error, and nothing is kept.
+    /// its bits, in three pieces; where there is none it gives the error, and nothing is kept.
     pub fn new(alloc: Global, width: u16, height: u16) -> Result<PlaceSet, AllocError>
         ensures value { IfOk result (λ s. s ≡ uniform width height false) }
         ensures width { IfOk result (λ s. s.width ≡ width) }
         ensures height { IfOk result (λ s. s.height ≡ height) }
     {
-        let across = usize::from(width).div_ceil(64);
-        let count = usize::from(height) * across;
-        let mut words = Vec::with_capacity(alloc, count)?;
-        words.resize(count, 0)?;
+        let columns = width.div_ceil(64);
+        let rows = height.div_ceil(64);
+        let places = Plane::new(alloc, width, height)?;
+        let full = Plane::new(alloc, columns, rows)?;
+        let used = Plane::new(alloc, columns, rows)?;
         Ok(PlaceSet {
-            width,
-            height,
-            across,
-            words,
+            layers: Layers { places, full, used },
         })
     }
 
@@ -68,7 +68,7 @@ impl PlaceSet {
         ensures value { result ≡ self.now.width }
         ensures whole { IsGrid self.now }
     {
-        self.width
+        self.layers.places.width()
     }
 
     /// How many rows the picture has.
@@ -76,7 +76,7 @@ impl PlaceSet {
     pub fn height(&self) -> u16
         ensures { result ≡ self.now.height }
     {
-        self.height
+        self.layers.places.height()
     }
 
     /// Whether the place at column `x` of row `y` is in the set.
@@ -86,8 +86,9 @@ impl PlaceSet {
         requires row { y < self.now.height }
         ensures { result ≡ at_or self.now x y false }
     {
-        let word = self.words[usize::from(y) * self.across + usize::from(x) / 64];
-        word >> (x % 64) & 1 == 1
+        let layers = &self.layers;
+        layers.full.has(x / 64, y / 64)
+            || layers.used.has(x / 64, y / 64) && layers.places.has(x, y)
     }
 
     /// The least rectangle that holds the set's places in the cell, which lies in the picture; `None`
@@ -96,7 +97,7 @@ impl PlaceSet {
         requires { Holds self.now cell }
         ensures { MatchOption result (IsClear (is_in self.now) cell.x (cell.x + cell.w) cell.y (cell.y + cell.h)) (λ r. IsBox (is_in self.now) cell r) }
     {
-        match edges_in(&self.words, self.across, cell) {
+        match self.layers.edges_in(cell) {
             None => None,
             Some(edges) => Some(edges.rect()),
         }
@@ -109,7 +110,39 @@ impl PlaceSet {
         ensures width { self.new.width ≡ self.old.width }
         ensures height { self.new.height ≡ self.old.height }
     {
-        add_places(&mut self.words, self.across, rect);
+        let parts = parts_of(rect, self.width(), self.height());
+        self.add_cells(parts.inner);
+        self.add_part(parts.above);
+        self.add_part(parts.below);
+        self.add_part(parts.left);
+        self.add_part(parts.right);
+    }
+
+    // Puts the places of the rectangle into the set, which has all places of their cells.
+    fn add_cells(&mut self, inner: Rect)
+        requires room { Holds self.old inner }
+        requires columns { IsOfCells inner.x inner.w self.old.width }
+        requires rows { IsOfCells inner.y inner.h self.old.height }
+        ensures value { self.new ≡ filled inner true self.old }
+        ensures width { self.new.width ≡ self.old.width }
+        ensures height { self.new.height ≡ self.old.height }
+    {
+        if inner.w > 0 && inner.h > 0 {
+            self.layers.full.add(cells_of(inner));
+        }
+    }
+
+    // Puts the places of the rectangle into the set, by their marks.
+    fn add_part(&mut self, part: Rect)
+        requires { Holds self.old part }
+        ensures value { self.new ≡ filled part true self.old }
+        ensures width { self.new.width ≡ self.old.width }
+        ensures height { self.new.height ≡ self.old.height }
+    {
+        if part.w > 0 && part.h > 0 {
+            self.layers.open_cells(cells_of(part));
+            self.layers.places.add(part);
+        }
     }
 
     /// Takes every place out of the set.
@@ -118,7 +151,8 @@ impl PlaceSet {
         ensures width { self.new.width ≡ self.old.width }
         ensures height { self.new.height ≡ self.old.height }
     {
-        self.words.fill(0);
+        self.layers.full.clear();
+        self.layers.used.clear();
     }
 
     /// Becomes a copy of `other`, which is of the same size and stays the caller's.
@@ -127,6 +161,8 @@ impl PlaceSet {
         requires height { self.old.height ≡ other.now.height }
         ensures { self.new ≡ other.now }
     {
-        self.words.copy_from_slice(&other.words);
+        self.layers.places.copy_from(&other.layers.places);
+        self.layers.full.copy_from(&other.layers.full);
+        self.layers.used.copy_from(&other.layers.used);
     }
 }

@@ -1,8 +1,8 @@
 //! Rows of words, each with a bit for 64 places: the lowest for the leftmost.
 
-ghost use Rattle.std.specs.Prelude.{◌≡◌, ℕ, ◌+◌, ◌*◌, ◌<◌, ◌≤◌, ◌&&◌, ◌||◌, nat_eq, nat_le, nat_lt, length};
+ghost use Rattle.std.specs.Prelude.{◌≡◌, ℕ, ◌+◌, ◌*◌, ◌<◌, ◌≤◌, ◌&&◌, ◌||◌, false, nat_eq, nat_le, nat_lt, length, if◌then◌else◌};
 ghost use Rattle.rfb_picture.specs.Rect.{contains};
-ghost use Rattle.rfb_picture.specs.PlaceSet.{has_bit, has_at};
+ghost use Rattle.rfb_picture.specs.Plane.{has_bit, has_at};
 
 use crate::rect::Rect;
 
@@ -31,6 +31,24 @@ fn add_column(words: &mut [u64], across: usize, column: usize, top: usize, botto
 {
     for row in top..bottom {
         words[row * across + column] |= mask;
+    }
+}
+
+/// Clears all bits of one word of each row from `top` up to `bottom`.
+pub(crate) fn clear_column(
+    words: &mut [u64],
+    across: usize,
+    column: usize,
+    top: usize,
+    bottom: usize,
+)
+    requires column { column < across }
+    requires order { top ≤ bottom }
+    requires rows { bottom * across ≤ length words.old }
+    ensures { (k y i : ℕ) → k < across → has_at words.new across y k i ≡ (if nat_eq k column && (nat_le top y && nat_lt y bottom) then false else has_at words.old across y k i) }
+{
+    for row in top..bottom {
+        words[row * across + column] = 0;
     }
 }
 

@@ -71,6 +71,61 @@ fn assert_bounds<R: Abort>(rt: &R, area: &Area, plain: &Plain, numbers: &mut Num
     }
 }
 
+// Under cells that became whole, and under those of a set that was cleared, marks of earlier additions
+// stay behind.
+#[test]
+fn marks_of_earlier_additions_never_show(rt: HostRuntime) -> Result<(), Fail> {
+    let mut numbers = Numbers { state: 11 };
+    for width in SIZES {
+        for height in SIZES {
+            let mut area = Area::new(rt.alloc(), width, height)?;
+            let mut plain = Plain::new(rt.alloc(), width, height)?;
+            add_and_clear(&rt, &mut area, &mut plain, &mut numbers);
+            add_and_clear(&rt, &mut area, &mut plain, &mut numbers);
+        }
+    }
+    Ok(())
+}
+
+// All, then none; a part, then all, then none; a place, then a part.
+fn add_and_clear<R: Abort>(rt: &R, area: &mut Area, plain: &mut Plain, numbers: &mut Numbers) {
+    let (width, height) = (area.width(), area.height());
+    assert!(rt; 0 < width && width < 1000 && 0 < height && height < 1000);
+    let all = Rect {
+        x: 0,
+        y: 0,
+        w: width,
+        h: height,
+    };
+    let place = Rect {
+        x: numbers.below(width),
+        y: numbers.below(height),
+        w: 1,
+        h: 1,
+    };
+    add_to_both(rt, area, plain, all);
+    clear_both(rt, area, plain);
+    add_to_both(rt, area, plain, numbers.rect(width, height));
+    add_to_both(rt, area, plain, all);
+    clear_both(rt, area, plain);
+    add_to_both(rt, area, plain, place);
+    add_to_both(rt, area, plain, numbers.rect(width, height));
+}
+
+fn add_to_both<R: Abort>(rt: &R, area: &mut Area, plain: &mut Plain, rect: Rect) {
+    assert!(rt; u32::from(rect.x) + u32::from(rect.w) <= u32::from(area.width()));
+    assert!(rt; u32::from(rect.y) + u32::from(rect.h) <= u32::from(area.height()));
+    area.add(rect, true);
+    plain.add(rect, true);
+    assert_same(rt, area, plain);
+}
+
+fn clear_both<R: Abort>(rt: &R, area: &mut Area, plain: &mut Plain) {
+    area.clear();
+    plain.clear();
+    assert_same(rt, area, plain);
+}
+
 #[test]
 fn a_place_once_whole_stays_whole(rt: HostRuntime) -> Result<(), Fail> {
     let mut area = Area::new(rt.alloc(), 4, 4)?;

@@ -1,37 +1,30 @@
-use Rattle.std.proofs.Common.{false, ◌+◌, ◌*◌, ◌/◌, ◌%◌, arith, ap}
-use Rattle.rfb_picture.proofs.PlaceSetLemmas.{at-plane, place_word_below}
-use Rattle.std.proofs.lemmas.Nat.Bits.{shr_and_one}
-use Rattle.std.proofs.lemmas.List.{get_or_read}
-use Rattle.rfb_picture.specs.PlaceSet.{has_bit}
+use Rattle.std.proofs.Common.{◌≡◌, ◌/◌, true, false, sym, ◌∙◌}
+use Rattle.rfb_picture.specs.Box.{is_in}
+use Rattle.rfb_picture.proofs.PlaceSetLemmas.{at-layered}
 use Rattle.rfb_picture.proofs.place_set.PlaceSet.has.Goals as goal
 
-pub overflow_mul-from : goal.overflow_mul-from
-overflow_mul-from c =
+pub returns-then-has : goal.returns-then-has
+returns-then-has c =
     let column = rw (← c.self.view_is) at c.requires.column in
     let row = rw (← c.self.view_is) at c.requires.row in
-    let within = place_word_below _ _ c.self.inside.across _ c.args.x c.args.y c.self.invariant column row in
-    rw c.from.ensures (omega arith)
+    let l = c.self.inside.layers in
+    let full : is_in l.full (c.args.x / 64) (c.args.y / 64) ≡ true = sym c.has.ensures ∙ c.if-has.true in
+    rw (← c.self.view_is, at-layered l c.args.x c.args.y false column row, full) c.if-has.true
 
-pub overflow_add-from : goal.overflow_add-from
-overflow_add-from c =
+pub returns-then-has-2 : goal.returns-then-has-2
+returns-then-has-2 c =
     let column = rw (← c.self.view_is) at c.requires.column in
     let row = rw (← c.self.view_is) at c.requires.row in
-    let within = place_word_below _ _ c.self.inside.across _ c.args.x c.args.y c.self.invariant column row in
-    rw (c.from.ensures, c.from-2.ensures) (omega arith)
+    let l = c.self.inside.layers in
+    let full : is_in l.full (c.args.x / 64) (c.args.y / 64) ≡ false = sym c.has.ensures ∙ c.if-has.false in
+    let used : is_in l.used (c.args.x / 64) (c.args.y / 64) ≡ true = sym c.has-else-has.ensures ∙ c.if-has-2.true in
+    rw (← c.self.view_is, at-layered l c.args.x c.args.y false column row, full, used) c.has-then-has-2.ensures
 
-pub index-word-requires : goal.index-word-requires
-index-word-requires c =
+pub returns-else-has-2 : goal.returns-else-has-2
+returns-else-has-2 c =
     let column = rw (← c.self.view_is) at c.requires.column in
     let row = rw (← c.self.view_is) at c.requires.row in
-    let within = place_word_below _ _ c.self.inside.across _ c.args.x c.args.y c.self.invariant column row in
-    rw (c.from.ensures, c.from-2.ensures) (omega arith)
-
-pub returns : goal.returns
-returns c =
-    let column = rw (← c.self.view_is) at c.requires.column in
-    let row = rw (← c.self.view_is) at c.requires.row in
-    let within = place_word_below _ _ c.self.inside.across _ c.args.x c.args.y c.self.invariant column row in
-    let is = rw (c.from.ensures, c.from-2.ensures) at c.index-word.ensures in
-    let read = get_or_read c.self.inside.words.items (c.args.y * c.self.inside.across + c.args.x / 64) c.index-word.result.now within is 0 in
-    rw (← c.self.view_is, at-plane c.self.inside.width c.self.inside.height c.self.inside.across c.self.inside.words.items c.args.x c.args.y false column row, shr_and_one)
-    (ap (λ n. has_bit n (c.args.x % 64)) read)
+    let l = c.self.inside.layers in
+    let full : is_in l.full (c.args.x / 64) (c.args.y / 64) ≡ false = sym c.has.ensures ∙ c.if-has.false in
+    let used : is_in l.used (c.args.x / 64) (c.args.y / 64) ≡ false = sym c.has-else-has.ensures ∙ c.if-has-2.false in
+    rw (← c.self.view_is, at-layered l c.args.x c.args.y false column row, full, used) c.if-has-2.false

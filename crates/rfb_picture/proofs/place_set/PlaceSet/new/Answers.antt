@@ -1,9 +1,10 @@
-use Rattle.std.proofs.Common.{◌*◌}
-use Rattle.rfb_picture.proofs.PlaceSetLemmas.{plane-zeros, resized_zeros}
+use Rattle.rfb_picture.proofs.PlaceSetLemmas.{fresh_sizes, layered-fresh}
 use Rattle.rfb_picture.proofs.place_set.PlaceSet.new.Goals as goal
+
+pub invariant_of-result : goal.invariant_of-result
+invariant_of-result c =
+    fresh_sizes c.args.width c.args.height c.div_ceil-columns.result c.div_ceil-rows.result (record { places = c.in_ok-places.places; full = c.in_ok-full.full; used = c.in_ok-used.used }) c.ranges.width.fits c.ranges.height.fits c.div_ceil-columns.ensures c.div_ceil-rows.ensures c.in_ok-places.ensures.value c.in_ok-full.ensures.value c.in_ok-used.ensures.value
 
 pub returns-clause-value : goal.returns-clause-value
 returns-clause-value c =
-    let count = c.from-2.result * c.div_ceil-across.result in
-    let zeros = resized_zeros count _ _ _ c.in_ok-resize.ensures.items c.in_ok-words.ensures.items c.in_ok-words.ensures.len in
-    rw zeros (plane-zeros c.args.width c.args.height c.div_ceil-across.result count)
+    layered-fresh c.args.width c.args.height c.div_ceil-columns.result c.div_ceil-rows.result (record { places = c.in_ok-places.places; full = c.in_ok-full.full; used = c.in_ok-used.used }) c.ranges.width.fits c.ranges.height.fits c.div_ceil-columns.ensures c.div_ceil-rows.ensures c.in_ok-places.ensures.value c.in_ok-full.ensures.value c.in_ok-used.ensures.value

@@ -1,6 +1,6 @@
 use Rattle.std.proofs.Common.{◌≡◌, ◌*◌, refl, arith}
-use Rattle.rfb_picture.proofs.PlaceSetLemmas.{same_across}
-use Rattle.rfb_picture.proofs.place_set.PlaceSet.copy_from.Goals as goal
+use Rattle.rfb_picture.proofs.PlaneLemmas.{same_across}
+use Rattle.rfb_picture.proofs.plane.Plane.copy_from.Goals as goal
 
 pub copy_from_slice-requires : goal.copy_from_slice-requires
 copy_from_slice-requires c =

@@ -1,0 +1,45 @@
+#!/usr/bin/env bash
+# Prints how many instructions single calls of the two low crates need. They are made by tests that this adds to copies of the
+# crates (kernels/CRATE.txt), which are proved and built there. Needs valgrind.
+set -euo pipefail
+cd "$(dirname "$0")/.."
+copy=$(mktemp -d)
+trap 'rm -rf "$copy"' EXIT
+mkdir "$copy/crates"
+cp crates.txt HANDLES "$copy"
+cp -r crates/rfb_pixel crates/rfb_picture "$copy/crates"
+sed -i '/^rfb:/d' "$copy/crates.txt"
+cat bench/kernels/rfb_picture.txt >> "$copy/crates/rfb_picture/src/tests.rt"
+cat bench/kernels/rfb_pixel.txt >> "$copy/crates/rfb_pixel/src/format/tests.rt"
+for crate in rfb_pixel rfb_picture; do
+  (cd "$copy/crates/$crate" && rt test > "$copy/$crate.log" 2>&1) || { tail -20 "$copy/$crate.log"; exit 1; }
+done
+
+# How many instructions a test needs in all.
+instructions() {
+  valgrind --tool=callgrind --callgrind-out-file=/dev/null "$copy/crates/$1/out/$1_tests" "$2" 2>&1 > /dev/null | awk '/Collected/ {print $4}'
+}
+
+# How many of them a function needs, with all that it calls.
+within() {
+  valgrind --tool=callgrind --callgrind-out-file=/dev/null --toggle-collect="$3" "$copy/crates/$1/out/$1_tests" "$2" 2>&1 > /dev/null | awk '/Collected/ {print $4}'
+}
+
+# A line: what, the instructions that the first test needs more than the second, over so many places.
+difference() {
+  awk -v what="$1" -v a="$(instructions "$2" "$3")" -v b="$(instructions "$2" "$4")" -v n="$5" \
+    'BEGIN {printf n == 1 ? "%s: %d\n" : "%s, a place: %.1f\n", what, (a - b) / n}'
+}
+
+difference 'pack_row at rgb888' rfb_pixel format::tests::pack_row_rgb888 format::tests::pack_row_none 16384
+difference 'pack_row at rgb565' rfb_pixel format::tests::pack_row_rgb565 format::tests::pack_row_none 16384
+difference 'first_diff of equal rows' rfb_pixel format::tests::diff_first format::tests::diff_none 16384
+difference 'last_diff of equal rows' rfb_pixel format::tests::diff_last format::tests::diff_none 16384
+difference 'Picture::copy down by a row' rfb_picture tests::picture_copy_down tests::picture_new $((1024 * 1023))
+difference 'Picture::copy aside by a place' rfb_picture tests::picture_copy_aside tests::picture_new $((1024 * 1023))
+difference 'Area::add of all' rfb_picture tests::area_add_all tests::area_new 1
+difference 'Area::add of all but a border' rfb_picture tests::area_add_most tests::area_new 1
+difference 'Area::clear' rfb_picture tests::area_clear tests::area_new 1
+for cell in unused full part; do
+  echo "Area::bounds_in, cell $cell: $(within rfb_picture "tests::area_bounds_$cell" '*bounds_in*')"
+done

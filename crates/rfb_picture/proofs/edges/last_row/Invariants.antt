@@ -1,0 +1,12 @@
+use Rattle.std.proofs.Common.{◌+◌, ◌<◌, ◌≤◌}
+use Rattle.rfb_picture.specs.Plane.{has_masked}
+use Rattle.rfb_picture.specs.Edges.{NoMarks}
+use Rattle.rfb_picture.proofs.edges.last_row.Given as goal
+
+-- the rows below have no mark
+abbrev pub invariant-loop-last : goal.invariant-loop-last
+invariant-loop-last l =
+    (l.top ≤ l.last) × (l.last < l.fn.bottom) × NoMarks (has_masked l.words l.across l.column l.mask) (l.last + 1) l.fn.bottom
+
+abbrev pub decreases-loop-last : goal.decreases-loop-last
+decreases-loop-last l = l.last

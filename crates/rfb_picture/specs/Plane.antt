@@ -1,0 +1,37 @@
+-- How a `Plane` holds which places are marked, as bits of words: a row is so many words across.
+use Rattle.std.specs.Prelude.{ℕ, Bool, false, List, ◌≡◌, ◌+◌, ◌*◌, ◌/◌, ◌%◌, ◌^◌, ◌<◌, ◌≤◌, ◌&&◌, length, nat_eq, slice_index_or}
+use Rattle.std.specs.Int.{bit_at}
+use Rattle.rfb_picture.specs.Grid.{Grid, grid, changed, uniform}
+
+-- the places of that width and height, each true where it is marked
+abbrev pub marked : ℕ → ℕ → (ℕ → ℕ → Bool) → Grid Bool
+marked width height mark =
+    grid width height (changed (λ x y _. mark x y) (uniform width height false)).places
+
+-- bit i of the word is set
+abbrev pub has_bit : ℕ → ℕ → Bool
+has_bit word i = nat_eq (bit_at word i) 1
+
+-- bit i of word k of row y is set
+abbrev pub has_at : List ℕ → ℕ → ℕ → ℕ → ℕ → Bool
+has_at words across y k i = has_bit (slice_index_or words (y * across + k) 0) i
+
+-- the mask has bit i, and bit i of word k of row y is set
+abbrev pub has_masked : List ℕ → ℕ → ℕ → ℕ → ℕ → ℕ → Bool
+has_masked words across k mask y i = has_at words across y k i && has_bit mask i
+
+-- place (x, y) is marked: a word holds 64 places of a row, the lowest bit the leftmost place
+abbrev pub has_place : List ℕ → ℕ → ℕ → ℕ → Bool
+has_place words across x y = has_at words across y (x / 64) (x % 64)
+
+-- the places of that width and height, each true where its bit is set
+abbrev pub plane : ℕ → ℕ → ℕ → List ℕ → Grid Bool
+plane width height across words = marked width height (has_place words across)
+
+-- the sizes fit 16 bits, a row has as few words as hold its places, and there is a word for each
+pub record IsPlane (width height across : ℕ) (words : List ℕ) : Type 0 where
+  pub narrow : width < 2 ^ 16
+  pub low : height < 2 ^ 16
+  pub room : width ≤ across * 64
+  pub least : across * 64 < width + 64
+  pub size : length words ≡ height * across

@@ -1,0 +1,148 @@
+//! A mark for each place of a picture, or for each of its cells.
+
+ghost use Rattle.std.specs.Prelude.{◌≡◌, ◌+◌, ◌*◌, ◌/◌, ◌<◌, ◌≤◌, false, true, IfOk};
+
+use crate::edges::{Edges, edges_in};
+use crate::rect::Rect;
+use crate::words::{add_places, clear_column};
+use std::alloc::{AllocError, Global};
+use std::marker::Model;
+
+/// Marks of the places of a rectangle of that size, numbered from the top left. It keeps its size;
+/// either may be 0. It owns one bit for each place, and up to 63 bits more for each row.
+#[derive(Drop)]
+pub(crate) struct Plane {
+    width: u16,
+    height: u16,
+    // How many words a row has.
+    across: usize,
+    // Row after row; of a row each word has 64 places, the lowest bit the leftmost.
+    words: Vec<u64>,
+}
+
+impl Model for Plane {
+    ghost use Rattle.std.specs.Prelude.{Bool};
+    ghost use Rattle.std.specs.Coded.{coded_bool};
+    ghost use Rattle.rfb_picture.specs.Grid.{Grid, grid_code};
+    ghost use Rattle.rfb_picture.specs.Plane.{plane, IsPlane};
+
+    ghost Value = { Grid Bool };
+
+    ghost coded = { grid_code coded_bool };
+
+    ghost view = { λ s. plane s.width s.height s.across s.words.items };
+
+    ghost invariant = { λ s. IsPlane s.width s.height s.across s.words.items };
+}
+
+impl Plane {
+    ghost use Rattle.rfb_picture.specs.Grid.{IsGrid, Holds, at_or, filled, uniform};
+    ghost use Rattle.rfb_picture.specs.Box.{is_in};
+    ghost use Rattle.rfb_picture.specs.Edges.{HasEdges};
+    ghost use Rattle.rfb_picture.specs.Cells.{cell_at};
+
+    /// No mark, at `width` by `height` places. It asks for room for all its bits, in one piece; where
+    /// there is none it gives the error, and nothing is kept.
+    pub(crate) fn new(alloc: Global, width: u16, height: u16) -> Result<Plane, AllocError>
+        ensures value { IfOk result (λ s. s ≡ uniform width height false) }
+        ensures width { IfOk result (λ s. s.width ≡ width) }
+        ensures height { IfOk result (λ s. s.height ≡ height) }
+    {
+        let across = usize::from(width).div_ceil(64);
+        let count = usize::from(height) * across;
+        let mut words = Vec::with_capacity(alloc, count)?;
+        words.resize(count, 0)?;
+        Ok(Plane {
+            width,
+            height,
+            across,
+            words,
+        })
+    }
+
+    /// How many places a row has. It also tells that each place is marked or not.
+    #[inline]
+    pub(crate) fn width(&self) -> u16
+        ensures value { result ≡ self.now.width }
+        ensures whole { IsGrid self.now }
+    {
+        self.width
+    }
+
+    /// How many rows there are.
+    #[inline]
+    pub(crate) fn height(&self) -> u16
+        ensures { result ≡ self.now.height }
+    {
+        self.height
+    }
+
+    /// Whether the place at column `x` of row `y` is marked.
+    #[inline]
+    pub(crate) fn has(&self, x: u16, y: u16) -> bool
+        requires column { x < self.now.width }
+        requires row { y < self.now.height }
+        ensures { result ≡ at_or self.now x y false }
+    {
+        let word = self.words[usize::from(y) * self.across + usize::from(x) / 64];
+        word >> (x % 64) & 1 == 1
+    }
+
+    /// The edges of the marked places of the zone, which lies in one column of cells; `None` where none
+    /// is marked.
+    pub(crate) fn edges_in(&self, zone: Rect) -> Option<Edges>
+        requires room { Holds self.now zone }
+        requires some { 0 < zone.w }
+        requires column { zone.x + zone.w ≤ zone.x / 64 * 64 + 64 }
+        ensures { HasEdges (is_in self.now) zone result }
+    {
+        edges_in(&self.words, self.across, zone)
+    }
+
+    /// Marks the places of the rectangle.
+    pub(crate) fn add(&mut self, rect: Rect)
+        requires { Holds self.old rect }
+        ensures value { self.new ≡ filled rect true self.old }
+        ensures width { self.new.width ≡ self.old.width }
+        ensures height { self.new.height ≡ self.old.height }
+    {
+        add_places(&mut self.words, self.across, rect);
+    }
+
+    /// Takes the marks from the places of the cell, which are those of one word in each of 64 rows.
+    pub(crate) fn clear_cell(&mut self, column: u16, row: u16)
+        requires column { column * 64 < self.old.width }
+        requires row { row * 64 < self.old.height }
+        ensures value { self.new ≡ filled (cell_at column row) false self.old }
+        ensures width { self.new.width ≡ self.old.width }
+        ensures height { self.new.height ≡ self.old.height }
+    {
+        let top = usize::from(row) * 64;
+        let bottom = (top + 64).min(usize::from(self.height));
+        clear_column(
+            &mut self.words,
+            self.across,
+            usize::from(column),
+            top,
+            bottom,
+        );
+    }
+
+    /// Takes all marks.
+    pub(crate) fn clear(&mut self)
+        ensures value { self.new ≡ uniform self.old.width self.old.height false }
+        ensures width { self.new.width ≡ self.old.width }
+        ensures height { self.new.height ≡ self.old.height }
+    {
+        self.words.fill(0);
+    }
+
+    /// Becomes a copy of `other`, which is of the same size and stays the caller's.
+    pub(crate) fn copy_from(&mut self, other: &Plane)
+        requires width { self.old.width ≡ other.now.width }
+        requires height { self.old.height ≡ other.now.height }
+        ensures { self.new ≡ other.now }
+    {
+        self.words.copy_from_slice(&other.words);
+    }
+}
