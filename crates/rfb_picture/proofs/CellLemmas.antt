@@ -9,7 +9,7 @@ use Rattle.rfb_picture.specs.Rect.{contains}
 use Rattle.rfb_picture.specs.Grid.{Holds}
 use Rattle.rfb_picture.specs.Box.{is_in}
 use Rattle.rfb_picture.specs.Edges.{IsEdges, HasEdges}
-use Rattle.rfb_picture.specs.Cells.{in_column, in_row}
+use Rattle.rfb_picture.specs.Cells.{in_column}
 use Rattle.rfb_picture.specs.PlaceSet.{in_set, layered}
 use Rattle.rfb_picture.proofs.GridLemmas.{contains_true}
 use Rattle.rfb_picture.proofs.PlaceSetLemmas.{at-layered}
@@ -49,12 +49,7 @@ rows_to z row = record { x = z.x; y = z.y; w = z.w; h = min (z.y + z.h) (row * 6
 abbrev pub columns_to : Rect → ℕ → Rect
 columns_to z column = record { x = z.x; y = z.y; w = min (z.x + z.w) (column * 64) - z.x; h = z.h }
 
--- with one row more
-pub rows_more : (z : Rect) (row x y : ℕ) →
-    z.y / 64 ≤ row → contains (rows_to z (row + 1)) x y ≡ (contains (rows_to z row) x y || contains (in_row z row) x y)
-rows_more z row x y p = grind (arith, nat_tests)
-
--- and with one column more
+-- with one column more
 pub columns_more : (z : Rect) (column x y : ℕ) →
     z.x / 64 ≤ column →
     contains (columns_to z (column + 1)) x y ≡ (contains (columns_to z column) x y || contains (in_column z column) x y)

@@ -3,6 +3,7 @@ pub mod CopyLemmas
 pub mod LoanLemmas
 pub mod PlaneLemmas
 pub mod PlaceSetLemmas
+pub mod PartLemmas
 pub mod CellLemmas
 pub mod WordLemmas
 pub mod GatherLemmas

@@ -1,16 +1,15 @@
 -- What a set of places says of each place, from the marks of its places and of its cells.
-use Rattle.std.proofs.Common.{ℕ, Bool, true, false, ◌≡◌, ◌/◌, ◌^◌, ◌<◌, ◌≤◌, ◌&&◌, ◌||◌, refl, sym, ◌∙◌, arith, if◌then◌else◌, inl, inr, ◌⊎◌}
-use Rattle.std.proofs.lemmas.Bool.{cases_Bool, both_ways, or_cases, false≢true}
+use Rattle.std.proofs.Common.{ℕ, Bool, true, false, ◌≡◌, ◌/◌, ◌^◌, ◌<◌, ◌&&◌, ◌||◌, refl, sym, ◌∙◌, arith, if◌then◌else◌, inl, inr}
+use Rattle.std.proofs.lemmas.Bool.{cases_Bool, false≢true}
 use Rattle.std.proofs.lemmas.Bool.Decides.{nat_tests}
 use Rattle.rfb_picture.specs.declared.rect.Rect.{Rect}
 use Rattle.rfb_picture.specs.declared.place_set.layers.Layers.{Layers}
-use Rattle.rfb_picture.specs.declared.place_set.parts.Parts.{Parts}
 use Rattle.rfb_picture.specs.Rect.{contains}
 use Rattle.rfb_picture.specs.Grid.{Grid, IsGrid, at_or, filled, uniform}
 use Rattle.rfb_picture.specs.Box.{is_in}
 use Rattle.rfb_picture.specs.Cells.{cells_in, cell_at, one_cell, touched, IsOfCells}
 use Rattle.rfb_picture.specs.PlaceSet.{in_set, layered, IsLayers, IsOpened}
-use Rattle.rfb_picture.proofs.GridLemmas.{contains_true, width-changed, height-changed, whole-changed, whole-uniform, width-uniform, height-uniform, at-uniform, at-filled, changed_twice, same_changes, same_grid}
+use Rattle.rfb_picture.proofs.GridLemmas.{contains_true, width-changed, height-changed, whole-changed, whole-uniform, width-uniform, height-uniform, at-uniform, at-filled}
 use Rattle.rfb_picture.proofs.PlaneLemmas.{whole-marked, at-marked, marked_is}
 use Rattle.rfb_picture.proofs.EdgesLemmas.{contains_from}
 
@@ -206,40 +205,6 @@ layered-part old new part sound opens =
     ] in
     rw there (step ∙ (rw (← was) (sym after))))
 
--- no cell was opened
-pub opened_none : (cells : Rect) (l : Layers) →
-    IsLayers l → ((i j : ℕ) → contains cells i j ≡ false) → IsOpened cells l l
-opened_none cells l sound none = record {
-  sound = sound;
-  wide = refl;
-  high = refl;
-  same_full = refl;
-  same = λ x y p q. refl;
-  kept = λ i j p q o. o;
-  opened = λ i j p q c. absurd (both_ways (contains cells i j) (none i j) c);
-}
-
--- one set of cells was opened after another
-pub opened_then : (first next all : Rect) (a b d : Layers) →
-    ((i j : ℕ) → contains all i j ≡ (contains first i j || contains next i j)) →
-    IsOpened first a b →
-    IsOpened next b d →
-    IsOpened all a d
-opened_then first next all a b d parts one two =
-    record {
-      sound = two.sound;
-      wide = two.wide ∙ one.wide;
-      high = two.high ∙ one.high;
-      same_full = two.same_full ∙ one.same_full;
-      same = λ x y p q. two.same x y (rw one.wide p) (rw one.high q) ∙ one.same x y p q;
-      kept = λ i j p q o. two.kept i j (rw one.same_full p) (rw one.same_full q) (one.kept i j p q o);
-      opened = λ i j p q c.
-          elim (or_cases (contains first i j) (contains next i j) (sym (parts i j) ∙ c)) [
-            | inl e ↦ two.kept i j (rw one.same_full p) (rw one.same_full q) (one.opened i j p q e)
-            | inr e ↦ two.opened i j (rw one.same_full p) (rw one.same_full q) e
-          ];
-    }
-
 -- a cell whose marks did not count says nothing until they are cleared
 opened_mark : (b f u p : Bool) → (b ≡ true → f ≡ false) → (b ≡ true → u ≡ false) → (f || ((if b then true else u) && (if b then false else p))) ≡ (f || (u && p))
 opened_mark true f u p no_f no_u = rw (no_f refl, no_u refl) refl
@@ -289,39 +254,3 @@ opened_cell l column row sound p q no_full no_used =
       kept = λ i j a b o. rw (used_at i j a b) (still_open (contains (one_cell column row) i j) _ _ o);
       opened = λ i j a b c. rw (used_at i j a b) (now_open (contains (one_cell column row) i j) _ _ c);
     }
-
--- ---- a rectangle in parts
-
-or_put : (a b : Bool) (old : Bool) → (if b then true else (if a then true else old)) ≡ (if a || b then true else old)
-or_put true true old = refl
-or_put true false old = refl
-or_put false b old = refl
-
-parts_put : (i a b l r all old : Bool) →
-    all ≡ (i || a || b || l || r) →
-    (if r then true else (if l then true else (if b then true else (if a then true else (if i then true else old))))) ≡ (if all then true else old)
-parts_put i a b l r all old e =
-    rw (e, or_put i a old, or_put (i || a) b old, or_put (i || a || b) l old, or_put (i || a || b || l) r old) refl
-
--- the places of all parts are those of the rectangle
-pub filled-parts : (g : Grid Bool) (r : Rect) (p : Parts) →
-    IsGrid g →
-    ((x y : ℕ) → contains r x y ≡ (contains p.inner x y || contains p.above x y || contains p.below x y || contains p.left x y || contains p.right x y)) →
-    filled p.right true (filled p.left true (filled p.below true (filled p.above true (filled p.inner true g)))) ≡ filled r true g
-filled-parts g r p whole all =
-    rw (changed_twice, changed_twice, changed_twice, changed_twice)
-    (same_changes _ _ g whole
-    (λ x y d a b.
-    parts_put (contains p.inner x y) (contains p.above x y) (contains p.below x y) (contains p.left x y) (contains p.right x y) (contains r x y) _ (all x y)))
-
--- a rectangle with no column or no row has no place
-pub no_place : (r : Rect) (x y : ℕ) → ((0 < r.w × r.h ≤ 0) ⊎ (r.w ≤ 0)) → contains r x y ≡ false
-no_place r x y (inl e) = let low = e.1 in grind (arith, nat_tests)
-no_place r x y (inr e) = grind (arith, nat_tests)
-
--- so it adds none
-pub filled-none : (g : Grid Bool) (r : Rect) →
-    IsGrid g → ((x y : ℕ) → contains r x y ≡ false) → g ≡ filled r true g
-filled-none g r whole none =
-    same_grid g (filled r true g) whole (whole-changed _ g whole) (sym (width-changed _ g)) (sym (height-changed _ g))
-    (λ x y d p q. sym (at-filled r true g x y d whole p q ∙ (rw (none x y) refl)))

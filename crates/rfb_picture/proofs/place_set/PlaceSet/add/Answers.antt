@@ -1,4 +1,4 @@
-use Rattle.rfb_picture.proofs.PlaceSetLemmas.{filled-parts}
+use Rattle.rfb_picture.proofs.PartLemmas.{filled-parts}
 use Rattle.rfb_picture.proofs.place_set.PlaceSet.add.Goals as goal
 
 pub returns-clause-value : goal.returns-clause-value

@@ -1,6 +1,7 @@
 use Rattle.std.proofs.Common.{refl}
 use Rattle.rfb_picture.proofs.GridLemmas.{whole-changed}
-use Rattle.rfb_picture.proofs.PlaceSetLemmas.{layered-part, same_sizes, whole-layered, filled-none, no_place}
+use Rattle.rfb_picture.proofs.PlaceSetLemmas.{layered-part, same_sizes, whole-layered}
+use Rattle.rfb_picture.proofs.PartLemmas.{filled-none, no_place}
 use Rattle.rfb_picture.specs.Grid.{IsGrid}
 use Rattle.rfb_picture.proofs.place_set.PlaceSet.add_part.Goals as goal
 
