@@ -8,7 +8,7 @@ trap 'rm -rf "$copy"' EXIT
 mkdir "$copy/crates"
 cp crates.txt HANDLES "$copy"
 cp -r crates/rfb_pixel crates/rfb_picture "$copy/crates"
-sed -i '/^rfb:/d' "$copy/crates.txt"
+sed -i '/^rfb_pixel:\|^rfb_picture:/!d' "$copy/crates.txt"
 cat bench/kernels/rfb_picture.txt >> "$copy/crates/rfb_picture/src/tests.rt"
 cat bench/kernels/rfb_pixel.txt >> "$copy/crates/rfb_pixel/src/format/tests.rt"
 for crate in rfb_pixel rfb_picture; do
