@@ -1,5 +1,5 @@
 -- The viewer's end, step by step.
-use Rattle.std.proofs.Common.{◌≡◌, ◌≢◌, ℕ, zero, suc, ◌+◌, ◌<◌, ◌≤◌, ◌||◌, ◌&&◌, if◌then◌else◌, Bool, true, false, List, [], ◌∷◌, ◌++◌, Option, Some, None, Result, Ok, Err, length, take, min, nat_le, refl, sym, subst, ◌∙◌, ap, append-nil, append_assoc, length-append, arith}
+use Rattle.std.proofs.Common.{◌≡◌, ◌≢◌, ℕ, zero, suc, ◌+◌, ◌<◌, ◌≤◌, ◌||◌, ◌&&◌, if◌then◌else◌, Bool, true, false, List, [], ◌∷◌, ◌++◌, Option, Some, None, Result, Ok, Err, length, take, drop, min, nat_le, refl, sym, subst, ◌∙◌, ap, append-nil, append_assoc, length-append, arith}
 use Rattle.std.proofs.lemmas.Bool.Decides.{nat_tests}
 use Rattle.std.proofs.lemmas.List.{take-append-le, take_all, length-take-le}
 use Rattle.rfb_wire.specs.Fields.{u16_at, u32_at}
@@ -7,11 +7,11 @@ use Rattle.rfb_wire.specs.Reading.{More, Got, Bad}
 use Rattle.rfb_wire.specs.End.{IsMachine, FedBy, RunsOutBy, StepsBy}
 use Rattle.rfb_wire.proofs.RepeatLaws.{checked_reads}
 use Rattle.rfb_wire.proofs.PartLaws.{piece_short}
-use Rattle.rfb_wire.proofs.FeedLaws.{fed_start}
+use Rattle.rfb_wire.proofs.FeedLaws.{fed_start, memory_step}
 use Rattle.rfb_hello.specs.declared.version.Version.{Version}
 use Rattle.rfb_hello.specs.declared.version.Version.TheVariants.{V33, V37, V38}
 use Rattle.rfb_hello.specs.declared.fault.HelloFault.{HelloFault}
-use Rattle.rfb_hello.specs.declared.fault.HelloFault.TheVariants.{BadVersion, NoneNotOffered}
+use Rattle.rfb_hello.specs.declared.fault.HelloFault.TheVariants.{BadVersion, NoneNotOffered, Refused as RefusedFault, SecurityFailed as FailedFault}
 use Rattle.rfb_hello.specs.declared.step.ViewerStep.{ViewerStep}
 use Rattle.rfb_hello.specs.declared.step.ViewerStep.TheVariants.{Reply}
 use Rattle.rfb_hello.specs.declared.viewer_hello.ViewerHello.{ViewerHello}
@@ -26,8 +26,8 @@ use Rattle.rfb_hello.specs.ServerHandshake.{ServerPoint, AwaitsVersion, AwaitsSe
 use Rattle.rfb_hello.specs.ServerReading.{name, security, screen_fault, server_item}
 use Rattle.rfb_hello.specs.ServerEnd.{as_reply}
 use Rattle.rfb_hello.specs.ViewerEnd.{ViewerSetup, viewer_end, viewer_tells, choice_bytes, told_of_init, fault_for, OpensReason, AsksMemory, AsksForReason}
-use Rattle.rfb_hello.specs.ViewerProgress.{ProgressStandsFor, fault_in, progress_behind_version, progress_behind_types, progress_behind_init}
-use Rattle.rfb_hello.specs.ViewerStanding.{StandsFor, setup_of}
+use Rattle.rfb_hello.specs.ViewerProgress.{ProgressStandsFor, fault_in, reason_in, progress_behind_version, progress_behind_types, progress_behind_init}
+use Rattle.rfb_hello.specs.ViewerStanding.{StandsFor, setup_of, IsReasonKept, KeepsReason}
 use Rattle.rfb_hello.proofs.ServerStreamLaws.{server_handshake_laws}
 use Rattle.rfb_hello.proofs.ViewerReadingLaws.{opened, reason_short, reason_more, reason_bad, types_next, types_more, types_good, types_bad, none_behind}
 
@@ -59,11 +59,11 @@ got_step setup old p q unit event was step s prefix stands =
     let h = step s prefix stands.setup_is (here setup old p s prefix was stands) in
     rw h.1 (refl, h.2, record { setup_is = stands.setup_is; progress_is = h.3 })
 
-asks_step : (setup : ViewerSetup) (old : ViewerHello) (p : Progress) (unit : List ℕ) → old.progress ≡ p →
-    ((s : ServerPoint) (prefix : List ℕ) → ProgressStandsFor setup.text_limit p s prefix → AsksMemory s (prefix ++ unit)) →
-    RunsOutBy (viewer_end setup) AsksMemory (StandsFor setup) old unit
-asks_step setup old p unit was asks s prefix stands =
-    record { items = []; front = prefix ++ unit; later = []; reads = sym (append-nil (prefix ++ unit)); quiet = refl; asked = asks s prefix (here setup old p s prefix was stands) }
+asks_step : (asks : ServerPoint → List ℕ → Type 0) (setup : ViewerSetup) (old : ViewerHello) (p : Progress) (unit : List ℕ) → old.progress ≡ p →
+    ((s : ServerPoint) (prefix : List ℕ) → ProgressStandsFor setup.text_limit p s prefix → asks s (prefix ++ unit)) →
+    RunsOutBy (viewer_end setup) asks (StandsFor setup) old unit
+asks_step asks setup old p unit was asked s prefix stands =
+    record { items = []; front = prefix ++ unit; later = []; reads = sym (append-nil (prefix ++ unit)); quiet = refl; asked = asked s prefix (here setup old p s prefix was stands) }
 
 -- the same step, where the unit and the progress are equal to others
 pub becomes : (setup : ViewerSetup) (old : ViewerHello) (unit there : List ℕ) (result : Result (Option ViewerStep) HelloFault) (p q : Progress) → there ≡ unit → q ≡ p → StepsBy (viewer_end setup) (StandsFor setup) old unit result (record old { progress = p }) → StepsBy (viewer_end setup) (StandsFor setup) old there result (record old { progress = q })
@@ -198,7 +198,7 @@ init_told setup old version part unit whole was is size good =
 
 pub init_asks : (setup : ViewerSetup) (old : ViewerHello) (version : Version) (part : ArrayVec ℕ) (unit whole : List ℕ) → old.progress ≡ Init version part → whole ≡ part.items ++ unit → length whole ≡ 24 → 0 < u32_at 20 whole → RunsOutBy (viewer_end setup) AsksMemory (StandsFor setup) old unit
 init_asks setup old version part unit whole was is size some =
-    asks_step setup old (Init version part) unit was (λ s prefix h.
+    asks_step AsksMemory setup old (Init version part) unit was (λ s prefix h.
     rw (h.0, joined prefix part.items unit whole h.1 is) (u16_at 0 whole, u16_at 2 whole, u32_at 20 whole, record { size = size; width_is = refl; height_is = refl; name_length_is = refl }, some))
 
 -- ---- reasons
@@ -221,7 +221,7 @@ length_zero setup old new cause part unit whole was is word =
 
 pub length_asks : (setup : ViewerSetup) (old : ViewerHello) (cause : Cause) (part : ArrayVec ℕ) (unit whole : List ℕ) (n : ℕ) → old.progress ≡ ReasonLength cause part → whole ≡ part.items ++ unit → IsWord n whole → 0 < n → RunsOutBy (viewer_end setup) AsksMemory (StandsFor setup) old unit
 length_asks setup old cause part unit whole n was is word some =
-    asks_step setup old (ReasonLength cause part) unit was (λ s prefix h.
+    asks_step AsksMemory setup old (ReasonLength cause part) unit was (λ s prefix h.
     let all : prefix ++ unit ≡ h.0 ++ whole = behind_intro prefix h.0 part.items unit h.2 ∙ ap (λ (ys : List ℕ). h.0 ++ ys) (sym is) in
     asks s (prefix ++ unit) h.0 h.1 (cause, h.0, whole, n, all, h.1, word, some))
   where
@@ -333,3 +333,34 @@ not_failed (Failed fault kept) not = absurd (not fault kept refl)
 pub step_there : (setup : ViewerSetup) (old new : ViewerHello) (n : ℕ) (slice there : List ℕ) (result known : Result (Option ViewerStep) HelloFault) → slice ≡ there → result ≡ known → StepsBy (viewer_end setup) (StandsFor setup) old (take n slice) result new → StepsBy (viewer_end setup) (StandsFor setup) old (take n there) known new
 step_there setup old new n slice there result known same is steps =
     subst (λ (r : Result (Option ViewerStep) HelloFault). StepsBy (viewer_end setup) (StandsFor setup) old (take n there) r new) is (subst (λ (xs : List ℕ). StepsBy (viewer_end setup) (StandsFor setup) old (take n xs) result new) same steps)
+
+-- ---- what is kept of a reason
+
+reason_kept : (cause : Cause) (n : ℕ) (old new : ViewerHello) (unit : List ℕ) → ((setup : ViewerSetup) → RunsOutBy (viewer_end setup) (IsReasonKept setup.text_limit cause n (reason_in new.progress)) (StandsFor setup) old unit) → KeepsReason (fault_for cause n) old unit new
+reason_kept Refused n old new unit h = h
+reason_kept SecurityFailed n old new unit h = h
+
+-- a reason without bytes
+pub none_kept : (old new : ViewerHello) (cause : Cause) (part : ArrayVec ℕ) (unit whole : List ℕ) → old.progress ≡ ReasonLength cause part → whole ≡ part.items ++ unit → IsWord 0 whole → reason_in new.progress ≡ [] → KeepsReason (fault_for cause 0) old unit new
+none_kept old new cause part unit whole was is word none =
+    reason_kept cause 0 old new unit (λ setup. asks_step (IsReasonKept setup.text_limit cause 0 (reason_in new.progress)) setup old (ReasonLength cause part) unit was (λ s prefix h.
+    let all : prefix ++ unit ≡ h.0 ++ (whole ++ []) = behind_intro prefix h.0 part.items unit h.2 ∙ ap (λ (ys : List ℕ). h.0 ++ ys) (sym is ∙ sym (append-nil whole)) in
+    (h.0, whole, [], all, h.1, word, refl, none ∙ sym (take_all setup.text_limit [] (omega arith)))))
+
+-- the last bytes of a reason
+pub text_kept : (old new : ViewerHello) (cause : Cause) (n more : ℕ) (kept : KeptText) (unit : List ℕ) → old.progress ≡ Reason cause n more kept → length unit ≡ more + 1 → reason_in new.progress ≡ take kept.room (kept.bytes ++ unit) → KeepsReason (fault_for cause n) old unit new
+text_kept old new cause n more kept unit was count is =
+    reason_kept cause n old new unit (λ setup. asks_step (IsReasonKept setup.text_limit cause n (reason_in new.progress)) setup old (Reason cause n more kept) unit was (λ s prefix h.
+    let intro = h.0 in
+    let word = h.1 in
+    let text = h.2 in
+    let all : prefix ++ unit ≡ intro ++ (word ++ (text ++ unit)) = behind_intro prefix intro (word ++ text) unit h.4 ∙ ap (λ (ys : List ℕ). intro ++ ys) (append_assoc word text unit) in
+    let size : length (text ++ unit) ≡ n = rw (length-append text unit) (omega (arith, count, h.6)) in
+    let room : take kept.room (kept.bytes ++ unit) ≡ take (min n setup.text_limit) (take setup.text_limit text ++ unit) = rw h.7 refl in
+    (intro, word, text ++ unit, all, h.3, h.5, size, is ∙ room ∙ kept_on setup.text_limit n text unit (omega (arith, size)))))
+
+-- a slice of which some bytes were taken before
+pub kept_later : (fault : HelloFault) (old mid new : ViewerHello) (i n : ℕ) (bytes : List ℕ) → ((setup : ViewerSetup) → FedBy (viewer_end setup) (StandsFor setup) old (take i bytes) None mid) → KeepsReason fault mid (take n (drop i bytes)) new → KeepsReason fault old bytes new
+kept_later (RefusedFault k) old mid new i n bytes fed kept = λ setup. memory_step (viewer_end setup) (viewer_machine setup) (IsReasonKept setup.text_limit Refused k (reason_in new.progress)) (StandsFor setup) old mid i n bytes (fed setup) (kept setup)
+kept_later (FailedFault k) old mid new i n bytes fed kept = λ setup. memory_step (viewer_end setup) (viewer_machine setup) (IsReasonKept setup.text_limit SecurityFailed k (reason_in new.progress)) (StandsFor setup) old mid i n bytes (fed setup) (kept setup)
+kept_later fault old mid new i n bytes fed kept = kept

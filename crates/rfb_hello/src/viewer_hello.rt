@@ -4,7 +4,7 @@ ghost use Rattle.std.specs.Prelude.{◌≡◌, ◌≢◌, ◌≤◌, ◌<◌, []
 ghost use Rattle.rfb_wire.specs.End.{FedBy, RefusedBy, RunsOutBy, StepsBy, StaysFailed};
 ghost use Rattle.rfb_hello.specs.ServerHandshake.{AwaitsVersion};
 ghost use Rattle.rfb_hello.specs.ViewerEnd.{ViewerSetup, viewer_end, AsksMemory};
-ghost use Rattle.rfb_hello.specs.ViewerStanding.{StandsFor};
+ghost use Rattle.rfb_hello.specs.ViewerStanding.{KeepsReason, StandsFor};
 ghost use Rattle.rfb_hello.specs.ViewerProgress.{fault_in, is_open, reason_in};
 ghost use Rattle.rfb_hello.specs.declared.fault.HelloFault.TheVariants.{NoMemory};
 ghost use Rattle.rfb_hello.specs.declared.viewer_hello.progress.Progress.{Progress};
@@ -71,6 +71,7 @@ impl ViewerHello {
         // When a fault comes, when memory is wanting, and that it stays.
         ensures fault { IfErr result (λ fault. fault ≢ NoMemory → fault_in self.old.progress ≡ None → (setup : ViewerSetup) → RefusedBy (viewer_end setup) (StandsFor setup) self.old bytes.now fault) }
         ensures memory { IfErr result (λ fault. fault ≡ NoMemory → fault_in self.old.progress ≡ None → (setup : ViewerSetup) → RunsOutBy (viewer_end setup) AsksMemory (StandsFor setup) self.old bytes.now) }
+        ensures reason { IfErr result (λ fault. fault_in self.old.progress ≡ None → KeepsReason fault self.old bytes.now self.new) }
         ensures fails { IfErr result (λ fault. fault_in self.new.progress ≡ Some fault) }
         ensures failed { StaysFailed (fault_in self.old.progress) self.old result self.new }
     {
@@ -111,6 +112,7 @@ impl ViewerHello {
         ensures fails { IfErr result.1 (λ fault. fault_in self.new.progress ≡ Some fault) }
         ensures steps { result.1 ≢ Err NoMemory → (setup : ViewerSetup) → StepsBy (viewer_end setup) (StandsFor setup) self.old (take result.0 bytes.now) result.1 self.new }
         ensures memory { result.1 ≡ Err NoMemory → (setup : ViewerSetup) → RunsOutBy (viewer_end setup) AsksMemory (StandsFor setup) self.old (take result.0 bytes.now) }
+        ensures reason { IfErr result.1 (λ fault. KeepsReason fault self.old (take result.0 bytes.now) self.new) }
     {
         match self.progress {
             Progress::Version(_) => self.take_version(bytes),
@@ -138,3 +140,6 @@ impl ViewerHello {
         fault
     }
 }
+
+#[cfg(test)]
+mod tests;

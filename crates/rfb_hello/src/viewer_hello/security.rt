@@ -5,7 +5,7 @@ ghost use Rattle.arrayvec.specs.ArrayVec.{ArrayVec as Items};
 ghost use Rattle.rfb_wire.specs.End.{RunsOutBy, StepsBy};
 ghost use Rattle.rfb_hello.specs.Version.{lower};
 ghost use Rattle.rfb_hello.specs.ViewerEnd.{ViewerSetup, viewer_end, choice_bytes, shared_flag, AsksMemory};
-ghost use Rattle.rfb_hello.specs.ViewerStanding.{StandsFor};
+ghost use Rattle.rfb_hello.specs.ViewerStanding.{KeepsReason, StandsFor};
 ghost use Rattle.rfb_hello.specs.ViewerProgress.{fault_in, is_open, progress_behind_version, progress_behind_types};
 ghost use Rattle.rfb_hello.specs.declared.fault.HelloFault.TheVariants.{NoMemory};
 ghost use Rattle.rfb_hello.specs.declared.viewer_hello.progress.Progress.{Progress};
@@ -30,6 +30,7 @@ impl ViewerHello {
         ensures fails { IfErr result.1 (λ fault. fault_in self.new.progress ≡ Some fault) }
         ensures steps { result.1 ≢ Err NoMemory → (setup : ViewerSetup) → StepsBy (viewer_end setup) (StandsFor setup) self.old (take result.0 bytes.now) result.1 self.new }
         ensures memory { result.1 ≡ Err NoMemory → (setup : ViewerSetup) → RunsOutBy (viewer_end setup) AsksMemory (StandsFor setup) self.old (take result.0 bytes.now) }
+        ensures reason { IfErr result.1 (λ fault. KeepsReason fault self.old (take result.0 bytes.now) self.new) }
     {
         let Progress::Version(part) = &mut self.progress else {
             unreachable!()
@@ -56,6 +57,7 @@ impl ViewerHello {
         ensures fails { IfErr result.1 (λ fault. fault_in self.new.progress ≡ Some fault) }
         ensures steps { result.1 ≢ Err NoMemory → (setup : ViewerSetup) → StepsBy (viewer_end setup) (StandsFor setup) self.old (take result.0 bytes.now) result.1 self.new }
         ensures memory { result.1 ≡ Err NoMemory → (setup : ViewerSetup) → RunsOutBy (viewer_end setup) AsksMemory (StandsFor setup) self.old (take result.0 bytes.now) }
+        ensures reason { IfErr result.1 (λ fault. KeepsReason fault self.old (take result.0 bytes.now) self.new) }
     {
         let Progress::Word(part) = &mut self.progress else {
             unreachable!()
@@ -104,6 +106,7 @@ impl ViewerHello {
         ensures fails { IfErr result.1 (λ fault. fault_in self.new.progress ≡ Some fault) }
         ensures steps { result.1 ≢ Err NoMemory → (setup : ViewerSetup) → StepsBy (viewer_end setup) (StandsFor setup) self.old (take result.0 bytes.now) result.1 self.new }
         ensures memory { result.1 ≡ Err NoMemory → (setup : ViewerSetup) → RunsOutBy (viewer_end setup) AsksMemory (StandsFor setup) self.old (take result.0 bytes.now) }
+        ensures reason { IfErr result.1 (λ fault. KeepsReason fault self.old (take result.0 bytes.now) self.new) }
     {
         let Progress::Types {
             version,
@@ -138,6 +141,7 @@ impl ViewerHello {
         ensures fails { IfErr result.1 (λ fault. fault_in self.new.progress ≡ Some fault) }
         ensures steps { result.1 ≢ Err NoMemory → (setup : ViewerSetup) → StepsBy (viewer_end setup) (StandsFor setup) self.old (take result.0 bytes.now) result.1 self.new }
         ensures memory { result.1 ≡ Err NoMemory → (setup : ViewerSetup) → RunsOutBy (viewer_end setup) AsksMemory (StandsFor setup) self.old (take result.0 bytes.now) }
+        ensures reason { IfErr result.1 (λ fault. KeepsReason fault self.old (take result.0 bytes.now) self.new) }
     {
         let Progress::Result(version, part) = &mut self.progress else {
             unreachable!()

@@ -6,7 +6,7 @@ ghost use Rattle.rfb_wire.specs.End.{RunsOutBy, StepsBy};
 ghost use Rattle.rfb_hello.specs.KeptText.{KeptText, kept_of};
 ghost use Rattle.rfb_hello.specs.ServerReading.{screen_fault};
 ghost use Rattle.rfb_hello.specs.ViewerEnd.{ViewerSetup, viewer_end, told_of_init, AsksMemory};
-ghost use Rattle.rfb_hello.specs.ViewerStanding.{StandsFor};
+ghost use Rattle.rfb_hello.specs.ViewerStanding.{KeepsReason, StandsFor};
 ghost use Rattle.rfb_hello.specs.ViewerProgress.{fault_in, is_open, progress_behind_init};
 ghost use Rattle.rfb_hello.specs.declared.fault.HelloFault.TheVariants.{NoMemory};
 ghost use Rattle.rfb_hello.specs.declared.viewer_hello.progress.Progress.{Progress};
@@ -37,6 +37,7 @@ impl ViewerHello {
         ensures fails { IfErr result.1 (λ fault. fault_in self.new.progress ≡ Some fault) }
         ensures steps { result.1 ≢ Err NoMemory → (setup : ViewerSetup) → StepsBy (viewer_end setup) (StandsFor setup) self.old (take result.0 bytes.now) result.1 self.new }
         ensures memory { result.1 ≡ Err NoMemory → (setup : ViewerSetup) → RunsOutBy (viewer_end setup) AsksMemory (StandsFor setup) self.old (take result.0 bytes.now) }
+        ensures reason { IfErr result.1 (λ fault. KeepsReason fault self.old (take result.0 bytes.now) self.new) }
     {
         let Progress::ReasonLength { cause, part } = &mut self.progress else {
             unreachable!()
@@ -72,6 +73,7 @@ impl ViewerHello {
         ensures fails { IfErr result.1 (λ fault. fault_in self.new.progress ≡ Some fault) }
         ensures steps { result.1 ≢ Err NoMemory → (setup : ViewerSetup) → StepsBy (viewer_end setup) (StandsFor setup) self.old (take result.0 bytes.now) result.1 self.new }
         ensures memory { result.1 ≡ Err NoMemory → (setup : ViewerSetup) → RunsOutBy (viewer_end setup) AsksMemory (StandsFor setup) self.old (take result.0 bytes.now) }
+        ensures reason { IfErr result.1 (λ fault. KeepsReason fault self.old (take result.0 bytes.now) self.new) }
     {
         let Progress::Reason { more, kept, .. } = &mut self.progress else {
             unreachable!()
@@ -104,6 +106,7 @@ impl ViewerHello {
         ensures fails { IfErr result.1 (λ fault. fault_in self.new.progress ≡ Some fault) }
         ensures steps { result.1 ≢ Err NoMemory → (setup : ViewerSetup) → StepsBy (viewer_end setup) (StandsFor setup) self.old (take result.0 bytes.now) result.1 self.new }
         ensures memory { result.1 ≡ Err NoMemory → (setup : ViewerSetup) → RunsOutBy (viewer_end setup) AsksMemory (StandsFor setup) self.old (take result.0 bytes.now) }
+        ensures reason { IfErr result.1 (λ fault. KeepsReason fault self.old (take result.0 bytes.now) self.new) }
     {
         let Progress::Init(version, part) = &mut self.progress else {
             unreachable!()
@@ -170,6 +173,7 @@ impl ViewerHello {
         ensures fails { IfErr result.1 (λ fault. fault_in self.new.progress ≡ Some fault) }
         ensures steps { result.1 ≢ Err NoMemory → (setup : ViewerSetup) → StepsBy (viewer_end setup) (StandsFor setup) self.old (take result.0 bytes.now) result.1 self.new }
         ensures memory { result.1 ≡ Err NoMemory → (setup : ViewerSetup) → RunsOutBy (viewer_end setup) AsksMemory (StandsFor setup) self.old (take result.0 bytes.now) }
+        ensures reason { IfErr result.1 (λ fault. KeepsReason fault self.old (take result.0 bytes.now) self.new) }
     {
         let Progress::Name { more, kept, .. } = &mut self.progress else {
             unreachable!()

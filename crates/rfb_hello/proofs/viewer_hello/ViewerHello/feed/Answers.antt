@@ -1,13 +1,13 @@
-use Rattle.std.proofs.Common.{◌≡◌, ◌∙◌, ◌≤◌, sym, length, drop, length-drop, ap, Option, Ok, Err, None, arith}
+use Rattle.std.proofs.Common.{◌≡◌, ◌∙◌, ◌≤◌, sym, subst, ℕ, List, ◌-◌, length, take, drop, length-drop, ap, Option, Ok, Err, None, arith}
 use Rattle.std.proofs.lemmas.List.{take_rest}
 use Rattle.std.proofs.lemmas.Result.{err_from_is_err_and}
 use Rattle.rfb_wire.proofs.FeedLaws.{fed_step, fault_step, memory_step}
 use Rattle.rfb_hello.specs.declared.fault.HelloFault.TheVariants.{NoMemory}
 use Rattle.rfb_hello.specs.declared.step.ViewerStep.{ViewerStep}
 use Rattle.rfb_hello.specs.ViewerEnd.{viewer_end, AsksMemory}
-use Rattle.rfb_hello.specs.ViewerStanding.{StandsFor}
+use Rattle.rfb_hello.specs.ViewerStanding.{StandsFor, KeepsReason}
 use Rattle.rfb_hello.proofs.ServerHelloLemmas.{none_told, some_told}
-use Rattle.rfb_hello.proofs.ViewerHelloLemmas.{viewer_machine, viewer_starts, not_failed, step_there}
+use Rattle.rfb_hello.proofs.ViewerHelloLemmas.{viewer_machine, viewer_starts, not_failed, step_there, kept_later}
 use Rattle.rfb_hello.proofs.viewer_hello.ViewerHello.feed.Goals as goal
 
 pub loop-used-init : goal.loop-used-init
@@ -32,6 +32,9 @@ returns-in_err-event c =
       memory = λ is none setup.
           let wants = c.take-n.ensures.memory (let same : c.take-n.result.1 ≡ Err NoMemory = cc in same) setup in
           memory_step (viewer_end setup) (viewer_machine setup) AsksMemory (StandsFor setup) c.args.self.now c.loop-used.self c.loop-used.used c.take-n.result.0 c.args.bytes.now (c.loop-used.invariant.fed setup) (rw rest at wants);
+      reason = λ none.
+          let kept : KeepsReason fault c.loop-used.self (take c.take-n.result.0 (take (length c.args.bytes.now - c.loop-used.used) (drop c.loop-used.used c.args.bytes.now))) c.take-n.new.self = rw was at c.take-n.ensures.reason in
+          kept_later fault c.args.self.now c.loop-used.self c.take-n.new.self c.loop-used.used c.take-n.result.0 c.args.bytes.now c.loop-used.invariant.fed (subst (λ (xs : List ℕ). KeepsReason fault c.loop-used.self (take c.take-n.result.0 xs) c.take-n.new.self) rest kept);
       fails = rw was at c.take-n.ensures.fails;
       failed = λ f h. absurd cc;
     })
@@ -50,6 +53,7 @@ returns-then-is_some c =
           fed_step (viewer_end setup) (viewer_machine setup) (StandsFor setup) c.args.self.now c.loop-used.self c.take-n.new.self c.loop-used.used c.take-n.result.0 c.args.bytes.now c.in_ok-event.event (c.loop-used.invariant.fed setup) (step_there setup c.loop-used.self c.take-n.new.self c.take-n.result.0 _ _ _ _ rest was steps);
       fault = tt;
       memory = tt;
+      reason = tt;
       fails = tt;
       failed = λ f h. absurd cc;
     }
