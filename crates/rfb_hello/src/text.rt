@@ -53,7 +53,8 @@ impl Text {
     pub fn into_vec(self) -> Vec<u8>
         ensures { vec_items result ≡ self.bytes }
     {
-        self.bytes
+        let Text { bytes, .. } = self;
+        bytes
     }
 
     /// Keeps as many of these bytes behind the others as there is room for. It takes no memory.

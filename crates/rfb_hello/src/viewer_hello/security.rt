@@ -21,7 +21,10 @@ use byteorder::{BigEndian, ByteOrder};
 
 impl ViewerHello {
     // Takes bytes of the server's version.
-    pub fn take_version(&mut self, bytes: &[u8]) -> (usize, Result<Option<ViewerStep>, HelloFault>)
+    pub(super) fn take_version(
+        &mut self,
+        bytes: &[u8],
+    ) -> (usize, Result<Option<ViewerStep>, HelloFault>)
         requires some { 0 < length bytes.now }
         requires open { (part : Items ℕ) × (self.old.progress ≡ Progress.Version part) }
         ensures used { (0 < result.0) × (result.0 ≤ length bytes.now) }
@@ -48,7 +51,10 @@ impl ViewerHello {
     }
 
     // Takes bytes of the word that 3.3 has for a security type.
-    pub fn take_word(&mut self, bytes: &[u8]) -> (usize, Result<Option<ViewerStep>, HelloFault>)
+    pub(super) fn take_word(
+        &mut self,
+        bytes: &[u8],
+    ) -> (usize, Result<Option<ViewerStep>, HelloFault>)
         requires some { 0 < length bytes.now }
         requires open { (part : Items ℕ) × (self.old.progress ≡ Progress.Word part) }
         ensures used { (0 < result.0) × (result.0 ≤ length bytes.now) }
@@ -81,7 +87,7 @@ impl ViewerHello {
     }
 
     // Takes the count of the server's security types.
-    pub fn take_count(&mut self, version: Version, count: u8)
+    pub(super) fn take_count(&mut self, version: Version, count: u8)
         requires { self.old.progress ≡ Progress.Count version }
         ensures steps { (setup : ViewerSetup) → StepsBy (viewer_end setup) (StandsFor setup) self.old (count ∷ []) (Ok None) self.new }
         ensures open { is_open self.new.progress ≡ true }
@@ -97,7 +103,10 @@ impl ViewerHello {
     }
 
     // Takes security types, which are judged at the last of them.
-    pub fn take_types(&mut self, bytes: &[u8]) -> (usize, Result<Option<ViewerStep>, HelloFault>)
+    pub(super) fn take_types(
+        &mut self,
+        bytes: &[u8],
+    ) -> (usize, Result<Option<ViewerStep>, HelloFault>)
         requires some { 0 < length bytes.now }
         requires open { (version : Version) × (more : ℕ) × (none : Bool) × (self.old.progress ≡ Progress.Types version more none) }
         ensures used { (0 < result.0) × (result.0 ≤ length bytes.now) }
@@ -132,7 +141,10 @@ impl ViewerHello {
     }
 
     // Takes bytes of SecurityResult.
-    pub fn take_result(&mut self, bytes: &[u8]) -> (usize, Result<Option<ViewerStep>, HelloFault>)
+    pub(super) fn take_result(
+        &mut self,
+        bytes: &[u8],
+    ) -> (usize, Result<Option<ViewerStep>, HelloFault>)
         requires some { 0 < length bytes.now }
         requires open { (version : Version) × (part : Items ℕ) × (self.old.progress ≡ Progress.Result version part) }
         ensures used { (0 < result.0) × (result.0 ≤ length bytes.now) }

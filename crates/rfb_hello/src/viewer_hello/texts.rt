@@ -25,7 +25,7 @@ use std::mem;
 
 impl ViewerHello {
     // Takes bytes of the length of a reason.
-    pub fn take_reason_length(
+    pub(super) fn take_reason_length(
         &mut self,
         bytes: &[u8],
     ) -> (usize, Result<Option<ViewerStep>, HelloFault>)
@@ -64,7 +64,10 @@ impl ViewerHello {
     }
 
     // Takes bytes of a reason.
-    pub fn take_reason(&mut self, bytes: &[u8]) -> (usize, Result<Option<ViewerStep>, HelloFault>)
+    pub(super) fn take_reason(
+        &mut self,
+        bytes: &[u8],
+    ) -> (usize, Result<Option<ViewerStep>, HelloFault>)
         requires some { 0 < length bytes.now }
         requires open { (cause : Cause) × (n more : ℕ) × (kept : KeptText) × (self.old.progress ≡ Progress.Reason cause n more kept) }
         ensures used { (0 < result.0) × (result.0 ≤ length bytes.now) }
@@ -97,7 +100,10 @@ impl ViewerHello {
     }
 
     // Takes bytes of ServerInit, up to the name: judges the screen, and makes room for its name.
-    pub fn take_init(&mut self, bytes: &[u8]) -> (usize, Result<Option<ViewerStep>, HelloFault>)
+    pub(super) fn take_init(
+        &mut self,
+        bytes: &[u8],
+    ) -> (usize, Result<Option<ViewerStep>, HelloFault>)
         requires some { 0 < length bytes.now }
         requires open { (version : Version) × (part : Items ℕ) × (self.old.progress ≡ Progress.Init version part) }
         ensures used { (0 < result.0) × (result.0 ≤ length bytes.now) }
@@ -164,7 +170,10 @@ impl ViewerHello {
     }
 
     // Takes bytes of the screen's name.
-    pub fn take_name(&mut self, bytes: &[u8]) -> (usize, Result<Option<ViewerStep>, HelloFault>)
+    pub(super) fn take_name(
+        &mut self,
+        bytes: &[u8],
+    ) -> (usize, Result<Option<ViewerStep>, HelloFault>)
         requires some { 0 < length bytes.now }
         requires open { (version : Version) × (width height n more : ℕ) × (kept : KeptText) × (self.old.progress ≡ Progress.Name version width height n more kept) }
         ensures used { (0 < result.0) × (result.0 ≤ length bytes.now) }
