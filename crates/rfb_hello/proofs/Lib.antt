@@ -5,3 +5,6 @@ pub mod ServerStreamLaws
 pub mod ServerHelloLemmas
 pub mod AnswerLaws
 mod HandshakeFacts
+pub mod TextLemmas
+pub mod ViewerReadingLaws
+pub mod ViewerHelloLemmas

@@ -6,3 +6,7 @@ pub mod ServerEnd
 pub mod ServerAnswers
 pub mod ServerProgress
 pub mod ServerStanding
+pub mod KeptText
+pub mod ViewerEnd
+pub mod ViewerProgress
+pub mod ViewerStanding

@@ -6,10 +6,14 @@ mod fed;
 pub mod law;
 mod server_hello;
 mod step;
+mod text;
 mod version;
+mod viewer_hello;
 
 pub use fault::HelloFault;
 pub use fed::Fed;
 pub use server_hello::ServerHello;
-pub use step::ServerStep;
+pub use step::{ServerStep, ViewerStep};
+pub use text::Text;
 pub use version::Version;
+pub use viewer_hello::ViewerHello;

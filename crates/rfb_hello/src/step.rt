@@ -1,5 +1,6 @@
 //! What the ends of a handshake tell.
 
+use crate::text::Text;
 use crate::version::Version;
 use arrayvec::ArrayVec;
 
@@ -17,5 +18,29 @@ pub enum ServerStep {
         reply: ArrayVec<u8, MAX_REPLY>,
         version: Version,
         shared: bool,
+    },
+}
+
+/// How many bytes an answer of the viewer has at most: a ProtocolVersion.
+pub const MAX_ANSWER: usize = 12;
+
+/// What a viewer's handshake tells.
+#[derive(Debug, Drop)]
+pub enum ViewerStep {
+    /// Bytes that are to be sent to the server.
+    Reply(ArrayVec<u8, MAX_ANSWER>),
+    /// The screen's size, told before its name is read.
+    Screen {
+        width: u16,
+        height: u16,
+    },
+    /// The handshake is done: the screen's size; the version that both ends use; as much of the screen's
+    /// name as is kept; and how many bytes the name had.
+    Ready {
+        width: u16,
+        height: u16,
+        version: Version,
+        name: Text,
+        name_length: u32,
     },
 }

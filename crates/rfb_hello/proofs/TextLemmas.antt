@@ -1,0 +1,25 @@
+-- Texts of which the first bytes are kept.
+use Rattle.std.proofs.Common.{◌≡◌, ℕ, ◌≤◌, ◌+◌, ◌-◌, List, ◌++◌, length, take, min, nat_le, Bool, true, false, refl, sym, ◌∙◌, ap, arith}
+use Rattle.std.proofs.lemmas.Bool.Decides.{nat_tests}
+use Rattle.std.proofs.lemmas.List.{take_all}
+use Rattle.std.proofs.Math.Seq.{take-append-add, take-length}
+
+-- no more bytes than there are
+take_min : (n : ℕ) (xs : List ℕ) → take (min (length xs) n) xs ≡ take n xs
+take_min n xs = by (nat_le (length xs) n) refl
+  where
+    by : (b : Bool) → nat_le (length xs) n ≡ b → take (min (length xs) n) xs ≡ take n xs
+    by true e =
+        let few : length xs ≤ n = grind (arith, nat_tests) in
+        let all : min (length xs) n ≡ length xs = omega (arith, few) in
+        rw all (take-length xs ∙ sym (take_all n xs few))
+    by false e =
+        let many : n ≤ length xs = grind (arith, nat_tests) in
+        let some : min (length xs) n ≡ n = omega (arith, many) in
+        rw some refl
+
+-- bytes behind those that are kept, as many as there is room for
+pub kept_more : (room : ℕ) (old bytes : List ℕ) → length old ≤ room → old ++ take (min (length bytes) (room - length old)) bytes ≡ take room (old ++ bytes)
+kept_more room old bytes within =
+    let parts : room ≡ length old + (room - length old) = omega (arith, within) in
+    ap (λ (ys : List ℕ). old ++ ys) (take_min (room - length old) bytes) ∙ sym (take-append-add old bytes (room - length old)) ∙ ap (λ (k : ℕ). take k (old ++ bytes)) (sym parts)

@@ -1,0 +1,18 @@
+use Rattle.std.proofs.Common.{◌≡◌, ◌-◌, ◌≤◌, length, take, true, None}
+use Rattle.rfb_wire.specs.End.{FedBy}
+use Rattle.rfb_hello.specs.ViewerEnd.{ViewerSetup, viewer_end}
+use Rattle.rfb_hello.specs.ViewerProgress.{fault_in, is_open}
+use Rattle.rfb_hello.specs.ViewerStanding.{StandsFor}
+use Rattle.rfb_hello.proofs.viewer_hello.ViewerHello.feed.Given as goal
+
+abbrev pub invariant-loop-used : goal.invariant-loop-used
+invariant-loop-used l = record {
+  within : l.used ≤ length l.bytes;
+  began : fault_in l.fn.self.progress ≡ None;
+  going : fault_in l.self.progress ≡ None;
+  stays_open : is_open l.fn.self.progress ≡ true → is_open l.self.progress ≡ true;
+  fed : (setup : ViewerSetup) → FedBy (viewer_end setup) (StandsFor setup) l.fn.self (take l.used l.bytes) None l.self;
+}
+
+abbrev pub decreases-loop-used : goal.decreases-loop-used
+decreases-loop-used l = length l.bytes - l.used

@@ -1,0 +1,84 @@
+-- How far a viewer's handshake has come: what it stands for, and whether it goes on.
+use Rattle.std.specs.Prelude.{◌≡◌, ◌≢◌, ◌<◌, ◌+◌, ℕ, zero, suc, List, [], ◌∷◌, ◌++◌, length, Option, Some, None, Bool, true, false}
+use Rattle.rfb_hello.specs.declared.version.Version.{Version}
+use Rattle.rfb_hello.specs.declared.version.Version.TheVariants.{V33, V37, V38}
+use Rattle.rfb_hello.specs.declared.fault.HelloFault.{HelloFault}
+use Rattle.rfb_hello.specs.declared.viewer_hello.progress.Progress.{Progress}
+use Rattle.rfb_hello.specs.declared.viewer_hello.progress.Progress.TheVariants.{Version as VersionPart, Word, Count, Types, Result as ResultPart, ReasonLength, Reason, Init, Name, Done, Failed}
+use Rattle.rfb_hello.specs.KeptText.{kept_of}
+use Rattle.rfb_hello.specs.ServerHandshake.{ServerPoint, AwaitsVersion, AwaitsSecurity, AwaitsResult, AwaitsInit, AwaitsName, Begun, IsWord, has_none}
+use Rattle.rfb_hello.specs.ViewerEnd.{OpensReason}
+
+-- under a limit of texts, so much progress stands for that point and that prefix; one that has failed
+-- stands for none
+abbrev pub ProgressStandsFor : ℕ → Progress → ServerPoint → List ℕ → Type 0
+ProgressStandsFor limit (VersionPart part) point prefix = (point ≡ AwaitsVersion) × (prefix ≡ part.items) × (length part.items < 12)
+ProgressStandsFor limit (Word part) point prefix = (point ≡ AwaitsSecurity V33) × (prefix ≡ part.items) × (length part.items < 4)
+ProgressStandsFor limit (Count version) point prefix = (point ≡ AwaitsSecurity version) × (version ≢ V33) × (prefix ≡ [])
+ProgressStandsFor limit (Types version more none) point prefix = (seen : List ℕ) × (point ≡ AwaitsSecurity version) × (version ≢ V33) × (prefix ≡ (length seen + (more + 1)) ∷ seen) × (none ≡ has_none seen)
+ProgressStandsFor limit (ResultPart version part) point prefix = (point ≡ AwaitsResult version) × (prefix ≡ part.items) × (length part.items < 4)
+ProgressStandsFor limit (ReasonLength cause part) point prefix = (intro : List ℕ) × OpensReason cause point intro × (prefix ≡ intro ++ part.items) × (length part.items < 4)
+ProgressStandsFor limit (Reason cause n more kept) point prefix = (intro word text : List ℕ) × OpensReason cause point intro × (prefix ≡ intro ++ (word ++ text)) × IsWord n word × (length text + (more + 1) ≡ n) × (kept ≡ kept_of limit n text)
+ProgressStandsFor limit (Init version part) point prefix = (point ≡ AwaitsInit version) × (prefix ≡ part.items) × (length part.items < 24)
+ProgressStandsFor limit (Name version width height n more kept) point prefix = (point ≡ AwaitsName version width height n) × (length prefix + (more + 1) ≡ n) × (kept ≡ kept_of limit n prefix)
+ProgressStandsFor limit Done point prefix = (version : Version) × (width height : ℕ) × (point ≡ Begun version width height) × (prefix ≡ [])
+ProgressStandsFor limit (Failed fault kept) point prefix = ⊥
+
+-- the fault that it has failed with, if it has
+abbrev pub fault_in : Progress → Option HelloFault
+fault_in (VersionPart part) = None
+fault_in (Word part) = None
+fault_in (Count version) = None
+fault_in (Types version more none) = None
+fault_in (ResultPart version part) = None
+fault_in (ReasonLength cause part) = None
+fault_in (Reason cause n more kept) = None
+fault_in (Init version part) = None
+fault_in (Name version width height n more kept) = None
+fault_in Done = None
+fault_in (Failed fault kept) = Some fault
+
+-- what is kept of the reason that it has failed for; without one no bytes
+abbrev pub reason_in : Progress → List ℕ
+reason_in (VersionPart part) = []
+reason_in (Word part) = []
+reason_in (Count version) = []
+reason_in (Types version more none) = []
+reason_in (ResultPart version part) = []
+reason_in (ReasonLength cause part) = []
+reason_in (Reason cause n more kept) = []
+reason_in (Init version part) = []
+reason_in (Name version width height n more kept) = []
+reason_in Done = []
+reason_in (Failed fault kept) = kept.bytes
+
+-- the server's bytes go on in the handshake
+abbrev pub is_open : Progress → Bool
+is_open (VersionPart part) = true
+is_open (Word part) = true
+is_open (Count version) = true
+is_open (Types version more none) = true
+is_open (ResultPart version part) = true
+is_open (ReasonLength cause part) = true
+is_open (Reason cause n more kept) = true
+is_open (Init version part) = true
+is_open (Name version width height n more kept) = true
+is_open Done = false
+is_open (Failed fault kept) = false
+
+-- what comes next of a server with which a version is used
+abbrev pub progress_behind_version : Version → Progress
+progress_behind_version V33 = Word (record { items = [] })
+progress_behind_version V37 = Count V37
+progress_behind_version V38 = Count V38
+
+-- of one that offered None in a list
+abbrev pub progress_behind_types : Version → Progress
+progress_behind_types V33 = Init V33 (record { items = [] })
+progress_behind_types V37 = Init V37 (record { items = [] })
+progress_behind_types V38 = ResultPart V38 (record { items = [] })
+
+-- of one that told its screen, and how many bytes its name has
+abbrev pub progress_behind_init : ℕ → Version → ℕ → ℕ → ℕ → Progress
+progress_behind_init limit version width height zero = Done
+progress_behind_init limit version width height (suc n) = Name version width height (suc n) n (kept_of limit (suc n) [])

@@ -1,0 +1,79 @@
+//! A text that a server sends, its name or a reason.
+
+ghost use Rattle.std.specs.Prelude.{◌≡◌, ◌≤◌, ◌+◌, ◌++◌, [], length, take, IfOk};
+ghost use Rattle.std.specs.Vec.{vec_capacity, vec_items};
+ghost use Rattle.rfb_hello.specs.KeptText.{KeptText};
+
+use std::alloc::{AllocError, Global};
+use std::marker::Model;
+
+/// The first bytes of a text, as many as there was room for. What they are encoded in is the server's
+/// matter.
+#[derive(Debug, Drop)]
+pub struct Text {
+    bytes: Vec<u8>,
+    room: usize,
+}
+
+impl Model for Text {
+    ghost Value = { KeptText };
+
+    ghost view = { λ t. record { room = t.room; bytes = vec_items t.bytes } };
+
+    ghost invariant = { λ t. (length (vec_items t.bytes) ≤ t.room) × (t.room ≤ vec_capacity t.bytes) };
+}
+
+impl Text {
+    /// A text without room. It takes no memory.
+    pub fn empty(alloc: Global) -> Text
+        ensures { result ≡ record { room = 0; bytes = [] } }
+    {
+        Text {
+            bytes: Vec::new(alloc),
+            room: 0,
+        }
+    }
+
+    /// A text with room for so many bytes and none of them there. An error where there is no memory.
+    pub fn with_room(alloc: Global, room: usize) -> Result<Text, AllocError>
+        ensures { IfOk result (λ text. text ≡ record { room = room; bytes = [] }) }
+    {
+        let bytes = Vec::with_capacity(alloc, room)?;
+        Ok(Text { bytes, room })
+    }
+
+    /// The bytes that are kept.
+    pub fn as_slice(&self) -> &[u8]
+        ensures { result.now ≡ self.now.bytes }
+    {
+        self.bytes.as_slice()
+    }
+
+    /// The bytes that are kept, which are the caller's from now on.
+    pub fn into_vec(self) -> Vec<u8>
+        ensures { vec_items result ≡ self.bytes }
+    {
+        let Text { bytes, .. } = self;
+        bytes
+    }
+
+    /// Keeps as many of these bytes behind the others as there is room for. It takes no memory.
+    pub fn keep(&mut self, bytes: &[u8])
+        ensures { self.new ≡ record self.old { bytes = take self.old.room (self.old.bytes ++ bytes.now) } }
+    {
+        let size = bytes.len().min(self.room - self.bytes.len());
+        append_within(&mut self.bytes, &bytes[..size]);
+    }
+}
+
+// Appends bytes for which there is room, so no memory is taken.
+fn append_within(kept: &mut Vec<u8>, bytes: &[u8])
+    requires { length (vec_items kept.old) + length bytes.now ≤ vec_capacity kept.old }
+    ensures items { vec_items kept.new ≡ vec_items kept.old ++ bytes.now }
+    ensures room { vec_capacity kept.old ≤ vec_capacity kept.new }
+{
+    match kept.extend_from_slice(bytes) {
+        Ok(()) => {}
+        Err(_) => unreachable!(),
+    }
+}

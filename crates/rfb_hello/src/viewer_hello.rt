@@ -1,0 +1,145 @@
+//! The viewer's end of a handshake.
+
+ghost use Rattle.std.specs.Prelude.{◌≡◌, ◌≢◌, ◌≤◌, ◌<◌, [], length, take, true, IfOk, IfErr, Some, None, Ok, Err};
+ghost use Rattle.rfb_wire.specs.End.{FedBy, RefusedBy, RunsOutBy, StepsBy, StaysFailed};
+ghost use Rattle.rfb_hello.specs.ServerHandshake.{AwaitsVersion};
+ghost use Rattle.rfb_hello.specs.ViewerEnd.{ViewerSetup, viewer_end, AsksMemory};
+ghost use Rattle.rfb_hello.specs.ViewerStanding.{KeepsReason, StandsFor};
+ghost use Rattle.rfb_hello.specs.ViewerProgress.{fault_in, is_open, reason_in};
+ghost use Rattle.rfb_hello.specs.declared.fault.HelloFault.TheVariants.{NoMemory};
+ghost use Rattle.rfb_hello.specs.declared.viewer_hello.progress.Progress.{Progress};
+
+mod pieces;
+mod progress;
+mod security;
+mod texts;
+
+use crate::fault::HelloFault;
+use crate::fed::Fed;
+use crate::step::ViewerStep;
+use crate::text::Text;
+use crate::version::Version;
+use crate::viewer_hello::progress::Progress;
+use arrayvec::ArrayVec;
+use std::alloc::Global;
+
+/// The viewer's end of a handshake: it is fed what the server sends, and tells what is to be answered, the
+/// screen's size and its name. It takes security type None alone. Memory is taken for a name or a reason
+/// alone, as much as is kept of it, once its length is known.
+#[derive(Drop)]
+pub struct ViewerHello {
+    alloc: Global,
+    limit: Version,
+    shared: bool,
+    max_places: u32,
+    text_limit: u32,
+    progress: Progress,
+}
+
+impl ViewerHello {
+    /// An end that has sent nothing and was fed nothing. It goes up to version `limit`, asks for the screen
+    /// alone where it is not `shared`, admits a screen of `max_places` places, and keeps `text_limit` bytes
+    /// of a name or a reason. It takes no memory.
+    pub fn new(
+        alloc: Global,
+        limit: Version,
+        shared: bool,
+        max_places: u32,
+        text_limit: u32,
+    ) -> ViewerHello
+        ensures { StandsFor (record { limit = limit; shared = shared; max_places = max_places; text_limit = text_limit }) result AwaitsVersion [] }
+    {
+        ViewerHello {
+            alloc,
+            limit,
+            shared,
+            max_places,
+            text_limit,
+            progress: Progress::Version(ArrayVec::new()),
+        }
+    }
+
+    /// Takes bytes of the server's, up to the last of its first item that is told of, or all. A fault is
+    /// told at its last byte, and by every later call, which take nothing; a refusal is told at the last
+    /// byte of its reason. Once the handshake is done no bytes are taken: they are the messages'.
+    pub fn feed(&mut self, bytes: &[u8]) -> Result<Fed<ViewerStep>, HelloFault>
+        // What was taken, what it was, and what is left.
+        ensures used { IfOk result (λ fed. fed.used ≤ length bytes.now) }
+        ensures all { IfOk result (λ fed. fed.event ≡ None → is_open self.old.progress ≡ true → fed.used ≡ length bytes.now) }
+        ensures fed { IfOk result (λ fed. (setup : ViewerSetup) → FedBy (viewer_end setup) (StandsFor setup) self.old (take fed.used bytes.now) fed.event self.new) }
+
+        // When a fault comes, when memory is wanting, and that it stays.
+        ensures fault { IfErr result (λ fault. fault ≢ NoMemory → fault_in self.old.progress ≡ None → (setup : ViewerSetup) → RefusedBy (viewer_end setup) (StandsFor setup) self.old bytes.now fault) }
+        ensures memory { IfErr result (λ fault. fault ≡ NoMemory → fault_in self.old.progress ≡ None → (setup : ViewerSetup) → RunsOutBy (viewer_end setup) AsksMemory (StandsFor setup) self.old bytes.now) }
+        ensures reason { IfErr result (λ fault. fault_in self.old.progress ≡ None → KeepsReason fault self.old bytes.now self.new) }
+        ensures fails { IfErr result (λ fault. fault_in self.new.progress ≡ Some fault) }
+        ensures failed { StaysFailed (fault_in self.old.progress) self.old result self.new }
+    {
+        if let Progress::Failed(fault, _) = self.progress {
+            return Err(fault);
+        }
+        let mut used = 0;
+        while used < bytes.len() && self.progress.is_open() {
+            let (n, told) = self.take(&bytes[used..]);
+            used += n;
+            let event = told?;
+            if event.is_some() {
+                return Ok(Fed { used, event });
+            }
+        }
+        Ok(Fed { used, event: None })
+    }
+
+    /// What is kept of the reason that the server gave, after `Refused` and `SecurityFailed`; before a
+    /// fault, and after another, no bytes. What they are encoded in is the server's matter.
+    pub fn reason(&self) -> &[u8]
+        ensures { result.now ≡ reason_in self.now.progress }
+    {
+        match &self.progress {
+            Progress::Failed(_, kept) => kept.as_slice(),
+            _ => &[],
+        }
+    }
+
+    // Takes bytes of the server's next item, as many of it as there are: how many these were, and what is
+    // told of it once it is whole.
+    fn take(&mut self, bytes: &[u8]) -> (usize, Result<Option<ViewerStep>, HelloFault>)
+        requires some { 0 < length bytes.now }
+        requires open { is_open self.old.progress ≡ true }
+        ensures used { (0 < result.0) × (result.0 ≤ length bytes.now) }
+        ensures open { IfOk result.1 (λ event. event ≡ None → is_open self.new.progress ≡ true) }
+        ensures going { IfOk result.1 (λ event. fault_in self.new.progress ≡ None) }
+        ensures fails { IfErr result.1 (λ fault. fault_in self.new.progress ≡ Some fault) }
+        ensures steps { result.1 ≢ Err NoMemory → (setup : ViewerSetup) → StepsBy (viewer_end setup) (StandsFor setup) self.old (take result.0 bytes.now) result.1 self.new }
+        ensures memory { result.1 ≡ Err NoMemory → (setup : ViewerSetup) → RunsOutBy (viewer_end setup) AsksMemory (StandsFor setup) self.old (take result.0 bytes.now) }
+        ensures reason { IfErr result.1 (λ fault. KeepsReason fault self.old (take result.0 bytes.now) self.new) }
+    {
+        match self.progress {
+            Progress::Version(_) => self.take_version(bytes),
+            Progress::Word(_) => self.take_word(bytes),
+            Progress::Count(version) => {
+                self.take_count(version, bytes[0]);
+                (1, Ok(None))
+            }
+            Progress::Types { .. } => self.take_types(bytes),
+            Progress::Result(..) => self.take_result(bytes),
+            Progress::ReasonLength { .. } => self.take_reason_length(bytes),
+            Progress::Reason { .. } => self.take_reason(bytes),
+            Progress::Init(..) => self.take_init(bytes),
+            Progress::Name { .. } => self.take_name(bytes),
+            Progress::Done | Progress::Failed(..) => unreachable!(),
+        }
+    }
+
+    // Holds a fault from now on, for which no reason was given.
+    fn fail(&mut self, fault: HelloFault) -> HelloFault
+        ensures value { result ≡ fault }
+        ensures after { self.new ≡ record self.old { progress = Progress.Failed fault (record { room = 0; bytes = [] }) } }
+    {
+        self.progress = Progress::Failed(fault, Text::empty(self.alloc));
+        fault
+    }
+}
+
+#[cfg(test)]
+mod tests;

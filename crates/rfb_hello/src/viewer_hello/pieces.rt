@@ -1,0 +1,81 @@
+//! Pieces of a handshake that come in slices.
+
+ghost use Rattle.std.specs.Prelude.{◌≡◌, ◌≤◌, ◌<◌, ◌+◌, ◌++◌, length, take, true, false, IfSome, None};
+ghost use Rattle.arrayvec.specs.ArrayVec.{array_vec_len};
+ghost use Rattle.rfb_hello.specs.ServerHandshake.{has_none};
+
+use crate::text::Text;
+use arrayvec::ArrayVec;
+
+/// The security type None, as 3.3 sends it and as a list has it, sections 7.1.2 and 7.2.1.
+pub const SECURITY_NONE: u8 = 1;
+
+/// Takes bytes of a piece of `SIZE` bytes, of which a part has come: how many these were, and the piece, if
+/// it is whole now.
+pub fn gather<const PART: usize, const SIZE: usize>(
+    part: &mut ArrayVec<u8, PART>,
+    bytes: &[u8],
+) -> (usize, Option<ArrayVec<u8, SIZE>>)
+    requires size { SIZE ≡ PART + 1 }
+    requires some { 0 < length bytes.now }
+    ensures used { (0 < result.0) × (result.0 ≤ length bytes.now) }
+    ensures more { result.1 ≡ None → (part.new.items ≡ part.old.items ++ take result.0 bytes.now) × (length part.new.items < SIZE) }
+    ensures whole { IfSome result.1 (λ whole. (whole.items ≡ part.old.items ++ take result.0 bytes.now) × (length whole.items ≡ SIZE)) }
+{
+    let missing = SIZE - part.len();
+    if bytes.len() < missing {
+        append(part, bytes);
+        return (bytes.len(), None);
+    }
+    let mut whole = ArrayVec::new();
+    append(&mut whole, part.as_slice());
+    append(&mut whole, &bytes[..missing]);
+    (missing, Some(whole))
+}
+
+/// Takes bytes of a text, of which so many come behind the next one: how many these were, and whether the
+/// text is whole now.
+pub fn read_text(kept: &mut Text, more: &mut u32, bytes: &[u8]) -> (usize, bool)
+    requires some { 0 < length bytes.now }
+    ensures used { (0 < result.0) × (result.0 ≤ length bytes.now) }
+    ensures kept { kept.new ≡ record kept.old { bytes = take kept.old.room (kept.old.bytes ++ take result.0 bytes.now) } }
+    ensures more { result.1 ≡ false → result.0 + more.new ≡ more.old }
+    ensures whole { result.1 ≡ true → result.0 ≡ more.old + 1 }
+{
+    let missing = *more as usize + 1;
+    if bytes.len() < missing {
+        kept.keep(bytes);
+        *more -= bytes.len() as u32;
+        return (bytes.len(), false);
+    }
+    kept.keep(&bytes[..missing]);
+    (missing, true)
+}
+
+/// Whether None is among these security types.
+pub fn has_none(types: &[u8]) -> bool
+    ensures { result ≡ has_none types.now }
+{
+    types.contains(&SECURITY_NONE)
+}
+
+/// A short answer.
+pub fn reply_of<const CAP: usize>(bytes: &[u8]) -> ArrayVec<u8, CAP>
+    requires { length bytes.now ≤ CAP }
+    ensures { result.items ≡ bytes.now }
+{
+    let mut reply = ArrayVec::new();
+    append(&mut reply, bytes);
+    reply
+}
+
+// Appends bytes for which there is room.
+fn append<const CAP: usize>(kept: &mut ArrayVec<u8, CAP>, bytes: &[u8])
+    requires { array_vec_len kept.old + length bytes.now ≤ CAP }
+    ensures { kept.new.items ≡ kept.old.items ++ bytes.now }
+{
+    match kept.try_extend_from_slice(bytes) {
+        Ok(()) => {}
+        Err(_) => unreachable!(),
+    }
+}

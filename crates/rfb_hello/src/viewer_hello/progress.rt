@@ -1,0 +1,87 @@
+//! How far a viewer's handshake has come.
+
+ghost use Rattle.std.specs.Prelude.{◌≡◌};
+ghost use Rattle.rfb_hello.specs.ViewerEnd.{fault_for};
+ghost use Rattle.rfb_hello.specs.ViewerProgress.{is_open};
+
+use crate::fault::HelloFault;
+use crate::text::Text;
+use crate::version::Version;
+use arrayvec::ArrayVec;
+
+/// What a reason is sent for.
+#[derive(Clone, Copy, Debug, PartialEq, Eq)]
+pub enum Cause {
+    /// The server refuses the connection.
+    Refused,
+    /// Its SecurityResult was not success.
+    SecurityFailed,
+}
+
+/// What the server's next bytes are. A part of a piece is never all of it.
+#[derive(Drop)]
+pub enum Progress {
+    /// Its version: the bytes of it that have come.
+    Version(ArrayVec<u8, 11>),
+    /// Its security type, as 3.3 has it: the bytes of the word that have come.
+    Word(ArrayVec<u8, 3>),
+    /// The count of its security types, under 3.7 or 3.8.
+    Count(Version),
+    /// Its security types: how many come behind the next one, and whether None was among those before it.
+    Types {
+        version: Version,
+        more: u8,
+        none: bool,
+    },
+    /// SecurityResult: the bytes of the word that have come.
+    Result(Version, ArrayVec<u8, 3>),
+    /// The length of a reason: the bytes of the word that have come.
+    ReasonLength {
+        cause: Cause,
+        part: ArrayVec<u8, 3>,
+    },
+    /// A reason: its length, how many bytes come behind the next one, and what is kept of it.
+    Reason {
+        cause: Cause,
+        length: u32,
+        more: u32,
+        kept: Text,
+    },
+    /// ServerInit up to the name: the bytes of it that have come.
+    Init(Version, ArrayVec<u8, 23>),
+    /// The name: the screen's size, the name's length, how many bytes come behind the next one, and what is
+    /// kept of it.
+    Name {
+        version: Version,
+        width: u16,
+        height: u16,
+        length: u32,
+        more: u32,
+        kept: Text,
+    },
+    /// No part of the handshake.
+    Done,
+    /// None that are taken; and what is kept of the reason that the server gave.
+    Failed(HelloFault, Text),
+}
+
+impl Progress {
+    /// Whether the server's bytes go on in the handshake.
+    pub fn is_open(&self) -> bool
+        ensures { result ≡ is_open self.now }
+    {
+        !matches!(self, Progress::Done | Progress::Failed(..))
+    }
+}
+
+impl Cause {
+    /// The fault that a reason of so many bytes is given for.
+    pub fn fault(self, length: u32) -> HelloFault
+        ensures { result ≡ fault_for self length }
+    {
+        match self {
+            Cause::Refused => HelloFault::Refused(length),
+            Cause::SecurityFailed => HelloFault::SecurityFailed(length),
+        }
+    }
+}

@@ -1,0 +1,226 @@
+//! What a viewer takes of a server up to ServerInit: its version, the security types and the result.
+
+ghost use Rattle.std.specs.Prelude.{◌≡◌, ◌≢◌, ◌≤◌, ◌<◌, ℕ, [], ◌∷◌, length, take, true, IfOk, IfErr, Some, None, Ok, Err, Bool};
+ghost use Rattle.arrayvec.specs.ArrayVec.{ArrayVec as Items};
+ghost use Rattle.rfb_wire.specs.End.{RunsOutBy, StepsBy};
+ghost use Rattle.rfb_hello.specs.Version.{lower};
+ghost use Rattle.rfb_hello.specs.ViewerEnd.{ViewerSetup, viewer_end, choice_bytes, shared_flag, AsksMemory};
+ghost use Rattle.rfb_hello.specs.ViewerStanding.{KeepsReason, StandsFor};
+ghost use Rattle.rfb_hello.specs.ViewerProgress.{fault_in, is_open, progress_behind_version, progress_behind_types};
+ghost use Rattle.rfb_hello.specs.declared.fault.HelloFault.TheVariants.{NoMemory};
+ghost use Rattle.rfb_hello.specs.declared.viewer_hello.progress.Progress.{Progress};
+
+use crate::fault::HelloFault;
+use crate::step::{MAX_ANSWER, ViewerStep};
+use crate::version::{VERSION_SIZE, Version};
+use crate::viewer_hello::ViewerHello;
+use crate::viewer_hello::pieces::{SECURITY_NONE, gather, has_none, reply_of};
+use crate::viewer_hello::progress::{Cause, Progress};
+use arrayvec::ArrayVec;
+use byteorder::{BigEndian, ByteOrder};
+
+impl ViewerHello {
+    // Takes bytes of the server's version.
+    pub(super) fn take_version(
+        &mut self,
+        bytes: &[u8],
+    ) -> (usize, Result<Option<ViewerStep>, HelloFault>)
+        requires some { 0 < length bytes.now }
+        requires open { (part : Items ℕ) × (self.old.progress ≡ Progress.Version part) }
+        ensures used { (0 < result.0) × (result.0 ≤ length bytes.now) }
+        ensures open { IfOk result.1 (λ event. event ≡ None → is_open self.new.progress ≡ true) }
+        ensures going { IfOk result.1 (λ event. fault_in self.new.progress ≡ None) }
+        ensures fails { IfErr result.1 (λ fault. fault_in self.new.progress ≡ Some fault) }
+        ensures steps { result.1 ≢ Err NoMemory → (setup : ViewerSetup) → StepsBy (viewer_end setup) (StandsFor setup) self.old (take result.0 bytes.now) result.1 self.new }
+        ensures memory { result.1 ≡ Err NoMemory → (setup : ViewerSetup) → RunsOutBy (viewer_end setup) AsksMemory (StandsFor setup) self.old (take result.0 bytes.now) }
+        ensures reason { IfErr result.1 (λ fault. KeepsReason fault self.old (take result.0 bytes.now) self.new) }
+    {
+        let Progress::Version(part) = &mut self.progress else {
+            unreachable!()
+        };
+        let (used, whole) = gather::<11, VERSION_SIZE>(part, bytes);
+        let Some(whole) = whole else {
+            return (used, Ok(None));
+        };
+        let Some(version) = Version::of_text(whole.as_slice()) else {
+            return (used, Err(self.fail(HelloFault::BadVersion)));
+        };
+        let version = lower(self.limit, version);
+        self.progress = behind_version(version);
+        (used, Ok(Some(ViewerStep::Reply(reply_of(&version.text())))))
+    }
+
+    // Takes bytes of the word that 3.3 has for a security type.
+    pub(super) fn take_word(
+        &mut self,
+        bytes: &[u8],
+    ) -> (usize, Result<Option<ViewerStep>, HelloFault>)
+        requires some { 0 < length bytes.now }
+        requires open { (part : Items ℕ) × (self.old.progress ≡ Progress.Word part) }
+        ensures used { (0 < result.0) × (result.0 ≤ length bytes.now) }
+        ensures open { IfOk result.1 (λ event. event ≡ None → is_open self.new.progress ≡ true) }
+        ensures going { IfOk result.1 (λ event. fault_in self.new.progress ≡ None) }
+        ensures fails { IfErr result.1 (λ fault. fault_in self.new.progress ≡ Some fault) }
+        ensures steps { result.1 ≢ Err NoMemory → (setup : ViewerSetup) → StepsBy (viewer_end setup) (StandsFor setup) self.old (take result.0 bytes.now) result.1 self.new }
+        ensures memory { result.1 ≡ Err NoMemory → (setup : ViewerSetup) → RunsOutBy (viewer_end setup) AsksMemory (StandsFor setup) self.old (take result.0 bytes.now) }
+        ensures reason { IfErr result.1 (λ fault. KeepsReason fault self.old (take result.0 bytes.now) self.new) }
+    {
+        let Progress::Word(part) = &mut self.progress else {
+            unreachable!()
+        };
+        let (used, whole) = gather::<3, 4>(part, bytes);
+        let Some(whole) = whole else {
+            return (used, Ok(None));
+        };
+        match BigEndian::read_u32(whole.as_slice()) {
+            0 => {
+                self.progress = before_reason(Cause::Refused);
+                (used, Ok(None))
+            }
+            1 => {
+                self.progress = Progress::Init(Version::V33, ArrayVec::new());
+                (used, Ok(Some(ViewerStep::Reply(client_init(self.shared)))))
+            }
+            2 => (used, Err(self.fail(HelloFault::NoneNotOffered))),
+            _ => (used, Err(self.fail(HelloFault::BadSecurityWord))),
+        }
+    }
+
+    // Takes the count of the server's security types.
+    pub(super) fn take_count(&mut self, version: Version, count: u8)
+        requires { self.old.progress ≡ Progress.Count version }
+        ensures steps { (setup : ViewerSetup) → StepsBy (viewer_end setup) (StandsFor setup) self.old (count ∷ []) (Ok None) self.new }
+        ensures open { is_open self.new.progress ≡ true }
+    {
+        self.progress = match count.checked_sub(1) {
+            None => before_reason(Cause::Refused),
+            Some(more) => Progress::Types {
+                version,
+                more,
+                none: false,
+            },
+        };
+    }
+
+    // Takes security types, which are judged at the last of them.
+    pub(super) fn take_types(
+        &mut self,
+        bytes: &[u8],
+    ) -> (usize, Result<Option<ViewerStep>, HelloFault>)
+        requires some { 0 < length bytes.now }
+        requires open { (version : Version) × (more : ℕ) × (none : Bool) × (self.old.progress ≡ Progress.Types version more none) }
+        ensures used { (0 < result.0) × (result.0 ≤ length bytes.now) }
+        ensures open { IfOk result.1 (λ event. event ≡ None → is_open self.new.progress ≡ true) }
+        ensures going { IfOk result.1 (λ event. fault_in self.new.progress ≡ None) }
+        ensures fails { IfErr result.1 (λ fault. fault_in self.new.progress ≡ Some fault) }
+        ensures steps { result.1 ≢ Err NoMemory → (setup : ViewerSetup) → StepsBy (viewer_end setup) (StandsFor setup) self.old (take result.0 bytes.now) result.1 self.new }
+        ensures memory { result.1 ≡ Err NoMemory → (setup : ViewerSetup) → RunsOutBy (viewer_end setup) AsksMemory (StandsFor setup) self.old (take result.0 bytes.now) }
+        ensures reason { IfErr result.1 (λ fault. KeepsReason fault self.old (take result.0 bytes.now) self.new) }
+    {
+        let Progress::Types {
+            version,
+            more,
+            none,
+        } = &mut self.progress
+        else {
+            unreachable!()
+        };
+        let missing = usize::from(*more) + 1;
+        if bytes.len() < missing {
+            *more -= bytes.len() as u8;
+            *none = *none || has_none(bytes);
+            return (bytes.len(), Ok(None));
+        }
+        let version = *version;
+        if !(*none || has_none(&bytes[..missing])) {
+            return (missing, Err(self.fail(HelloFault::NoneNotOffered)));
+        }
+        self.progress = behind_types(version);
+        let reply = choice(version, self.shared);
+        (missing, Ok(Some(ViewerStep::Reply(reply))))
+    }
+
+    // Takes bytes of SecurityResult.
+    pub(super) fn take_result(
+        &mut self,
+        bytes: &[u8],
+    ) -> (usize, Result<Option<ViewerStep>, HelloFault>)
+        requires some { 0 < length bytes.now }
+        requires open { (version : Version) × (part : Items ℕ) × (self.old.progress ≡ Progress.Result version part) }
+        ensures used { (0 < result.0) × (result.0 ≤ length bytes.now) }
+        ensures open { IfOk result.1 (λ event. event ≡ None → is_open self.new.progress ≡ true) }
+        ensures going { IfOk result.1 (λ event. fault_in self.new.progress ≡ None) }
+        ensures fails { IfErr result.1 (λ fault. fault_in self.new.progress ≡ Some fault) }
+        ensures steps { result.1 ≢ Err NoMemory → (setup : ViewerSetup) → StepsBy (viewer_end setup) (StandsFor setup) self.old (take result.0 bytes.now) result.1 self.new }
+        ensures memory { result.1 ≡ Err NoMemory → (setup : ViewerSetup) → RunsOutBy (viewer_end setup) AsksMemory (StandsFor setup) self.old (take result.0 bytes.now) }
+        ensures reason { IfErr result.1 (λ fault. KeepsReason fault self.old (take result.0 bytes.now) self.new) }
+    {
+        let Progress::Result(version, part) = &mut self.progress else {
+            unreachable!()
+        };
+        let (used, whole) = gather::<3, 4>(part, bytes);
+        let Some(whole) = whole else {
+            return (used, Ok(None));
+        };
+        if BigEndian::read_u32(whole.as_slice()) != 0 {
+            self.progress = before_reason(Cause::SecurityFailed);
+            return (used, Ok(None));
+        }
+        self.progress = Progress::Init(*version, ArrayVec::new());
+        (used, Ok(Some(ViewerStep::Reply(client_init(self.shared)))))
+    }
+}
+
+// The lower of two versions.
+fn lower(a: Version, b: Version) -> Version
+    ensures { result ≡ lower a b }
+{
+    if a.minor() <= b.minor() { a } else { b }
+}
+
+// What comes next of a server with which this version is used.
+fn behind_version(version: Version) -> Progress
+    ensures { result ≡ progress_behind_version version }
+{
+    match version {
+        Version::V33 => Progress::Word(ArrayVec::new()),
+        Version::V37 | Version::V38 => Progress::Count(version),
+    }
+}
+
+// What comes next of a server that offered None in a list.
+fn behind_types(version: Version) -> Progress
+    ensures { result ≡ progress_behind_types version }
+{
+    match version {
+        Version::V33 | Version::V37 => Progress::Init(version, ArrayVec::new()),
+        Version::V38 => Progress::Result(version, ArrayVec::new()),
+    }
+}
+
+// A reason comes next.
+fn before_reason(cause: Cause) -> Progress
+    ensures { result ≡ Progress.ReasonLength cause (record { items = [] }) }
+{
+    Progress::ReasonLength {
+        cause,
+        part: ArrayVec::new(),
+    }
+}
+
+// The choice of None, and before 3.8 ClientInit with it, since no SecurityResult is waited for.
+fn choice(version: Version, shared: bool) -> ArrayVec<u8, MAX_ANSWER>
+    ensures { result.items ≡ choice_bytes version shared }
+{
+    match version {
+        Version::V33 | Version::V37 => reply_of(&[SECURITY_NONE, u8::from(shared)]),
+        Version::V38 => reply_of(&[SECURITY_NONE]),
+    }
+}
+
+// ClientInit, section 7.3.1.
+fn client_init(shared: bool) -> ArrayVec<u8, MAX_ANSWER>
+    ensures { result.items ≡ shared_flag shared ∷ [] }
+{
+    reply_of(&[u8::from(shared)])
+}

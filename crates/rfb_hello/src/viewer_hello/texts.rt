@@ -1,0 +1,238 @@
+//! What a viewer takes of a server with its texts: a reason, and ServerInit with the name.
+
+ghost use Rattle.std.specs.Prelude.{◌≡◌, ◌≢◌, ◌≤◌, ◌<◌, ℕ, [], length, take, true, IfOk, IfErr, Some, None, Ok, Err};
+ghost use Rattle.arrayvec.specs.ArrayVec.{ArrayVec as Items};
+ghost use Rattle.rfb_wire.specs.End.{RunsOutBy, StepsBy};
+ghost use Rattle.rfb_hello.specs.KeptText.{KeptText, kept_of};
+ghost use Rattle.rfb_hello.specs.ServerReading.{screen_fault};
+ghost use Rattle.rfb_hello.specs.ViewerEnd.{ViewerSetup, viewer_end, told_of_init, AsksMemory};
+ghost use Rattle.rfb_hello.specs.ViewerStanding.{KeepsReason, StandsFor};
+ghost use Rattle.rfb_hello.specs.ViewerProgress.{fault_in, is_open, progress_behind_init};
+ghost use Rattle.rfb_hello.specs.declared.fault.HelloFault.TheVariants.{NoMemory};
+ghost use Rattle.rfb_hello.specs.declared.viewer_hello.progress.Progress.{Progress};
+ghost use Rattle.rfb_hello.specs.declared.viewer_hello.progress.Cause.{Cause};
+
+use crate::fault::HelloFault;
+use crate::step::ViewerStep;
+use crate::text::Text;
+use crate::version::Version;
+use crate::viewer_hello::ViewerHello;
+use crate::viewer_hello::pieces::{gather, read_text};
+use crate::viewer_hello::progress::{Cause, Progress};
+use byteorder::{BigEndian, ByteOrder};
+use std::alloc::AllocError;
+use std::mem;
+
+impl ViewerHello {
+    // Takes bytes of the length of a reason.
+    pub(super) fn take_reason_length(
+        &mut self,
+        bytes: &[u8],
+    ) -> (usize, Result<Option<ViewerStep>, HelloFault>)
+        requires some { 0 < length bytes.now }
+        requires open { (cause : Cause) × (part : Items ℕ) × (self.old.progress ≡ Progress.ReasonLength cause part) }
+        ensures used { (0 < result.0) × (result.0 ≤ length bytes.now) }
+        ensures open { IfOk result.1 (λ event. event ≡ None → is_open self.new.progress ≡ true) }
+        ensures going { IfOk result.1 (λ event. fault_in self.new.progress ≡ None) }
+        ensures fails { IfErr result.1 (λ fault. fault_in self.new.progress ≡ Some fault) }
+        ensures steps { result.1 ≢ Err NoMemory → (setup : ViewerSetup) → StepsBy (viewer_end setup) (StandsFor setup) self.old (take result.0 bytes.now) result.1 self.new }
+        ensures memory { result.1 ≡ Err NoMemory → (setup : ViewerSetup) → RunsOutBy (viewer_end setup) AsksMemory (StandsFor setup) self.old (take result.0 bytes.now) }
+        ensures reason { IfErr result.1 (λ fault. KeepsReason fault self.old (take result.0 bytes.now) self.new) }
+    {
+        let Progress::ReasonLength { cause, part } = &mut self.progress else {
+            unreachable!()
+        };
+        let (used, whole) = gather::<3, 4>(part, bytes);
+        let Some(whole) = whole else {
+            return (used, Ok(None));
+        };
+        let cause = *cause;
+        let length = BigEndian::read_u32(whole.as_slice());
+        let Some(more) = length.checked_sub(1) else {
+            return (used, Err(self.fail(cause.fault(0))));
+        };
+        let Ok(kept) = self.text_of(length) else {
+            return (used, Err(self.fail(HelloFault::NoMemory)));
+        };
+        self.progress = Progress::Reason {
+            cause,
+            length,
+            more,
+            kept,
+        };
+        (used, Ok(None))
+    }
+
+    // Takes bytes of a reason.
+    pub(super) fn take_reason(
+        &mut self,
+        bytes: &[u8],
+    ) -> (usize, Result<Option<ViewerStep>, HelloFault>)
+        requires some { 0 < length bytes.now }
+        requires open { (cause : Cause) × (n more : ℕ) × (kept : KeptText) × (self.old.progress ≡ Progress.Reason cause n more kept) }
+        ensures used { (0 < result.0) × (result.0 ≤ length bytes.now) }
+        ensures open { IfOk result.1 (λ event. event ≡ None → is_open self.new.progress ≡ true) }
+        ensures going { IfOk result.1 (λ event. fault_in self.new.progress ≡ None) }
+        ensures fails { IfErr result.1 (λ fault. fault_in self.new.progress ≡ Some fault) }
+        ensures steps { result.1 ≢ Err NoMemory → (setup : ViewerSetup) → StepsBy (viewer_end setup) (StandsFor setup) self.old (take result.0 bytes.now) result.1 self.new }
+        ensures memory { result.1 ≡ Err NoMemory → (setup : ViewerSetup) → RunsOutBy (viewer_end setup) AsksMemory (StandsFor setup) self.old (take result.0 bytes.now) }
+        ensures reason { IfErr result.1 (λ fault. KeepsReason fault self.old (take result.0 bytes.now) self.new) }
+    {
+        let Progress::Reason { more, kept, .. } = &mut self.progress else {
+            unreachable!()
+        };
+        let (used, whole) = read_text(kept, more, bytes);
+        if !whole {
+            return (used, Ok(None));
+        }
+        let Progress::Reason {
+            cause,
+            length,
+            kept,
+            ..
+        } = mem::replace(&mut self.progress, Progress::Done)
+        else {
+            unreachable!()
+        };
+        let fault = cause.fault(length);
+        self.progress = Progress::Failed(fault, kept);
+        (used, Err(fault))
+    }
+
+    // Takes bytes of ServerInit, up to the name: judges the screen, and makes room for its name.
+    pub(super) fn take_init(
+        &mut self,
+        bytes: &[u8],
+    ) -> (usize, Result<Option<ViewerStep>, HelloFault>)
+        requires some { 0 < length bytes.now }
+        requires open { (version : Version) × (part : Items ℕ) × (self.old.progress ≡ Progress.Init version part) }
+        ensures used { (0 < result.0) × (result.0 ≤ length bytes.now) }
+        ensures open { IfOk result.1 (λ event. event ≡ None → is_open self.new.progress ≡ true) }
+        ensures going { IfOk result.1 (λ event. fault_in self.new.progress ≡ None) }
+        ensures fails { IfErr result.1 (λ fault. fault_in self.new.progress ≡ Some fault) }
+        ensures steps { result.1 ≢ Err NoMemory → (setup : ViewerSetup) → StepsBy (viewer_end setup) (StandsFor setup) self.old (take result.0 bytes.now) result.1 self.new }
+        ensures memory { result.1 ≡ Err NoMemory → (setup : ViewerSetup) → RunsOutBy (viewer_end setup) AsksMemory (StandsFor setup) self.old (take result.0 bytes.now) }
+        ensures reason { IfErr result.1 (λ fault. KeepsReason fault self.old (take result.0 bytes.now) self.new) }
+    {
+        let Progress::Init(version, part) = &mut self.progress else {
+            unreachable!()
+        };
+        let (used, whole) = gather::<23, 24>(part, bytes);
+        let Some(whole) = whole else {
+            return (used, Ok(None));
+        };
+        let version = *version;
+        let init = whole.as_slice();
+        if let Some(fault) = screen_fault(self.max_places, init) {
+            return (used, Err(self.fail(fault)));
+        }
+        let width = BigEndian::read_u16(init);
+        let height = BigEndian::read_u16(&init[2..]);
+        let length = BigEndian::read_u32(&init[20..]);
+        let Ok((progress, step)) = self.behind_init(version, width, height, length) else {
+            return (used, Err(self.fail(HelloFault::NoMemory)));
+        };
+        self.progress = progress;
+        (used, Ok(Some(step)))
+    }
+
+    // What comes next of a server that told its screen and the length of its name, and what is told of it.
+    fn behind_init(
+        &self,
+        version: Version,
+        width: u16,
+        height: u16,
+        length: u32,
+    ) -> Result<(Progress, ViewerStep), AllocError>
+        ensures ok { IfOk result (λ behind. (behind.0 ≡ progress_behind_init self.now.text_limit version width height length) × (behind.1 ≡ told_of_init self.now.text_limit version width height length)) }
+        ensures asked { IfErr result (λ _. 0 < length) }
+    {
+        let Some(more) = length.checked_sub(1) else {
+            let ready = ViewerStep::Ready {
+                width,
+                height,
+                version,
+                name: Text::empty(self.alloc),
+                name_length: 0,
+            };
+            return Ok((Progress::Done, ready));
+        };
+        let kept = self.text_of(length)?;
+        let progress = Progress::Name {
+            version,
+            width,
+            height,
+            length,
+            more,
+            kept,
+        };
+        Ok((progress, ViewerStep::Screen { width, height }))
+    }
+
+    // Takes bytes of the screen's name.
+    pub(super) fn take_name(
+        &mut self,
+        bytes: &[u8],
+    ) -> (usize, Result<Option<ViewerStep>, HelloFault>)
+        requires some { 0 < length bytes.now }
+        requires open { (version : Version) × (width height n more : ℕ) × (kept : KeptText) × (self.old.progress ≡ Progress.Name version width height n more kept) }
+        ensures used { (0 < result.0) × (result.0 ≤ length bytes.now) }
+        ensures open { IfOk result.1 (λ event. event ≡ None → is_open self.new.progress ≡ true) }
+        ensures going { IfOk result.1 (λ event. fault_in self.new.progress ≡ None) }
+        ensures fails { IfErr result.1 (λ fault. fault_in self.new.progress ≡ Some fault) }
+        ensures steps { result.1 ≢ Err NoMemory → (setup : ViewerSetup) → StepsBy (viewer_end setup) (StandsFor setup) self.old (take result.0 bytes.now) result.1 self.new }
+        ensures memory { result.1 ≡ Err NoMemory → (setup : ViewerSetup) → RunsOutBy (viewer_end setup) AsksMemory (StandsFor setup) self.old (take result.0 bytes.now) }
+        ensures reason { IfErr result.1 (λ fault. KeepsReason fault self.old (take result.0 bytes.now) self.new) }
+    {
+        let Progress::Name { more, kept, .. } = &mut self.progress else {
+            unreachable!()
+        };
+        let (used, whole) = read_text(kept, more, bytes);
+        if !whole {
+            return (used, Ok(None));
+        }
+        let Progress::Name {
+            version,
+            width,
+            height,
+            length,
+            kept,
+            ..
+        } = mem::replace(&mut self.progress, Progress::Done)
+        else {
+            unreachable!()
+        };
+        let ready = ViewerStep::Ready {
+            width,
+            height,
+            version,
+            name: kept,
+            name_length: length,
+        };
+        (used, Ok(Some(ready)))
+    }
+
+    // A text with room for as much as is kept of so many bytes.
+    fn text_of(&self, length: u32) -> Result<Text, AllocError>
+        ensures { IfOk result (λ text. text ≡ kept_of self.now.text_limit length []) }
+    {
+        Text::with_room(self.alloc, length.min(self.text_limit) as usize)
+    }
+}
+
+// The fault of a screen, if it has one.
+fn screen_fault(max_places: u32, init: &[u8]) -> Option<HelloFault>
+    requires { length init.now ≡ 24 }
+    ensures { result ≡ screen_fault max_places init.now }
+{
+    let width = BigEndian::read_u16(init);
+    let height = BigEndian::read_u16(&init[2..]);
+    let places = u32::from(width) * u32::from(height);
+    if places == 0 {
+        Some(HelloFault::ScreenEmpty)
+    } else if places > max_places {
+        Some(HelloFault::ScreenTooLarge)
+    } else {
+        None
+    }
+}
