@@ -8,3 +8,4 @@ mod HandshakeFacts
 pub mod TextLemmas
 pub mod ViewerReadingLaws
 pub mod ViewerHelloLemmas
+pub mod ViewerAnswerLaws

@@ -8,5 +8,6 @@ pub mod ServerProgress
 pub mod ServerStanding
 pub mod KeptText
 pub mod ViewerEnd
+pub mod ViewerAnswers
 pub mod ViewerProgress
 pub mod ViewerStanding

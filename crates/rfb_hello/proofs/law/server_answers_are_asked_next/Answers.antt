@@ -1,5 +1,5 @@
 use Rattle.rfb_hello.proofs.AnswerLaws.{greeting_read, types_read, result_read, init_read}
-use Rattle.rfb_hello.proofs.law.answers_are_asked_next.Goals as goal
+use Rattle.rfb_hello.proofs.law.server_answers_are_asked_next.Goals as goal
 
 pub returns-clause-greeting : goal.returns-clause-greeting
 returns-clause-greeting c = greeting_read
