@@ -6,6 +6,8 @@ mod fed;
 pub mod law;
 mod server_hello;
 mod step;
+#[cfg(test)]
+mod tests;
 mod text;
 mod version;
 mod viewer_hello;

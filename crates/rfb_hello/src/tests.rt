@@ -1,0 +1,4 @@
+//! Tests of both ends.
+
+mod cuts;
+mod long_texts;
