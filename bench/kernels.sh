@@ -1,17 +1,18 @@
 #!/usr/bin/env bash
-# Prints how many instructions single calls of the two low crates need. They are made by tests that this adds to copies of the
-# crates (kernels/CRATE.txt), which are proved and built there. Needs valgrind.
+# Prints how many instructions single calls of the low crates and of the decoder need. They are made by tests that this adds to
+# copies of the crates (kernels/*.txt), which are proved and built there. Needs valgrind.
 set -euo pipefail
 cd "$(dirname "$0")/.."
 copy=$(mktemp -d)
 trap 'rm -rf "$copy"' EXIT
 mkdir "$copy/crates"
 cp crates.txt HANDLES "$copy"
-cp -r crates/rfb_pixel crates/rfb_picture "$copy/crates"
-sed -i '/^rfb_pixel:\|^rfb_picture:/!d' "$copy/crates.txt"
+cp -r crates/rfb_pixel crates/rfb_picture crates/rfb_wire crates/rfb_codec "$copy/crates"
+sed -i '/^rfb_pixel:\|^rfb_picture:\|^rfb_wire:\|^rfb_codec:/!d' "$copy/crates.txt"
 cat bench/kernels/rfb_picture.txt >> "$copy/crates/rfb_picture/src/tests.rt"
 cat bench/kernels/rfb_pixel.txt >> "$copy/crates/rfb_pixel/src/format/tests.rt"
-for crate in rfb_pixel rfb_picture; do
+cat bench/kernels/rfb_codec_decode.txt >> "$copy/crates/rfb_codec/src/painter/tests.rt"
+for crate in rfb_pixel rfb_picture rfb_codec; do
   (cd "$copy/crates/$crate" && rt test > "$copy/$crate.log" 2>&1) || { tail -20 "$copy/$crate.log"; exit 1; }
 done
 
@@ -43,3 +44,8 @@ difference 'Area::clear' rfb_picture tests::area_clear tests::area_new 1
 for cell in unused full part; do
   echo "Area::bounds_in, cell $cell: $(within rfb_picture "tests::area_bounds_$cell" '*bounds_in*')"
 done
+for format in rgb888 rgb565; do
+  difference "Painter::feed, Raw at $format" rfb_codec "painter::tests::decode_raw_$format" painter::tests::decode_raw_none 4096
+done
+difference 'Painter::feed, RRE of one colour' rfb_codec painter::tests::decode_rre_flat painter::tests::decode_rre_none 4096
+difference 'Painter::feed, RRE of an office cell' rfb_codec painter::tests::decode_rre_office painter::tests::decode_rre_none 4096

@@ -50,7 +50,7 @@ column_in_row x0 y0 n w x y e =
     (rw same (omega arith), omega arith)
 
 -- where there is a place, a row has one
-some_in_row : (k h w : ℕ) → k < h * w → 0 < w
+pub some_in_row : (k h w : ℕ) → k < h * w → 0 < w
 some_in_row k h zero l = omega arith
 some_in_row k h (suc w) l = omega arith
 

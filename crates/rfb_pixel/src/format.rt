@@ -1,6 +1,6 @@
 //! True-colour pixel formats, RFC 6143 section 7.4.
 
-ghost use Rattle.std.specs.Prelude.{◌≡◌, ℕ, ◌*◌, ◌%◌, ◌^◌, length, IfOk, ◌==◌, ◌||◌, ◌≤◌, IsTrue, List, map};
+ghost use Rattle.std.specs.Prelude.{◌≡◌, ℕ, ◌*◌, ◌%◌, ◌^◌, ◌<◌, length, IfOk, ◌==◌, ◌||◌, ◌≤◌, IsTrue, List, map};
 ghost use Rattle.std.specs.Result.{result_err};
 ghost use Rattle.std.specs.Int.{bit_at};
 ghost use Rattle.rfb_pixel.specs.Format.{size_of, pixel_of, colour_of, pixel_bytes, pixel_number, seen_through, IsColour, FieldsHold, IsOutsideFields, AgreeInFields, KeepsColours, FieldsKept};
@@ -188,6 +188,8 @@ impl Format {
     /// How many bytes a pixel has: 1, 2 or 4.
     pub fn size(&self) -> usize
         ensures value { result ≡ size_of self.now }
+        ensures some { 0 < result }
+        ensures bound { result ≤ 4 }
     {
         self.bits_per_pixel as usize / 8
     }

@@ -50,7 +50,7 @@ none_found number (Some e) is none = absurd (none e (encoding_is number e is))
 
 -- ---- places
 
-on_true : (width height : ℕ) (r : Rect) → is_on_screen width height r ≡ true → IsOnScreen width height r
+pub on_true : (width height : ℕ) (r : Rect) → is_on_screen width height r ≡ true → IsOnScreen width height r
 on_true width height r is = by (nat_le (r.x + r.w) width) (nat_le (r.y + r.h) height) refl refl is
   where
     by : (a b : Bool) → nat_le (r.x + r.w) width ≡ a → nat_le (r.y + r.h) height ≡ b → (a && b) ≡ true → IsOnScreen width height r
@@ -58,13 +58,13 @@ on_true width height r is = by (nat_le (r.x + r.w) width) (nat_le (r.y + r.h) he
     by true false a b e = cc
     by false d a b e = cc
 
-on_test : (width height : ℕ) (r : Rect) → IsOnScreen width height r → is_on_screen width height r ≡ true
+pub on_test : (width height : ℕ) (r : Rect) → IsOnScreen width height r → is_on_screen width height r ≡ true
 on_test width height r on =
     let across : nat_le (r.x + r.w) width ≡ true = let h = on.0 in grind (arith, nat_tests) in
     let down : nat_le (r.y + r.h) height ≡ true = let h = on.1 in grind (arith, nat_tests) in
     rw (across, down) refl
 
-off_test : (width height : ℕ) (r : Rect) (b : Bool) → is_on_screen width height r ≡ b → (IsOnScreen width height r → ⊥) → b ≡ false
+pub off_test : (width height : ℕ) (r : Rect) (b : Bool) → is_on_screen width height r ≡ b → (IsOnScreen width height r → ⊥) → b ≡ false
 off_test width height r true is off = absurd (off (on_true width height r is))
 off_test width height r false is off = refl
 

@@ -1,0 +1,105 @@
+-- Laws of the bytes that a cover is written as.
+use Rattle.std.proofs.Common.{◌≡◌, ℕ, ◌+◌, ◌*◌, ◌/◌, ◌^◌, ◌<◌, ◌≤◌, List, [], ◌∷◌, ◌++◌, length, arith, refl, ap, ◌∙◌, sym, append-nil, length-append}
+use Rattle.std.proofs.Math.Nat.{mod-eq_of_lt, mul-le-mul_right}
+use Rattle.std.proofs.lemmas.Nat.{div_below}
+use Rattle.std.proofs.lemmas.List.{drop_at, get_or_default}
+use Rattle.std.specs.List.{flat_map}
+use Rattle.byteorder.specs.Endian.{big_bytes}
+use Rattle.byteorder.specs.Numbers.{big_number-reads_back}
+use Rattle.rfb_pixel.specs.Format.{PixelFormat, size_of, pixel_bytes, pixel_number}
+use Rattle.rfb_pixel.proofs.FormatLemmas.{pixel_number-pixel_bytes}
+use Rattle.rfb_picture.specs.declared.rect.Rect.{Rect}
+use Rattle.rfb_picture.specs.Grid.{Grid, IsGrid}
+use Rattle.rfb_picture.proofs.GridLemmas.{place_below}
+use Rattle.rfb_wire.specs.Fields.{IsRectAt, rect_bytes}
+use Rattle.rfb_wire.specs.Reading.{Listed}
+use Rattle.rfb_wire.specs.RectHead.{IsOnScreen}
+use Rattle.rfb_codec.specs.declared.subrect.Subrect.{Subrect}
+use Rattle.rfb_codec.specs.Pixels.{IsPixel, HasPixels}
+use Rattle.rfb_codec.specs.Rre.{SpellsRreHead, SpellsSubrect, SpellsInside, StandsRre}
+use Rattle.rfb_codec.specs.Codec.{subrect_bytes}
+use Rattle.rfb_codec.specs.Cover.{IsPixelOf, ArePartsOf, IsCover}
+use Rattle.rfb_codec.proofs.PixelLemmas.{length-pixel_bytes}
+
+-- a pixel of the format is read back from its bytes
+pub pixel_read : (f : PixelFormat) (pixel : ℕ) (rest : List ℕ) → IsPixel f pixel → pixel_number f (pixel_bytes f pixel ++ rest) ≡ pixel
+pixel_read f pixel rest small = pixel_number-pixel_bytes f pixel rest ∙ mod-eq_of_lt small
+
+-- one of a block's pixels is one of the format
+pub pixel_of_block : (f : PixelFormat) (block : Grid ℕ) (pixel : ℕ) → HasPixels f block → IsPixelOf block.places pixel → IsPixel f pixel
+pixel_of_block f block pixel small is = rw (is.2) (small is.0)
+
+-- a rectangle is read back from its bytes
+rect_read : (rect : Rect) → rect.x < 65536 → rect.y < 65536 → rect.w < 65536 → rect.h < 65536 → IsRectAt 0 rect (rect_bytes rect)
+rect_read rect x y w h = record {
+  x_position = big_number-reads_back 2 rect.x [] x;
+  y_position = big_number-reads_back 2 rect.y [] y;
+  width = big_number-reads_back 2 rect.w [] w;
+  height = big_number-reads_back 2 rect.h [] h;
+}
+
+-- a subrectangle has so many bytes
+pub length-subrect : (f : PixelFormat) (s : Subrect) → length (subrect_bytes f s) ≡ size_of f + 8
+length-subrect f s = let pixel = length-pixel_bytes f s.pixel in rw length-append (omega (arith, pixel))
+
+-- it is read back from them
+subrect_read : (f : PixelFormat) (s : Subrect) → IsPixel f s.pixel → IsOnScreen 64 64 s.rect → SpellsSubrect f s (subrect_bytes f s)
+subrect_read f s small inside = record {
+  size = length-subrect f s;
+  pixel_is = pixel_read f s.pixel (rect_bytes s.rect) small;
+  rect_is = rw (drop_at (pixel_bytes f s.pixel) (rect_bytes s.rect) (size_of f) (length-pixel_bytes f s.pixel)) (rect_read s.rect (omega arith) (omega arith) (omega arith) (omega arith));
+}
+
+-- so many have so many bytes
+pub length-subrects : (f : PixelFormat) (subs : List Subrect) → length (flat_map (subrect_bytes f) subs) ≡ length subs * (size_of f + 8)
+length-subrects f [] = omega arith
+length-subrects f (s ∷ subs) =
+    let here = length-subrect f s in
+    let more = length-subrects f subs in
+    rw length-append (omega (arith, here, more))
+
+-- the parts of a block are listed
+subrects_listed : (f : PixelFormat) (block : Grid ℕ) (background : ℕ) (subs : List Subrect) → block.width ≤ 64 → block.height ≤ 64 → HasPixels f block → ArePartsOf block.width block.height block.places background subs → Listed (SpellsInside f block.width block.height) subs (flat_map (subrect_bytes f) subs)
+subrects_listed f block background [] wide high small parts = refl
+subrects_listed f block background (s ∷ subs) wide high small parts =
+    let inside : IsOnScreen 64 64 s.rect = (omega (arith, parts.0.inside), omega (arith, parts.0.inside)) in (
+      subrect_bytes f s,
+      flat_map (subrect_bytes f) subs,
+      refl,
+      (subrect_read f s (pixel_of_block f block s.pixel small parts.0.pixel) inside, parts.0.inside),
+      subrects_listed f block background subs wide high small parts.1,
+    )
+
+-- the bytes of a head
+abbrev pub rre_head : PixelFormat → ℕ → ℕ → List ℕ
+rre_head f count background = big_bytes 4 count ++ pixel_bytes f background
+
+head_read : (f : PixelFormat) (count background : ℕ) → count < 2 ^ 32 → IsPixel f background → SpellsRreHead f count background (rre_head f count background)
+head_read f count background few small = record {
+  size = let pixel = length-pixel_bytes f background in omega (arith, pixel);
+  count_is = big_number-reads_back 4 count (pixel_bytes f background) few;
+  background_is = ap (pixel_number f) (sym (append-nil (pixel_bytes f background))) ∙ pixel_read f background [] small;
+}
+
+-- a cover's bytes stand for the block
+pub stands_rre : (f : PixelFormat) (block : Grid ℕ) (background : ℕ) (subs : List Subrect) → IsGrid block → block.width ≤ 64 → block.height ≤ 64 → length subs < 2 ^ 32 → HasPixels f block → IsPixelOf block.places background → IsCover block.width block.height block.places background subs → StandsRre f block (rre_head f (length subs) background ++ flat_map (subrect_bytes f) subs)
+stands_rre f block background subs whole wide high few small plain cover = record {
+  background = background;
+  subs = subs;
+  head = rre_head f (length subs) background;
+  list = flat_map (subrect_bytes f) subs;
+  whole = refl;
+  head_is = head_read f (length subs) background few (pixel_of_block f block background small plain);
+  listed = subrects_listed f block background subs wide high small cover.parts;
+  shows = λ x y d left below.
+      let under = place_below block.width block.height x y left below in
+      get_or_default block.places (y * block.width + x) d 0 (omega (arith, whole)) ∙ sym (cover.shows x y left below);
+}
+
+-- so many places can be covered by a third as many subrectangles, where that is shorter than Raw
+pub limit_fits : (places size n : ℕ) → places ≤ 3 * n → size ≤ 4 → places * size / (size + 8) ≤ n
+limit_fits places size n few small =
+    let bytes : places * size ≤ 3 * n * size = mul-le-mul_right size few in
+    let pixels : size * n ≤ 4 * n = mul-le-mul_right n small in
+    let below : places * size / (size + 8) < n + 1 = div_below (places * size) (size + 8) (n + 1) (omega arith) (omega (arith, bytes, pixels)) in
+    omega arith

@@ -1,0 +1,325 @@
+-- The reading of a tile of Hextile is what its bytes spell, in both directions, and its faults are those
+-- of its mask and of subrectangles that leave it.
+use Rattle.std.proofs.Common.{◌≡◌, ℕ, ◌+◌, ◌-◌, ◌*◌, ◌/◌, ◌%◌, ◌<◌, ◌≤◌, ◌⊎◌, inl, inr, List, [], ◌∷◌, ◌++◌, Bool, true, false, Option, Some, None, length, drop, map, if◌then◌else◌, ◌&&◌, not, refl, sym, subst, ◌∙◌, ap, append-nil, append_assoc, arith, length-drop}
+use Rattle.std.proofs.lemmas.Nat.{div-mul-add, mod-mul-add, div-add-mod', mod_below}
+use Rattle.rfb_pixel.specs.Format.{PixelFormat, size_of, pixel_number}
+use Rattle.rfb_picture.specs.declared.rect.Rect.{Rect}
+use Rattle.rfb_wire.specs.Fields.{u8_at}
+use Rattle.rfb_wire.specs.Reading.{Reading, Says, Reads, Same, Listed, Optionally}
+use Rattle.rfb_wire.specs.Parts.{piece, done, judged, and_then, valued, checked, optional, many}
+use Rattle.rfb_wire.specs.RectHead.{IsOnScreen}
+use Rattle.rfb_wire.specs.RectStream.{is_on_screen}
+use Rattle.rfb_wire.proofs.PartLaws.{alone, piece_says, piece_reads, done_says, done_reads, judged_says, judged_reads, then_says, then_reads, same_reads}
+use Rattle.rfb_wire.proofs.RepeatLaws.{FaultIf, valued_says, valued_reads, checked_says, checked_reads, optional_says, optional_reads, many_says, many_reads}
+use Rattle.rfb_wire.proofs.RectStreamLaws.{on_true, on_test, off_test}
+use Rattle.rfb_codec.specs.declared.subrect.Subrect.{Subrect}
+use Rattle.rfb_codec.specs.declared.fault.PaintFault.{PaintFault}
+use Rattle.rfb_codec.specs.declared.fault.PaintFault.TheVariants.{SubrectOutside}
+use Rattle.rfb_codec.specs.Raw.{raw_length}
+use Rattle.rfb_codec.specs.Tile.{is_raw, background_specified, foreground_specified, any_subrects, subrects_colored, Tile, RawTile, PlainTile, ColoredTile, mask_fault, AreInside, places_of, FitsTile, SpellsPixel, SpellsPlace, SpellsColored, Counted, CountedIf, SpellsPlain, SpellsColoredTile, SpellsBehind, SpellsTile, FaultsMask, LeavesTile, tile_colour, place_of, colored_of, counted, behind_mask, tile_layout, are_inside, tile_fault, tile_behind}
+
+-- nothing is refused
+abbrev never : PaintFault → List ℕ → Type 0
+never fault bytes = ⊥
+
+-- ---- pixels and places
+
+abbrev pixel_says : PixelFormat → Says ℕ PaintFault
+pixel_says f = record { item = SpellsPixel f; fault = never }
+
+pixel_reads : (f : PixelFormat) → Reads (tile_colour f) (pixel_says f)
+pixel_reads f = same_reads (tile_colour f) (valued_says (size_of f) (pixel_number f)) (pixel_says f) same (valued_reads (size_of f) (pixel_number f))
+  where
+    same : Same (valued_says (size_of f) (pixel_number f)) (pixel_says f)
+    same = record {
+      item = λ pixel bytes told. record { size = told.0; pixel_is = sym told.1 };
+      fault = λ fault bytes none. none;
+      item_back = λ pixel bytes spelled. (spelled.size, sym spelled.pixel_is);
+      fault_back = λ fault bytes none. none;
+    }
+
+-- two bytes spell the place that they are
+pub place_spelled : (bytes : List ℕ) → length bytes ≡ 2 → SpellsPlace (place_of bytes) bytes
+place_spelled bytes size =
+    let first = u8_at 0 bytes in
+    let second = u8_at 1 bytes in
+    record {
+      size = size;
+      position_is = sym (div-add-mod' first 16);
+      size_is =
+          let a : second / 16 + 1 - 1 ≡ second / 16 = omega arith in
+          let b : second % 16 + 1 - 1 ≡ second % 16 = omega arith in
+          rw (a, b) (sym (div-add-mod' second 16));
+      low = mod_below first 16 (omega arith);
+      wide = omega arith;
+      high = omega arith;
+      short = let l = mod_below second 16 (omega arith) in omega (arith, l);
+    }
+
+-- and no other
+pub place_is : (place : Rect) (bytes : List ℕ) → SpellsPlace place bytes → place ≡ place_of bytes
+place_is place bytes s =
+    let low : place.h - 1 < 16 = omega (arith, s.short, s.high) in
+    let x : u8_at 0 bytes / 16 ≡ place.x = rw s.position_is (div-mul-add place.x 16 place.y s.low) in
+    let y : u8_at 0 bytes % 16 ≡ place.y = rw s.position_is (mod-mul-add place.x 16 place.y s.low) in
+    let w : u8_at 1 bytes / 16 ≡ place.w - 1 = rw s.size_is (div-mul-add (place.w - 1) 16 (place.h - 1) low) in
+    let h : u8_at 1 bytes % 16 ≡ place.h - 1 = rw s.size_is (mod-mul-add (place.w - 1) 16 (place.h - 1) low) in
+    let wide : place.w ≡ u8_at 1 bytes / 16 + 1 = omega (arith, w, s.wide) in
+    let high : place.h ≡ u8_at 1 bytes % 16 + 1 = omega (arith, h, s.high) in
+    λ i. record { x = sym x i; y = sym y i; w = wide i; h = high i }
+
+abbrev place_says : Says Rect PaintFault
+place_says = record { item = SpellsPlace; fault = never }
+
+place_reads : Reads {F = PaintFault} (valued 2 place_of) place_says
+place_reads = same_reads (valued 2 place_of) (valued_says 2 place_of) place_says same (valued_reads 2 place_of)
+  where
+    same : Same (valued_says 2 place_of) place_says
+    same = record {
+      item = λ place bytes told. subst (λ (r : Rect). SpellsPlace r bytes) (sym told.1) (place_spelled bytes told.0);
+      fault = λ fault bytes none. none;
+      item_back = λ place bytes spelled. (spelled.size, place_is place bytes spelled);
+      fault_back = λ fault bytes none. none;
+    }
+
+-- so many bytes less a pixel's
+length-behind_pixel : (f : PixelFormat) (bytes : List ℕ) → length bytes ≡ size_of f + 2 → length (drop (size_of f) bytes) ≡ 2
+length-behind_pixel f bytes size = rw length-drop (omega (arith, size))
+
+abbrev colored_says : PixelFormat → Says Subrect PaintFault
+colored_says f = record { item = SpellsColored f; fault = never }
+
+colored_reads : (f : PixelFormat) → Reads (valued (size_of f + 2) (colored_of f)) (colored_says f)
+colored_reads f = same_reads (valued (size_of f + 2) (colored_of f)) (valued_says (size_of f + 2) (colored_of f)) (colored_says f) same (valued_reads (size_of f + 2) (colored_of f))
+  where
+    is : (s : Subrect) (bytes : List ℕ) → SpellsColored f s bytes → s ≡ colored_of f bytes
+    is s bytes spelled =
+        let place = place_is s.rect (drop (size_of f) bytes) spelled.place_is in
+        λ i. record { pixel = sym spelled.pixel_is i; rect = place i }
+
+    same : Same (valued_says (size_of f + 2) (colored_of f)) (colored_says f)
+    same = record {
+      item = λ s bytes told. subst (λ (t : Subrect). SpellsColored f t bytes) (sym told.1) (record { size = told.0; pixel_is = refl; place_is = place_spelled (drop (size_of f) bytes) (length-behind_pixel f bytes told.0) });
+      fault = λ fault bytes none. none;
+      item_back = λ s bytes spelled. (spelled.size, is s bytes spelled);
+      fault_back = λ fault bytes none. none;
+    }
+
+-- ---- counted parts
+
+module _ {A : Type 0} where
+  -- parts of which none is refused
+  abbrev calm : (A → List ℕ → Type 0) → Says A PaintFault
+  calm R = record { item = R; fault = never }
+
+  abbrev counted_says : Bool → (A → List ℕ → Type 0) → Says (List A) PaintFault
+  counted_says flag R = record { item = CountedIf flag R; fault = never }
+
+  counted_reads : (flag : Bool) (p : Reading A PaintFault) (R : A → List ℕ → Type 0) → Reads p (calm R) → Reads (counted flag p) (counted_says flag R)
+  counted_reads false p R reads = same_reads (counted false p) (done_says []) (counted_says false R) same (done_reads [])
+    where
+      same : Same (done_says []) (counted_says false R)
+      same = record { item = λ items bytes told. told; fault = λ fault bytes none. none; item_back = λ items bytes told. told; fault_back = λ fault bytes none. none }
+  counted_reads true p R reads =
+      same_reads (counted true p) (then_says (valued_says 1 (u8_at 0)) (λ count. many_says count (calm R))) (counted_says true R) same
+      (then_reads (valued 1 (u8_at 0)) (λ count. many count p) (valued_says 1 (u8_at 0)) (λ count. many_says count (calm R)) (valued_reads 1 (u8_at 0)) (λ count. many_reads count p (calm R) reads))
+    where
+      same : Same (then_says (valued_says 1 (u8_at 0)) (λ count. many_says count (calm R))) (counted_says true R)
+      same = record {
+        item = λ items bytes told. record { head = told.1; list = told.2; whole = told.3; one = told.4.0; count_is = sym told.4.1 ∙ sym told.5.0; listed = told.5.1 };
+        fault = λ fault bytes told. elim told [ inl none ↦ none | inr w ↦ w.5.6 ];
+        item_back = λ items bytes s. (length items, s.head, s.list, s.whole, (s.one, sym s.count_is), (refl, s.listed));
+        fault_back = λ fault bytes none. absurd none;
+      }
+
+-- ---- what stands behind a mask
+
+-- an optional part of which none is refused has no fault
+no_fault : (flag : Bool) (fault : PaintFault) (bytes : List ℕ) → FaultIf flag never fault bytes → ⊥
+no_fault false fault bytes none = none
+no_fault true fault bytes none = none
+
+abbrev raw_parts : PixelFormat → ℕ → ℕ → Says Tile PaintFault
+raw_parts f w h = then_says (piece_says (raw_length f w h)) (λ pixels. done_says (RawTile pixels))
+
+abbrev plain_places : PixelFormat → ℕ → Option ℕ → Option ℕ → Says Tile PaintFault
+plain_places f mask background foreground = then_says (counted_says (any_subrects mask) SpellsPlace) (λ places. done_says (PlainTile background foreground places))
+
+abbrev plain_foreground : PixelFormat → ℕ → Option ℕ → Says Tile PaintFault
+plain_foreground f mask background = then_says (optional_says (foreground_specified mask) (pixel_says f)) (plain_places f mask background)
+
+abbrev plain_parts : PixelFormat → ℕ → Says Tile PaintFault
+plain_parts f mask = then_says (optional_says (background_specified mask) (pixel_says f)) (plain_foreground f mask)
+
+abbrev colored_subs : PixelFormat → ℕ → Option ℕ → Says Tile PaintFault
+colored_subs f mask background = then_says (counted_says (any_subrects mask) (SpellsColored f)) (λ subs. done_says (ColoredTile background subs))
+
+abbrev colored_parts : PixelFormat → ℕ → Says Tile PaintFault
+colored_parts f mask = then_says (optional_says (background_specified mask) (pixel_says f)) (colored_subs f mask)
+
+abbrev parts_behind : PixelFormat → ℕ → ℕ → ℕ → Bool → Bool → Says Tile PaintFault
+parts_behind f w h mask true colored = raw_parts f w h
+parts_behind f w h mask false false = plain_parts f mask
+parts_behind f w h mask false true = colored_parts f mask
+
+behind_reads : (f : PixelFormat) (w h mask : ℕ) (raw colored : Bool) → Reads (behind_mask f w h mask raw colored) (parts_behind f w h mask raw colored)
+behind_reads f w h mask true colored = then_reads (piece (raw_length f w h)) (λ pixels. done (RawTile pixels)) (piece_says (raw_length f w h)) (λ pixels. done_says (RawTile pixels)) (piece_reads (raw_length f w h)) (λ pixels. done_reads (RawTile pixels))
+behind_reads f w h mask false false =
+    then_reads (optional (background_specified mask) (tile_colour f))
+    (λ background. and_then (optional (foreground_specified mask) (tile_colour f)) (λ foreground. and_then (counted (any_subrects mask) (valued 2 place_of)) (λ places. done (PlainTile background foreground places))))
+    (optional_says (background_specified mask) (pixel_says f)) (plain_foreground f mask)
+    (optional_reads (background_specified mask) (tile_colour f) (pixel_says f) (pixel_reads f))
+    (λ background. then_reads (optional (foreground_specified mask) (tile_colour f)) (λ foreground. and_then (counted (any_subrects mask) (valued 2 place_of)) (λ places. done (PlainTile background foreground places)))
+    (optional_says (foreground_specified mask) (pixel_says f)) (plain_places f mask background)
+    (optional_reads (foreground_specified mask) (tile_colour f) (pixel_says f) (pixel_reads f))
+    (λ foreground. then_reads (counted (any_subrects mask) (valued 2 place_of)) (λ places. done (PlainTile background foreground places)) (counted_says (any_subrects mask) SpellsPlace) (λ places. done_says (PlainTile background foreground places))
+    (counted_reads (any_subrects mask) (valued 2 place_of) SpellsPlace place_reads) (λ places. done_reads (PlainTile background foreground places))))
+behind_reads f w h mask false true =
+    then_reads (optional (background_specified mask) (tile_colour f))
+    (λ background. and_then (counted (any_subrects mask) (valued (size_of f + 2) (colored_of f))) (λ subs. done (ColoredTile background subs)))
+    (optional_says (background_specified mask) (pixel_says f)) (colored_subs f mask)
+    (optional_reads (background_specified mask) (tile_colour f) (pixel_says f) (pixel_reads f))
+    (λ background. then_reads (counted (any_subrects mask) (valued (size_of f + 2) (colored_of f))) (λ subs. done (ColoredTile background subs)) (counted_says (any_subrects mask) (SpellsColored f)) (λ subs. done_says (ColoredTile background subs))
+    (counted_reads (any_subrects mask) (valued (size_of f + 2) (colored_of f)) (SpellsColored f) (colored_reads f)) (λ subs. done_reads (ColoredTile background subs)))
+
+-- the parts behind a mask of these two bits are what the table has
+behind_item : (f : PixelFormat) (w h mask : ℕ) (raw colored : Bool) → is_raw mask ≡ raw → subrects_colored mask ≡ colored → (tile : Tile) (bytes : List ℕ) → (parts_behind f w h mask raw colored).item tile bytes → SpellsBehind f w h mask tile bytes
+behind_item f w h mask true colored r s tile bytes (pixels, front, back, whole, (is, size), (tile_is, none)) =
+    let all : bytes ≡ front = alone bytes front back whole none in
+    subst (λ (t : Tile). SpellsBehind f w h mask t bytes) (sym tile_is) (r, all ∙ is, ap length all ∙ size)
+behind_item f w h mask false false r s tile bytes (background, first, others, whole, first_is, (foreground, second, more, split, second_is, (places, third, back, rest, third_is, (tile_is, none)))) =
+    let all : more ≡ third = alone more third back rest none in
+    subst (λ (t : Tile). SpellsBehind f w h mask t bytes) (sym tile_is)
+    (r, s, record { first = first; second = second; third = third; whole = whole ∙ ap (λ (ys : List ℕ). first ++ ys) (split ∙ ap (λ (ys : List ℕ). second ++ ys) all); background_is = first_is; foreground_is = second_is; places_are = third_is })
+behind_item f w h mask false true r s tile bytes (background, first, others, whole, first_is, (subs, second, back, rest, second_is, (tile_is, none))) =
+    let all : others ≡ second = alone others second back rest none in
+    subst (λ (t : Tile). SpellsBehind f w h mask t bytes) (sym tile_is)
+    (r, s, record { first = first; second = second; whole = whole ∙ ap (λ (ys : List ℕ). first ++ ys) all; background_is = first_is; subs_are = second_is })
+
+behind_item_back : (f : PixelFormat) (w h mask : ℕ) (raw colored : Bool) → is_raw mask ≡ raw → subrects_colored mask ≡ colored → (tile : Tile) (bytes : List ℕ) → SpellsBehind f w h mask tile bytes → (parts_behind f w h mask raw colored).item tile bytes
+behind_item_back f w h mask true colored r s (RawTile pixels) bytes (is, all, size) = (pixels, bytes, [], sym (append-nil bytes), (all, size), (refl, refl))
+behind_item_back f w h mask false colored r s (RawTile pixels) bytes (is, all, size) = cc
+behind_item_back f w h mask true colored r s (PlainTile background foreground places) bytes (is, plain, spelled) = cc
+behind_item_back f w h mask false true r s (PlainTile background foreground places) bytes (is, plain, spelled) = cc
+behind_item_back f w h mask false false r s (PlainTile background foreground places) bytes (is, plain, p) =
+    (background, p.first, p.second ++ p.third, p.whole, p.background_is, (foreground, p.second, p.third, refl, p.foreground_is, (places, p.third, [], sym (append-nil p.third), p.places_are, (refl, refl))))
+behind_item_back f w h mask true colored r s (ColoredTile background subs) bytes (is, col, spelled) = cc
+behind_item_back f w h mask false false r s (ColoredTile background subs) bytes (is, col, spelled) = cc
+behind_item_back f w h mask false true r s (ColoredTile background subs) bytes (is, col, p) =
+    (background, p.first, p.second, p.whole, p.background_is, (subs, p.second, [], sym (append-nil p.second), p.subs_are, (refl, refl)))
+
+behind_fault : (f : PixelFormat) (w h mask : ℕ) (raw colored : Bool) (fault : PaintFault) (bytes : List ℕ) → (parts_behind f w h mask raw colored).fault fault bytes → ⊥
+behind_fault f w h mask true colored fault bytes (inl none) = none
+behind_fault f w h mask true colored fault bytes (inr w') = w'.5
+behind_fault f w h mask false false fault bytes (inl bad) = no_fault (background_specified mask) fault bytes bad
+behind_fault f w h mask false false fault bytes (inr (b, first, others, whole, is, inl bad)) = no_fault (foreground_specified mask) fault others bad
+behind_fault f w h mask false false fault bytes (inr (b, first, others, whole, is, inr (g, second, more, split, second_is, inl none))) = none
+behind_fault f w h mask false false fault bytes (inr (b, first, others, whole, is, inr (g, second, more, split, second_is, inr w'))) = w'.5
+behind_fault f w h mask false true fault bytes (inl bad) = no_fault (background_specified mask) fault bytes bad
+behind_fault f w h mask false true fault bytes (inr (b, first, others, whole, is, inl none)) = none
+behind_fault f w h mask false true fault bytes (inr (b, first, others, whole, is, inr w')) = w'.5
+
+-- ---- a tile's layout
+
+abbrev layout_says : PixelFormat → ℕ → ℕ → List Tile → Says Tile PaintFault
+layout_says f w h before = record { item = SpellsTile f w h before; fault = FaultsMask before }
+
+abbrev mask_says : List Tile → Says ℕ PaintFault
+mask_says before = checked_says 1 (λ bytes. mask_fault before (u8_at 0 bytes)) (u8_at 0)
+
+abbrev layout_parts : PixelFormat → ℕ → ℕ → List Tile → Says Tile PaintFault
+layout_parts f w h before = then_says (mask_says before) (λ mask. parts_behind f w h mask (is_raw mask) (subrects_colored mask))
+
+layout_same : (f : PixelFormat) (w h : ℕ) (before : List Tile) → Same (layout_parts f w h before) (layout_says f w h before)
+layout_same f w h before = record { item = item; fault = fault; item_back = item_back; fault_back = fault_back }
+  where
+    item : (tile : Tile) (bytes : List ℕ) → (layout_parts f w h before).item tile bytes → SpellsTile f w h before tile bytes
+    item tile bytes (mask, front, back, whole, (one, good, is), parts) =
+        let behind : SpellsBehind f w h mask tile back = behind_item f w h mask (is_raw mask) (subrects_colored mask) refl refl tile back parts in
+        record { head = front; rest = back; whole = whole; one = one; good = good; behind = subst (λ (m : ℕ). SpellsBehind f w h m tile back) is behind }
+
+    fault : (g : PaintFault) (bytes : List ℕ) → (layout_parts f w h before).fault g bytes → FaultsMask before g bytes
+    fault g bytes (inl (one, bad)) = record { one = one; bad = bad }
+    fault g bytes (inr (mask, front, back, whole, is, parts)) = absurd (behind_fault f w h mask (is_raw mask) (subrects_colored mask) g back parts)
+
+    item_back : (tile : Tile) (bytes : List ℕ) → SpellsTile f w h before tile bytes → (layout_parts f w h before).item tile bytes
+    item_back tile bytes s =
+        let mask = u8_at 0 s.head in
+        (mask, s.head, s.rest, s.whole, (s.one, s.good, refl), behind_item_back f w h mask (is_raw mask) (subrects_colored mask) refl refl tile s.rest s.behind)
+
+    fault_back : (g : PaintFault) (bytes : List ℕ) → FaultsMask before g bytes → (layout_parts f w h before).fault g bytes
+    fault_back g bytes s = inl (s.one, s.bad)
+
+layout_reads : (f : PixelFormat) (w h : ℕ) (before : List Tile) → Reads (tile_layout f w h before) (layout_says f w h before)
+layout_reads f w h before =
+    same_reads (tile_layout f w h before) (layout_parts f w h before) (layout_says f w h before) (layout_same f w h before)
+    (then_reads (checked 1 (λ bytes. mask_fault before (u8_at 0 bytes)) (u8_at 0)) (λ mask. behind_mask f w h mask (is_raw mask) (subrects_colored mask)) (mask_says before) (λ mask. parts_behind f w h mask (is_raw mask) (subrects_colored mask))
+    (checked_reads 1 (λ bytes. mask_fault before (u8_at 0 bytes)) (u8_at 0)) (λ mask. behind_reads f w h mask (is_raw mask) (subrects_colored mask)))
+
+-- ---- a tile that is judged
+
+both : (a b : Bool) → (a && b) ≡ true → (a ≡ true) × (b ≡ true)
+both true true e = (refl, refl)
+both true false e = cc
+both false b e = cc
+
+pub inside_true : (w h : ℕ) (places : List Rect) → are_inside w h places ≡ true → AreInside w h places
+inside_true w h [] e = tt
+inside_true w h (place ∷ places) e = let parts = both (is_on_screen w h place) (are_inside w h places) e in (on_true w h place parts.0, inside_true w h places parts.1)
+
+pub inside_test : (w h : ℕ) (places : List Rect) → AreInside w h places → are_inside w h places ≡ true
+inside_test w h [] inside = refl
+inside_test w h (place ∷ places) inside = rw (on_test w h place inside.0, inside_test w h places inside.1) refl
+
+-- what bytes say of a tile of that size behind others
+abbrev pub tile_says : PixelFormat → ℕ → ℕ → List Tile → Says Tile PaintFault
+tile_says f w h before = record {
+  item = λ tile bytes. SpellsTile f w h before tile bytes × FitsTile w h tile;
+  fault = λ fault bytes. FaultsMask before fault bytes ⊎ ((fault ≡ SubrectOutside) × LeavesTile f w h before bytes);
+}
+
+abbrev judged_parts : PixelFormat → ℕ → ℕ → List Tile → Says Tile PaintFault
+judged_parts f w h before = then_says (layout_says f w h before) (λ tile. judged_says (tile_fault w h tile) tile)
+
+tile_same : (f : PixelFormat) (w h : ℕ) (before : List Tile) → Same (judged_parts f w h before) (tile_says f w h before)
+tile_same f w h before = record { item = item; fault = fault; item_back = item_back; fault_back = fault_back }
+  where
+    fits : (tile : Tile) (b : Bool) → are_inside w h (places_of tile) ≡ b → ◌≡◌ {A = Option PaintFault} (if b then None else Some SubrectOutside) None → FitsTile w h tile
+    fits tile true is e = inside_true w h (places_of tile) is
+    fits tile false is e = cc
+
+    leaves : (tile : Tile) (b : Bool) (g : PaintFault) → are_inside w h (places_of tile) ≡ b → ◌≡◌ {A = Option PaintFault} (if b then None else Some SubrectOutside) (Some g) → (g ≡ SubrectOutside) × (FitsTile w h tile → ⊥)
+    leaves tile true g is e = cc
+    leaves tile false g is e = let same : SubrectOutside ≡ g = cc in (sym same, λ inside. let yes' = inside_test w h (places_of tile) inside in cc)
+
+    item : (tile : Tile) (bytes : List ℕ) → (judged_parts f w h before).item tile bytes → SpellsTile f w h before tile bytes × FitsTile w h tile
+    item tile bytes (t, front, back, whole, spelled, (good, tile_is, none)) =
+        let all : bytes ≡ front = alone bytes front back whole none in
+        let fit : FitsTile w h t = fits t (are_inside w h (places_of t)) refl good in
+        rw (tile_is, all) (spelled, fit)
+
+    fault : (g : PaintFault) (bytes : List ℕ) → (judged_parts f w h before).fault g bytes → (tile_says f w h before).fault g bytes
+    fault g bytes (inl bad) = inl bad
+    fault g bytes (inr (t, front, back, whole, spelled, (bad, none))) =
+        let all : bytes ≡ front = alone bytes front back whole none in
+        let off = leaves t (are_inside w h (places_of t)) g refl bad in
+        inr (off.0, record { tile = t; spelled = rw all spelled; leaves = off.1 })
+
+    item_back : (tile : Tile) (bytes : List ℕ) → SpellsTile f w h before tile bytes × FitsTile w h tile → (judged_parts f w h before).item tile bytes
+    item_back tile bytes (spelled, fit) = (tile, bytes, [], sym (append-nil bytes), spelled, (rw (inside_test w h (places_of tile) fit) refl, refl, refl))
+
+    off : (tile : Tile) (b : Bool) → are_inside w h (places_of tile) ≡ b → (FitsTile w h tile → ⊥) → b ≡ false
+    off tile true is never' = absurd (never' (inside_true w h (places_of tile) is))
+    off tile false is never' = refl
+
+    fault_back : (g : PaintFault) (bytes : List ℕ) → (tile_says f w h before).fault g bytes → (judged_parts f w h before).fault g bytes
+    fault_back g bytes (inl bad) = inl bad
+    fault_back g bytes (inr (is, s)) =
+        let test : are_inside w h (places_of s.tile) ≡ false = off s.tile (are_inside w h (places_of s.tile)) refl s.leaves in
+        inr (s.tile, bytes, [], sym (append-nil bytes), s.spelled, (rw (test, is) refl, refl))
+
+-- the reading gives exactly the tiles and the faults that bytes say
+pub tile_reads : (f : PixelFormat) (w h : ℕ) (before : List Tile) → Reads (tile_behind f w h before) (tile_says f w h before)
+tile_reads f w h before =
+    same_reads (tile_behind f w h before) (judged_parts f w h before) (tile_says f w h before) (tile_same f w h before)
+    (then_reads (tile_layout f w h before) (λ tile. judged (tile_fault w h tile) tile) (layout_says f w h before) (λ tile. judged_says (tile_fault w h tile) tile) (layout_reads f w h before) (λ tile. judged_reads (tile_fault w h tile) tile))

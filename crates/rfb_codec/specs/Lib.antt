@@ -1,0 +1,14 @@
+pub mod Pixels
+pub mod Raw
+pub mod Rre
+pub mod Codec
+pub mod Cover
+pub mod Tile
+pub mod Hextile
+pub mod TileSpelling
+pub mod Carried
+pub mod Colours
+pub mod RectData
+pub mod UpdateStream
+pub mod TileRead
+pub mod Painter

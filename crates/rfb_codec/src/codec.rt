@@ -1,0 +1,41 @@
+//! What every encoder of a block promises.
+
+ghost use Rattle.std.specs.Prelude.{◌≡◌, ◌+◌, ◌≤◌, ℕ, ℤ, List, vec_len};
+ghost use Rattle.std.specs.Bool.{OnTrue, OnFalse};
+ghost use Rattle.std.specs.Vec.{vec_capacity};
+ghost use Rattle.rfb_pixel.specs.Format.{PixelFormat};
+ghost use Rattle.rfb_picture.specs.Grid.{Grid};
+ghost use Rattle.rfb_codec.specs.Pixels.{HasPixels};
+ghost use Rattle.rfb_codec.specs.Raw.{raw_length};
+ghost use Rattle.rfb_codec.specs.Codec.{Appends};
+
+use crate::block::Block;
+use rfb_pixel::Format;
+
+/// An encoding of RFC 6143 section 7.7 that a block of pixels can be sent in.
+pub trait Codec {
+    // The bytes stand for the block, as data of a rectangle in this encoding.
+    ghost stands: { PixelFormat → Grid ℕ → List ℕ → Type 0 };
+
+    ghost NUMBER: { ℤ };
+
+    /// The encoding-type, an S32 of the head of a rectangle.
+    const NUMBER: i32;
+
+    /// Appends to `out` data that stand for the block in this format, no more bytes than its pixels
+    /// have by themselves (Raw), and answers true. False is for a block that the encoding gives up,
+    /// as one whose data would not be shorter than Raw; then `out` has what it had.
+    ///
+    /// The caller owns all three. It has made the room that Raw would need, so no memory is taken, and
+    /// no pixel has more bits than the format gives it.
+    fn encode(block: &Block, format: &Format, out: &mut Vec<u8>) -> bool
+        requires pixels { HasPixels format.now block.now }
+        requires room { vec_len out.old + raw_length format.now block.now.width block.now.height ≤ vec_capacity out.old }
+
+        ensures spelled { OnTrue result (Appends stands format.now block.now out.old.items out.new.items) }
+        ensures kept { OnFalse result (out.new.items ≡ out.old.items) }
+        ensures room { vec_capacity out.old ≤ vec_capacity out.new };
+}
+
+#[cfg(test)]
+pub(crate) mod tests;

@@ -1,0 +1,82 @@
+//! What the tests of the encoders share: a codec is called through its bound alone.
+
+ghost use Rattle.std.specs.Prelude.{◌≡◌, ◌*◌, ◌^◌, ◌<◌, IfOk, IfSome};
+ghost use Rattle.std.specs.Bool.{OnTrue, OnFalse};
+ghost use Rattle.rfb_pixel.specs.Format.{size_of};
+ghost use Rattle.rfb_codec.specs.Pixels.{HasPixels};
+ghost use Rattle.rfb_codec.specs.Codec.{Appends};
+
+use super::*;
+use arrayvec::ArrayVec;
+use std::alloc::{AllocError, Global};
+use std::result::Result;
+
+/// The block of these pixels, if there is one of that size.
+pub(crate) fn block_of(width: u16, height: u16, pixels: &[u32]) -> Option<Block> {
+    if width < 1 || 64 < width || height < 1 || 64 < height {
+        return None;
+    }
+    if pixels.len() != usize::from(height) * usize::from(width) {
+        return None;
+    }
+    let mut held = ArrayVec::new();
+    match held.try_extend_from_slice(pixels) {
+        Ok(()) => Some(Block::new(width, height, held)),
+        Err(_) => None,
+    }
+}
+
+// The greatest pixel of the format.
+fn greatest(format: &Format) -> Option<u32>
+    ensures { IfSome result (λ most. most < 2 ^ (8 * size_of format.now)) }
+{
+    match format.size() {
+        1 => Some(0xFF),
+        2 => Some(0xFFFF),
+        4 => Some(0xFFFF_FFFF),
+        _ => None,
+    }
+}
+
+// Whether no pixel has more bits than the format gives it.
+fn fits(block: &Block, format: &Format) -> bool
+    ensures { OnTrue result (HasPixels format.now block.now) }
+{
+    let most = match greatest(format) {
+        Some(most) => most,
+        None => return false,
+    };
+    for pixel in block.pixels() {
+        if *pixel > most {
+            return false;
+        }
+    }
+    true
+}
+
+/// What the codec answers, and what `out` has then, where it had `before`.
+pub(crate) fn encoded<C: Codec>(
+    alloc: Global,
+    block: &Block,
+    format: &Format,
+    before: &[u8],
+) -> Result<(bool, Vec<u8>), AllocError>
+    ensures stands { IfOk result (λ r. OnTrue r.0 (Appends C.stands format.now block.now before.now r.1.items)) }
+    ensures kept { IfOk result (λ r. OnFalse r.0 (r.1.items ≡ before.now)) }
+{
+    let mut out = Vec::new(alloc);
+    out.extend_from_slice(before)?;
+    let raw = usize::from(block.height()) * usize::from(block.width()) * format.size();
+    out.reserve(raw)?;
+    if !fits(block, format) {
+        return Ok((false, out));
+    }
+    let done = C::encode(block, format, &mut out);
+    Ok((done, out))
+}
+
+#[test]
+fn each_codec_has_its_number(rt: HostRuntime) {
+    assert_eq!(rt; crate::Raw::NUMBER, 0);
+    assert_eq!(rt; crate::Rre::NUMBER, 2);
+}

@@ -1,0 +1,28 @@
+//! The encoders, and what they share: appending within the room that the caller has made.
+
+ghost use Rattle.std.specs.Prelude.{◌≡◌, ◌+◌, ◌≤◌, ◌++◌, length, vec_len};
+ghost use Rattle.std.specs.Vec.{vec_capacity};
+
+mod background;
+mod cover;
+mod hextile;
+mod raw;
+mod rre;
+
+pub use hextile::Hextile;
+pub use hextile::layout::TileLayout;
+pub use raw::Raw;
+pub use rre::Rre;
+
+// Appends bytes for which there is room, so no memory is taken.
+fn append_within(out: &mut Vec<u8>, bytes: &[u8])
+    requires { vec_len out.old + length bytes.now ≤ vec_capacity out.old }
+    ensures items { out.new.items ≡ out.old.items ++ bytes.now }
+    ensures len { vec_len out.new ≡ vec_len out.old + length bytes.now }
+    ensures room { vec_capacity out.old ≤ vec_capacity out.new }
+{
+    match out.extend_from_slice(bytes) {
+        Ok(()) => {}
+        Err(_) => unreachable!(),
+    }
+}

@@ -1,0 +1,90 @@
+//! The Hextile encoder, RFC 6143 section 7.7.4.
+
+ghost use Rattle.std.specs.Prelude.{◌≡◌, ◌+◌, ◌*◌, ◌<◌, ◌≤◌, [], length, vec_len, pos};
+ghost use Rattle.std.specs.Bool.{OnTrue, OnFalse};
+ghost use Rattle.std.specs.Vec.{vec_capacity};
+ghost use Rattle.arrayvec.specs.ArrayVec.{array_vec_len};
+ghost use Rattle.rfb_codec.specs.Pixels.{HasPixels};
+ghost use Rattle.rfb_codec.specs.Raw.{raw_length};
+ghost use Rattle.rfb_codec.specs.Hextile.{StandsByRule};
+ghost use Rattle.rfb_codec.specs.Codec.{Appends};
+
+mod carried;
+mod colours;
+mod cutting;
+mod drawing;
+pub mod layout;
+mod pieces;
+mod spelling;
+
+use super::append_within;
+use crate::block::Block;
+use crate::codec::Codec;
+use crate::tiles::{tile_count, tile_rect};
+use carried::Carried;
+use cutting::{TilePixels, cut};
+use drawing::{TileSubrects, draw};
+use pieces::Tiles;
+use rfb_pixel::Format;
+use spelling::{append, spelled_length};
+
+/// Hextile: tiles of 16 by 16, each of one pixel, of two or of more, or Raw where that is as short. A
+/// tile names its colours where they are not those that are carried to it. It gives up a block whose
+/// tiles all together are no shorter than Raw.
+pub struct Hextile;
+
+impl Codec for Hextile {
+    ghost stands = { λ f block bytes. StandsByRule f block bytes };
+
+    ghost NUMBER = { pos 5 };
+
+    const NUMBER: i32 = 5;
+
+    fn encode(block: &Block, format: &Format, out: &mut Vec<u8>) -> bool
+        requires pixels { HasPixels format.now block.now }
+        requires room { vec_len out.old + raw_length format.now block.now.width block.now.height ≤ vec_capacity out.old }
+
+        ensures spelled { OnTrue result (Appends (λ f block bytes. StandsByRule f block bytes) format.now block.now out.old.items out.new.items) }
+        ensures shorter { OnTrue result (vec_len out.new < vec_len out.old + raw_length format.now block.now.width block.now.height) }
+        ensures kept { OnFalse result (out.new.items ≡ out.old.items) }
+        ensures room { vec_capacity out.old ≤ vec_capacity out.new }
+    {
+        let mut tiles = Tiles::new();
+        if !spell(block, format, &mut tiles) {
+            return false;
+        }
+        append_within(out, tiles.as_slice());
+        true
+    }
+}
+
+// Spells each tile of the block, or answers false once the tiles are no shorter than Raw.
+fn spell(block: &Block, format: &Format, tiles: &mut Tiles) -> bool
+    requires pixels { HasPixels format.now block.now }
+    requires empty { tiles.old.items ≡ [] }
+    ensures stands { OnTrue result (StandsByRule format.now block.now tiles.new.items) }
+    ensures shorter { OnTrue result (array_vec_len tiles.new < raw_length format.now block.now.width block.now.height) }
+{
+    let raw = block.pixels().len() * format.size();
+    let mut carried = Carried {
+        background: None,
+        foreground: None,
+    };
+    let mut pixels = TilePixels::new();
+    let mut subs = TileSubrects::new();
+    for n in 0..tile_count(block.width(), block.height()) {
+        let tile = tile_rect(block.width(), block.height(), n);
+        let (width, height) = (usize::from(tile.w), usize::from(tile.h));
+        cut(block, tile, &mut pixels);
+        let part = pixels.as_slice();
+        let layout = draw(format, part, width, height, &mut carried, &mut subs);
+        if tiles.len() + spelled_length(format, layout, part, &subs) >= raw {
+            return false;
+        }
+        append(format, layout, part, width, height, &subs, tiles);
+    }
+    true
+}
+
+#[cfg(test)]
+mod tests;

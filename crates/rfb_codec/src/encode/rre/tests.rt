@@ -1,0 +1,219 @@
+//! The rule at blocks worked out by hand, and at all small blocks against its plain form.
+
+mod plain;
+
+use super::*;
+use crate::codec::tests::{block_of, encoded};
+use plain::{Plain, decoded};
+use std::alloc::Global;
+use std::process::Abort;
+use std::test::Fail;
+
+const A: u32 = 0;
+
+const B: u32 = 0x00FF_FFFF;
+
+#[test]
+fn a_block_that_is_not_shorter_leaves_out_as_it_was(rt: HostRuntime) -> Result<(), Fail> {
+    // 20 bytes against 16.
+    if let Some(block) = block_of(4, 1, &[A, A, A, B]) {
+        let (done, out) = encoded::<Rre>(rt.alloc(), &block, &Format::rgb888(), &[9, 8])?;
+        assert!(rt; !done);
+        assert_eq!(rt; out.as_slice(), [9, 8].as_slice());
+    }
+    Ok(())
+}
+
+#[test]
+fn one_place_of_eight_is_a_subrectangle(rt: HostRuntime) -> Result<(), Fail> {
+    if let Some(block) = block_of(8, 1, &[A, A, A, A, A, A, A, B]) {
+        let (done, out) = encoded::<Rre>(rt.alloc(), &block, &Format::rgb888(), &[9, 8])?;
+        assert!(rt; done);
+        let wanted = [
+            9, 8, // stood there
+            0, 0, 0, 1, // number of subrectangles
+            0, 0, 0, 0, // background
+            0xFF, 0xFF, 0xFF, 0, // pixel
+            0, 7, 0, 0, 0, 1, 0, 1, // x, y, width, height
+        ];
+        assert_eq!(rt; out.as_slice(), wanted.as_slice());
+    }
+    Ok(())
+}
+
+#[test]
+fn a_big_endian_format_has_the_high_byte_first(rt: HostRuntime) -> Result<(), Fail> {
+    // PIXEL_FORMAT of 16 bits with the big-endian-flag.
+    let narrow = [
+        0x10, 0x10, 1, 1, 0, 0x1F, 0, 0x3F, 0, 0x1F, 11, 5, 0, 0, 0, 0,
+    ];
+    let mut pixels = [0x1234; 9];
+    pixels[8] = 0xABCD;
+    if let (Ok(format), Some(block)) = (Format::read(&narrow), block_of(3, 3, &pixels)) {
+        let (done, out) = encoded::<Rre>(rt.alloc(), &block, &format, &[])?;
+        assert!(rt; done);
+        let wanted = [0, 0, 0, 1, 0x12, 0x34, 0xAB, 0xCD, 0, 2, 0, 2, 0, 1, 0, 1];
+        assert_eq!(rt; out.as_slice(), wanted.as_slice());
+    } else {
+        assert!(rt; false, "no format");
+    }
+    Ok(())
+}
+
+// Whether a row of this length, of which the last place alone differs, is taken.
+fn is_row_taken(alloc: Global, format: &Format, length: u16) -> Result<bool, Fail> {
+    let mut pixels = Vec::new(alloc);
+    pixels.resize(usize::from(length), 3)?;
+    if let Some(last) = pixels.last_mut() {
+        *last = 4;
+    }
+    match block_of(length, 1, &pixels) {
+        Some(block) => Ok(encoded::<Rre>(alloc, &block, format, &[])?.0),
+        None => Ok(false),
+    }
+}
+
+#[test]
+fn only_fewer_bytes_than_raw_are_taken(rt: HostRuntime) -> Result<(), Fail> {
+    for (format, length, taken) in [
+        // 14 bytes at one a pixel, 16 at two, 20 at four.
+        (Format::bgr233(), 13, false),
+        (Format::bgr233(), 14, false),
+        (Format::bgr233(), 15, true),
+        (Format::rgb565(), 8, false),
+        (Format::rgb565(), 9, true),
+        (Format::rgb888(), 5, false),
+        (Format::rgb888(), 6, true),
+    ] {
+        assert_eq!(rt;
+            is_row_taken(rt.alloc(), &format, length)?,
+            taken,
+            "at {length}"
+        );
+    }
+    Ok(())
+}
+
+// That the encoder does what the rule's plain form does.
+fn agrees(
+    rt: &impl Abort,
+    alloc: Global,
+    format: &Format,
+    width: u16,
+    height: u16,
+    pixels: &[u32],
+) -> Result<(), Fail> {
+    if let Some(block) = block_of(width, height, pixels) {
+        let plain = Plain::of(alloc, pixels, usize::from(width), usize::from(height))?;
+        let (done, out) = encoded::<Rre>(alloc, &block, format, &[])?;
+        let size = format.size();
+        let taken = plain.length(size) < pixels.len() * size;
+        assert_eq!(rt; done, taken, "{width} by {height}: {pixels:?}");
+        if done {
+            assert_eq!(rt; out.len(), plain.length(size));
+            let shown = decoded(alloc, format, &out, usize::from(width), pixels.len())?;
+            assert_eq!(rt; shown.as_slice(), pixels);
+        } else {
+            assert_eq!(rt; out.len(), 0);
+        }
+    }
+    Ok(())
+}
+
+// Agreement at every block of up to so many places over pixels below `values`.
+fn agrees_at_all(rt: &impl Abort, alloc: Global, most: u16, values: u32) -> Result<(), Fail> {
+    let formats = [Format::rgb888(), Format::bgr233()];
+    for width in 1..=most {
+        for height in 1..=most / width {
+            let places = usize::from(width * height);
+            let mut pixels = Vec::new(alloc);
+            pixels.resize(places, 0)?;
+            for _ in 0..1_000_000 {
+                for format in &formats {
+                    agrees(rt, alloc, format, width, height, &pixels)?;
+                }
+                if !count_up(&mut pixels, values) {
+                    break;
+                }
+            }
+        }
+    }
+    Ok(())
+}
+
+// The next list of pixels below `values`, if this was not the last.
+fn count_up(pixels: &mut [u32], values: u32) -> bool {
+    for pixel in pixels.iter_mut() {
+        if pixel.wrapping_add(1) < values {
+            *pixel = pixel.wrapping_add(1);
+            return true;
+        }
+        *pixel = 0;
+    }
+    false
+}
+
+#[test]
+fn it_keeps_the_rule_at_every_block_of_twelve_places_over_two_pixels(
+    rt: HostRuntime,
+) -> Result<(), Fail> {
+    agrees_at_all(&rt, rt.alloc(), 12, 2)
+}
+
+#[test]
+fn it_keeps_the_rule_at_every_block_of_nine_places_over_three_pixels(
+    rt: HostRuntime,
+) -> Result<(), Fail> {
+    agrees_at_all(&rt, rt.alloc(), 9, 3)
+}
+
+#[test]
+fn it_keeps_the_rule_at_larger_blocks(rt: HostRuntime) -> Result<(), Fail> {
+    let formats = [Format::bgr233(), Format::rgb565()];
+    let mut state = 1u32;
+    for (width, height) in [
+        (5, 3),
+        (4, 4),
+        (3, 6),
+        (19, 1),
+        (2, 10),
+        (7, 3),
+        (1, 24),
+        (6, 4),
+        (24, 1),
+        (11, 2),
+    ] {
+        for round in 0..400u32 {
+            let mut pixels = Vec::new(rt.alloc());
+            for _ in 0..u32::from(width) * u32::from(height) {
+                state = state.wrapping_mul(1_664_525).wrapping_add(1_013_904_223);
+                let chance = (state >> 16) % 24;
+                pixels.push(if chance < round % 5 {
+                    1 + chance % 2
+                } else {
+                    9
+                })?;
+            }
+            for format in &formats {
+                agrees(&rt, rt.alloc(), format, width, height, &pixels)?;
+            }
+        }
+    }
+    Ok(())
+}
+
+#[test]
+fn it_keeps_the_rule_at_whole_cells(rt: HostRuntime) -> Result<(), Fail> {
+    let mut pixels = [6; 4096];
+    agrees(&rt, rt.alloc(), &Format::rgb888(), 64, 64, &pixels)?;
+    for i in 0..4096 {
+        pixels[i] = if i % 29 < 3 { 5 } else { 6 };
+    }
+    agrees(&rt, rt.alloc(), &Format::rgb888(), 64, 64, &pixels)?;
+    agrees(&rt, rt.alloc(), &Format::rgb565(), 64, 64, &pixels)?;
+    for i in 0..4096 {
+        pixels[i] = i as u32;
+    }
+    agrees(&rt, rt.alloc(), &Format::rgb888(), 64, 64, &pixels)?;
+    agrees(&rt, rt.alloc(), &Format::rgb565(), 64, 64, &pixels)
+}

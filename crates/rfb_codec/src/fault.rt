@@ -1,0 +1,27 @@
+//! Why the data of a rectangle are refused. Each prints as its number and its name.
+
+use thiserror::Error;
+
+/// What is wrong with an element of a rectangle's data.
+#[derive(Clone, Copy, Debug, PartialEq, Eq, Error)]
+pub enum PaintFault {
+    /// A subrectangle leaves its rectangle or its tile.
+    #[error("10 SubrectOutside")]
+    SubrectOutside,
+    /// A tile of Hextile is drawn over a background, and none was specified in its rectangle.
+    #[error("11 NoBackground")]
+    NoBackground,
+    /// Subrectangles without pixels of their own stand in a tile, and no foreground was specified in
+    /// its rectangle.
+    #[error("12 NoForeground")]
+    NoForeground,
+    /// A tile has a foreground and subrectangles with pixels of their own.
+    #[error("13 BothColourBits")]
+    BothColourBits,
+    /// The source of a CopyRect leaves the screen.
+    #[error("14 SourceOutside")]
+    SourceOutside,
+}
+
+#[cfg(test)]
+mod tests;
