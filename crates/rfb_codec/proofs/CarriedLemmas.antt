@@ -1,9 +1,8 @@
 -- Colours that are carried from tile to tile.
 use Rattle.std.proofs.Common.{◌≡◌, ℕ, List, [], ◌∷◌, ◌++◌, Bool, true, false, Option, Some, None, if◌then◌else◌, refl, sym, subst, ◌∙◌, ap, append-nil, append_assoc}
-use Rattle.rfb_codec.specs.declared.encode.hextile.carried.Carried.{Carried}
-use Rattle.rfb_codec.specs.Tile.{Tile, RawTile, PlainTile, ColoredTile, background_of, foreground_of, later, last_of, is_missing}
-use Rattle.rfb_codec.specs.Hextile.{behind_last, is_raw_tile, is_raw_or_colored, uses_foreground, NoneIs, KeepsRule, CarriesColours}
-use Rattle.rfb_codec.specs.Carried.{IsCarried, IsCarriedIf, Remembers, IsNamed}
+use Rattle.rfb_codec.specs.Tile.{Tile, later, last_of, is_missing}
+use Rattle.rfb_codec.specs.Hextile.{behind_last, NoneIs, KeepsRule, CarriesColours}
+use Rattle.rfb_codec.specs.Carried.{IsCarried, IsCarriedIf, IsNamed}
 use Rattle.rfb_codec.proofs.TileSpellingLemmas.{IsInForce}
 
 -- ---- one tile more

@@ -1,5 +1,5 @@
 -- A tile that is drawn over a background, or Raw, is sent as this project's rules have it.
-use Rattle.std.proofs.Common.{◌≡◌, ℕ, ◌+◌, ◌*◌, ◌/◌, ◌%◌, ◌^◌, ◌<◌, ◌≤◌, ◌⊎◌, inl, inr, List, [], ◌∷◌, ◌++◌, Bool, true, false, Option, Some, None, length, slice_index, refl, sym, subst, ◌∙◌, ap, arith, length-append}
+use Rattle.std.proofs.Common.{◌≡◌, ℕ, ◌+◌, ◌*◌, ◌/◌, ◌%◌, ◌<◌, ◌⊎◌, inl, inr, List, [], ◌∷◌, ◌++◌, true, false, Option, Some, None, length, slice_index, refl, sym, subst, ◌∙◌, ap, arith, length-append}
 use Rattle.std.proofs.lemmas.Bool.{cases_lt}
 use Rattle.std.proofs.lemmas.List.{get_or_default, get_or_past}
 use Rattle.std.proofs.lemmas.Nat.{div-add-mod', mod_below, div_below, pow_pos}
@@ -16,9 +16,9 @@ use Rattle.rfb_codec.specs.Rre.{pixel_at}
 use Rattle.rfb_codec.specs.Cover.{IsPixelOf, ArePartsOf, IsCover}
 use Rattle.rfb_codec.specs.Tile.{Tile, background_of, foreground_of, tile_pixel, FitsTile, SpellsTile}
 use Rattle.rfb_codec.specs.TileSpelling.{tile_of, tile_bytes, are_some, AreTileParts}
-use Rattle.rfb_codec.specs.Hextile.{across, tile_count, tile_width, tile_height, tile_at, SpellsNextTile, pixel_of_tiles, StandsHextile, StandsByRule, CarriesColours, is_raw_tile, is_raw_or_colored, uses_foreground}
-use Rattle.rfb_codec.specs.Carried.{IsCarriedIf, Remembers, IsNamed, IsSent, Sends}
-use Rattle.rfb_codec.proofs.TileSpellingLemmas.{IsTileSize, IsColourOf, IsInForce, spells_raw, spells_plain, spells_colored_tile, fits_tile}
+use Rattle.rfb_codec.specs.Hextile.{across, tile_count, tile_width, tile_height, tile_at, SpellsNextTile, pixel_of_tiles, StandsByRule, CarriesColours, is_raw_tile, is_raw_or_colored, uses_foreground}
+use Rattle.rfb_codec.specs.Carried.{Remembers, IsNamed, Sends}
+use Rattle.rfb_codec.proofs.TileSpellingLemmas.{IsTileSize, IsColourOf, spells_raw, spells_plain, spells_colored_tile, fits_tile}
 use Rattle.rfb_codec.proofs.CarriedLemmas.{carried_kept, carried_on, in_force, unbroken, carries_more}
 use Rattle.rfb_codec.proofs.HextileEncodeLemmas.{AreAll, shows_raw, shows_plain, shows_colored, listed_more, shown_before, shown_here, column_of, row_of_tiles, in_tile, tile_below}
 

@@ -1,23 +1,20 @@
 -- Tiles put one behind another show a block.
-use Rattle.std.proofs.Common.{◌≡◌, ℕ, zero, suc, ◌+◌, ◌-◌, ◌*◌, ◌/◌, ◌%◌, ◌^◌, ◌<◌, ◌≤◌, inl, inr, List, [], ◌∷◌, ◌++◌, Bool, true, false, Option, Some, None, length, take, drop, map, min, get_or, slice_index, slice_index_or, refl, sym, subst, ◌∙◌, ap, append-nil, append_assoc, arith, length-append}
-use Rattle.std.specs.List.{flat_map}
-use Rattle.std.proofs.Math.Nat.{mod-eq_of_lt, mul-le-mul_right}
+use Rattle.std.proofs.Common.{◌≡◌, ℕ, ◌+◌, ◌-◌, ◌*◌, ◌/◌, ◌%◌, ◌<◌, inl, inr, List, [], ◌∷◌, ◌++◌, true, Option, Some, length, take, drop, map, min, get_or, slice_index, slice_index_or, refl, sym, subst, ◌∙◌, ap, append-nil, append_assoc, arith, length-append}
+use Rattle.std.proofs.Math.Nat.{mod-eq_of_lt}
 use Rattle.std.proofs.Math.Seq.{get_or-append_seam}
 use Rattle.std.proofs.lemmas.Bool.{cases_lt}
-use Rattle.std.proofs.lemmas.List.{get_or_append_left, take-append-le, take_all, get_or_default, get_or-append-add, get_or-take, get_or-drop}
-use Rattle.std.proofs.lemmas.Nat.{div-mul-add, mod-mul-add, div-add-mod', mod_below, div_below, rows}
-use Rattle.rfb_pixel.specs.Format.{PixelFormat, size_of, pixel_bytes, pixel_number}
-use Rattle.rfb_picture.specs.Grid.{Grid, IsGrid, at_or}
+use Rattle.std.proofs.lemmas.List.{get_or_append_left, take-append-le, take_all, get_or-append-add, get_or-take, get_or-drop}
+use Rattle.std.proofs.lemmas.Nat.{div-mul-add, mod-mul-add, div-add-mod', mod_below}
+use Rattle.rfb_pixel.specs.Format.{PixelFormat}
 use Rattle.rfb_picture.proofs.GridLemmas.{place_below}
 use Rattle.rfb_wire.specs.Reading.{ListedAfter}
 use Rattle.rfb_codec.specs.declared.subrect.Subrect.{Subrect}
-use Rattle.rfb_codec.specs.declared.encode.hextile.layout.TileLayout.{TileLayout}
 use Rattle.rfb_codec.specs.declared.encode.hextile.layout.TileLayout.TheVariants.{Raw, Plain, Colored}
-use Rattle.rfb_codec.specs.Pixels.{IsPixel, Shows}
+use Rattle.rfb_codec.specs.Pixels.{IsPixel}
 use Rattle.rfb_codec.specs.Rre.{pixel_at}
-use Rattle.rfb_codec.specs.Tile.{Tile, RawTile, PlainTile, ColoredTile, background_of, foreground_of, last_of, later, colour_or_zero, in_pixel, rect_in, tile_pixel}
+use Rattle.rfb_codec.specs.Tile.{Tile, RawTile, PlainTile, ColoredTile, background_of, foreground_of, last_of, colour_or_zero, in_pixel, rect_in, tile_pixel}
 use Rattle.rfb_codec.specs.TileSpelling.{tile_of, are_some}
-use Rattle.rfb_codec.specs.Hextile.{across, tile_count, tile_width, tile_height, tile_at, pixel_of_tiles}
+use Rattle.rfb_codec.specs.Hextile.{across, tile_count, tile_width, tile_at, pixel_of_tiles}
 use Rattle.rfb_codec.proofs.PixelLemmas.{pixel_number-pixels}
 use Rattle.rfb_codec.proofs.TileSpellingLemmas.{IsInForce}
 use Rattle.rfb_codec.proofs.CarriedLemmas.{last_of-more}

@@ -1,6 +1,6 @@
 -- The reading of Hextile is what bytes stand for, in both directions, and its faults are those of the
 -- first tile that is at fault.
-use Rattle.std.proofs.Common.{◌≡◌, ℕ, ◌+◌, ◌<◌, inl, inr, List, [], ◌∷◌, ◌++◌, length, refl, sym, subst, ◌∙◌, ap, append-nil}
+use Rattle.std.proofs.Common.{◌≡◌, ℕ, inl, inr, List, [], length, refl, sym, subst, append-nil}
 use Rattle.rfb_pixel.specs.Format.{PixelFormat}
 use Rattle.rfb_picture.specs.Grid.{Grid}
 use Rattle.rfb_wire.specs.Reading.{Reading, Says, Reads, Same, ListedAfter}

@@ -1,9 +1,8 @@
 -- Tiles of Hextile, read one behind another and painted one after another.
-use Rattle.std.proofs.Common.{◌≡◌, ◌≢◌, ℕ, zero, suc, ◌+◌, ◌-◌, ◌*◌, ◌/◌, ◌%◌, ◌<◌, ◌≤◌, ◌&&◌, nat_le, nat_lt, List, [], ◌∷◌, ◌++◌, Bool, true, false, if◌then◌else◌, Option, Some, None, Result, Ok, Err, length, take, drop, map, min, slice_index_or, refl, sym, subst, ◌∙◌, ap, append-nil, append_assoc, arith, inl, inr, length-append, length-drop}
-use Rattle.std.proofs.lemmas.List.{drop-drop, drop-take, take_at, take_all}
+use Rattle.std.proofs.Common.{◌≡◌, ◌≢◌, ℕ, zero, suc, ◌+◌, ◌-◌, ◌*◌, ◌/◌, ◌%◌, ◌<◌, ◌≤◌, ◌&&◌, nat_lt, List, [], ◌∷◌, ◌++◌, Bool, true, false, if◌then◌else◌, Option, Some, None, Result, Ok, Err, length, take, drop, map, slice_index_or, refl, sym, subst, ◌∙◌, ap, append-nil, append_assoc, arith, length-append}
+use Rattle.std.proofs.lemmas.List.{drop-drop, take_at}
 use Rattle.std.proofs.Math.Seq.{get_or-append_seam}
-use Rattle.std.proofs.lemmas.Nat.{div-add-mod', mod_below, div-mul-add, mod-mul-add}
-use Rattle.std.proofs.lemmas.Bool.{cases_order}
+use Rattle.std.proofs.lemmas.Nat.{div-add-mod', div-mul-add}
 use Rattle.std.proofs.lemmas.Bool.Decides.{nat_tests}
 use Rattle.rfb_pixel.specs.declared.colour.Colour.{Colour}
 use Rattle.rfb_pixel.specs.Format.{PixelFormat, colour_of, size_of}
@@ -25,7 +24,7 @@ use Rattle.rfb_codec.specs.Raw.{raw_length, raw_pixel}
 use Rattle.rfb_codec.specs.Rre.{pixel_at}
 use Rattle.rfb_codec.specs.Tile.{Tile, RawTile, PlainTile, background_of, foreground_of, later, last_of, colour_or_zero, tile_behind, tile_pixel, AreInside, place_of, colored_of, rect_in, in_pixel}
 use Rattle.rfb_codec.specs.Hextile.{across, tile_count, tile_width, tile_height, tile_at, pixel_of_tiles, hextile}
-use Rattle.rfb_codec.specs.TileRead.{values_in, tile_in, tile_of_read, TellsTile, background_named, foreground_named, sub_behind, sub_size, subs_in, AreSubsInside, Sees, next_tile, all_tiles}
+use Rattle.rfb_codec.specs.TileRead.{values_in, tile_in, tile_of_read, TellsTile, background_named, foreground_named, sub_behind, subs_in, AreSubsInside, Sees, next_tile, all_tiles}
 use Rattle.rfb_codec.specs.Painter.{over}
 use Rattle.rfb_codec.proofs.CarriedLemmas.{last_of-more}
 use Rattle.rfb_codec.proofs.HextileEncodeLemmas.{column_of, row_of_tiles, in_tile, tile_below}

@@ -1,5 +1,5 @@
 -- Tiles of Hextile, found in the bytes that begin with them.
-use Rattle.std.proofs.Common.{◌≡◌, ◌≢◌, bit_and, ℕ, zero, suc, ◌+◌, ◌-◌, ◌*◌, ◌<◌, ◌≤◌, nat_le, List, [], ◌∷◌, ◌++◌, Bool, true, false, ◌&&◌, Option, Some, None, length, take, drop, map, slice_index, get_or, refl, sym, subst, ◌∙◌, ap, arith, inl, inr, length-drop, zero-add}
+use Rattle.std.proofs.Common.{◌≡◌, ◌≢◌, bit_and, ℕ, zero, suc, ◌+◌, ◌-◌, ◌*◌, ◌<◌, ◌≤◌, nat_le, List, [], ◌∷◌, ◌++◌, Bool, true, false, ◌&&◌, Option, Some, None, length, take, drop, map, slice_index, refl, sym, subst, ◌∙◌, ap, arith, inl, inr, length-drop}
 use Rattle.std.specs.Prelude.{MatchOption}
 use Rattle.std.proofs.lemmas.List.{drop-drop, drop-take, get_or-take, get_or-drop}
 use Rattle.std.proofs.lemmas.Bool.{cases_lt}
@@ -7,16 +7,15 @@ use Rattle.std.proofs.lemmas.Bool.Decides.{nat_tests}
 use Rattle.rfb_pixel.specs.Format.{PixelFormat, size_of}
 use Rattle.rfb_picture.specs.declared.rect.Rect.{Rect}
 use Rattle.rfb_wire.specs.Fields.{u8_at}
-use Rattle.rfb_wire.specs.Reading.{Next, More, Got, Bad, Reading}
-use Rattle.rfb_wire.specs.Parts.{piece, valued, optional, each, many, behind, and_then, done}
+use Rattle.rfb_wire.specs.Reading.{More, Got}
+use Rattle.rfb_wire.specs.Parts.{valued, optional, each}
 use Rattle.rfb_wire.specs.RectStream.{is_on_screen}
 use Rattle.rfb_wire.proofs.PartLaws.{piece_short}
-use Rattle.rfb_codec.specs.declared.subrect.Subrect.{Subrect}
 use Rattle.rfb_codec.specs.declared.fault.PaintFault.{PaintFault}
 use Rattle.rfb_codec.specs.declared.encode.hextile.layout.TileLayout.{TileLayout}
-use Rattle.rfb_codec.specs.declared.encode.hextile.layout.TileLayout.TheVariants.{Raw, Plain, Colored}
+use Rattle.rfb_codec.specs.declared.encode.hextile.layout.TileLayout.TheVariants.{Plain, Colored}
 use Rattle.rfb_codec.specs.declared.decode.hextile.tile_read.TileRead.{TileRead}
-use Rattle.rfb_codec.specs.Tile.{Tile, PlainTile, ColoredTile, has_bit, is_raw, background_specified, foreground_specified, any_subrects, subrects_colored, tile_colour, place_of, colored_of, counted, behind_mask, rect_in, are_inside, mask_fault, places_of, tile_behind}
+use Rattle.rfb_codec.specs.Tile.{Tile, has_bit, is_raw, background_specified, foreground_specified, any_subrects, subrects_colored, tile_colour, place_of, colored_of, counted, behind_mask, rect_in, are_inside, mask_fault, places_of, tile_behind}
 use Rattle.rfb_codec.specs.TileRead.{values_in, tile_of_read, LiesIn, IsCount, places_from}
 
 -- ---- values

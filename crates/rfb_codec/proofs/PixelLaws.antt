@@ -1,6 +1,6 @@
 -- Blocks that are drawn place by place.
-use Rattle.std.proofs.Common.{◌≡◌, ℕ, ◌<◌, refl, sym, subst, ◌∙◌}
-use Rattle.rfb_picture.specs.Grid.{Grid, IsGrid, at_or, changed, uniform}
+use Rattle.std.proofs.Common.{◌≡◌, ℕ, ◌<◌, sym, subst, ◌∙◌}
+use Rattle.rfb_picture.specs.Grid.{Grid, at_or, uniform}
 use Rattle.rfb_picture.proofs.GridLemmas.{at-changed, width-changed, height-changed, whole-changed, width-uniform, height-uniform, whole-uniform, same_grid}
 use Rattle.rfb_codec.specs.Pixels.{IsSized, Shows, drawn}
 

@@ -1,5 +1,5 @@
 -- The reading of Raw is what bytes stand for, in both directions.
-use Rattle.std.proofs.Common.{◌≡◌, ℕ, List, length, refl, sym, subst, ◌∙◌, ap}
+use Rattle.std.proofs.Common.{◌≡◌, ℕ, List, length, sym, subst}
 use Rattle.rfb_pixel.specs.Format.{PixelFormat}
 use Rattle.rfb_picture.specs.Grid.{Grid}
 use Rattle.rfb_wire.specs.Reading.{Says, Reads, Same}

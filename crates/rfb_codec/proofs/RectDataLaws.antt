@@ -1,12 +1,12 @@
 -- The reading of a rectangle's data is what bytes say under its head, in both directions.
-use Rattle.std.proofs.Common.{◌≡◌, ℕ, List, Bool, true, false, Option, Some, None, length, if◌then◌else◌, refl, sym, subst, ◌∙◌, ap}
+use Rattle.std.proofs.Common.{◌≡◌, ℕ, List, Bool, true, false, Option, Some, None, length, if◌then◌else◌, refl, sym, subst, ◌∙◌}
 use Rattle.rfb_pixel.specs.Format.{PixelFormat}
 use Rattle.rfb_picture.specs.declared.rect.Rect.{Rect}
 use Rattle.rfb_picture.specs.Grid.{Grid}
 use Rattle.rfb_wire.specs.declared.encoding.Encoding.{Encoding}
 use Rattle.rfb_wire.specs.declared.encoding.Encoding.TheVariants.{Raw, CopyRect, Rre, Hextile}
 use Rattle.rfb_wire.specs.Fields.{u16_at}
-use Rattle.rfb_wire.specs.Reading.{Reading, Says, Reads, Same}
+use Rattle.rfb_wire.specs.Reading.{Says, Reads, Same}
 use Rattle.rfb_wire.specs.Parts.{renamed}
 use Rattle.rfb_wire.specs.RectHead.{IsOnScreen}
 use Rattle.rfb_wire.specs.RectStream.{is_on_screen}
@@ -14,12 +14,11 @@ use Rattle.rfb_wire.proofs.PartLaws.{same_reads}
 use Rattle.rfb_wire.proofs.RepeatLaws.{checked_says, checked_reads, renamed_says, renamed_reads}
 use Rattle.rfb_wire.proofs.RectStreamLaws.{on_true, on_test, off_test}
 use Rattle.rfb_codec.specs.declared.fault.PaintFault.{PaintFault}
-use Rattle.rfb_codec.specs.declared.fault.PaintFault.TheVariants.{SubrectOutside, SourceOutside}
-use Rattle.rfb_codec.specs.Pixels.{IsSized}
-use Rattle.rfb_codec.specs.Raw.{StandsRaw, raw}
-use Rattle.rfb_codec.specs.Rre.{StandsRre, LeavesAtEnd, rre}
-use Rattle.rfb_codec.specs.Hextile.{StandsHextile, FaultsHextile, hextile}
-use Rattle.rfb_codec.specs.RectData.{RectData, Pixels, Source, SpellsSource, moved_to, SpellsData, IsSourceOutside, FaultsData, data_says, source_fault, source_rect, source, rect_data}
+use Rattle.rfb_codec.specs.declared.fault.PaintFault.TheVariants.{SourceOutside}
+use Rattle.rfb_codec.specs.Raw.{raw}
+use Rattle.rfb_codec.specs.Rre.{rre}
+use Rattle.rfb_codec.specs.Hextile.{hextile}
+use Rattle.rfb_codec.specs.RectData.{RectData, Pixels, Source, SpellsSource, moved_to, SpellsData, FaultsData, data_says, source_fault, source_rect, source, rect_data}
 use Rattle.rfb_codec.proofs.RawLaws.{raw_says, raw_reads}
 use Rattle.rfb_codec.proofs.RreLaws.{rre_says, rre_reads}
 use Rattle.rfb_codec.proofs.HextileLaws.{hextile_says, hextile_reads}

@@ -1,22 +1,21 @@
 -- The reading of RRE is what bytes stand for, in both directions, and its fault is that of the first
 -- subrectangle that leaves the rectangle.
-use Rattle.std.proofs.Common.{◌≡◌, ℕ, ◌+◌, ◌<◌, inl, inr, List, [], ◌∷◌, ◌++◌, Bool, true, false, Option, Some, None, length, drop, if◌then◌else◌, refl, sym, subst, ◌∙◌, ap, append-nil, append_assoc, arith}
-use Rattle.rfb_pixel.specs.Format.{PixelFormat, size_of, pixel_number}
+use Rattle.std.proofs.Common.{◌≡◌, ℕ, ◌+◌, inl, inr, List, [], ◌∷◌, ◌++◌, Bool, true, false, Option, Some, None, length, if◌then◌else◌, refl, sym, subst, ◌∙◌, ap, append-nil}
+use Rattle.rfb_pixel.specs.Format.{PixelFormat, size_of}
 use Rattle.rfb_picture.specs.declared.rect.Rect.{Rect}
 use Rattle.rfb_picture.specs.Rect.{contains}
 use Rattle.rfb_picture.specs.Grid.{Grid}
-use Rattle.rfb_wire.specs.Fields.{u32_at, IsRectAt}
 use Rattle.rfb_wire.specs.Reading.{Says, Reads, Same, Listed}
-use Rattle.rfb_wire.specs.Parts.{done, and_then, valued, checked, many}
+use Rattle.rfb_wire.specs.Parts.{done, and_then, valued, many}
 use Rattle.rfb_wire.specs.RectHead.{IsOnScreen}
-use Rattle.rfb_wire.specs.RectStream.{rect_of, is_on_screen}
+use Rattle.rfb_wire.specs.RectStream.{is_on_screen}
 use Rattle.rfb_wire.proofs.PartLaws.{alone, done_says, done_reads, then_says, then_reads, same_reads}
 use Rattle.rfb_wire.proofs.RepeatLaws.{valued_says, valued_reads, checked_says, checked_reads, many_says, many_reads}
 use Rattle.rfb_wire.proofs.RectStreamLaws.{on_true, on_test, off_test}
 use Rattle.rfb_codec.specs.declared.subrect.Subrect.{Subrect}
 use Rattle.rfb_codec.specs.declared.fault.PaintFault.{PaintFault}
 use Rattle.rfb_codec.specs.declared.fault.PaintFault.TheVariants.{SubrectOutside}
-use Rattle.rfb_codec.specs.Pixels.{IsSized, Shows, drawn}
+use Rattle.rfb_codec.specs.Pixels.{IsSized, drawn}
 use Rattle.rfb_codec.specs.Rre.{pixel_at, SpellsRreHead, SpellsSubrect, SpellsInside, StandsRre, LeavesAtEnd, subrect_of, subrect_fault, subrect, RreHead, rre_head_of, rre}
 use Rattle.rfb_codec.proofs.PixelLaws.{sized-drawn, shows-drawn, drawn_is}
 

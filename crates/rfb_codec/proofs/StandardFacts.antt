@@ -1,8 +1,8 @@
 -- What bytes say as data of a rectangle, computed from the readings: little-endian pixels of one byte
 -- and of four.
-use Rattle.std.proofs.Common.{◌≡◌, List, [], ◌∷◌, Some, None, refl}
+use Rattle.std.proofs.Common.{◌≡◌, [], ◌∷◌, refl}
 use Rattle.rfb_pixel.specs.Format.{rgb888, bgr233}
-use Rattle.rfb_picture.specs.Grid.{Grid, grid, changed, uniform}
+use Rattle.rfb_picture.specs.Grid.{grid, changed, uniform}
 use Rattle.rfb_wire.specs.declared.encoding.Encoding.TheVariants.{CopyRect}
 use Rattle.rfb_wire.specs.Reading.{More, Got, Bad}
 use Rattle.rfb_codec.specs.declared.fault.PaintFault.TheVariants.{SubrectOutside, SourceOutside, NoBackground, NoForeground, BothColourBits}

@@ -1,21 +1,20 @@
 -- The reading of all that a server sends is what its bytes say, in both directions.
 use Rattle.std.proofs.Common.{◌≡◌, ℕ, zero, suc, ◌<◌, ◌+◌, inl, inr, List, ◌++◌, length, refl, sym, subst, ◌∙◌, ap, arith, length-append}
 use Rattle.rfb_wire.specs.declared.rect_head.RectHead.{RectHead}
-use Rattle.rfb_wire.specs.declared.fault.WireFault.{WireFault}
-use Rattle.rfb_wire.specs.RectHead.{SpellsRectHead, IsOnScreen, IsRectFault}
+use Rattle.rfb_wire.specs.RectHead.{SpellsRectHead, IsOnScreen}
 use Rattle.rfb_wire.specs.RectStream.{rect_head, rect_head_says}
 use Rattle.rfb_wire.specs.Reading.{Says, Reads, Same}
-use Rattle.rfb_wire.specs.Parts.{kept, and_then, renamed}
+use Rattle.rfb_wire.specs.Parts.{kept, renamed}
 use Rattle.rfb_wire.specs.Stream.{IsSpelled, IsGrammar}
-use Rattle.rfb_wire.specs.ServerMessage.{ServerMessage, ServerFault, SpellsServerMessage, FaultsServerMessage, server_says, server_message}
+use Rattle.rfb_wire.specs.ServerMessage.{server_says, server_message}
 use Rattle.rfb_wire.proofs.PartLaws.{kept_says, then_says, then_reads, same_reads}
 use Rattle.rfb_wire.proofs.RepeatLaws.{kept_reads, renamed_says, renamed_reads}
 use Rattle.rfb_wire.proofs.RectStreamLaws.{rect_head_reads}
 use Rattle.rfb_wire.proofs.ServerMessageLaws.{server_message_reads, server_message_sized, server_fault_some}
 use Rattle.rfb_wire.proofs.StreamLaws.{spelled_grammar}
 use Rattle.rfb_codec.specs.declared.fault.PaintFault.{PaintFault}
-use Rattle.rfb_codec.specs.RectData.{RectData, SpellsData, FaultsData, data_says, rect_data}
-use Rattle.rfb_codec.specs.UpdateStream.{UpdatePoint, UpdateItem, Message, Rectangle, UpdateFault, InMessage, InHead, InData, IsBody, SpellsRectangle, FaultsInData, SpellsNext, FaultsNext, update_says, rectangle, next_item, left_behind, update_item_size, update_stream}
+use Rattle.rfb_codec.specs.RectData.{FaultsData, data_says, rect_data}
+use Rattle.rfb_codec.specs.UpdateStream.{UpdatePoint, UpdateItem, Message, Rectangle, UpdateFault, InMessage, InHead, InData, IsBody, SpellsNext, FaultsNext, update_says, rectangle, next_item, update_item_size, update_stream}
 use Rattle.rfb_codec.proofs.RectDataLaws.{rect_data_reads}
 
 -- ---- messages

@@ -5,7 +5,7 @@ use Rattle.rfb_picture.specs.Grid.{Grid}
 use Rattle.rfb_wire.specs.Reading.{Reading}
 use Rattle.rfb_wire.specs.Parts.{valued}
 use Rattle.rfb_codec.specs.declared.fault.PaintFault.{PaintFault}
-use Rattle.rfb_codec.specs.Pixels.{IsSized, Shows, drawn}
+use Rattle.rfb_codec.specs.Pixels.{Shows, drawn}
 
 -- how many bytes the pixels of so many columns and rows have
 abbrev pub raw_length : PixelFormat → ℕ → ℕ → ℕ

@@ -7,7 +7,6 @@ use Rattle.rfb_picture.specs.Rect.{contains}
 use Rattle.rfb_picture.specs.Grid.{Grid, at_or, changed, copied}
 use Rattle.rfb_wire.specs.declared.encoding.Encoding.{Encoding}
 use Rattle.rfb_wire.specs.declared.encoding.Encoding.TheVariants.{Raw, CopyRect, Rre, Hextile}
-use Rattle.rfb_wire.specs.declared.rect_head.RectHead.{RectHead}
 use Rattle.rfb_wire.specs.Fields.{u16_at}
 use Rattle.rfb_wire.specs.Reading.{Reading, Says}
 use Rattle.rfb_wire.specs.Parts.{checked, renamed}

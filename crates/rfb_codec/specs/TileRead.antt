@@ -12,7 +12,7 @@ use Rattle.rfb_codec.specs.declared.encode.hextile.layout.TileLayout.TheVariants
 use Rattle.rfb_codec.specs.declared.decode.hextile.tile_read.TileRead.{TileRead}
 use Rattle.rfb_codec.specs.declared.decode.hextile.tile_read.Seen.{Seen}
 use Rattle.rfb_codec.specs.Raw.{raw_length}
-use Rattle.rfb_codec.specs.Tile.{Tile, RawTile, PlainTile, ColoredTile, background_of, foreground_of, last_of, colour_or_zero, in_pixel, AreInside, places_of, place_of, colored_of, tile_behind}
+use Rattle.rfb_codec.specs.Tile.{Tile, RawTile, PlainTile, ColoredTile, background_of, foreground_of, last_of, in_pixel, AreInside, places_of, place_of, colored_of, tile_behind}
 use Rattle.rfb_codec.specs.Hextile.{tile_count, tile_width, tile_height}
 
 -- so many values, one behind another, of so many bytes each

@@ -2,7 +2,6 @@
 use Rattle.std.specs.Prelude.{ℕ, ◌+◌, ◌-◌, ◌*◌, ◌≤◌, Bool, true, false, List, [], ◌∷◌, ◌++◌, length, map, Option, Some, None, bit_or, if◌then◌else◌}
 use Rattle.std.specs.List.{flat_map}
 use Rattle.rfb_pixel.specs.Format.{PixelFormat, pixel_bytes}
-use Rattle.rfb_picture.specs.declared.rect.Rect.{Rect}
 use Rattle.rfb_codec.specs.declared.subrect.Subrect.{Subrect}
 use Rattle.rfb_codec.specs.declared.encode.hextile.layout.TileLayout.{TileLayout}
 use Rattle.rfb_codec.specs.declared.encode.hextile.layout.TileLayout.TheVariants.{Raw, Plain, Colored}

@@ -7,7 +7,7 @@ use Rattle.rfb_wire.specs.declared.fault.WireFault.{WireFault}
 use Rattle.rfb_wire.specs.RectHead.{SpellsRectHead, IsOnScreen, IsRectFault}
 use Rattle.rfb_wire.specs.RectStream.{rect_head}
 use Rattle.rfb_wire.specs.Reading.{Reading, Says}
-use Rattle.rfb_wire.specs.Parts.{done, kept, and_then, renamed}
+use Rattle.rfb_wire.specs.Parts.{kept, and_then, renamed}
 use Rattle.rfb_wire.specs.Stream.{Grammar}
 use Rattle.rfb_wire.specs.ServerMessage.{ServerMessage, FramebufferUpdate, SetColorMapEntries, Bell, ServerCutText, ServerFault, SpellsServerMessage, FaultsServerMessage, server_message, server_message_size}
 use Rattle.rfb_codec.specs.declared.fault.PaintFault.{PaintFault}

@@ -79,4 +79,5 @@ pub(crate) fn encoded<C: Codec>(
 fn each_codec_has_its_number(rt: HostRuntime) {
     assert_eq!(rt; crate::Raw::NUMBER, 0);
     assert_eq!(rt; crate::Rre::NUMBER, 2);
+    assert_eq!(rt; crate::Hextile::NUMBER, 5);
 }

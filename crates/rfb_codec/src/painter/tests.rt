@@ -140,8 +140,7 @@ fn cut_everywhere(
     alloc: Global,
     encoding: Encoding,
     data: &[u8],
-) -> Result<(), Fail>
-{
+) -> Result<(), Fail> {
     let mut picture = Picture::new(alloc, 3, 1, BLUE)?;
     let mut painter = Painter::new(ROW, encoding, Format::bgr233());
     for n in 0..data.len() {

@@ -37,10 +37,14 @@ pub fn draw_tile(
     match read.layout {
         TileLayout::Raw => paint_rows(format, rect, &bytes[read.list..read.used], picture),
         TileLayout::Plain { .. } => {
-            draw_subs(format, rect, background, foreground, false, read.count, list, picture);
+            draw_subs(
+                format, rect, background, foreground, false, read.count, list, picture,
+            );
         }
         TileLayout::Colored { .. } => {
-            draw_subs(format, rect, background, foreground, true, read.count, list, picture);
+            draw_subs(
+                format, rect, background, foreground, true, read.count, list, picture,
+            );
         }
     }
 }

@@ -15,9 +15,13 @@ use rfb_pixel::Format;
 
 // The bits of a mask.
 const RAW: u8 = 1;
+
 const BACKGROUND_SPECIFIED: u8 = 2;
+
 const FOREGROUND_SPECIFIED: u8 = 4;
+
 const ANY_SUBRECTS: u8 = 8;
+
 const SUBRECTS_COLORED: u8 = 16;
 
 /// The tile of that size that the bytes begin with, behind tiles that have specified the colours seen.
@@ -123,12 +127,7 @@ fn whole(
 }
 
 // The colour at that place, if it is named, and the place behind it. None where it is not all there.
-fn find_colour(
-    format: Format,
-    named: bool,
-    bytes: &[u8],
-    at: usize,
-) -> Option<(Option<u32>, usize)>
+fn find_colour(format: Format, named: bool, bytes: &[u8], at: usize) -> Option<(Option<u32>, usize)>
     requires place { at ≤ length bytes.now }
     requires low { at ≤ 8 }
     ensures { MatchOption result (optional named (tile_colour format) (drop at bytes.now) ≡ More) (λ found. (optional named (tile_colour format) (drop at bytes.now) ≡ Got found.0 (drop found.1 bytes.now)) × (at ≤ found.1) × (found.1 ≤ at + 4) × (found.1 ≤ length bytes.now)) }
@@ -165,9 +164,21 @@ fn fits(format: Format, width: u16, height: u16, read: TileRead, bytes: &[u8]) -
 {
     match read.layout {
         TileLayout::Raw => true,
-        TileLayout::Plain { .. } => are_places_inside(width, height, 0, read.count, &bytes[read.list..]),
+        TileLayout::Plain { .. } => are_places_inside(
+            width,
+            height,
+            0,
+            read.count,
+            &bytes[read.list..],
+        ),
         TileLayout::Colored { .. } => {
-            are_places_inside(width, height, format.size(), read.count, &bytes[read.list..])
+            are_places_inside(
+                width,
+                height,
+                format.size(),
+                read.count,
+                &bytes[read.list..],
+            )
         }
     }
 }

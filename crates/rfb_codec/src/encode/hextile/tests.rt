@@ -1,54 +1,153 @@
-//! Blocks as tiles.
+//! Blocks worked out by hand, and many more that are compared.
+
+mod agreement;
+mod plain;
+mod rule;
 
 use super::*;
-use crate::block::PLACES;
-use arrayvec::ArrayVec;
+use crate::codec::tests::{block_of, encoded};
+use std::alloc::Global;
+use std::process::Abort;
 use std::test::Fail;
 
-// The bytes of a block, or none where Hextile gives it up.
+// Two pixels, of which tiles at one byte a pixel are made by hand.
+const A: u32 = 0x10;
+
+const B: u32 = 0x20;
+
+// The bytes of a block that Hextile takes.
 fn spelled(
-    rt: HostRuntime,
+    rt: &impl Abort,
+    alloc: Global,
+    format: &Format,
     width: u16,
     height: u16,
-    colours: &[u32],
-    format: Format,
-) -> Result<Option<Vec<u8>>, Fail> {
-    let mut pixels = ArrayVec::new();
-    for colour in colours.iter().take(PLACES) {
-        pixels.push(*colour);
+    pixels: &[u32],
+) -> Result<Vec<u8>, Fail> {
+    match block_of(width, height, pixels) {
+        Some(block) => {
+            let (done, out) = encoded::<Hextile>(alloc, &block, format, &[])?;
+            assert!(rt; done);
+            Ok(out)
+        }
+        None => Ok(Vec::new(alloc)),
     }
-    if width == 0
-        || width > 64
-        || height == 0
-        || height > 64
-        || pixels.len() != usize::from(height) * usize::from(width)
-    {
-        return Ok(None);
-    }
-    let mut out = Vec::with_capacity(rt.alloc(), pixels.len() * 4)?;
-    let block = Block::new(width, height, pixels);
-    Ok(if Hextile::encode(&block, &format, &mut out) {
-        Some(out)
-    } else {
-        None
-    })
 }
 
 #[test]
-fn three_tiles_carry_their_colours(rt: HostRuntime) -> Result<(), Fail> {
-    let mut colours = [0x10; 48];
-    colours[14] = 0x20;
-    colours[15] = 0x30;
-    colours[31] = 0x20;
-    colours[47] = 0x20;
-    let bytes = spelled(rt, 48, 1, &colours, Format::bgr233())?;
-    let expected = [
-        0x1A, 0x10, 0x02, 0x20, 0xE0, 0x00, 0x30, 0xF0, 0x00, 0x0C, 0x20, 0x01, 0xF0, 0x00, 0x08,
-        0x01, 0xF0, 0x00,
+fn tiles_of_two_colours_and_of_three_name_what_is_not_carried(rt: HostRuntime) -> Result<(), Fail> {
+    let mut pixels = [A; 48];
+    pixels[14] = B;
+    pixels[15] = 0x30;
+    pixels[31] = B;
+    pixels[47] = B;
+    let out = spelled(&rt, rt.alloc(), &Format::bgr233(), 48, 1, &pixels)?;
+    let wanted = [
+        0x1A, 0x10, 2, 0x20, 0xE0, 0, 0x30, 0xF0, 0, // three pixels: no foreground is carried
+        0x0C, 0x20, 1, 0xF0, 0, // a foreground is named
+        8, 1, 0xF0, 0, // both are carried
     ];
+    assert_eq!(rt; out.as_slice(), wanted.as_slice());
+    Ok(())
+}
+
+#[test]
+fn a_tile_of_one_colour_leaves_the_foreground_that_is_carried(rt: HostRuntime) -> Result<(), Fail> {
+    let mut pixels = [A; 48];
+    pixels[15] = B;
+    pixels[47] = B;
+    let out = spelled(&rt, rt.alloc(), &Format::bgr233(), 48, 1, &pixels)?;
+    let wanted = [0x0E, 0x10, 0x20, 1, 0xF0, 0, 0, 8, 1, 0xF0, 0];
+    assert_eq!(rt; out.as_slice(), wanted.as_slice());
+    for i in 16..32 {
+        pixels[i] = 0x30;
+    }
+    let out = spelled(&rt, rt.alloc(), &Format::bgr233(), 48, 1, &pixels)?;
+    let wanted = [
+        0x0E, 0x10, 0x20, 1, 0xF0, 0, 2, 0x30, 0x0A, 0x10, 1, 0xF0, 0,
+    ];
+    assert_eq!(rt; out.as_slice(), wanted.as_slice());
+    Ok(())
+}
+
+#[test]
+fn tiles_of_one_colour_name_it_once(rt: HostRuntime) -> Result<(), Fail> {
+    // Red 255, green 128 and blue 1, low byte first.
+    let pixels = [0x00FF_8001; 17];
+    let out = spelled(&rt, rt.alloc(), &Format::rgb888(), 17, 1, &pixels)?;
+    assert_eq!(rt; out.as_slice(), [2, 1, 0x80, 0xFF, 0, 0].as_slice());
+    Ok(())
+}
+
+#[test]
+fn a_raw_tile_leaves_no_background(rt: HostRuntime) -> Result<(), Fail> {
+    let mut pixels = [0; 48];
+    let mut wanted = [0u8; 75];
+    wanted[0] = 2;
+    wanted[5] = 1;
+    wanted[70] = 2;
+    for i in 0..16 {
+        pixels[16 + i] = i as u32 + 1;
+        wanted[6 + 4 * i] = i as u8 + 1;
+    }
+    let out = spelled(&rt, rt.alloc(), &Format::rgb888(), 48, 1, &pixels)?;
+    assert_eq!(rt; out.as_slice(), wanted.as_slice());
+    Ok(())
+}
+
+#[test]
+fn a_place_has_x_and_width_in_the_high_digits(rt: HostRuntime) -> Result<(), Fail> {
+    // 4 columns and 2 rows at (3, 5).
+    let mut pixels = [A; 256];
+    for i in 0..4 {
+        pixels[5 * 16 + 3 + i] = B;
+        pixels[6 * 16 + 3 + i] = B;
+    }
+    let out = spelled(&rt, rt.alloc(), &Format::bgr233(), 16, 16, &pixels)?;
     assert_eq!(rt;
-        bytes.as_ref().map(|b| b.as_slice()),
-        Some(expected.as_slice())
+        out.as_slice(),
+        [0x0E, 0x10, 0x20, 1, 0x35, 0x31].as_slice()
     );
+    Ok(())
+}
+
+#[test]
+fn a_tile_that_is_no_shorter_than_its_pixels_is_raw(rt: HostRuntime) -> Result<(), Fail> {
+    // One place: mask and pixel either way.
+    let mut pixels = [A; 17];
+    pixels[16] = B;
+    let out = spelled(&rt, rt.alloc(), &Format::bgr233(), 17, 1, &pixels)?;
+    assert_eq!(rt; out.as_slice(), [2, 0x10, 1, 0x20].as_slice());
+    // Mask, count and three bytes for each other pixel: 14 for four of them, 17 for five, as raw.
+    let mut pixels = [A; 32];
+    let four = [
+        2, 0x10, 0x18, 4, 1, 0, 0, 2, 0x20, 0, 3, 0x40, 0, 4, 0x60, 0,
+    ];
+    for i in 0..4 {
+        pixels[16 + 2 * i] = i as u32 + 1;
+    }
+    let out = spelled(&rt, rt.alloc(), &Format::bgr233(), 32, 1, &pixels)?;
+    assert_eq!(rt; out.as_slice(), four.as_slice());
+    let five = [
+        2, 0x10, 1, 1, 0x10, 2, 0x10, 3, 0x10, 4, 0x10, 5, 0x10, 0x10, 0x10, 0x10, 0x10, 0x10, 0x10,
+    ];
+    pixels[24] = 5;
+    let out = spelled(&rt, rt.alloc(), &Format::bgr233(), 32, 1, &pixels)?;
+    assert_eq!(rt; out.as_slice(), five.as_slice());
+    Ok(())
+}
+
+#[test]
+fn a_big_endian_format_has_the_high_byte_first(rt: HostRuntime) -> Result<(), Fail> {
+    // PIXEL_FORMAT of 16 bits with the big-endian-flag.
+    let narrow = [
+        0x10, 0x10, 1, 1, 0, 0x1F, 0, 0x3F, 0, 0x1F, 11, 5, 0, 0, 0, 0,
+    ];
+    if let Ok(format) = Format::read(&narrow) {
+        let out = spelled(&rt, rt.alloc(), &format, 17, 1, &[0x1234; 17])?;
+        assert_eq!(rt; out.as_slice(), [2, 0x12, 0x34, 0].as_slice());
+    } else {
+        assert!(rt; false, "no format");
+    }
     Ok(())
 }

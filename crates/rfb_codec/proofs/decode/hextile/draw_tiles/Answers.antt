@@ -1,4 +1,4 @@
-use Rattle.std.proofs.Common.{◌≡◌, ◌∙◌, ◌<◌, ◌≤◌, ◌+◌, ◌-◌, List, ℕ, ap, arith, refl, length, take, drop, length-drop}
+use Rattle.std.proofs.Common.{◌≡◌, ◌∙◌, ◌<◌, ◌≤◌, ◌+◌, ◌-◌, ℕ, ap, arith, refl, length, take, drop, length-drop}
 use Rattle.std.proofs.lemmas.List.{take_rest}
 use Rattle.rfb_picture.proofs.GridLemmas.{whole-changed}
 use Rattle.rfb_wire.specs.RectHead.{IsOnScreen}

@@ -1,4 +1,4 @@
-use Rattle.std.proofs.Common.{◌≡◌, ◌∙◌, ◌≤◌, List, ℕ, ap, arith, refl, length, drop}
+use Rattle.std.proofs.Common.{◌≡◌, ◌∙◌, ap, refl, drop}
 use Rattle.rfb_wire.specs.Reading.{Got}
 use Rattle.rfb_codec.specs.Pixels.{drawn}
 use Rattle.rfb_codec.specs.Hextile.{hextile, pixel_of_tiles}

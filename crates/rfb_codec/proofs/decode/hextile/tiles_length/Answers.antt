@@ -1,7 +1,7 @@
-use Rattle.std.proofs.Common.{◌≡◌, ◌∙◌, ◌<◌, ◌≤◌, ◌+◌, ◌-◌, List, ℕ, ap, arith, refl, length, take, drop, length-drop}
+use Rattle.std.proofs.Common.{◌≡◌, ◌∙◌, ◌<◌, ◌-◌, ap, arith, refl, length, take, drop, length-drop}
 use Rattle.std.proofs.lemmas.List.{take_rest}
 use Rattle.rfb_codec.specs.Hextile.{tile_count}
-use Rattle.rfb_codec.proofs.PaintHextileLemmas.{read_none, read_more, read_waits, read_bad, read_all}
+use Rattle.rfb_codec.proofs.PaintHextileLemmas.{read_none, read_more, read_waits, read_bad}
 use Rattle.rfb_codec.proofs.decode.hextile.tiles_length.Goals as goal
 
 pub loop-n-init : goal.loop-n-init

@@ -1,8 +1,8 @@
-use Rattle.std.proofs.Common.{◌≡◌, ◌∙◌, ℕ, ◌+◌, ◌*◌, ◌/◌, ◌%◌, ◌<◌, ◌≤◌, ◌++◌, List, arith, ap, refl, sym, subst, length, slice_index, length-append}
+use Rattle.std.proofs.Common.{◌≡◌, ℕ, ◌+◌, ◌*◌, ◌/◌, ◌%◌, ◌<◌, ◌≤◌, arith, ap, refl, length, slice_index, length-append}
 use Rattle.rfb_codec.specs.Hextile.{across, tile_count, tile_width, tile_height}
 use Rattle.rfb_codec.specs.Carried.{Sends}
 use Rattle.rfb_codec.specs.TileSpelling.{tile_bytes}
-use Rattle.rfb_codec.proofs.DrawLemmas.{ArePixels, SpelledUpTo, spelled_none, spelled_more, spelled_all, tile_small}
+use Rattle.rfb_codec.proofs.DrawLemmas.{spelled_none, spelled_more, spelled_all, tile_small}
 use Rattle.rfb_codec.proofs.encode.hextile.spell.Goals as goal
 
 pub loop-n-init : goal.loop-n-init

@@ -1,4 +1,4 @@
-use Rattle.std.proofs.Common.{◌≡◌, ◌+◌, ◌*◌, ◌≤◌, true, false, arith, ap, refl}
+use Rattle.std.proofs.Common.{◌≡◌, ◌+◌, ◌*◌, true, false, arith, ap, refl}
 use Rattle.rfb_codec.specs.Tile.{is_raw, subrects_colored}
 use Rattle.rfb_codec.proofs.PaintTileLemmas.{bit_clear, bit_set, found_colored, found_plain}
 use Rattle.rfb_codec.proofs.decode.hextile.reading.find.Goals as goal

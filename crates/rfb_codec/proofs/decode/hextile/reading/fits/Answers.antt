@@ -1,8 +1,7 @@
-use Rattle.std.proofs.Common.{◌∙◌, ◌≡◌, List, ℕ, ap, sym, drop, drop, take, length}
+use Rattle.std.proofs.Common.{◌∙◌, List, ℕ, ap, sym, drop, drop}
 use Rattle.std.proofs.lemmas.List.{take_rest}
 use Rattle.rfb_codec.specs.Tile.{are_inside}
 use Rattle.rfb_codec.specs.TileRead.{places_from}
-use Rattle.rfb_pixel.specs.Format.{size_of}
 use Rattle.rfb_codec.proofs.PaintTileLemmas.{places_plain, places_colored}
 use Rattle.rfb_codec.proofs.decode.hextile.reading.fits.Goals as goal
 

@@ -1,4 +1,4 @@
-use Rattle.std.proofs.Common.{arith, sym}
+use Rattle.std.proofs.Common.{sym}
 use Rattle.rfb_codec.proofs.TileSpellingLemmas.{length-spelled_raw, length-spelled_plain, length-spelled_colored}
 use Rattle.rfb_codec.proofs.encode.hextile.spelling.spelled_length.Goals as goal
 
