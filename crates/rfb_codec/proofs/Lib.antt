@@ -1,6 +1,7 @@
 pub mod PixelLaws
 pub mod PixelLemmas
 mod StandardFacts
+mod UpdateFacts
 pub mod RawLaws
 pub mod RreLaws
 pub mod RectDataLaws

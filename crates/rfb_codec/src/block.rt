@@ -53,7 +53,7 @@ impl Block {
 
     /// How many columns it has.
     #[inline]
-    pub fn width(&self) -> u16
+    pub(crate) fn width(&self) -> u16
         ensures value { result ≡ self.now.width }
         ensures some { 1 ≤ result }
         ensures bound { result ≤ SIDE }
@@ -63,7 +63,7 @@ impl Block {
 
     /// How many rows it has.
     #[inline]
-    pub fn height(&self) -> u16
+    pub(crate) fn height(&self) -> u16
         ensures value { result ≡ self.now.height }
         ensures some { 1 ≤ result }
         ensures bound { result ≤ SIDE }
@@ -73,7 +73,7 @@ impl Block {
 
     /// Lends its pixels, row by row from the top. It also tells that there is one for each place.
     #[inline]
-    pub fn pixels(&self) -> &[u32]
+    pub(crate) fn pixels(&self) -> &[u32]
         ensures value { result.now ≡ self.now.places }
         ensures whole { IsGrid self.now }
         ensures bound { length result.now ≤ PLACES }
