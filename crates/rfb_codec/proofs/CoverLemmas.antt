@@ -1,5 +1,5 @@
 -- Laws of a cover under way: which places subrectangles show, and which are still to be passed.
-use Rattle.std.proofs.Common.{◌≡◌, ◌≢◌, ℕ, zero, suc, ◌+◌, ◌*◌, ◌<◌, ◌≤◌, List, [], ◌∷◌, ◌++◌, Bool, true, false, ◌&&◌, ◌||◌, nat_le, nat_lt, nat_eq, if◌then◌else◌, length, slice_index, replicate, arith, refl, ap, ◌∙◌, sym, inl, inr, ◌⊎◌}
+use Rattle.std.proofs.Common.{◌≡◌, ◌≢◌, ℕ, zero, suc, ◌+◌, ◌*◌, ◌<◌, ◌≤◌, List, [], ◌∷◌, ◌++◌, Bool, true, false, ◌&&◌, ◌||◌, nat_le, nat_lt, nat_eq, if◌then◌else◌, length, slice_index, replicate, add-one, arith, refl, ap, ◌∙◌, sym, inl, inr, ◌⊎◌}
 use Rattle.std.proofs.lemmas.Bool.{cases_lt, cases_order}
 use Rattle.std.proofs.lemmas.Bool.Decides.{nat_tests}
 use Rattle.rfb_picture.specs.declared.rect.Rect.{Rect}
@@ -101,6 +101,12 @@ covering_passed width height x y pixels until background subs here old = record 
         | inr other ↦ rw (done_off x y u i j other) was
       ];
 }
+
+-- places of the background at the front of a row are passed
+pub covering_plain : (width height x y : ℕ) (pixels until : List ℕ) (background : ℕ) (subs : List Subrect) → ((i : ℕ) → i < x → slice_index pixels (y * width + i) ≡ background) → Covering width height 0 y pixels until background subs → Covering width height x y pixels until background subs
+covering_plain width height zero y pixels until background subs plain old = old
+covering_plain width height (suc x) y pixels until background subs plain old =
+    rw add-one at (covering_passed width height x y pixels until background subs (inr (plain x (omega arith))) (covering_plain width height x y pixels until background subs (λ i below. plain i (omega arith)) old))
 
 -- a rectangle that begins here is taken
 pub covering_taken : (width height x y : ℕ) (pixels until after : List ℕ) (background : ℕ) (subs : List Subrect) (s : Subrect) → length pixels ≡ height * width → x < width → y < height → s.pixel ≡ slice_index pixels (y * width + x) → s.pixel ≢ background → s.rect.x ≡ x → s.rect.y ≡ y → 0 < s.rect.w → 0 < s.rect.h → IsOnScreen width height s.rect → ((i j : ℕ) → x ≤ i → i < x + s.rect.w → y ≤ j → j < y + s.rect.h → slice_index pixels (j * width + i) ≡ slice_index pixels (y * width + x)) → ((i : ℕ) → x ≤ i → i < x + s.rect.w → slice_index until i ≤ y) → ((i : ℕ) → i < width → slice_index after i ≡ (if nat_le x i && nat_lt i (x + s.rect.w) then y + s.rect.h else slice_index until i)) → Covering width height x y pixels until background subs → Covering width height (x + 1) y pixels after background (subs ++ s ∷ [])

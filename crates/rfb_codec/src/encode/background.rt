@@ -1,6 +1,6 @@
 //! The background that an encoder chooses, by this project's rule.
 
-ghost use Rattle.std.specs.Prelude.{◌<◌, ◌≤◌, length};
+ghost use Rattle.std.specs.Prelude.{◌<◌, ◌≤◌, length, IfSome};
 ghost use Rattle.rfb_codec.specs.Cover.{IsPixelOf};
 
 use crate::block::PLACES;
@@ -20,17 +20,28 @@ pub(crate) fn background_of(pixels: &[u32]) -> u32
     requires few { length pixels.now ≤ PLACES }
     ensures { IsPixelOf pixels.now result }
 {
-    let (best, whole) = most_frequent::<FEW>(pixels);
+    let (best, whole) = most_frequent::<FEW>(pixels, FEW / 2);
     if whole {
         return pixels[best];
     }
-    let (best, _) = most_frequent::<MANY>(pixels);
+    let (best, _) = most_frequent::<MANY>(pixels, MANY / 2);
     pixels[best]
 }
 
+/// The same, unless there are more than `most` pixels, of which a small block never has more than 256.
+/// Then no cover has fewer than `most` subrectangles, whatever the background.
+pub(crate) fn background_within(pixels: &[u32], most: usize) -> Option<u32>
+    requires some { 0 < length pixels.now }
+    requires few { length pixels.now ≤ PLACES }
+    ensures { IfSome result (λ pixel. IsPixelOf pixels.now pixel) }
+{
+    let (best, whole) = most_frequent::<FEW>(pixels, most.min(FEW / 2));
+    if whole { Some(pixels[best]) } else { None }
+}
+
 // A place of the most frequent pixel, the least of those, and whether all were counted: it stops at
-// more pixels than half the slots.
-fn most_frequent<const SLOTS: usize>(pixels: &[u32]) -> (usize, bool)
+// more pixels than `free`.
+fn most_frequent<const SLOTS: usize>(pixels: &[u32], mut free: usize) -> (usize, bool)
     requires some { 0 < length pixels.now }
     requires few { length pixels.now ≤ PLACES }
     requires slots { (0 < SLOTS) × (SLOTS ≤ MANY) }
@@ -39,7 +50,6 @@ fn most_frequent<const SLOTS: usize>(pixels: &[u32]) -> (usize, bool)
     // Of each pixel a slot has the first place and 1, and how many places were counted.
     let mut slots = [0u16; SLOTS];
     let mut counts = [0u16; SLOTS];
-    let mut free = SLOTS / 2;
     let (mut best, mut most) = (0, 0);
     let mut start = 0;
     while start < pixels.len() {

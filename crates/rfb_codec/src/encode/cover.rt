@@ -37,7 +37,8 @@ pub(crate) fn cover<const N: usize>(
     // that is gone through is never asked again, so it is all that has to be known.
     let mut until = [0; SIDE];
     for y in 0..height {
-        for x in 0..width {
+        let start = first_other(pixels, width, y, background);
+        for x in start..width {
             let pixel = pixels[y * width + x];
             if pixel != background && until[x] <= y {
                 if subs.len() == limit {
@@ -49,6 +50,21 @@ pub(crate) fn cover<const N: usize>(
         }
     }
     true
+}
+
+// The first column of row `y` that has another pixel, or `width`.
+fn first_other(pixels: &[u32], width: usize, y: usize, background: u32) -> usize
+    requires { y * width + width ≤ length pixels.now }
+    ensures within { result ≤ width }
+    ensures plain { (i : ℕ) → i < result → slice_index pixels.now (y * width + i) ≡ background }
+{
+    let row = &pixels[y * width..y * width + width];
+    for (x, pixel) in row.iter().enumerate() {
+        if *pixel != background {
+            return x;
+        }
+    }
+    width
 }
 
 // Takes the subrectangle that begins at (x, y), which is not covered, and notes how far it reaches. As

@@ -12,9 +12,10 @@ pub enum Colours {
     More,
 }
 
-/// The pixels of a tile, told as soon as a third is met.
+/// The pixels of a tile.
 pub fn colours_of(pixels: &[u32]) -> Colours
     requires some { 0 < length pixels.now }
+    requires few { length pixels.now ≤ 256 }
     ensures { HasColours result pixels.now }
 {
     let first = pixels[0];
@@ -23,14 +24,18 @@ pub fn colours_of(pixels: &[u32]) -> Colours
         return Colours::One(first);
     }
     let second = pixels[start];
-    let mut seconds = 0;
-    for i in start..pixels.len() {
-        if pixels[i] == second {
+    let (mut seconds, mut others) = (0u32, 0u32);
+    for pixel in pixels {
+        if *pixel == second {
             seconds += 1;
-        } else if pixels[i] != first {
-            return Colours::More;
+        } else if *pixel != first {
+            others += 1;
         }
     }
+    if others > 0 {
+        return Colours::More;
+    }
+    let seconds = seconds as usize;
     let firsts = pixels.len() - seconds;
     if firsts > seconds || (firsts == seconds && first < second) {
         Colours::Two {

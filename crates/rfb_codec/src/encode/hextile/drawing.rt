@@ -9,7 +9,7 @@ use super::carried::{Carried, named};
 use super::colours::{Colours, colours_of};
 use super::layout::TileLayout;
 use super::spelling::spelled_length;
-use crate::encode::background::background_of;
+use crate::encode::background::background_within;
 use crate::encode::cover::cover;
 use crate::subrect::Subrect;
 use arrayvec::ArrayVec;
@@ -109,8 +109,8 @@ fn over_background(
             })
         }
         Colours::More => {
-            let background = background_of(pixels);
             let limit = 255.min(room / (format.size() + 2));
+            let background = background_within(pixels, limit + 1)?;
             if !cover(pixels, width, height, background, limit, subs) {
                 return None;
             }

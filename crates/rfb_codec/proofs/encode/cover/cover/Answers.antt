@@ -1,5 +1,5 @@
 use Rattle.std.proofs.Common.{arith, inl, inr, refl}
-use Rattle.rfb_codec.proofs.CoverLemmas.{covering_none, covering_passed, covering_taken}
+use Rattle.rfb_codec.proofs.CoverLemmas.{covering_none, covering_passed, covering_plain, covering_taken}
 use Rattle.rfb_codec.proofs.encode.cover.cover.Goals as goal
 use Rattle.rfb_codec.proofs.encode.cover.cover.Goals.{then-pixel-background+then-until-x+else-len-limit, else-pixel-background, else-pixel-background-via-then-pixel-background+else-until-x, else-pixel-background-via-else-pixel-background}
 
@@ -7,6 +7,12 @@ pub loop-y-init : goal.loop-y-init
 loop-y-init g c = record {
   covering = rw c.requires.empty (covering_none c.args.width c.args.height 64 c.args.pixels.now c.args.background);
   few = rw c.requires.empty (omega arith);
+}
+
+pub loop-x-init : goal.loop-x-init
+loop-x-init g c = record {
+  covering = covering_plain c.args.width c.args.height c.first_other-start.result c.loop-y.y c.args.pixels.now c.loop-y.until c.args.background c.loop-y.subs.items c.first_other-start.ensures.plain c.loop-y.invariant.covering;
+  few = omega arith;
 }
 
 pub loop-x-preserved : goal.loop-x-preserved

@@ -20,11 +20,11 @@ returns-else-not-cover-clause-parts c =
 
 pub returns-else-not-cover-2-clause-sends : goal.returns-else-not-cover-2-clause-sends
 returns-else-not-cover-2-clause-sends c =
-    sends_more c.args.format.now c.args.width c.args.height c.args.pixels.now c.cover-in-More.new.subs.items c.args.carried c.background_of-background.result c.named-in-More.result
+    sends_more c.args.format.now c.args.width c.args.height c.args.pixels.now c.cover-in-More.new.subs.items c.args.carried c.in_ok-background-in-More.background c.named-in-More.result
     c.requires.whole (c.requires.columns, c.requires.rows) c.requires.pixels
-    (pixel_small c.args.format.now c.args.pixels.now c.background_of-background.result c.requires.pixels c.background_of-background.ensures)
+    (pixel_small c.args.format.now c.args.pixels.now c.in_ok-background-in-More.background c.requires.pixels c.in_ok-background-in-More.ensures)
     c.if-not-cover-2.ensures.cover c.named-in-More.ensures
 
 pub returns-else-not-cover-2-clause-parts : goal.returns-else-not-cover-2-clause-parts
 returns-else-not-cover-2-clause-parts c =
-    tile_parts c.args.format.now c.args.width c.args.height c.args.pixels.now c.background_of-background.result c.cover-in-More.new.subs.items c.requires.pixels c.if-not-cover-2.ensures.cover.parts
+    tile_parts c.args.format.now c.args.width c.args.height c.args.pixels.now c.in_ok-background-in-More.background c.cover-in-More.new.subs.items c.requires.pixels c.if-not-cover-2.ensures.cover.parts
