@@ -68,7 +68,9 @@ fn first_other(pixels: &[u32], width: usize, y: usize, background: u32) -> usize
 }
 
 // Takes the subrectangle that begins at (x, y), which is not covered, and notes how far it reaches. As
-// subrectangles go on down from row to row, nothing below an uncovered place is covered.
+// subrectangles go on down from row to row, nothing below an uncovered place is covered. Not inlined, so
+// that the scan that calls it stays short: few places begin one.
+#[inline(never)]
 fn take_from(
     pixels: &[u32],
     width: usize,

@@ -1,9 +1,8 @@
 //! The Hextile encoder, RFC 6143 section 7.7.4.
 
-ghost use Rattle.std.specs.Prelude.{◌≡◌, ◌+◌, ◌*◌, ◌<◌, ◌≤◌, [], length, vec_len, pos};
+ghost use Rattle.std.specs.Prelude.{◌≡◌, ◌+◌, ◌*◌, ◌<◌, ◌≤◌, length, vec_len, take, pos};
 ghost use Rattle.std.specs.Bool.{OnTrue, OnFalse};
 ghost use Rattle.std.specs.Vec.{vec_capacity};
-ghost use Rattle.arrayvec.specs.ArrayVec.{array_vec_len};
 ghost use Rattle.rfb_codec.specs.Pixels.{HasPixels};
 ghost use Rattle.rfb_codec.specs.Raw.{raw_length};
 ghost use Rattle.rfb_codec.specs.Hextile.{StandsByRule};
@@ -24,7 +23,7 @@ use crate::tiles::{tile_count, tile_rect};
 use carried::Carried;
 use cutting::{TilePixels, cut};
 use drawing::{TileSubrects, draw};
-use pieces::Tiles;
+use pieces::TileBytes;
 use rfb_pixel::Format;
 use spelling::{append, spelled_length};
 
@@ -49,39 +48,44 @@ impl Codec for Hextile {
         ensures kept { OnFalse result (out.new.items ≡ out.old.items) }
         ensures room { vec_capacity out.old ≤ vec_capacity out.new }
     {
-        let mut tiles = Tiles::new();
-        if !spell(block, format, &mut tiles) {
+        let len = out.len();
+        if !spell(block, format, out) {
+            out.truncate(len);
             return false;
         }
-        append_within(out, tiles.as_slice());
         true
     }
 }
 
-// Spells each tile of the block, or answers false once the tiles are no shorter than Raw.
-fn spell(block: &Block, format: &Format, tiles: &mut Tiles) -> bool
+// Appends each tile of the block, or answers false once the tiles are no shorter than Raw.
+fn spell(block: &Block, format: &Format, out: &mut Vec<u8>) -> bool
     requires pixels { HasPixels format.now block.now }
-    requires empty { tiles.old.items ≡ [] }
-    ensures stands { OnTrue result (StandsByRule format.now block.now tiles.new.items) }
-    ensures shorter { OnTrue result (array_vec_len tiles.new < raw_length format.now block.now.width block.now.height) }
+    requires room { vec_len out.old + raw_length format.now block.now.width block.now.height ≤ vec_capacity out.old }
+    ensures spelled { OnTrue result (Appends (λ f block bytes. StandsByRule f block bytes) format.now block.now out.old.items out.new.items) }
+    ensures shorter { OnTrue result (vec_len out.new < vec_len out.old + raw_length format.now block.now.width block.now.height) }
+    ensures front { take (vec_len out.old) out.new.items ≡ out.old.items }
+    ensures room { vec_capacity out.old ≤ vec_capacity out.new }
 {
-    let raw = block.pixels().len() * format.size();
+    let end = out.len() + block.pixels().len() * format.size();
     let mut carried = Carried {
         background: None,
         foreground: None,
     };
     let mut pixels = TilePixels::new();
     let mut subs = TileSubrects::new();
+    let mut bytes = TileBytes::new();
     for n in 0..tile_count(block.width(), block.height()) {
         let tile = tile_rect(block.width(), block.height(), n);
         let (width, height) = (usize::from(tile.w), usize::from(tile.h));
         cut(block, tile, &mut pixels);
         let part = pixels.as_slice();
         let layout = draw(format, part, width, height, &mut carried, &mut subs);
-        if tiles.len() + spelled_length(format, layout, part, &subs) >= raw {
+        if out.len() + spelled_length(format, layout, part, &subs) >= end {
             return false;
         }
-        append(format, layout, part, width, height, &subs, tiles);
+        bytes.clear();
+        append(format, layout, part, width, height, &subs, &mut bytes);
+        append_within(out, bytes.as_slice());
     }
     true
 }

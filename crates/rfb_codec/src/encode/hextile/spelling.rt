@@ -8,7 +8,8 @@ ghost use Rattle.rfb_codec.specs.TileSpelling.{AreTileParts, are_some, is_there,
 use super::drawing::TileSubrects;
 use super::layout::TileLayout;
 use super::pieces::{
-    Tiles, append_byte, append_colored, append_colour, append_count, append_pixels, append_places,
+    TileBytes, append_byte, append_colored, append_colour, append_count, append_pixels,
+    append_places,
 };
 use rfb_pixel::Format;
 
@@ -83,31 +84,31 @@ pub fn append(
     width: usize,
     height: usize,
     subs: &TileSubrects,
-    tiles: &mut Tiles,
+    tile: &mut TileBytes,
 )
     requires parts { AreTileParts format.now width height subs.now.items }
     requires columns { width ≤ 16 }
     requires rows { height ≤ 16 }
     requires few { length pixels.now ≤ 256 }
-    requires room { array_vec_len tiles.old + length (tile_bytes format.now layout pixels.now subs.now.items) ≤ 16384 }
-    ensures { tiles.new.items ≡ tiles.old.items ++ tile_bytes format.now layout pixels.now subs.now.items }
+    requires room { array_vec_len tile.old + length (tile_bytes format.now layout pixels.now subs.now.items) ≤ 2048 }
+    ensures { tile.new.items ≡ tile.old.items ++ tile_bytes format.now layout pixels.now subs.now.items }
 {
-    append_byte(mask_of(layout, subs), tiles);
+    append_byte(mask_of(layout, subs), tile);
     match layout {
-        TileLayout::Raw => append_pixels(format, pixels, tiles),
+        TileLayout::Raw => append_pixels(format, pixels, tile),
         TileLayout::Plain {
             background,
             foreground,
         } => {
-            append_colour(format, background, tiles);
-            append_colour(format, foreground, tiles);
-            append_count(subs, tiles);
-            append_places(format, subs, width, height, tiles);
+            append_colour(format, background, tile);
+            append_colour(format, foreground, tile);
+            append_count(subs, tile);
+            append_places(format, subs, width, height, tile);
         }
         TileLayout::Colored { background } => {
-            append_colour(format, background, tiles);
-            append_count(subs, tiles);
-            append_colored(format, subs, width, height, tiles);
+            append_colour(format, background, tile);
+            append_count(subs, tile);
+            append_colored(format, subs, width, height, tile);
         }
     }
 }

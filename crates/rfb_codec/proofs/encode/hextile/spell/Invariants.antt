@@ -1,10 +1,11 @@
-use Rattle.std.proofs.Common.{◌<◌}
-use Rattle.arrayvec.specs.ArrayVec.{array_vec_len}
+use Rattle.std.proofs.Common.{◌≡◌, ◌<◌, ◌≤◌, ◌++◌, ℕ, List, vec_len}
+use Rattle.std.specs.Vec.{vec_capacity}
 use Rattle.rfb_codec.proofs.DrawLemmas.{SpelledUpTo}
 use Rattle.rfb_codec.proofs.encode.hextile.spell.Given as goal
 
 abbrev pub invariant-loop-n : goal.invariant-loop-n
 invariant-loop-n l = record {
-  spelled : SpelledUpTo l.format l.block l.n l.carried l.tiles.items;
-  shorter : array_vec_len l.tiles < l.raw;
+  spelled : (bytes : List ℕ) × (l.out.items ≡ l.fn.out.items ++ bytes) × SpelledUpTo l.format l.block l.n l.carried bytes;
+  shorter : vec_len l.out < l.end;
+  room : vec_capacity l.fn.out ≤ vec_capacity l.out;
 }

@@ -7,6 +7,6 @@ use Rattle.rfb_codec.proofs.encode.hextile.pieces.append_colored.Given as goal
 
 abbrev pub invariant-loop-sub : goal.invariant-loop-sub
 invariant-loop-sub l = record {
-  items : l.tiles.items ≡ l.fn.tiles.items ++ flat_map (colored_bytes l.format) (take l.sub-index l.subs.items);
-  len : array_vec_len l.tiles ≡ array_vec_len l.fn.tiles + l.sub-index * (size_of l.format + 2);
+  items : l.tile.items ≡ l.fn.tile.items ++ flat_map (colored_bytes l.format) (take l.sub-index l.subs.items);
+  len : array_vec_len l.tile ≡ array_vec_len l.fn.tile + l.sub-index * (size_of l.format + 2);
 }

@@ -6,6 +6,6 @@ use Rattle.rfb_codec.proofs.encode.hextile.pieces.append_places.Given as goal
 
 abbrev pub invariant-loop-sub : goal.invariant-loop-sub
 invariant-loop-sub l = record {
-  items : l.tiles.items ≡ l.fn.tiles.items ++ flat_map place_bytes (take l.sub-index l.subs.items);
-  len : array_vec_len l.tiles ≡ array_vec_len l.fn.tiles + l.sub-index * 2;
+  items : l.tile.items ≡ l.fn.tile.items ++ flat_map place_bytes (take l.sub-index l.subs.items);
+  len : array_vec_len l.tile ≡ array_vec_len l.fn.tile + l.sub-index * 2;
 }
