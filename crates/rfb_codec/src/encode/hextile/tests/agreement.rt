@@ -191,3 +191,18 @@ fn it_keeps_the_rule_at_sizes_beside_those_of_tiles(rt: HostRuntime) -> Result<(
     }
     Ok(())
 }
+
+#[test]
+fn it_keeps_the_rule_at_every_number_of_pixels(rt: HostRuntime) -> Result<(), Fail> {
+    // The first tile leaves its background, which then needs no bytes in the second.
+    let mut pixels = [9; 512];
+    for others in 0..246 {
+        if let Some(pixel) = pixels.get_mut(others / 16 * 32 + 16 + others % 16) {
+            *pixel = 10 + others as u32;
+        }
+        for format in &[Format::bgr233(), Format::rgb565(), Format::rgb888()] {
+            agrees(&rt, rt.alloc(), format, 32, 16, &pixels)?;
+        }
+    }
+    Ok(())
+}
