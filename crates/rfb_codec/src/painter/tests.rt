@@ -9,7 +9,9 @@ use std::alloc::Global;
 use std::process::Abort;
 use std::test::Fail;
 
+mod hextile;
 mod hostile;
+mod masks;
 mod pixels;
 
 const BLACK: Colour = Colour { r: 0, g: 0, b: 0 };
@@ -45,14 +47,6 @@ fn fed(
 {
     Painter::new(rect, encoding, format).feed(bytes, picture)
 }
-
-// All of three places by one.
-const ROW: Rect = Rect {
-    x: 0,
-    y: 0,
-    w: 3,
-    h: 1,
-};
 
 // CopyRect to the last three of four places, from the first on.
 const COPY: [u8; 4] = [0, 0, 0, 0];
@@ -129,20 +123,28 @@ fn subrectangles_are_placed_in_their_rectangle(rt: HostRuntime) -> Result<(), Fa
 
 #[test]
 fn data_are_taken_at_their_last_byte_and_no_earlier(rt: HostRuntime) -> Result<(), Fail> {
-    cut_everywhere(&rt, rt.alloc(), Encoding::Raw, &[0x07, 0x38, 0xC0])?;
-    cut_everywhere(&rt, rt.alloc(), Encoding::CopyRect, &COPY)?;
-    cut_everywhere(&rt, rt.alloc(), Encoding::Rre, &LAST_WINS)
+    cut_everywhere(&rt, rt.alloc(), 3, Encoding::Raw, &[0x07, 0x38, 0xC0])?;
+    cut_everywhere(&rt, rt.alloc(), 3, Encoding::CopyRect, &COPY)?;
+    cut_everywhere(&rt, rt.alloc(), 3, Encoding::Rre, &LAST_WINS)?;
+    cut_everywhere(&rt, rt.alloc(), 48, Encoding::Hextile, &hextile::THREE)
 }
 
-// One painter waits with each front of the data, and leaves what stands behind them.
+// One painter of all of a row waits with each front of the data, and leaves what stands behind them.
 fn cut_everywhere(
     rt: &impl Abort,
     alloc: Global,
+    width: u16,
     encoding: Encoding,
     data: &[u8],
 ) -> Result<(), Fail> {
-    let mut picture = Picture::new(alloc, 3, 1, BLUE)?;
-    let mut painter = Painter::new(ROW, encoding, Format::bgr233());
+    let mut picture = Picture::new(alloc, width, 1, BLUE)?;
+    let row = Rect {
+        x: 0,
+        y: 0,
+        w: width,
+        h: 1,
+    };
+    let mut painter = Painter::new(row, encoding, Format::bgr233());
     for n in 0..data.len() {
         let answer = painter.feed(&data[..n], &mut picture);
         assert_eq!(rt; answer, MORE, "{encoding:?} at {n}");
@@ -155,7 +157,8 @@ fn cut_everywhere(
     Ok(())
 }
 
-// At the picture's edge each has the data of no place: none of Raw, a source, and a background.
+// At the picture's edge each has the data of no place: none of Raw, a source, a
+// background, and no tiles.
 #[test]
 fn an_empty_rectangle_paints_nothing(rt: HostRuntime) -> Result<(), Fail> {
     for (x, w) in [(2, 0), (0, 2)] {
@@ -171,6 +174,10 @@ fn an_empty_rectangle_paints_nothing(rt: HostRuntime) -> Result<(), Fail> {
         let head = [0, 0, 0, 0, 0x07, 0xFF];
         let answer = fed(&mut picture, rect, Encoding::Rre, format, &head);
         assert_eq!(rt; answer, done(5));
+        let answer = fed(&mut picture, rect, Encoding::Hextile, format, &[]);
+        assert_eq!(rt; answer, done(0));
+        let answer = fed(&mut picture, rect, Encoding::Hextile, format, &[0xFF]);
+        assert_eq!(rt; answer, done(0));
         assert_eq!(rt; picture.row(0, 0, 2), [GREEN, GREEN].as_slice());
     }
     Ok(())

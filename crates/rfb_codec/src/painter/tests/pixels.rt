@@ -1,4 +1,4 @@
-//! Raw pixels in formats of each size and both byte orders.
+//! Pixels in formats of each size and both byte orders.
 
 use super::*;
 
@@ -46,5 +46,56 @@ fn raw_pixels_have_the_size_and_byte_order_of_the_format(rt: HostRuntime) -> Res
         assert_eq!(rt; picture.row(0, 1, 3), [GREEN, RED, GREEN].as_slice());
         assert_eq!(rt; picture.row(0, 2, 3), [GREEN, BLUE, BLACK].as_slice());
     }
+    Ok(())
+}
+
+// Red and green as tiles: raw; a subrectangle of the foreground over the background; and one of its
+// own pixel.
+const TILES_AT_RGB565: [[u8; 8]; 2] = [
+    [0x0E, 0x00, 0xF8, 0xE0, 0x07, 1, 0x10, 0x00],
+    [0x1A, 0x00, 0xF8, 1, 0xE0, 0x07, 0x10, 0x00],
+];
+
+const TILES_AT_BIG_ENDIAN: [[u8; 8]; 2] = [
+    [0x0E, 0xF8, 0x00, 0x07, 0xE0, 1, 0x10, 0x00],
+    [0x1A, 0xF8, 0x00, 1, 0x07, 0xE0, 0x10, 0x00],
+];
+
+#[test]
+fn pixels_of_a_tile_have_the_size_and_byte_order_of_the_format(
+    rt: HostRuntime,
+) -> Result<(), Fail> {
+    let Ok(big_endian) = Format::read(&BIG_ENDIAN) else {
+        assert!(rt; false);
+        return Ok(());
+    };
+    red_and_green(
+        &rt,
+        rt.alloc(),
+        Format::rgb565(),
+        &[1, 0x00, 0xF8, 0xE0, 0x07],
+    )?;
+    red_and_green(&rt, rt.alloc(), big_endian, &[1, 0xF8, 0x00, 0x07, 0xE0])?;
+    for tile in TILES_AT_RGB565 {
+        red_and_green(&rt, rt.alloc(), Format::rgb565(), &tile)?;
+    }
+    for tile in TILES_AT_BIG_ENDIAN {
+        red_and_green(&rt, rt.alloc(), big_endian, &tile)?;
+    }
+    Ok(())
+}
+
+// A tile of two places shows them.
+fn red_and_green(rt: &impl Abort, alloc: Global, format: Format, tile: &[u8]) -> Result<(), Fail> {
+    let mut picture = Picture::new(alloc, 2, 1, BLUE)?;
+    let rect = Rect {
+        x: 0,
+        y: 0,
+        w: 2,
+        h: 1,
+    };
+    let answer = fed(&mut picture, rect, Encoding::Hextile, format, tile);
+    assert_eq!(rt; answer, done(tile.len()));
+    assert_eq!(rt; picture.row(0, 0, 2), [RED, GREEN].as_slice());
     Ok(())
 }

@@ -1,0 +1,233 @@
+//! Tiles of Hextile, most of them in a row.
+
+use super::*;
+
+// Pixels 0x10, 0x20 and 0x30 at bgr233: 2, 4 and 6 sevenths of green. Pixel 0 is black.
+const TEN: Colour = Colour { r: 0, g: 73, b: 0 };
+
+const TWENTY: Colour = Colour { r: 0, g: 146, b: 0 };
+
+const THIRTY: Colour = Colour { r: 0, g: 219, b: 0 };
+
+// Three tiles at bgr233: two coloured subrectangles; one of a foreground; one of the same, carried, as
+// the background of both is.
+pub const THREE: [u8; 18] = [
+    0x1A, 0x10, 2, 0x20, 0xE0, 0x00, 0x30, 0xF0, 0x00, //
+    0x0C, 0x20, 1, 0xF0, 0x00, //
+    0x08, 1, 0xF0, 0x00,
+];
+
+// What is answered to tiles of a row so wide, and what it shows then, where it was red.
+pub fn painted(
+    alloc: Global,
+    width: u16,
+    format: Format,
+    data: &[u8],
+) -> Result<(Result<Painted, PaintFault>, Vec<Colour>), Fail> {
+    let mut picture = Picture::new(alloc, width, 1, RED)?;
+    let rect = Rect {
+        x: 0,
+        y: 0,
+        w: width,
+        h: 1,
+    };
+    let answer = fed(&mut picture, rect, Encoding::Hextile, format, data);
+    let mut row = Vec::new(alloc);
+    row.extend_from_slice(picture.row(0, 0, width))?;
+    Ok((answer, row))
+}
+
+// All of the data are taken, and the row shows so many places of each colour in turn.
+fn shows(
+    rt: &impl Abort,
+    alloc: Global,
+    format: Format,
+    data: &[u8],
+    runs: &[(u16, Colour)],
+) -> Result<(), Fail> {
+    let mut want = Vec::new(alloc);
+    let mut width = 0u16;
+    for (places, colour) in runs.iter() {
+        for _ in 0..*places {
+            want.push(*colour)?;
+            width = width.saturating_add(1);
+        }
+    }
+    let (answer, row) = painted(alloc, width, format, data)?;
+    assert_eq!(rt; answer, done(data.len()));
+    assert_eq!(rt; row, want);
+    Ok(())
+}
+
+// The same at bgr233.
+fn shows_small(
+    rt: &impl Abort,
+    alloc: Global,
+    data: &[u8],
+    runs: &[(u16, Colour)],
+) -> Result<(), Fail> {
+    shows(rt, alloc, Format::bgr233(), data, runs)
+}
+
+// The second tile is one place wide, and has the first one's background.
+#[test]
+fn a_tile_of_its_mask_alone_is_whole(rt: HostRuntime) -> Result<(), Fail> {
+    let colour = Colour {
+        r: 255,
+        g: 128,
+        b: 1,
+    };
+    let data = [0x02, 0x01, 0x80, 0xFF, 0x00, 0x00];
+    shows(&rt, rt.alloc(), Format::rgb888(), &data, &[(17, colour)])
+}
+
+// A raw tile of sixteen pixels between two of one colour, with `last` as the third tile.
+fn around_raw(rt: &impl Abort, alloc: Global, last: &[u8], length: usize) -> Result<(), Fail> {
+    let colour = Colour { r: 3, g: 2, b: 1 };
+    let mut data = Vec::new(alloc);
+    data.extend_from_slice(&[0x02, 1, 2, 3, 0, 0x01])?;
+    let mut want = Vec::new(alloc);
+    want.push((16, colour))?;
+    for n in 0..16u8 {
+        data.extend_from_slice(&[n, 7, 9, 0])?;
+        want.push((1, Colour { r: 9, g: 7, b: n }))?;
+    }
+    data.extend_from_slice(last)?;
+    want.push((16, colour))?;
+    assert_eq!(rt; data.len(), length);
+    shows(rt, alloc, Format::rgb888(), &data, &want)
+}
+
+#[test]
+fn a_background_is_carried_past_a_raw_tile(rt: HostRuntime) -> Result<(), Fail> {
+    around_raw(&rt, rt.alloc(), &[0x02, 1, 2, 3, 0], 75)?;
+    around_raw(&rt, rt.alloc(), &[0x00], 71)
+}
+
+#[test]
+fn colours_are_carried_from_tile_to_tile(rt: HostRuntime) -> Result<(), Fail> {
+    let runs = [
+        (14, TEN),
+        (1, TWENTY),
+        (1, THIRTY),
+        (15, TEN),
+        (1, TWENTY),
+        (15, TEN),
+        (1, TWENTY),
+    ];
+    shows_small(&rt, rt.alloc(), &THREE, &runs)
+}
+
+// The second tile's own pixels are no foreground.
+#[test]
+fn a_foreground_is_carried_past_a_coloured_tile(rt: HostRuntime) -> Result<(), Fail> {
+    let data = [
+        0x0E, 0x10, 0x20, 1, 0x00, 0x00, //
+        0x18, 1, 0x30, 0x00, 0x00, //
+        0x08, 1, 0x00, 0x00,
+    ];
+    let runs = [
+        (1, TWENTY),
+        (15, TEN),
+        (1, THIRTY),
+        (15, TEN),
+        (1, TWENTY),
+        (15, TEN),
+    ];
+    shows_small(&rt, rt.alloc(), &data, &runs)
+}
+
+#[test]
+fn a_foreground_is_carried_past_a_raw_tile(rt: HostRuntime) -> Result<(), Fail> {
+    let mut data = Vec::new(rt.alloc());
+    data.extend_from_slice(&[0x06, 0x10, 0x20, 0x01])?;
+    for _ in 0..16 {
+        data.push(0x30)?;
+    }
+    data.extend_from_slice(&[0x08, 1, 0x00, 0x00])?;
+    let runs = [(16, TEN), (16, THIRTY), (1, TWENTY), (1, TEN)];
+    shows_small(&rt, rt.alloc(), &data, &runs)
+}
+
+#[test]
+fn a_foreground_is_specified_without_subrectangles(rt: HostRuntime) -> Result<(), Fail> {
+    let data = [0x06, 0x10, 0x20, 0x08, 1, 0x00, 0x00];
+    shows_small(&rt, rt.alloc(), &data, &[(16, TEN), (1, TWENTY), (1, TEN)])
+}
+
+#[test]
+fn a_tile_has_the_later_of_two_colours(rt: HostRuntime) -> Result<(), Fail> {
+    let data = [0x06, 0x10, 0x20, 0x06, 0x30, 0x00, 0x08, 1, 0x00, 0x00];
+    let runs = [(16, TEN), (16, THIRTY), (1, BLACK), (1, THIRTY)];
+    shows_small(&rt, rt.alloc(), &data, &runs)
+}
+
+#[test]
+fn the_last_subrectangle_of_a_tile_wins(rt: HostRuntime) -> Result<(), Fail> {
+    let data = [0x1A, 0x10, 2, 0x20, 0x00, 0x20, 0x30, 0x10, 0x00];
+    shows_small(
+        &rt,
+        rt.alloc(),
+        &data,
+        &[(1, TWENTY), (1, THIRTY), (1, TWENTY), (1, TEN)],
+    )
+}
+
+// Two places: by a subrectangle, by counts of 0, and by masks whose other bits say nothing.
+#[test]
+fn bits_without_effect_are_accepted(rt: HostRuntime) -> Result<(), Fail> {
+    let two = [(1, TEN), (1, TWENTY)];
+    shows_small(&rt, rt.alloc(), &[0x0E, 0x10, 0x20, 1, 0x10, 0x00], &two)?;
+    shows_small(&rt, rt.alloc(), &[0x01, 0x10, 0x20], &two)?;
+    shows_small(&rt, rt.alloc(), &[0xFF, 0x10, 0x20], &two)?;
+    for data in [
+        [0x0E, 0x10, 0x20, 0].as_slice(),
+        &[0x1A, 0x10, 0],
+        &[0x12, 0x10],
+        &[0xE2, 0x10],
+    ] {
+        shows_small(&rt, rt.alloc(), data, &[(2, TEN)])?;
+    }
+    Ok(())
+}
+
+// Two by two tiles, row by row; but for the first they are one place wide, one high, or both.
+#[test]
+fn tiles_are_placed_in_their_rectangle(rt: HostRuntime) -> Result<(), Fail> {
+    let mut picture = Picture::new(rt.alloc(), 19, 19, RED)?;
+    let rect = Rect {
+        x: 1,
+        y: 1,
+        w: 17,
+        h: 17,
+    };
+    let data = [
+        0x0E, 0x10, 0x00, 1, 0x12, 0x23, 0x02, 0x20, 0x02, 0x30, 0x02, 0xC0,
+    ];
+    let answer = fed(
+        &mut picture,
+        rect,
+        Encoding::Hextile,
+        Format::bgr233(),
+        &data,
+    );
+    assert_eq!(rt; answer, done(12));
+    for y in 0..19 {
+        for x in 0..19 {
+            assert_eq!(rt; picture.at(x, y), placed(x, y), "at {x}, {y}");
+        }
+    }
+    Ok(())
+}
+
+// The subrectangle lies at column 1 and row 2 of the first tile, three wide and four high.
+fn placed(x: u16, y: u16) -> Colour {
+    match (x, y) {
+        (0 | 18, _) | (_, 0 | 18) => RED,
+        (17, 17) => BLUE,
+        (17, _) => TWENTY,
+        (_, 17) => THIRTY,
+        (2..=4, 3..=6) => BLACK,
+        _ => TEN,
+    }
+}

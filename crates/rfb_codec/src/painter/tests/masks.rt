@@ -1,0 +1,215 @@
+//! Masks and subrectangles that a peer may send and should not, and each mask in turn.
+
+use super::hextile::painted;
+use super::*;
+
+// What is answered to tiles of a row so wide, which stays as it is if they are not done.
+fn answered(
+    rt: &impl Abort,
+    alloc: Global,
+    width: u16,
+    data: &[u8],
+) -> Result<Result<Painted, PaintFault>, Fail> {
+    let (answer, row) = painted(alloc, width, Format::bgr233(), data)?;
+    if !matches!(answer, Ok(Painted { done: true, .. })) {
+        for colour in row.iter() {
+            assert_eq!(rt; *colour, RED);
+        }
+    }
+    Ok(answer)
+}
+
+#[test]
+fn a_mask_is_refused_at_its_byte(rt: HostRuntime) -> Result<(), Fail> {
+    for (width, data, fault) in [
+        (2, [0x00].as_slice(), PaintFault::NoBackground),
+        (2, &[0x08], PaintFault::NoBackground),
+        (2, &[0x1C], PaintFault::NoBackground),
+        (17, &[0x02, 0x10, 0x1C], PaintFault::BothColourBits),
+        (17, &[0x02, 0x10, 0x14], PaintFault::BothColourBits),
+        (17, &[0x02, 0x10, 0x08], PaintFault::NoForeground),
+        // A foreground with nothing behind it, and a count of 0.
+        (2, &[0x0A, 0x10, 0], PaintFault::NoForeground),
+    ] {
+        assert_eq!(rt; answered(&rt, rt.alloc(), width, data)?, Err(fault));
+    }
+    Ok(())
+}
+
+// The second tile is one place by one.
+#[test]
+fn a_subrectangle_that_leaves_its_tile_is_refused_at_the_last_byte(
+    rt: HostRuntime,
+) -> Result<(), Fail> {
+    for (x_and_y, size) in [
+        (0x00, 0x10),
+        (0x10, 0x00),
+        (0x00, 0x01),
+        (0x01, 0x00),
+        (0xFF, 0xFF),
+    ] {
+        refused_at_the_end(&rt, rt.alloc(), &[0x02, 0x10, 0x18, 1, 0x20, x_and_y, size])?;
+        refused_at_the_end(&rt, rt.alloc(), &[0x02, 0x10, 0x0C, 0x20, 1, x_and_y, size])?;
+        let first = [0x18, 2, 0x20, x_and_y, size, 0x20, 0x00, 0x00];
+        let mut data = Vec::new(rt.alloc());
+        data.extend_from_slice(&[0x02, 0x10])?;
+        data.extend_from_slice(&first)?;
+        refused_at_the_end(&rt, rt.alloc(), &data)?;
+    }
+    // It leaves the first tile, and not the rectangle.
+    refused_at_the_end(&rt, rt.alloc(), &[0x1A, 0x10, 1, 0x20, 0xF0, 0x10])
+}
+
+// Data of seventeen places by one are waited with up to their last byte, and refused there.
+fn refused_at_the_end(rt: &impl Abort, alloc: Global, data: &[u8]) -> Result<(), Fail> {
+    for n in 0..data.len() {
+        assert_eq!(rt; answered(rt, alloc, 17, &data[..n])?, MORE);
+    }
+    let answer = answered(rt, alloc, 17, data)?;
+    assert_eq!(rt; answer, Err(PaintFault::SubrectOutside));
+    Ok(())
+}
+
+// Which colours the tiles before one specified: pixel 0x08 as the background and 0x18 as the foreground.
+#[derive(Clone, Copy)]
+struct Known {
+    background: bool,
+    foreground: bool,
+}
+
+const NEITHER: Known = Known {
+    background: false,
+    foreground: false,
+};
+
+const BACKGROUND: Known = Known {
+    background: true,
+    foreground: false,
+};
+
+const BOTH: Known = Known {
+    background: true,
+    foreground: true,
+};
+
+const RAW_TILE: [u8; 17] = [1, 0, 0, 0, 0, 0, 0, 0, 0, 0, 0, 0, 0, 0, 0, 0, 0];
+
+// A first tile or a second one, each two places wide.
+#[test]
+fn each_mask_has_its_fault_or_its_length(rt: HostRuntime) -> Result<(), Fail> {
+    for mask in 0..=u8::MAX {
+        judged(&rt, rt.alloc(), &[], NEITHER, mask)?;
+        judged(&rt, rt.alloc(), &RAW_TILE, NEITHER, mask)?;
+        judged(&rt, rt.alloc(), &[0x02, 0x08], BACKGROUND, mask)?;
+        judged(&rt, rt.alloc(), &[0x12, 0x08], BACKGROUND, mask)?;
+        judged(&rt, rt.alloc(), &[0x06, 0x08, 0x18], BOTH, mask)?;
+    }
+    Ok(())
+}
+
+fn has(mask: u8, bit: u8) -> bool {
+    mask & bit == bit
+}
+
+// The first of the faults that a mask has.
+fn fault(mask: u8, known: Known) -> Option<PaintFault> {
+    if has(mask, 1) {
+        return None;
+    }
+    let background = known.background || has(mask, 2);
+    let foreground = known.foreground || has(mask, 4);
+    if !background {
+        Some(PaintFault::NoBackground)
+    } else if has(mask, 20) {
+        Some(PaintFault::BothColourBits)
+    } else if has(mask, 8) && !has(mask, 16) && !foreground {
+        Some(PaintFault::NoForeground)
+    } else {
+        None
+    }
+}
+
+// What such a mask asks for: pixels 0x10 and 0x20 where it is raw; else 0x10 as the background, 0x20
+// as the foreground, and one subrectangle at the second place, with pixel 0x30 if it has its own.
+fn push_rest(data: &mut Vec<u8>, mask: u8) -> Result<(), Fail> {
+    if has(mask, 1) {
+        data.extend_from_slice(&[0x10, 0x20])?;
+        return Ok(());
+    }
+    if has(mask, 2) {
+        data.push(0x10)?;
+    }
+    if has(mask, 4) {
+        data.push(0x20)?;
+    }
+    if has(mask, 8) {
+        data.push(1)?;
+        if has(mask, 16) {
+            data.push(0x30)?;
+        }
+        data.extend_from_slice(&[0x10, 0x00])?;
+    }
+    Ok(())
+}
+
+// The tile is refused at its mask; or waited with up to its last byte, and what follows is left.
+fn judged(
+    rt: &impl Abort,
+    alloc: Global,
+    front: &[u8],
+    known: Known,
+    mask: u8,
+) -> Result<(), Fail> {
+    let width = if front.is_empty() { 2 } else { 18 };
+    let mut data = Vec::new(alloc);
+    data.extend_from_slice(front)?;
+    data.push(mask)?;
+    match fault(mask, known) {
+        Some(fault) => {
+            assert_eq!(rt;
+                answered(rt, alloc, width, &data)?,
+                Err(fault),
+                "mask {mask}"
+            );
+        }
+        None => {
+            push_rest(&mut data, mask)?;
+            for n in 0..data.len() {
+                assert_eq!(rt;
+                    answered(rt, alloc, width, &data[..n])?,
+                    MORE,
+                    "mask {mask}"
+                );
+            }
+            let length = data.len();
+            data.push(0xFF)?;
+            let (answer, row) = painted(alloc, width, Format::bgr233(), &data)?;
+            assert_eq!(rt; answer, done(length), "mask {mask}");
+            let [first, second] = pixels_behind(mask);
+            assert!(rt; ends_with(&row, first, second), "mask {mask}");
+        }
+    }
+    Ok(())
+}
+
+// The pixels of the two places.
+fn pixels_behind(mask: u8) -> [u32; 2] {
+    if has(mask, 1) {
+        return [0x10, 0x20];
+    }
+    let background = if has(mask, 2) { 0x10 } else { 0x08 };
+    let foreground = if has(mask, 4) { 0x20 } else { 0x18 };
+    if !has(mask, 8) {
+        [background, background]
+    } else if has(mask, 16) {
+        [background, 0x30]
+    } else {
+        [background, foreground]
+    }
+}
+
+// Whether the last places are of these pixels.
+fn ends_with(row: &[Colour], first: u32, second: u32) -> bool {
+    let format = Format::bgr233();
+    row.ends_with(&[format.unpack(first), format.unpack(second)])
+}
