@@ -11,6 +11,7 @@ ghost use Rattle.rfb_codec.specs.TileRead.{all_tiles, TellsTiles, HasTiles};
 ghost use Rattle.rfb_codec.specs.RectData.{replaced};
 ghost use Rattle.rfb_codec.specs.Painter.{IsPaintable, over};
 
+mod background;
 mod drawing;
 mod reading;
 mod tile_read;

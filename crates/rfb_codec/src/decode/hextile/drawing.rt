@@ -7,6 +7,7 @@ ghost use Rattle.rfb_codec.specs.Tile.{Tile, AreInside, places_of, tile_pixel, c
 ghost use Rattle.rfb_codec.specs.TileRead.{LiesIn, tile_of_read, Sees, AreSubsInside, subs_in, sub_behind, sub_size};
 ghost use Rattle.rfb_codec.specs.Painter.{IsPaintable, over};
 
+use super::background::fill_tile;
 use super::reading::place_of;
 use super::tile_read::{Seen, TileRead, or_zero};
 use crate::decode::fill::fill;
@@ -67,15 +68,41 @@ fn draw_subs(
     ensures width { picture.new.width ≡ picture.old.width }
     ensures height { picture.new.height ≡ picture.old.height }
 {
-    fill(rect, format.unpack(background), picture);
+    fill_tile(rect, unpacked(format, background), picture);
+    let own = unpacked(format, foreground);
     for n in 0..count {
         let part = sub_at(format, foreground, colored, n, list);
+        let colour = colour_at(format, colored, own, part.pixel);
         let places = Rect {
             x: rect.x + part.rect.x,
             y: rect.y + part.rect.y,
             ..part.rect
         };
-        fill(places, format.unpack(part.pixel), picture);
+        fill(places, colour, picture);
+    }
+}
+
+// The colour of a subrectangle: of its pixel, or that of the foreground where it has none of its own.
+fn colour_at(format: Format, colored: bool, own: Colour, pixel: u32) -> Colour
+    requires { colored ≡ false → own ≡ colour_of format pixel }
+    ensures { result ≡ colour_of format pixel }
+{
+    if colored {
+        unpacked(format, pixel)
+    } else {
+        own
+    }
+}
+
+// The colour of a pixel. The format that this project announces is known before it runs, and needs no
+// division.
+fn unpacked(format: Format, pixel: u32) -> Colour
+    ensures { result ≡ colour_of format pixel }
+{
+    if format == Format::rgb888() {
+        Format::rgb888().unpack(pixel)
+    } else {
+        format.unpack(pixel)
     }
 }
 

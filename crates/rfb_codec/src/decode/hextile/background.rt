@@ -1,0 +1,56 @@
+//! The background of a tile.
+
+ghost use Rattle.std.specs.Prelude.{◌≡◌, ℕ, ◌<◌, length, slice_index_or};
+ghost use Rattle.rfb_pixel.specs.declared.colour.Colour.{Colour};
+ghost use Rattle.rfb_picture.specs.Grid.{filled};
+ghost use Rattle.rfb_codec.specs.Painter.{IsPaintable};
+
+use crate::decode::fill::fill;
+use rfb_picture::{Picture, Rect};
+use rfb_pixel::Colour;
+
+/// Gives the colour to each place of a tile, as `fill` does. The rows of one that is not at the right
+/// edge are copied, each with a length that is known before it runs, so a place takes a third of the
+/// instructions.
+pub fn fill_tile(rect: Rect, colour: Colour, picture: &mut Picture<Colour>)
+    requires { IsPaintable picture.old rect }
+    ensures value { picture.new ≡ filled rect colour picture.old }
+    ensures width { picture.new.width ≡ picture.old.width }
+    ensures height { picture.new.height ≡ picture.old.height }
+{
+    if rect.w == 16 {
+        fill_lines(rect, colour, picture);
+    } else {
+        fill(rect, colour, picture);
+    }
+}
+
+// The same for a tile of sixteen columns.
+fn fill_lines(rect: Rect, colour: Colour, picture: &mut Picture<Colour>)
+    requires place { IsPaintable picture.old rect }
+    requires whole { rect.w ≡ 16 }
+    ensures value { picture.new ≡ filled rect colour picture.old }
+    ensures width { picture.new.width ≡ picture.old.width }
+    ensures height { picture.new.height ≡ picture.old.height }
+{
+    let line = line_of(colour);
+    for row in 0..rect.h {
+        put_line(picture.row_mut(rect.x, rect.y + row, 16), &line);
+    }
+}
+
+// Sixteen places of that colour. Were it inlined, each of their bytes would be written on its own.
+#[inline(never)]
+fn line_of(colour: Colour) -> [Colour; 16]
+    ensures { (k : ℕ) (d : Colour) → k < 16 → slice_index_or result k d ≡ colour }
+{
+    [colour; 16]
+}
+
+// Gives the places of a row the colours of a line.
+fn put_line(row: &mut [Colour], line: &[Colour; 16])
+    requires { length row.old ≡ 16 }
+    ensures { row.new ≡ line.now }
+{
+    row.copy_from_slice(line);
+}
