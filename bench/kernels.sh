@@ -11,7 +11,7 @@ cp -r crates/rfb_pixel crates/rfb_picture crates/rfb_wire crates/rfb_codec "$cop
 sed -i '/^rfb_pixel:\|^rfb_picture:\|^rfb_wire:\|^rfb_codec:/!d' "$copy/crates.txt"
 cat bench/kernels/rfb_picture.txt >> "$copy/crates/rfb_picture/src/tests.rt"
 cat bench/kernels/rfb_pixel.txt >> "$copy/crates/rfb_pixel/src/format/tests.rt"
-cat bench/kernels/rfb_codec_decode.txt >> "$copy/crates/rfb_codec/src/painter/tests.rt"
+cat bench/kernels/rfb_codec_decode.txt bench/kernels/rfb_codec_hextile_decode.txt >> "$copy/crates/rfb_codec/src/painter/tests.rt"
 for crate in rfb_pixel rfb_picture rfb_codec; do
   (cd "$copy/crates/$crate" && rt test > "$copy/$crate.log" 2>&1) || { tail -20 "$copy/$crate.log"; exit 1; }
 done
@@ -49,3 +49,6 @@ for format in rgb888 rgb565; do
 done
 difference 'Painter::feed, RRE of one colour' rfb_codec painter::tests::decode_rre_flat painter::tests::decode_rre_none 4096
 difference 'Painter::feed, RRE of an office cell' rfb_codec painter::tests::decode_rre_office painter::tests::decode_rre_none 4096
+for cell in flat office; do
+  difference "Painter::feed, Hextile, $cell cell" rfb_codec "painter::tests::decode_hextile_$cell" "painter::tests::decode_hextile_${cell}_none" 4096
+done

@@ -21,8 +21,9 @@ pub fn fill(rect: Rect, colour: Colour, picture: &mut Picture<Colour>)
     }
 }
 
-// Gives the colour to each place of a row.
-fn fill_row(row: &mut [Colour], colour: Colour)
+/// Gives the colour to each place of a row.
+#[inline]
+pub fn fill_row(row: &mut [Colour], colour: Colour)
     ensures { (k : ℕ) (d : Colour) → k < length row.new → slice_index_or row.new k d ≡ colour }
 {
     for place in row.iter_mut() {

@@ -11,8 +11,8 @@ ghost use Rattle.rfb_codec.specs.TileRead.{all_tiles, TellsTiles, HasTiles};
 ghost use Rattle.rfb_codec.specs.RectData.{replaced};
 ghost use Rattle.rfb_codec.specs.Painter.{IsPaintable, over};
 
-mod background;
 mod drawing;
+mod filling;
 mod reading;
 mod tile_read;
 

@@ -7,10 +7,9 @@ ghost use Rattle.rfb_codec.specs.Tile.{Tile, AreInside, places_of, tile_pixel, c
 ghost use Rattle.rfb_codec.specs.TileRead.{LiesIn, tile_of_read, Sees, AreSubsInside, subs_in, sub_behind, sub_size};
 ghost use Rattle.rfb_codec.specs.Painter.{IsPaintable, over};
 
-use super::background::fill_tile;
+use super::filling::{fill_part, fill_tile};
 use super::reading::place_of;
 use super::tile_read::{Seen, TileRead, or_zero};
-use crate::decode::fill::fill;
 use crate::decode::raw::paint_rows;
 use crate::encode::TileLayout;
 use crate::subrect::Subrect;
@@ -78,7 +77,7 @@ fn draw_subs(
             y: rect.y + part.rect.y,
             ..part.rect
         };
-        fill(places, colour, picture);
+        fill_part(places, colour, picture);
     }
 }
 

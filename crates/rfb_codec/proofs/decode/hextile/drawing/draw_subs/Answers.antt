@@ -11,8 +11,8 @@ use Rattle.rfb_codec.proofs.PaintRreLemmas.{moved, moved_inside, over_filled}
 use Rattle.rfb_codec.proofs.PaintHextileLemmas.{subs_in-more}
 use Rattle.rfb_codec.proofs.decode.hextile.drawing.draw_subs.Goals as goal
 
-pub fill-requires : goal.fill-requires
-fill-requires c =
+pub fill_part-requires : goal.fill_part-requires
+fill_part-requires c =
     let rect = c.args.rect in
     let is = c.sub_at-part.ensures in
     let on : IsOnScreen rect.w rect.h c.sub_at-part.result.rect = subst (λ (s : Subrect). IsOnScreen rect.w rect.h s.rect) (sym is) (c.requires.inside.inside c.loop-n.n c.loop-n-test.true) in
@@ -43,14 +43,14 @@ loop-n-preserved c =
     let on : IsOnScreen rect.w rect.h s.rect = subst (λ (s : Subrect). IsOnScreen rect.w rect.h s.rect) (sym is) (c.requires.inside.inside n c.loop-n-test.true) in
     record {
       shown =
-          c.fill.ensures.value
+          c.fill_part.ensures.value
           ∙ ap (λ k. filled (moved rect s.rect) k c.loop-n.picture) c.colour_at-colour.ensures
           ∙ ap (λ g. filled (moved rect s.rect) (colour_of f s.pixel) g) c.loop-n.invariant.shown
           ∙ over_filled f rect c.args.background subs s before c.requires.place.whole on
           ∙ ap (λ (t : Subrect). over rect (λ x y. colour_of f (pixel_at c.args.background (subs ++ t ∷ []) x y)) before) is
           ∙ ap (λ (all : List Subrect). over rect (λ x y. colour_of f (pixel_at c.args.background all x y)) before) (subs_in-more f c.args.foreground c.args.colored n c.args.list.now);
-      width = c.fill.ensures.width ∙ c.loop-n.invariant.width;
-      height = c.fill.ensures.height ∙ c.loop-n.invariant.height;
+      width = c.fill_part.ensures.width ∙ c.loop-n.invariant.width;
+      height = c.fill_part.ensures.height ∙ c.loop-n.invariant.height;
     }
 
 pub returns-clause-value : goal.returns-clause-value

@@ -1,11 +1,11 @@
-//! The background of a tile.
+//! One colour over a tile, and over a part of it.
 
 ghost use Rattle.std.specs.Prelude.{◌≡◌, ℕ, ◌<◌, length, slice_index_or};
 ghost use Rattle.rfb_pixel.specs.declared.colour.Colour.{Colour};
 ghost use Rattle.rfb_picture.specs.Grid.{filled};
 ghost use Rattle.rfb_codec.specs.Painter.{IsPaintable};
 
-use crate::decode::fill::fill;
+use crate::decode::fill::{fill, fill_row};
 use rfb_picture::{Picture, Rect};
 use rfb_pixel::Colour;
 
@@ -53,4 +53,31 @@ fn put_line(row: &mut [Colour], line: &[Colour; 16])
     ensures { row.new ≡ line.now }
 {
     row.copy_from_slice(line);
+}
+
+/// Gives the colour to each place of a part of a tile, as `fill` does. Most parts are one place wide.
+pub fn fill_part(rect: Rect, colour: Colour, picture: &mut Picture<Colour>)
+    requires { IsPaintable picture.old rect }
+    ensures value { picture.new ≡ filled rect colour picture.old }
+    ensures width { picture.new.width ≡ picture.old.width }
+    ensures height { picture.new.height ≡ picture.old.height }
+{
+    if rect.w == 1 {
+        fill_column(rect, colour, picture);
+    } else {
+        fill(rect, colour, picture);
+    }
+}
+
+// The same for a part of one column.
+fn fill_column(rect: Rect, colour: Colour, picture: &mut Picture<Colour>)
+    requires place { IsPaintable picture.old rect }
+    requires narrow { rect.w ≡ 1 }
+    ensures value { picture.new ≡ filled rect colour picture.old }
+    ensures width { picture.new.width ≡ picture.old.width }
+    ensures height { picture.new.height ≡ picture.old.height }
+{
+    for row in 0..rect.h {
+        fill_row(picture.row_mut(rect.x, rect.y + row, 1), colour);
+    }
 }
