@@ -1,6 +1,6 @@
 #!/usr/bin/env bash
-# Prints how many instructions single calls of the low crates and of the decoder need. They are made by tests that this adds to
-# copies of the crates (kernels/*.txt), which are proved and built there. Needs valgrind.
+# Prints how many instructions single calls of the low crates and of the codecs need. They are made by tests that this adds to copies
+# of the crates (kernels/*.txt), which are proved and built there. Needs valgrind.
 set -euo pipefail
 cd "$(dirname "$0")/.."
 copy=$(mktemp -d)
@@ -11,7 +11,8 @@ cp -r crates/rfb_pixel crates/rfb_picture crates/rfb_wire crates/rfb_codec "$cop
 sed -i '/^rfb_pixel:\|^rfb_picture:\|^rfb_wire:\|^rfb_codec:/!d' "$copy/crates.txt"
 cat bench/kernels/rfb_picture.txt >> "$copy/crates/rfb_picture/src/tests.rt"
 cat bench/kernels/rfb_pixel.txt >> "$copy/crates/rfb_pixel/src/format/tests.rt"
-cat bench/kernels/rfb_codec_decode.txt bench/kernels/rfb_codec_hextile_decode.txt >> "$copy/crates/rfb_codec/src/painter/tests.rt"
+cat bench/kernels/rfb_codec.txt >> "$copy/crates/rfb_codec/src/codec/tests.rt"
+cat bench/kernels/rfb_codec_decode.txt >> "$copy/crates/rfb_codec/src/painter/tests.rt"
 for crate in rfb_pixel rfb_picture rfb_codec; do
   (cd "$copy/crates/$crate" && rt test > "$copy/$crate.log" 2>&1) || { tail -20 "$copy/$crate.log"; exit 1; }
 done
@@ -43,6 +44,17 @@ difference 'Area::add of all but a border' rfb_picture tests::area_add_most test
 difference 'Area::clear' rfb_picture tests::area_clear tests::area_new 1
 for cell in unused full part; do
   echo "Area::bounds_in, cell $cell: $(within rfb_picture "tests::area_bounds_$cell" '*bounds_in*')"
+done
+for format in rgb888 rgb565 bgr233; do
+  for codec in raw rre hextile; do
+    difference "$codec of an office cell at $format" rfb_codec "codec::tests::cell_office_${format}_$codec" "codec::tests::cell_office_${format}_none" 65536
+  done
+done
+for cell in noise_rgb888_raw noise_rgb888_rre noise_rgb888_hextile speckles_rgb888_rre speckles_rgb888_hextile; do
+  difference "${cell##*_} of a cell of ${cell%%_*} at rgb888" rfb_codec "codec::tests::cell_$cell" "codec::tests::cell_${cell%_*}_none" 65536
+done
+for codec in raw rre hextile; do
+  difference "$codec of an office tile at rgb888" rfb_codec "codec::tests::tile_office_rgb888_$codec" codec::tests::tile_office_rgb888_none 4096
 done
 for format in rgb888 rgb565; do
   difference "Painter::feed, Raw at $format" rfb_codec "painter::tests::decode_raw_$format" painter::tests::decode_raw_none 4096

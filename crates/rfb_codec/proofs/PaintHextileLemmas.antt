@@ -460,12 +460,12 @@ pub never_waits : (f : PixelFormat) (rect tile : Rect) (n at : ℕ) (seen : Seen
 never_waits f rect tile n at seen bytes slice tiles rest now picture below wide high slice_is old told =
     let here = told_next f rect.w rect.h n tile.w tile.h at old.before bytes slice (Ok None) old.number wide high slice_is told in
     let step = each_got (tile_count rect.w rect.h - n) (next_tile f rect.w rect.h) old.before (drop at bytes) old.after rest (omega arith) old.left in
-    let both : ◌≡◌ {A = Next Tile PaintFault} (Got step.0 step.2) More = sym step.4 ∙ here in
+    let both : ◌≡◌ {A = Next Tile PaintFault} (Got step.0 step.2) More = ◌∙◌ {a = Got step.0 step.2} (sym step.4) here in
     cc
 
 pub never_bad : (f : PixelFormat) (rect tile : Rect) (n at : ℕ) (seen : Seen) (bytes slice : List ℕ) (tiles : List Tile) (rest : List ℕ) (now picture : Grid Colour) (fault : PaintFault) → n < tile_count rect.w rect.h → tile.w ≡ tile_width rect.w n → tile.h ≡ tile_height rect.w rect.h n → slice ≡ drop at bytes → (old : DrawnUpTo f rect tiles rest n at seen bytes now picture) → tile_behind f tile.w tile.h old.before slice ≡ Bad fault → ⊥
 never_bad f rect tile n at seen bytes slice tiles rest now picture fault below wide high slice_is old told =
     let here = told_next f rect.w rect.h n tile.w tile.h at old.before bytes slice (Err fault) old.number wide high slice_is told in
     let step = each_got (tile_count rect.w rect.h - n) (next_tile f rect.w rect.h) old.before (drop at bytes) old.after rest (omega arith) old.left in
-    let both : Got step.0 step.2 ≡ Bad fault = sym step.4 ∙ here in
+    let both : Got step.0 step.2 ≡ Bad fault = ◌∙◌ {a = Got step.0 step.2} (sym step.4) here in
     cc

@@ -5,7 +5,7 @@ use Rattle.rfb_picture.proofs.GridLemmas.{whole-changed}
 use Rattle.rfb_wire.specs.RectHead.{IsOnScreen}
 use Rattle.rfb_codec.specs.declared.subrect.Subrect.{Subrect}
 use Rattle.rfb_codec.specs.Rre.{pixel_at}
-use Rattle.rfb_codec.specs.TileRead.{subs_in}
+use Rattle.rfb_codec.specs.TileRead.{sub_behind, subs_in}
 use Rattle.rfb_codec.specs.Painter.{over}
 use Rattle.rfb_codec.proofs.PaintRreLemmas.{moved, moved_inside, over_filled}
 use Rattle.rfb_codec.proofs.PaintHextileLemmas.{subs_in-more}
