@@ -8,8 +8,8 @@ use Rattle.rfb_picture.specs.Grid.{Grid, IsGrid}
 use Rattle.rfb_picture.proofs.GridLemmas.{place_below, some_in_row}
 use Rattle.rfb_wire.specs.Reading.{ListedAfter}
 use Rattle.rfb_codec.specs.declared.subrect.Subrect.{Subrect}
-use Rattle.rfb_codec.specs.declared.encode.hextile.layout.TileLayout.{TileLayout}
-use Rattle.rfb_codec.specs.declared.encode.hextile.layout.TileLayout.TheVariants.{Raw, Plain, Colored}
+use Rattle.rfb_codec.specs.declared.tiles.layout.TileLayout.{TileLayout}
+use Rattle.rfb_codec.specs.declared.tiles.layout.TileLayout.TheVariants.{Raw, Plain, Colored}
 use Rattle.rfb_codec.specs.declared.encode.hextile.carried.Carried.{Carried}
 use Rattle.rfb_codec.specs.Pixels.{IsPixel, HasPixels}
 use Rattle.rfb_codec.specs.Rre.{pixel_at}

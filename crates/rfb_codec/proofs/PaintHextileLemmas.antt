@@ -15,8 +15,8 @@ use Rattle.rfb_wire.specs.Parts.{behind, and_then, done, each}
 use Rattle.rfb_wire.specs.RectHead.{IsOnScreen}
 use Rattle.rfb_codec.specs.declared.subrect.Subrect.{Subrect}
 use Rattle.rfb_codec.specs.declared.fault.PaintFault.{PaintFault}
-use Rattle.rfb_codec.specs.declared.encode.hextile.layout.TileLayout.{TileLayout}
-use Rattle.rfb_codec.specs.declared.encode.hextile.layout.TileLayout.TheVariants.{Raw, Plain, Colored}
+use Rattle.rfb_codec.specs.declared.tiles.layout.TileLayout.{TileLayout}
+use Rattle.rfb_codec.specs.declared.tiles.layout.TileLayout.TheVariants.{Raw, Plain, Colored}
 use Rattle.rfb_codec.specs.declared.decode.hextile.tile_read.TileRead.{TileRead}
 use Rattle.rfb_codec.specs.declared.decode.hextile.tile_read.Seen.{Seen}
 use Rattle.rfb_codec.specs.Pixels.{drawn}

@@ -2,7 +2,7 @@
 use Rattle.std.specs.Prelude.{◌≡◌, ℕ, ◌+◌, ◌*◌, ◌<◌, List, [], ◌∷◌, ◌++◌, Bool, Option, Some, None, slice_index}
 use Rattle.rfb_pixel.specs.Format.{PixelFormat}
 use Rattle.rfb_codec.specs.declared.subrect.Subrect.{Subrect}
-use Rattle.rfb_codec.specs.declared.encode.hextile.layout.TileLayout.{TileLayout}
+use Rattle.rfb_codec.specs.declared.tiles.layout.TileLayout.{TileLayout}
 use Rattle.rfb_codec.specs.declared.encode.hextile.carried.Carried.{Carried}
 use Rattle.rfb_codec.specs.Tile.{Tile, background_of, foreground_of, last_of, tile_pixel, FitsTile, SpellsTile}
 use Rattle.rfb_codec.specs.TileSpelling.{tile_of, tile_bytes}

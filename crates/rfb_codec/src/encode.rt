@@ -10,7 +10,6 @@ mod raw;
 mod rre;
 
 pub use hextile::Hextile;
-pub use hextile::layout::TileLayout;
 pub use raw::Raw;
 pub use rre::Rre;
 

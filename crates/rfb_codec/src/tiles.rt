@@ -4,6 +4,10 @@ ghost use Rattle.std.specs.Prelude.{◌≡◌, ◌<◌, ◌≤◌, ◌*◌, ◌/
 ghost use Rattle.rfb_wire.specs.RectHead.{IsOnScreen};
 ghost use Rattle.rfb_codec.specs.Hextile.{across, tile_count, tile_width, tile_height};
 
+mod layout;
+pub mod mask;
+
+pub use layout::TileLayout;
 use rfb_picture::Rect;
 
 /// How many columns and rows a tile has, but for those at the right and at the lower edge.

@@ -12,7 +12,6 @@ mod carried;
 mod colours;
 mod cutting;
 mod drawing;
-pub mod layout;
 mod pieces;
 mod spelling;
 

@@ -11,8 +11,8 @@ use super::filling::{fill_part, fill_tile};
 use super::reading::place_of;
 use super::tile_read::{Seen, TileRead, or_zero};
 use crate::decode::raw::paint_rows;
-use crate::encode::TileLayout;
 use crate::subrect::Subrect;
+use crate::tiles::TileLayout;
 use rfb_picture::{Picture, Rect};
 use rfb_pixel::{Colour, Format};
 

@@ -8,21 +8,13 @@ ghost use Rattle.rfb_codec.specs.Tile.{Tile, is_raw, subrects_colored, mask_faul
 ghost use Rattle.rfb_codec.specs.TileRead.{LiesIn, tile_of_read, Sees, TellsTile, IsCount, places_from};
 
 use super::tile_read::{Seen, TileRead};
-use crate::encode::TileLayout;
 use crate::fault::PaintFault;
+use crate::tiles::TileLayout;
+use crate::tiles::mask::{
+    ANY_SUBRECTS, BACKGROUND_SPECIFIED, FOREGROUND_SPECIFIED, RAW, SUBRECTS_COLORED,
+};
 use rfb_picture::Rect;
 use rfb_pixel::Format;
-
-// The bits of a mask.
-const RAW: u8 = 1;
-
-const BACKGROUND_SPECIFIED: u8 = 2;
-
-const FOREGROUND_SPECIFIED: u8 = 4;
-
-const ANY_SUBRECTS: u8 = 8;
-
-const SUBRECTS_COLORED: u8 = 16;
 
 /// The tile of that size that the bytes begin with, behind tiles that have specified the colours seen.
 /// None where it is not all there. A mask is judged at its byte, and subrectangles that leave the tile

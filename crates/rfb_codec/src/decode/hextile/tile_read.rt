@@ -4,7 +4,7 @@ ghost use Rattle.std.specs.Prelude.{◌≡◌};
 ghost use Rattle.rfb_codec.specs.Tile.{later, colour_or_zero};
 ghost use Rattle.rfb_codec.specs.TileRead.{background_named, foreground_named};
 
-use crate::encode::TileLayout;
+use crate::tiles::TileLayout;
 
 /// A tile in the bytes that begin with it: how it is laid out, where its pixels or its subrectangles
 /// begin, how many subrectangles there are, and how many bytes it has in all.

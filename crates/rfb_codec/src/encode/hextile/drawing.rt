@@ -7,11 +7,11 @@ ghost use Rattle.rfb_codec.specs.Carried.{Sends};
 
 use super::carried::{Carried, named};
 use super::colours::{Colours, colours_of};
-use super::layout::TileLayout;
 use super::spelling::spelled_length;
 use crate::encode::background::background_within;
 use crate::encode::cover::cover;
 use crate::subrect::Subrect;
+use crate::tiles::TileLayout;
 use arrayvec::ArrayVec;
 use rfb_pixel::Format;
 

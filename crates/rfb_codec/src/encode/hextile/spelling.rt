@@ -6,23 +6,15 @@ ghost use Rattle.rfb_pixel.specs.Format.{size_of};
 ghost use Rattle.rfb_codec.specs.TileSpelling.{AreTileParts, are_some, is_there, bit_if, mask_of, colour_bytes, tile_bytes};
 
 use super::drawing::TileSubrects;
-use super::layout::TileLayout;
 use super::pieces::{
     TileBytes, append_byte, append_colored, append_colour, append_count, append_pixels,
     append_places,
 };
+use crate::tiles::TileLayout;
+use crate::tiles::mask::{
+    ANY_SUBRECTS, BACKGROUND_SPECIFIED, FOREGROUND_SPECIFIED, RAW, SUBRECTS_COLORED,
+};
 use rfb_pixel::Format;
-
-// The bits of a mask.
-const RAW: u8 = 1;
-
-const BACKGROUND_SPECIFIED: u8 = 2;
-
-const FOREGROUND_SPECIFIED: u8 = 4;
-
-const ANY_SUBRECTS: u8 = 8;
-
-const SUBRECTS_COLORED: u8 = 16;
 
 /// How many bytes `append` appends.
 pub fn spelled_length(
