@@ -6,10 +6,12 @@ pub mod RawLaws
 pub mod RreLaws
 pub mod RectDataLaws
 pub mod UpdateStreamLaws
+pub mod TilePartLaws
 pub mod TileLaws
 pub mod HextileLaws
 pub mod CoverLemmas
 pub mod RreEncodeLemmas
+pub mod TileLengthLemmas
 pub mod TileSpellingLemmas
 pub mod CarriedLemmas
 pub mod HextileEncodeLemmas
@@ -19,4 +21,7 @@ pub mod PaintRawLemmas
 pub mod PaintRreLemmas
 pub mod PaintDataLemmas
 pub mod PaintTileLemmas
+pub mod TileReadLemmas
+pub mod EachLemmas
+pub mod TilesOverLemmas
 pub mod PaintHextileLemmas

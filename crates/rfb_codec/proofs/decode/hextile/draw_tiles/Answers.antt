@@ -4,7 +4,8 @@ use Rattle.rfb_picture.proofs.GridLemmas.{whole-changed}
 use Rattle.rfb_wire.specs.RectHead.{IsOnScreen}
 use Rattle.rfb_codec.specs.Hextile.{tile_count}
 use Rattle.rfb_codec.proofs.PaintRreLemmas.{moved_inside}
-use Rattle.rfb_codec.proofs.PaintHextileLemmas.{IsTileRect, drawn_none, drawn_more, never_waits, never_bad, tiles_over, tiles_all}
+use Rattle.rfb_codec.proofs.TilesOverLemmas.{IsTileRect, tiles_over, tiles_all}
+use Rattle.rfb_codec.proofs.PaintHextileLemmas.{drawn_none, drawn_more, never_waits, never_bad}
 use Rattle.rfb_codec.proofs.decode.hextile.draw_tiles.Goals as goal
 
 pub loop-n-init : goal.loop-n-init

@@ -8,7 +8,7 @@ use Rattle.rfb_codec.specs.Rre.{pixel_at}
 use Rattle.rfb_codec.specs.TileRead.{sub_behind, subs_in}
 use Rattle.rfb_codec.specs.Painter.{over}
 use Rattle.rfb_codec.proofs.PaintRreLemmas.{moved, moved_inside, over_filled}
-use Rattle.rfb_codec.proofs.PaintHextileLemmas.{subs_in-more}
+use Rattle.rfb_codec.proofs.TileReadLemmas.{subs_in-more}
 use Rattle.rfb_codec.proofs.decode.hextile.drawing.draw_subs.Goals as goal
 
 pub fill_part-requires : goal.fill_part-requires

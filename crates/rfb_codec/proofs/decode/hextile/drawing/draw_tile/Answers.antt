@@ -1,6 +1,7 @@
 use Rattle.std.proofs.Common.{◌≡◌, ◌-◌, arith, length, drop, length-drop}
 use Rattle.std.proofs.lemmas.List.{take_rest}
-use Rattle.rfb_codec.proofs.PaintHextileLemmas.{plain_inside, colored_inside, drawn_plain, drawn_colored}
+use Rattle.rfb_codec.proofs.TileReadLemmas.{plain_inside, colored_inside}
+use Rattle.rfb_codec.proofs.PaintHextileLemmas.{drawn_plain, drawn_colored}
 use Rattle.rfb_codec.proofs.decode.hextile.drawing.draw_tile.Goals as goal
 
 pub draw_subs-requires-clause-inside : goal.draw_subs-requires-clause-inside

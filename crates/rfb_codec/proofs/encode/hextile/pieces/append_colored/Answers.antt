@@ -1,5 +1,5 @@
 use Rattle.std.proofs.Common.{ap, arith, length}
-use Rattle.rfb_codec.proofs.TileSpellingLemmas.{part_at}
+use Rattle.rfb_codec.proofs.TileLengthLemmas.{part_at}
 use Rattle.rfb_codec.proofs.encode.hextile.pieces.append_colored.Goals as goal
 
 pub append_place-requires-clause-part : goal.append_place-requires-clause-part

@@ -1,5 +1,5 @@
 use Rattle.std.proofs.Common.{arith}
-use Rattle.rfb_codec.proofs.TileSpellingLemmas.{length-spelled_raw, length-room_plain, length-room_colored}
+use Rattle.rfb_codec.proofs.TileLengthLemmas.{length-spelled_raw, length-room_plain, length-room_colored}
 use Rattle.rfb_codec.proofs.encode.hextile.spelling.append.Goals as goal
 
 pub append_pixels-requires-clause-room : goal.append_pixels-requires-clause-room

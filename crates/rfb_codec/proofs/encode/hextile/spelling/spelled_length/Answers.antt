@@ -1,5 +1,5 @@
 use Rattle.std.proofs.Common.{sym}
-use Rattle.rfb_codec.proofs.TileSpellingLemmas.{length-spelled_raw, length-spelled_plain, length-spelled_colored}
+use Rattle.rfb_codec.proofs.TileLengthLemmas.{length-spelled_raw, length-spelled_plain, length-spelled_colored}
 use Rattle.rfb_codec.proofs.encode.hextile.spelling.spelled_length.Goals as goal
 
 pub returns-in-Raw-clause-value : goal.returns-in-Raw-clause-value

@@ -1,0 +1,166 @@
+-- Tiles painted one after another into a picture.
+use Rattle.std.proofs.Common.{◌≡◌, ◌≢◌, ℕ, zero, suc, ◌+◌, ◌-◌, ◌*◌, ◌/◌, ◌%◌, ◌<◌, ◌≤◌, ◌&&◌, nat_lt, List, [], ◌∷◌, ◌++◌, Bool, true, false, if◌then◌else◌, Option, Some, None, Result, Ok, Err, length, take, drop, map, slice_index_or, refl, sym, subst, ◌∙◌, ap, append-nil, append_assoc, arith, length-append}
+use Rattle.std.proofs.lemmas.List.{drop-drop, take_at}
+use Rattle.std.proofs.Math.Seq.{get_or-append_seam}
+use Rattle.std.proofs.lemmas.Nat.{div-add-mod', div-mul-add}
+use Rattle.std.proofs.lemmas.Bool.Decides.{nat_tests}
+use Rattle.rfb_pixel.specs.declared.colour.Colour.{Colour}
+use Rattle.rfb_pixel.specs.Format.{PixelFormat, colour_of, size_of}
+use Rattle.rfb_picture.specs.declared.rect.Rect.{Rect}
+use Rattle.rfb_picture.specs.Rect.{contains}
+use Rattle.rfb_picture.specs.Grid.{Grid, IsGrid, at_or, changed}
+use Rattle.rfb_picture.proofs.GridLemmas.{changed_twice, same_changes, contains_true, same_grid, at-changed, whole-changed, width-changed, height-changed}
+use Rattle.rfb_wire.specs.Reading.{Next, More, Got, Bad, Reading}
+use Rattle.rfb_wire.specs.Parts.{behind, and_then, done, each}
+use Rattle.rfb_wire.specs.RectHead.{IsOnScreen}
+use Rattle.rfb_codec.specs.declared.subrect.Subrect.{Subrect}
+use Rattle.rfb_codec.specs.declared.fault.PaintFault.{PaintFault}
+use Rattle.rfb_codec.specs.declared.tiles.layout.TileLayout.{TileLayout}
+use Rattle.rfb_codec.specs.declared.tiles.layout.TileLayout.TheVariants.{Raw, Plain, Colored}
+use Rattle.rfb_codec.specs.declared.decode.hextile.tile_read.TileRead.{TileRead}
+use Rattle.rfb_codec.specs.declared.decode.hextile.tile_read.Seen.{Seen}
+use Rattle.rfb_codec.specs.Pixels.{drawn}
+use Rattle.rfb_codec.specs.Raw.{raw_length, raw_pixel}
+use Rattle.rfb_codec.specs.Rre.{pixel_at}
+use Rattle.rfb_codec.specs.Tile.{Tile, RawTile, PlainTile, background_of, foreground_of, later, last_of, colour_or_zero, tile_behind, tile_pixel, AreInside, place_of, colored_of, rect_in, in_pixel}
+use Rattle.rfb_codec.specs.Hextile.{across, tile_count, tile_width, tile_height, tile_at, pixel_of_tiles, hextile}
+use Rattle.rfb_codec.specs.TileRead.{values_in, tile_in, tile_of_read, TellsTile, background_named, foreground_named, sub_behind, subs_in, AreSubsInside, Sees, next_tile, all_tiles}
+use Rattle.rfb_codec.specs.Painter.{over}
+use Rattle.rfb_codec.proofs.CarriedLemmas.{last_of-more}
+use Rattle.rfb_codec.proofs.HextileEncodeLemmas.{column_of, row_of_tiles, in_tile, tile_below}
+use Rattle.rfb_codec.proofs.PaintRreLemmas.{moved}
+
+-- ---- what is painted
+
+-- the picture with the first n tiles of a rectangle painted
+abbrev pub tiles_over : PixelFormat → Rect → ℕ → List Tile → Grid Colour → Grid Colour
+tiles_over f rect n tiles picture =
+    changed (λ x y old. if contains rect x y && nat_lt (tile_at rect.w (x - rect.x) (y - rect.y)) n then colour_of f (pixel_of_tiles f rect.w tiles (x - rect.x) (y - rect.y)) else old) picture
+
+unchanged : (f : Bool) (n : ℕ) (m : ℕ) (c old : Colour) → n ≡ 0 → (if f && nat_lt m n then c else old) ≡ old
+unchanged true n m c old none = rw none (let off : nat_lt m 0 ≡ false = grind (arith, nat_tests) in rw off refl)
+unchanged false n m c old none = refl
+
+-- none
+pub tiles_none : (f : PixelFormat) (rect : Rect) (tiles : List Tile) (g : Grid Colour) → IsGrid g → g ≡ tiles_over f rect 0 tiles g
+tiles_none f rect tiles g whole =
+    let drawing = λ (x y : ℕ) (old : Colour). if contains rect x y && nat_lt (tile_at rect.w (x - rect.x) (y - rect.y)) 0 then colour_of f (pixel_of_tiles f rect.w tiles (x - rect.x) (y - rect.y)) else old in
+    same_grid g (tiles_over f rect 0 tiles g) whole (whole-changed drawing g whole) (sym (width-changed drawing g)) (sym (height-changed drawing g))
+    (λ x y d p q. sym (at-changed drawing g x y d whole p q ∙ unchanged (contains rect x y) 0 (tile_at rect.w (x - rect.x) (y - rect.y)) _ (at_or g x y d) refl))
+
+-- all
+pub tiles_all : (f : PixelFormat) (rect : Rect) (tiles : List Tile) (g : Grid Colour) → IsGrid g → tiles_over f rect (tile_count rect.w rect.h) tiles g ≡ over rect (λ x y. colour_of f (pixel_of_tiles f rect.w tiles x y)) g
+tiles_all f rect tiles g whole =
+    same_changes _ _ g whole
+    (λ x y d p q. by (contains rect x y) _ (at_or g x y d)
+    (λ e.
+    let h = contains_true rect x y e in
+    let below = tile_below rect.w rect.h (x - rect.x) (y - rect.y) (omega arith) (omega arith) in
+    grind (arith, nat_tests)))
+  where
+    by : (b : Bool) (c old : Colour) {t : Bool} → (b ≡ true → t ≡ true) → (if b && t then c else old) ≡ (if b then c else old)
+    by true c old on = rw (on refl) refl
+    by false c old on = refl
+
+-- the rectangle of a tile
+pub record IsTileRect (rect tile : Rect) (n : ℕ) : Type 0 where
+  pub column : tile.x ≡ n % across rect.w * 16
+  pub row : tile.y ≡ n / across rect.w * 16
+  pub width : tile.w ≡ tile_width rect.w n
+  pub height : tile.h ≡ tile_height rect.w rect.h n
+
+-- it holds the places whose tile it is
+tile_holds : (rect tile : Rect) (n x y : ℕ) → IsTileRect rect tile n → contains rect x y ≡ true → contains (moved rect tile) x y ≡ true → tile_at rect.w (x - rect.x) (y - rect.y) ≡ n
+tile_holds rect tile n x y is inside here =
+    let outer = contains_true rect x y inside in
+    let inner = contains_true (moved rect tile) x y here in
+    let i = x - rect.x in
+    let j = y - rect.y in
+    let a = n % across rect.w in
+    let b = n / across rect.w in
+    let left : i ≡ a * 16 + (i - a * 16) = omega (arith, is.column) in
+    let top : j ≡ b * 16 + (j - b * 16) = omega (arith, is.row) in
+    let narrow : i - a * 16 < 16 = omega (arith, is.column, is.width) in
+    let short : j - b * 16 < 16 = omega (arith, is.row, is.height) in
+    let column : i / 16 ≡ a = ap (λ (k : ℕ). k / 16) left ∙ div-mul-add a 16 (i - a * 16) narrow in
+    let row : j / 16 ≡ b = ap (λ (k : ℕ). k / 16) top ∙ div-mul-add b 16 (j - b * 16) short in
+    rw (column, row) (div-add-mod' n (across rect.w))
+
+holds_tile : (rect tile : Rect) (n x y : ℕ) → IsTileRect rect tile n → contains rect x y ≡ true → tile_at rect.w (x - rect.x) (y - rect.y) ≡ n → contains (moved rect tile) x y ≡ true
+holds_tile rect tile n x y is inside at =
+    let outer = contains_true rect x y inside in
+    let i = x - rect.x in
+    let j = y - rect.y in
+    let p : i < rect.w = omega arith in
+    let q : j < rect.h = omega arith in
+    let column : n % across rect.w ≡ i / 16 = ap (λ (k : ℕ). k % across rect.w) (sym at) ∙ column_of rect.w i j p in
+    let row : n / across rect.w ≡ j / 16 = ap (λ (k : ℕ). k / across rect.w) (sym at) ∙ row_of_tiles rect.w i j p in
+    let across_it = in_tile (n % across rect.w) rect.w i column p in
+    let down_it = in_tile (n / across rect.w) rect.h j row q in
+    let left = is.column in
+    let top = is.row in
+    let wide = is.width in
+    let high = is.height in
+    let a : rect.x + tile.x ≤ x = omega (arith, across_it.0, left) in
+    let b : x < rect.x + tile.x + tile.w = omega (arith, across_it.0, across_it.1, left, wide) in
+    let c : rect.y + tile.y ≤ y = omega (arith, down_it.0, top) in
+    let e : y < rect.y + tile.y + tile.h = omega (arith, down_it.0, down_it.1, top, high) in
+    grind (arith, nat_tests)
+
+-- the pixel of a place in the n-th tile
+pixel_of_tile : (f : PixelFormat) (w : ℕ) (before after : List Tile) (t : Tile) (n i j : ℕ) → length before ≡ n → tile_at w i j ≡ n → pixel_of_tiles f w (before ++ t ∷ after) i j ≡ tile_pixel f (tile_width w n) (before ++ t ∷ []) t (i % 16) (j % 16)
+pixel_of_tile f w before after t n i j size at =
+    let tiles = before ++ t ∷ after in
+    let split : tiles ≡ (before ++ t ∷ []) ++ after = sym (append_assoc before (t ∷ []) after) in
+    let long : length (before ++ t ∷ []) ≡ n + 1 = length-append before (t ∷ []) ∙ ap (λ (k : ℕ). k + 1) size in
+    let upto : take (n + 1) tiles ≡ before ++ t ∷ [] = ap (take (n + 1)) split ∙ take_at (before ++ t ∷ []) after (n + 1) long in
+    let here : slice_index_or tiles n (RawTile []) ≡ t = ap (λ (k : ℕ). slice_index_or tiles k (RawTile [])) (sym size) ∙ get_or-append_seam before t after (RawTile []) in
+    ap (λ (k : ℕ). tile_pixel f (tile_width w k) (take (k + 1) tiles) (slice_index_or tiles k (RawTile [])) (i % 16) (j % 16)) at
+    ∙ ap (λ (all : List Tile). tile_pixel f (tile_width w n) all (slice_index_or tiles n (RawTile [])) (i % 16) (j % 16)) upto
+    ∙ ap (λ (k : Tile). tile_pixel f (tile_width w n) (before ++ t ∷ []) k (i % 16) (j % 16)) here
+
+place_more : {A : Type 0} (here inside : Bool) (m n : ℕ) (c p old : A) → (here ≡ true → (inside ≡ true) × (m ≡ n) × (c ≡ p)) → (here ≡ false → inside ≡ true → m ≢ n) → (if here then c else (if inside && nat_lt m n then p else old)) ≡ (if inside && nat_lt m (n + 1) then p else old)
+place_more true inside m n c p old yes_it no_it =
+    let h = yes_it refl in
+    let last : nat_lt m (n + 1) ≡ true = let e = h.1 in grind (arith, nat_tests) in
+    rw (h.0, last) (h.2)
+place_more false true m n c p old yes_it no_it =
+    let other = no_it refl refl in
+    let same : nat_lt m (n + 1) ≡ nat_lt m n = grind (arith, nat_tests) in
+    rw same refl
+place_more false false m n c p old yes_it no_it = refl
+
+-- one tile more
+pub tile_over : (f : PixelFormat) (rect tile : Rect) (n : ℕ) (before after : List Tile) (t : Tile) (g : Grid Colour) → IsGrid g → IsTileRect rect tile n → IsOnScreen rect.w rect.h tile → length before ≡ n → over (moved rect tile) (λ x y. colour_of f (tile_pixel f tile.w (before ++ t ∷ []) t x y)) (tiles_over f rect n (before ++ t ∷ after) g) ≡ tiles_over f rect (n + 1) (before ++ t ∷ after) g
+tile_over f rect tile n before after t g whole is on size =
+    changed_twice _ _ g
+    ∙ same_changes _ _ g whole
+    (λ x y d p q.
+    let i = x - rect.x in
+    let j = y - rect.y in
+    let c = colour_of f (tile_pixel f tile.w (before ++ t ∷ []) t (x - (rect.x + tile.x)) (y - (rect.y + tile.y))) in
+    place_more (contains (moved rect tile) x y) (contains rect x y) (tile_at rect.w i j) n c (colour_of f (pixel_of_tiles f rect.w (before ++ t ∷ after) i j)) (at_or g x y d)
+    (λ e.
+    let inner = contains_true (moved rect tile) x y e in
+    let inside : contains rect x y ≡ true = within on inner in
+    let at = tile_holds rect tile n x y is inside e in
+    let outer = contains_true rect x y inside in
+    let column : n % across rect.w ≡ i / 16 = ap (λ (k : ℕ). k % across rect.w) (sym at) ∙ column_of rect.w i j (omega arith) in
+    let row : n / across rect.w ≡ j / 16 = ap (λ (k : ℕ). k / across rect.w) (sym at) ∙ row_of_tiles rect.w i j (omega arith) in
+    let across_it = in_tile (n % across rect.w) rect.w i column (omega arith) in
+    let down_it = in_tile (n / across rect.w) rect.h j row (omega arith) in
+    let x_is : x - (rect.x + tile.x) ≡ i % 16 = omega (arith, across_it.0, is.column) in
+    let y_is : y - (rect.y + tile.y) ≡ j % 16 = omega (arith, down_it.0, is.row) in
+    let pixel : tile_pixel f tile.w (before ++ t ∷ []) t (x - (rect.x + tile.x)) (y - (rect.y + tile.y)) ≡ pixel_of_tiles f rect.w (before ++ t ∷ after) i j = rw (x_is, y_is, is.width) (sym (pixel_of_tile f rect.w before after t n i j size at)) in
+    (inside, at, ap (colour_of f) pixel))
+    (λ e inside at. let here = holds_tile rect tile n x y is inside at in cc))
+  where
+    within : {x y : ℕ} → IsOnScreen rect.w rect.h tile → ((moved rect tile).x ≤ x) × (x < (moved rect tile).x + (moved rect tile).w) × ((moved rect tile).y ≤ y) × (y < (moved rect tile).y + (moved rect tile).h) → contains rect x y ≡ true
+    within on inner =
+        let a = on.0 in
+        let b = on.1 in
+        let c = inner.0 in
+        let e = inner.1 in
+        let g' = inner.2 in
+        let h = inner.3 in
+        grind (arith, nat_tests)
