@@ -28,7 +28,7 @@ fn a_mask_is_refused_at_its_byte(rt: HostRuntime) -> Result<(), Fail> {
         (17, &[0x02, 0x10, 0x1C], PaintFault::BothColourBits),
         (17, &[0x02, 0x10, 0x14], PaintFault::BothColourBits),
         (17, &[0x02, 0x10, 0x08], PaintFault::NoForeground),
-        // A foreground with nothing behind it, and a count of 0.
+        // Whatever the count behind it says.
         (2, &[0x0A, 0x10, 0], PaintFault::NoForeground),
     ] {
         assert_eq!(rt; answered(&rt, rt.alloc(), width, data)?, Err(fault));
