@@ -1,19 +1,13 @@
 -- Tiles of Hextile, read one behind another and painted one after another.
-use Rattle.std.proofs.Common.{◌≡◌, ◌≢◌, ℕ, zero, suc, ◌+◌, ◌-◌, ◌*◌, ◌/◌, ◌%◌, ◌<◌, ◌≤◌, ◌&&◌, nat_lt, List, [], ◌∷◌, ◌++◌, Bool, true, false, if◌then◌else◌, Option, Some, None, Result, Ok, Err, length, take, drop, map, slice_index_or, refl, sym, subst, ◌∙◌, ap, append-nil, append_assoc, arith, length-append}
-use Rattle.std.proofs.lemmas.List.{drop-drop, take_at}
-use Rattle.std.proofs.Math.Seq.{get_or-append_seam}
-use Rattle.std.proofs.lemmas.Nat.{div-add-mod', div-mul-add}
-use Rattle.std.proofs.lemmas.Bool.Decides.{nat_tests}
+use Rattle.std.proofs.Common.{◌≡◌, ℕ, zero, suc, ◌+◌, ◌-◌, ◌<◌, List, [], ◌∷◌, ◌++◌, true, false, Option, Some, None, Result, Ok, Err, length, take, drop, map, refl, sym, subst, ◌∙◌, ap, append_assoc, arith, length-append}
+use Rattle.std.proofs.lemmas.List.{drop-drop}
 use Rattle.rfb_pixel.specs.declared.colour.Colour.{Colour}
 use Rattle.rfb_pixel.specs.Format.{PixelFormat, colour_of, size_of}
 use Rattle.rfb_picture.specs.declared.rect.Rect.{Rect}
-use Rattle.rfb_picture.specs.Rect.{contains}
-use Rattle.rfb_picture.specs.Grid.{Grid, IsGrid, at_or, changed}
-use Rattle.rfb_picture.proofs.GridLemmas.{changed_twice, same_changes, contains_true, same_grid, at-changed, whole-changed, width-changed, height-changed}
+use Rattle.rfb_picture.specs.Grid.{Grid, IsGrid}
 use Rattle.rfb_wire.specs.Reading.{Next, More, Got, Bad, Reading}
 use Rattle.rfb_wire.specs.Parts.{behind, and_then, done, each}
 use Rattle.rfb_wire.specs.RectHead.{IsOnScreen}
-use Rattle.rfb_codec.specs.declared.subrect.Subrect.{Subrect}
 use Rattle.rfb_codec.specs.declared.fault.PaintFault.{PaintFault}
 use Rattle.rfb_codec.specs.declared.tiles.layout.TileLayout.{TileLayout}
 use Rattle.rfb_codec.specs.declared.tiles.layout.TileLayout.TheVariants.{Raw, Plain, Colored}
@@ -22,16 +16,14 @@ use Rattle.rfb_codec.specs.declared.decode.hextile.tile_read.Seen.{Seen}
 use Rattle.rfb_codec.specs.Pixels.{drawn}
 use Rattle.rfb_codec.specs.Raw.{raw_length, raw_pixel}
 use Rattle.rfb_codec.specs.Rre.{pixel_at}
-use Rattle.rfb_codec.specs.Tile.{Tile, RawTile, PlainTile, background_of, foreground_of, later, last_of, colour_or_zero, tile_behind, tile_pixel, AreInside, place_of, colored_of, rect_in, in_pixel}
-use Rattle.rfb_codec.specs.Hextile.{across, tile_count, tile_width, tile_height, tile_at, pixel_of_tiles, hextile}
-use Rattle.rfb_codec.specs.TileRead.{values_in, tile_in, tile_of_read, TellsTile, background_named, foreground_named, sub_behind, subs_in, AreSubsInside, Sees, next_tile, all_tiles}
+use Rattle.rfb_codec.specs.Tile.{Tile, PlainTile, background_of, later, last_of, colour_or_zero, tile_behind, tile_pixel, place_of, colored_of, in_pixel}
+use Rattle.rfb_codec.specs.Hextile.{tile_count, tile_width, tile_height, pixel_of_tiles, hextile}
+use Rattle.rfb_codec.specs.TileRead.{values_in, tile_in, tile_of_read, TellsTile, background_named, foreground_named, subs_in, Sees, next_tile, all_tiles}
 use Rattle.rfb_codec.specs.Painter.{over}
-use Rattle.rfb_codec.proofs.CarriedLemmas.{last_of-more}
-use Rattle.rfb_codec.proofs.HextileEncodeLemmas.{column_of, row_of_tiles, in_tile, tile_below}
 use Rattle.rfb_codec.proofs.PaintRreLemmas.{moved}
 use Rattle.rfb_codec.proofs.TileReadLemmas.{sees_more, sees_nothing}
 use Rattle.rfb_codec.proofs.EachLemmas.{each_bad, each_more, each_none, each_step, prepended, prepended_none}
-use Rattle.rfb_codec.proofs.TilesOverLemmas.{IsTileRect, tile_over, tiles_all, tiles_none, tiles_over}
+use Rattle.rfb_codec.proofs.TilesOverLemmas.{IsTileRect, tile_over, tiles_none, tiles_over}
 
 -- ---- all of it
 

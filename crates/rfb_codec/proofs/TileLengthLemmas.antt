@@ -1,17 +1,10 @@
 -- How many bytes an encoder makes of a tile.
-use Rattle.std.proofs.Common.{◌≡◌, ℕ, zero, suc, get_or, bit_or, ◌+◌, ◌*◌, ◌<◌, ◌≤◌, List, [], ◌∷◌, ◌++◌, Bool, true, false, Option, Some, None, length, map, ◌&&◌, not, if◌then◌else◌, refl, sym, subst, ◌∙◌, ap, append-nil, arith, length-append}
+use Rattle.std.proofs.Common.{◌≡◌, ℕ, zero, suc, get_or, ◌+◌, ◌*◌, ◌<◌, List, [], ◌∷◌, ◌++◌, Option, length, if◌then◌else◌, refl, arith, length-append}
 use Rattle.std.specs.List.{flat_map}
-use Rattle.std.proofs.Math.Nat.{mod-eq_of_lt}
-use Rattle.std.proofs.lemmas.List.{drop_at}
-use Rattle.rfb_pixel.specs.Format.{PixelFormat, size_of, pixel_bytes, pixel_number}
-use Rattle.rfb_pixel.proofs.FormatLemmas.{pixel_number-pixel_bytes}
-use Rattle.rfb_wire.specs.Reading.{Listed, Optionally}
+use Rattle.rfb_pixel.specs.Format.{PixelFormat, size_of, pixel_bytes}
 use Rattle.rfb_codec.specs.declared.subrect.Subrect.{Subrect}
-use Rattle.rfb_codec.specs.declared.tiles.layout.TileLayout.{TileLayout}
 use Rattle.rfb_codec.specs.declared.tiles.layout.TileLayout.TheVariants.{Raw, Plain, Colored}
-use Rattle.rfb_codec.specs.Pixels.{IsPixel}
-use Rattle.rfb_codec.specs.Tile.{is_raw, background_specified, foreground_specified, any_subrects, subrects_colored, Tile, background_of, foreground_of, later, last_of, is_missing, mask_fault, AreInside, FitsTile, rect_in, SpellsPixel, SpellsPlace, SpellsColored, CountedIf, SpellsTile}
-use Rattle.rfb_codec.specs.TileSpelling.{tile_of, bit_if, is_there, are_some, mask_of, colour_bytes, count_bytes, place_bytes, colored_bytes, counted_bytes, behind_bytes, tile_bytes, IsTilePart, AreTileParts}
+use Rattle.rfb_codec.specs.TileSpelling.{are_some, colour_bytes, count_bytes, place_bytes, colored_bytes, counted_bytes, tile_bytes, IsTilePart, AreTileParts}
 use Rattle.rfb_codec.proofs.PixelLemmas.{length-pixel_bytes, length-pixels}
 
 -- ---- lengths

@@ -1,20 +1,16 @@
 -- The readings of what a tile is made of: pixels, places, and counted parts.
-use Rattle.std.proofs.Common.{◌≡◌, ℕ, ◌+◌, ◌-◌, ◌/◌, ◌%◌, ◌<◌, ◌⊎◌, inl, inr, List, [], ◌∷◌, ◌++◌, Bool, true, false, Option, Some, None, length, drop, if◌then◌else◌, ◌&&◌, refl, sym, subst, ◌∙◌, ap, append-nil, arith, length-drop}
+use Rattle.std.proofs.Common.{◌≡◌, ℕ, ◌+◌, ◌-◌, ◌/◌, ◌%◌, ◌<◌, inl, inr, List, [], Bool, true, false, length, drop, refl, sym, subst, ◌∙◌, arith, length-drop}
 use Rattle.std.proofs.lemmas.Nat.{div-mul-add, mod-mul-add, div-add-mod', mod_below}
 use Rattle.rfb_pixel.specs.Format.{PixelFormat, size_of, pixel_number}
 use Rattle.rfb_picture.specs.declared.rect.Rect.{Rect}
 use Rattle.rfb_wire.specs.Fields.{u8_at}
 use Rattle.rfb_wire.specs.Reading.{Reading, Says, Reads, Same}
-use Rattle.rfb_wire.specs.Parts.{piece, done, judged, and_then, valued, checked, optional, many}
-use Rattle.rfb_wire.specs.RectStream.{is_on_screen}
-use Rattle.rfb_wire.proofs.PartLaws.{alone, piece_says, piece_reads, done_says, done_reads, judged_says, judged_reads, then_says, then_reads, same_reads}
-use Rattle.rfb_wire.proofs.RepeatLaws.{FaultIf, valued_says, valued_reads, checked_says, checked_reads, optional_says, optional_reads, many_says, many_reads}
-use Rattle.rfb_wire.proofs.RectStreamLaws.{on_true, on_test}
+use Rattle.rfb_wire.specs.Parts.{valued, many}
+use Rattle.rfb_wire.proofs.PartLaws.{done_says, done_reads, then_says, then_reads, same_reads}
+use Rattle.rfb_wire.proofs.RepeatLaws.{valued_says, valued_reads, many_says, many_reads}
 use Rattle.rfb_codec.specs.declared.subrect.Subrect.{Subrect}
 use Rattle.rfb_codec.specs.declared.fault.PaintFault.{PaintFault}
-use Rattle.rfb_codec.specs.declared.fault.PaintFault.TheVariants.{SubrectOutside}
-use Rattle.rfb_codec.specs.Raw.{raw_length}
-use Rattle.rfb_codec.specs.Tile.{is_raw, background_specified, foreground_specified, any_subrects, subrects_colored, Tile, RawTile, PlainTile, ColoredTile, mask_fault, AreInside, places_of, FitsTile, SpellsPixel, SpellsPlace, SpellsColored, CountedIf, SpellsBehind, SpellsTile, FaultsMask, LeavesTile, tile_colour, place_of, colored_of, counted, behind_mask, tile_layout, are_inside, tile_fault, tile_behind}
+use Rattle.rfb_codec.specs.Tile.{SpellsPixel, SpellsPlace, SpellsColored, CountedIf, tile_colour, place_of, colored_of, counted}
 
 -- nothing is refused
 abbrev pub never : PaintFault → List ℕ → Type 0

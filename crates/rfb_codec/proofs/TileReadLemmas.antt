@@ -1,34 +1,16 @@
 -- What a tile's bytes give: its subrectangles, and the colours seen behind it.
-use Rattle.std.proofs.Common.{◌≡◌, ◌≢◌, ℕ, zero, suc, ◌+◌, ◌-◌, ◌*◌, ◌/◌, ◌%◌, ◌<◌, ◌≤◌, ◌&&◌, nat_lt, List, [], ◌∷◌, ◌++◌, Bool, true, false, if◌then◌else◌, Option, Some, None, Result, Ok, Err, length, take, drop, map, slice_index_or, refl, sym, subst, ◌∙◌, ap, append-nil, append_assoc, arith, length-append}
-use Rattle.std.proofs.lemmas.List.{drop-drop, take_at}
-use Rattle.std.proofs.Math.Seq.{get_or-append_seam}
-use Rattle.std.proofs.lemmas.Nat.{div-add-mod', div-mul-add}
-use Rattle.std.proofs.lemmas.Bool.Decides.{nat_tests}
-use Rattle.rfb_pixel.specs.declared.colour.Colour.{Colour}
-use Rattle.rfb_pixel.specs.Format.{PixelFormat, colour_of, size_of}
+use Rattle.std.proofs.Common.{◌≡◌, ℕ, zero, suc, ◌+◌, ◌*◌, ◌<◌, ◌≤◌, List, [], ◌∷◌, ◌++◌, Bool, true, false, Option, None, length, take, drop, map, refl, sym, subst, ◌∙◌, ap, arith}
+use Rattle.std.proofs.lemmas.List.{drop-drop}
+use Rattle.rfb_pixel.specs.Format.{PixelFormat, size_of}
 use Rattle.rfb_picture.specs.declared.rect.Rect.{Rect}
-use Rattle.rfb_picture.specs.Rect.{contains}
-use Rattle.rfb_picture.specs.Grid.{Grid, IsGrid, at_or, changed}
-use Rattle.rfb_picture.proofs.GridLemmas.{changed_twice, same_changes, contains_true, same_grid, at-changed, whole-changed, width-changed, height-changed}
-use Rattle.rfb_wire.specs.Reading.{Next, More, Got, Bad, Reading}
-use Rattle.rfb_wire.specs.Parts.{behind, and_then, done, each}
 use Rattle.rfb_wire.specs.RectHead.{IsOnScreen}
 use Rattle.rfb_codec.specs.declared.subrect.Subrect.{Subrect}
-use Rattle.rfb_codec.specs.declared.fault.PaintFault.{PaintFault}
 use Rattle.rfb_codec.specs.declared.tiles.layout.TileLayout.{TileLayout}
 use Rattle.rfb_codec.specs.declared.tiles.layout.TileLayout.TheVariants.{Raw, Plain, Colored}
-use Rattle.rfb_codec.specs.declared.decode.hextile.tile_read.TileRead.{TileRead}
 use Rattle.rfb_codec.specs.declared.decode.hextile.tile_read.Seen.{Seen}
-use Rattle.rfb_codec.specs.Pixels.{drawn}
-use Rattle.rfb_codec.specs.Raw.{raw_length, raw_pixel}
-use Rattle.rfb_codec.specs.Rre.{pixel_at}
-use Rattle.rfb_codec.specs.Tile.{Tile, RawTile, PlainTile, background_of, foreground_of, later, last_of, colour_or_zero, tile_behind, tile_pixel, AreInside, place_of, colored_of, rect_in, in_pixel}
-use Rattle.rfb_codec.specs.Hextile.{across, tile_count, tile_width, tile_height, tile_at, pixel_of_tiles, hextile}
-use Rattle.rfb_codec.specs.TileRead.{values_in, tile_in, tile_of_read, TellsTile, background_named, foreground_named, sub_behind, subs_in, AreSubsInside, Sees, next_tile, all_tiles}
-use Rattle.rfb_codec.specs.Painter.{over}
+use Rattle.rfb_codec.specs.Tile.{Tile, background_of, foreground_of, later, last_of, AreInside, place_of, colored_of, rect_in, in_pixel}
+use Rattle.rfb_codec.specs.TileRead.{values_in, tile_in, background_named, foreground_named, sub_behind, subs_in, AreSubsInside, Sees}
 use Rattle.rfb_codec.proofs.CarriedLemmas.{last_of-more}
-use Rattle.rfb_codec.proofs.HextileEncodeLemmas.{column_of, row_of_tiles, in_tile, tile_below}
-use Rattle.rfb_codec.proofs.PaintRreLemmas.{moved}
 
 -- ---- subrectangles
 
