@@ -12,9 +12,11 @@ sed -i '/^rfb_pixel:\|^rfb_picture:\|^rfb_wire:\|^rfb_codec:/!d' "$copy/crates.t
 cat bench/kernels/rfb_picture.txt >> "$copy/crates/rfb_picture/src/tests.rt"
 cat bench/kernels/rfb_pixel.txt >> "$copy/crates/rfb_pixel/src/format/tests.rt"
 cat bench/kernels/rfb_codec.txt >> "$copy/crates/rfb_codec/src/codec/tests.rt"
+# The test's own look at the pixels, which else is left out where nothing is encoded after it, is kept in both sides of a difference.
+sed -i 's/^fn fits(/#[inline(never)]\n&/' "$copy/crates/rfb_codec/src/codec/tests.rt"
 cat bench/kernels/rfb_codec_decode.txt >> "$copy/crates/rfb_codec/src/painter/tests.rt"
 for crate in rfb_pixel rfb_picture rfb_codec; do
-  (cd "$copy/crates/$crate" && rt test > "$copy/$crate.log" 2>&1) || { tail -20 "$copy/$crate.log"; exit 1; }
+  (cd "$copy/crates/$crate" && rt test > "$copy/$crate.log" 2>&1) || { grep -A3 'error\|FAILED' "$copy/$crate.log"; exit 1; }
 done
 
 # How many instructions a test needs in all.
