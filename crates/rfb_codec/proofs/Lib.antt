@@ -21,6 +21,7 @@ pub mod PaintRawLemmas
 pub mod PaintRreLemmas
 pub mod PaintDataLemmas
 pub mod PaintTileLemmas
+pub mod TileGotLemmas
 pub mod TileReadLemmas
 pub mod EachLemmas
 pub mod TilesOverLemmas

@@ -72,14 +72,17 @@ drawn_raw f rect before layout list count n bytes new old layout_is n_is drawn =
 
 -- ---- tiles under way
 
+-- the rectangle's next tile
+same_next : (f : PixelFormat) (w h n tw th at : ℕ) (before : List Tile) (bytes slice : List ℕ) → length before ≡ n → tw ≡ tile_width w n → th ≡ tile_height w h n → slice ≡ drop at bytes → tile_behind f tw th before slice ≡ next_tile f w h before (drop at bytes)
+same_next f w h n tw th at before bytes slice size wide high slice_is =
+    ap (λ (k : ℕ). tile_behind f k th before slice) (wide ∙ ap (tile_width w) (sym size))
+    ∙ ap (λ (k : ℕ). tile_behind f (tile_width w (length before)) k before slice) (high ∙ ap (tile_height w h) (sym size))
+    ∙ ap (λ (ys : List ℕ). tile_behind f (tile_width w (length before)) (tile_height w h (length before)) before ys) slice_is
+
 -- what is told of a tile, as that of the rectangle's next one
 pub told_next : (f : PixelFormat) (w h n tw th at : ℕ) (before : List Tile) (bytes slice : List ℕ) (result : Result (Option TileRead) PaintFault) → length before ≡ n → tw ≡ tile_width w n → th ≡ tile_height w h n → slice ≡ drop at bytes → TellsTile f tw th slice result (tile_behind f tw th before slice) → TellsTile f tw th slice result (next_tile f w h before (drop at bytes))
 told_next f w h n tw th at before bytes slice result size wide high slice_is told =
-    let same : tile_behind f tw th before slice ≡ next_tile f w h before (drop at bytes) =
-    ap (λ (k : ℕ). tile_behind f k th before slice) (wide ∙ ap (tile_width w) (sym size))
-    ∙ ap (λ (k : ℕ). tile_behind f (tile_width w (length before)) k before slice) (high ∙ ap (tile_height w h) (sym size))
-    ∙ ap (λ (ys : List ℕ). tile_behind f (tile_width w (length before)) (tile_height w h (length before)) before ys) slice_is in
-    subst (λ (k : Next Tile PaintFault). TellsTile f tw th slice result k) same told
+    subst (λ (k : Next Tile PaintFault). TellsTile f tw th slice result k) (same_next f w h n tw th at before bytes slice size wide high slice_is) told
 
 -- where the tiles stand that were read
 pub record ReadUpTo (f : PixelFormat) (w h n at : ℕ) (seen : Seen) (bytes : List ℕ) : Type 0 where
@@ -203,9 +206,9 @@ never_waits f rect tile n at seen bytes slice tiles rest now picture below wide 
     let both : ◌≡◌ {A = Next Tile PaintFault} (Got step.0 step.2) More = ◌∙◌ {a = Got step.0 step.2} (sym step.4) here in
     cc
 
-pub never_bad : (f : PixelFormat) (rect tile : Rect) (n at : ℕ) (seen : Seen) (bytes slice : List ℕ) (tiles : List Tile) (rest : List ℕ) (now picture : Grid Colour) (fault : PaintFault) → n < tile_count rect.w rect.h → tile.w ≡ tile_width rect.w n → tile.h ≡ tile_height rect.w rect.h n → slice ≡ drop at bytes → (old : DrawnUpTo f rect tiles rest n at seen bytes now picture) → tile_behind f tile.w tile.h old.before slice ≡ Bad fault → ⊥
-never_bad f rect tile n at seen bytes slice tiles rest now picture fault below wide high slice_is old told =
-    let here = told_next f rect.w rect.h n tile.w tile.h at old.before bytes slice (Err fault) old.number wide high slice_is told in
+-- and what is told of it where it is there is told of it
+pub told_again : (f : PixelFormat) (rect tile : Rect) (n at : ℕ) (seen : Seen) (bytes slice : List ℕ) (tiles : List Tile) (rest : List ℕ) (now picture : Grid Colour) (result : Option TileRead) → n < tile_count rect.w rect.h → tile.w ≡ tile_width rect.w n → tile.h ≡ tile_height rect.w rect.h n → slice ≡ drop at bytes → (old : DrawnUpTo f rect tiles rest n at seen bytes now picture) → ((before : List Tile) (t : Tile) (mid : List ℕ) → tile_behind f tile.w tile.h before slice ≡ Got t mid → TellsTile f tile.w tile.h slice (Ok result) (Got t mid)) → TellsTile f tile.w tile.h slice (Ok result) (tile_behind f tile.w tile.h old.before slice)
+told_again f rect tile n at seen bytes slice tiles rest now picture result below wide high slice_is old tells =
     let step = each_got (tile_count rect.w rect.h - n) (next_tile f rect.w rect.h) old.before (drop at bytes) old.after rest (omega arith) old.left in
-    let both : Got step.0 step.2 ≡ Bad fault = ◌∙◌ {a = Got step.0 step.2} (sym step.4) here in
-    cc
+    let there : tile_behind f tile.w tile.h old.before slice ≡ Got step.0 step.2 = same_next f rect.w rect.h n tile.w tile.h at old.before bytes slice old.number wide high slice_is ∙ step.4 in
+    subst (λ (k : Next Tile PaintFault). TellsTile f tile.w tile.h slice (Ok result) k) (sym there) (tells old.before step.0 step.2 there)

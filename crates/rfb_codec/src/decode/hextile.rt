@@ -19,7 +19,7 @@ mod tile_read;
 use crate::fault::PaintFault;
 use crate::tiles::{tile_count, tile_rect};
 use drawing::draw_tile;
-use reading::read_tile;
+use reading::{find_tile, read_tile};
 use rfb_picture::{Picture, Rect};
 use rfb_pixel::{Colour, Format};
 use tile_read::{Seen, seen_behind};
@@ -99,14 +99,13 @@ fn draw_tiles(format: Format, rect: Rect, bytes: &[u8], picture: &mut Picture<Co
             y: rect.y + tile.y,
             ..tile
         };
-        match read_tile(format, seen, tile.w, tile.h, &bytes[at..]) {
-            Ok(Some(read)) => {
+        match find_tile(format, tile.w, tile.h, &bytes[at..]) {
+            Some(read) => {
                 seen = seen_behind(seen, read.layout);
                 draw_tile(format, places, seen, read, &bytes[at..], picture);
                 at += read.used;
             }
-            Ok(None) => unreachable!(),
-            Err(_fault) => unreachable!(),
+            None => unreachable!(),
         }
     }
 }

@@ -49,6 +49,18 @@ pub fn read_tile(
     }
 }
 
+/// The tile of that size that the bytes begin with, judged by nothing, for one that `read_tile` has told
+/// before: then it is told again.
+pub fn find_tile(format: Format, width: u16, height: u16, bytes: &[u8]) -> Option<TileRead>
+    requires { (width ≤ 16) × (height ≤ 16) }
+    ensures { (before : List Tile) (tile : Tile) (rest : List ℕ) → tile_behind format width height before bytes.now ≡ Got tile rest → TellsTile format width height bytes.now (Ok result) (Got tile rest) }
+{
+    if bytes.is_empty() {
+        return None;
+    }
+    find(format, width, height, bytes[0], bytes)
+}
+
 // The fault of a mask, if it has one, behind tiles that have specified the colours seen.
 fn fault_of_mask(mask: u8, seen: Seen) -> Option<PaintFault>
     ensures { (before : List Tile) → Sees before seen → result ≡ mask_fault before mask }

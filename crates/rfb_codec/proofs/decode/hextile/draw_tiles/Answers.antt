@@ -1,11 +1,11 @@
-use Rattle.std.proofs.Common.{◌≡◌, ◌∙◌, ◌<◌, ◌≤◌, ◌+◌, ◌-◌, ℕ, ap, arith, refl, length, take, drop, length-drop}
+use Rattle.std.proofs.Common.{◌≡◌, ◌∙◌, ◌<◌, ◌≤◌, ◌+◌, ◌-◌, ℕ, ap, arith, refl, Some, None, length, take, drop, length-drop}
 use Rattle.std.proofs.lemmas.List.{take_rest}
 use Rattle.rfb_picture.proofs.GridLemmas.{whole-changed}
 use Rattle.rfb_wire.specs.RectHead.{IsOnScreen}
 use Rattle.rfb_codec.specs.Hextile.{tile_count}
 use Rattle.rfb_codec.proofs.PaintRreLemmas.{moved_inside}
 use Rattle.rfb_codec.proofs.TilesOverLemmas.{IsTileRect, tiles_over, tiles_all}
-use Rattle.rfb_codec.proofs.PaintHextileLemmas.{drawn_none, drawn_more, never_waits, never_bad}
+use Rattle.rfb_codec.proofs.PaintHextileLemmas.{drawn_none, drawn_more, never_waits, told_again}
 use Rattle.rfb_codec.proofs.decode.hextile.draw_tiles.Goals as goal
 
 pub loop-n-init : goal.loop-n-init
@@ -32,13 +32,13 @@ draw_tile-requires-clause-place c =
 pub draw_tile-requires-clause-lies : goal.draw_tile-requires-clause-lies
 draw_tile-requires-clause-lies c =
     let old = c.loop-n.invariant.drawn c.requires.whole.0 c.requires.whole.1 c.requires.whole.2 in
-    let told = (rw c.in-Ok-Some.field-0-is at c.in-Ok-Some.ensures) old.before old.sees in
+    let told = told_again c.args.format c.args.rect c.tile_rect-tile.result c.loop-n.n c.loop-n.at c.loop-n.seen c.args.bytes.now _ c.requires.whole.0 c.requires.whole.1 c.loop-n.picture c.args.picture.now (Some c.in-Some.read) (rw c.tile_count-n-end.ensures.value at c.loop-n-test.true) c.tile_rect-tile.ensures.width c.tile_rect-tile.ensures.height (take_rest c.args.bytes.now c.loop-n.at) old c.in-Some.ensures in
     told.1
 
 pub draw_tile-requires-clause-inside : goal.draw_tile-requires-clause-inside
 draw_tile-requires-clause-inside c =
     let old = c.loop-n.invariant.drawn c.requires.whole.0 c.requires.whole.1 c.requires.whole.2 in
-    let told = (rw c.in-Ok-Some.field-0-is at c.in-Ok-Some.ensures) old.before old.sees in
+    let told = told_again c.args.format c.args.rect c.tile_rect-tile.result c.loop-n.n c.loop-n.at c.loop-n.seen c.args.bytes.now _ c.requires.whole.0 c.requires.whole.1 c.loop-n.picture c.args.picture.now (Some c.in-Some.read) (rw c.tile_count-n-end.ensures.value at c.loop-n-test.true) c.tile_rect-tile.ensures.width c.tile_rect-tile.ensures.height (take_rest c.args.bytes.now c.loop-n.at) old c.in-Some.ensures in
     told.2
 
 pub overflow_add-at : goal.overflow_add-at
@@ -46,9 +46,9 @@ overflow_add-at c =
     let bytes = c.args.bytes.now in
     let at = c.loop-n.at in
     let old = c.loop-n.invariant.drawn c.requires.whole.0 c.requires.whole.1 c.requires.whole.2 in
-    let told = (rw c.in-Ok-Some.field-0-is at c.in-Ok-Some.ensures) old.before old.sees in
+    let told = told_again c.args.format c.args.rect c.tile_rect-tile.result c.loop-n.n c.loop-n.at c.loop-n.seen c.args.bytes.now _ c.requires.whole.0 c.requires.whole.1 c.loop-n.picture c.args.picture.now (Some c.in-Some.read) (rw c.tile_count-n-end.ensures.value at c.loop-n-test.true) c.tile_rect-tile.ensures.width c.tile_rect-tile.ensures.height (take_rest c.args.bytes.now c.loop-n.at) old c.in-Some.ensures in
     let slice : length (take (length bytes - at) (drop at bytes)) ≡ length bytes - at = ap length (take_rest bytes at) ∙ length-drop at bytes in
-    let within : at + c.in-Ok-Some.read.used ≤ length bytes = let before = c.loop-n.invariant.within in omega (arith, told.1.within, slice, before) in
+    let within : at + c.in-Some.read.used ≤ length bytes = let before = c.loop-n.invariant.within in omega (arith, told.1.within, slice, before) in
     omega (arith, within)
 
 pub unreachable-requires : goal.unreachable-requires
@@ -57,16 +57,8 @@ unreachable-requires c =
     let tile = c.tile_rect-tile.ensures in
     let old = c.loop-n.invariant.drawn c.requires.whole.0 c.requires.whole.1 c.requires.whole.2 in
     let below : c.loop-n.n < tile_count rect.w rect.h = rw c.tile_count-n-end.ensures.value at c.loop-n-test.true in
-    let told = (rw c.in-Ok-None.field-0-is at c.in-Ok-None.ensures) old.before old.sees in
+    let told = told_again c.args.format c.args.rect c.tile_rect-tile.result c.loop-n.n c.loop-n.at c.loop-n.seen c.args.bytes.now _ c.requires.whole.0 c.requires.whole.1 c.loop-n.picture c.args.picture.now None (rw c.tile_count-n-end.ensures.value at c.loop-n-test.true) c.tile_rect-tile.ensures.width c.tile_rect-tile.ensures.height (take_rest c.args.bytes.now c.loop-n.at) old c.in-None.ensures in
     never_waits c.args.format rect c.tile_rect-tile.result c.loop-n.n c.loop-n.at c.loop-n.seen c.args.bytes.now _ c.requires.whole.0 c.requires.whole.1 c.loop-n.picture c.args.picture.now below tile.width tile.height (take_rest c.args.bytes.now c.loop-n.at) old told
-
-pub unreachable-requires-in-Err : goal.unreachable-requires-in-Err
-unreachable-requires-in-Err c =
-    let rect = c.args.rect in
-    let tile = c.tile_rect-tile.ensures in
-    let old = c.loop-n.invariant.drawn c.requires.whole.0 c.requires.whole.1 c.requires.whole.2 in
-    let below : c.loop-n.n < tile_count rect.w rect.h = rw c.tile_count-n-end.ensures.value at c.loop-n-test.true in
-    never_bad c.args.format rect c.tile_rect-tile.result c.loop-n.n c.loop-n.at c.loop-n.seen c.args.bytes.now _ c.requires.whole.0 c.requires.whole.1 c.loop-n.picture c.args.picture.now c.in-Err._fault below tile.width tile.height (take_rest c.args.bytes.now c.loop-n.at) old (c.in-Err.ensures old.before old.sees)
 
 pub loop-n-preserved : goal.loop-n-preserved
 loop-n-preserved c =
@@ -77,7 +69,7 @@ loop-n-preserved c =
     let is : IsTileRect rect c.tile_rect-tile.result c.loop-n.n = record { column = tile.column; row = tile.row; width = tile.width; height = tile.height } in
     let below : c.loop-n.n < tile_count rect.w rect.h = rw c.tile_count-n-end.ensures.value at c.loop-n-test.true in
     let some = c.loop-n.invariant.drawn c.requires.whole.0 c.requires.whole.1 c.requires.whole.2 in
-    let told_some = (rw c.in-Ok-Some.field-0-is at c.in-Ok-Some.ensures) some.before some.sees in
+    let told_some = told_again c.args.format c.args.rect c.tile_rect-tile.result c.loop-n.n c.loop-n.at c.loop-n.seen c.args.bytes.now _ c.requires.whole.0 c.requires.whole.1 c.loop-n.picture c.args.picture.now (Some c.in-Some.read) (rw c.tile_count-n-end.ensures.value at c.loop-n-test.true) c.tile_rect-tile.ensures.width c.tile_rect-tile.ensures.height (take_rest c.args.bytes.now c.loop-n.at) some c.in-Some.ensures in
     let slice : length (take (length bytes - at) (drop at bytes)) ≡ length bytes - at = ap length (take_rest bytes at) ∙ length-drop at bytes in
     record {
       within = let before = c.loop-n.invariant.within in omega (arith, told_some.1.within, slice, before);
@@ -85,8 +77,8 @@ loop-n-preserved c =
       height = c.draw_tile.ensures.height ∙ c.loop-n.invariant.height;
       drawn = λ tiles rest all.
           let old = c.loop-n.invariant.drawn tiles rest all in
-          let told = (rw c.in-Ok-Some.field-0-is at c.in-Ok-Some.ensures) old.before old.sees in
-          drawn_more c.args.format rect c.tile_rect-tile.result c.loop-n.n at c.loop-n.seen c.seen_behind-seen.result c.in-Ok-Some.read bytes _ tiles rest c.loop-n.picture c.draw_tile.new.picture c.args.picture.now c.requires.place.whole below is tile.inside (take_rest bytes at) old told c.seen_behind-seen.ensures.background c.seen_behind-seen.ensures.foreground (c.draw_tile.ensures.value old.before);
+          let told = told_again c.args.format c.args.rect c.tile_rect-tile.result c.loop-n.n c.loop-n.at c.loop-n.seen c.args.bytes.now _ tiles rest c.loop-n.picture c.args.picture.now (Some c.in-Some.read) (rw c.tile_count-n-end.ensures.value at c.loop-n-test.true) c.tile_rect-tile.ensures.width c.tile_rect-tile.ensures.height (take_rest c.args.bytes.now c.loop-n.at) old c.in-Some.ensures in
+          drawn_more c.args.format rect c.tile_rect-tile.result c.loop-n.n at c.loop-n.seen c.seen_behind-seen.result c.in-Some.read bytes _ tiles rest c.loop-n.picture c.draw_tile.new.picture c.args.picture.now c.requires.place.whole below is tile.inside (take_rest bytes at) old told c.seen_behind-seen.ensures.background c.seen_behind-seen.ensures.foreground (c.draw_tile.ensures.value old.before);
     }
 
 pub returns-clause-value : goal.returns-clause-value
