@@ -50,7 +50,9 @@ pub fn draw_tile(
 }
 
 // Paints the background over the rectangle, and then so many subrectangles, which lie inside it. Those
-// without a pixel of their own have the foreground.
+// without a pixel of their own have the foreground. Inlined, so that its loop is made anew for each of the
+// two calls, which know whether there are such pixels.
+#[inline(always)]
 fn draw_subs(
     format: Format,
     rect: Rect,
