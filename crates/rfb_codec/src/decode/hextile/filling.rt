@@ -52,7 +52,10 @@ fn put_line(row: &mut [Colour], line: &[Colour; 16])
     requires { length row.old ≡ 16 }
     ensures { row.new ≡ line.now }
 {
-    row.copy_from_slice(line);
+    match row.as_mut_array::<16>() {
+        Some(places) => *places = *line,
+        None => unreachable!(),
+    }
 }
 
 /// Gives the colour to each place of a part of a tile, as `fill` does. Most parts are one place wide.
