@@ -39,12 +39,13 @@ fn fill_lines(rect: Rect, colour: Colour, picture: &mut Picture<Colour>)
     }
 }
 
-// Sixteen places of that colour. Were it inlined, each of their bytes would be written on its own.
-#[inline(never)]
+// Sixteen places of that colour. It is taken apart, so that they are put together in registers: copies of
+// it as a whole would be written to memory one by one.
 fn line_of(colour: Colour) -> [Colour; 16]
     ensures { (k : ℕ) (d : Colour) → k < 16 → slice_index_or result k d ≡ colour }
 {
-    [colour; 16]
+    let Colour { r, g, b } = colour;
+    [Colour { r, g, b }; 16]
 }
 
 // Gives the places of a row the colours of a line.
