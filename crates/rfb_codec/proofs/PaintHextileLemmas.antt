@@ -211,4 +211,4 @@ pub told_again : (f : PixelFormat) (rect tile : Rect) (n at : ℕ) (seen : Seen)
 told_again f rect tile n at seen bytes slice tiles rest now picture result below wide high slice_is old tells =
     let step = each_got (tile_count rect.w rect.h - n) (next_tile f rect.w rect.h) old.before (drop at bytes) old.after rest (omega arith) old.left in
     let there : tile_behind f tile.w tile.h old.before slice ≡ Got step.0 step.2 = same_next f rect.w rect.h n tile.w tile.h at old.before bytes slice old.number wide high slice_is ∙ step.4 in
-    subst (λ (k : Next Tile PaintFault). TellsTile f tile.w tile.h slice (Ok result) k) (sym there) (tells old.before step.0 step.2 there)
+    rw there (tells old.before step.0 step.2 there)

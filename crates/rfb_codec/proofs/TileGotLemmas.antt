@@ -1,18 +1,18 @@
 -- A tile of Hextile that is known to be there: what its reading passed on the way.
-use Rattle.std.proofs.Common.{◌≡◌, ℕ, ◌≤◌, nat_le, List, Bool, true, false, Option, Some, None, length, take, drop, slice_index, Result, Ok, if◌then◌else◌, refl, sym, subst, ◌∙◌, ap, arith}
+use Rattle.std.proofs.Common.{◌≡◌, ℕ, ◌≤◌, nat_le, List, Bool, true, false, Option, Some, None, length, take, drop, slice_index, Ok, if◌then◌else◌, refl, sym, subst, ◌∙◌, ap, arith}
 use Rattle.std.proofs.lemmas.List.{get_or-take}
 use Rattle.std.proofs.lemmas.Bool.Decides.{nat_tests}
 use Rattle.rfb_pixel.specs.Format.{PixelFormat}
 use Rattle.rfb_wire.specs.Fields.{u8_at}
 use Rattle.rfb_wire.specs.Reading.{Next, More, Got, Bad, Reading}
-use Rattle.rfb_wire.specs.Parts.{piece, done, judged, behind, and_then, checked}
+use Rattle.rfb_wire.specs.Parts.{piece, judged, behind, checked}
 use Rattle.rfb_codec.specs.declared.fault.PaintFault.{PaintFault}
 use Rattle.rfb_codec.specs.declared.fault.PaintFault.TheVariants.{SubrectOutside}
 use Rattle.rfb_codec.specs.declared.decode.hextile.tile_read.TileRead.{TileRead}
+use Rattle.rfb_codec.specs.Tile.{Tile, is_raw, subrects_colored, mask_fault, behind_mask, are_inside, places_of, tile_fault, tile_layout, tile_behind}
 use Rattle.rfb_codec.specs.TileRead.{tile_of_read, TellsTile}
 use Rattle.rfb_codec.proofs.TileLaws.{inside_true}
 use Rattle.rfb_codec.proofs.PaintTileLemmas.{IsFound}
-use Rattle.rfb_codec.specs.Tile.{Tile, is_raw, subrects_colored, mask_fault, behind_mask, are_inside, places_of, tile_fault, tile_layout, tile_behind}
 
 -- ---- parts that are got
 
