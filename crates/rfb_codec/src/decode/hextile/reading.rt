@@ -49,8 +49,8 @@ pub fn read_tile(
     }
 }
 
-/// The tile of that size that the bytes begin with, judged by nothing, for one that `read_tile` has told
-/// before: then it is told again.
+/// The tile of that size that the bytes begin with, where it is known to be good since `read_tile` has
+/// told it before. Neither its mask nor its subrectangles are judged again.
 pub fn find_tile(format: Format, width: u16, height: u16, bytes: &[u8]) -> Option<TileRead>
     requires { (width ≤ 16) × (height ≤ 16) }
     ensures { (before : List Tile) (tile : Tile) (rest : List ℕ) → tile_behind format width height before bytes.now ≡ Got tile rest → TellsTile format width height bytes.now (Ok result) (Got tile rest) }
