@@ -1,12 +1,12 @@
 //! The Hextile encoder, RFC 6143 section 7.7.4.
 
-ghost use Rattle.std.specs.Prelude.{◌≡◌, ◌+◌, ◌*◌, ◌<◌, ◌≤◌, length, vec_len, take, pos};
+ghost use Rattle.std.specs.Prelude.{refl, ◌≡◌, ◌+◌, ◌*◌, ◌<◌, ◌≤◌, length, vec_len, take, pos};
 ghost use Rattle.std.specs.Bool.{OnTrue, OnFalse};
 ghost use Rattle.std.specs.Vec.{vec_capacity};
 ghost use Rattle.rfb_codec.specs.Pixels.{HasPixels};
-ghost use Rattle.rfb_codec.specs.Raw.{raw_length};
 ghost use Rattle.rfb_codec.specs.Hextile.{StandsByRule};
-ghost use Rattle.rfb_codec.specs.Codec.{Appends};
+ghost use Rattle.rfb_wire.specs.declared.encoding.Encoding.TheVariants.{Hextile as HextileEncoding};
+ghost use Rattle.rfb_codec.specs.Codec.{Appends, raw_of};
 
 mod carried;
 mod colours;
@@ -34,19 +34,17 @@ pub struct Hextile;
 impl Codec for Hextile {
     ghost stands = { λ f block bytes. StandsByRule f block bytes };
 
+    ghost encoding = { HextileEncoding };
+
     ghost NUMBER = { pos 5 };
+
+    ghost numbered = { refl };
+
+    ghost read_back = { λ f width height rect block bytes sized stands. (sized, stands.0) };
 
     const NUMBER: i32 = 5;
 
-    fn encode(block: &Block, format: &Format, out: &mut Vec<u8>) -> bool
-        requires pixels { HasPixels format.now block.now }
-        requires room { vec_len out.old + raw_length format.now block.now.width block.now.height ≤ vec_capacity out.old }
-
-        ensures spelled { OnTrue result (Appends (λ f block bytes. StandsByRule f block bytes) format.now block.now out.old.items out.new.items) }
-        ensures shorter { OnTrue result (vec_len out.new < vec_len out.old + raw_length format.now block.now.width block.now.height) }
-        ensures kept { OnFalse result (out.new.items ≡ out.old.items) }
-        ensures room { vec_capacity out.old ≤ vec_capacity out.new }
-    {
+    fn encode(block: &Block, format: &Format, out: &mut Vec<u8>) -> bool {
         let len = out.len();
         if !spell(block, format, out) {
             out.truncate(len);
@@ -59,9 +57,9 @@ impl Codec for Hextile {
 // Appends each tile of the block, or answers false once the tiles are no shorter than Raw.
 fn spell(block: &Block, format: &Format, out: &mut Vec<u8>) -> bool
     requires pixels { HasPixels format.now block.now }
-    requires room { vec_len out.old + raw_length format.now block.now.width block.now.height ≤ vec_capacity out.old }
+    requires room { vec_len out.old + raw_of format.now block.now ≤ vec_capacity out.old }
     ensures spelled { OnTrue result (Appends (λ f block bytes. StandsByRule f block bytes) format.now block.now out.old.items out.new.items) }
-    ensures shorter { OnTrue result (vec_len out.new < vec_len out.old + raw_length format.now block.now.width block.now.height) }
+    ensures shorter { OnTrue result (vec_len out.new < vec_len out.old + raw_of format.now block.now) }
     ensures front { take (vec_len out.old) out.new.items ≡ out.old.items }
     ensures room { vec_capacity out.old ≤ vec_capacity out.new }
 {

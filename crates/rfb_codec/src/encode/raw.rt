@@ -1,13 +1,14 @@
 //! The Raw encoder, RFC 6143 section 7.7.1.
 
-ghost use Rattle.std.specs.Prelude.{◌≡◌, ◌+◌, ◌*◌, ◌≤◌, ◌++◌, length, vec_len, pos, IsTrue};
+ghost use Rattle.std.specs.Prelude.{refl, ◌≡◌, ◌+◌, ◌*◌, ◌<◌, ◌≤◌, ◌++◌, length, vec_len, pos, IsTrue};
 ghost use Rattle.std.specs.List.{flat_map};
 ghost use Rattle.std.specs.Bool.{OnTrue, OnFalse};
 ghost use Rattle.std.specs.Vec.{vec_capacity};
 ghost use Rattle.rfb_pixel.specs.Format.{size_of, pixel_bytes};
 ghost use Rattle.rfb_codec.specs.Pixels.{HasPixels};
-ghost use Rattle.rfb_codec.specs.Raw.{StandsRaw, raw_length};
-ghost use Rattle.rfb_codec.specs.Codec.{Appends};
+ghost use Rattle.rfb_codec.specs.Raw.{StandsRaw};
+ghost use Rattle.rfb_wire.specs.declared.encoding.Encoding.TheVariants.{Raw as RawEncoding};
+ghost use Rattle.rfb_codec.specs.Codec.{Appends, raw_of, shortens};
 
 use super::append_within;
 use crate::block::Block;
@@ -23,16 +24,23 @@ pub struct Raw;
 impl Codec for Raw {
     ghost stands = { StandsRaw };
 
+    ghost encoding = { RawEncoding };
+
     ghost NUMBER = { pos 0 };
+
+    ghost numbered = { refl };
+
+    ghost read_back = { λ f width height rect block bytes sized stands. (sized, stands) };
 
     const NUMBER: i32 = 0;
 
     fn encode(block: &Block, format: &Format, out: &mut Vec<u8>) -> bool
         requires pixels { HasPixels format.now block.now }
-        requires room { vec_len out.old + raw_length format.now block.now.width block.now.height ≤ vec_capacity out.old }
+        requires room { vec_len out.old + raw_of format.now block.now ≤ vec_capacity out.old }
 
         ensures always { IsTrue result }
         ensures spelled { OnTrue result (Appends StandsRaw format.now block.now out.old.items out.new.items) }
+        ensures shorter { OnTrue (shortens RawEncoding) (OnTrue result (vec_len out.new < vec_len out.old + raw_of format.now block.now)) }
         ensures kept { OnFalse result (out.new.items ≡ out.old.items) }
         ensures room { vec_capacity out.old ≤ vec_capacity out.new }
     {

@@ -1,6 +1,6 @@
 //! The RRE encoder, RFC 6143 section 7.7.3.
 
-ghost use Rattle.std.specs.Prelude.{◌≡◌, ◌+◌, ◌*◌, ◌<◌, ◌≤◌, ◌++◌, length, vec_len, pos};
+ghost use Rattle.std.specs.Prelude.{refl, ◌≡◌, ◌+◌, ◌*◌, ◌<◌, ◌≤◌, ◌++◌, length, vec_len, pos};
 ghost use Rattle.std.specs.List.{flat_map};
 ghost use Rattle.std.specs.Bool.{OnTrue, OnFalse};
 ghost use Rattle.std.specs.Vec.{vec_capacity};
@@ -8,9 +8,9 @@ ghost use Rattle.byteorder.specs.Endian.{big_bytes};
 ghost use Rattle.rfb_pixel.specs.Format.{size_of, pixel_bytes};
 ghost use Rattle.rfb_wire.specs.Fields.{rect_bytes};
 ghost use Rattle.rfb_codec.specs.Pixels.{HasPixels};
-ghost use Rattle.rfb_codec.specs.Raw.{raw_length};
 ghost use Rattle.rfb_codec.specs.Rre.{StandsRre};
-ghost use Rattle.rfb_codec.specs.Codec.{Appends, subrect_bytes};
+ghost use Rattle.rfb_wire.specs.declared.encoding.Encoding.TheVariants.{Rre as RreEncoding};
+ghost use Rattle.rfb_codec.specs.Codec.{Appends, raw_of, subrect_bytes};
 
 use super::append_within;
 use super::background::background_of;
@@ -39,19 +39,17 @@ pub struct Rre;
 impl Codec for Rre {
     ghost stands = { StandsRre };
 
+    ghost encoding = { RreEncoding };
+
     ghost NUMBER = { pos 2 };
+
+    ghost numbered = { refl };
+
+    ghost read_back = { λ f width height rect block bytes sized stands. (sized, stands) };
 
     const NUMBER: i32 = 2;
 
-    fn encode(block: &Block, format: &Format, out: &mut Vec<u8>) -> bool
-        requires pixels { HasPixels format.now block.now }
-        requires room { vec_len out.old + raw_length format.now block.now.width block.now.height ≤ vec_capacity out.old }
-
-        ensures spelled { OnTrue result (Appends StandsRre format.now block.now out.old.items out.new.items) }
-        ensures shorter { OnTrue result (vec_len out.new < vec_len out.old + raw_length format.now block.now.width block.now.height) }
-        ensures kept { OnFalse result (out.new.items ≡ out.old.items) }
-        ensures room { vec_capacity out.old ≤ vec_capacity out.new }
-    {
+    fn encode(block: &Block, format: &Format, out: &mut Vec<u8>) -> bool {
         if block.pixels().len() <= SMALL {
             encode_with::<FEW>(block, format, out)
         } else {
@@ -65,10 +63,10 @@ fn encode_with<const N: usize>(block: &Block, format: &Format, out: &mut Vec<u8>
     requires places { length block.now.places ≤ 3 * N }
     requires list { N ≤ MANY }
     requires pixels { HasPixels format.now block.now }
-    requires room { vec_len out.old + raw_length format.now block.now.width block.now.height ≤ vec_capacity out.old }
+    requires room { vec_len out.old + raw_of format.now block.now ≤ vec_capacity out.old }
 
     ensures spelled { OnTrue result (Appends StandsRre format.now block.now out.old.items out.new.items) }
-    ensures shorter { OnTrue result (vec_len out.new < vec_len out.old + raw_length format.now block.now.width block.now.height) }
+    ensures shorter { OnTrue result (vec_len out.new < vec_len out.old + raw_of format.now block.now) }
     ensures kept { OnFalse result (out.new.items ≡ out.old.items) }
     ensures room { vec_capacity out.old ≤ vec_capacity out.new }
 {
