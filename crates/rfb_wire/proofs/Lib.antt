@@ -15,4 +15,6 @@ pub mod RectStreamLaws
 pub mod EndLaws
 pub mod FeedLaws
 pub mod SequelLaws
+pub mod PendingLaws
 mod StreamFacts
+mod PendingFacts

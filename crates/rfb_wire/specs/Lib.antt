@@ -13,3 +13,4 @@ pub mod ClientMessage
 pub mod ClientStream
 pub mod ServerMessage
 pub mod RectStream
+pub mod Pending

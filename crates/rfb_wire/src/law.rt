@@ -1,5 +1,7 @@
 //! Laws of streams, with nothing to run: what an end that is fed bytes rests on.
 
+pub mod pending;
+
 ghost use Rattle.std.specs.Prelude.{ℕ, List, [], ◌∷◌, ◌≡◌, ◌++◌, Option};
 ghost use Rattle.std.specs.List.{concat};
 ghost use Rattle.rfb_wire.specs.Reading.{Next, More, Got, Bad, Reads};
