@@ -2,8 +2,10 @@
 use Rattle.std.proofs.Common.{◌≡◌, ℕ, ◌+◌, ◌-◌, ◌*◌, ◌/◌, ◌%◌, ◌^◌, ◌<◌, ◌≤◌, List, [], ◌∷◌, ◌++◌, Bool, true, false, cond, length, set, arith, refl, ap, ◌∙◌, sym, append-nil}
 use Rattle.std.specs.Prelude.{bit_and, bit_or, max}
 use Rattle.std.specs.Int.{bit_at}
-use Rattle.std.proofs.Math.Nat.{div-one}
-use Rattle.std.proofs.lemmas.Nat.{and_mask, mod_below, pow_below, pow_pos}
+use Rattle.std.proofs.Math.Nat.{div-one, mul-le-mul_right}
+use Rattle.std.proofs.Math.Pow.{pow_mono}
+use Rattle.std.proofs.lemmas.Bool.Decides.{nat_tests}
+use Rattle.std.proofs.lemmas.Nat.{and_mask, mod_below, or_lt, pow-add, pow_below, pow_pos}
 use Rattle.std.proofs.lemmas.Nat.Bits.{bit_at_or}
 use Rattle.byteorder.specs.Endian.{big_bytes, big_number, little_bytes, little_number}
 use Rattle.byteorder.specs.Numbers.{big_from-bytes, little_from-bytes}
@@ -96,6 +98,31 @@ pixel_of-fields f c ok small =
           let green = green_out (f.blue.shift + i) (λ there. ok.green_blue (f.blue.shift + i) there here) in
           bit_at-pixel_of f c (f.blue.shift + i) ∙ rw (red, green, own) (omega arith));
     }
+
+-- a field at its shift fits the pixel
+field-below : (bits : ℕ) (c : Channel) (component : ℕ) → IsField bits c → component ≤ 255 → field_for c component * 2 ^ c.shift < 2 ^ bits
+field-below bits c component ok small =
+    let held = field_for-lt bits c component ok small in
+    let some = pow_pos c.shift in
+    let split = pow-add 2 c.width c.shift in
+    let ends : c.width + c.shift ≤ bits = omega arith in
+    let above : field_for c component + 1 ≤ 2 ^ c.width = omega (arith, held) in
+    let wide : 2 ^ (c.width + c.shift) ≤ 2 ^ bits = pow_mono ends in
+    let placed : (field_for c component + 1) * 2 ^ c.shift ≤ 2 ^ c.width * 2 ^ c.shift = mul-le-mul_right (2 ^ c.shift) above in
+    omega (arith, placed, split, wide)
+
+-- the bits of a format's pixels, by bytes
+size-bits : (f : PixelFormat) → IsFormat f → 8 * size_of f ≡ f.bits_per_pixel
+size-bits f ok = grind (arith, nat_tests, ok.whole)
+
+-- a pixel value fits the format's size
+pub pixel_of-lt : (f : PixelFormat) (c : Colour) → IsFormat f → IsColour c → pixel_of f c < 2 ^ (8 * size_of f)
+pixel_of-lt f c ok small =
+    let bits = f.bits_per_pixel in
+    let red = field-below bits f.red c.r ok.red small.0 in
+    let green = field-below bits f.green c.g ok.green small.1 in
+    let blue = field-below bits f.blue c.b ok.blue small.2 in
+    rw (size-bits f ok) (or_lt bits _ _ (or_lt bits _ _ red green) blue)
 
 -- a field that has the same bits holds the same
 held_in-agree : (bits : ℕ) (c : Channel) (p q : ℕ) → AgreeInField c p q → held_in c p ≡ held_in c q

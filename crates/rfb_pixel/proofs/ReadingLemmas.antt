@@ -1,14 +1,18 @@
 -- Laws of the bytes of a format.
-use Rattle.std.proofs.Common.{◌≡◌, ℕ, ◌≤◌, ◌<◌, ◌+◌, ◌-◌, ◌^◌, ◌⊎◌, ◌&&◌, inl, inr, subst, drop, get_or-drop, List, Bool, true, false, not, nat_le, ◌==◌, ◌||◌, Option, Some, None, Ok, Err, Result, if◌then◌else◌, slice_index, refl, sym, ◌∙◌, ap, arith}
+use Rattle.std.proofs.Common.{◌≡◌, ℕ, ◌≤◌, ◌<◌, ◌+◌, ◌-◌, ◌^◌, ◌⊎◌, ◌&&◌, ◌++◌, inl, inr, subst, drop, get_or-drop, List, Bool, true, false, not, nat_le, ◌==◌, ◌||◌, Option, Some, None, Ok, Err, Result, if◌then◌else◌, slice_index, refl, sym, ◌∙◌, ap, arith, []}
+use Rattle.byteorder.specs.Endian.{big_bytes, big_number}
+use Rattle.byteorder.specs.Numbers.{big_from-bytes}
 use Rattle.rfb_pixel.specs.declared.channel.Channel.{Channel}
 use Rattle.rfb_pixel.specs.declared.fault.FormatFault.{FormatFault}
 use Rattle.rfb_pixel.specs.declared.fault.FormatFault.TheVariants.{BadBits, DepthTooLarge, NotTrueColour, BadMax, ShiftTooLarge, FieldsOverlap}
 use Rattle.std.proofs.lemmas.Bool.Decides.{nat_tests}
-use Rattle.std.proofs.lemmas.Nat.{pow_below}
+use Rattle.std.proofs.Math.Nat.{mod-eq_of_lt}
+use Rattle.std.proofs.Math.Pow.{pow_mono}
+use Rattle.std.proofs.lemmas.Nat.{pow_below, pow_pos}
 use Rattle.std.proofs.lemmas.Bool.{cases_lt, eqb-true, leb-true, le-leb}
-use Rattle.rfb_pixel.specs.Channel.{HasWidth, IsMax, IsMaxOf, EndsWithin, max_of, is_max, width_of, is_apart, is_within, are_within, are_apart}
+use Rattle.rfb_pixel.specs.Channel.{HasWidth, IsField, IsMax, IsMaxOf, EndsWithin, max_of, is_max, width_of, is_apart, is_within, are_within, are_apart}
 use Rattle.rfb_pixel.specs.Format.{PixelFormat, IsApart, IsFormat}
-use Rattle.rfb_pixel.specs.Reading.{AreBytes, Spells, number_at, field_at, red_at, green_at, blue_at, first_fault, fault_of_fields, Passes, IsFirstFault}
+use Rattle.rfb_pixel.specs.Reading.{AreBytes, Spells, number_at, field_at, red_at, green_at, blue_at, first_fault, fault_of_fields, Passes, IsFirstFault, format_bytes}
 use Rattle.rfb_pixel.proofs.ChannelLemmas.{ones_of_max, same_width, apart-passes, max-passes}
 
 -- what the reading of a field gives
@@ -272,3 +276,38 @@ first_fault-none bytes k fits h =
       | ShiftTooLarge ↦ (ends-within _ _ _ ends.0, ends-within _ _ _ ends.1, ends-within _ _ _ ends.2)
       | FieldsOverlap ↦ (apart-means _ _ apart.0, apart-means _ _ apart.1, apart-means _ _ apart.2)
     ]
+
+-- ---- the bytes that a format is written as
+
+-- the 16-bit number that two bytes begin with
+number-of : (n : ℕ) (rest : List ℕ) → n < 65536 → big_number 2 (big_bytes 2 n ++ rest) ≡ n
+number-of n rest small = big_from-bytes 2 n rest ∙ mod-eq_of_lt small
+
+-- a field's maximum has 16 bits
+max_of-small : (bits : ℕ) (c : Channel) → IsField bits c → max_of c < 65536
+max_of-small bits c ok =
+    let narrow : c.width ≤ 16 = omega arith in
+    let wide : 2 ^ c.width ≤ 2 ^ 16 = pow_mono narrow in
+    let some = pow_pos c.width in
+    omega (arith, wide)
+
+-- a flag is told by 0 or 1
+flag-is : (b : Bool) → not ((if b then 1 else 0) == 0) ≡ b
+flag-is true = refl
+flag-is false = refl
+
+-- a format is spelled by the bytes that it is written as
+pub spells_written : (f : PixelFormat) → IsFormat f → Spells f (format_bytes f)
+spells_written f ok = record {
+  whole = refl;
+  bits_per_pixel = refl;
+  depth = refl;
+  big_endian_flag = flag-is f.big_endian;
+  true_colour_flag = λ zero. cc;
+  red_max = number-of (max_of f.red) [] (max_of-small f.bits_per_pixel f.red ok.red);
+  green_max = number-of (max_of f.green) [] (max_of-small f.bits_per_pixel f.green ok.green);
+  blue_max = number-of (max_of f.blue) [] (max_of-small f.bits_per_pixel f.blue ok.blue);
+  red_shift = refl;
+  green_shift = refl;
+  blue_shift = refl;
+}

@@ -1,5 +1,5 @@
 -- Pixel formats, RFC 6143 section 7.4: what contracts see of a `Format`, and what a pixel means.
-use Rattle.std.specs.Prelude.{◌≡◌, ℕ, ◌*◌, ◌/◌, ◌^◌, ◌≤◌, ◌==◌, ◌||◌, Bool, false, List, bit_or, IsTrue, if◌then◌else◌}
+use Rattle.std.specs.Prelude.{◌≡◌, ℕ, ◌*◌, ◌/◌, ◌^◌, ◌<◌, ◌≤◌, ◌==◌, ◌||◌, Bool, false, List, length, slice_index, bit_or, IsTrue, if◌then◌else◌}
 use Rattle.byteorder.specs.Endian.{big_bytes, big_number, little_bytes, little_number}
 use Rattle.rfb_pixel.specs.declared.colour.Colour.{Colour}
 use Rattle.rfb_pixel.specs.declared.channel.Channel.{Channel}
@@ -40,6 +40,10 @@ pixel_of f c =
     bit_or
     (bit_or (field_for f.red c.r * 2 ^ f.red.shift) (field_for f.green c.g * 2 ^ f.green.shift))
     (field_for f.blue c.b * 2 ^ f.blue.shift)
+
+-- each number of a list fits the bytes of a pixel
+abbrev pub ArePixels : PixelFormat → List ℕ → Type 0
+ArePixels f pixels = (i : ℕ) → i < length pixels → slice_index pixels i < 2 ^ (8 * size_of f)
 
 -- bit i of a pixel belongs to none of the three fields
 pub record IsOutsideFields (f : PixelFormat) (i : ℕ) : Type 0 where

@@ -3,7 +3,7 @@
 ghost use Rattle.std.specs.Prelude.{◌≡◌, ℕ, ◌*◌, ◌%◌, ◌^◌, ◌<◌, length, IfOk, ◌==◌, ◌||◌, ◌≤◌, IsTrue, List, map};
 ghost use Rattle.std.specs.Result.{result_err};
 ghost use Rattle.std.specs.Int.{bit_at};
-ghost use Rattle.rfb_pixel.specs.Format.{size_of, pixel_of, colour_of, pixel_bytes, pixel_number, seen_through, IsColour, FieldsHold, IsOutsideFields, AgreeInFields, KeepsColours, FieldsKept};
+ghost use Rattle.rfb_pixel.specs.Format.{size_of, pixel_of, colour_of, pixel_bytes, pixel_number, seen_through, IsColour, FieldsHold, IsOutsideFields, AgreeInFields, KeepsColours, FieldsKept, ArePixels};
 ghost use Rattle.rfb_pixel.specs.Reading.{AreBytes, Spells, Passes, IsFirstFault, first_fault, fault_of_fields, format_bytes};
 ghost use Rattle.rfb_pixel.specs.Channel.{HasWidth};
 
@@ -39,7 +39,7 @@ impl Model for Format {
 
 impl Format {
     ghost use Rattle.rfb_pixel.specs.declared.colour.Colour.{Colour};
-    ghost use Rattle.rfb_pixel.specs.Format.{PixelFormat, rgb888, rgb565, bgr233};
+    ghost use Rattle.rfb_pixel.specs.Format.{PixelFormat, IsFormat, rgb888, rgb565, bgr233};
 
     /// 32 bits, little-endian: eight bits each of red, green and blue at shifts 16, 8 and 0.
     /// A colour comes back from it as it was.
@@ -121,6 +121,11 @@ impl Format {
         ensures none { (bytes : List ℕ) (fault : FormatFault) → AreBytes bytes → first_fault bytes ≡ None → Passes fault bytes }
     {}
 
+    /// A law about `format_bytes`, with nothing to run: they spell the format that they are of.
+    pub fn bytes_of_a_format_spell_it()
+        ensures { (f : PixelFormat) → IsFormat f → Spells f (format_bytes f) }
+    {}
+
     // A format of a red, a green and a blue field, if they lie in the pixel and share no bit.
     fn of_fields(
         bits_per_pixel: u8,
@@ -155,8 +160,9 @@ impl Format {
     }
 
     /// The PIXEL_FORMAT that spells this format, with flags of 0 or 1 and padding of zeros. `read`
-    /// takes it, and gives this format back.
+    /// takes it, and gives this format back. It also tells that the format is one that RFC 6143 allows.
     pub fn write(&self) -> [u8; 16]
+        ensures format { IsFormat self.now }
         ensures value { result ≡ format_bytes self.now }
         ensures spells { Spells self.now result }
         ensures accepted { first_fault result ≡ None }
@@ -194,20 +200,23 @@ impl Format {
         self.bits_per_pixel as usize / 8
     }
 
-    /// The pixel value of a colour. Bits outside the three fields are zero.
+    /// The pixel value of a colour. It fits the format's size, and bits outside the three fields are
+    /// zero.
     pub fn pack(&self, colour: Colour) -> u32
         ensures value { result ≡ pixel_of self.now colour }
         ensures fields { FieldsHold self.now colour result }
         ensures outside { (i : ℕ) → IsOutsideFields self.now i → bit_at result i ≡ 0 }
         ensures exact { KeepsColours self.now → colour_of self.now result ≡ colour }
+        ensures bound { result < 2 ^ (8 * size_of self.now) }
     {
         self.red.place(colour.r) | self.green.place(colour.g) | self.blue.place(colour.b)
     }
 
-    /// Writes the pixel value of each colour of a row.
+    /// Writes the pixel value of each colour of a row. Each fits the format's size.
     pub fn pack_row(&self, colours: &[Colour], pixels: &mut [u32])
         requires { length colours.now ≡ length pixels.old }
-        ensures { pixels.new ≡ map (pixel_of self.now) colours.now }
+        ensures value { pixels.new ≡ map (pixel_of self.now) colours.now }
+        ensures bound { ArePixels self.now pixels.new }
     {
         // A copy, which no pixel that is written can change: what it alone decides stays the same.
         let format = *self;
