@@ -1,0 +1,43 @@
+-- All that a client sends, RFC 6143 sections 7.1 to 7.5: its handshake, and then its messages.
+use Rattle.std.specs.Prelude.{Option, Some, None, ⊤}
+use Rattle.rfb_wire.specs.Reading.{Says}
+use Rattle.rfb_wire.specs.Stream.{Grammar}
+use Rattle.rfb_wire.specs.Sequel.{Stage, Two, sequel, sequel_says}
+use Rattle.rfb_wire.specs.ClientMessage.{ClientMessage, ClientFault, client_says}
+use Rattle.rfb_wire.specs.ClientStream.{client_stream}
+use Rattle.rfb_hello.specs.declared.version.Version.{Version}
+use Rattle.rfb_hello.specs.declared.fault.HelloFault.{HelloFault}
+use Rattle.rfb_hello.specs.ClientHandshake.{ClientPoint, AwaitsInit, ClientItem, ClientInit, client_handshake, client_item_says}
+use Rattle.rfb_server.specs.declared.fault.ServerFault.{ServerFault}
+use Rattle.rfb_server.specs.Fault.{fault_of_hello, fault_of_message}
+
+-- where a client's bytes stand: in the handshake, or between two messages
+abbrev pub ClientAt : Type 0
+ClientAt = Stage ClientPoint ⊤
+
+-- what a client sends: a step of the handshake, or a message
+abbrev pub FromClient : Type 0
+FromClient = Stage ClientItem ClientMessage
+
+-- ClientInit leads to the messages, and no other step does
+abbrev pub to_messages : ClientPoint → ClientItem → Option ⊤
+to_messages (AwaitsInit version) (ClientInit shared) = Some tt
+to_messages point item = None
+
+-- the handshake, where the server has offered a version, and the messages behind it
+abbrev pub client_two : Version → Two ClientPoint ClientItem HelloFault ⊤ ClientMessage ClientFault ServerFault
+client_two offer = record {
+  first = client_handshake offer;
+  leads = to_messages;
+  second = client_stream;
+  first_fault = fault_of_hello;
+  second_fault = fault_of_message;
+}
+
+-- all that a client sends
+abbrev pub client_bytes : Version → Grammar ClientAt FromClient ServerFault
+client_bytes offer = sequel (client_two offer)
+
+-- what its bytes say at each point
+abbrev pub client_bytes_say : Version → ClientAt → Says FromClient ServerFault
+client_bytes_say offer = sequel_says (client_two offer) (client_item_says offer) (λ _. client_says)

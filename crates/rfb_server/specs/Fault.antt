@@ -1,0 +1,35 @@
+-- The faults of the handshake, of a format and of a message, as faults of a session.
+use Rattle.rfb_pixel.specs.declared.fault.FormatFault.{FormatFault}
+use Rattle.rfb_pixel.specs.declared.fault.FormatFault.TheVariants.{BadBits, DepthTooLarge, NotTrueColour, BadMax, ShiftTooLarge, FieldsOverlap}
+use Rattle.rfb_wire.specs.ClientMessage.{ClientFault, BadFormat, UnknownType}
+use Rattle.rfb_hello.specs.declared.fault.HelloFault.{HelloFault}
+use Rattle.rfb_hello.specs.declared.fault.HelloFault.TheVariants.{BadVersion, VersionTooHigh, BadSecurityChoice, NoneNotOffered, Refused, BadSecurityWord, SecurityFailed, ScreenEmpty, ScreenTooLarge, NoMemory}
+use Rattle.rfb_server.specs.declared.fault.ServerFault.{ServerFault}
+use Rattle.rfb_server.specs.declared.fault.ServerFault.TheVariants.{BadBits as Bits, DepthTooLarge as Depth, NotTrueColour as Colours, BadMax as Max, ShiftTooLarge as Shift, FieldsOverlap as Overlap, UnknownMessage, BadVersion as Version, VersionTooHigh as High, BadSecurityChoice as Choice, NoMemory as Memory}
+
+-- of the handshake's a client's bytes show the first three alone; a server's have the next six
+abbrev pub fault_of_hello : HelloFault → ServerFault
+fault_of_hello BadVersion = Version
+fault_of_hello VersionTooHigh = High
+fault_of_hello BadSecurityChoice = Choice
+fault_of_hello NoneNotOffered = Version
+fault_of_hello (Refused n) = Version
+fault_of_hello BadSecurityWord = Version
+fault_of_hello (SecurityFailed n) = Version
+fault_of_hello ScreenEmpty = Version
+fault_of_hello ScreenTooLarge = Version
+fault_of_hello NoMemory = Memory
+
+-- each check of a format has its fault
+abbrev pub fault_of_format : FormatFault → ServerFault
+fault_of_format BadBits = Bits
+fault_of_format DepthTooLarge = Depth
+fault_of_format NotTrueColour = Colours
+fault_of_format BadMax = Max
+fault_of_format ShiftTooLarge = Shift
+fault_of_format FieldsOverlap = Overlap
+
+-- a message is at fault for its format or for its type
+abbrev pub fault_of_message : ClientFault → ServerFault
+fault_of_message (BadFormat fault) = fault_of_format fault
+fault_of_message (UnknownType message_type) = UnknownMessage message_type

@@ -1,0 +1,4 @@
+pub mod Fault
+pub mod ClientBytes
+pub mod Told
+pub mod Server

@@ -1,0 +1,80 @@
+//! Why a session ends.
+
+ghost use Rattle.std.specs.Prelude.{◌≡◌};
+ghost use Rattle.rfb_server.specs.Fault.{fault_of_hello, fault_of_format};
+
+use rfb_hello::HelloFault;
+use rfb_pixel::FormatFault;
+use thiserror::Error;
+
+/// What a client did wrong, and want of memory. Each prints as its number and its name.
+#[derive(Clone, Copy, Debug, PartialEq, Eq, Error)]
+pub enum ServerFault {
+    /// The format of SetPixelFormat is not of 8, 16 or 32 bits, RFC 6143 section 7.4.
+    #[error("1 BadBits")]
+    BadBits,
+    /// Its depth is above its bits-per-pixel.
+    #[error("2 DepthTooLarge")]
+    DepthTooLarge,
+    /// It has a colour map.
+    #[error("3 NotTrueColour")]
+    NotTrueColour,
+    /// One of its maxima is not 2^N - 1 with N from 1 to 16.
+    #[error("4 BadMax")]
+    BadMax,
+    /// One of its fields leaves the pixel.
+    #[error("5 ShiftTooLarge")]
+    ShiftTooLarge,
+    /// Two of its fields share a bit.
+    #[error("6 FieldsOverlap")]
+    FieldsOverlap,
+    /// No client message has this type byte, section 7.5.
+    #[error("7 UnknownMessage")]
+    UnknownMessage(u8),
+    /// The client's ProtocolVersion is no version, section 7.1.1.
+    #[error("15 BadVersion")]
+    BadVersion,
+    /// The client named a version above the one that was offered.
+    #[error("16 VersionTooHigh")]
+    VersionTooHigh,
+    /// The client chose another security type than None.
+    #[error("17 BadSecurityChoice")]
+    BadSecurityChoice,
+    /// There is no memory for a text.
+    #[error("30 NoMemory")]
+    NoMemory,
+}
+
+impl ServerFault {
+    // The fault of a handshake, as one of a session. A client's bytes show the first three alone.
+    pub(crate) fn of_hello(fault: HelloFault) -> ServerFault
+        ensures { result ≡ fault_of_hello fault }
+    {
+        match fault {
+            HelloFault::BadVersion => ServerFault::BadVersion,
+            HelloFault::VersionTooHigh => ServerFault::VersionTooHigh,
+            HelloFault::BadSecurityChoice => ServerFault::BadSecurityChoice,
+            HelloFault::NoneNotOffered => ServerFault::BadVersion,
+            HelloFault::Refused(_) => ServerFault::BadVersion,
+            HelloFault::BadSecurityWord => ServerFault::BadVersion,
+            HelloFault::SecurityFailed(_) => ServerFault::BadVersion,
+            HelloFault::ScreenEmpty => ServerFault::BadVersion,
+            HelloFault::ScreenTooLarge => ServerFault::BadVersion,
+            HelloFault::NoMemory => ServerFault::NoMemory,
+        }
+    }
+
+    // The fault of a format, as one of a session.
+    pub(crate) fn of_format(fault: FormatFault) -> ServerFault
+        ensures { result ≡ fault_of_format fault }
+    {
+        match fault {
+            FormatFault::BadBits => ServerFault::BadBits,
+            FormatFault::DepthTooLarge => ServerFault::DepthTooLarge,
+            FormatFault::NotTrueColour => ServerFault::NotTrueColour,
+            FormatFault::BadMax => ServerFault::BadMax,
+            FormatFault::ShiftTooLarge => ServerFault::ShiftTooLarge,
+            FormatFault::FieldsOverlap => ServerFault::FieldsOverlap,
+        }
+    }
+}
