@@ -1,10 +1,11 @@
 -- A stream of two grammars keeps the laws that each of them has.
-use Rattle.std.proofs.Common.{◌≡◌, ℕ, ◌<◌, List, [], ◌∷◌, length, map, refl}
+use Rattle.std.proofs.Common.{◌≡◌, ℕ, ◌<◌, List, [], ◌∷◌, ◌++◌, Option, Some, None, length, map, refl, sym, subst, ◌∙◌, ap}
 use Rattle.rfb_wire.specs.Reading.{Says, Reads, Same}
-use Rattle.rfb_wire.specs.Stream.{IsSpelled, ReadsAll}
+use Rattle.rfb_wire.specs.Stream.{IsSpelled, ReadsAll, past_all}
 use Rattle.rfb_wire.proofs.PartLaws.{same_reads}
 use Rattle.rfb_wire.proofs.RepeatLaws.{renamed_says, renamed_reads}
-use Rattle.rfb_wire.specs.Sequel.{Stage, First, Second, Two, next_in, sequel, ItemIn, FaultIn, sequel_says}
+use Rattle.rfb_wire.specs.Sequel.{Stage, First, Second, turn, Two, next_in, sequel, ItemIn, FaultIn, sequel_says, StaysFirst, in_both}
+use Rattle.rfb_wire.proofs.StreamLaws.{all_append}
 
 module _ {P I F Q J G H : Type 0} where
   first_same : (two : Two P I F Q J G H) (one : P → Says I F) (other : Q → Says J G) (p : P) → Same (renamed_says (λ i. First i) two.first_fault (one p)) (sequel_says two one other (First p))
@@ -57,3 +58,32 @@ module _ {P I F Q J G H : Type 0} where
   pub all_second : (two : Two P I F Q J G H) (q : Q) (bytes : List ℕ) (items : List J) (rest : List ℕ) → ReadsAll two.second q bytes items rest → ReadsAll (sequel two) (Second q) bytes (map (λ j. Second j) items) rest
   all_second two q bytes [] rest h = h
   all_second two q bytes (j ∷ items) rest h = (h.0, rw h.1 refl, all_second two (two.second.past q j) h.0 items rest h.2)
+
+  -- items of the first, of which none but the last leads over, are read as it reads them
+  pub all_first : (two : Two P I F Q J G H) (p : P) (bytes : List ℕ) (items : List I) (rest : List ℕ) → StaysFirst two p items → ReadsAll two.first p bytes items rest → ReadsAll (sequel two) (First p) bytes (map (λ i. First i) items) rest
+  all_first two p bytes [] rest stays h = h
+  all_first two p bytes (i ∷ []) rest stays h = (h.0, rw h.1 refl, h.2)
+  all_first two p bytes (i ∷ j ∷ items) rest stays h = (h.0, rw h.1 refl, rw stays.0 (all_first two (two.first.past p i) h.0 (j ∷ items) rest stays.1 h.2))
+
+  -- behind an item that does not lead over the first goes on
+  behind_one : {to : Stage P Q} (two : Two P I F Q J G H) (p : P) (i : I) (items : List I) → two.leads p i ≡ None → past_all (sequel two) (First (two.first.past p i)) (map (λ k. First k) items) ≡ to → past_all (sequel two) (First p) (map (λ k. First k) (i ∷ items)) ≡ to
+  behind_one {to = to} two p i items stays h =
+      subst (λ (at : Stage P Q). past_all (sequel two) at (map (λ k. First k) items) ≡ to) (sym (ap (λ (over : Option Q). turn over (two.first.past p i)) stays)) h
+
+  -- the point behind items of the first: one of the second, if the last leads there
+  pub past_first : (two : Two P I F Q J G H) (p : P) (items : List I) (last : I) → StaysFirst two p (items ++ last ∷ []) → past_all (sequel two) (First p) (map (λ i. First i) (items ++ last ∷ [])) ≡ turn (two.leads (past_all two.first p items) last) (two.first.past (past_all two.first p items) last)
+  past_first two p [] last stays = refl
+  past_first two p (i ∷ []) last stays = behind_one two p i (last ∷ []) stays.0 (past_first two (two.first.past p i) [] last tt)
+  past_first two p (i ∷ j ∷ items) last stays = behind_one two p i ((j ∷ items) ++ last ∷ []) stays.0 (past_first two (two.first.past p i) (j ∷ items) last stays.1)
+
+  -- the point behind items of the second
+  pub past_second : (two : Two P I F Q J G H) (q : Q) (items : List J) → past_all (sequel two) (Second q) (map (λ j. Second j) items) ≡ Second (past_all two.second q items)
+  past_second two q [] = refl
+  past_second two q (j ∷ items) = past_second two (two.second.past q j) items
+
+  -- items of the first, whose last leads over, and behind them items of the second
+  pub all_both : (two : Two P I F Q J G H) (p : P) (q : Q) (bytes mid rest : List ℕ) (items : List I) (last : I) (others : List J) → StaysFirst two p (items ++ last ∷ []) → two.leads (past_all two.first p items) last ≡ Some q → ReadsAll two.first p bytes (items ++ last ∷ []) mid → ReadsAll two.second q mid others rest → ReadsAll (sequel two) (First p) bytes (in_both items last others) rest
+  all_both two p q bytes mid rest items last others stays leads a b =
+      let there : past_all (sequel two) (First p) (map (λ i. First i) (items ++ last ∷ [])) ≡ Second q = past_first two p items last stays ∙ ap (λ (to : Option Q). turn to (two.first.past (past_all two.first p items) last)) leads in
+      all_append (sequel two) (First p) bytes (map (λ i. First i) (items ++ last ∷ [])) (map (λ j. Second j) others) mid rest (all_first two p bytes (items ++ last ∷ []) mid stays a)
+      (subst (λ (at : Stage P Q). ReadsAll (sequel two) at mid (map (λ j. Second j) others) rest) (sym there) (all_second two q mid others rest b))

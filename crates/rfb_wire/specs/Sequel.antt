@@ -1,5 +1,5 @@
 -- A stream of two grammars: items of the first, until one of them leads to a point of the second.
-use Rattle.std.specs.Prelude.{ℕ, List, ◌≡◌, Option, Some, None}
+use Rattle.std.specs.Prelude.{ℕ, List, [], ◌∷◌, ◌++◌, map, ◌≡◌, Option, Some, None, ⊤}
 use Rattle.rfb_wire.specs.Reading.{Reading, Says}
 use Rattle.rfb_wire.specs.Parts.{renamed}
 use Rattle.rfb_wire.specs.Stream.{Grammar}
@@ -18,6 +18,10 @@ turn (Some q) p = Second q
 abbrev pub size_in : {I J : Type 0} → (I → ℕ) → (J → ℕ) → Stage I J → ℕ
 size_in one two (First i) = one i
 size_in one two (Second j) = two j
+
+-- items of the first up to one that leads over, and items of the second behind it
+abbrev pub in_both : {I J : Type 0} → List I → I → List J → List (Stage I J)
+in_both items last others = map (λ i. First i) (items ++ last ∷ []) ++ map (λ j. Second j) others
 
 -- two grammars, the point of the second that an item of the first leads to, and what their faults are
 pub record Two (P I F Q J G H : Type 0) : Type 0 where
@@ -57,3 +61,9 @@ module _ {P I F Q J G H : Type 0} where
 
   abbrev pub sequel_says : Two P I F Q J G H → (P → Says I F) → (Q → Says J G) → Stage P Q → Says (Stage I J) H
   sequel_says two one other s = record { item = ItemIn two one other s; fault = FaultIn two one other s }
+
+  -- none of these items but the last leads over to the second
+  abbrev pub StaysFirst : Two P I F Q J G H → P → List I → Type 0
+  StaysFirst two p [] = ⊤
+  StaysFirst two p (i ∷ []) = ⊤
+  StaysFirst two p (i ∷ j ∷ items) = (two.leads p i ≡ None) × StaysFirst two (two.first.past p i) (j ∷ items)

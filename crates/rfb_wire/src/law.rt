@@ -1,6 +1,7 @@
 //! Laws of streams, with nothing to run: what an end that is fed bytes rests on.
 
 pub mod pending;
+pub mod sequel;
 
 ghost use Rattle.std.specs.Prelude.{ℕ, List, [], ◌∷◌, ◌≡◌, ◌++◌, Option};
 ghost use Rattle.std.specs.List.{concat};
