@@ -6,6 +6,9 @@ pub mod RawLaws
 pub mod RreLaws
 pub mod RectDataLaws
 pub mod UpdateStreamLaws
+pub mod EffectLaws
+pub mod UpdateWaitLaws
+pub mod WholeUpdateLaws
 pub mod TilePartLaws
 pub mod TileLaws
 pub mod HextileLaws

@@ -10,5 +10,7 @@ pub mod Carried
 pub mod Colours
 pub mod RectData
 pub mod UpdateStream
+pub mod Effect
+pub mod WholeUpdate
 pub mod TileRead
 pub mod Painter

@@ -7,11 +7,13 @@ use Rattle.rfb_picture.specs.Rect.{contains}
 use Rattle.rfb_picture.specs.Grid.{Grid, IsGrid, Holds, changed}
 use Rattle.rfb_wire.specs.declared.encoding.Encoding.{Encoding}
 use Rattle.rfb_wire.specs.Reading.{Reading}
-use Rattle.rfb_wire.specs.RectHead.{IsOnScreen}
+use Rattle.rfb_wire.specs.declared.rect_head.RectHead.{RectHead}
+use Rattle.rfb_wire.specs.RectHead.{SpellsRectHead, IsOnScreen}
 use Rattle.rfb_codec.specs.declared.fault.PaintFault.{PaintFault}
 use Rattle.rfb_codec.specs.declared.subrect.Subrect.{Subrect}
 use Rattle.rfb_codec.specs.Rre.{subrect_of}
 use Rattle.rfb_codec.specs.RectData.{RectData, rect_data}
+use Rattle.rfb_codec.specs.UpdateStream.{UpdatePoint}
 
 -- what a `Painter` paints
 pub record Painting : Type 0 where
@@ -27,6 +29,20 @@ data_of p picture = rect_data p.form picture.width picture.height p.rect p.encod
 -- none are kept while the data are not whole, and the picture is as it was
 abbrev pub StandsFor : Painting → Grid Colour → Grid Colour → List ℕ → Type 0
 StandsFor p now before body = (body ≡ []) × (now ≡ before)
+
+-- ---- a painter at its place in an update
+
+-- the painting that a head asks for at a point of the stream
+abbrev pub painting_of : UpdatePoint → RectHead → Painting
+painting_of p head = record { rect = head.rect; encoding = head.encoding; form = p.form }
+
+-- at that point of the stream these bytes are a rectangle's head, and the screen has the picture's size
+pub record AwaitsData (p : UpdatePoint) (head : RectHead) (front : List ℕ) (picture : Grid Colour) : Type 0 where
+  pub some_left : 0 < p.left
+  pub head_is : SpellsRectHead head front
+  pub on_screen : IsOnScreen p.width p.height head.rect
+  pub columns : picture.width ≡ p.width
+  pub rows : picture.height ≡ p.height
 
 -- ---- for the parts of a painter
 

@@ -12,6 +12,9 @@ ghost use Rattle.rfb_codec.specs.Rre.{pixel_at};
 ghost use Rattle.rfb_codec.specs.RectData.{RectData, SpellsData, data_says, rect_data};
 ghost use Rattle.rfb_codec.specs.UpdateStream.{update_says, update_stream};
 
+pub mod effects;
+pub mod updates;
+
 /// Reading the data of a rectangle gives exactly what the bytes say under its head and exactly the
 /// faults that they end in, whatever follows; so no data go on as others, and bytes say one thing.
 pub fn data_are_spelled()
