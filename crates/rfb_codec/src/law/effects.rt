@@ -43,9 +43,9 @@ pub fn effects_keep_the_size()
         IsGrid picture → IsGrid (effects p items picture) }
 {}
 
-/// A picture that agrees with what is known goes on to agree: once a block was painted, with
-/// these in their rectangle, as they are put there or as they are found; and once a source on the
-/// screen was copied, with what is known of it.
+/// A picture that agrees with what is known goes on to agree: where the pixels of a block are painted
+/// and known from then on, as they are put into the record or as they are found in one; and where a
+/// source on the screen is copied, with what is known of it.
 pub fn agreement_is_kept()
     ensures replaced { (f : PixelFormat) (rect : Rect) (block : Grid ℕ)
         (picture : Grid Colour) (known : Grid (Option ℕ)) →
