@@ -32,8 +32,8 @@ pub trait Codec {
     /// have by themselves (Raw), and answers true. False is for a block that the encoding gives up,
     /// as one whose data would not be shorter than Raw; then `out` has what it had.
     ///
-    /// The caller owns all three. It has made the room that Raw would need, so no memory is taken, and
-    /// no pixel has more bits than the format gives it.
+    /// The caller owns all three. It has made the room that Raw would need, so no memory is taken and the
+    /// capacity stays, and no pixel has more bits than the format gives it.
     fn encode(block: &Block, format: &Format, out: &mut Vec<u8>) -> bool
         requires pixels { HasPixels format.now block.now }
         requires room { vec_len out.old + raw_of format.now block.now ≤ vec_capacity out.old }
@@ -41,7 +41,7 @@ pub trait Codec {
         ensures spelled { OnTrue result (Appends stands format.now block.now out.old.items out.new.items) }
         ensures shorter { OnTrue (shortens encoding) (OnTrue result (vec_len out.new < vec_len out.old + raw_of format.now block.now)) }
         ensures kept { OnFalse result (out.new.items ≡ out.old.items) }
-        ensures room { vec_capacity out.old ≤ vec_capacity out.new };
+        ensures room { vec_capacity out.new ≡ vec_capacity out.old };
 
     // The number is that of the encoding.
     ghost numbered: { number_of encoding ≡ NUMBER };

@@ -13,15 +13,15 @@ pub use hextile::Hextile;
 pub use raw::Raw;
 pub use rre::Rre;
 
-// Appends bytes for which there is room, so no memory is taken.
+// Appends bytes for which there is room, so the vector keeps its memory. Each is a push into that room,
+// since of a whole slice std says only that the room does not become less.
 fn append_within(out: &mut Vec<u8>, bytes: &[u8])
     requires { vec_len out.old + length bytes.now ≤ vec_capacity out.old }
     ensures items { out.new.items ≡ out.old.items ++ bytes.now }
     ensures len { vec_len out.new ≡ vec_len out.old + length bytes.now }
-    ensures room { vec_capacity out.old ≤ vec_capacity out.new }
+    ensures room { vec_capacity out.new ≡ vec_capacity out.old }
 {
-    match out.extend_from_slice(bytes) {
-        Ok(()) => {}
-        Err(_) => unreachable!(),
+    for byte in bytes {
+        out.push_reserved(*byte);
     }
 }

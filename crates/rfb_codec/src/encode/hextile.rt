@@ -61,7 +61,7 @@ fn spell(block: &Block, format: &Format, out: &mut Vec<u8>) -> bool
     ensures spelled { OnTrue result (Appends (λ f block bytes. StandsByRule f block bytes) format.now block.now out.old.items out.new.items) }
     ensures shorter { OnTrue result (vec_len out.new < vec_len out.old + raw_of format.now block.now) }
     ensures front { take (vec_len out.old) out.new.items ≡ out.old.items }
-    ensures room { vec_capacity out.old ≤ vec_capacity out.new }
+    ensures room { vec_capacity out.new ≡ vec_capacity out.old }
 {
     let end = out.len() + block.pixels().len() * format.size();
     let mut carried = Carried {

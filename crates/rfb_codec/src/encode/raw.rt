@@ -42,7 +42,7 @@ impl Codec for Raw {
         ensures spelled { OnTrue result (Appends StandsRaw format.now block.now out.old.items out.new.items) }
         ensures shorter { OnTrue (shortens RawEncoding) (OnTrue result (vec_len out.new < vec_len out.old + raw_of format.now block.now)) }
         ensures kept { OnFalse result (out.new.items ≡ out.old.items) }
-        ensures room { vec_capacity out.old ≤ vec_capacity out.new }
+        ensures room { vec_capacity out.new ≡ vec_capacity out.old }
     {
         let pixels = block.pixels();
         let mut start = 0;
@@ -61,7 +61,7 @@ fn append_pixels(out: &mut Vec<u8>, format: &Format, pixels: &[u32])
     requires room { vec_len out.old + length pixels.now * size_of format.now ≤ vec_capacity out.old }
     ensures items { out.new.items ≡ out.old.items ++ flat_map (pixel_bytes format.now) pixels.now }
     ensures len { vec_len out.new ≡ vec_len out.old + length pixels.now * size_of format.now }
-    ensures room { vec_capacity out.old ≤ vec_capacity out.new }
+    ensures room { vec_capacity out.new ≡ vec_capacity out.old }
 {
     let mut bytes = [0; 4 * PIECE];
     let length = pixels.len() * format.size();

@@ -68,7 +68,7 @@ fn encode_with<const N: usize>(block: &Block, format: &Format, out: &mut Vec<u8>
     ensures spelled { OnTrue result (Appends StandsRre format.now block.now out.old.items out.new.items) }
     ensures shorter { OnTrue result (vec_len out.new < vec_len out.old + raw_of format.now block.now) }
     ensures kept { OnFalse result (out.new.items ≡ out.old.items) }
-    ensures room { vec_capacity out.old ≤ vec_capacity out.new }
+    ensures room { vec_capacity out.new ≡ vec_capacity out.old }
 {
     let pixels = block.pixels();
     let (width, height) = (usize::from(block.width()), usize::from(block.height()));
@@ -94,7 +94,7 @@ fn append_head(out: &mut Vec<u8>, format: &Format, count: u32, background: u32)
     requires { vec_len out.old + (4 + size_of format.now) ≤ vec_capacity out.old }
     ensures items { out.new.items ≡ out.old.items ++ (big_bytes 4 count ++ pixel_bytes format.now background) }
     ensures len { vec_len out.new ≡ vec_len out.old + (4 + size_of format.now) }
-    ensures room { vec_capacity out.old ≤ vec_capacity out.new }
+    ensures room { vec_capacity out.new ≡ vec_capacity out.old }
 {
     let mut field = [0; 4];
     BigEndian::write_u32(&mut field, count);
@@ -107,7 +107,7 @@ fn append_pixel(out: &mut Vec<u8>, format: &Format, pixel: u32)
     requires { vec_len out.old + size_of format.now ≤ vec_capacity out.old }
     ensures items { out.new.items ≡ out.old.items ++ pixel_bytes format.now pixel }
     ensures len { vec_len out.new ≡ vec_len out.old + size_of format.now }
-    ensures room { vec_capacity out.old ≤ vec_capacity out.new }
+    ensures room { vec_capacity out.new ≡ vec_capacity out.old }
 {
     let size = format.size();
     let mut field = [0; 4];
@@ -120,7 +120,7 @@ fn append_subrects(out: &mut Vec<u8>, format: &Format, subs: &[Subrect])
     requires { vec_len out.old + length subs.now * (size_of format.now + 8) ≤ vec_capacity out.old }
     ensures items { out.new.items ≡ out.old.items ++ flat_map (subrect_bytes format.now) subs.now }
     ensures len { vec_len out.new ≡ vec_len out.old + length subs.now * (size_of format.now + 8) }
-    ensures room { vec_capacity out.old ≤ vec_capacity out.new }
+    ensures room { vec_capacity out.new ≡ vec_capacity out.old }
 {
     for s in subs {
         append_pixel(out, format, s.pixel);

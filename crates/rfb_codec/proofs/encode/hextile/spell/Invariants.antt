@@ -7,5 +7,5 @@ abbrev pub invariant-loop-n : goal.invariant-loop-n
 invariant-loop-n l = record {
   spelled : (bytes : List ℕ) × (l.out.items ≡ l.fn.out.items ++ bytes) × SpelledUpTo l.format l.block l.n l.carried bytes;
   shorter : vec_len l.out < l.end;
-  room : vec_capacity l.fn.out ≤ vec_capacity l.out;
+  room : vec_capacity l.out ≡ vec_capacity l.fn.out;
 }

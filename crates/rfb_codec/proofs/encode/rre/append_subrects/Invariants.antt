@@ -9,5 +9,5 @@ abbrev pub invariant-loop-s : goal.invariant-loop-s
 invariant-loop-s l = record {
   items : l.out.items ≡ l.fn.out.items ++ flat_map (subrect_bytes l.format) (take l.s-index l.subs);
   len : vec_len l.out ≡ vec_len l.fn.out + l.s-index * (size_of l.format + 8);
-  room : vec_capacity l.fn.out ≤ vec_capacity l.out;
+  room : vec_capacity l.out ≡ vec_capacity l.fn.out;
 }

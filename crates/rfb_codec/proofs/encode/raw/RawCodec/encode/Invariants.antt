@@ -9,7 +9,7 @@ invariant-loop-start l = record {
   items : l.out.items ≡ l.fn.out.items ++ flat_map (pixel_bytes l.format) (take l.start l.pixels);
   len : vec_len l.out ≡ vec_len l.fn.out + l.start * size_of l.format;
   within : l.start ≤ length l.pixels;
-  room : vec_capacity l.fn.out ≤ vec_capacity l.out;
+  room : vec_capacity l.out ≡ vec_capacity l.fn.out;
 }
 
 abbrev pub decreases-loop-start : goal.decreases-loop-start
