@@ -1,5 +1,5 @@
 -- A text of which no more is kept than there is room for.
-use Rattle.std.specs.Prelude.{ℕ, List, take, min}
+use Rattle.std.specs.Prelude.{ℕ, List, [], take, min}
 
 -- so many bytes at most, and those that are kept
 pub record KeptText : Type 0 where
@@ -9,3 +9,7 @@ pub record KeptText : Type 0 where
 -- what is kept of a text of so many bytes, of which these have come, under a limit
 abbrev pub kept_of : ℕ → ℕ → List ℕ → KeptText
 kept_of limit size text = record { room = min size limit; bytes = take limit text }
+
+-- no text, and no room for one
+abbrev pub no_text : KeptText
+no_text = record { room = 0; bytes = [] }

@@ -2,35 +2,31 @@
 
 ghost use Rattle.std.specs.Prelude.{◌≡◌, ◌≤◌, ◌+◌, ◌++◌, [], length, take, IfOk};
 ghost use Rattle.std.specs.Vec.{vec_capacity, vec_items};
-ghost use Rattle.rfb_hello.specs.KeptText.{KeptText};
+ghost use Rattle.rfb_hello.specs.KeptText.{KeptText, no_text};
 
 use std::alloc::{AllocError, Global};
 use std::marker::Model;
 
-/// The first bytes of a text, as many as there was room for. What they are encoded in is the server's
-/// matter.
+/// The first bytes of a text, as many as there was room for: its memory is for so many and no more. What
+/// they are encoded in is the server's matter.
 #[derive(Debug, Drop)]
 pub struct Text {
     bytes: Vec<u8>,
-    room: usize,
 }
 
 impl Model for Text {
     ghost Value = { KeptText };
 
-    ghost view = { λ t. record { room = t.room; bytes = vec_items t.bytes } };
-
-    ghost invariant = { λ t. (length (vec_items t.bytes) ≤ t.room) × (t.room ≤ vec_capacity t.bytes) };
+    ghost view = { λ t. record { room = vec_capacity t.bytes; bytes = vec_items t.bytes } };
 }
 
 impl Text {
     /// A text without room. It takes no memory.
     pub fn empty(alloc: Global) -> Text
-        ensures { result ≡ record { room = 0; bytes = [] } }
+        ensures { result ≡ no_text }
     {
         Text {
             bytes: Vec::new(alloc),
-            room: 0,
         }
     }
 
@@ -39,7 +35,7 @@ impl Text {
         ensures { IfOk result (λ text. text ≡ record { room = room; bytes = [] }) }
     {
         let bytes = Vec::with_capacity(alloc, room)?;
-        Ok(Text { bytes, room })
+        Ok(Text { bytes })
     }
 
     /// The bytes that are kept.
@@ -49,19 +45,22 @@ impl Text {
         self.bytes.as_slice()
     }
 
-    /// The bytes that are kept, which are the caller's from now on.
+    /// The bytes that are kept, which are the caller's from now on, with the memory that was taken for them.
     pub fn into_vec(self) -> Vec<u8>
-        ensures { vec_items result ≡ self.bytes }
+        ensures bytes { vec_items result ≡ self.bytes }
+        ensures room { vec_capacity result ≡ self.room }
     {
-        let Text { bytes, .. } = self;
+        let Text { bytes } = self;
         bytes
     }
 
     /// Keeps as many of these bytes behind the others as there is room for. It takes no memory.
     pub fn keep(&mut self, bytes: &[u8])
-        ensures { self.new ≡ record self.old { bytes = take self.old.room (self.old.bytes ++ bytes.now) } }
+        ensures { self.new ≡ record self.old {
+          bytes = take self.old.room (self.old.bytes ++ bytes.now);
+        } }
     {
-        let size = bytes.len().min(self.room - self.bytes.len());
+        let size = bytes.len().min(self.bytes.capacity() - self.bytes.len());
         append_within(&mut self.bytes, &bytes[..size]);
     }
 }
@@ -70,10 +69,9 @@ impl Text {
 fn append_within(kept: &mut Vec<u8>, bytes: &[u8])
     requires { length (vec_items kept.old) + length bytes.now ≤ vec_capacity kept.old }
     ensures items { vec_items kept.new ≡ vec_items kept.old ++ bytes.now }
-    ensures room { vec_capacity kept.old ≤ vec_capacity kept.new }
+    ensures room { vec_capacity kept.new ≡ vec_capacity kept.old }
 {
-    match kept.extend_from_slice(bytes) {
-        Ok(()) => {}
-        Err(_) => unreachable!(),
+    for byte in bytes {
+        kept.push_reserved(*byte);
     }
 }
