@@ -189,6 +189,10 @@ init_same max v = record { item = item; fault = λ f bytes h. told f bytes (u16_
         (s.size, rw (s.width_is, s.height_is, not_none, is_many) refl)
     fault_back f bytes h = absurd h
 
+-- a screen without a fault is admitted
+pub screen_admitted : (max : ℕ) (v : Version) (bytes : List ℕ) → length bytes ≡ 24 → screen_fault max bytes ≡ None → IsAdmitted max (u16_at 0 bytes) (u16_at 2 bytes)
+screen_admitted max v bytes size good = ((init_same max v).item (ServerInit (u16_at 0 bytes) (u16_at 2 bytes) (u32_at 20 bytes)) bytes (size, good, refl)).1
+
 abbrev name_says : ℕ → Says ServerItem HelloFault
 name_says zero = waiting_says
 name_says (suc n) = valued_says (suc n) (λ text. Name text)

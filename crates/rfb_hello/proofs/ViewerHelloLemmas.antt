@@ -28,7 +28,7 @@ use Rattle.rfb_hello.specs.ServerEnd.{as_reply}
 use Rattle.rfb_hello.specs.ViewerEnd.{ViewerSetup, viewer_end, viewer_tells, choice_bytes, told_of_init, fault_for, OpensReason, AsksMemory, AsksForReason}
 use Rattle.rfb_hello.specs.ViewerProgress.{ProgressStandsFor, fault_in, reason_in, progress_behind_version, progress_behind_types, progress_behind_init}
 use Rattle.rfb_hello.specs.ViewerStanding.{StandsFor, setup_of, IsReasonKept, KeepsReason}
-use Rattle.rfb_hello.proofs.ServerStreamLaws.{server_handshake_laws}
+use Rattle.rfb_hello.proofs.ServerStreamLaws.{server_handshake_laws, screen_admitted}
 use Rattle.rfb_hello.proofs.ViewerReadingLaws.{opened, reason_short, reason_more, reason_bad, types_next, types_more, types_good, types_bad, none_behind}
 
 pub viewer_machine : (setup : ViewerSetup) → IsMachine (viewer_end setup)
@@ -196,10 +196,12 @@ init_told setup old version part unit whole was is size good =
     stands width height zero = (version, width, height, refl, refl)
     stands width height (suc n) = (refl, omega arith, refl)
 
-pub init_asks : (setup : ViewerSetup) (old : ViewerHello) (version : Version) (part : ArrayVec ℕ) (unit whole : List ℕ) → old.progress ≡ Init version part → whole ≡ part.items ++ unit → length whole ≡ 24 → 0 < u32_at 20 whole → RunsOutBy (viewer_end setup) AsksMemory (StandsFor setup) old unit
-init_asks setup old version part unit whole was is size some =
-    asks_step AsksMemory setup old (Init version part) unit was (λ s prefix h.
-    rw (h.0, joined prefix part.items unit whole h.1 is) (u16_at 0 whole, u16_at 2 whole, u32_at 20 whole, record { size = size; width_is = refl; height_is = refl; name_length_is = refl }, some))
+pub init_asks : (setup : ViewerSetup) (old : ViewerHello) (version : Version) (part : ArrayVec ℕ) (unit whole : List ℕ) → old.progress ≡ Init version part → whole ≡ part.items ++ unit → length whole ≡ 24 → screen_fault old.max_places whole ≡ None → 0 < u32_at 20 whole → RunsOutBy (viewer_end setup) (AsksMemory setup) (StandsFor setup) old unit
+init_asks setup old version part unit whole was is size good some s prefix stands =
+    let max : old.max_places ≡ setup.max_places = ap (λ (x : ViewerSetup). x.max_places) stands.setup_is in
+    let admitted = screen_admitted setup.max_places version whole size (subst (λ (k : ℕ). screen_fault k whole ≡ None) max good) in
+    asks_step (AsksMemory setup) setup old (Init version part) unit was (λ s prefix h.
+    rw (h.0, joined prefix part.items unit whole h.1 is) (u16_at 0 whole, u16_at 2 whole, u32_at 20 whole, record { size = size; width_is = refl; height_is = refl; name_length_is = refl }, admitted, some)) s prefix stands
 
 -- ---- reasons
 
@@ -219,13 +221,13 @@ length_zero setup old new cause part unit whole was is word =
     let all : prefix ++ unit ≡ h.0 ++ (whole ++ []) = behind_intro prefix h.0 part.items unit h.2 ∙ ap (λ (ys : List ℕ). h.0 ++ ys) (sym is ∙ sym (append-nil whole)) in
     rw all (opened setup.max_places cause s h.0 (whole ++ []) h.1 ∙ reason_bad (λ n. fault_for cause n) 0 whole [] word refl))
 
-pub length_asks : (setup : ViewerSetup) (old : ViewerHello) (cause : Cause) (part : ArrayVec ℕ) (unit whole : List ℕ) (n : ℕ) → old.progress ≡ ReasonLength cause part → whole ≡ part.items ++ unit → IsWord n whole → 0 < n → RunsOutBy (viewer_end setup) AsksMemory (StandsFor setup) old unit
+pub length_asks : (setup : ViewerSetup) (old : ViewerHello) (cause : Cause) (part : ArrayVec ℕ) (unit whole : List ℕ) (n : ℕ) → old.progress ≡ ReasonLength cause part → whole ≡ part.items ++ unit → IsWord n whole → 0 < n → RunsOutBy (viewer_end setup) (AsksMemory setup) (StandsFor setup) old unit
 length_asks setup old cause part unit whole n was is word some =
-    asks_step AsksMemory setup old (ReasonLength cause part) unit was (λ s prefix h.
+    asks_step (AsksMemory setup) setup old (ReasonLength cause part) unit was (λ s prefix h.
     let all : prefix ++ unit ≡ h.0 ++ whole = behind_intro prefix h.0 part.items unit h.2 ∙ ap (λ (ys : List ℕ). h.0 ++ ys) (sym is) in
     asks s (prefix ++ unit) h.0 h.1 (cause, h.0, whole, n, all, h.1, word, some))
   where
-    asks : (s : ServerPoint) (bytes intro : List ℕ) → OpensReason cause s intro → AsksForReason s bytes → AsksMemory s bytes
+    asks : (s : ServerPoint) (bytes intro : List ℕ) → OpensReason cause s intro → AsksForReason s bytes → AsksMemory setup s bytes
     asks (AwaitsInit version) bytes intro o a = absurd (not_there cause o)
       where
         not_there : (k : Cause) → OpensReason k (AwaitsInit version) intro → ⊥

@@ -12,7 +12,7 @@ use Rattle.rfb_hello.specs.declared.viewer_hello.progress.Cause.{Cause}
 use Rattle.rfb_hello.specs.declared.viewer_hello.progress.Cause.TheVariants.{Refused, SecurityFailed}
 use Rattle.rfb_hello.specs.Version.{lower, version_text}
 use Rattle.rfb_hello.specs.KeptText.{kept_of}
-use Rattle.rfb_hello.specs.ServerHandshake.{ServerPoint, AwaitsVersion, AwaitsSecurity, AwaitsResult, AwaitsInit, AwaitsName, ServerItem, ProtocolVersion, SecurityNone, SecurityTypes, SecurityResult, ServerInit, Name, IsWord, SpellsServerInit, past_server_item}
+use Rattle.rfb_hello.specs.ServerHandshake.{ServerPoint, AwaitsVersion, AwaitsSecurity, AwaitsResult, AwaitsInit, AwaitsName, ServerItem, ProtocolVersion, SecurityNone, SecurityTypes, SecurityResult, ServerInit, Name, IsWord, SpellsServerInit, IsAdmitted, past_server_item}
 use Rattle.rfb_hello.specs.ServerReading.{server_handshake}
 use Rattle.rfb_hello.specs.ServerEnd.{as_reply}
 
@@ -69,11 +69,19 @@ OpensReason Refused (AwaitsSecurity V38) bytes = bytes ≡ 0 ∷ []
 OpensReason SecurityFailed (AwaitsResult version) bytes = (word : ℕ) × (word ≢ 0) × IsWord word bytes
 OpensReason cause point bytes = ⊥
 
--- memory is asked for once the length of a text is known that has bytes: at the last byte of ServerInit
--- before the name, and at the last byte of a reason's length
+-- memory is asked for once the length of a text is known that has bytes: so it is at the last byte of a
+-- reason's length
 abbrev pub AsksForReason : ServerPoint → List ℕ → Type 0
-AsksForReason point bytes = (cause : Cause) × (intro word : List ℕ) × (n : ℕ) × (bytes ≡ intro ++ word) × OpensReason cause point intro × IsWord n word × (0 < n)
+AsksForReason point bytes =
+    (cause : Cause) × (intro word : List ℕ) × (n : ℕ) × (bytes ≡ intro ++ word)
+    × OpensReason cause point intro × IsWord n word × (0 < n)
 
-abbrev pub AsksMemory : ServerPoint → List ℕ → Type 0
-AsksMemory (AwaitsInit version) bytes = (width height name_length : ℕ) × SpellsServerInit width height name_length bytes × (0 < name_length)
-AsksMemory point bytes = AsksForReason point bytes
+-- so it is at a good ServerInit before a name that has bytes: a screen that is refused asks for none
+abbrev pub AsksForName : ℕ → List ℕ → Type 0
+AsksForName max_places bytes =
+    (width height name_length : ℕ) × SpellsServerInit width height name_length bytes
+    × IsAdmitted max_places width height × (0 < name_length)
+
+abbrev pub AsksMemory : ViewerSetup → ServerPoint → List ℕ → Type 0
+AsksMemory setup (AwaitsInit version) bytes = AsksForName setup.max_places bytes
+AsksMemory setup point bytes = AsksForReason point bytes

@@ -1,15 +1,16 @@
 -- What a `ViewerHello` stands for: a setup, a point of the handshake, and the bytes that came of the
 -- server's next item, fewer than it has.
-use Rattle.std.specs.Prelude.{◌≡◌, ℕ, List, [], ◌++◌, length, take}
-use Rattle.rfb_wire.specs.End.{RunsOutBy}
+use Rattle.std.specs.Prelude.{◌≡◌, ◌≢◌, ℕ, Bool, List, [], ◌++◌, Option, Result, Err, length, take}
+use Rattle.rfb_wire.specs.End.{RunsOutBy, StepsBy}
 use Rattle.rfb_hello.specs.declared.fault.HelloFault.{HelloFault}
-use Rattle.rfb_hello.specs.declared.fault.HelloFault.TheVariants.{Refused as RefusedFault, SecurityFailed as FailedFault}
+use Rattle.rfb_hello.specs.declared.fault.HelloFault.TheVariants.{Refused as RefusedFault, SecurityFailed as FailedFault, NoMemory}
+use Rattle.rfb_hello.specs.declared.step.ViewerStep.{ViewerStep}
 use Rattle.rfb_hello.specs.declared.viewer_hello.progress.Cause.{Cause}
 use Rattle.rfb_hello.specs.declared.viewer_hello.progress.Cause.TheVariants.{Refused, SecurityFailed}
 use Rattle.rfb_hello.specs.declared.viewer_hello.ViewerHello.{ViewerHello}
 use Rattle.rfb_hello.specs.ServerHandshake.{ServerPoint, IsWord}
-use Rattle.rfb_hello.specs.ViewerEnd.{ViewerSetup, OpensReason, viewer_end}
-use Rattle.rfb_hello.specs.ViewerProgress.{ProgressStandsFor, reason_in}
+use Rattle.rfb_hello.specs.ViewerEnd.{ViewerSetup, OpensReason, AsksMemory, viewer_end}
+use Rattle.rfb_hello.specs.ViewerProgress.{ProgressStandsFor, fault_in, reason_in, is_open as goes_on}
 
 -- the setup that it was made with
 abbrev pub setup_of : ViewerHello → ViewerSetup
@@ -20,13 +21,45 @@ pub record StandsFor (setup : ViewerSetup) (hello : ViewerHello) (point : Server
   pub setup_is : setup_of hello ≡ setup
   pub progress_is : ProgressStandsFor setup.text_limit hello.progress point prefix
 
+-- the fault that it has failed with, if it has
+abbrev pub fault_of : ViewerHello → Option HelloFault
+fault_of hello = fault_in hello.progress
+
+-- the server's bytes go on in the handshake
+abbrev pub is_open : ViewerHello → Bool
+is_open hello = goes_on hello.progress
+
+-- what is kept of the reason that it has failed for; without one no bytes
+abbrev pub reason_of : ViewerHello → List ℕ
+reason_of hello = reason_in hello.progress
+
+-- what a step by bytes of one item answers, where memory is not wanting
+abbrev pub StepsAs : ViewerHello → List ℕ → Result (Option ViewerStep) HelloFault → ViewerHello → Type 0
+StepsAs old bytes result new =
+    result ≢ Err NoMemory → (setup : ViewerSetup)
+    → StepsBy (viewer_end setup) (StandsFor setup) old bytes result new
+
+-- where it is, the bytes have led to where it is asked for
+abbrev pub RunsOutAs : ViewerHello → List ℕ → Result (Option ViewerStep) HelloFault → Type 0
+RunsOutAs old bytes result =
+    result ≡ Err NoMemory → (setup : ViewerSetup)
+    → RunsOutBy (viewer_end setup) (AsksMemory setup) (StandsFor setup) old bytes
+
 -- a reason of so many bytes is whole at the last of these, and this is kept of its text
 abbrev pub IsReasonKept : ℕ → Cause → ℕ → List ℕ → ServerPoint → List ℕ → Type 0
-IsReasonKept limit cause n kept point bytes = (intro word text : List ℕ) × (bytes ≡ intro ++ (word ++ text)) × OpensReason cause point intro × IsWord n word × (length text ≡ n) × (kept ≡ take limit text)
+IsReasonKept limit cause n kept point bytes =
+    (intro word text : List ℕ) × (bytes ≡ intro ++ (word ++ text)) × OpensReason cause point intro
+    × IsWord n word × (length text ≡ n) × (kept ≡ take limit text)
+
+-- from each setup that the end stood for, the bytes have led there
+abbrev pub LeadsToReason : Cause → ℕ → List ℕ → ViewerHello → List ℕ → Type 0
+LeadsToReason cause n kept old bytes =
+    (setup : ViewerSetup)
+    → RunsOutBy (viewer_end setup) (IsReasonKept setup.text_limit cause n kept) (StandsFor setup) old bytes
 
 -- after a fault: the bytes have led to the last one of a reason, where one was given, and the end keeps
 -- the first bytes of its text; without a reason it keeps none
 abbrev pub KeepsReason : HelloFault → ViewerHello → List ℕ → ViewerHello → Type 0
-KeepsReason (RefusedFault n) old bytes new = (setup : ViewerSetup) → RunsOutBy (viewer_end setup) (IsReasonKept setup.text_limit Refused n (reason_in new.progress)) (StandsFor setup) old bytes
-KeepsReason (FailedFault n) old bytes new = (setup : ViewerSetup) → RunsOutBy (viewer_end setup) (IsReasonKept setup.text_limit SecurityFailed n (reason_in new.progress)) (StandsFor setup) old bytes
-KeepsReason fault old bytes new = reason_in new.progress ≡ []
+KeepsReason (RefusedFault n) old bytes new = LeadsToReason Refused n (reason_of new) old bytes
+KeepsReason (FailedFault n) old bytes new = LeadsToReason SecurityFailed n (reason_of new) old bytes
+KeepsReason fault old bytes new = reason_of new ≡ []

@@ -6,8 +6,8 @@ ghost use Rattle.rfb_wire.specs.End.{FedBy, RefusedBy, StepsBy, StaysFailed};
 ghost use Rattle.rfb_hello.specs.Version.{version_of, version_text};
 ghost use Rattle.rfb_hello.specs.ClientHandshake.{AwaitsVersion, client_version_fault};
 ghost use Rattle.rfb_hello.specs.ServerEnd.{ServerSetup, as_reply, server_end, server_init_bytes, security_bytes};
-ghost use Rattle.rfb_hello.specs.ServerStanding.{StandsFor, setup_of};
-ghost use Rattle.rfb_hello.specs.ServerProgress.{fault_in, is_open, progress_behind};
+ghost use Rattle.rfb_hello.specs.ServerStanding.{StandsFor, fault_of, is_open, setup_of};
+ghost use Rattle.rfb_hello.specs.ServerProgress.{progress_behind};
 ghost use Rattle.rfb_hello.specs.declared.server_hello.progress.Progress.{Progress};
 ghost use Rattle.arrayvec.specs.ArrayVec.{ArrayVec as Items, array_vec_len};
 
@@ -41,7 +41,9 @@ impl ServerHello {
     /// screen's size and its name.
     pub fn new(offer: Version, width: u16, height: u16, name: &[u8]) -> ServerHello
         requires { length name.now ≤ 255 }
-        ensures { StandsFor (record { offer = offer; width = width; height = height; name = name.now }) result AwaitsVersion [] }
+        ensures { StandsFor
+            (record { offer = offer; width = width; height = height; name = name.now })
+            result AwaitsVersion [] }
     {
         let mut kept = ArrayVec::new();
         append(&mut kept, name);
@@ -56,7 +58,7 @@ impl ServerHello {
 
     /// The ProtocolVersion that is sent before all else.
     pub fn greeting(&self) -> [u8; VERSION_SIZE]
-        ensures { result ≡ version_text self.now.offer }
+        ensures { result ≡ version_text (setup_of self.now).offer }
     {
         self.offer.text()
     }
@@ -67,19 +69,26 @@ impl ServerHello {
     pub fn feed(&mut self, bytes: &[u8]) -> Result<Fed<ServerStep>, HelloFault>
         // What was taken, what it was, and what is left.
         ensures used { IfOk result (λ fed. fed.used ≤ length bytes.now) }
-        ensures all { IfOk result (λ fed. fed.event ≡ None → is_open self.old.progress ≡ true → fed.used ≡ length bytes.now) }
-        ensures fed { IfOk result (λ fed. (setup : ServerSetup) → FedBy (server_end setup) (StandsFor setup) self.old (take fed.used bytes.now) fed.event self.new) }
+        ensures all { IfOk result (λ fed. fed.event ≡ None
+            → is_open self.old ≡ true → fed.used ≡ length bytes.now) }
+        ensures some { IfOk result (λ fed. is_open self.old ≡ true
+            → 0 < length bytes.now → 0 < fed.used) }
+        ensures fed { IfOk result (λ fed. (setup : ServerSetup)
+            → FedBy (server_end setup) (StandsFor setup)
+            self.old (take fed.used bytes.now) fed.event self.new) }
+        ensures setup { setup_of self.new ≡ setup_of self.old }
 
         // When a fault comes, and that it stays.
-        ensures fault { IfErr result (λ fault. fault_in self.old.progress ≡ None → (setup : ServerSetup) → RefusedBy (server_end setup) (StandsFor setup) self.old bytes.now fault) }
-        ensures fails { IfErr result (λ fault. fault_in self.new.progress ≡ Some fault) }
-        ensures failed { StaysFailed (fault_in self.old.progress) self.old result self.new }
+        ensures fault { IfErr result (λ fault. (setup : ServerSetup)
+            → RefusedBy (server_end setup) (StandsFor setup) self.old bytes.now fault) }
+        ensures fails { IfErr result (λ fault. fault_of self.new ≡ Some fault) }
+        ensures failed { StaysFailed (fault_of self.old) self.old result self.new }
     {
         if let Progress::Failed(fault) = self.progress {
             return Err(fault);
         }
         let mut used = 0;
-        while used < bytes.len() && self.progress.is_open() {
+        while used < bytes.len() && self.is_open() {
             let (n, event) = self.take(&bytes[used..])?;
             used += n;
             if event.is_some() {
@@ -89,17 +98,28 @@ impl ServerHello {
         Ok(Fed { used, event: None })
     }
 
+    /// Whether the client's bytes go on in the handshake: it is not done, and has not failed.
+    pub fn is_open(&self) -> bool
+        ensures { result ≡ is_open self.now }
+    {
+        self.progress.is_open()
+    }
+
     // Takes bytes for the client's next item, as many of it as there are: how many these were, and what
     // is told of it once it is whole.
     fn take(&mut self, bytes: &[u8]) -> Result<(usize, Option<ServerStep>), HelloFault>
         requires some { 0 < length bytes.now }
-        requires open { is_open self.old.progress ≡ true }
+        requires open { is_open self.old ≡ true }
         ensures used { IfOk result (λ taken. (0 < taken.0) × (taken.0 ≤ length bytes.now)) }
-        ensures open { IfOk result (λ taken. taken.1 ≡ None → is_open self.new.progress ≡ true) }
-        ensures going { IfOk result (λ taken. fault_in self.new.progress ≡ None) }
-        ensures fed { IfOk result (λ taken. (setup : ServerSetup) → FedBy (server_end setup) (StandsFor setup) self.old (take taken.0 bytes.now) taken.1 self.new) }
-        ensures fault { IfErr result (λ fault. (setup : ServerSetup) → RefusedBy (server_end setup) (StandsFor setup) self.old bytes.now fault) }
-        ensures fails { IfErr result (λ fault. fault_in self.new.progress ≡ Some fault) }
+        ensures open { IfOk result (λ taken. taken.1 ≡ None → is_open self.new ≡ true) }
+        ensures going { IfOk result (λ taken. fault_of self.new ≡ None) }
+        ensures fed { IfOk result (λ taken. (setup : ServerSetup)
+            → FedBy (server_end setup) (StandsFor setup)
+            self.old (take taken.0 bytes.now) taken.1 self.new) }
+        ensures setup { setup_of self.new ≡ setup_of self.old }
+        ensures fault { IfErr result (λ fault. (setup : ServerSetup)
+            → RefusedBy (server_end setup) (StandsFor setup) self.old bytes.now fault) }
+        ensures fails { IfErr result (λ fault. fault_of self.new ≡ Some fault) }
     {
         match self.progress {
             Progress::Choice(version) => {
@@ -116,10 +136,14 @@ impl ServerHello {
         requires some { 0 < length bytes.now }
         requires open { (text : Items ℕ) × (self.old.progress ≡ Progress.Version text) }
         ensures used { IfOk result (λ taken. (0 < taken.0) × (taken.0 ≤ length bytes.now)) }
-        ensures open { IfOk result (λ taken. is_open self.new.progress ≡ true) }
-        ensures fed { IfOk result (λ taken. (setup : ServerSetup) → FedBy (server_end setup) (StandsFor setup) self.old (take taken.0 bytes.now) taken.1 self.new) }
-        ensures fault { IfErr result (λ fault. (setup : ServerSetup) → RefusedBy (server_end setup) (StandsFor setup) self.old bytes.now fault) }
-        ensures fails { IfErr result (λ fault. fault_in self.new.progress ≡ Some fault) }
+        ensures open { IfOk result (λ taken. is_open self.new ≡ true) }
+        ensures fed { IfOk result (λ taken. (setup : ServerSetup)
+            → FedBy (server_end setup) (StandsFor setup)
+            self.old (take taken.0 bytes.now) taken.1 self.new) }
+        ensures setup { setup_of self.new ≡ setup_of self.old }
+        ensures fault { IfErr result (λ fault. (setup : ServerSetup)
+            → RefusedBy (server_end setup) (StandsFor setup) self.old bytes.now fault) }
+        ensures fails { IfErr result (λ fault. fault_of self.new ≡ Some fault) }
     {
         let Progress::Version(text) = &mut self.progress else {
             unreachable!()
@@ -148,9 +172,11 @@ impl ServerHello {
         choice: u8,
     ) -> Result<Option<ServerStep>, HelloFault>
         requires { self.old.progress ≡ Progress.Choice version }
-        ensures steps { (setup : ServerSetup) → StepsBy (server_end setup) (StandsFor setup) self.old (choice ∷ []) result self.new }
-        ensures open { IfOk result (λ event. is_open self.new.progress ≡ true) }
-        ensures fails { IfErr result (λ fault. fault_in self.new.progress ≡ Some fault) }
+        ensures steps { (setup : ServerSetup)
+            → StepsBy (server_end setup) (StandsFor setup) self.old (choice ∷ []) result self.new }
+        ensures setup { setup_of self.new ≡ setup_of self.old }
+        ensures open { IfOk result (λ event. is_open self.new ≡ true) }
+        ensures fails { IfErr result (λ fault. fault_of self.new ≡ Some fault) }
     {
         if choice != SECURITY_NONE {
             return Err(self.fail(HelloFault::BadSecurityChoice));
@@ -165,8 +191,11 @@ impl ServerHello {
     // Takes ClientInit, which is one byte.
     fn take_init(&mut self, version: Version, shared_flag: u8) -> ServerStep
         requires { self.old.progress ≡ Progress.Init version }
-        ensures steps { (setup : ServerSetup) → StepsBy (server_end setup) (StandsFor setup) self.old (shared_flag ∷ []) (Ok (Some result)) self.new }
-        ensures going { fault_in self.new.progress ≡ None }
+        ensures steps { (setup : ServerSetup)
+            → StepsBy (server_end setup) (StandsFor setup)
+            self.old (shared_flag ∷ []) (Ok (Some result)) self.new }
+        ensures setup { setup_of self.new ≡ setup_of self.old }
+        ensures going { fault_of self.new ≡ None }
     {
         let shared = shared_flag != 0;
         self.progress = Progress::Done(version, shared);

@@ -43,7 +43,8 @@ impl Version {
     /// The version that a ProtocolVersion stands for: 3.7 and 3.8 for themselves, any other number for
     /// 3.3. `None` where the bytes are not of the shape `RFB ddd.ddd` and a line feed.
     pub fn of_text(text: &[u8]) -> Option<Version>
-        ensures { result ≡ (if length text.now == 12 && is_version_text text.now then Some (version_of text.now) else None) }
+        ensures { result ≡ (if length text.now == 12 && is_version_text text.now
+            then Some (version_of text.now) else None) }
     {
         let &[b'R', b'F', b'B', b' ', a, b, c, b'.', d, e, f, b'\n'] = text else {
             return None;
@@ -60,7 +61,8 @@ impl Version {
 
 // The number that three decimal digits are, or `None` where one of them is no digit.
 fn number(a: u8, b: u8, c: u8) -> Option<u16>
-    ensures { result ≡ (if is_digit a && is_digit b && is_digit c then Some ((a - 48) * 100 + (b - 48) * 10 + (c - 48)) else None) }
+    ensures { result ≡ (if is_digit a && is_digit b && is_digit c
+        then Some ((a - 48) * 100 + (b - 48) * 10 + (c - 48)) else None) }
 {
     if !(a.is_ascii_digit() && b.is_ascii_digit() && c.is_ascii_digit()) {
         return None;

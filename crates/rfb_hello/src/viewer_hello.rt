@@ -1,11 +1,11 @@
 //! The viewer's end of a handshake.
 
 ghost use Rattle.std.specs.Prelude.{◌≡◌, ◌≢◌, ◌≤◌, ◌<◌, [], length, take, true, IfOk, IfErr, Some, None, Ok, Err};
-ghost use Rattle.rfb_wire.specs.End.{FedBy, RefusedBy, RunsOutBy, StepsBy, StaysFailed};
+ghost use Rattle.rfb_wire.specs.End.{FedBy, RefusedBy, RunsOutBy, StaysFailed};
+ghost use Rattle.rfb_hello.specs.KeptText.{no_text};
 ghost use Rattle.rfb_hello.specs.ServerHandshake.{AwaitsVersion};
 ghost use Rattle.rfb_hello.specs.ViewerEnd.{ViewerSetup, viewer_end, AsksMemory};
-ghost use Rattle.rfb_hello.specs.ViewerStanding.{KeepsReason, StandsFor};
-ghost use Rattle.rfb_hello.specs.ViewerProgress.{fault_in, is_open, reason_in};
+ghost use Rattle.rfb_hello.specs.ViewerStanding.{KeepsReason, RunsOutAs, StandsFor, StepsAs, fault_of, is_open, reason_of, setup_of};
 ghost use Rattle.rfb_hello.specs.declared.fault.HelloFault.TheVariants.{NoMemory};
 ghost use Rattle.rfb_hello.specs.declared.viewer_hello.progress.Progress.{Progress};
 
@@ -47,7 +47,14 @@ impl ViewerHello {
         max_places: u32,
         text_limit: u32,
     ) -> ViewerHello
-        ensures { StandsFor (record { limit = limit; shared = shared; max_places = max_places; text_limit = text_limit }) result AwaitsVersion [] }
+        ensures { StandsFor
+            (record {
+              limit = limit;
+              shared = shared;
+              max_places = max_places;
+              text_limit = text_limit;
+            })
+            result AwaitsVersion [] }
     {
         ViewerHello {
             alloc,
@@ -65,21 +72,31 @@ impl ViewerHello {
     pub fn feed(&mut self, bytes: &[u8]) -> Result<Fed<ViewerStep>, HelloFault>
         // What was taken, what it was, and what is left.
         ensures used { IfOk result (λ fed. fed.used ≤ length bytes.now) }
-        ensures all { IfOk result (λ fed. fed.event ≡ None → is_open self.old.progress ≡ true → fed.used ≡ length bytes.now) }
-        ensures fed { IfOk result (λ fed. (setup : ViewerSetup) → FedBy (viewer_end setup) (StandsFor setup) self.old (take fed.used bytes.now) fed.event self.new) }
+        ensures all { IfOk result (λ fed. fed.event ≡ None
+            → is_open self.old ≡ true → fed.used ≡ length bytes.now) }
+        ensures some { IfOk result (λ fed. is_open self.old ≡ true
+            → 0 < length bytes.now → 0 < fed.used) }
+        ensures fed { IfOk result (λ fed. (setup : ViewerSetup)
+            → FedBy (viewer_end setup) (StandsFor setup)
+            self.old (take fed.used bytes.now) fed.event self.new) }
+        ensures setup { setup_of self.new ≡ setup_of self.old }
 
         // When a fault comes, when memory is wanting, and that it stays.
-        ensures fault { IfErr result (λ fault. fault ≢ NoMemory → fault_in self.old.progress ≡ None → (setup : ViewerSetup) → RefusedBy (viewer_end setup) (StandsFor setup) self.old bytes.now fault) }
-        ensures memory { IfErr result (λ fault. fault ≡ NoMemory → fault_in self.old.progress ≡ None → (setup : ViewerSetup) → RunsOutBy (viewer_end setup) AsksMemory (StandsFor setup) self.old bytes.now) }
-        ensures reason { IfErr result (λ fault. fault_in self.old.progress ≡ None → KeepsReason fault self.old bytes.now self.new) }
-        ensures fails { IfErr result (λ fault. fault_in self.new.progress ≡ Some fault) }
-        ensures failed { StaysFailed (fault_in self.old.progress) self.old result self.new }
+        ensures fault { IfErr result (λ fault. fault ≢ NoMemory → (setup : ViewerSetup)
+            → RefusedBy (viewer_end setup) (StandsFor setup) self.old bytes.now fault) }
+        ensures memory { IfErr result (λ fault. fault ≡ NoMemory → (setup : ViewerSetup)
+            → RunsOutBy (viewer_end setup) (AsksMemory setup) (StandsFor setup)
+            self.old bytes.now) }
+        ensures reason { IfErr result (λ fault. fault_of self.old ≡ None
+            → KeepsReason fault self.old bytes.now self.new) }
+        ensures fails { IfErr result (λ fault. fault_of self.new ≡ Some fault) }
+        ensures failed { StaysFailed (fault_of self.old) self.old result self.new }
     {
         if let Progress::Failed(fault, _) = self.progress {
             return Err(fault);
         }
         let mut used = 0;
-        while used < bytes.len() && self.progress.is_open() {
+        while used < bytes.len() && self.is_open() {
             let (n, told) = self.take(&bytes[used..]);
             used += n;
             let event = told?;
@@ -93,7 +110,7 @@ impl ViewerHello {
     /// What is kept of the reason that the server gave, after `Refused` and `SecurityFailed`; before a
     /// fault, and after another, no bytes. What they are encoded in is the server's matter.
     pub fn reason(&self) -> &[u8]
-        ensures { result.now ≡ reason_in self.now.progress }
+        ensures { result.now ≡ reason_of self.now }
     {
         match &self.progress {
             Progress::Failed(_, kept) => kept.as_slice(),
@@ -101,18 +118,27 @@ impl ViewerHello {
         }
     }
 
+    /// Whether the server's bytes go on in the handshake: it is not done, and has not failed.
+    pub fn is_open(&self) -> bool
+        ensures { result ≡ is_open self.now }
+    {
+        self.progress.is_open()
+    }
+
     // Takes bytes of the server's next item, as many of it as there are: how many these were, and what is
     // told of it once it is whole.
     fn take(&mut self, bytes: &[u8]) -> (usize, Result<Option<ViewerStep>, HelloFault>)
         requires some { 0 < length bytes.now }
-        requires open { is_open self.old.progress ≡ true }
+        requires open { is_open self.old ≡ true }
         ensures used { (0 < result.0) × (result.0 ≤ length bytes.now) }
-        ensures open { IfOk result.1 (λ event. event ≡ None → is_open self.new.progress ≡ true) }
-        ensures going { IfOk result.1 (λ event. fault_in self.new.progress ≡ None) }
-        ensures fails { IfErr result.1 (λ fault. fault_in self.new.progress ≡ Some fault) }
-        ensures steps { result.1 ≢ Err NoMemory → (setup : ViewerSetup) → StepsBy (viewer_end setup) (StandsFor setup) self.old (take result.0 bytes.now) result.1 self.new }
-        ensures memory { result.1 ≡ Err NoMemory → (setup : ViewerSetup) → RunsOutBy (viewer_end setup) AsksMemory (StandsFor setup) self.old (take result.0 bytes.now) }
-        ensures reason { IfErr result.1 (λ fault. KeepsReason fault self.old (take result.0 bytes.now) self.new) }
+        ensures open { IfOk result.1 (λ event. event ≡ None → is_open self.new ≡ true) }
+        ensures going { IfOk result.1 (λ event. fault_of self.new ≡ None) }
+        ensures fails { IfErr result.1 (λ fault. fault_of self.new ≡ Some fault) }
+        ensures steps { StepsAs self.old (take result.0 bytes.now) result.1 self.new }
+        ensures memory { RunsOutAs self.old (take result.0 bytes.now) result.1 }
+        ensures setup { setup_of self.new ≡ setup_of self.old }
+        ensures reason { IfErr result.1 (λ fault.
+            KeepsReason fault self.old (take result.0 bytes.now) self.new) }
     {
         match self.progress {
             Progress::Version(_) => self.take_version(bytes),
@@ -134,7 +160,7 @@ impl ViewerHello {
     // Holds a fault from now on, for which no reason was given.
     fn fail(&mut self, fault: HelloFault) -> HelloFault
         ensures value { result ≡ fault }
-        ensures after { self.new ≡ record self.old { progress = Progress.Failed fault (record { room = 0; bytes = [] }) } }
+        ensures after { self.new ≡ record self.old { progress = Progress.Failed fault no_text } }
     {
         self.progress = Progress::Failed(fault, Text::empty(self.alloc));
         fault

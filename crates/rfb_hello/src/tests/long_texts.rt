@@ -84,3 +84,22 @@ fn a_screen_is_judged_at_its_last_byte_before_the_name(rt: HostRuntime) {
         }
     }
 }
+
+#[test]
+fn a_refused_screen_is_told_of_whatever_name_it_has(rt: HostRuntime) {
+    let screens = [
+        (b"\0\0\0\x01", HelloFault::ScreenEmpty),
+        (b"\0\x01\0\0", HelloFault::ScreenEmpty),
+        (b"\x10\0\x10\x01", HelloFault::ScreenTooLarge),
+    ];
+    for (size, wanted) in screens {
+        for name_length in [b"\0\0\0\x01", b"\xFF\xFF\xFF\xFF"] {
+            let mut hello = ViewerHello::new(rt.alloc(), Version::V38, true, 16_777_216, u32::MAX);
+            for bytes in [&BEGUN[..12], &BEGUN[12..], size, &[0; 16]] {
+                assert!(rt; hello.feed(bytes).is_ok());
+            }
+            assert_eq!(rt; hello.feed(name_length).err(), Some(wanted));
+            assert!(rt; hello.reason().is_empty());
+        }
+    }
+}

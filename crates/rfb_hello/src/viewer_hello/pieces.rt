@@ -19,8 +19,12 @@ pub fn gather<const PART: usize, const SIZE: usize>(
     requires size { SIZE ≡ PART + 1 }
     requires some { 0 < length bytes.now }
     ensures used { (0 < result.0) × (result.0 ≤ length bytes.now) }
-    ensures more { result.1 ≡ None → (part.new.items ≡ part.old.items ++ take result.0 bytes.now) × (length part.new.items < SIZE) }
-    ensures whole { IfSome result.1 (λ whole. (whole.items ≡ part.old.items ++ take result.0 bytes.now) × (length whole.items ≡ SIZE)) }
+    ensures more { result.1 ≡ None
+        → (part.new.items ≡ part.old.items ++ take result.0 bytes.now)
+        × (length part.new.items < SIZE) }
+    ensures whole { IfSome result.1 (λ whole.
+        (whole.items ≡ part.old.items ++ take result.0 bytes.now)
+        × (length whole.items ≡ SIZE)) }
 {
     let missing = SIZE - part.len();
     if bytes.len() < missing {
@@ -38,7 +42,9 @@ pub fn gather<const PART: usize, const SIZE: usize>(
 pub fn read_text(kept: &mut Text, more: &mut u32, bytes: &[u8]) -> (usize, bool)
     requires some { 0 < length bytes.now }
     ensures used { (0 < result.0) × (result.0 ≤ length bytes.now) }
-    ensures kept { kept.new ≡ record kept.old { bytes = take kept.old.room (kept.old.bytes ++ take result.0 bytes.now) } }
+    ensures kept { kept.new ≡ record kept.old {
+      bytes = take kept.old.room (kept.old.bytes ++ take result.0 bytes.now);
+    } }
     ensures more { result.1 ≡ false → result.0 + more.new ≡ more.old }
     ensures whole { result.1 ≡ true → result.0 ≡ more.old + 1 }
 {

@@ -2,11 +2,11 @@
 
 ghost use Rattle.std.specs.Prelude.{◌≡◌, ◌≢◌, ◌≤◌, ◌<◌, ℕ, [], ◌∷◌, length, take, true, IfOk, IfErr, Some, None, Ok, Err, Bool};
 ghost use Rattle.arrayvec.specs.ArrayVec.{ArrayVec as Items};
-ghost use Rattle.rfb_wire.specs.End.{RunsOutBy, StepsBy};
+ghost use Rattle.rfb_wire.specs.End.{StepsBy};
 ghost use Rattle.rfb_hello.specs.Version.{lower};
-ghost use Rattle.rfb_hello.specs.ViewerEnd.{ViewerSetup, viewer_end, choice_bytes, shared_flag, AsksMemory};
-ghost use Rattle.rfb_hello.specs.ViewerStanding.{KeepsReason, StandsFor};
-ghost use Rattle.rfb_hello.specs.ViewerProgress.{fault_in, is_open, progress_behind_version, progress_behind_types};
+ghost use Rattle.rfb_hello.specs.ViewerEnd.{ViewerSetup, viewer_end, choice_bytes, shared_flag};
+ghost use Rattle.rfb_hello.specs.ViewerStanding.{KeepsReason, RunsOutAs, StandsFor, StepsAs, fault_of, is_open, setup_of};
+ghost use Rattle.rfb_hello.specs.ViewerProgress.{progress_behind_version, progress_behind_types};
 ghost use Rattle.rfb_hello.specs.declared.fault.HelloFault.TheVariants.{NoMemory};
 ghost use Rattle.rfb_hello.specs.declared.viewer_hello.progress.Progress.{Progress};
 
@@ -28,12 +28,14 @@ impl ViewerHello {
         requires some { 0 < length bytes.now }
         requires open { (part : Items ℕ) × (self.old.progress ≡ Progress.Version part) }
         ensures used { (0 < result.0) × (result.0 ≤ length bytes.now) }
-        ensures open { IfOk result.1 (λ event. event ≡ None → is_open self.new.progress ≡ true) }
-        ensures going { IfOk result.1 (λ event. fault_in self.new.progress ≡ None) }
-        ensures fails { IfErr result.1 (λ fault. fault_in self.new.progress ≡ Some fault) }
-        ensures steps { result.1 ≢ Err NoMemory → (setup : ViewerSetup) → StepsBy (viewer_end setup) (StandsFor setup) self.old (take result.0 bytes.now) result.1 self.new }
-        ensures memory { result.1 ≡ Err NoMemory → (setup : ViewerSetup) → RunsOutBy (viewer_end setup) AsksMemory (StandsFor setup) self.old (take result.0 bytes.now) }
-        ensures reason { IfErr result.1 (λ fault. KeepsReason fault self.old (take result.0 bytes.now) self.new) }
+        ensures open { IfOk result.1 (λ event. event ≡ None → is_open self.new ≡ true) }
+        ensures going { IfOk result.1 (λ event. fault_of self.new ≡ None) }
+        ensures fails { IfErr result.1 (λ fault. fault_of self.new ≡ Some fault) }
+        ensures steps { StepsAs self.old (take result.0 bytes.now) result.1 self.new }
+        ensures memory { RunsOutAs self.old (take result.0 bytes.now) result.1 }
+        ensures setup { setup_of self.new ≡ setup_of self.old }
+        ensures reason { IfErr result.1 (λ fault.
+            KeepsReason fault self.old (take result.0 bytes.now) self.new) }
     {
         let Progress::Version(part) = &mut self.progress else {
             unreachable!()
@@ -58,12 +60,14 @@ impl ViewerHello {
         requires some { 0 < length bytes.now }
         requires open { (part : Items ℕ) × (self.old.progress ≡ Progress.Word part) }
         ensures used { (0 < result.0) × (result.0 ≤ length bytes.now) }
-        ensures open { IfOk result.1 (λ event. event ≡ None → is_open self.new.progress ≡ true) }
-        ensures going { IfOk result.1 (λ event. fault_in self.new.progress ≡ None) }
-        ensures fails { IfErr result.1 (λ fault. fault_in self.new.progress ≡ Some fault) }
-        ensures steps { result.1 ≢ Err NoMemory → (setup : ViewerSetup) → StepsBy (viewer_end setup) (StandsFor setup) self.old (take result.0 bytes.now) result.1 self.new }
-        ensures memory { result.1 ≡ Err NoMemory → (setup : ViewerSetup) → RunsOutBy (viewer_end setup) AsksMemory (StandsFor setup) self.old (take result.0 bytes.now) }
-        ensures reason { IfErr result.1 (λ fault. KeepsReason fault self.old (take result.0 bytes.now) self.new) }
+        ensures open { IfOk result.1 (λ event. event ≡ None → is_open self.new ≡ true) }
+        ensures going { IfOk result.1 (λ event. fault_of self.new ≡ None) }
+        ensures fails { IfErr result.1 (λ fault. fault_of self.new ≡ Some fault) }
+        ensures steps { StepsAs self.old (take result.0 bytes.now) result.1 self.new }
+        ensures memory { RunsOutAs self.old (take result.0 bytes.now) result.1 }
+        ensures setup { setup_of self.new ≡ setup_of self.old }
+        ensures reason { IfErr result.1 (λ fault.
+            KeepsReason fault self.old (take result.0 bytes.now) self.new) }
     {
         let Progress::Word(part) = &mut self.progress else {
             unreachable!()
@@ -89,8 +93,11 @@ impl ViewerHello {
     // Takes the count of the server's security types.
     pub(super) fn take_count(&mut self, version: Version, count: u8)
         requires { self.old.progress ≡ Progress.Count version }
-        ensures steps { (setup : ViewerSetup) → StepsBy (viewer_end setup) (StandsFor setup) self.old (count ∷ []) (Ok None) self.new }
-        ensures open { is_open self.new.progress ≡ true }
+        ensures steps { (setup : ViewerSetup)
+            → StepsBy (viewer_end setup) (StandsFor setup)
+            self.old (count ∷ []) (Ok None) self.new }
+        ensures setup { setup_of self.new ≡ setup_of self.old }
+        ensures open { is_open self.new ≡ true }
     {
         self.progress = match count.checked_sub(1) {
             None => before_reason(Cause::Refused),
@@ -108,14 +115,17 @@ impl ViewerHello {
         bytes: &[u8],
     ) -> (usize, Result<Option<ViewerStep>, HelloFault>)
         requires some { 0 < length bytes.now }
-        requires open { (version : Version) × (more : ℕ) × (none : Bool) × (self.old.progress ≡ Progress.Types version more none) }
+        requires open { (version : Version) × (more : ℕ) × (none : Bool)
+            × (self.old.progress ≡ Progress.Types version more none) }
         ensures used { (0 < result.0) × (result.0 ≤ length bytes.now) }
-        ensures open { IfOk result.1 (λ event. event ≡ None → is_open self.new.progress ≡ true) }
-        ensures going { IfOk result.1 (λ event. fault_in self.new.progress ≡ None) }
-        ensures fails { IfErr result.1 (λ fault. fault_in self.new.progress ≡ Some fault) }
-        ensures steps { result.1 ≢ Err NoMemory → (setup : ViewerSetup) → StepsBy (viewer_end setup) (StandsFor setup) self.old (take result.0 bytes.now) result.1 self.new }
-        ensures memory { result.1 ≡ Err NoMemory → (setup : ViewerSetup) → RunsOutBy (viewer_end setup) AsksMemory (StandsFor setup) self.old (take result.0 bytes.now) }
-        ensures reason { IfErr result.1 (λ fault. KeepsReason fault self.old (take result.0 bytes.now) self.new) }
+        ensures open { IfOk result.1 (λ event. event ≡ None → is_open self.new ≡ true) }
+        ensures going { IfOk result.1 (λ event. fault_of self.new ≡ None) }
+        ensures fails { IfErr result.1 (λ fault. fault_of self.new ≡ Some fault) }
+        ensures steps { StepsAs self.old (take result.0 bytes.now) result.1 self.new }
+        ensures memory { RunsOutAs self.old (take result.0 bytes.now) result.1 }
+        ensures setup { setup_of self.new ≡ setup_of self.old }
+        ensures reason { IfErr result.1 (λ fault.
+            KeepsReason fault self.old (take result.0 bytes.now) self.new) }
     {
         let Progress::Types {
             version,
@@ -146,14 +156,17 @@ impl ViewerHello {
         bytes: &[u8],
     ) -> (usize, Result<Option<ViewerStep>, HelloFault>)
         requires some { 0 < length bytes.now }
-        requires open { (version : Version) × (part : Items ℕ) × (self.old.progress ≡ Progress.Result version part) }
+        requires open { (version : Version) × (part : Items ℕ)
+            × (self.old.progress ≡ Progress.Result version part) }
         ensures used { (0 < result.0) × (result.0 ≤ length bytes.now) }
-        ensures open { IfOk result.1 (λ event. event ≡ None → is_open self.new.progress ≡ true) }
-        ensures going { IfOk result.1 (λ event. fault_in self.new.progress ≡ None) }
-        ensures fails { IfErr result.1 (λ fault. fault_in self.new.progress ≡ Some fault) }
-        ensures steps { result.1 ≢ Err NoMemory → (setup : ViewerSetup) → StepsBy (viewer_end setup) (StandsFor setup) self.old (take result.0 bytes.now) result.1 self.new }
-        ensures memory { result.1 ≡ Err NoMemory → (setup : ViewerSetup) → RunsOutBy (viewer_end setup) AsksMemory (StandsFor setup) self.old (take result.0 bytes.now) }
-        ensures reason { IfErr result.1 (λ fault. KeepsReason fault self.old (take result.0 bytes.now) self.new) }
+        ensures open { IfOk result.1 (λ event. event ≡ None → is_open self.new ≡ true) }
+        ensures going { IfOk result.1 (λ event. fault_of self.new ≡ None) }
+        ensures fails { IfErr result.1 (λ fault. fault_of self.new ≡ Some fault) }
+        ensures steps { StepsAs self.old (take result.0 bytes.now) result.1 self.new }
+        ensures memory { RunsOutAs self.old (take result.0 bytes.now) result.1 }
+        ensures setup { setup_of self.new ≡ setup_of self.old }
+        ensures reason { IfErr result.1 (λ fault.
+            KeepsReason fault self.old (take result.0 bytes.now) self.new) }
     {
         let Progress::Result(version, part) = &mut self.progress else {
             unreachable!()

@@ -2,12 +2,11 @@
 
 ghost use Rattle.std.specs.Prelude.{◌≡◌, ◌≢◌, ◌≤◌, ◌<◌, ℕ, [], length, take, true, IfOk, IfErr, Some, None, Ok, Err};
 ghost use Rattle.arrayvec.specs.ArrayVec.{ArrayVec as Items};
-ghost use Rattle.rfb_wire.specs.End.{RunsOutBy, StepsBy};
 ghost use Rattle.rfb_hello.specs.KeptText.{KeptText, kept_of};
 ghost use Rattle.rfb_hello.specs.ServerReading.{screen_fault};
-ghost use Rattle.rfb_hello.specs.ViewerEnd.{ViewerSetup, viewer_end, told_of_init, AsksMemory};
-ghost use Rattle.rfb_hello.specs.ViewerStanding.{KeepsReason, StandsFor};
-ghost use Rattle.rfb_hello.specs.ViewerProgress.{fault_in, is_open, progress_behind_init};
+ghost use Rattle.rfb_hello.specs.ViewerEnd.{told_of_init};
+ghost use Rattle.rfb_hello.specs.ViewerStanding.{KeepsReason, RunsOutAs, StandsFor, StepsAs, fault_of, is_open, setup_of};
+ghost use Rattle.rfb_hello.specs.ViewerProgress.{progress_behind_init};
 ghost use Rattle.rfb_hello.specs.declared.fault.HelloFault.TheVariants.{NoMemory};
 ghost use Rattle.rfb_hello.specs.declared.viewer_hello.progress.Progress.{Progress};
 ghost use Rattle.rfb_hello.specs.declared.viewer_hello.progress.Cause.{Cause};
@@ -30,14 +29,17 @@ impl ViewerHello {
         bytes: &[u8],
     ) -> (usize, Result<Option<ViewerStep>, HelloFault>)
         requires some { 0 < length bytes.now }
-        requires open { (cause : Cause) × (part : Items ℕ) × (self.old.progress ≡ Progress.ReasonLength cause part) }
+        requires open { (cause : Cause) × (part : Items ℕ)
+            × (self.old.progress ≡ Progress.ReasonLength cause part) }
         ensures used { (0 < result.0) × (result.0 ≤ length bytes.now) }
-        ensures open { IfOk result.1 (λ event. event ≡ None → is_open self.new.progress ≡ true) }
-        ensures going { IfOk result.1 (λ event. fault_in self.new.progress ≡ None) }
-        ensures fails { IfErr result.1 (λ fault. fault_in self.new.progress ≡ Some fault) }
-        ensures steps { result.1 ≢ Err NoMemory → (setup : ViewerSetup) → StepsBy (viewer_end setup) (StandsFor setup) self.old (take result.0 bytes.now) result.1 self.new }
-        ensures memory { result.1 ≡ Err NoMemory → (setup : ViewerSetup) → RunsOutBy (viewer_end setup) AsksMemory (StandsFor setup) self.old (take result.0 bytes.now) }
-        ensures reason { IfErr result.1 (λ fault. KeepsReason fault self.old (take result.0 bytes.now) self.new) }
+        ensures open { IfOk result.1 (λ event. event ≡ None → is_open self.new ≡ true) }
+        ensures going { IfOk result.1 (λ event. fault_of self.new ≡ None) }
+        ensures fails { IfErr result.1 (λ fault. fault_of self.new ≡ Some fault) }
+        ensures steps { StepsAs self.old (take result.0 bytes.now) result.1 self.new }
+        ensures memory { RunsOutAs self.old (take result.0 bytes.now) result.1 }
+        ensures setup { setup_of self.new ≡ setup_of self.old }
+        ensures reason { IfErr result.1 (λ fault.
+            KeepsReason fault self.old (take result.0 bytes.now) self.new) }
     {
         let Progress::ReasonLength { cause, part } = &mut self.progress else {
             unreachable!()
@@ -69,14 +71,17 @@ impl ViewerHello {
         bytes: &[u8],
     ) -> (usize, Result<Option<ViewerStep>, HelloFault>)
         requires some { 0 < length bytes.now }
-        requires open { (cause : Cause) × (n more : ℕ) × (kept : KeptText) × (self.old.progress ≡ Progress.Reason cause n more kept) }
+        requires open { (cause : Cause) × (n more : ℕ) × (kept : KeptText)
+            × (self.old.progress ≡ Progress.Reason cause n more kept) }
         ensures used { (0 < result.0) × (result.0 ≤ length bytes.now) }
-        ensures open { IfOk result.1 (λ event. event ≡ None → is_open self.new.progress ≡ true) }
-        ensures going { IfOk result.1 (λ event. fault_in self.new.progress ≡ None) }
-        ensures fails { IfErr result.1 (λ fault. fault_in self.new.progress ≡ Some fault) }
-        ensures steps { result.1 ≢ Err NoMemory → (setup : ViewerSetup) → StepsBy (viewer_end setup) (StandsFor setup) self.old (take result.0 bytes.now) result.1 self.new }
-        ensures memory { result.1 ≡ Err NoMemory → (setup : ViewerSetup) → RunsOutBy (viewer_end setup) AsksMemory (StandsFor setup) self.old (take result.0 bytes.now) }
-        ensures reason { IfErr result.1 (λ fault. KeepsReason fault self.old (take result.0 bytes.now) self.new) }
+        ensures open { IfOk result.1 (λ event. event ≡ None → is_open self.new ≡ true) }
+        ensures going { IfOk result.1 (λ event. fault_of self.new ≡ None) }
+        ensures fails { IfErr result.1 (λ fault. fault_of self.new ≡ Some fault) }
+        ensures steps { StepsAs self.old (take result.0 bytes.now) result.1 self.new }
+        ensures memory { RunsOutAs self.old (take result.0 bytes.now) result.1 }
+        ensures setup { setup_of self.new ≡ setup_of self.old }
+        ensures reason { IfErr result.1 (λ fault.
+            KeepsReason fault self.old (take result.0 bytes.now) self.new) }
     {
         let Progress::Reason { more, kept, .. } = &mut self.progress else {
             unreachable!()
@@ -105,14 +110,17 @@ impl ViewerHello {
         bytes: &[u8],
     ) -> (usize, Result<Option<ViewerStep>, HelloFault>)
         requires some { 0 < length bytes.now }
-        requires open { (version : Version) × (part : Items ℕ) × (self.old.progress ≡ Progress.Init version part) }
+        requires open { (version : Version) × (part : Items ℕ)
+            × (self.old.progress ≡ Progress.Init version part) }
         ensures used { (0 < result.0) × (result.0 ≤ length bytes.now) }
-        ensures open { IfOk result.1 (λ event. event ≡ None → is_open self.new.progress ≡ true) }
-        ensures going { IfOk result.1 (λ event. fault_in self.new.progress ≡ None) }
-        ensures fails { IfErr result.1 (λ fault. fault_in self.new.progress ≡ Some fault) }
-        ensures steps { result.1 ≢ Err NoMemory → (setup : ViewerSetup) → StepsBy (viewer_end setup) (StandsFor setup) self.old (take result.0 bytes.now) result.1 self.new }
-        ensures memory { result.1 ≡ Err NoMemory → (setup : ViewerSetup) → RunsOutBy (viewer_end setup) AsksMemory (StandsFor setup) self.old (take result.0 bytes.now) }
-        ensures reason { IfErr result.1 (λ fault. KeepsReason fault self.old (take result.0 bytes.now) self.new) }
+        ensures open { IfOk result.1 (λ event. event ≡ None → is_open self.new ≡ true) }
+        ensures going { IfOk result.1 (λ event. fault_of self.new ≡ None) }
+        ensures fails { IfErr result.1 (λ fault. fault_of self.new ≡ Some fault) }
+        ensures steps { StepsAs self.old (take result.0 bytes.now) result.1 self.new }
+        ensures memory { RunsOutAs self.old (take result.0 bytes.now) result.1 }
+        ensures setup { setup_of self.new ≡ setup_of self.old }
+        ensures reason { IfErr result.1 (λ fault.
+            KeepsReason fault self.old (take result.0 bytes.now) self.new) }
     {
         let Progress::Init(version, part) = &mut self.progress else {
             unreachable!()
@@ -144,7 +152,10 @@ impl ViewerHello {
         height: u16,
         length: u32,
     ) -> Result<(Progress, ViewerStep), AllocError>
-        ensures ok { IfOk result (λ behind. (behind.0 ≡ progress_behind_init self.now.text_limit version width height length) × (behind.1 ≡ told_of_init self.now.text_limit version width height length)) }
+        ensures progress { IfOk result (λ behind.
+            behind.0 ≡ progress_behind_init self.now.text_limit version width height length) }
+        ensures told { IfOk result (λ behind.
+            behind.1 ≡ told_of_init self.now.text_limit version width height length) }
         ensures asked { IfErr result (λ _. 0 < length) }
     {
         let Some(more) = length.checked_sub(1) else {
@@ -175,14 +186,17 @@ impl ViewerHello {
         bytes: &[u8],
     ) -> (usize, Result<Option<ViewerStep>, HelloFault>)
         requires some { 0 < length bytes.now }
-        requires open { (version : Version) × (width height n more : ℕ) × (kept : KeptText) × (self.old.progress ≡ Progress.Name version width height n more kept) }
+        requires open { (version : Version) × (width height n more : ℕ) × (kept : KeptText)
+            × (self.old.progress ≡ Progress.Name version width height n more kept) }
         ensures used { (0 < result.0) × (result.0 ≤ length bytes.now) }
-        ensures open { IfOk result.1 (λ event. event ≡ None → is_open self.new.progress ≡ true) }
-        ensures going { IfOk result.1 (λ event. fault_in self.new.progress ≡ None) }
-        ensures fails { IfErr result.1 (λ fault. fault_in self.new.progress ≡ Some fault) }
-        ensures steps { result.1 ≢ Err NoMemory → (setup : ViewerSetup) → StepsBy (viewer_end setup) (StandsFor setup) self.old (take result.0 bytes.now) result.1 self.new }
-        ensures memory { result.1 ≡ Err NoMemory → (setup : ViewerSetup) → RunsOutBy (viewer_end setup) AsksMemory (StandsFor setup) self.old (take result.0 bytes.now) }
-        ensures reason { IfErr result.1 (λ fault. KeepsReason fault self.old (take result.0 bytes.now) self.new) }
+        ensures open { IfOk result.1 (λ event. event ≡ None → is_open self.new ≡ true) }
+        ensures going { IfOk result.1 (λ event. fault_of self.new ≡ None) }
+        ensures fails { IfErr result.1 (λ fault. fault_of self.new ≡ Some fault) }
+        ensures steps { StepsAs self.old (take result.0 bytes.now) result.1 self.new }
+        ensures memory { RunsOutAs self.old (take result.0 bytes.now) result.1 }
+        ensures setup { setup_of self.new ≡ setup_of self.old }
+        ensures reason { IfErr result.1 (λ fault.
+            KeepsReason fault self.old (take result.0 bytes.now) self.new) }
     {
         let Progress::Name { more, kept, .. } = &mut self.progress else {
             unreachable!()

@@ -15,8 +15,10 @@ returns-in_err-n c =
     rw (p.1, p.2) (record {
       used = tt;
       all = tt;
+      some = tt;
       fed = tt;
-      fault = λ none setup. refused_later (server_end setup) (server_machine setup) (StandsFor setup) c.args.self.now c.loop-used.self c.loop-used.used c.args.bytes.now c.in_err-n.field-0.0 (c.loop-used.invariant.fed setup) (rw rest at (c.in_err-n.ensures.fault setup));
+      setup = c.in_err-n.ensures.setup ∙ c.loop-used.invariant.setup;
+      fault = λ setup. refused_later (server_end setup) (server_machine setup) (StandsFor setup) c.args.self.now c.loop-used.self c.loop-used.used c.args.bytes.now c.in_err-n.field-0.0 (c.loop-used.invariant.fed setup) (rw rest at (c.in_err-n.ensures.fault setup));
       fails = c.in_err-n.ensures.fails;
       failed = λ f h. absurd cc;
     })
@@ -29,7 +31,9 @@ returns-then-is_some c =
     record {
       used = omega (arith, length-drop c.loop-used.used c.args.bytes.now, within, c.loop-used.invariant.within);
       all = λ none. absurd (some_told c.in_ok-n.event (sym c.is_some.ensures ∙ c.if-is_some.true) none);
+      some = λ is any. omega (arith, c.in_ok-n.ensures.used.0);
       fed = λ setup. fed_more (server_end setup) (server_machine setup) (StandsFor setup) c.args.self.now c.loop-used.self c.take.new.self c.loop-used.used c.in_ok-n.n c.args.bytes.now c.in_ok-n.event (c.loop-used.invariant.fed setup) (rw rest at (c.in_ok-n.ensures.fed setup));
+      setup = c.in_ok-n.ensures.setup ∙ c.loop-used.invariant.setup;
       fault = tt;
       fails = tt;
       failed = λ f h. absurd cc;
@@ -45,5 +49,6 @@ loop-used-preserved c =
       began = c.loop-used.invariant.began;
       going = c.in_ok-n.ensures.going;
       stays_open = λ _. c.in_ok-n.ensures.open none;
+      setup = c.in_ok-n.ensures.setup ∙ c.loop-used.invariant.setup;
       fed = λ setup. fed_more (server_end setup) (server_machine setup) (StandsFor setup) c.args.self.now c.loop-used.self c.take.new.self c.loop-used.used c.in_ok-n.n c.args.bytes.now None (c.loop-used.invariant.fed setup) (rw (rest, none) at (c.in_ok-n.ensures.fed setup));
     }

@@ -1,4 +1,4 @@
-use Rattle.std.proofs.Common.{◌≡◌, ◌∙◌, ◌≤◌, sym, subst, ℕ, List, ◌-◌, length, take, drop, length-drop, ap, Option, Ok, Err, None, arith}
+use Rattle.std.proofs.Common.{◌≡◌, refl, ◌∙◌, ◌≤◌, sym, subst, ℕ, List, ◌-◌, length, take, drop, length-drop, ap, Option, Ok, Err, None, arith}
 use Rattle.std.proofs.lemmas.List.{take_rest}
 use Rattle.std.proofs.lemmas.Result.{err_from_is_err_and}
 use Rattle.rfb_wire.proofs.FeedLaws.{fed_step, fault_step, memory_step}
@@ -13,7 +13,7 @@ use Rattle.rfb_hello.proofs.viewer_hello.ViewerHello.feed.Goals as goal
 pub loop-used-init : goal.loop-used-init
 loop-used-init c =
     let none = not_failed c.args.self.now.progress (λ fault kept e. c.in_default.not-Failed fault kept e) in
-    record { within = omega arith; began = none; going = none; stays_open = λ goes. goes; fed = λ setup. viewer_starts setup c.args.self.now }
+    record { within = omega arith; began = none; going = none; stays_open = λ goes. goes; setup = refl; fed = λ setup. viewer_starts setup c.args.self.now }
 
 pub returns-in_err-event : goal.returns-in_err-event
 returns-in_err-event c =
@@ -25,13 +25,15 @@ returns-in_err-event c =
     rw (p.1, p.2) (record {
       used = tt;
       all = tt;
+      some = tt;
       fed = tt;
-      fault = λ other none setup.
+      setup = c.take-n.ensures.setup ∙ c.loop-used.invariant.setup;
+      fault = λ other setup.
           let steps = c.take-n.ensures.steps (λ e. let same : fault ≡ NoMemory = cc in other same) setup in
           fault_step (viewer_end setup) (viewer_machine setup) (StandsFor setup) c.args.self.now c.loop-used.self c.take-n.new.self c.loop-used.used c.take-n.result.0 c.args.bytes.now fault (c.loop-used.invariant.fed setup) (step_there setup c.loop-used.self c.take-n.new.self c.take-n.result.0 _ _ _ _ rest was steps);
-      memory = λ is none setup.
+      memory = λ is setup.
           let wants = c.take-n.ensures.memory (let same : c.take-n.result.1 ≡ Err NoMemory = cc in same) setup in
-          memory_step (viewer_end setup) (viewer_machine setup) AsksMemory (StandsFor setup) c.args.self.now c.loop-used.self c.loop-used.used c.take-n.result.0 c.args.bytes.now (c.loop-used.invariant.fed setup) (rw rest at wants);
+          memory_step (viewer_end setup) (viewer_machine setup) (AsksMemory setup) (StandsFor setup) c.args.self.now c.loop-used.self c.loop-used.used c.take-n.result.0 c.args.bytes.now (c.loop-used.invariant.fed setup) (rw rest at wants);
       reason = λ none.
           let kept : KeepsReason fault c.loop-used.self (take c.take-n.result.0 (take (length c.args.bytes.now - c.loop-used.used) (drop c.loop-used.used c.args.bytes.now))) c.take-n.new.self = rw was at c.take-n.ensures.reason in
           kept_later fault c.args.self.now c.loop-used.self c.take-n.new.self c.loop-used.used c.take-n.result.0 c.args.bytes.now c.loop-used.invariant.fed (subst (λ (xs : List ℕ). KeepsReason fault c.loop-used.self (take c.take-n.result.0 xs) c.take-n.new.self) rest kept);
@@ -48,6 +50,8 @@ returns-then-is_some c =
     record {
       used = omega (arith, length-drop c.loop-used.used c.args.bytes.now, within, c.loop-used.invariant.within);
       all = λ none. absurd (some_told c.in_ok-event.event (sym c.is_some.ensures ∙ c.if-is_some.true) none);
+      some = λ is any. omega (arith, c.take-n.ensures.used.0);
+      setup = c.take-n.ensures.setup ∙ c.loop-used.invariant.setup;
       fed = λ setup.
           let steps = c.take-n.ensures.steps (λ e. cc) setup in
           fed_step (viewer_end setup) (viewer_machine setup) (StandsFor setup) c.args.self.now c.loop-used.self c.take-n.new.self c.loop-used.used c.take-n.result.0 c.args.bytes.now c.in_ok-event.event (c.loop-used.invariant.fed setup) (step_there setup c.loop-used.self c.take-n.new.self c.take-n.result.0 _ _ _ _ rest was steps);
@@ -70,6 +74,7 @@ loop-used-preserved c =
       began = c.loop-used.invariant.began;
       going = rw was at c.take-n.ensures.going;
       stays_open = λ _. goes none;
+      setup = c.take-n.ensures.setup ∙ c.loop-used.invariant.setup;
       fed = λ setup.
           let steps = c.take-n.ensures.steps (λ e. cc) setup in
           fed_step (viewer_end setup) (viewer_machine setup) (StandsFor setup) c.args.self.now c.loop-used.self c.take-n.new.self c.loop-used.used c.take-n.result.0 c.args.bytes.now None (c.loop-used.invariant.fed setup) (step_there setup c.loop-used.self c.take-n.new.self c.take-n.result.0 _ _ _ _ rest (was ∙ ap (λ (e : Option ViewerStep). Ok e) none) steps);
