@@ -15,6 +15,7 @@ pub mod RectStreamLaws
 pub mod EndLaws
 pub mod FeedLaws
 pub mod SequelLaws
+pub mod BothLaws
 pub mod PendingLaws
 mod StreamFacts
 mod PendingFacts

@@ -14,3 +14,4 @@ pub mod ClientStream
 pub mod ServerMessage
 pub mod RectStream
 pub mod Pending
+pub mod Both

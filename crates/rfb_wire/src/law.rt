@@ -1,5 +1,6 @@
 //! Laws of streams, with nothing to run: what an end that is fed bytes rests on.
 
+pub mod both;
 pub mod pending;
 pub mod sequel;
 
