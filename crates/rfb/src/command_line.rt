@@ -1,16 +1,19 @@
 //! The command line: what the words ask for, what is read and printed, and the exit status.
 
-ghost use Rattle.std.specs.Prelude.{◌≤◌};
+ghost use Rattle.std.specs.Prelude.{◌≡◌, ◌≢◌, ◌≤◌};
+ghost use Rattle.std.specs.IoError.{error_kind};
+ghost use Rattle.std.specs.declared.io.ErrorKind.TheVariants.{InvalidData};
 
 use crate::fault::{Failure, Fault};
 use crate::pair::Pair;
 use crate::pixmap::write_pixmap;
-use crate::script::read_script;
+use crate::script::{Script, read_script};
 use clap::error::ErrorKind;
 use clap::{ArgMatches, Command};
 use std::alloc::Global;
 use std::convert::AsStr;
-use std::io::{Read, Write};
+use std::io;
+use std::io::{LineWriter, Read, Write};
 
 // The statuses that `command` answers.
 const DONE: u8 = 0;
@@ -19,10 +22,28 @@ const FAILED: u8 = 1;
 
 const BAD_WORDS: u8 = 2;
 
+/// The version that `--version` prints behind the program's name.
+const VERSION: &str = "0.1.0";
+
+const STATUSES: &str = "\
+Status:
+  0  the work is done: the picture or this text is on standard output
+  1  it failed, and the last line on standard error says why
+  2  the words of the command ask for nothing that there is
+
+docs/PROTOCOL.md has the language of scripts, and refusals and faults by number.";
+
+const LANGUAGE: &str = "docs/PROTOCOL.md has the language of scripts.";
+
+const NOT_TEXT: &str = "\
+error: invalid UTF-8 was detected in one or more arguments
+
+For more information, try '--help'.";
+
 /// Does what `words` ask for, the first of which is the program's own name, and answers the exit
 /// status.
 ///
-/// - 0: the work is done. Help counts as work, and goes to `output`.
+/// - 0: the work is done. Help and the version count as work, and go to `output`.
 /// - 1: it failed, and a line on `errors` says why. Nothing was written to `output`, unless writing
 ///   there is what failed.
 /// - 2: the words ask for nothing that there is, and `errors` has a text that says so.
@@ -52,19 +73,39 @@ pub fn command<P: AllocGlobal, S: AsStr, R: Read, W: Write, E: Write>(
     };
     match done {
         Ok(()) => DONE,
-        Err(failure) => {
-            let _ = writeln!(errors, "{failure}");
-            FAILED
-        }
+        Err(failure) => tell(failure, errors),
     }
 }
 
+// Prints why a command fails, and answers its exit status.
+fn tell<E: Write>(failure: Failure, errors: &mut E) -> u8
+    ensures { result ≡ 1 }
+{
+    let _ = writeln!(errors, "{failure}");
+    FAILED
+}
+
+/// Tells on `errors` why there are no words to go by, and answers the exit status: 2 for a word that is
+/// not UTF-8, and else 1. A write that fails changes nothing.
+pub fn without_words<E: Write>(error: io::Error, errors: &mut E) -> u8
+    ensures not_text { error_kind error ≡ InvalidData → result ≡ 2 }
+    ensures other { error_kind error ≢ InvalidData → result ≡ 1 }
+{
+    if error.kind() == io::ErrorKind::InvalidData {
+        let _ = writeln!(errors, "{NOT_TEXT}");
+        return BAD_WORDS;
+    }
+    tell(Failure::Fault(Fault::from(error)), errors)
+}
+
 fn parse<'a, S: AsStr>(alloc: Global, words: &'a [S]) -> Result<ArgMatches<'a>, clap::Error> {
-    let script = Command::new(alloc, "script").about(
-        "Runs a script from standard input, and writes the viewer's picture as PPM",
-    );
+    let script = Command::new(alloc, "script")
+        .about("Runs a script from standard input, and writes the viewer's picture as PPM")
+        .after_help(LANGUAGE);
     Command::new(alloc, "rfb")
+        .version(VERSION)
         .about("Both ends of the Remote Framebuffer protocol")
+        .after_help(STATUSES)
         .subcommand_required(true)
         .subcommand(script)?
         .try_get_matches_from(words)
@@ -78,7 +119,7 @@ fn show<W: Write>(answer: &clap::Error, output: &mut W) -> Result<(), Failure> {
 }
 
 // Runs the script that `input` has, between a server and a viewer in memory, and writes the viewer's
-// picture. Calls that are refused are told on `errors`, and do not end the script.
+// picture.
 fn script<R: Read, W: Write, E: Write>(
     alloc: Global,
     input: &mut R,
@@ -88,15 +129,22 @@ fn script<R: Read, W: Write, E: Write>(
     let mut text = Vec::new(alloc);
     input.read_to_end(&mut text).map_err(Fault::from)?;
     let script = read_script(alloc, &text)?;
-    let size = script.screen;
-    let mut pair = Pair::new(alloc, size.width, size.height).map_err(Fault::from)?;
-    for numbered in &script.events {
-        if let Some(refused) = pair.step(&numbered.event).map_err(Fault::from)? {
-            let line = numbered.line;
-            let _ = writeln!(errors, "line {line}: refused {refused}");
-        }
-    }
+    let pair = run(alloc, &script, errors)?;
     let picture = pair.picture().ok_or(Fault::NotReady)?;
     write_pixmap(alloc, picture, output).map_err(Fault::from)?;
     Ok(())
+}
+
+// A fresh pair after the events of a script. Calls that are refused are told on `errors`, each in one
+// write, and do not end the script.
+fn run<E: Write>(alloc: Global, script: &Script, errors: &mut E) -> Result<Pair, Fault> {
+    let mut refusals = LineWriter::new(alloc, errors)?;
+    let mut pair = Pair::new(alloc, script.screen.width, script.screen.height)?;
+    for numbered in &script.events {
+        if let Some(refused) = pair.step(&numbered.event)? {
+            let line = numbered.line;
+            let _ = writeln!(refusals, "line {line}: refused {refused}");
+        }
+    }
+    Ok(pair)
 }

@@ -12,8 +12,7 @@ mod script;
 #[cfg(test)]
 mod tests;
 
-use command_line::command;
-use fault::Fault;
+use command_line::{command, without_words};
 use std::process::ExitCode;
 use std::{env, io};
 
@@ -26,16 +25,13 @@ fn main(rt: HostRuntime) -> ExitCode {
             &mut rt.stdout(),
             &mut rt.stderr(),
         ),
-        Err(error) => {
-            let fault = Fault::from(error);
-            let _ = eprintln!(rt; "fault {fault}");
-            1
-        }
+        Err(error) => without_words(error, &mut rt.stderr()),
     };
     ExitCode::from(status)
 }
 
-// The words that the program was called with, its own name first.
+// The words that the program was called with, its own name first. A word that is not UTF-8 is an
+// error of the kind `InvalidData`.
 fn words(rt: &HostRuntime) -> io::Result<Vec<String>> {
     Ok(env::args(rt)?.collect(rt.alloc())?)
 }

@@ -48,6 +48,53 @@ impl Write for FailingWriter {
     }
 }
 
+/// Counts the writes, and takes all bytes.
+#[derive(Drop)]
+struct CountingWriter {
+    writes: usize,
+    bytes: Vec<u8>,
+}
+
+impl Write for CountingWriter {
+    fn write(&mut self, buf: &[u8]) -> io::Result<usize> {
+        self.writes = self.writes.saturating_add(1);
+        self.bytes.extend_from_slice(buf)?;
+        Ok(buf.len())
+    }
+
+    fn flush(&mut self) -> io::Result<()> {
+        Ok(())
+    }
+}
+
+#[test]
+fn each_refusal_is_one_write(rt: HostRuntime) {
+    let mut input = b"screen 2 1
+fill 2 0 1 1 000000
+request full 0 0 1 1
+settle
+request full 0 0 0 1
+"
+        .as_slice();
+    let mut output = Vec::new(rt.alloc());
+    let mut errors = CountingWriter {
+        writes: 0,
+        bytes: Vec::new(rt.alloc()),
+    };
+    let words = SCRIPT.as_slice();
+    let status = command(&rt, words, &mut input, &mut output, &mut errors);
+    assert_eq!(rt;
+        errors.bytes.as_slice(),
+        b"line 2: refused 24 Outside
+line 3: refused 25 NotReady
+line 5: refused 27 AreaOutside
+"
+            .as_slice()
+    );
+    assert_eq!(rt; errors.writes, 3);
+    assert_eq!(rt; status, 0);
+}
+
 // Outputs that fail at a picture of 12,301 bytes or before.
 const FAILING_OUTPUTS: [(usize, bool); 6] = [
     (0, true),

@@ -3,6 +3,7 @@
 ghost use Rattle.std.specs.Prelude.{◌<◌};
 
 use super::calls::{Ended, FILL_LEFT_PLACE, LEFT_PLACE_FILLED, run};
+use std::test::Fail;
 
 #[test]
 fn one_update_shows_a_filled_place(rt: HostRuntime) {
@@ -10,6 +11,55 @@ fn one_update_shows_a_filled_place(rt: HostRuntime) {
     assert_eq!(rt; ended.output.as_slice(), LEFT_PLACE_FILLED);
     assert_eq!(rt; ended.errors.as_slice(), b"".as_slice());
     assert_eq!(rt; ended.status, 0);
+}
+
+// A screen of 7 by 6 with a rectangle of 4 by 3 at (1, 2), in which FF8001 stands.
+const RECTANGLE: [&[u8; 7]; 6] = [
+    b".......", b".......", b".####..", b".####..", b".####..", b".......",
+];
+
+#[test]
+fn each_number_of_a_line_has_its_own_place(rt: HostRuntime) -> Result<(), Fail> {
+    let mut shown = b"P6\n7 6\n255\n".to_vec(rt.alloc())?;
+    for row in RECTANGLE {
+        for place in row {
+            let colour = if *place == b'#' {
+                b"\xFF\x80\x01"
+            } else {
+                b"\0\0\0"
+            };
+            shown.extend_from_slice(colour.as_slice())?;
+        }
+    }
+    for script in [
+        // The rectangle is filled, and all of the screen asked for.
+        b"screen 7 6
+fill 1 2 4 3 FF8001
+settle
+request full 0 0 7 6
+settle
+compose
+settle
+"
+            .as_slice(),
+        // All of the screen is filled, and the rectangle asked for.
+        b"screen 7 6
+fill 0 0 7 6 FF8001
+settle
+request full 1 2 4 3
+settle
+compose
+settle
+"
+            .as_slice(),
+    ] {
+        let ended = run(&rt, script);
+        let text = script.escape_ascii();
+        assert_eq!(rt; ended.errors.as_slice(), b"".as_slice(), "{text}");
+        assert_eq!(rt; ended.output.as_slice(), shown.as_slice(), "{text}");
+        assert_eq!(rt; ended.status, 0, "{text}");
+    }
+    Ok(())
 }
 
 #[test]

@@ -1,6 +1,9 @@
 //! The words of the command line.
 
 use super::calls::call;
+use crate::command_line::without_words;
+use std::io;
+use std::io::ErrorKind;
 
 const BAD_WORDS: [&[&str]; 7] = [
     &[],
@@ -37,5 +40,46 @@ fn help_is_told_on_output(rt: HostRuntime) {
         assert_eq!(rt; ended.status, 0, "{words:?}");
         assert_eq!(rt; ended.errors.as_slice(), b"".as_slice(), "{words:?}");
         assert!(rt; ended.output.len() > 40, "{words:?}");
+        let told = ended
+            .output
+            .windows(16)
+            .any(|text| text == b"docs/PROTOCOL.md".as_slice());
+        assert!(rt; told, "{words:?}");
+    }
+}
+
+#[test]
+fn the_version_is_told_on_output(rt: HostRuntime) {
+    for word in ["--version", "-V"] {
+        let ended = call(&rt, &["rfb", word], b"");
+        assert_eq!(rt; ended.status, 0, "{word}");
+        assert_eq!(rt; ended.errors.as_slice(), b"".as_slice(), "{word}");
+        assert_eq!(rt;
+            ended.output.as_slice(),
+            b"rfb 0.1.0\n".as_slice(),
+            "{word}"
+        );
+    }
+}
+
+#[test]
+fn words_that_cannot_be_had_are_told_by_their_reason(rt: HostRuntime) {
+    for (kind, status, told) in [
+        (
+            ErrorKind::InvalidData,
+            2,
+            b"error: invalid UTF-8 was detected in one or more arguments
+
+For more information, try '--help'.
+"
+                .as_slice(),
+        ),
+        (ErrorKind::OutOfMemory, 1, b"fault 30 NoMemory\n".as_slice()),
+        (ErrorKind::Other, 1, b"fault 29 Device\n".as_slice()),
+    ] {
+        let mut errors = Vec::new(rt.alloc());
+        let answered = without_words(io::Error::from(kind), &mut errors);
+        assert_eq!(rt; errors.as_slice(), told);
+        assert_eq!(rt; answered, status);
     }
 }
