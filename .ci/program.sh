@@ -1,0 +1,56 @@
+#!/usr/bin/env bash
+# Runs programs, named by their paths, on each call of .ci/program, and compares standard output, standard
+# error and status. A call is a folder of these files; what a missing one would hold is empty:
+#   args     the words behind the program's name, one a line
+#   stdin    what the program reads
+#   stdout   what it must print, and nothing else
+#   stderr   what it must print there, and nothing else
+#   status   the exit status that it must have
+#   device   where standard output goes in place of a file
+#   memory   the most memory that it may have, in KiB of address space
+# The last line is 'N passed, M failed'.
+set -u
+export LC_ALL=C
+calls=$(cd "$(dirname "$0")" && pwd)/program
+room=$(mktemp -d)
+trap 'rm -rf "$room"' EXIT
+
+# The file of a call, or nothing.
+file() { if [ -e "$1" ]; then echo "$1"; else echo /dev/null; fi; }
+
+# Runs the program $1 on the call $2. It tells on standard output what is wrong.
+try() {
+    local words wanted device status=0
+    mapfile -t words < "$(file "$2/args")"
+    wanted=$(cat "$2/status")
+    device=$room/stdout
+    : > "$device"
+    if [ -e "$2/device" ]; then device=$(cat "$2/device"); fi
+    (
+        if [ -e "$2/memory" ]; then ulimit -v "$(cat "$2/memory")"; fi
+        exec timeout 60 "$1" "${words[@]}"
+    ) < "$(file "$2/stdin")" > "$device" 2> "$room/stderr" || status=$?
+    [ "$status" = "$wanted" ] || echo "its status is $status, and not $wanted"
+    local stream
+    for stream in stdout stderr; do
+        cmp -s "$room/$stream" "$(file "$2/$stream")" || { echo "its $stream is:"; cat "$room/$stream"; }
+    done
+}
+
+passed=0 failed=0
+for program in "$@"; do
+    name=$(basename "$program")
+    # Its own name stands in what it prints, and has no ending.
+    cp "$program" "$room/${name%%.*}" 2>&1 || rm -f "$room/${name%%.*}"
+    for call in "$calls"/*/; do
+        wrong=$(try "$room/${name%%.*}" "${call%/}" 2>&1 | tr -d '\0')
+        if [ -z "$wrong" ]; then
+            passed=$((passed + 1))
+        else
+            failed=$((failed + 1))
+            printf '%s on %s: %s\n' "$name" "$(basename "$call")" "$wrong"
+        fi
+    done
+done
+echo "$passed passed, $failed failed"
+[ "$failed" = 0 ] && [ "$passed" != 0 ]
