@@ -1,1 +1,2 @@
 pub mod ServerLaws
+pub mod RecordLemmas

@@ -1,4 +1,6 @@
 pub mod Fault
 pub mod ClientBytes
 pub mod Told
+pub mod Record
 pub mod Server
+pub mod Request

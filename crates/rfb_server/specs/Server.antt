@@ -14,6 +14,7 @@ use Rattle.rfb_hello.specs.ClientHandshake.{AwaitsVersion}
 use Rattle.rfb_hello.specs.ServerEnd.{ServerSetup, server_tells as handshake_tells}
 use Rattle.rfb_server.specs.declared.fault.ServerFault.{ServerFault}
 use Rattle.rfb_server.specs.ClientBytes.{ClientAt, FromClient, client_two, client_bytes}
+use Rattle.rfb_server.specs.Record.{forgotten}
 use Rattle.rfb_server.specs.Told.{ServerTold, step_told, message_told}
 
 -- what a server was made with: its end of the handshake, and how many bytes of a text it keeps
@@ -56,14 +57,10 @@ abbrev pub known_among : List ℤ → List Encoding → List Encoding
 known_among [] list = list
 known_among (number ∷ numbers) list = known_among numbers (with_encoding list (encoding_of number))
 
--- nothing is known of any place of a screen of that size
-abbrev pub unknown : {X : Type 0} → Grid X → Grid (Option ℕ)
-unknown g = uniform g.width g.height None
-
 -- a format is the server's from here on, and what was sent in another is forgotten; a list of encodings
 -- takes the place of the one before it; a request asks for its area, whole if it is not incremental
 abbrev pub message_acts : ServerState → ClientMessage → ServerState
-message_acts s (SetPixelFormat format) = record s { form = format; known = unknown s.known }
+message_acts s (SetPixelFormat format) = record s { form = format; known = forgotten s.known }
 message_acts s (SetEncodings numbers) = record s { encodings = known_among numbers [] }
 message_acts s (FramebufferUpdateRequest incremental rect) = record s { area = added rect (not incremental) s.area }
 message_acts s (KeyEvent down key) = s

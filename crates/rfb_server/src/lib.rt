@@ -8,6 +8,7 @@
 mod event;
 mod fault;
 pub mod law;
+mod record;
 
 pub use event::{MAX_REPLY, ServerEvent};
 pub use fault::ServerFault;

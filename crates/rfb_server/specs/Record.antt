@@ -1,0 +1,23 @@
+-- What a session knows of its viewer's picture: at each place a pixel, or that it is not known.
+use Rattle.std.specs.Prelude.{◌≡◌, ℕ, Bool, Option, Some, None, if◌then◌else◌}
+use Rattle.rfb_picture.specs.Grid.{Grid, IsGrid, at_or, changed, uniform}
+use Rattle.rfb_picture.specs.Box.{is_in}
+use Rattle.rfb_picture.specs.Area.{Places, IsArea}
+
+-- nothing is known of any place of a screen of that size
+abbrev pub forgotten : {X : Type 0} → Grid X → Grid (Option ℕ)
+forgotten g = uniform g.width g.height None
+
+-- ---- how a `Record` holds it: a pixel at every place, and the set of the known places
+
+-- at each place of the set its pixel is known, and at no other
+unfoldable pub record_of : Grid ℕ → Grid Bool → Grid (Option ℕ)
+record_of pixels known =
+    changed (λ x y old. if is_in known x y then Some (at_or pixels x y 0) else None) (forgotten pixels)
+
+-- both have one size
+pub record IsRecord (pixels : Grid ℕ) (known : Places) : Type 0 where
+  pub whole : IsGrid pixels
+  pub area : IsArea known
+  pub wide : known.asked.width ≡ pixels.width
+  pub high : known.asked.height ≡ pixels.height

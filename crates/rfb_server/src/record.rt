@@ -1,0 +1,88 @@
+//! What a session knows of its viewer's picture.
+
+ghost use Rattle.std.specs.Prelude.{◌≡◌, ◌<◌, None, IfOk};
+
+use rfb_picture::{Area, Picture};
+use std::alloc::{AllocError, Global};
+use std::marker::Model;
+
+/// For each place of a screen the pixel that the viewer has there, or will have once it has read what
+/// was composed, in the session's format; or that this is not known. It keeps its size. It owns 32 bits
+/// for each place, and two bits, with a few for each row and each cell.
+#[derive(Drop)]
+pub struct Record {
+    pixels: Picture<u32>,
+    known: Area,
+}
+
+impl Model for Record {
+    ghost use Rattle.std.specs.Prelude.{ℕ, Option};
+    ghost use Rattle.std.specs.Coded.{coded_ℕ, coded_option};
+    ghost use Rattle.rfb_picture.specs.Grid.{Grid, grid_code};
+    ghost use Rattle.rfb_server.specs.Record.{IsRecord, record_of};
+
+    ghost Value = { Grid (Option ℕ) };
+
+    ghost coded = { grid_code (coded_option coded_ℕ) };
+
+    ghost view = { λ r. record_of r.pixels r.known.asked };
+
+    ghost invariant = { λ r. IsRecord r.pixels r.known };
+}
+
+impl Record {
+    ghost use Rattle.rfb_picture.specs.Grid.{IsGrid, at_or, uniform};
+    ghost use Rattle.rfb_server.specs.Record.{forgotten};
+
+    /// A record of a screen of `width` by `height` places, of which none is known. It asks for room for
+    /// all its places, in seven pieces; where there is none it gives the error, and nothing is kept.
+    pub(crate) fn new(alloc: Global, width: u16, height: u16) -> Result<Record, AllocError>
+        ensures value { IfOk result (λ r. r ≡ uniform width height None) }
+        ensures width { IfOk result (λ r. r.width ≡ width) }
+        ensures height { IfOk result (λ r. r.height ≡ height) }
+    {
+        let pixels = Picture::new(alloc, width, height, 0)?;
+        let known = Area::new(alloc, width, height)?;
+        Ok(Record { pixels, known })
+    }
+
+    /// How many places a row has. It also tells that each place is known or not.
+    #[inline]
+    pub(crate) fn width(&self) -> u16
+        ensures value { result ≡ self.now.width }
+        ensures whole { IsGrid self.now }
+    {
+        self.pixels.width()
+    }
+
+    /// How many rows it has.
+    #[inline]
+    pub(crate) fn height(&self) -> u16
+        ensures { result ≡ self.now.height }
+    {
+        self.pixels.height()
+    }
+
+    /// The pixel of the place at column `x` of row `y`, where it is known.
+    #[inline]
+    pub(crate) fn at(&self, x: u16, y: u16) -> Option<u32>
+        requires column { x < self.now.width }
+        requires row { y < self.now.height }
+        ensures { result ≡ at_or self.now x y None }
+    {
+        if self.known.is_asked(x, y) {
+            Some(self.pixels.at(x, y))
+        } else {
+            None
+        }
+    }
+
+    /// No place is known any more.
+    pub(crate) fn forget(&mut self)
+        ensures value { self.new ≡ forgotten self.old }
+        ensures width { self.new.width ≡ self.old.width }
+        ensures height { self.new.height ≡ self.old.height }
+    {
+        self.known.clear();
+    }
+}
