@@ -1,2 +1,3 @@
 pub mod ServerLaws
 pub mod RecordLemmas
+pub mod ComposingLaws

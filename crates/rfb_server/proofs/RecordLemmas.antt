@@ -1,10 +1,9 @@
 -- A record by its pixels and its set of known places.
-use Rattle.std.proofs.Common.{◌≡◌, ℕ, ◌<◌, Bool, false, Option, Some, None, if◌then◌else◌, ap, sym, ◌∙◌, refl}
+use Rattle.std.proofs.Common.{◌≡◌, ℕ, ◌<◌, Bool, false, Option, Some, None, if◌then◌else◌, sym, ◌∙◌, refl}
 use Rattle.rfb_picture.specs.Grid.{Grid, IsGrid, at_or, uniform}
 use Rattle.rfb_picture.specs.Box.{is_in}
-use Rattle.rfb_picture.specs.Area.{Places, IsArea, no_places}
 use Rattle.rfb_picture.proofs.GridLemmas.{at-changed, width-changed, height-changed, whole-changed, at-uniform, width-uniform, height-uniform, whole-uniform, same_grid}
-use Rattle.rfb_server.specs.Record.{forgotten, record_of, IsRecord}
+use Rattle.rfb_server.specs.Record.{forgotten, record_of}
 
 -- the size of a record is that of its pixels
 pub width-record_of : (pixels : Grid ℕ) (known : Grid Bool) → (record_of pixels known).width ≡ pixels.width

@@ -4,3 +4,4 @@ pub mod Told
 pub mod Record
 pub mod Server
 pub mod Request
+pub mod Composing

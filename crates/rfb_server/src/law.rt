@@ -1,10 +1,18 @@
 //! Laws of a client's stream and of a server's states, with nothing to run.
 
+ghost use Rattle.std.specs.Prelude.{◌≡◌, ℕ, List, true, map, ◌++◌, Some, ◌⊎◌};
+ghost use Rattle.rfb_pixel.specs.declared.colour.Colour.{Colour};
+ghost use Rattle.rfb_pixel.specs.Format.{PixelFormat, seen_through};
+ghost use Rattle.rfb_picture.specs.Grid.{Grid, IsGrid, at_or};
 ghost use Rattle.rfb_wire.specs.Stream.{IsSpelled, IsGrammar};
 ghost use Rattle.rfb_wire.specs.End.{IsMachine};
 ghost use Rattle.rfb_hello.specs.declared.version.Version.{Version};
 ghost use Rattle.rfb_server.specs.ClientBytes.{client_bytes, client_bytes_say};
-ghost use Rattle.rfb_server.specs.Server.{Serving, server};
+ghost use Rattle.rfb_codec.specs.Effect.{effects, IsAlike, Agrees};
+ghost use Rattle.rfb_codec.specs.WholeUpdate.{update_of};
+ghost use Rattle.rfb_server.specs.Server.{Serving, ServerState, server, black};
+ghost use Rattle.rfb_server.specs.Request.{wanted, recorded, is_asked};
+ghost use Rattle.rfb_server.specs.Composing.{Part, Composes, IsPlace, between, sent_as};
 
 /// All that a client sends is read as RFC 6143 has it, its handshake and then its messages, whatever
 /// version was offered.
@@ -16,4 +24,27 @@ pub fn client_bytes_are_spelled()
 /// A server is a machine over that stream: each item brings its state to the point behind the item.
 pub fn a_server_is_a_machine()
     ensures { (serving : Serving) → IsMachine (server serving) }
+{}
+
+/// A viewer whose picture agreed with the record shows, once it has the update, the screen over the
+/// area that was asked, as it looks through the format.
+pub fn an_answered_area_shows_the_screen()
+    ensures { (old new : ServerState) (bytes : List ℕ) (copies blocks : List Part)
+        (picture : Grid Colour) (x y : ℕ) (d : Colour) →
+        Composes old new bytes copies blocks → IsAlike old.screen old.known →
+        IsGrid picture → IsAlike picture old.known → Agrees old.form picture old.known →
+        IsPlace old x y → is_asked old x y ≡ true →
+        at_or (effects (between old) (update_of (map sent_as (copies ++ blocks))) picture) x y d
+        ≡ seen_through old.form (at_or old.screen x y black) }
+{}
+
+/// A composing leaves each place recorded as it was, or with the wanted pixel; an asked one with
+/// the wanted pixel.
+pub fn a_record_is_as_before_or_as_wanted()
+    ensures asked { (old new : ServerState) (bytes : List ℕ) (copies blocks : List Part)
+        (x y : ℕ) → Composes old new bytes copies blocks → IsPlace old x y →
+        is_asked old x y ≡ true → recorded new x y ≡ Some (wanted old x y) }
+    ensures each { (old new : ServerState) (bytes : List ℕ) (copies blocks : List Part)
+        (x y : ℕ) → Composes old new bytes copies blocks → IsPlace old x y →
+        (recorded new x y ≡ recorded old x y) ⊎ (recorded new x y ≡ Some (wanted old x y)) }
 {}

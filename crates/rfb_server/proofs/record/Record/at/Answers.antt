@@ -1,4 +1,4 @@
-use Rattle.std.proofs.Common.{◌≡◌, ◌<◌, true, false, Some, None, sym, ◌∙◌, refl}
+use Rattle.std.proofs.Common.{◌≡◌, true, false, None, sym, ◌∙◌, refl}
 use Rattle.rfb_picture.specs.Box.{is_in}
 use Rattle.rfb_server.proofs.RecordLemmas.{width-record_of, height-record_of, at-record_of}
 use Rattle.rfb_server.proofs.record.Record.at.Goals as goal

@@ -1,4 +1,4 @@
-use Rattle.std.proofs.Common.{ap, refl, sym, ◌∙◌}
+use Rattle.std.proofs.Common.{ap, sym, ◌∙◌}
 use Rattle.rfb_picture.proofs.AreaLemmas.{area-no_places}
 use Rattle.rfb_picture.proofs.GridLemmas.{width-uniform, height-uniform}
 use Rattle.rfb_server.proofs.RecordLemmas.{width-record_of, height-record_of, record-forgotten}

@@ -1,4 +1,4 @@
-use Rattle.std.proofs.Common.{refl, sym, ◌∙◌}
+use Rattle.std.proofs.Common.{◌∙◌}
 use Rattle.rfb_server.proofs.RecordLemmas.{width-record_of, height-record_of, record-none}
 use Rattle.rfb_server.proofs.record.Record.new.Goals as goal
 

@@ -1,4 +1,3 @@
-use Rattle.std.proofs.Common.{sym, ◌∙◌}
 use Rattle.rfb_server.proofs.RecordLemmas.{width-record_of, whole-record_of}
 use Rattle.rfb_server.proofs.record.Record.width.Goals as goal
 
