@@ -2,6 +2,7 @@ pub mod PixelLaws
 pub mod PixelLemmas
 mod StandardFacts
 mod UpdateFacts
+mod PendingFacts
 pub mod RawLaws
 pub mod RreLaws
 pub mod RectDataLaws
@@ -9,6 +10,8 @@ pub mod UpdateStreamLaws
 pub mod EffectLaws
 pub mod UpdateWaitLaws
 pub mod WholeUpdateLaws
+pub mod EnoughLaws
+pub mod PendingLaws
 pub mod TilePartLaws
 pub mod TileLaws
 pub mod HextileLaws

@@ -14,3 +14,4 @@ pub mod Effect
 pub mod WholeUpdate
 pub mod TileRead
 pub mod Painter
+pub mod Pending

@@ -13,6 +13,7 @@ ghost use Rattle.rfb_codec.specs.RectData.{RectData, SpellsData, data_says, rect
 ghost use Rattle.rfb_codec.specs.UpdateStream.{update_says, update_stream};
 
 pub mod effects;
+pub mod pending;
 pub mod updates;
 
 /// Reading the data of a rectangle gives exactly what the bytes say under its head and exactly the
