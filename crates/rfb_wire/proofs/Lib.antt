@@ -16,6 +16,7 @@ pub mod EndLaws
 pub mod FeedLaws
 pub mod SequelLaws
 pub mod BothLaws
+pub mod SessionLaws
 pub mod PendingLaws
 mod StreamFacts
 mod PendingFacts

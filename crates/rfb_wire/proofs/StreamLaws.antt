@@ -142,6 +142,16 @@ module _ {P I F : Type 0} where
       let rest = all_one g (g.past p i) a.0 xs ys one two v w a.2 e behind end in
       ((λ k. sym first.0 k ∷ rest.0 k), rest.1, rest.2)
 
+  -- items that bytes begin with are the first of those that they were read as as far as they go
+  pub all_front : (g : Grammar P I F) (p : P) (bytes : List ℕ) (xs ys : List I) (one two : List ℕ) (v : Option F) → ReadsAll g p bytes xs one → EndsIn v (g.next (past_all g p xs) one) → ReadsAll g p bytes ys two → (more : List I) × (xs ≡ ys ++ more)
+  all_front g p bytes xs [] one two v a e b = (xs, refl)
+  all_front g p bytes [] (j ∷ ys) one two v a e b = absurd (ends_open v (g.next p one) j b.0 e (subst (λ (zs : List ℕ). g.next p zs ≡ Got j b.0) a b.1))
+  all_front g p bytes (i ∷ xs) (j ∷ ys) one two v a e b =
+      let first = got_one g p bytes j i b.0 a.0 b.1 a.1 in
+      let behind : ReadsAll g (g.past p i) a.0 ys two = subst (λ (zs : List ℕ). ReadsAll g (g.past p i) zs ys two) first.1 (subst (λ (k : I). ReadsAll g (g.past p k) b.0 ys two) first.0 b.2) in
+      let rest = all_front g (g.past p i) a.0 xs ys one two v a.2 e behind in
+      (rest.0, λ k. sym first.0 k ∷ rest.1 k)
+
   -- bytes have one verdict
   pub verdict_one : (g : Grammar P I F) (p : P) (bytes : List ℕ) (xs ys : List I) (v w : Option F) → HasVerdict g p bytes xs v → HasVerdict g p bytes ys w → (xs ≡ ys) × (v ≡ w)
   verdict_one g p bytes xs ys v w one two =

@@ -15,3 +15,4 @@ pub mod ServerMessage
 pub mod RectStream
 pub mod Pending
 pub mod Both
+pub mod Session

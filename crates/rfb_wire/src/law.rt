@@ -3,6 +3,7 @@
 pub mod both;
 pub mod pending;
 pub mod sequel;
+pub mod session;
 
 ghost use Rattle.std.specs.Prelude.{ℕ, List, [], ◌∷◌, ◌≡◌, ◌++◌, Option};
 ghost use Rattle.std.specs.List.{concat};

@@ -6,13 +6,15 @@ ghost use Rattle.rfb_wire.specs.Sequel.{Stage, Two};
 ghost use Rattle.rfb_wire.specs.Both.{GoesAsFirst, TakesAsFirst, RefusesAsFirst};
 ghost use Rattle.rfb_wire.specs.Both.{GoesAsSecond, TakesAsSecond, RefusesAsSecond};
 
-/// While an end of both shows a state of the first's end, calls of that are calls of it: it takes the
-/// same bytes, with the event that this is of the whole, and refuses the same, with the fault that
-/// this is of the whole. Behind a call it shows where the first's end stands, or an item led over.
+/// While an end of both shows a state of the first's end, calls of that are calls of it: it takes
+/// the same bytes, with the event that this is of the whole, and refuses the same, with the fault
+/// that this is of the whole. Behind a call it shows where the first's end stands, or an item led
+/// over.
 pub fn the_first_part_is_fed_as_its_end<S, A, P, I, F, Q, J, G, H, D, E>()
     ensures takes { (two : Two P I F Q J G H) (m : Machine S (Stage P Q) (Stage I J) H E) →
         (a : Machine A P I F D) (shows : S → Option A) (event : D → Option E) →
-        IsMachine m → IsMachine a → GoesAsFirst two m a shows event → TakesAsFirst two m a shows event }
+        IsMachine m → IsMachine a → GoesAsFirst two m a shows event →
+        TakesAsFirst two m a shows event }
     ensures refuses { (two : Two P I F Q J G H) (m : Machine S (Stage P Q) (Stage I J) H E) →
         (a : Machine A P I F D) (shows : S → Option A) (event : D → Option E) →
         IsMachine m → IsMachine a → GoesAsFirst two m a shows event → RefusesAsFirst two m a shows }
@@ -23,8 +25,10 @@ pub fn the_first_part_is_fed_as_its_end<S, A, P, I, F, Q, J, G, H, D, E>()
 pub fn the_second_part_is_fed_as_its_end<S, B, P, I, F, Q, J, G, H, C, E>()
     ensures takes { (two : Two P I F Q J G H) (m : Machine S (Stage P Q) (Stage I J) H E) →
         (b : Machine B Q J G C) (shows : S → Option B) (event : C → Option E) →
-        IsMachine m → IsMachine b → GoesAsSecond two m b shows event → TakesAsSecond m b shows event }
+        IsMachine m → IsMachine b → GoesAsSecond two m b shows event →
+        TakesAsSecond m b shows event }
     ensures refuses { (two : Two P I F Q J G H) (m : Machine S (Stage P Q) (Stage I J) H E) →
         (b : Machine B Q J G C) (shows : S → Option B) (event : C → Option E) →
-        IsMachine m → IsMachine b → GoesAsSecond two m b shows event → RefusesAsSecond two m b shows }
+        IsMachine m → IsMachine b → GoesAsSecond two m b shows event →
+        RefusesAsSecond two m b shows }
 {}

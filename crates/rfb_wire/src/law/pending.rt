@@ -4,24 +4,27 @@ ghost use Rattle.std.specs.Prelude.{ℕ, ℤ, List, [], ◌++◌, ◌≡◌, ◌
 ghost use Rattle.rfb_wire.specs.declared.client_head.ClientHead.{ClientHead as ClientHeadValue};
 ghost use Rattle.rfb_wire.specs.declared.server_head.ServerHead.{ServerHead as ServerHeadValue};
 ghost use Rattle.rfb_wire.specs.Reading.{Listed};
-ghost use Rattle.rfb_wire.specs.ClientHead.{SpellsClientHead, SpellsSetEncodings, SpellsClientCutText};
+ghost use Rattle.rfb_wire.specs.ClientHead.{SpellsClientHead, SpellsSetEncodings};
+ghost use Rattle.rfb_wire.specs.ClientHead.{SpellsClientCutText};
 ghost use Rattle.rfb_wire.specs.ServerHead.{SpellsServerHead, SpellsColourMap, SpellsServerCutText};
 ghost use Rattle.rfb_wire.specs.ClientMessage.{SpellsNumber};
 ghost use Rattle.rfb_wire.specs.ServerMessage.{Color, SpellsColor};
 ghost use Rattle.rfb_wire.specs.Pending.{in_pieces, behind_piece, client_pending, server_pending};
 
-/// A piece is pending until its last byte is there; behind it, and behind whole pieces of one size,
-/// it is what follows that may be. No more bytes are pending than came.
+/// A piece is pending until its last byte is there; behind it, and behind whole pieces of one
+/// size, it is what follows that may be. No more bytes are pending than came.
 pub fn pending_bytes_follow_the_last_piece()
     ensures part { (size : ℕ) (pending : List ℕ → ℕ) (bytes : List ℕ) →
         length bytes < size → behind_piece size pending bytes ≡ length bytes }
     ensures behind { (size : ℕ) (pending : List ℕ → ℕ) (front rest : List ℕ) →
         length front ≡ size → behind_piece size pending (front ++ rest) ≡ pending rest }
     ensures pieces { (size count : ℕ) (front rest : List ℕ) →
-        length front ≡ count * size → length rest < size → in_pieces size (front ++ rest) ≡ length rest }
+        length front ≡ count * size → length rest < size →
+        in_pieces size (front ++ rest) ≡ length rest }
     ensures few { (size : ℕ) (bytes : List ℕ) → in_pieces size bytes ≤ length bytes }
     ensures within { (size : ℕ) (pending : List ℕ → ℕ) (bytes : List ℕ) →
-        ((rest : List ℕ) → pending rest ≤ length rest) → behind_piece size pending bytes ≤ length bytes }
+        ((rest : List ℕ) → pending rest ≤ length rest) →
+        behind_piece size pending bytes ≤ length bytes }
 {}
 
 /// Of a client message the head is one piece, each number of SetEncodings one, and each byte of a
@@ -29,7 +32,8 @@ pub fn pending_bytes_follow_the_last_piece()
 pub fn client_pending_follows_the_last_piece()
     ensures none { client_pending [] ≡ 0 }
     ensures head { (head : ClientHeadValue) (bytes missing : List ℕ) →
-        SpellsClientHead head (bytes ++ missing) → 0 < length missing → client_pending bytes ≡ length bytes }
+        SpellsClientHead head (bytes ++ missing) → 0 < length missing →
+        client_pending bytes ≡ length bytes }
     ensures number { (count : ℕ) (numbers : List ℤ) (head list rest : List ℕ) →
         SpellsSetEncodings count head → Listed SpellsNumber numbers list → length rest < 4 →
         client_pending (head ++ (list ++ rest)) ≡ length rest }
@@ -39,12 +43,13 @@ pub fn client_pending_follows_the_last_piece()
     ensures few { (bytes : List ℕ) → client_pending bytes ≤ length bytes }
 {}
 
-/// Of a server message the head is one piece, each color of SetColorMapEntries one, and each byte of
-/// a text one. At most 7 bytes are pending, and no more than came.
+/// Of a server message the head is one piece, each color of SetColorMapEntries one, and each byte
+/// of a text one. At most 7 bytes are pending, and no more than came.
 pub fn server_pending_follows_the_last_piece()
     ensures none { server_pending [] ≡ 0 }
     ensures head { (head : ServerHeadValue) (bytes missing : List ℕ) →
-        SpellsServerHead head (bytes ++ missing) → 0 < length missing → server_pending bytes ≡ length bytes }
+        SpellsServerHead head (bytes ++ missing) → 0 < length missing →
+        server_pending bytes ≡ length bytes }
     ensures color { (first count : ℕ) (colors : List Color) (head list rest : List ℕ) →
         SpellsColourMap first count head → Listed SpellsColor colors list → length rest < 6 →
         server_pending (head ++ (list ++ rest)) ≡ length rest }
