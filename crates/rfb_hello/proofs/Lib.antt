@@ -9,3 +9,6 @@ pub mod TextLemmas
 pub mod ViewerReadingLaws
 pub mod ViewerHelloLemmas
 pub mod ViewerAnswerLaws
+pub mod ConversationLaws
+pub mod ToldOfLaws
+pub mod StandingLaws

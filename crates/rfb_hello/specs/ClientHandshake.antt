@@ -1,6 +1,6 @@
 -- The handshake as a client's bytes have it, RFC 6143 sections 7.1 and 7.3.1 and Appendix A: its version,
 -- from version 3.7 on its choice of a security type, and ClientInit.
-use Rattle.std.specs.Prelude.{◌≡◌, ◌≢◌, ℕ, ◌≤◌, ◌<◌, ◌==◌, Bool, List, [], ◌∷◌, length, Option, Some, None, nat_le, if◌then◌else◌}
+use Rattle.std.specs.Prelude.{◌≡◌, ◌≢◌, ℕ, ◌≤◌, ◌<◌, ◌==◌, Bool, true, false, List, [], ◌∷◌, length, Option, Some, None, nat_le, if◌then◌else◌}
 use Rattle.rfb_wire.specs.Fields.{u8_at, flag_at}
 use Rattle.rfb_wire.specs.Reading.{Reading, Says}
 use Rattle.rfb_wire.specs.Parts.{valued, checked, waiting}
@@ -17,6 +17,13 @@ pub data ClientPoint : Type 0 where
   AwaitsChoice : (version : Version) → ClientPoint
   AwaitsInit : (version : Version) → ClientPoint
   Begun : (version : Version) → (shared : Bool) → ClientPoint
+
+-- the handshake goes on at this point
+abbrev pub goes_on : ClientPoint → Bool
+goes_on AwaitsVersion = true
+goes_on (AwaitsChoice version) = true
+goes_on (AwaitsInit version) = true
+goes_on (Begun version shared) = false
 
 -- what a client sends: a version, its choice of type None, the shared-flag
 pub data ClientItem : Type 0 where

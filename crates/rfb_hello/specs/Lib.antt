@@ -11,3 +11,5 @@ pub mod ViewerEnd
 pub mod ViewerAnswers
 pub mod ViewerProgress
 pub mod ViewerStanding
+pub mod ToldOf
+pub mod Conversation

@@ -19,6 +19,15 @@ pub data ServerPoint : Type 0 where
   AwaitsName : (version : Version) → (width : ℕ) → (height : ℕ) → (name_length : ℕ) → ServerPoint
   Begun : (version : Version) → (width : ℕ) → (height : ℕ) → ServerPoint
 
+-- the handshake goes on at this point
+abbrev pub goes_on : ServerPoint → Bool
+goes_on AwaitsVersion = true
+goes_on (AwaitsSecurity version) = true
+goes_on (AwaitsResult version) = true
+goes_on (AwaitsInit version) = true
+goes_on (AwaitsName version width height name_length) = true
+goes_on (Begun version width height) = false
+
 -- what a server sends: a version; type None alone, as 3.3 has it; types, None among them; success;
 -- ServerInit up to the name; the name
 pub data ServerItem : Type 0 where
