@@ -12,3 +12,4 @@ pub mod ViewerAnswerLaws
 pub mod ConversationLaws
 pub mod ToldOfLaws
 pub mod StandingLaws
+pub mod PendingLemmas

@@ -13,3 +13,4 @@ pub mod ViewerProgress
 pub mod ViewerStanding
 pub mod ToldOf
 pub mod Conversation
+pub mod Pending

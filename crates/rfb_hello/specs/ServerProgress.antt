@@ -31,6 +31,14 @@ is_open (Init version) = true
 is_open (Done version shared) = false
 is_open (Failed fault) = false
 
+-- how many bytes have come of a piece that is not whole
+abbrev pub part_in : Progress → ℕ
+part_in (VersionPart text) = length text.items
+part_in (Choice version) = 0
+part_in (Init version) = 0
+part_in (Done version shared) = 0
+part_in (Failed fault) = 0
+
 -- what comes next of a client that goes by this version
 abbrev pub progress_behind : Version → Progress
 progress_behind V33 = Init V33

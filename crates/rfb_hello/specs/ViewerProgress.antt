@@ -66,6 +66,20 @@ is_open (Name version width height n more kept) = true
 is_open Done = false
 is_open (Failed fault kept) = false
 
+-- how many bytes have come of a piece that is not whole
+abbrev pub part_in : Progress → ℕ
+part_in (VersionPart part) = length part.items
+part_in (Word part) = length part.items
+part_in (Count version) = 0
+part_in (Types version more none) = 0
+part_in (ResultPart version part) = length part.items
+part_in (ReasonLength cause part) = length part.items
+part_in (Reason cause n more kept) = 0
+part_in (Init version part) = length part.items
+part_in (Name version width height n more kept) = 0
+part_in Done = 0
+part_in (Failed fault kept) = 0
+
 -- what comes next of a server with which a version is used
 abbrev pub progress_behind_version : Version → Progress
 progress_behind_version V33 = Word (record { items = [] })

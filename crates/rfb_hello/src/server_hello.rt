@@ -1,10 +1,11 @@
 //! The server's end of a handshake.
 
-ghost use Rattle.std.specs.Prelude.{◌≡◌, ◌≤◌, ◌<◌, ◌+◌, ℕ, [], ◌∷◌, ◌++◌, length, take, true, IfOk, IfErr, Some, None, Ok};
+ghost use Rattle.std.specs.Prelude.{◌≡◌, ◌≤◌, ◌<◌, ◌+◌, ℕ, List, [], ◌∷◌, ◌++◌, length, take, true, IfOk, IfErr, Some, None, Ok};
 ghost use Rattle.std.specs.Result.{result_err};
 ghost use Rattle.rfb_wire.specs.End.{FedBy, RefusedBy, StepsBy, StaysFailed};
 ghost use Rattle.rfb_hello.specs.Version.{version_of, version_text};
-ghost use Rattle.rfb_hello.specs.ClientHandshake.{AwaitsVersion, client_version_fault};
+ghost use Rattle.rfb_hello.specs.ClientHandshake.{AwaitsVersion, ClientPoint, client_version_fault};
+ghost use Rattle.rfb_hello.specs.Pending.{client_handshake_pending};
 ghost use Rattle.rfb_hello.specs.ServerEnd.{ServerSetup, as_reply, server_end, server_init_bytes, security_bytes};
 ghost use Rattle.rfb_hello.specs.ServerStanding.{StandsFor, fault_of, is_open, setup_of};
 ghost use Rattle.rfb_hello.specs.ServerProgress.{progress_behind};
@@ -103,6 +104,17 @@ impl ServerHello {
         ensures { result ≡ is_open self.now }
     {
         self.progress.is_open()
+    }
+
+    /// How many bytes are pending: those of the client's next item that stand behind its last whole piece.
+    /// It keeps no others.
+    pub fn pending(&self) -> usize
+        ensures value { (setup : ServerSetup) (point : ClientPoint) (prefix : List ℕ)
+            → StandsFor setup self.now point prefix
+            → result ≡ client_handshake_pending point prefix }
+        ensures few { result ≤ 11 }
+    {
+        self.progress.part()
     }
 
     // Takes bytes for the client's next item, as many of it as there are: how many these were, and what

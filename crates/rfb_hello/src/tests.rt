@@ -2,3 +2,4 @@
 
 mod cuts;
 mod long_texts;
+mod pieces;

@@ -1,9 +1,10 @@
 //! The viewer's end of a handshake.
 
-ghost use Rattle.std.specs.Prelude.{◌≡◌, ◌≢◌, ◌≤◌, ◌<◌, [], length, take, true, IfOk, IfErr, Some, None, Ok, Err};
+ghost use Rattle.std.specs.Prelude.{◌≡◌, ◌≢◌, ◌≤◌, ◌<◌, ℕ, List, [], length, take, true, IfOk, IfErr, Some, None, Ok, Err};
 ghost use Rattle.rfb_wire.specs.End.{FedBy, RefusedBy, RunsOutBy, StaysFailed};
 ghost use Rattle.rfb_hello.specs.KeptText.{no_text};
-ghost use Rattle.rfb_hello.specs.ServerHandshake.{AwaitsVersion};
+ghost use Rattle.rfb_hello.specs.ServerHandshake.{AwaitsVersion, ServerPoint};
+ghost use Rattle.rfb_hello.specs.Pending.{server_handshake_pending};
 ghost use Rattle.rfb_hello.specs.ViewerEnd.{ViewerSetup, viewer_end, AsksMemory};
 ghost use Rattle.rfb_hello.specs.ViewerStanding.{KeepsReason, RunsOutAs, StandsFor, StepsAs, fault_of, is_open, reason_of, setup_of};
 ghost use Rattle.rfb_hello.specs.declared.fault.HelloFault.TheVariants.{NoMemory};
@@ -123,6 +124,17 @@ impl ViewerHello {
         ensures { result ≡ is_open self.now }
     {
         self.progress.is_open()
+    }
+
+    /// How many bytes are pending: those of the server's next item that stand behind its last whole piece.
+    /// It keeps no others, but the first bytes of a text.
+    pub fn pending(&self) -> usize
+        ensures value { (setup : ViewerSetup) (point : ServerPoint) (prefix : List ℕ)
+            → StandsFor setup self.now point prefix
+            → result ≡ server_handshake_pending point prefix }
+        ensures few { result ≤ 23 }
+    {
+        self.progress.part()
     }
 
     // Takes bytes of the server's next item, as many of it as there are: how many these were, and what is

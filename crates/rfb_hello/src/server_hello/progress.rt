@@ -1,7 +1,7 @@
 //! How far a server's handshake has come.
 
-ghost use Rattle.std.specs.Prelude.{◌≡◌};
-ghost use Rattle.rfb_hello.specs.ServerProgress.{is_open};
+ghost use Rattle.std.specs.Prelude.{◌≡◌, ◌≤◌};
+ghost use Rattle.rfb_hello.specs.ServerProgress.{is_open, part_in};
 
 use crate::fault::HelloFault;
 use crate::version::Version;
@@ -28,5 +28,16 @@ impl Progress {
         ensures { result ≡ is_open self.now }
     {
         !matches!(self, Progress::Done(..) | Progress::Failed(_))
+    }
+
+    /// How many bytes have come of a piece that is not whole.
+    pub fn part(&self) -> usize
+        ensures value { result ≡ part_in self.now }
+        ensures few { result ≤ 11 }
+    {
+        match self {
+            Progress::Version(text) => text.len(),
+            _ => 0,
+        }
     }
 }

@@ -1,8 +1,8 @@
 //! How far a viewer's handshake has come.
 
-ghost use Rattle.std.specs.Prelude.{◌≡◌};
+ghost use Rattle.std.specs.Prelude.{◌≡◌, ◌≤◌};
 ghost use Rattle.rfb_hello.specs.ViewerEnd.{fault_for};
-ghost use Rattle.rfb_hello.specs.ViewerProgress.{is_open};
+ghost use Rattle.rfb_hello.specs.ViewerProgress.{is_open, part_in};
 
 use crate::fault::HelloFault;
 use crate::text::Text;
@@ -71,6 +71,21 @@ impl Progress {
         ensures { result ≡ is_open self.now }
     {
         !matches!(self, Progress::Done | Progress::Failed(..))
+    }
+
+    /// How many bytes have come of a piece that is not whole.
+    pub fn part(&self) -> usize
+        ensures value { result ≡ part_in self.now }
+        ensures few { result ≤ 23 }
+    {
+        match self {
+            Progress::Version(part) => part.len(),
+            Progress::Word(part) => part.len(),
+            Progress::Result(_, part) => part.len(),
+            Progress::ReasonLength { part, .. } => part.len(),
+            Progress::Init(_, part) => part.len(),
+            _ => 0,
+        }
     }
 }
 
