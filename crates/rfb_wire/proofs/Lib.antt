@@ -18,5 +18,7 @@ pub mod SequelLaws
 pub mod BothLaws
 pub mod SessionLaws
 pub mod PendingLaws
+pub mod WaitLaws
 mod StreamFacts
 mod PendingFacts
+mod SessionFacts

@@ -170,6 +170,20 @@ module _ {P I F : Type 0} where
       byte [] e = absurd (some_byte g laws p i [] e)
       byte (x ∷ front) e = omega arith
 
+  -- an item has a byte at least
+  pub size_some : (g : Grammar P I F) → IsGrammar g → (p : P) (bytes : List ℕ) (i : I) (rest : List ℕ) → g.next p bytes ≡ Got i rest → 0 < g.size i
+  size_some g laws p bytes i rest e =
+      let one = laws.cut p bytes i rest e in
+      let less = shorter g laws p bytes i rest e in
+      let size : length bytes ≡ length one.0 + length rest = ap length one.1 ∙ length-append one.0 rest in
+      omega (arith, less, size, one.3)
+
+  -- bytes that are not yet all of the first item are not when further items stand behind
+  pub within_append : (g : Grammar P I F) → IsGrammar g → (n : ℕ) (p : P) (bytes : List ℕ) (xs ys : List I) (rest : List ℕ) → IsWithinFirst g n xs → ReadsAll g p bytes ys rest → IsWithinFirst g n (xs ++ ys)
+  within_append g laws n p bytes (i ∷ xs) ys rest within reads = within
+  within_append g laws n p bytes [] [] rest within reads = within
+  within_append g laws n p bytes [] (j ∷ ys) rest within reads = let some = size_some g laws p bytes j reads.0 reads.1 in omega (arith, some, within)
+
   verdict_step : (g : Grammar P I F) → IsGrammar g → (p : P) (bytes : List ℕ) → ((q : P) (rest : List ℕ) → length rest < length bytes → (items : List I) × (v : Option F) × HasVerdict g q rest items v) → (items : List I) × (v : Option F) × HasVerdict g p bytes items v
   verdict_step g laws p bytes smaller = by (g.next p bytes) refl
     where

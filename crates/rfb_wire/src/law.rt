@@ -4,11 +4,13 @@ pub mod both;
 pub mod pending;
 pub mod sequel;
 pub mod session;
+pub mod waiting;
 
 ghost use Rattle.std.specs.Prelude.{ℕ, List, [], ◌∷◌, ◌≡◌, ◌++◌, Option};
 ghost use Rattle.std.specs.List.{concat};
 ghost use Rattle.rfb_wire.specs.Reading.{Next, More, Got, Bad, Reads};
-ghost use Rattle.rfb_wire.specs.Stream.{Grammar, IsSpelled, IsGrammar, ReadsAll, HasVerdict, CutVerdict};
+ghost use Rattle.rfb_wire.specs.Stream.{Grammar, IsSpelled, IsGrammar, ReadsAll, IsWithinFirst};
+ghost use Rattle.rfb_wire.specs.Stream.{HasVerdict, CutVerdict};
 ghost use Rattle.rfb_wire.specs.End.{Machine, IsMachine, Takes, Refuses, Call, CallsTo, bytes_of, events_of, Delivers};
 ghost use Rattle.rfb_wire.specs.ClientMessage.{ClientMessage, ClientFault, SpellsClientMessage, client_says};
 ghost use Rattle.rfb_wire.specs.ClientStream.{client_message, client_stream};
@@ -42,9 +44,13 @@ pub fn calls_agree<S, P, I, F, E>()
 {}
 
 /// Where the bytes in flight to an end are the items of a queue, what is delivered of them is taken
-/// from the front of the queue, and is not refused.
+/// from the front of the queue, and is not refused. What is there of the first item stays a part of it
+/// when further items join the queue.
 pub fn deliveries_take_from_the_front<S, P, I, F, E>()
     ensures taken { (m : Machine S P I F E) (s t : S) (prefix bytes later rest : List ℕ) (queue : List I) (event : Option E) → IsMachine m → ReadsAll m.grammar (m.point s) ((prefix ++ bytes) ++ later) queue [] → Takes m s prefix bytes event t rest → Delivers m s prefix queue bytes later event t rest }
+    ensures within { (g : Grammar P I F) (n : ℕ) (p : P) (bytes rest : List ℕ) (xs ys : List I) →
+        IsGrammar g → IsWithinFirst g n xs → ReadsAll g p bytes ys rest →
+        IsWithinFirst g n (xs ++ ys) }
     ensures good { (m : Machine S P I F E) (s : S) (prefix bytes later : List ℕ) (queue : List I) (fault : F) → IsMachine m → ReadsAll m.grammar (m.point s) ((prefix ++ bytes) ++ later) queue [] → Refuses m s prefix bytes fault → ⊥ }
 {}
 

@@ -1,3 +1,4 @@
+use Rattle.rfb_wire.proofs.StreamLaws.{within_append}
 use Rattle.rfb_wire.proofs.EndLaws.{delivered, not_refused}
 use Rattle.rfb_wire.proofs.law.deliveries_take_from_the_front.Goals as goal
 
@@ -6,3 +7,6 @@ returns-clause-taken g c = λ m s t prefix bytes later rest queue event is fligh
 
 pub returns-clause-good : goal.returns-clause-good
 returns-clause-good g c = λ m s prefix bytes later queue fault is flight refused. not_refused m is s prefix bytes later queue fault flight refused
+
+pub returns-clause-within : goal.returns-clause-within
+returns-clause-within g c = λ grammar n p bytes rest xs ys laws within reads. within_append grammar laws n p bytes xs ys rest within reads
