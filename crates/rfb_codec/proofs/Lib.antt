@@ -1,5 +1,6 @@
 pub mod PixelLaws
 pub mod PixelLemmas
+pub mod BlockLemmas
 mod StandardFacts
 mod UpdateFacts
 mod PendingFacts

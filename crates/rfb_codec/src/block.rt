@@ -1,9 +1,15 @@
 //! A block of pixels to be encoded.
 
-ghost use Rattle.std.specs.Prelude.{◌≡◌, ◌*◌, ◌≤◌, length};
+ghost use Rattle.std.specs.Prelude.{◌≡◌, ℕ, ◌+◌, ◌*◌, ◌<◌, ◌≤◌, [], ◌∷◌, take, length};
 ghost use Rattle.arrayvec.specs.ArrayVec.{array_vec_len};
+ghost use Rattle.rfb_pixel.specs.Format.{ArePixels};
+ghost use Rattle.rfb_picture.specs.Grid.{Holds};
+ghost use Rattle.rfb_codec.specs.Pixels.{HasPixels, IsSized};
+ghost use Rattle.rfb_codec.specs.Codec.{PacksRect, PacksRows};
 
 use arrayvec::ArrayVec;
+use rfb_picture::{Picture, Rect};
+use rfb_pixel::{Colour, Format};
 use std::marker::Model;
 
 /// The most columns and the most rows of a block.
@@ -13,28 +19,30 @@ pub const SIDE: usize = 64;
 pub const PLACES: usize = SIDE * SIDE;
 
 /// 1 to 64 columns and 1 to 64 rows of pixel values of one format, row by row from the top. It owns
-/// them, and has exactly one for each place.
+/// them, and has exactly one for each place. A caller keeps one and packs rectangle after rectangle
+/// into it: only what a rectangle needs is written.
 #[derive(Drop)]
 pub struct Block {
     width: u16,
     height: u16,
-    pixels: ArrayVec<u32, PLACES>,
+    // Those of its places, and behind them what was left of other blocks.
+    pixels: [u32; PLACES],
 }
 
 impl Model for Block {
-    ghost use Rattle.std.specs.Prelude.{ℕ};
+    ghost use Rattle.std.specs.Prelude.{ℕ, ◌*◌, take};
     ghost use Rattle.rfb_picture.specs.Grid.{Grid, grid};
     ghost use Rattle.rfb_codec.specs.Codec.{IsBlock};
 
     ghost Value = { Grid ℕ };
 
-    ghost view = { λ b. grid b.width b.height b.pixels.items };
+    ghost view = { λ b. grid b.width b.height (take (b.height * b.width) b.pixels) };
 
-    ghost invariant = { λ b. IsBlock (grid b.width b.height b.pixels.items) };
+    ghost invariant = { λ b. IsBlock (grid b.width b.height (take (b.height * b.width) b.pixels)) };
 }
 
 impl Block {
-    ghost use Rattle.rfb_picture.specs.Grid.{grid, IsGrid};
+    ghost use Rattle.rfb_picture.specs.Grid.{grid, IsGrid, at_or, row_of};
 
     /// The block of `width` columns and `height` rows that has these pixels, row by row from the top,
     /// each row from the left.
@@ -44,16 +52,43 @@ impl Block {
         requires whole { array_vec_len pixels ≡ height * width }
         ensures { result ≡ grid width height pixels.items }
     {
+        let mut held = [0; PLACES];
+        held[..pixels.len()].copy_from_slice(pixels.as_slice());
         Block {
             width,
             height,
-            pixels,
+            pixels: held,
         }
+    }
+
+    /// The block of one place that has this pixel: one to keep and to pack into.
+    pub fn single(pixel: u32) -> Block
+        ensures { result ≡ grid 1 1 (pixel ∷ []) }
+    {
+        let mut pixels = ArrayVec::new();
+        pixels.push(pixel);
+        Block::new(1, 1, pixels)
+    }
+
+    /// Becomes the block of a rectangle of a picture, in the format: as many columns and rows, and at
+    /// each place the pixel of the colour there. What it had before is gone; the picture stays the
+    /// caller's.
+    pub fn pack(&mut self, format: &Format, picture: &Picture<Colour>, rect: Rect)
+        requires held { Holds picture.now rect }
+        requires columns { (1 ≤ rect.w) × (rect.w ≤ SIDE) }
+        requires rows { (1 ≤ rect.h) × (rect.h ≤ SIDE) }
+        ensures sized { IsSized rect.w rect.h self.new }
+        ensures packed { PacksRect format.now picture.now rect self.new }
+        ensures fits { HasPixels format.now self.new }
+    {
+        pack_rows(&mut self.pixels, format, picture, rect);
+        self.width = rect.w;
+        self.height = rect.h;
     }
 
     /// How many columns it has.
     #[inline]
-    pub(crate) fn width(&self) -> u16
+    pub fn width(&self) -> u16
         ensures value { result ≡ self.now.width }
         ensures some { 1 ≤ result }
         ensures bound { result ≤ SIDE }
@@ -63,12 +98,34 @@ impl Block {
 
     /// How many rows it has.
     #[inline]
-    pub(crate) fn height(&self) -> u16
+    pub fn height(&self) -> u16
         ensures value { result ≡ self.now.height }
         ensures some { 1 ≤ result }
         ensures bound { result ≤ SIDE }
     {
         self.height
+    }
+
+    /// The pixel at column `x` of row `y`.
+    #[inline]
+    pub fn at(&self, x: u16, y: u16) -> u32
+        requires column { x < self.now.width }
+        requires row { y < self.now.height }
+        ensures { (d : ℕ) → result ≡ at_or self.now x y d }
+    {
+        self.pixels()[usize::from(y) * usize::from(self.width()) + usize::from(x)]
+    }
+
+    /// Lends the pixels of row `y`, from the left.
+    #[inline]
+    pub fn row(&self, y: u16) -> &[u32]
+        requires { y < self.now.height }
+        ensures value { result.now ≡ row_of self.now 0 y self.now.width }
+        ensures len { length result.now ≡ self.now.width }
+    {
+        let columns = usize::from(self.width());
+        let start = usize::from(y) * columns;
+        &self.pixels()[start..start + columns]
     }
 
     /// Lends its pixels, row by row from the top. It also tells that there is one for each place.
@@ -78,7 +135,25 @@ impl Block {
         ensures whole { IsGrid self.now }
         ensures bound { length result.now ≤ PLACES }
     {
-        self.pixels.as_slice()
+        &self.pixels[..usize::from(self.height) * usize::from(self.width)]
+    }
+}
+
+// Writes the pixels of the rectangle, row by row, over the first of these.
+fn pack_rows(pixels: &mut [u32; PLACES], format: &Format, picture: &Picture<Colour>, rect: Rect)
+    requires held { Holds picture.now rect }
+    requires columns { rect.w ≤ SIDE }
+    requires rows { rect.h ≤ SIDE }
+    ensures packed { PacksRows format.now picture.now rect rect.h (take (rect.h * rect.w) pixels.new) }
+    ensures fits { ArePixels format.now (take (rect.h * rect.w) pixels.new) }
+{
+    // It tells that the rectangle's lower edge fits 16 bits.
+    let _rows = picture.height();
+    let columns = usize::from(rect.w);
+    for y in 0..rect.h {
+        let row = picture.row(rect.x, rect.y + y, rect.w);
+        let start = usize::from(y) * columns;
+        format.pack_row(row, &mut pixels[start..start + columns]);
     }
 }
 

@@ -12,7 +12,7 @@ mod painter;
 mod subrect;
 mod tiles;
 
-pub use block::Block;
+pub use block::{Block, PLACES, SIDE};
 pub use codec::Codec;
 pub use encode::{Hextile, Raw, Rre};
 pub use fault::PaintFault;

@@ -1,6 +1,8 @@
 //! A block at each of its calls.
 
 use super::*;
+use std::alloc::AllocError;
+use std::result::Result;
 
 #[test]
 fn a_block_has_the_size_and_the_pixels_that_it_was_made_with(rt: HostRuntime) {
@@ -13,4 +15,35 @@ fn a_block_has_the_size_and_the_pixels_that_it_was_made_with(rt: HostRuntime) {
         assert_eq!(rt; (block.width(), block.height()), (3, 2));
         assert_eq!(rt; block.pixels(), [7, 8, 9, 10, 11, 12].as_slice());
     }
+}
+
+#[test]
+fn a_block_is_packed_again_and_again(rt: HostRuntime) -> Result<(), AllocError> {
+    let mut picture = Picture::new(rt.alloc(), 3, 2, Colour { r: 1, g: 2, b: 3 })?;
+    let all = Rect {
+        x: 0,
+        y: 0,
+        w: 3,
+        h: 2,
+    };
+    let part = Rect {
+        x: 1,
+        y: 1,
+        w: 2,
+        h: 1,
+    };
+    if picture.holds(all) && picture.holds(part) {
+        picture.put_row(2, 1, &[Colour { r: 4, g: 5, b: 6 }]);
+        let mut block = Block::single(7);
+        assert_eq!(rt; (block.width(), block.height(), block.at(0, 0)), (1, 1, 7));
+        block.pack(&Format::rgb888(), &picture, all);
+        assert_eq!(rt; (block.width(), block.height()), (3, 2));
+        assert_eq!(rt; block.row(0), [0x01_0203; 3].as_slice());
+        assert_eq!(rt; block.row(1), [0x01_0203, 0x01_0203, 0x04_0506].as_slice());
+        block.pack(&Format::rgb888(), &picture, part);
+        assert_eq!(rt; (block.width(), block.height()), (2, 1));
+        assert_eq!(rt; block.row(0), [0x01_0203, 0x04_0506].as_slice());
+        assert_eq!(rt; block.at(1, 0), 0x04_0506);
+    }
+    Ok(())
 }

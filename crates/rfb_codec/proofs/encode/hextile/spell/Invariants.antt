@@ -1,4 +1,4 @@
-use Rattle.std.proofs.Common.{◌≡◌, ◌<◌, ◌≤◌, ◌++◌, ℕ, List, vec_len}
+use Rattle.std.proofs.Common.{◌≡◌, ◌<◌, ◌++◌, ℕ, List, vec_len}
 use Rattle.std.specs.Vec.{vec_capacity}
 use Rattle.rfb_codec.proofs.DrawLemmas.{SpelledUpTo}
 use Rattle.rfb_codec.proofs.encode.hextile.spell.Given as goal
