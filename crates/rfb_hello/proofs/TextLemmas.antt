@@ -1,7 +1,8 @@
 -- Texts of which the first bytes are kept.
-use Rattle.std.proofs.Common.{◌≡◌, ℕ, ◌≤◌, ◌+◌, ◌-◌, List, ◌++◌, length, take, min, nat_le, Bool, true, false, refl, sym, ◌∙◌, ap, arith}
+use Rattle.std.proofs.Common.{◌≡◌, ℕ, ◌≤◌, ◌+◌, ◌-◌, List, [], ◌++◌, length, take, min, nat_le, Bool, true, false, refl, sym, ◌∙◌, ap, arith}
 use Rattle.std.proofs.lemmas.Bool.Decides.{nat_tests}
 use Rattle.std.proofs.lemmas.List.{take_all}
+use Rattle.rfb_hello.specs.KeptText.{no_text, kept_of}
 use Rattle.std.proofs.Math.Seq.{take-append-add, take-length}
 
 -- no more bytes than there are
@@ -23,3 +24,7 @@ pub kept_more : (room : ℕ) (old bytes : List ℕ) → length old ≤ room → 
 kept_more room old bytes within =
     let parts : room ≡ length old + (room - length old) = omega (arith, within) in
     ap (λ (ys : List ℕ). old ++ ys) (take_min (room - length old) bytes) ∙ sym (take-append-add old bytes (room - length old)) ∙ ap (λ (k : ℕ). take k (old ++ bytes)) (sym parts)
+
+-- of a text without bytes nothing is kept
+pub kept_none : (limit : ℕ) → kept_of limit 0 [] ≡ no_text
+kept_none limit = let room : min 0 limit ≡ 0 = omega arith in rw (room, take_all {A = ℕ} limit [] (omega arith)) refl

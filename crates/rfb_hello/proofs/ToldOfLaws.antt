@@ -1,16 +1,16 @@
 -- What the steps `Screen` and `Ready` are told of.
-use Rattle.std.proofs.Common.{◌≡◌, ℕ, zero, suc, inl, inr, Bool, [], Some, refl, ap, min, sym, ◌∙◌, arith}
-use Rattle.std.proofs.lemmas.List.{take_all}
+use Rattle.std.proofs.Common.{◌≡◌, ℕ, zero, suc, inl, inr, Bool, [], Some, refl, ap, sym, ◌∙◌, arith}
 use Rattle.arrayvec.specs.ArrayVec.{ArrayVec}
 use Rattle.rfb_hello.specs.declared.version.Version.{Version}
 use Rattle.rfb_hello.specs.declared.version.Version.TheVariants.{V33, V37, V38}
 use Rattle.rfb_hello.specs.declared.step.ServerStep.TheVariants.{Ready as ServerReady}
 use Rattle.rfb_hello.specs.declared.step.ViewerStep.TheVariants.{Screen, Ready}
-use Rattle.rfb_hello.specs.KeptText.{KeptText, no_text, kept_of}
+use Rattle.rfb_hello.specs.KeptText.{KeptText, kept_of}
 use Rattle.rfb_hello.specs.ClientHandshake.{ClientPoint, AwaitsVersion as AwaitsClientVersion, AwaitsChoice, AwaitsInit as AwaitsClientInit, ClientItem, ProtocolVersion as ClientVersion, SecurityType, ClientInit}
 use Rattle.rfb_hello.specs.ServerHandshake.{ServerPoint, AwaitsVersion, AwaitsSecurity, AwaitsResult, AwaitsInit, AwaitsName, ServerItem, ProtocolVersion, SecurityNone, SecurityTypes, SecurityResult, ServerInit, Name}
 use Rattle.rfb_hello.specs.ServerEnd.{ServerSetup, server_tells}
 use Rattle.rfb_hello.specs.ViewerEnd.{ViewerSetup, viewer_tells}
+use Rattle.rfb_hello.proofs.TextLemmas.{kept_none}
 use Rattle.rfb_hello.specs.ToldOf.{IsReadyAt, IsScreenAt, IsViewerReadyAt}
 
 pub server_ready_at : (setup : ServerSetup) (point : ClientPoint) (item : ClientItem) (reply : ArrayVec ℕ) (version : Version) (shared : Bool) → server_tells setup point item ≡ Some (ServerReady reply version shared) → IsReadyAt setup point item reply version shared
@@ -36,10 +36,6 @@ screen_at setup (AwaitsInit v) (ServerInit w h (suc n)) width height is =
     record { version = v; name_length = suc n; at_point = refl; item_is = rw (wide, high) refl; named = omega arith; behind = rw (wide, high) refl }
 screen_at setup (AwaitsName v w h n) (Name text) width height is = cc
 screen_at setup point item width height is = cc
-
--- of a text without bytes none are kept
-kept_none : (limit : ℕ) → kept_of limit zero [] ≡ no_text
-kept_none limit = let room : min zero limit ≡ zero = omega arith in rw (room, take_all {A = ℕ} limit [] (omega arith)) refl
 
 pub viewer_ready_at : (setup : ViewerSetup) (point : ServerPoint) (item : ServerItem) (width height : ℕ) (version : Version) (name : KeptText) (name_length : ℕ) → viewer_tells setup point item ≡ Some (Ready width height version name name_length) → IsViewerReadyAt setup point item width height version name name_length
 viewer_ready_at setup AwaitsVersion (ProtocolVersion v) width height version name name_length is = cc

@@ -21,7 +21,7 @@ use Rattle.rfb_hello.specs.declared.viewer_hello.progress.Progress.{Progress}
 use Rattle.rfb_hello.specs.declared.viewer_hello.progress.Progress.TheVariants.{Version as VersionPart, Word, Count, Types, Result as ResultPart, ReasonLength, Reason, Init, Name, Done, Failed}
 use Rattle.arrayvec.specs.ArrayVec.{ArrayVec}
 use Rattle.rfb_hello.specs.Version.{is_version_text, version_of, version_text, lower}
-use Rattle.rfb_hello.specs.KeptText.{KeptText, kept_of}
+use Rattle.rfb_hello.specs.KeptText.{KeptText, no_text, kept_of}
 use Rattle.rfb_hello.specs.ServerHandshake.{ServerPoint, AwaitsVersion, AwaitsSecurity, AwaitsInit, ServerItem, ProtocolVersion, SecurityTypes, ServerInit, IsWord, has_none, behind_types, behind_init, past_server_item}
 use Rattle.rfb_hello.specs.ServerReading.{name, security, screen_fault, server_item}
 use Rattle.rfb_hello.specs.ServerEnd.{as_reply}
@@ -29,6 +29,7 @@ use Rattle.rfb_hello.specs.ViewerEnd.{ViewerSetup, viewer_end, viewer_tells, cho
 use Rattle.rfb_hello.specs.ViewerProgress.{ProgressStandsFor, fault_in, reason_in, progress_behind_version, progress_behind_types, progress_behind_init}
 use Rattle.rfb_hello.specs.ViewerStanding.{StandsFor, setup_of, IsReasonKept, KeepsReason}
 use Rattle.rfb_hello.proofs.ServerStreamLaws.{server_handshake_laws, screen_admitted}
+use Rattle.rfb_hello.proofs.TextLemmas.{kept_none}
 use Rattle.rfb_hello.proofs.ViewerReadingLaws.{opened, reason_short, reason_more, reason_bad, types_next, types_more, types_good, types_bad, none_behind}
 
 pub viewer_machine : (setup : ViewerSetup) → IsMachine (viewer_end setup)
@@ -343,14 +344,14 @@ reason_kept Refused n old new unit h = h
 reason_kept SecurityFailed n old new unit h = h
 
 -- a reason without bytes
-pub none_kept : (old new : ViewerHello) (cause : Cause) (part : ArrayVec ℕ) (unit whole : List ℕ) → old.progress ≡ ReasonLength cause part → whole ≡ part.items ++ unit → IsWord 0 whole → reason_in new.progress ≡ [] → KeepsReason (fault_for cause 0) old unit new
+pub none_kept : (old new : ViewerHello) (cause : Cause) (part : ArrayVec ℕ) (unit whole : List ℕ) → old.progress ≡ ReasonLength cause part → whole ≡ part.items ++ unit → IsWord 0 whole → reason_in new.progress ≡ no_text → KeepsReason (fault_for cause 0) old unit new
 none_kept old new cause part unit whole was is word none =
     reason_kept cause 0 old new unit (λ setup. asks_step (IsReasonKept setup.text_limit cause 0 (reason_in new.progress)) setup old (ReasonLength cause part) unit was (λ s prefix h.
     let all : prefix ++ unit ≡ h.0 ++ (whole ++ []) = behind_intro prefix h.0 part.items unit h.2 ∙ ap (λ (ys : List ℕ). h.0 ++ ys) (sym is ∙ sym (append-nil whole)) in
-    (h.0, whole, [], all, h.1, word, refl, none ∙ sym (take_all setup.text_limit [] (omega arith)))))
+    (h.0, whole, [], all, h.1, word, refl, none ∙ sym (kept_none setup.text_limit))))
 
 -- the last bytes of a reason
-pub text_kept : (old new : ViewerHello) (cause : Cause) (n more : ℕ) (kept : KeptText) (unit : List ℕ) → old.progress ≡ Reason cause n more kept → length unit ≡ more + 1 → reason_in new.progress ≡ take kept.room (kept.bytes ++ unit) → KeepsReason (fault_for cause n) old unit new
+pub text_kept : (old new : ViewerHello) (cause : Cause) (n more : ℕ) (kept : KeptText) (unit : List ℕ) → old.progress ≡ Reason cause n more kept → length unit ≡ more + 1 → reason_in new.progress ≡ record kept { bytes = take kept.room (kept.bytes ++ unit) } → KeepsReason (fault_for cause n) old unit new
 text_kept old new cause n more kept unit was count is =
     reason_kept cause n old new unit (λ setup. asks_step (IsReasonKept setup.text_limit cause n (reason_in new.progress)) setup old (Reason cause n more kept) unit was (λ s prefix h.
     let intro = h.0 in
@@ -358,8 +359,8 @@ text_kept old new cause n more kept unit was count is =
     let text = h.2 in
     let all : prefix ++ unit ≡ intro ++ (word ++ (text ++ unit)) = behind_intro prefix intro (word ++ text) unit h.4 ∙ ap (λ (ys : List ℕ). intro ++ ys) (append_assoc word text unit) in
     let size : length (text ++ unit) ≡ n = rw (length-append text unit) (omega (arith, count, h.6)) in
-    let room : take kept.room (kept.bytes ++ unit) ≡ take (min n setup.text_limit) (take setup.text_limit text ++ unit) = rw h.7 refl in
-    (intro, word, text ++ unit, all, h.3, h.5, size, is ∙ room ∙ kept_on setup.text_limit n text unit (omega (arith, size)))))
+    let kept_is : reason_in new.progress ≡ kept_of setup.text_limit n (text ++ unit) = is ∙ rw h.7 (ap (λ (ys : List ℕ). record { room = min n setup.text_limit; bytes = ys }) (kept_on setup.text_limit n text unit (omega (arith, size)))) in
+    (intro, word, text ++ unit, all, h.3, h.5, size, kept_is)))
 
 -- a slice of which some bytes were taken before
 pub kept_later : (fault : HelloFault) (old mid new : ViewerHello) (i n : ℕ) (bytes : List ℕ) → ((setup : ViewerSetup) → FedBy (viewer_end setup) (StandsFor setup) old (take i bytes) None mid) → KeepsReason fault mid (take n (drop i bytes)) new → KeepsReason fault old bytes new

@@ -5,7 +5,7 @@ use Rattle.rfb_hello.specs.declared.version.Version.TheVariants.{V33, V37, V38}
 use Rattle.rfb_hello.specs.declared.fault.HelloFault.{HelloFault}
 use Rattle.rfb_hello.specs.declared.viewer_hello.progress.Progress.{Progress}
 use Rattle.rfb_hello.specs.declared.viewer_hello.progress.Progress.TheVariants.{Version as VersionPart, Word, Count, Types, Result as ResultPart, ReasonLength, Reason, Init, Name, Done, Failed}
-use Rattle.rfb_hello.specs.KeptText.{kept_of}
+use Rattle.rfb_hello.specs.KeptText.{KeptText, no_text, kept_of}
 use Rattle.rfb_hello.specs.ServerHandshake.{ServerPoint, AwaitsVersion, AwaitsSecurity, AwaitsResult, AwaitsInit, AwaitsName, Begun, IsWord, has_none}
 use Rattle.rfb_hello.specs.ViewerEnd.{OpensReason}
 
@@ -38,19 +38,19 @@ fault_in (Name version width height n more kept) = None
 fault_in Done = None
 fault_in (Failed fault kept) = Some fault
 
--- what is kept of the reason that it has failed for; without one no bytes
-abbrev pub reason_in : Progress → List ℕ
-reason_in (VersionPart part) = []
-reason_in (Word part) = []
-reason_in (Count version) = []
-reason_in (Types version more none) = []
-reason_in (ResultPart version part) = []
-reason_in (ReasonLength cause part) = []
-reason_in (Reason cause n more kept) = []
-reason_in (Init version part) = []
-reason_in (Name version width height n more kept) = []
-reason_in Done = []
-reason_in (Failed fault kept) = kept.bytes
+-- what is kept of the reason that it has failed for; without one nothing
+abbrev pub reason_in : Progress → KeptText
+reason_in (VersionPart part) = no_text
+reason_in (Word part) = no_text
+reason_in (Count version) = no_text
+reason_in (Types version more none) = no_text
+reason_in (ResultPart version part) = no_text
+reason_in (ReasonLength cause part) = no_text
+reason_in (Reason cause n more kept) = no_text
+reason_in (Init version part) = no_text
+reason_in (Name version width height n more kept) = no_text
+reason_in Done = no_text
+reason_in (Failed fault kept) = kept
 
 -- the server's bytes go on in the handshake
 abbrev pub is_open : Progress → Bool

@@ -1,6 +1,6 @@
 -- What a `ViewerHello` stands for: a setup, a point of the handshake, and the bytes that came of the
 -- server's next item, fewer than it has.
-use Rattle.std.specs.Prelude.{◌≡◌, ◌≢◌, ℕ, Bool, List, [], ◌++◌, Option, Result, Err, length, take}
+use Rattle.std.specs.Prelude.{◌≡◌, ◌≢◌, ℕ, Bool, List, ◌++◌, Option, Result, Err, length}
 use Rattle.rfb_wire.specs.End.{RunsOutBy, StepsBy}
 use Rattle.rfb_hello.specs.declared.fault.HelloFault.{HelloFault}
 use Rattle.rfb_hello.specs.declared.fault.HelloFault.TheVariants.{Refused as RefusedFault, SecurityFailed as FailedFault, NoMemory}
@@ -8,6 +8,7 @@ use Rattle.rfb_hello.specs.declared.step.ViewerStep.{ViewerStep}
 use Rattle.rfb_hello.specs.declared.viewer_hello.progress.Cause.{Cause}
 use Rattle.rfb_hello.specs.declared.viewer_hello.progress.Cause.TheVariants.{Refused, SecurityFailed}
 use Rattle.rfb_hello.specs.declared.viewer_hello.ViewerHello.{ViewerHello}
+use Rattle.rfb_hello.specs.KeptText.{KeptText, no_text, kept_of}
 use Rattle.rfb_hello.specs.ServerHandshake.{ServerPoint, IsWord}
 use Rattle.rfb_hello.specs.ViewerEnd.{ViewerSetup, OpensReason, AsksMemory, viewer_end}
 use Rattle.rfb_hello.specs.ViewerProgress.{ProgressStandsFor, fault_in, reason_in, is_open as goes_on}
@@ -29,8 +30,8 @@ fault_of hello = fault_in hello.progress
 abbrev pub is_open : ViewerHello → Bool
 is_open hello = goes_on hello.progress
 
--- what is kept of the reason that it has failed for; without one no bytes
-abbrev pub reason_of : ViewerHello → List ℕ
+-- what is kept of the reason that it has failed for; without one nothing
+abbrev pub reason_of : ViewerHello → KeptText
 reason_of hello = reason_in hello.progress
 
 -- what a step by bytes of one item answers, where memory is not wanting
@@ -46,20 +47,20 @@ RunsOutAs old bytes result =
     → RunsOutBy (viewer_end setup) (AsksMemory setup) (StandsFor setup) old bytes
 
 -- a reason of so many bytes is whole at the last of these, and this is kept of its text
-abbrev pub IsReasonKept : ℕ → Cause → ℕ → List ℕ → ServerPoint → List ℕ → Type 0
+abbrev pub IsReasonKept : ℕ → Cause → ℕ → KeptText → ServerPoint → List ℕ → Type 0
 IsReasonKept limit cause n kept point bytes =
     (intro word text : List ℕ) × (bytes ≡ intro ++ (word ++ text)) × OpensReason cause point intro
-    × IsWord n word × (length text ≡ n) × (kept ≡ take limit text)
+    × IsWord n word × (length text ≡ n) × (kept ≡ kept_of limit n text)
 
 -- from each setup that the end stood for, the bytes have led there
-abbrev pub LeadsToReason : Cause → ℕ → List ℕ → ViewerHello → List ℕ → Type 0
+abbrev pub LeadsToReason : Cause → ℕ → KeptText → ViewerHello → List ℕ → Type 0
 LeadsToReason cause n kept old bytes =
     (setup : ViewerSetup)
     → RunsOutBy (viewer_end setup) (IsReasonKept setup.text_limit cause n kept) (StandsFor setup) old bytes
 
 -- after a fault: the bytes have led to the last one of a reason, where one was given, and the end keeps
--- the first bytes of its text; without a reason it keeps none
+-- the first bytes of its text, with room for these alone; without a reason it keeps nothing
 abbrev pub KeepsReason : HelloFault → ViewerHello → List ℕ → ViewerHello → Type 0
 KeepsReason (RefusedFault n) old bytes new = LeadsToReason Refused n (reason_of new) old bytes
 KeepsReason (FailedFault n) old bytes new = LeadsToReason SecurityFailed n (reason_of new) old bytes
-KeepsReason fault old bytes new = reason_of new ≡ []
+KeepsReason fault old bytes new = reason_of new ≡ no_text

@@ -1,6 +1,6 @@
 //! The server's end of a handshake.
 
-ghost use Rattle.std.specs.Prelude.{◌≡◌, ◌≤◌, ◌<◌, ◌+◌, ℕ, List, [], ◌∷◌, ◌++◌, length, take, true, IfOk, IfErr, Some, None, Ok};
+ghost use Rattle.std.specs.Prelude.{◌≡◌, ◌≤◌, ◌<◌, ◌+◌, ℕ, List, [], ◌∷◌, ◌++◌, length, take, true, false, IfOk, IfErr, Some, None, Ok};
 ghost use Rattle.std.specs.Result.{result_err};
 ghost use Rattle.rfb_wire.specs.End.{FedBy, RefusedBy, StepsBy, StaysFailed};
 ghost use Rattle.rfb_hello.specs.Version.{version_of, version_text};
@@ -113,6 +113,7 @@ impl ServerHello {
             → StandsFor setup self.now point prefix
             → result ≡ client_handshake_pending point prefix }
         ensures few { result ≤ 11 }
+        ensures closed { is_open self.now ≡ false → result ≡ 0 }
     {
         self.progress.part()
     }

@@ -1,6 +1,6 @@
 //! The viewer's end of a handshake.
 
-ghost use Rattle.std.specs.Prelude.{◌≡◌, ◌≢◌, ◌≤◌, ◌<◌, ℕ, List, [], length, take, true, IfOk, IfErr, Some, None, Ok, Err};
+ghost use Rattle.std.specs.Prelude.{◌≡◌, ◌≢◌, ◌≤◌, ◌<◌, ℕ, List, [], length, take, true, false, IfOk, IfErr, Some, None, Ok, Err};
 ghost use Rattle.rfb_wire.specs.End.{FedBy, RefusedBy, RunsOutBy, StaysFailed};
 ghost use Rattle.rfb_hello.specs.KeptText.{no_text};
 ghost use Rattle.rfb_hello.specs.ServerHandshake.{AwaitsVersion, ServerPoint};
@@ -111,7 +111,7 @@ impl ViewerHello {
     /// What is kept of the reason that the server gave, after `Refused` and `SecurityFailed`; before a
     /// fault, and after another, no bytes. What they are encoded in is the server's matter.
     pub fn reason(&self) -> &[u8]
-        ensures { result.now ≡ reason_of self.now }
+        ensures { result.now ≡ (reason_of self.now).bytes }
     {
         match &self.progress {
             Progress::Failed(_, kept) => kept.as_slice(),
@@ -133,6 +133,7 @@ impl ViewerHello {
             → StandsFor setup self.now point prefix
             → result ≡ server_handshake_pending point prefix }
         ensures few { result ≤ 23 }
+        ensures closed { is_open self.now ≡ false → result ≡ 0 }
     {
         self.progress.part()
     }

@@ -1,6 +1,6 @@
 //! How far a server's handshake has come.
 
-ghost use Rattle.std.specs.Prelude.{◌≡◌, ◌≤◌};
+ghost use Rattle.std.specs.Prelude.{◌≡◌, ◌≤◌, false};
 ghost use Rattle.rfb_hello.specs.ServerProgress.{is_open, part_in};
 
 use crate::fault::HelloFault;
@@ -34,6 +34,7 @@ impl Progress {
     pub fn part(&self) -> usize
         ensures value { result ≡ part_in self.now }
         ensures few { result ≤ 11 }
+        ensures closed { is_open self.now ≡ false → result ≡ 0 }
     {
         match self {
             Progress::Version(text) => text.len(),

@@ -1,6 +1,6 @@
 //! How far a viewer's handshake has come.
 
-ghost use Rattle.std.specs.Prelude.{◌≡◌, ◌≤◌};
+ghost use Rattle.std.specs.Prelude.{◌≡◌, ◌≤◌, false};
 ghost use Rattle.rfb_hello.specs.ViewerEnd.{fault_for};
 ghost use Rattle.rfb_hello.specs.ViewerProgress.{is_open, part_in};
 
@@ -77,6 +77,7 @@ impl Progress {
     pub fn part(&self) -> usize
         ensures value { result ≡ part_in self.now }
         ensures few { result ≤ 23 }
+        ensures closed { is_open self.now ≡ false → result ≡ 0 }
     {
         match self {
             Progress::Version(part) => part.len(),

@@ -3,7 +3,6 @@ use Rattle.std.proofs.lemmas.List.{length-take-le}
 use Rattle.rfb_wire.specs.End.{StepsBy}
 use Rattle.rfb_hello.specs.declared.fault.HelloFault.{HelloFault}
 use Rattle.rfb_hello.specs.declared.viewer_hello.progress.Progress.TheVariants.{Failed}
-use Rattle.rfb_hello.specs.KeptText.{KeptText}
 use Rattle.rfb_hello.specs.ViewerEnd.{viewer_end, fault_for}
 use Rattle.rfb_hello.specs.ViewerStanding.{StandsFor, KeepsReason}
 use Rattle.rfb_hello.proofs.ViewerHelloLemmas.{reason_part, reason_told, text_kept}
@@ -44,4 +43,4 @@ returns-clause-reason c =
     let fault : c.fault-fault.result ≡ fault_for c.in-Reason.cause c.in-Reason.length = rw (cause, n) at c.fault-fault.ensures in
     let new = record old { progress = Failed c.fault-fault.result c.in-Reason-replace.kept } in
     subst (λ (f : HelloFault). KeepsReason f old unit new) (sym fault)
-    (text_kept old new c.in-Reason.cause c.in-Reason.length c.in-Reason.more c.in-Reason.kept unit c.in-Reason.is whole (ap (λ (k : KeptText). k.bytes) (kept ∙ c.read_text-used.ensures.kept)))
+    (text_kept old new c.in-Reason.cause c.in-Reason.length c.in-Reason.more c.in-Reason.kept unit c.in-Reason.is whole (kept ∙ c.read_text-used.ensures.kept))
