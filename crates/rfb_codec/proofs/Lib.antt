@@ -12,6 +12,7 @@ pub mod EffectLaws
 pub mod UpdateWaitLaws
 pub mod WholeUpdateLaws
 pub mod EnoughLaws
+pub mod PendingTileLaws
 pub mod PendingLaws
 pub mod TilePartLaws
 pub mod TileLaws

@@ -1,4 +1,4 @@
-use Rattle.rfb_codec.proofs.PendingLaws.{raw_tile_pending, drawn_tile_pending}
+use Rattle.rfb_codec.proofs.PendingTileLaws.{raw_tile_pending, drawn_tile_pending}
 use Rattle.rfb_codec.proofs.law.pending.a_tile_is_pending_by_its_mask.Goals as goal
 
 pub returns-clause-raw : goal.returns-clause-raw
