@@ -4,6 +4,7 @@ pub mod BlockLemmas
 mod StandardFacts
 mod UpdateFacts
 mod PendingFacts
+mod TilesFacts
 pub mod RawLaws
 pub mod RreLaws
 pub mod RectDataLaws
@@ -15,6 +16,7 @@ pub mod EnoughLaws
 pub mod PendingTileLaws
 pub mod PendingLaws
 pub mod TilePartLaws
+pub mod MaskFaultLaws
 pub mod TileLaws
 pub mod HextileLaws
 pub mod CoverLemmas
@@ -33,4 +35,5 @@ pub mod TileGotLemmas
 pub mod TileReadLemmas
 pub mod EachLemmas
 pub mod TilesOverLemmas
+pub mod TilesLaws
 pub mod PaintHextileLemmas

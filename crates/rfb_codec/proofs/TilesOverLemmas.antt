@@ -57,7 +57,7 @@ pub record IsTileRect (rect tile : Rect) (n : ℕ) : Type 0 where
   pub height : tile.h ≡ tile_height rect.w rect.h n
 
 -- it holds the places whose tile it is
-tile_holds : (rect tile : Rect) (n x y : ℕ) → IsTileRect rect tile n → contains rect x y ≡ true → contains (moved rect tile) x y ≡ true → tile_at rect.w (x - rect.x) (y - rect.y) ≡ n
+pub tile_holds : (rect tile : Rect) (n x y : ℕ) → IsTileRect rect tile n → contains rect x y ≡ true → contains (moved rect tile) x y ≡ true → tile_at rect.w (x - rect.x) (y - rect.y) ≡ n
 tile_holds rect tile n x y is inside here =
     let outer = contains_true rect x y inside in
     let inner = contains_true (moved rect tile) x y here in
@@ -73,7 +73,7 @@ tile_holds rect tile n x y is inside here =
     let row : j / 16 ≡ b = ap (λ (k : ℕ). k / 16) top ∙ div-mul-add b 16 (j - b * 16) short in
     rw (column, row) (div-add-mod' n (across rect.w))
 
-holds_tile : (rect tile : Rect) (n x y : ℕ) → IsTileRect rect tile n → contains rect x y ≡ true → tile_at rect.w (x - rect.x) (y - rect.y) ≡ n → contains (moved rect tile) x y ≡ true
+pub holds_tile : (rect tile : Rect) (n x y : ℕ) → IsTileRect rect tile n → contains rect x y ≡ true → tile_at rect.w (x - rect.x) (y - rect.y) ≡ n → contains (moved rect tile) x y ≡ true
 holds_tile rect tile n x y is inside at =
     let outer = contains_true rect x y inside in
     let i = x - rect.x in

@@ -2,6 +2,7 @@
 -- those of tiles before it. How colours are carried past raw and coloured tiles is this project's choice.
 use Rattle.std.specs.Prelude.{◌≡◌, ℕ, ◌+◌, ◌-◌, ◌*◌, ◌/◌, ◌%◌, ◌<◌, ◌⊎◌, Bool, true, false, List, [], ◌∷◌, ◌++◌, length, take, slice_index_or, Option, None, min, if◌then◌else◌}
 use Rattle.rfb_pixel.specs.Format.{PixelFormat}
+use Rattle.rfb_picture.specs.declared.rect.Rect.{Rect}
 use Rattle.rfb_picture.specs.Grid.{Grid}
 use Rattle.rfb_wire.specs.Reading.{Reading, ListedAfter}
 use Rattle.rfb_wire.specs.Parts.{done, and_then, each}
@@ -31,6 +32,11 @@ tile_height width height n = min 16 (height - n / across width * 16)
 -- the number of the one that holds a place
 abbrev pub tile_at : ℕ → ℕ → ℕ → ℕ
 tile_at width x y = y / 16 * across width + x / 16
+
+-- the places of the tile with that number, from the rectangle's corner
+abbrev pub tile_part : ℕ → ℕ → ℕ → Rect
+tile_part width height n =
+    record { x = n % across width * 16; y = n / across width * 16; w = tile_width width n; h = tile_height width height n }
 
 -- ---- the data
 

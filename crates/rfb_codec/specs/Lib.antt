@@ -4,6 +4,7 @@ pub mod Rre
 pub mod Codec
 pub mod Cover
 pub mod Tile
+pub mod MaskFaults
 pub mod Hextile
 pub mod TileSpelling
 pub mod Carried

@@ -14,6 +14,7 @@ ghost use Rattle.rfb_codec.specs.UpdateStream.{update_says, update_stream};
 
 pub mod effects;
 pub mod pending;
+pub mod tiles;
 pub mod updates;
 
 /// Reading the data of a rectangle gives exactly what the bytes say under its head and exactly the
