@@ -14,6 +14,7 @@ mod raw;
 mod rre;
 
 use crate::fault::PaintFault;
+pub use copy_rect::spell_source;
 use rfb_picture::{Picture, Rect};
 use rfb_pixel::{Colour, Format};
 use rfb_wire::Encoding;

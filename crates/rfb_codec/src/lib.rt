@@ -14,6 +14,7 @@ mod tiles;
 
 pub use block::{Block, PLACES, SIDE};
 pub use codec::Codec;
+pub use decode::spell_source;
 pub use encode::{Hextile, Raw, Rre};
 pub use fault::PaintFault;
 pub use painter::{Painted, Painter};

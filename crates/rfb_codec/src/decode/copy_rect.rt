@@ -3,13 +3,25 @@
 ghost use Rattle.std.specs.Prelude.{◌≡◌, ℕ, ◌≤◌, length, take, [], IfOk, IfErr, IfSome, MatchOption, OnErr};
 ghost use Rattle.rfb_wire.specs.Reading.{More, Got, Bad};
 ghost use Rattle.rfb_picture.specs.Grid.{copied};
-ghost use Rattle.rfb_codec.specs.RectData.{RectData, Source, source};
+ghost use Rattle.rfb_codec.specs.RectData.{RectData, Source, SpellsSource, source};
 ghost use Rattle.rfb_codec.specs.Painter.{IsPaintable};
 
 use crate::fault::PaintFault;
 use byteorder::{BigEndian, ByteOrder};
 use rfb_picture::{Picture, Rect};
 use rfb_pixel::Colour;
+
+/// The bytes of a CopyRect's source, U16 src-x-position and U16 src-y-position: the column and the row
+/// on the screen that the rectangle's first place is copied from. The rectangle of the same size there
+/// has to lie on the screen, else a viewer refuses it.
+pub fn spell_source(x: u16, y: u16) -> [u8; 4]
+    ensures { SpellsSource x y result }
+{
+    let mut bytes = [0; 4];
+    BigEndian::write_u16(&mut bytes, x);
+    BigEndian::write_u16(&mut bytes[2..], y);
+    bytes
+}
 
 /// Copies the source that bytes begin with into the rectangle, and tells how many bytes it has. None
 /// where fewer are there, and `SourceOutside` where it leaves the picture; nothing is copied then.
@@ -38,3 +50,6 @@ pub fn paint(
     picture.copy(rect, x, y);
     Ok(Some(4))
 }
+
+#[cfg(test)]
+mod tests;
