@@ -8,6 +8,8 @@ use Rattle.rfb_picture.specs.Grid.{Grid, IsGrid, Holds, at_or, changed, copied}
 use Rattle.rfb_picture.proofs.GridLemmas.{at-changed, width-changed, height-changed, whole-changed, contains_true}
 use Rattle.rfb_picture.proofs.CopyLemmas.{at-copied}
 use Rattle.rfb_wire.specs.declared.rect_head.RectHead.{RectHead}
+use Rattle.rfb_wire.specs.declared.encoding.Encoding.{Encoding}
+use Rattle.rfb_wire.specs.declared.encoding.Encoding.TheVariants.{Raw, CopyRect, Rre, Hextile}
 use Rattle.rfb_wire.specs.Reading.{Next, More, Got, Bad}
 use Rattle.rfb_wire.specs.ServerMessage.{ServerMessage}
 use Rattle.rfb_codec.specs.declared.fault.PaintFault.{PaintFault}
@@ -161,3 +163,15 @@ module _ (f : PixelFormat) (rect : Rect) (picture : Grid Colour) (known : Grid (
           let place = contains_true rect x y inside in
           agrees (sx + (x - rect.x)) (sy + (y - rect.y)) pixel d (omega (arith, right, place)) (omega (arith, lower, place)) is
       by false x y pixel d p q inside is = agrees x y pixel d p q is
+
+-- whatever the data of a rectangle are
+pub agrees_item : (p : UpdatePoint) (head : RectHead) (contents : RectData) (body : List ℕ) (picture : Grid Colour) (known : Grid (Option ℕ)) → IsGrid picture → IsGrid known → IsAlike picture known → known.width ≡ p.width → known.height ≡ p.height → SpellsData p.form p.width p.height head.rect head.encoding contents body → Agrees p.form picture known → Agrees p.form (effect p (Rectangle head body) picture) (noted head.rect contents known)
+agrees_item p head contents body picture known whole whole_known alike columns rows spelled agrees =
+    subst (λ (g : Grid Colour). Agrees p.form g (noted head.rect contents known)) (sym (effect_painted p head contents body picture spelled)) (by contents head.encoding spelled)
+  where
+    by : (d : RectData) (encoding : Encoding) → SpellsData p.form p.width p.height head.rect encoding d body → Agrees p.form (painted p.form head.rect d picture) (noted head.rect d known)
+    by (Pixels block) encoding is = agrees_replaced p.form head.rect picture known block whole whole_known alike agrees
+    by (Source x y) Raw none = absurd none
+    by (Source x y) CopyRect (is, on) = agrees_copied p.form head.rect picture known x y whole whole_known alike (rw columns on.0, rw rows on.1) agrees
+    by (Source x y) Rre none = absurd none
+    by (Source x y) Hextile none = absurd none

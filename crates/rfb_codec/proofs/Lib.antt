@@ -3,6 +3,7 @@ pub mod PixelLemmas
 pub mod BlockLemmas
 mod StandardFacts
 mod UpdateFacts
+mod EffectFacts
 mod PendingFacts
 mod TilesFacts
 pub mod RawLaws

@@ -9,7 +9,7 @@ ghost use Rattle.rfb_wire.specs.declared.rect_head.RectHead.{RectHead};
 ghost use Rattle.rfb_wire.specs.ServerMessage.{ServerMessage};
 ghost use Rattle.rfb_codec.specs.RectData.{RectData, SpellsData, moved_to, replaced, painted};
 ghost use Rattle.rfb_codec.specs.UpdateStream.{UpdatePoint, UpdateItem, Message, Rectangle, IsBody};
-ghost use Rattle.rfb_codec.specs.Effect.{effect, effects, IsAlike, Agrees, recorded, IsRecorded};
+ghost use Rattle.rfb_codec.specs.Effect.{effect, effects, IsAlike, Agrees, recorded, IsRecorded, noted};
 
 /// The effect of an item: of a rectangle what its data say, where they are some; of a message none.
 pub fn an_item_has_the_effect_of_its_data()
@@ -44,8 +44,8 @@ pub fn effects_keep_the_size()
 {}
 
 /// A picture that agrees with what is known goes on to agree: where the pixels of a block are painted
-/// and known from then on, as they are put into the record or as they are found in one; and where a
-/// source on the screen is copied, with what is known of it.
+/// and known from then on, as they are put into the record or as they are found in one; where a source
+/// on the screen is copied, with what is known of it; and so where an item has its effect.
 pub fn agreement_is_kept()
     ensures replaced { (f : PixelFormat) (rect : Rect) (block : Grid ℕ)
         (picture : Grid Colour) (known : Grid (Option ℕ)) →
@@ -61,4 +61,11 @@ pub fn agreement_is_kept()
         IsGrid picture → IsGrid known → IsAlike picture known → Agrees f picture known →
         Holds known (moved_to sx sy rect) →
         Agrees f (copied rect sx sy picture) (copied rect sx sy known) }
+    ensures item { (p : UpdatePoint) (head : RectHead) (contents : RectData) (body : List ℕ)
+        (picture : Grid Colour) (known : Grid (Option ℕ)) →
+        IsGrid picture → IsGrid known → IsAlike picture known →
+        known.width ≡ p.width → known.height ≡ p.height →
+        SpellsData p.form p.width p.height head.rect head.encoding contents body →
+        Agrees p.form picture known →
+        Agrees p.form (effect p (Rectangle head body) picture) (noted head.rect contents known) }
 {}

@@ -1,4 +1,4 @@
-use Rattle.rfb_codec.proofs.EffectLaws.{agrees_replaced, agrees_placed, agrees_copied}
+use Rattle.rfb_codec.proofs.EffectLaws.{agrees_replaced, agrees_placed, agrees_copied, agrees_item}
 use Rattle.rfb_codec.proofs.law.effects.agreement_is_kept.Goals as goal
 
 pub returns-clause-replaced : goal.returns-clause-replaced
@@ -9,3 +9,6 @@ returns-clause-placed c = λ f rect block picture known now whole alike same agr
 
 pub returns-clause-copied : goal.returns-clause-copied
 returns-clause-copied c = λ f rect sx sy picture known whole whole_known alike agrees held. agrees_copied f rect picture known sx sy whole whole_known alike held agrees
+
+pub returns-clause-item : goal.returns-clause-item
+returns-clause-item c = λ p head contents body picture known whole whole_known alike columns rows spelled agrees. agrees_item p head contents body picture known whole whole_known alike columns rows spelled agrees
