@@ -1,5 +1,6 @@
 //! The rule at blocks worked out by hand, and at all small blocks against its plain form.
 
+mod cells;
 mod plain;
 
 use super::*;
@@ -95,7 +96,7 @@ fn only_fewer_bytes_than_raw_are_taken(rt: HostRuntime) -> Result<(), Fail> {
 }
 
 // That the encoder does what the rule's plain form does.
-fn agrees(
+pub(crate) fn agrees(
     rt: &impl Abort,
     alloc: Global,
     format: &Format,

@@ -206,3 +206,56 @@ fn it_keeps_the_rule_at_every_number_of_pixels(rt: HostRuntime) -> Result<(), Fa
     }
     Ok(())
 }
+
+// Two pixels by turns, or none of them twice in a row.
+fn checkered(alloc: Global, side: u16) -> Result<Vec<u32>, Fail> {
+    let mut pixels = Vec::new(alloc);
+    for y in 0..side {
+        for x in 0..side {
+            pixels.push(if x % 2 == y % 2 { A } else { B })?;
+        }
+    }
+    Ok(pixels)
+}
+
+#[test]
+fn a_checkerboard_is_a_tile_of_two_pixels(rt: HostRuntime) -> Result<(), Fail> {
+    // It has 128 subrectangles, which are shorter than Raw at four bytes a pixel alone.
+    let tile = checkered(rt.alloc(), 16)?;
+    let cell = checkered(rt.alloc(), 64)?;
+    for format in &[Format::bgr233(), Format::rgb565(), Format::rgb888()] {
+        agrees(&rt, rt.alloc(), format, 16, 16, &tile)?;
+        agrees(&rt, rt.alloc(), format, 64, 64, &cell)?;
+    }
+    Ok(())
+}
+
+#[test]
+fn pixels_of_one_hash_are_two(rt: HostRuntime) -> Result<(), Fail> {
+    for third in [0, 5] {
+        let mut pixels = Vec::new(rt.alloc());
+        for place in 0..256 {
+            pixels.push(match place % 16 {
+                0..=4 => 0,
+                5 => third,
+                _ => 0x0E8B_2F51,
+            })?;
+        }
+        agrees(&rt, rt.alloc(), &Format::rgb888(), 16, 16, &pixels)?;
+    }
+    Ok(())
+}
+
+#[test]
+fn fifty_dense_and_sparse_cells_keep_the_rule(rt: HostRuntime) -> Result<(), Fail> {
+    let mut state = 11u32;
+    for round in 0..50u32 {
+        let chance = 1 + (round % 5) * (round % 5) * 5;
+        let values = 1 + (round % 10) * (round % 10) * 3;
+        let pixels = sprinkled(rt.alloc(), 4096, &mut state, chance, values)?;
+        for format in &[Format::bgr233(), Format::rgb565(), Format::rgb888()] {
+            agrees(&rt, rt.alloc(), format, 64, 64, &pixels)?;
+        }
+    }
+    Ok(())
+}

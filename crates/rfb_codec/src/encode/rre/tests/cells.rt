@@ -1,0 +1,110 @@
+//! The rule at whole cells, against its plain form: runs and subrectangles as long as a cell, many
+//! subrectangles, pixels of one hash, and blocks without order.
+
+use super::agrees;
+use rfb_pixel::Format;
+use std::alloc::Global;
+use std::process::Abort;
+use std::test::Fail;
+
+// A pixel that a subrectangle has, and the one under it.
+const DARK: u32 = 0x30;
+
+const LIGHT: u32 = 0x90;
+
+// Agreement in each size of pixel, of which the low bits of these serve.
+fn agrees_in_each_size(rt: &impl Abort, alloc: Global, pixels: &[u32; 4096]) -> Result<(), Fail> {
+    let mut narrow = *pixels;
+    agrees(rt, alloc, &Format::rgb888(), 64, 64, &narrow)?;
+    for pixel in narrow.iter_mut() {
+        *pixel &= 0xFFFF;
+    }
+    agrees(rt, alloc, &Format::rgb565(), 64, 64, &narrow)?;
+    for pixel in narrow.iter_mut() {
+        *pixel &= 0xFF;
+    }
+    agrees(rt, alloc, &Format::bgr233(), 64, 64, &narrow)
+}
+
+// A number without order.
+fn next(state: &mut u32) -> u32 {
+    *state = state.wrapping_mul(1_664_525).wrapping_add(1_013_904_223);
+    *state >> 8
+}
+
+#[test]
+fn one_square_of_forty_is_one_subrectangle(rt: HostRuntime) -> Result<(), Fail> {
+    let mut pixels = [LIGHT; 4096];
+    for y in 11..51 {
+        for x in 13..53 {
+            if let Some(pixel) = pixels.get_mut(y * 64 + x) {
+                *pixel = DARK;
+            }
+        }
+    }
+    agrees_in_each_size(&rt, rt.alloc(), &pixels)
+}
+
+#[test]
+fn six_hundred_single_places_are_taken_or_given_up(rt: HostRuntime) -> Result<(), Fail> {
+    let mut pixels = [LIGHT; 4096];
+    for place in 0..600 {
+        if let Some(pixel) = pixels.get_mut(place / 30 * 128 + place % 30 * 2) {
+            *pixel = DARK;
+        }
+    }
+    agrees_in_each_size(&rt, rt.alloc(), &pixels)
+}
+
+#[test]
+fn pixels_of_one_hash_are_not_one_pixel(rt: HostRuntime) -> Result<(), Fail> {
+    let mut pixels = [0; 4096];
+    for i in 0..4096 {
+        pixels[i] = if i % 64 < 40 { 0 } else { 0x0E8B_2F51 };
+    }
+    agrees(&rt, rt.alloc(), &Format::rgb888(), 64, 64, &pixels)?;
+    for i in 0..4096 {
+        pixels[i] = if i % 64 < 20 { 0 } else { 0x0E8B_2F51 };
+    }
+    agrees(&rt, rt.alloc(), &Format::rgb888(), 64, 64, &pixels)
+}
+
+#[test]
+fn fifty_dense_and_sparse_cells_keep_the_rule(rt: HostRuntime) -> Result<(), Fail> {
+    let mut state = 7u32;
+    for round in 0..50u32 {
+        // Of every so many places, one has one of so many other pixels, and one in three of these goes on
+        // to the right.
+        let apart = 2 + (round % 5) * (round % 5) * 9;
+        let others = 1 + round % 7 * (round % 7) * 30;
+        let mut pixels = [0x55_5555; 4096];
+        let mut pixel = 0u32;
+        for place in pixels.iter_mut() {
+            let dice = next(&mut state);
+            if dice.checked_rem(apart) == Some(0) {
+                pixel = next(&mut state)
+                    .checked_rem(others)
+                    .unwrap_or(0)
+                    .wrapping_mul(0x01_0307);
+            } else if dice % 3 != 0 {
+                continue;
+            }
+            *place = pixel;
+        }
+        agrees_in_each_size(&rt, rt.alloc(), &pixels)?;
+    }
+    Ok(())
+}
+
+#[test]
+fn four_thousand_pixels_of_a_few_hashes_keep_the_rule(rt: HostRuntime) -> Result<(), Fail> {
+    let mut pixels = [0; 4096];
+    let mut state = 3u32;
+    for kinds in [40, 1300, 1366, 1367, 4000] {
+        for pixel in pixels.iter_mut() {
+            *pixel = (next(&mut state) % kinds).wrapping_mul(0x0001_0000);
+        }
+        agrees_in_each_size(&rt, rt.alloc(), &pixels)?;
+    }
+    Ok(())
+}
