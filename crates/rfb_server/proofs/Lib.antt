@@ -1,3 +1,4 @@
 pub mod ServerLaws
 pub mod RecordLemmas
 pub mod ComposingLaws
+pub mod MarksLemmas

@@ -16,7 +16,8 @@ use Rattle.rfb_codec.specs.RectData.{RectData, Pixels, Source, SpellsData, moved
 use Rattle.rfb_codec.specs.UpdateStream.{UpdatePoint, update_stream}
 use Rattle.rfb_codec.specs.Effect.{effects, IsAlike, Agrees}
 use Rattle.rfb_codec.specs.WholeUpdate.{SentRect, update_of}
-use Rattle.rfb_server.specs.Server.{ServerState, is_same, is_listed}
+use Rattle.rfb_server.specs.Encodings.{is_same, is_listed}
+use Rattle.rfb_server.specs.Server.{ServerState}
 use Rattle.rfb_server.specs.Request.{wanted, recorded, is_asked, is_whole, differs, needs_sending}
 
 -- ---- what is sent

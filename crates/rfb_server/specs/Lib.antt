@@ -2,6 +2,11 @@ pub mod Fault
 pub mod ClientBytes
 pub mod Told
 pub mod Record
+pub mod Encodings
 pub mod Server
 pub mod Request
 pub mod Composing
+pub mod Marks
+pub mod Progress
+pub mod Standing
+pub mod Sessions

@@ -14,6 +14,7 @@ use Rattle.rfb_hello.specs.ClientHandshake.{AwaitsVersion}
 use Rattle.rfb_hello.specs.ServerEnd.{ServerSetup, server_tells as handshake_tells}
 use Rattle.rfb_server.specs.declared.fault.ServerFault.{ServerFault}
 use Rattle.rfb_server.specs.ClientBytes.{ClientAt, FromClient, client_two, client_bytes}
+use Rattle.rfb_server.specs.Encodings.{known_among}
 use Rattle.rfb_server.specs.Record.{forgotten}
 use Rattle.rfb_server.specs.Told.{ServerTold, step_told, message_told}
 
@@ -33,29 +34,6 @@ pub record ServerState : Type 0 where
   pub encodings : List Encoding
 
 -- ---- what an item makes of it
-
--- both are one encoding
-abbrev pub is_same : Encoding → Encoding → Bool
-is_same Raw Raw = true
-is_same CopyRect CopyRect = true
-is_same Rre Rre = true
-is_same Hextile Hextile = true
-is_same one other = false
-
--- the encoding is one of the list
-abbrev pub is_listed : Encoding → List Encoding → Bool
-is_listed encoding [] = false
-is_listed encoding (other ∷ list) = is_same encoding other || is_listed encoding list
-
--- the list with one encoding more, if there is one that it has not
-abbrev pub with_encoding : List Encoding → Option Encoding → List Encoding
-with_encoding list None = list
-with_encoding list (Some encoding) = if is_listed encoding list then list else list ++ encoding ∷ []
-
--- a list, and behind it the encodings of these numbers that are known, in order, each once
-abbrev pub known_among : List ℤ → List Encoding → List Encoding
-known_among [] list = list
-known_among (number ∷ numbers) list = known_among numbers (with_encoding list (encoding_of number))
 
 -- a format is the server's from here on, and what was sent in another is forgotten; a list of encodings
 -- takes the place of the one before it; a request asks for its area, whole if it is not incremental

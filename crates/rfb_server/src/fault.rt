@@ -78,3 +78,8 @@ impl ServerFault {
         }
     }
 }
+
+/// A drawing, the source of a copy or a hint leaves the screen. Nothing was changed.
+#[derive(Clone, Copy, Debug, PartialEq, Eq, Error)]
+#[error("24 Outside")]
+pub struct Outside;

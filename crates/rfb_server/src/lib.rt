@@ -5,10 +5,16 @@
 //! `law` says in contracts alone what the client's stream and the server's states rest on.
 #![tactic(auto)]
 
+mod encodings;
 mod event;
 mod fault;
+mod hint;
 pub mod law;
 mod record;
+mod server;
+mod session;
 
 pub use event::{MAX_REPLY, ServerEvent};
-pub use fault::ServerFault;
+pub use fault::{Outside, ServerFault};
+pub use hint::MAX_HINTS;
+pub use server::Server;

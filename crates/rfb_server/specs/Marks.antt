@@ -1,0 +1,38 @@
+-- Where a screen may differ from what its viewer has: the places that a session has marked.
+use Rattle.std.specs.Prelude.{◌≡◌, ℕ, ◌<◌, ◌≤◌, Bool, false, true, Option, Some, None}
+use Rattle.rfb_pixel.specs.declared.colour.Colour.{Colour}
+use Rattle.rfb_pixel.specs.Format.{PixelFormat}
+use Rattle.rfb_picture.specs.declared.rect.Rect.{Rect}
+use Rattle.rfb_picture.specs.Rect.{contains}
+use Rattle.rfb_picture.specs.Grid.{Grid, IsGrid, at_or}
+use Rattle.rfb_picture.specs.Box.{is_in}
+use Rattle.rfb_picture.specs.Area.{Places, IsArea, whole_at}
+use Rattle.rfb_server.specs.Server.{black}
+use Rattle.rfb_server.specs.Request.{wanted_at}
+
+-- what is known, what is asked and what is marked are of the places of one screen, and a screen has at
+-- most 4,096 columns and as many rows
+pub record AreAlike (known : Grid (Option ℕ)) (area : Places) (marks : Grid Bool) : Type 0 where
+  pub known_whole : IsGrid known
+  pub area_is : IsArea area
+  pub marks_whole : IsGrid marks
+  pub area_wide : area.asked.width ≡ known.width
+  pub area_high : area.asked.height ≡ known.height
+  pub marks_wide : marks.width ≡ known.width
+  pub marks_high : marks.height ≡ known.height
+  pub columns : known.width ≤ 4096
+  pub rows : known.height ≤ 4096
+
+-- a place that is not marked is known to have the wanted pixel, and is not whole
+pub record IsCaughtUp (screen : Grid Colour) (known : Grid (Option ℕ)) (area : Places) (form : PixelFormat) (marks : Grid Bool) : Type 0 where
+  pub right : (x y : ℕ) → x < marks.width → y < marks.height → is_in marks x y ≡ false →
+      at_or known x y None ≡ Some (wanted_at screen form x y)
+  pub not_whole : (x y : ℕ) → x < marks.width → y < marks.height → is_in marks x y ≡ false →
+      whole_at area x y ≡ false
+
+-- both pictures have the same colours outside the rectangle
+pub record IsSameOutside (rect : Rect) (before after : Grid Colour) : Type 0 where
+  pub columns : after.width ≡ before.width
+  pub rows : after.height ≡ before.height
+  pub same : (x y : ℕ) → x < before.width → y < before.height → contains rect x y ≡ false →
+      at_or after x y black ≡ at_or before x y black

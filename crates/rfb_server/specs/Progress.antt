@@ -1,0 +1,66 @@
+-- How far a client's bytes have come in a session, and what it holds of the item under way.
+use Rattle.std.specs.Prelude.{◌≡◌, ℕ, ℤ, ◌+◌, ◌<◌, min, List, [], ◌∷◌, ◌++◌, length, take, true, Option, Some, None}
+use Rattle.rfb_wire.specs.declared.encoding.Encoding.{Encoding}
+use Rattle.rfb_wire.specs.Reading.{Listed}
+use Rattle.rfb_wire.specs.ClientHead.{client_head_size, SpellsSetEncodings, SpellsClientCutText}
+use Rattle.rfb_wire.specs.ClientMessage.{SpellsNumber}
+use Rattle.rfb_wire.specs.Sequel.{First, Second}
+use Rattle.rfb_hello.specs.KeptText.{KeptText}
+use Rattle.rfb_hello.specs.declared.server_hello.ServerHello.{ServerHello}
+use Rattle.rfb_hello.specs.ServerStanding.{StandsFor as HelloStandsFor, is_open}
+use Rattle.rfb_server.specs.declared.fault.ServerFault.{ServerFault}
+use Rattle.rfb_server.specs.declared.session.progress.Progress.{Progress}
+use Rattle.rfb_server.specs.declared.session.progress.Progress.TheVariants.{Handshake, Head, Encodings, CutText, Failed}
+use Rattle.rfb_server.specs.ClientBytes.{ClientAt}
+use Rattle.rfb_server.specs.Encodings.{known_among}
+use Rattle.rfb_server.specs.Server.{Serving}
+
+-- the bytes are the beginning of a message's head, and not all of it
+abbrev pub IsHeadBegun : List ℕ → Type 0
+IsHeadBegun [] = Unit {0}
+IsHeadBegun (first ∷ rest) = (size : ℕ) × (client_head_size first ≡ Some size) × (length (first ∷ rest) < size)
+
+-- the bytes are a SetEncodings of which so many numbers are missing: its head, the numbers that are
+-- whole, and the bytes of the next one; these encodings are known among the numbers
+pub record IsListBegun (left : ℕ) (number : List ℕ) (list : List Encoding) (prefix : List ℕ) : Type 0 where
+  pub head : List ℕ
+  pub units : List ℕ
+  pub numbers : List ℤ
+  pub prefix_is : prefix ≡ head ++ (units ++ number)
+  pub head_is : SpellsSetEncodings (length numbers + left) head
+  pub listed : Listed SpellsNumber numbers units
+  pub some : 0 < left
+  pub short : length number < 4
+  pub list_is : list ≡ known_among numbers []
+
+-- the bytes are a ClientCutText of which so many bytes are missing: its head, and a text of which the
+-- first ones are kept, with room for as many as are to be
+pub record IsTextBegun (text_limit text_length left : ℕ) (kept : KeptText) (prefix : List ℕ) : Type 0 where
+  pub head : List ℕ
+  pub text : List ℕ
+  pub prefix_is : prefix ≡ head ++ text
+  pub head_is : SpellsClientCutText text_length head
+  pub some : 0 < left
+  pub count : length text + left ≡ text_length
+  pub room : kept.room ≡ min text_length text_limit
+  pub kept_is : kept.bytes ≡ take text_limit text
+
+-- so much progress stands for that point and that prefix; one that has failed stands for none
+abbrev pub ProgressStandsFor : Serving → ServerHello → Progress → ClientAt → List ℕ → Type 0
+ProgressStandsFor serving hello Handshake (First point) prefix = HelloStandsFor serving.hello hello point prefix × (is_open hello ≡ true)
+ProgressStandsFor serving hello Handshake (Second between) prefix = ⊥
+ProgressStandsFor serving hello (Head bytes) (First point) prefix = ⊥
+ProgressStandsFor serving hello (Head bytes) (Second between) prefix = (prefix ≡ bytes.items) × IsHeadBegun bytes.items
+ProgressStandsFor serving hello (Encodings left number list) (First point) prefix = ⊥
+ProgressStandsFor serving hello (Encodings left number list) (Second between) prefix = IsListBegun left number.items list prefix
+ProgressStandsFor serving hello (CutText text_length left kept) (First point) prefix = ⊥
+ProgressStandsFor serving hello (CutText text_length left kept) (Second between) prefix = IsTextBegun serving.text_limit text_length left kept prefix
+ProgressStandsFor serving hello (Failed fault) point prefix = ⊥
+
+-- the fault that it has failed with, if it has
+abbrev pub fault_in : Progress → Option ServerFault
+fault_in Handshake = None
+fault_in (Head bytes) = None
+fault_in (Encodings left number list) = None
+fault_in (CutText text_length left kept) = None
+fault_in (Failed fault) = Some fault

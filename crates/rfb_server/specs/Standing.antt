@@ -1,0 +1,61 @@
+-- What a `Server` stands for: a state, and the bytes that came of the client's next item, fewer than it
+-- has.
+use Rattle.std.specs.Prelude.{◌≡◌, ℕ, List, Option}
+use Rattle.rfb_pixel.specs.declared.colour.Colour.{Colour}
+use Rattle.rfb_picture.specs.Grid.{Grid}
+use Rattle.rfb_hello.specs.declared.version.Version.{Version}
+use Rattle.rfb_hello.specs.ServerStanding.{setup_of}
+use Rattle.rfb_server.specs.declared.fault.ServerFault.{ServerFault}
+use Rattle.rfb_server.specs.declared.session.Session.{Session}
+use Rattle.rfb_server.specs.declared.server.Server.{Server}
+use Rattle.rfb_server.specs.Server.{Serving, ServerState}
+use Rattle.rfb_server.specs.Progress.{ProgressStandsFor, fault_in}
+
+-- what a server is made with
+abbrev pub serving_with : Version → ℕ → ℕ → List ℕ → ℕ → Serving
+serving_with offer width height name text_limit = record {
+  hello = record { offer = offer; width = width; height = height; name = name };
+  text_limit = text_limit;
+}
+
+-- a session, and the screen that it is about, stand for a state and a prefix
+pub record SessionStandsFor (serving : Serving) (screen : Grid Colour) (session : Session) (s : ServerState) (prefix : List ℕ) : Type 0 where
+  pub setup_is : setup_of session.hello ≡ serving.hello
+  pub limit_is : session.text_limit ≡ serving.text_limit
+  pub progress_is : ProgressStandsFor serving session.hello session.progress s.point prefix
+  pub screen_is : s.screen ≡ screen
+  pub known_is : s.known ≡ session.known
+  pub area_is : s.area ≡ session.area
+  pub form_is : s.form ≡ session.format
+  pub encodings_are : s.encodings ≡ session.encodings
+
+-- a server stands for a state and a prefix
+abbrev pub StandsFor : Serving → Server → ServerState → List ℕ → Type 0
+StandsFor serving server s prefix = SessionStandsFor serving server.screen server.session s prefix
+
+-- ---- what is told of a server, whether it has failed or not
+
+-- its screen
+abbrev pub screen_of : Server → Grid Colour
+screen_of server = server.screen
+
+-- the fault that it has failed with, if it has
+abbrev pub fault_of : Server → Option ServerFault
+fault_of server = fault_in server.session.progress
+
+-- ---- drawings
+
+-- the state with another screen
+abbrev pub with_screen : Grid Colour → ServerState → ServerState
+with_screen screen s = record s { screen = screen }
+
+-- a drawing gave it this screen, and changed nothing else that it stands for
+pub record Draws (screen : Grid Colour) (old new : Server) : Type 0 where
+  pub screen_is : screen_of new ≡ screen
+  pub fault_is : fault_of new ≡ fault_of old
+  pub stands : (serving : Serving) (s : ServerState) (prefix : List ℕ) →
+      StandsFor serving old s prefix → StandsFor serving new (with_screen screen s) prefix
+
+-- nothing that it stands for has changed
+abbrev pub Keeps : Server → Server → Type 0
+Keeps old new = Draws (screen_of old) old new

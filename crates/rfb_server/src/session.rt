@@ -1,0 +1,101 @@
+//! All of a server but its screen.
+
+ghost use Rattle.std.specs.Prelude.{◌≡◌, ◌≤◌, ◌<◌, [], length, IfOk, true};
+ghost use Rattle.rfb_picture.specs.Grid.{Holds, filled};
+ghost use Rattle.rfb_server.specs.Marks.{AreAlike};
+
+mod progress;
+
+use crate::encodings::EncodingList;
+use crate::hint::{Hint, MAX_HINTS};
+use crate::record::Record;
+use crate::session::progress::Progress;
+use circular_buffer::HeapCircularBuffer;
+use rfb_hello::{ServerHello, Version};
+use rfb_picture::{Area, PlaceSet, Rect};
+use rfb_pixel::Format;
+use std::alloc::{AllocError, Global};
+
+/// One viewer's part of a server: its handshake, its format and its list of encodings, what it was sent,
+/// what it asked for, hints, and marks where the screen may differ from what it was sent. The screen is
+/// someone else's: a session is told where it was drawn, and is lent it to compose.
+#[derive(Drop)]
+pub struct Session {
+    hello: ServerHello,
+    progress: Progress,
+    text_limit: u32,
+    format: Format,
+    encodings: EncodingList,
+    known: Record,
+    area: Area,
+    marks: PlaceSet,
+    hints: HeapCircularBuffer<Hint>,
+    ghost alike: { AreAlike known area marks },
+    ghost sixteen: { hints.capacity ≡ 16 },
+}
+
+impl Session {
+    ghost use Rattle.rfb_pixel.specs.declared.colour.Colour.{Colour};
+    ghost use Rattle.rfb_picture.specs.Grid.{Grid, uniform};
+    ghost use Rattle.rfb_server.specs.Server.{black, first_server};
+    ghost use Rattle.rfb_server.specs.Standing.{SessionStandsFor, serving_with};
+    ghost use Rattle.rfb_server.specs.Marks.{IsCaughtUp, IsSameOutside};
+    ghost use Rattle.rfb_server.specs.Sessions.{IsUnseen, IsMarked, IsHinted};
+
+    /// A session that was fed nothing, over a black screen of that size. It asks for all the memory
+    /// that it will have but for texts; where there is none it gives the error, and nothing is kept.
+    pub(crate) fn new(
+        alloc: Global,
+        width: u16,
+        height: u16,
+        name: &[u8],
+        offer: Version,
+        text_limit: u32,
+    ) -> Result<Session, AllocError>
+        requires columns { width ≤ 4096 }
+        requires rows { height ≤ 4096 }
+        requires name { length name.now ≤ 255 }
+        ensures stands { IfOk result (λ session. SessionStandsFor
+            (serving_with offer width height name.now text_limit)
+            (uniform width height black) session
+            (first_server (serving_with offer width height name.now text_limit)) []) }
+        ensures unseen { IfOk result IsUnseen }
+    {
+        let known = Record::new(alloc, width, height)?;
+        let area = Area::new(alloc, width, height)?;
+        let mut marks = PlaceSet::new(alloc, width, height)?;
+        marks.add(Rect {
+            x: 0,
+            y: 0,
+            w: width,
+            h: height,
+        });
+        let hints = HeapCircularBuffer::with_capacity(alloc, MAX_HINTS)?;
+        Ok(Session {
+            hello: ServerHello::new(offer, width, height, name),
+            progress: Progress::Handshake,
+            text_limit,
+            format: Format::rgb888(),
+            encodings: EncodingList::new(),
+            known,
+            area,
+            marks,
+            hints,
+        })
+    }
+
+    /// The screen may have changed inside the rectangle, which lies on it.
+    pub(crate) fn drawn(&mut self, rect: Rect)
+        requires { Holds self.old.known rect }
+        ensures { IsMarked rect self.old self.new }
+    {
+        self.marks.add(rect);
+    }
+
+    /// Keeps a hint; the oldest of sixteen is dropped for it.
+    pub(crate) fn hint(&mut self, hint: Hint)
+        ensures { IsHinted hint self.old self.new }
+    {
+        self.hints.push_back(hint);
+    }
+}
