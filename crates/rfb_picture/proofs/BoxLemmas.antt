@@ -10,8 +10,8 @@ use Rattle.rfb_picture.specs.Rect.{contains}
 use Rattle.rfb_picture.specs.Plane.{has_bit, has_place, has_masked}
 use Rattle.rfb_picture.specs.Box.{IsClear, IsBox}
 use Rattle.rfb_picture.specs.Edges.{IsEdges, HasEdges, NoMarks, IsGathered}
-use Rattle.rfb_picture.proofs.GridLemmas.{contains_true}
-use Rattle.rfb_picture.proofs.EdgesLemmas.{contains_from, same_edges, edges_of_column}
+use Rattle.rfb_picture.proofs.GridLemmas.{contains_true, contains_row}
+use Rattle.rfb_picture.proofs.EdgesLemmas.{same_edges, edges_of_column}
 
 -- ---- a column of words
 
@@ -40,7 +40,7 @@ pub word_holds : (zone : Rect) (x y : ℕ) →
     contains (word_zone zone (zone.x / 64)) x y ≡ true
 word_holds zone x y one c =
     let (x0, x1, y0, y1) = contains_true zone x y c in
-    contains_from (word_zone zone (zone.x / 64)) x y (omega arith) (omega arith) y0 y1
+    contains_row (word_zone zone (zone.x / 64)) x y (omega arith) (omega arith) y0 y1
 
 -- ---- a part of a rectangle
 
@@ -136,7 +136,7 @@ box_is p cell e is =
     let holds : (x y : ℕ) → contains cell x y ≡ true → p x y ≡ true → contains box x y ≡ true =
     λ x y c m.
     let (h0, h1, h2, h3) = is.holds x y c m in
-    contains_from box x y h0 (omega arith) h2 (omega arith) in
+    contains_row box x y h0 (omega arith) h2 (omega arith) in
     let last_column : e.left + (e.right - e.left + 1) - 1 ≡ e.right = omega arith in
     let last_row : e.top + (e.bottom - e.top + 1) - 1 ≡ e.bottom = omega arith in
     record {
@@ -155,4 +155,4 @@ box_is p cell e is =
 pub clear_is : (p : ℕ → ℕ → Bool) (cell : Rect) →
     ((x y : ℕ) → contains cell x y ≡ true → p x y ≡ false) →
     IsClear p cell.x (cell.x + cell.w) cell.y (cell.y + cell.h)
-clear_is p cell none = λ x y a b c d. none x y (contains_from cell x y a b c d)
+clear_is p cell none = λ x y a b c d. none x y (contains_row cell x y a b c d)

@@ -11,9 +11,9 @@ use Rattle.rfb_picture.specs.Box.{is_in}
 use Rattle.rfb_picture.specs.Edges.{IsEdges, HasEdges}
 use Rattle.rfb_picture.specs.Cells.{in_column}
 use Rattle.rfb_picture.specs.PlaceSet.{in_set, layered}
-use Rattle.rfb_picture.proofs.GridLemmas.{contains_true}
+use Rattle.rfb_picture.proofs.GridLemmas.{contains_true, contains_row}
 use Rattle.rfb_picture.proofs.PlaceSetLemmas.{at-layered}
-use Rattle.rfb_picture.proofs.EdgesLemmas.{contains_from, same_edges}
+use Rattle.rfb_picture.proofs.EdgesLemmas.{same_edges}
 
 -- ---- a rectangle and a part inside it
 
@@ -64,9 +64,9 @@ pub full_edges : (p : ℕ → ℕ → Bool) (z : Rect) →
     ((x y : ℕ) → contains z x y ≡ true → p x y ≡ true) →
     IsEdges p z (record { left = z.x; right = z.x + z.w - 1; top = z.y; bottom = z.y + z.h - 1 })
 full_edges p z wide high all =
-    let left : contains z z.x z.y ≡ true = contains_from z z.x z.y (omega arith) (omega arith) (omega arith) (omega arith) in
-    let right : contains z (z.x + z.w - 1) z.y ≡ true = contains_from z (z.x + z.w - 1) z.y (omega arith) (omega arith) (omega arith) (omega arith) in
-    let bottom : contains z z.x (z.y + z.h - 1) ≡ true = contains_from z z.x (z.y + z.h - 1) (omega arith) (omega arith) (omega arith) (omega arith) in
+    let left : contains z z.x z.y ≡ true = contains_row z z.x z.y (omega arith) (omega arith) (omega arith) (omega arith) in
+    let right : contains z (z.x + z.w - 1) z.y ≡ true = contains_row z (z.x + z.w - 1) z.y (omega arith) (omega arith) (omega arith) (omega arith) in
+    let bottom : contains z z.x (z.y + z.h - 1) ≡ true = contains_row z z.x (z.y + z.h - 1) (omega arith) (omega arith) (omega arith) (omega arith) in
     record {
       holds = λ x y c m. let (x0, x1, y0, y1) = contains_true z x y c in (omega arith, omega arith, omega arith, omega arith);
       at_left = (z.y, left, all z.x z.y left);

@@ -8,13 +8,10 @@ use Rattle.rfb_picture.specs.declared.edges.Edges.{Edges}
 use Rattle.rfb_picture.specs.declared.edges.Gathered.{Gathered}
 use Rattle.rfb_picture.specs.Rect.{contains}
 use Rattle.rfb_picture.specs.Edges.{IsEdges, HasEdges, IsGathered}
-use Rattle.rfb_picture.proofs.GridLemmas.{contains_true}
+use Rattle.rfb_picture.proofs.GridLemmas.{contains_true, contains_row}
 use Rattle.rfb_picture.proofs.GatherLemmas.{some_bit, first_bit, last_bit}
 
 -- ---- edges
-
-pub contains_from : (r : Rect) (x y : ℕ) → r.x ≤ x → x < r.x + r.w → r.y ≤ y → y < r.y + r.h → contains r x y ≡ true
-contains_from r x y a b c d = grind (arith, nat_tests)
 
 -- the edges of words one above the other
 pub edges_of_column : (q : ℕ → ℕ → Bool) (start top bottom : ℕ) (g : Gathered) →
@@ -38,10 +35,10 @@ edges_of_column q start top bottom g is =
           let (x0, x1, y0, y1) = contains_true zone x y c in
           let bit = is.each y (x - start) y0 (omega arith) (omega arith) m in
           (omega (arith, first.2 (x - start) bit.0), omega (arith, last.2 (x - start) bit.0, last.0), bit.1, bit.2);
-      at_left = (left.0, contains_from zone _ left.0 (omega arith) (omega (arith, first.0)) left.1 (omega (arith, left.1, left.2)), at left.0 _ left.3);
-      at_right = rw far (right.0, contains_from zone _ right.0 (omega arith) (omega arith) right.1 (omega (arith, right.1, right.2)), at right.0 _ right.3);
-      at_top = (start + high.0, contains_from zone _ g.top (omega arith) (omega (arith, high.3)) high.1 (omega (arith, high.1, high.2)), at g.top high.0 high.4);
-      at_bottom = (start + low.0, contains_from zone _ g.bottom (omega arith) (omega (arith, low.3)) low.1 (omega (arith, low.1, low.2)), at g.bottom low.0 low.4);
+      at_left = (left.0, contains_row zone _ left.0 (omega arith) (omega (arith, first.0)) left.1 (omega (arith, left.1, left.2)), at left.0 _ left.3);
+      at_right = rw far (right.0, contains_row zone _ right.0 (omega arith) (omega arith) right.1 (omega (arith, right.1, right.2)), at right.0 _ right.3);
+      at_top = (start + high.0, contains_row zone _ g.top (omega arith) (omega (arith, high.3)) high.1 (omega (arith, high.1, high.2)), at g.top high.0 high.4);
+      at_bottom = (start + low.0, contains_row zone _ g.bottom (omega arith) (omega (arith, low.3)) low.1 (omega (arith, low.1, low.2)), at g.bottom low.0 low.4);
     }
 
 -- marks that are the same in the zone have the same edges

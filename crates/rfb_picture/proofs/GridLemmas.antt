@@ -41,6 +41,10 @@ pub contains_true : (r : Rect) (x y : ℕ) →
     contains r x y ≡ true → (r.x ≤ x) × (x < r.x + r.w) × (r.y ≤ y) × (y < r.y + r.h)
 contains_true r x y e = (grind (arith, nat_tests), grind (arith, nat_tests), grind (arith, nat_tests), grind (arith, nat_tests))
 
+-- a place between the edges passes the test
+pub contains_row : (r : Rect) (x y : ℕ) → r.x ≤ x → x < r.x + r.w → r.y ≤ y → y < r.y + r.h → contains r x y ≡ true
+contains_row r x y a b c d = grind (arith, nat_tests)
+
 -- in the rectangle of a row, the index in the row is the distance from its first column
 column_in_row : (x0 y0 n w x y : ℕ) →
     contains (record { x = x0; y = y0; w = n; h = 1 }) x y ≡ true → (y * w + x - (y0 * w + x0) ≡ x - x0) × (x - x0 < n)

@@ -9,4 +9,8 @@ pub mod WordLemmas
 pub mod GatherLemmas
 pub mod EdgesLemmas
 pub mod BoxLemmas
+pub mod TakenWordLemmas
+pub mod TakenPlaneLemmas
+pub mod TakenLemmas
+pub mod CoverLemmas
 pub mod AreaLemmas

@@ -9,9 +9,8 @@ use Rattle.rfb_picture.specs.Grid.{Grid, IsGrid, at_or, filled, uniform}
 use Rattle.rfb_picture.specs.Box.{is_in}
 use Rattle.rfb_picture.specs.Cells.{cells_in, cell_at, one_cell, touched, IsOfCells}
 use Rattle.rfb_picture.specs.PlaceSet.{in_set, layered, IsLayers, IsOpened}
-use Rattle.rfb_picture.proofs.GridLemmas.{contains_true, width-changed, height-changed, whole-changed, whole-uniform, width-uniform, height-uniform, at-uniform, at-filled}
+use Rattle.rfb_picture.proofs.GridLemmas.{contains_true, contains_row, width-changed, height-changed, whole-changed, whole-uniform, width-uniform, height-uniform, at-uniform, at-filled}
 use Rattle.rfb_picture.proofs.PlaneLemmas.{whole-marked, at-marked, marked_is}
-use Rattle.rfb_picture.proofs.EdgesLemmas.{contains_from}
 
 -- ---- places and their cells
 
@@ -170,10 +169,10 @@ unmarked : (f u p m was : Bool) →
 unmarked f u p m was e is = rw e is
 
 -- the cell of a place of a rectangle is one of those that it touches
-touched_cell : (r : Rect) (x y : ℕ) → contains r x y ≡ true → contains (touched r) (x / 64) (y / 64) ≡ true
+pub touched_cell : (r : Rect) (x y : ℕ) → contains r x y ≡ true → contains (touched r) (x / 64) (y / 64) ≡ true
 touched_cell r x y c =
     let (x0, x1, y0, y1) = contains_true r x y c in
-    contains_from (touched r) (x / 64) (y / 64) (omega arith) (omega arith) (omega arith) (omega arith)
+    contains_row (touched r) (x / 64) (y / 64) (omega arith) (omega arith) (omega arith) (omega arith)
 
 -- with the marks of a rectangle's places, in cells that were opened
 pub layered-part : (old new : Layers) (part : Rect) →

@@ -51,7 +51,7 @@ between start from to i p q l =
 
 -- ---- rows of words
 
-cases_place : (k column y row : ℕ) → ((k ≡ column) × (y ≡ row)) ⊎ (k ≡ column → y ≡ row → ⊥)
+pub cases_place : (k column y row : ℕ) → ((k ≡ column) × (y ≡ row)) ⊎ (k ≡ column → y ≡ row → ⊥)
 cases_place k column y row =
     elim (cases_eq k column) [
       | inl e ↦ elim (cases_eq y row) [ inl f ↦ inl (e, f) | inr f ↦ inr (λ _ h. f h) ]
@@ -76,7 +76,7 @@ reached k column y top row now before first mask e f from was here =
     rw some (here ∙ (rw (was, none, or_false) refl))
 
 -- and one that it does not reach
-unreached : (k column y top row : ℕ) →
+pub unreached : (k column y top row : ℕ) →
     (k ≡ column → y ≡ row → ⊥) →
     (nat_eq k column && (nat_le top y && nat_lt y row)) ≡ (nat_eq k column && (nat_le top y && nat_lt y (row + 1)))
 unreached k column y top row other = grind (arith, nat_tests)

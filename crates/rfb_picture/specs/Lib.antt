@@ -3,6 +3,7 @@ pub mod Grid
 pub mod Loan
 pub mod Plane
 pub mod Box
+pub mod Places
 pub mod Cells
 pub mod PlaceSet
 pub mod Edges

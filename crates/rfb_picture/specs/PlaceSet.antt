@@ -1,5 +1,5 @@
 -- How a `PlaceSet` holds which places are in it: by marks of its places, and by marks of its cells.
-use Rattle.std.specs.Prelude.{ℕ, Bool, true, ◌≡◌, ◌/◌, ◌^◌, ◌<◌, ◌&&◌, ◌||◌}
+use Rattle.std.specs.Prelude.{ℕ, Bool, true, ◌≡◌, ◌/◌, ◌^◌, ◌<◌, ◌&&◌, ◌||◌, not, false}
 use Rattle.rfb_picture.specs.declared.rect.Rect.{Rect}
 use Rattle.rfb_picture.specs.declared.place_set.layers.Layers.{Layers}
 use Rattle.rfb_picture.specs.Rect.{contains}
@@ -42,3 +42,24 @@ pub record IsOpened (cells : Rect) (old new : Layers) : Type 0 where
   pub same : (x y : ℕ) → x < old.places.width → y < old.places.height → in_set new x y ≡ in_set old x y
   pub kept : (i j : ℕ) → i < old.full.width → j < old.full.height → is_open old i j ≡ true → is_open new i j ≡ true
   pub opened : (i j : ℕ) → i < old.full.width → j < old.full.height → contains cells i j ≡ true → is_open new i j ≡ true
+
+-- place (x, y) is in the set, in a cell that is not in it whole
+abbrev pub in_part : Layers → ℕ → ℕ → Bool
+in_part l x y = not (is_in l.full (x / 64) (y / 64)) && (is_in l.used (x / 64) (y / 64) && is_in l.places x y)
+
+-- both have one size
+abbrev pub AreAlike : Layers → Layers → Type 0
+AreAlike l m = (l.places.width ≡ m.places.width) × (l.places.height ≡ m.places.height)
+
+-- the cell is not in the set whole any more. It has the places that it had
+pub record IsSpread (i j : ℕ) (old new : Layers) : Type 0 where
+  pub sound : IsLayers new
+  pub alike : AreAlike new old
+  pub same : (x y : ℕ) → x < old.places.width → y < old.places.height → in_set new x y ≡ in_set old x y
+  pub parted : is_in new.full i j ≡ false
+
+-- of those cells, the set lost the places that another has in cells that it has not whole
+pub record HasLost (cells : ℕ → ℕ → Bool) (other old new : Layers) : Type 0 where
+  pub sound : IsLayers new
+  pub alike : AreAlike new old
+  pub each : (x y : ℕ) → x < old.places.width → y < old.places.height → in_set new x y ≡ (in_set old x y && not (cells (x / 64) (y / 64) && in_part other x y))

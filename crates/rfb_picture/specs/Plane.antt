@@ -1,5 +1,5 @@
 -- How a `Plane` holds which places are marked, as bits of words: a row is so many words across.
-use Rattle.std.specs.Prelude.{ℕ, Bool, false, List, ◌≡◌, ◌+◌, ◌*◌, ◌/◌, ◌%◌, ◌^◌, ◌<◌, ◌≤◌, ◌&&◌, length, nat_eq, slice_index_or}
+use Rattle.std.specs.Prelude.{ℕ, Bool, true, false, List, ◌≡◌, ◌+◌, ◌*◌, ◌/◌, ◌%◌, ◌^◌, ◌<◌, ◌≤◌, ◌&&◌, length, nat_eq, slice_index_or}
 use Rattle.std.specs.Int.{bit_at}
 use Rattle.rfb_picture.specs.Grid.{Grid, grid, changed, uniform}
 
@@ -19,6 +19,11 @@ has_at words across y k i = has_bit (slice_index_or words (y * across + k) 0) i
 -- the mask has bit i, and bit i of word k of row y is set
 abbrev pub has_masked : List ℕ → ℕ → ℕ → ℕ → ℕ → ℕ → Bool
 has_masked words across k mask y i = has_at words across y k i && has_bit mask i
+
+-- each bit of the mask is set in word k of each row from the first up to another
+abbrev pub HasMasked : List ℕ → ℕ → ℕ → ℕ → ℕ → ℕ → Type 0
+HasMasked words across k mask from to =
+    (y i : ℕ) → from ≤ y → y < to → i < 64 → has_bit mask i ≡ true → has_at words across y k i ≡ true
 
 -- place (x, y) is marked: a word holds 64 places of a row, the lowest bit the leftmost place
 abbrev pub has_place : List ℕ → ℕ → ℕ → ℕ → Bool

@@ -66,6 +66,22 @@ impl Area {
         self.asked.height()
     }
 
+    /// Lends the set of the asked places.
+    #[inline]
+    pub fn asked(&self) -> &PlaceSet
+        ensures { result.now ≡ self.now.asked }
+    {
+        &self.asked
+    }
+
+    /// Lends the set of the whole places.
+    #[inline]
+    pub fn whole(&self) -> &PlaceSet
+        ensures { result.now ≡ self.now.whole }
+    {
+        &self.whole
+    }
+
     /// Whether the place at column `x` of row `y` is asked.
     #[inline]
     pub fn is_asked(&self, x: u16, y: u16) -> bool

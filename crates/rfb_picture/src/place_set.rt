@@ -1,17 +1,20 @@
 //! A set of the places of a picture.
 
-ghost use Rattle.std.specs.Prelude.{◌≡◌, ◌+◌, ◌<◌, false, true, IfOk, MatchOption};
+ghost use Rattle.std.specs.Prelude.{◌≡◌, ◌↔◌, ◌+◌, ◌%◌, ◌<◌, false, true, IfOk, IsTrue, MatchOption};
 
 use crate::plane::Plane;
 use crate::rect::Rect;
+use crate::words::columns_between;
 use layers::Layers;
 use parts::{cells_of, parts_of};
 use std::alloc::{AllocError, Global};
 use std::marker::Model;
 
 mod bounding;
+mod covering;
 mod layers;
 mod parts;
+mod taking;
 #[cfg(test)]
 mod tests;
 
@@ -43,6 +46,7 @@ impl PlaceSet {
     ghost use Rattle.rfb_picture.specs.Grid.{IsGrid, Holds, at_or, filled, uniform};
     ghost use Rattle.rfb_picture.specs.Box.{is_in, IsClear, IsBox};
     ghost use Rattle.rfb_picture.specs.Cells.{IsOfCells};
+    ghost use Rattle.rfb_picture.specs.Places.{AllMarked, HasRowBits, without};
 
     /// The set with no place, of a picture of `width` by `height` places. It asks for room for all
     /// its bits, in three pieces; where there is none it gives the error, and nothing is kept.
@@ -89,6 +93,33 @@ impl PlaceSet {
         let layers = &self.layers;
         layers.full.has(x / 64, y / 64)
             || layers.used.has(x / 64, y / 64) && layers.places.has(x, y)
+    }
+
+    /// Whether every place of the rectangle, which lies in the picture, is in the set.
+    pub fn has_all(&self, rect: Rect) -> bool
+        requires { Holds self.now rect }
+        ensures { IsTrue result ↔ AllMarked (is_in self.now) rect }
+    {
+        self.layers.has_all(rect)
+    }
+
+    /// Which of 64 places of row `y` are in the set: bit `i` is set if place (`x` + `i`, `y`) is. They
+    /// begin at a cell's left edge. A bit past the picture's right edge is not set.
+    pub fn row_bits(&self, x: u16, y: u16) -> u64
+        requires start { x % 64 ≡ 0 }
+        requires column { x < self.now.width }
+        requires row { y < self.now.height }
+        ensures { HasRowBits self.now x y result }
+    {
+        let layers = &self.layers;
+        if layers.full.has(x / 64, y / 64) {
+            let width = usize::from(layers.places.width());
+            columns_between(usize::from(x) / 64, usize::from(x), width)
+        } else if layers.used.has(x / 64, y / 64) {
+            layers.places.row_bits(x, y)
+        } else {
+            0
+        }
     }
 
     /// The least rectangle that holds the set's places in the cell, which lies in the picture; `None`
@@ -143,6 +174,20 @@ impl PlaceSet {
             self.layers.open_cells(cells_of(part));
             self.layers.places.add(part);
         }
+    }
+
+    /// Takes the places of `other` out of the set. `other` is of the same size and stays the caller's.
+    /// It costs by the cells that `other` uses.
+    pub fn take_away(&mut self, other: &PlaceSet)
+        requires width { self.old.width ≡ other.now.width }
+        requires height { self.old.height ≡ other.now.height }
+        ensures value { self.new ≡ without other.now self.old }
+        ensures width { self.new.width ≡ self.old.width }
+        ensures height { self.new.height ≡ self.old.height }
+    {
+        self.layers.take_parts(&other.layers);
+        self.layers.full.take_away(&other.layers.full);
+        self.layers.used.take_away(&other.layers.full);
     }
 
     /// Takes every place out of the set.

@@ -1,10 +1,12 @@
 //! A mark for each place of a picture, or for each of its cells.
 
-ghost use Rattle.std.specs.Prelude.{◌≡◌, ◌+◌, ◌*◌, ◌/◌, ◌<◌, ◌≤◌, false, true, IfOk};
+ghost use Rattle.std.specs.Prelude.{◌≡◌, ◌↔◌, ◌+◌, ◌*◌, ◌/◌, ◌%◌, ◌<◌, ◌≤◌, false, true, IfOk, IsTrue, MatchOption};
 
 use crate::edges::{Edges, edges_in};
 use crate::rect::Rect;
-use crate::words::{add_places, clear_column};
+use crate::words::{
+    add_places, clear_column, columns_between, has_places, next_place, take_column, take_places,
+};
 use std::alloc::{AllocError, Global};
 use std::marker::Model;
 
@@ -39,7 +41,8 @@ impl Plane {
     ghost use Rattle.rfb_picture.specs.Grid.{IsGrid, Holds, at_or, filled, uniform};
     ghost use Rattle.rfb_picture.specs.Box.{is_in};
     ghost use Rattle.rfb_picture.specs.Edges.{HasEdges};
-    ghost use Rattle.rfb_picture.specs.Cells.{cell_at};
+    ghost use Rattle.rfb_picture.specs.Cells.{cell_at, one_cell};
+    ghost use Rattle.rfb_picture.specs.Places.{AllMarked, HasRowBits, NoneInRow, IsNext, without, without_in};
 
     /// No mark, at `width` by `height` places. It asks for room for all its bits, in one piece; where
     /// there is none it gives the error, and nothing is kept.
@@ -99,6 +102,40 @@ impl Plane {
         edges_in(&self.words, self.across, zone)
     }
 
+    /// Whether each place of the rectangle is marked.
+    pub(crate) fn has_all(&self, rect: Rect) -> bool
+        requires { Holds self.now rect }
+        ensures { IsTrue result ↔ AllMarked (is_in self.now) rect }
+    {
+        has_places(&self.words, self.across, rect)
+    }
+
+    /// The marks of the places from column `x` on that are of one word with it, as bits.
+    #[inline]
+    pub(crate) fn row_bits(&self, x: u16, y: u16) -> u64
+        requires start { x % 64 ≡ 0 }
+        requires column { x < self.now.width }
+        requires row { y < self.now.height }
+        ensures { HasRowBits self.now x y result }
+    {
+        let column = usize::from(x) / 64;
+        let word = self.words[usize::from(y) * self.across + column];
+        word & columns_between(column, usize::from(x), usize::from(self.width))
+    }
+
+    /// The column of the first marked place of row `y` from column `x` on; `None` where none is.
+    pub(crate) fn next(&self, x: u16, y: u16) -> Option<u16>
+        requires { y < self.now.height }
+        ensures { MatchOption result (NoneInRow (is_in self.now) y x self.now.width) (λ i. IsNext (is_in self.now) y x self.now.width i) }
+    {
+        let row = usize::from(y);
+        let to = usize::from(self.width);
+        match next_place(&self.words, self.across, row, usize::from(x), to) {
+            None => None,
+            Some(column) => Some(column as u16),
+        }
+    }
+
     /// Marks the places of the rectangle.
     pub(crate) fn add(&mut self, rect: Rect)
         requires { Holds self.old rect }
@@ -125,6 +162,56 @@ impl Plane {
             usize::from(column),
             top,
             bottom,
+        );
+    }
+
+    /// Takes the mark from one place.
+    pub(crate) fn remove(&mut self, x: u16, y: u16)
+        requires column { x < self.old.width }
+        requires row { y < self.old.height }
+        ensures value { self.new ≡ filled (one_cell x y) false self.old }
+        ensures width { self.new.width ≡ self.old.width }
+        ensures height { self.new.height ≡ self.old.height }
+    {
+        let at = usize::from(y) * self.across + usize::from(x) / 64;
+        self.words[at] &= !(1 << (x % 64));
+    }
+
+    /// Takes the marks of `other`, which is of the same size, from the places of the cell.
+    pub(crate) fn take_cell(&mut self, other: &Plane, column: u16, row: u16)
+        requires column { column * 64 < self.old.width }
+        requires row { row * 64 < self.old.height }
+        requires width { self.old.width ≡ other.now.width }
+        requires height { self.old.height ≡ other.now.height }
+        ensures value { self.new ≡ without_in (cell_at column row) other.now self.old }
+        ensures width { self.new.width ≡ self.old.width }
+        ensures height { self.new.height ≡ self.old.height }
+    {
+        let top = usize::from(row) * 64;
+        let bottom = (top + 64).min(usize::from(self.height));
+        take_column(
+            &mut self.words,
+            &other.words,
+            self.across,
+            usize::from(column),
+            top,
+            bottom,
+        );
+    }
+
+    /// Takes the marks of `other`, which is of the same size.
+    pub(crate) fn take_away(&mut self, other: &Plane)
+        requires width { self.old.width ≡ other.now.width }
+        requires height { self.old.height ≡ other.now.height }
+        ensures value { self.new ≡ without other.now self.old }
+        ensures width { self.new.width ≡ self.old.width }
+        ensures height { self.new.height ≡ self.old.height }
+    {
+        take_places(
+            &mut self.words,
+            &other.words,
+            self.across,
+            usize::from(self.height),
         );
     }
 

@@ -1,8 +1,9 @@
 //! Rows of words, each with a bit for 64 places: the lowest for the leftmost.
 
-ghost use Rattle.std.specs.Prelude.{◌≡◌, ℕ, ◌+◌, ◌*◌, ◌<◌, ◌≤◌, ◌&&◌, ◌||◌, false, nat_eq, nat_le, nat_lt, length, if◌then◌else◌};
+ghost use Rattle.std.specs.Prelude.{◌≡◌, ◌↔◌, ℕ, ◌+◌, ◌*◌, ◌^◌, ◌<◌, ◌≤◌, ◌&&◌, ◌||◌, not, false, nat_eq, nat_le, nat_lt, length, if◌then◌else◌, IsTrue, MatchOption};
 ghost use Rattle.rfb_picture.specs.Rect.{contains};
-ghost use Rattle.rfb_picture.specs.Plane.{has_bit, has_at};
+ghost use Rattle.rfb_picture.specs.Plane.{has_bit, has_at, has_place, HasMasked};
+ghost use Rattle.rfb_picture.specs.Places.{AllMarked, NoneInRow, IsNext};
 
 use crate::rect::Rect;
 
@@ -50,6 +51,102 @@ pub(crate) fn clear_column(
     for row in top..bottom {
         words[row * across + column] = 0;
     }
+}
+
+/// Clears in one word of each row from `top` up to `bottom` the bits that are set in that of `other`,
+/// whose rows have as many words.
+pub(crate) fn take_column(
+    words: &mut [u64],
+    other: &[u64],
+    across: usize,
+    column: usize,
+    top: usize,
+    bottom: usize,
+)
+    requires column { column < across }
+    requires order { top ≤ bottom }
+    requires rows { bottom * across ≤ length words.old }
+    requires others { bottom * across ≤ length other.now }
+    ensures { (k y i : ℕ) → k < across → i < 64 → has_at words.new across y k i ≡ (has_at words.old across y k i && not ((nat_eq k column && (nat_le top y && nat_lt y bottom)) && has_at other.now across y k i)) }
+{
+    for row in top..bottom {
+        let at = row * across + column;
+        words[at] &= !other[at];
+    }
+}
+
+/// The same for each word of the first `rows` rows.
+pub(crate) fn take_places(words: &mut [u64], other: &[u64], across: usize, rows: usize)
+    requires rows { rows * across ≤ length words.old }
+    requires others { rows * across ≤ length other.now }
+    ensures { (k y i : ℕ) → k < across → y < rows → i < 64 → has_at words.new across y k i ≡ (has_at words.old across y k i && not (has_at other.now across y k i)) }
+{
+    for column in 0..across {
+        take_column(words, other, across, column, 0, rows);
+    }
+}
+
+/// Whether the bits of all of the rectangle's places are set, where a row is `across` words.
+pub(crate) fn has_places(words: &[u64], across: usize, rect: Rect) -> bool
+    requires columns { rect.x + rect.w ≤ across * 64 }
+    requires rows { (rect.y + rect.h) * across ≤ length words.now }
+    ensures { IsTrue result ↔ AllMarked (has_place words.now across) rect }
+{
+    let from = usize::from(rect.x);
+    let to = from + usize::from(rect.w);
+    let top = usize::from(rect.y);
+    let bottom = top + usize::from(rect.h);
+    for column in from / 64..to.div_ceil(64) {
+        let mask = columns_between(column, from, to);
+        if !has_column(words, across, column, top, bottom, mask) {
+            return false;
+        }
+    }
+    true
+}
+
+// Whether the mask's bits are set in one word of each row from `top` up to `bottom`.
+fn has_column(
+    words: &[u64],
+    across: usize,
+    column: usize,
+    top: usize,
+    bottom: usize,
+    mask: u64,
+) -> bool
+    requires column { column < across }
+    requires rows { bottom * across ≤ length words.now }
+    ensures { IsTrue result ↔ HasMasked words.now across column mask top bottom }
+{
+    for row in top..bottom {
+        if words[row * across + column] & mask != mask {
+            return false;
+        }
+    }
+    true
+}
+
+/// The first place of row `row` from column `from` up to column `to` whose bit is set, where `to` is in
+/// the row's last word.
+pub(crate) fn next_place(
+    words: &[u64],
+    across: usize,
+    row: usize,
+    from: usize,
+    to: usize,
+) -> Option<usize>
+    requires room { (to ≤ across * 64) × (across * 64 < to + 64) }
+    requires small { across < 2 ^ 16 }
+    requires row { (row + 1) * across ≤ length words.now }
+    ensures { MatchOption result (NoneInRow (has_place words.now across) row from to) (λ x. IsNext (has_place words.now across) row from to x) }
+{
+    for column in from / 64..across {
+        let bits = words[row * across + column] & columns_between(column, from, to);
+        if bits != 0 {
+            return Some(column * 64 + bits.trailing_zeros() as usize);
+        }
+    }
+    None
 }
 
 /// The bits of word `column` for the places from column `from` up to column `to`.

@@ -30,6 +30,33 @@ fn areas_tell_what_plain_lists_tell(rt: HostRuntime) -> Result<(), Fail> {
     Ok(())
 }
 
+#[test]
+fn an_area_lends_its_two_sets(rt: HostRuntime) -> Result<(), Fail> {
+    let mut area = Area::new(rt.alloc(), 65, 2)?;
+    area.add(
+        Rect {
+            x: 0,
+            y: 0,
+            w: 65,
+            h: 1,
+        },
+        false,
+    );
+    area.add(
+        Rect {
+            x: 63,
+            y: 0,
+            w: 2,
+            h: 1,
+        },
+        true,
+    );
+    assert_eq!(rt; area.asked().row_bits(0, 0), u64::MAX);
+    assert_eq!(rt; area.whole().row_bits(0, 0), 1 << 63);
+    assert_eq!(rt; area.whole().row_bits(64, 0), 1);
+    Ok(())
+}
+
 // One call, the same of both: mostly a rectangle more, now and then none at all.
 fn act<R: Abort>(rt: &R, area: &mut Area, plain: &mut Plain, numbers: &mut Numbers) {
     let (width, height) = (area.width(), area.height());

@@ -1,0 +1,7 @@
+use Rattle.std.proofs.Common.{nat_lt}
+use Rattle.rfb_picture.specs.PlaceSet.{HasLost}
+use Rattle.rfb_picture.proofs.place_set.layers.Layers.take_parts.Given as goal
+
+-- the rows of cells so far lost their places
+abbrev pub invariant-loop-row : goal.invariant-loop-row
+invariant-loop-row l = HasLost (λ _ j. nat_lt j l.row) l.other l.initial.self l.self
