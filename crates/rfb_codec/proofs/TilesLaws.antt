@@ -3,7 +3,7 @@ use Rattle.std.proofs.Common.{◌≡◌, ℕ, ◌+◌, ◌-◌, ◌*◌, ◌/◌
 use Rattle.std.proofs.lemmas.Nat.{div-add-mod', div-mul-add, mod_below, div_below}
 use Rattle.rfb_picture.specs.Rect.{contains}
 use Rattle.rfb_picture.proofs.GridLemmas.{contains_true, some_in_row}
-use Rattle.rfb_picture.proofs.EdgesLemmas.{contains_from}
+use Rattle.rfb_picture.proofs.GridLemmas.{contains_row}
 use Rattle.rfb_codec.specs.Hextile.{across, tile_count, tile_width, tile_height, tile_part, tile_at}
 use Rattle.rfb_codec.proofs.HextileEncodeLemmas.{column_of, row_of_tiles, in_tile}
 
@@ -15,7 +15,7 @@ in_its_tile w h x y p q =
     let row = row_of_tiles w x y p in
     let a = in_tile (n % across w) w x column p in
     let b = in_tile (n / across w) h y row q in
-    contains_from (tile_part w h n) x y (omega (arith, a)) (omega (arith, a)) (omega (arith, b)) (omega (arith, b))
+    contains_row (tile_part w h n) x y (omega (arith, a)) (omega (arith, a)) (omega (arith, b)) (omega (arith, b))
 
 -- and in no other
 pub in_no_other : (w h n x y : ℕ) → contains (tile_part w h n) x y ≡ true → tile_at w x y ≡ n
