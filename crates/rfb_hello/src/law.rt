@@ -49,11 +49,11 @@ pub fn both_ends_are_machines()
 /// An end that stands for a point and a prefix has not failed, and it is open exactly where the
 /// handshake goes on at that point.
 pub fn ends_that_stand_have_not_failed()
-    ensures server { (setup : ServerSetup) (hello : ServerHello) (point : ClientPoint) (prefix : List ℕ)
-        → StandsFor setup hello point prefix
+    ensures server { (setup : ServerSetup) (hello : ServerHello) (point : ClientPoint)
+        (prefix : List ℕ) → StandsFor setup hello point prefix
         → (fault_of hello ≡ None) × (is_open hello ≡ goes_on point) }
-    ensures viewer { (setup : ViewerSetup) (hello : ViewerHello) (point : ServerPoint) (prefix : List ℕ)
-        → ViewerStandsFor setup hello point prefix
+    ensures viewer { (setup : ViewerSetup) (hello : ViewerHello) (point : ServerPoint)
+        (prefix : List ℕ) → ViewerStandsFor setup hello point prefix
         → (viewer_fault_of hello ≡ None) × (viewer_is_open hello ≡ server_goes_on point) }
 {}
 

@@ -1,21 +1,23 @@
 //! The server's end of a handshake.
 
 ghost use Rattle.std.specs.Prelude.{◌≡◌, ◌≤◌, ◌<◌, ◌+◌, ℕ, List, [], ◌∷◌, ◌++◌, length, take, true, false, IfOk, IfErr, Some, None, Ok};
-ghost use Rattle.std.specs.Result.{result_err};
 ghost use Rattle.rfb_wire.specs.End.{FedBy, RefusedBy, StepsBy, StaysFailed};
-ghost use Rattle.rfb_hello.specs.Version.{version_of, version_text};
-ghost use Rattle.rfb_hello.specs.ClientHandshake.{AwaitsVersion, ClientPoint, client_version_fault};
+ghost use Rattle.rfb_hello.specs.Version.{version_text};
+ghost use Rattle.rfb_hello.specs.ClientHandshake.{AwaitsVersion, ClientPoint};
 ghost use Rattle.rfb_hello.specs.Pending.{client_handshake_pending};
-ghost use Rattle.rfb_hello.specs.ServerEnd.{ServerSetup, as_reply, server_end, server_init_bytes, security_bytes};
+ghost use Rattle.rfb_hello.specs.ServerEnd.{ServerSetup, as_reply, server_end, server_init_bytes};
 ghost use Rattle.rfb_hello.specs.ServerStanding.{StandsFor, fault_of, is_open, setup_of};
-ghost use Rattle.rfb_hello.specs.ServerProgress.{progress_behind};
 ghost use Rattle.rfb_hello.specs.declared.server_hello.progress.Progress.{Progress};
-ghost use Rattle.arrayvec.specs.ArrayVec.{ArrayVec as Items, array_vec_len};
+ghost use Rattle.arrayvec.specs.ArrayVec.{ArrayVec as Items};
 
+mod answers;
 mod progress;
 
 use crate::fault::HelloFault;
 use crate::fed::Fed;
+use crate::server_hello::answers::{
+    SECURITY_NONE, append, behind_version, offered, reply_of, security,
+};
 use crate::server_hello::progress::Progress;
 use crate::step::{MAX_REPLY, ServerStep};
 use crate::version::{VERSION_SIZE, Version};
@@ -244,65 +246,6 @@ impl ServerHello {
         append(&mut reply, &length);
         append(&mut reply, name);
         reply
-    }
-}
-
-// The security type None, as 3.3 sends it and as its list has it.
-const SECURITY_NONE: u8 = 1;
-
-// The version that the client's text stands for, where it is not above the one that was offered.
-fn offered(offer: Version, text: &[u8]) -> Result<Version, HelloFault>
-    requires { length text.now ≡ 12 }
-    ensures ok { IfOk result (λ version. version ≡ version_of text.now) }
-    ensures fault { result_err result ≡ client_version_fault offer text.now }
-{
-    let Some(version) = Version::of_text(text) else {
-        return Err(HelloFault::BadVersion);
-    };
-    if version.minor() > offer.minor() {
-        return Err(HelloFault::VersionTooHigh);
-    }
-    Ok(version)
-}
-
-// What comes next of a client that goes by this version.
-fn behind_version(version: Version) -> Progress
-    ensures { result ≡ progress_behind version }
-{
-    match version {
-        Version::V33 => Progress::Init(version),
-        Version::V37 | Version::V38 => Progress::Choice(version),
-    }
-}
-
-// The security type None, as this version has it.
-fn security(version: Version) -> ArrayVec<u8, MAX_REPLY>
-    ensures { result ≡ as_reply (security_bytes version) }
-{
-    match version {
-        Version::V33 => reply_of(&[0, 0, 0, SECURITY_NONE]),
-        Version::V37 | Version::V38 => reply_of(&[1, SECURITY_NONE]),
-    }
-}
-
-// An answer of these bytes.
-fn reply_of(bytes: &[u8]) -> ArrayVec<u8, MAX_REPLY>
-    requires { length bytes.now ≤ 279 }
-    ensures { result ≡ as_reply bytes.now }
-{
-    let mut reply = ArrayVec::new();
-    append(&mut reply, bytes);
-    reply
-}
-
-// Appends bytes for which there is room.
-fn append<const CAP: usize>(kept: &mut ArrayVec<u8, CAP>, bytes: &[u8])
-    requires { array_vec_len kept.old + length bytes.now ≤ CAP }
-    ensures { kept.new.items ≡ kept.old.items ++ bytes.now }
-{
-    match kept.try_extend_from_slice(bytes) {
-        Ok(()) => {}
-        Err(_) => unreachable!(),
     }
 }
 
