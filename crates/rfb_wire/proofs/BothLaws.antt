@@ -1,13 +1,14 @@
 -- What an end of a stream of two grammars takes, refuses and wants memory for, from what the ends of its
 -- parts do.
 use Rattle.std.proofs.Common.{◌≡◌, ℕ, List, [], ◌∷◌, ◌++◌, inl, inr, Option, Some, None, map, refl, sym, subst, ◌∙◌, ap}
+use Rattle.std.specs.Prelude.{IsTrue}
 use Rattle.std.specs.Option.{IfSome}
 use Rattle.rfb_wire.specs.Reading.{Next, More}
 use Rattle.rfb_wire.specs.Parts.{named}
 use Rattle.rfb_wire.specs.Stream.{Grammar, ReadsAll}
 use Rattle.rfb_wire.specs.End.{Machine, IsMachine, acts, EndsWith, Takes, Refuses, RunsOut, FedBy, RefusedBy, RunsOutBy}
 use Rattle.rfb_wire.specs.Sequel.{Stage, First, Second, turn, Two, sequel}
-use Rattle.rfb_wire.specs.Both.{event_as, first_point, end_at, DoesAs, ComesTo, GoesAsFirst, GoesAsSecond, LandsAs}
+use Rattle.rfb_wire.specs.Both.{event_as, first_point, end_at, DoesAs, ComesTo, StarvesAs, GoesAsFirst, GoesAsSecond, LandsAs}
 use Rattle.rfb_wire.proofs.EndLaws.{quiet_first}
 
 -- nothing is left over behind an event of the whole, since it is one of the part
@@ -105,6 +106,11 @@ module _ {S R K H E A P I F D : Type 0} where
         quiet = items_end m a shows item fault event does s u out.items None shown out.quiet;
         asked = asked (acts m s (map item out.items)) (acts a u out.items) out.front quiet out.asked;
       }
+
+  -- by a test of the other's state
+  pub starves_as : (m : Machine S R K H E) (a : Machine A P I F D) (shows : S → Option A) (item : I → K) (fault : F → H) (event : D → Option E) → IsMachine m → IsMachine a → DoesAs m a shows item fault event → StarvesAs m a shows
+  starves_as m a shows item fault event is other does wants s u prefix bytes shown out =
+      runs_out_as m a shows item fault event is other does (λ t front. (v : A) × (shows t ≡ Some v) × IsTrue (wants v front)) (λ v front. IsTrue (wants v front)) (λ t v front now test. (v, now, test)) s u prefix bytes shown out
 
   -- ---- an end that is fed, where the other is
 

@@ -22,3 +22,4 @@ pub mod WaitLaws
 mod StreamFacts
 mod PendingFacts
 mod SessionFacts
+mod BothFacts

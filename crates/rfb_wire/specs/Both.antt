@@ -1,9 +1,9 @@
 -- An end of a stream of two grammars, and the ends of its two parts: what it does of the bytes of the
 -- first and of the second, once it is known what those ends do of them.
-use Rattle.std.specs.Prelude.{ℕ, List, ◌≡◌, ◌⊎◌, Option, Some, None}
+use Rattle.std.specs.Prelude.{ℕ, Bool, IsTrue, List, ◌≡◌, ◌⊎◌, Option, Some, None}
 use Rattle.rfb_wire.specs.Parts.{named}
 use Rattle.rfb_wire.specs.Stream.{Grammar}
-use Rattle.rfb_wire.specs.End.{Machine, Takes, Refuses}
+use Rattle.rfb_wire.specs.End.{Machine, Takes, Refuses, RunsOut}
 use Rattle.rfb_wire.specs.Sequel.{Stage, First, Second, Two, sequel}
 
 -- the event of the whole that an event of a part is, if it is one
@@ -35,6 +35,13 @@ module _ {S R K H E A P I F D : Type 0} where
   ComesTo m a shows item None t v = shows t ≡ Some v
   ComesTo m a shows item (Some told) t v =
       (s : S) × (u : A) × (i : I) × (shows s ≡ Some u) × (a.tells u i ≡ Some told) × (t ≡ m.act s (item i)) × (v ≡ a.act u i)
+
+  -- where the other wants memory, by any test of its state and of the bytes that came, the end does: it
+  -- shows the state that wants some
+  abbrev pub StarvesAs : Machine S R K H E → Machine A P I F D → (S → Option A) → Type 0
+  StarvesAs m a shows =
+      (wants : A → List ℕ → Bool) (s : S) (u : A) (prefix bytes : List ℕ) → shows s ≡ Some u → RunsOut a (λ v front. IsTrue (wants v front)) u prefix bytes →
+      RunsOut m (λ t front. (v : A) × (shows t ≡ Some v) × IsTrue (wants v front)) s prefix bytes
 
 module _ {S A P I F Q J G H D E : Type 0} where
   -- an end of both is an end of the first as long as its state shows one of that: it stands at the same

@@ -1,5 +1,5 @@
 use Rattle.rfb_wire.specs.Sequel.{First}
-use Rattle.rfb_wire.proofs.BothLaws.{takes_as, refuses_as, first_does, lands}
+use Rattle.rfb_wire.proofs.BothLaws.{takes_as, refuses_as, starves_as, first_does, lands}
 use Rattle.rfb_wire.proofs.law.both.the_first_part_is_fed_as_its_end.Goals as goal
 
 pub returns-clause-takes : goal.returns-clause-takes
@@ -9,3 +9,6 @@ returns-clause-takes g c = λ two m a shows event is other goes s u v prefix byt
 
 pub returns-clause-refuses : goal.returns-clause-refuses
 returns-clause-refuses g c = λ two m a shows event is other goes s u prefix bytes fault shown refuses. refuses_as m a shows (λ i. First i) two.first_fault event is other (first_does two m a shows event goes) s u prefix bytes fault shown refuses
+
+pub returns-clause-starves : goal.returns-clause-starves
+returns-clause-starves g c = λ two m a shows event is other goes. starves_as m a shows (λ i. First i) two.first_fault event is other (first_does two m a shows event goes)

@@ -1,5 +1,5 @@
 use Rattle.rfb_wire.specs.Sequel.{Second}
-use Rattle.rfb_wire.proofs.BothLaws.{takes_as, refuses_as, second_does, second_stays}
+use Rattle.rfb_wire.proofs.BothLaws.{takes_as, refuses_as, starves_as, second_does, second_stays}
 use Rattle.rfb_wire.proofs.law.both.the_second_part_is_fed_as_its_end.Goals as goal
 
 pub returns-clause-takes : goal.returns-clause-takes
@@ -9,3 +9,6 @@ returns-clause-takes g c = λ two m b shows event is other goes s u v prefix byt
 
 pub returns-clause-refuses : goal.returns-clause-refuses
 returns-clause-refuses g c = λ two m b shows event is other goes s u prefix bytes fault shown refuses. refuses_as m b shows (λ j. Second j) two.second_fault event is other (second_does two m b shows event goes) s u prefix bytes fault shown refuses
+
+pub returns-clause-starves : goal.returns-clause-starves
+returns-clause-starves g c = λ two m b shows event is other goes. starves_as m b shows (λ j. Second j) two.second_fault event is other (second_does two m b shows event goes)
