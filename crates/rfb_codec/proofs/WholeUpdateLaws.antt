@@ -1,11 +1,15 @@
 -- An update's head and its rectangles are read as exactly these, and back.
-use Rattle.std.proofs.Common.{◌≡◌, ℕ, zero, suc, ◌-◌, List, [], ◌∷◌, ◌++◌, length, map, refl, sym, subst, arith}
+use Rattle.std.proofs.Common.{◌≡◌, ℕ, zero, suc, ◌-◌, List, [], ◌∷◌, ◌++◌, length, map, Option, refl, ◌∙◌, sym, subst, arith}
+use Rattle.rfb_pixel.specs.declared.colour.Colour.{Colour}
+use Rattle.rfb_picture.specs.Grid.{Grid, IsGrid}
 use Rattle.rfb_wire.specs.declared.rect_head.RectHead.{RectHead}
 use Rattle.rfb_wire.specs.Reading.{Got}
 use Rattle.rfb_wire.specs.Stream.{ReadsAll, past_all}
 use Rattle.rfb_wire.specs.ServerMessage.{ServerMessage, FramebufferUpdate, SpellsServerMessage}
 use Rattle.rfb_codec.specs.UpdateStream.{UpdatePoint, Message, Rectangle, SpellsRectangle, SpellsNext, update_stream}
-use Rattle.rfb_codec.specs.WholeUpdate.{SentRect, item_of, SpellsRectangles, SpellsWholeUpdate, update_of}
+use Rattle.rfb_codec.specs.Effect.{effect, effects, IsAlike, Agrees, noted}
+use Rattle.rfb_codec.specs.WholeUpdate.{SentRect, item_of, SpellsRectangles, SpellsWholeUpdate, update_of, AreNoted}
+use Rattle.rfb_codec.proofs.EffectLaws.{IsKept, effect_picture, noted_kept, agrees_item}
 use Rattle.rfb_codec.proofs.UpdateStreamLaws.{update_spelled}
 
 -- a rectangle does not depend on how many are left
@@ -66,3 +70,15 @@ rectangles_past p (r ∷ sent) =
 pub update_past : (p : UpdatePoint) (sent : List SentRect) → past_all update_stream p (update_of sent) ≡ record p { left = 0 }
 unfolding update_stream
 update_past p sent = rectangles_past p sent
+
+-- ---- what is known behind it
+
+pub agrees_update : (p : UpdatePoint) (sent : List SentRect) (picture : Grid Colour) (known now : Grid (Option ℕ)) → IsGrid picture → IsGrid known → IsAlike picture known → known.width ≡ p.width → known.height ≡ p.height → Agrees p.form picture known → AreNoted p sent known now → Agrees p.form (effects p (map item_of sent) picture) now
+agrees_update p [] picture known now whole whole_known alike columns rows agrees noted_are = subst (λ (k : Grid (Option ℕ)). Agrees p.form picture k) (sym noted_are) agrees
+agrees_update p (r ∷ sent) picture known now whole whole_known alike columns rows agrees (contents, spelled, more) =
+    let shown = effect_picture p (Rectangle r.head r.body) picture in
+    let kept = noted_kept r.head.rect contents known in
+    agrees_update p sent (effect p (Rectangle r.head r.body) picture) (noted r.head.rect contents known) now (shown.whole whole) (kept.whole whole_known)
+    (record { columns = shown.columns ∙ alike.columns ∙ sym kept.columns; rows = shown.rows ∙ alike.rows ∙ sym kept.rows })
+    (kept.columns ∙ columns) (kept.rows ∙ rows)
+    (agrees_item p r.head contents r.body picture known whole whole_known alike columns rows spelled agrees) more

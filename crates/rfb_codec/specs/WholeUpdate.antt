@@ -1,9 +1,12 @@
 -- An update as it is sent: a head that counts rectangles, and these, RFC 6143 section 7.6.1.
-use Rattle.std.specs.Prelude.{◌≡◌, List, ◌∷◌, ◌++◌, ℕ, length, map}
+use Rattle.std.specs.Prelude.{◌≡◌, List, [], ◌∷◌, ◌++◌, ℕ, length, map, Option}
+use Rattle.rfb_picture.specs.Grid.{Grid}
 use Rattle.rfb_wire.specs.declared.rect_head.RectHead.{RectHead}
 use Rattle.rfb_wire.specs.Reading.{Listed}
 use Rattle.rfb_wire.specs.ServerHead.{SpellsUpdate}
 use Rattle.rfb_wire.specs.ServerMessage.{FramebufferUpdate}
+use Rattle.rfb_codec.specs.RectData.{RectData, SpellsData}
+use Rattle.rfb_codec.specs.Effect.{noted}
 use Rattle.rfb_codec.specs.UpdateStream.{UpdatePoint, UpdateItem, Message, Rectangle, SpellsRectangle}
 
 -- a rectangle as it is sent: its head, and its data as bytes
@@ -30,3 +33,11 @@ pub record SpellsWholeUpdate (p : UpdatePoint) (sent : List SentRect) (bytes : L
 -- its items
 abbrev pub update_of : List SentRect → List UpdateItem
 update_of sent = Message (FramebufferUpdate (length sent)) ∷ map item_of sent
+
+-- what is known once these rectangles were sent one behind another, each with what its data say
+abbrev pub AreNoted : UpdatePoint → List SentRect → Grid (Option ℕ) → Grid (Option ℕ) → Type 0
+AreNoted p [] known now = now ≡ known
+AreNoted p (s ∷ sent) known now =
+    (contents : RectData) ×
+    SpellsData p.form p.width p.height s.head.rect s.head.encoding contents s.body ×
+    AreNoted p sent (noted s.head.rect contents known) now

@@ -11,9 +11,9 @@ use byteorder::{BigEndian, ByteOrder};
 use rfb_picture::{Picture, Rect};
 use rfb_pixel::Colour;
 
-/// The bytes of a CopyRect's source, U16 src-x-position and U16 src-y-position: the column and the row
-/// on the screen that the rectangle's first place is copied from. The rectangle of the same size there
-/// has to lie on the screen, else a viewer refuses it.
+/// The bytes of a CopyRect's source, U16 src-x-position and U16 src-y-position: the column and the
+/// row on the screen that the rectangle's first place is copied from. The rectangle of the same
+/// size there has to lie on the screen, else a viewer refuses it.
 pub fn spell_source(x: u16, y: u16) -> [u8; 4]
     ensures { SpellsSource x y result }
 {

@@ -1,4 +1,5 @@
-//! The tiles of Hextile, RFC 6143 section 7.7.4: which places each has, and which masks are refused.
+//! The tiles of Hextile, RFC 6143 section 7.7.4: which places each has, and which masks are
+//! refused.
 
 ghost use Rattle.std.specs.Prelude.{◌≡◌, ℕ, ◌-◌, ◌%◌, ◌<◌, List, Some, None, true};
 ghost use Rattle.rfb_picture.specs.Rect.{contains};

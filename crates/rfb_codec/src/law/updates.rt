@@ -1,8 +1,8 @@
 //! What stands next in an update, by what its parts tell, and an update as a whole.
 
-ghost use Rattle.std.specs.Prelude.{◌≡◌, ℕ, ◌-◌, ◌<◌, List, [], ◌++◌, length};
+ghost use Rattle.std.specs.Prelude.{◌≡◌, ℕ, ◌-◌, ◌<◌, List, [], ◌++◌, length, map, Option};
 ghost use Rattle.rfb_pixel.specs.declared.colour.Colour.{Colour};
-ghost use Rattle.rfb_picture.specs.Grid.{Grid};
+ghost use Rattle.rfb_picture.specs.Grid.{Grid, IsGrid};
 ghost use Rattle.rfb_wire.specs.declared.rect_head.RectHead.{RectHead};
 ghost use Rattle.rfb_wire.specs.Reading.{More, Got, Bad};
 ghost use Rattle.rfb_wire.specs.Stream.{ReadsAll, past_all};
@@ -10,8 +10,8 @@ ghost use Rattle.rfb_wire.specs.ServerMessage.{ServerMessage, ServerFault, Frame
 ghost use Rattle.rfb_codec.specs.declared.fault.PaintFault.{PaintFault};
 ghost use Rattle.rfb_codec.specs.RectData.{RectData, painted};
 ghost use Rattle.rfb_codec.specs.UpdateStream.{UpdatePoint, Message, Rectangle, InMessage, InData, update_stream};
-ghost use Rattle.rfb_codec.specs.Effect.{effect};
-ghost use Rattle.rfb_codec.specs.WholeUpdate.{SentRect, SpellsWholeUpdate, update_of};
+ghost use Rattle.rfb_codec.specs.Effect.{effect, effects, IsAlike, Agrees};
+ghost use Rattle.rfb_codec.specs.WholeUpdate.{SentRect, item_of, SpellsWholeUpdate, update_of, AreNoted};
 ghost use Rattle.rfb_codec.specs.Painter.{data_of, painting_of, AwaitsData};
 
 /// The bytes of an update are read as its head and its rectangles, and bytes that are read so are
@@ -24,6 +24,17 @@ pub fn an_update_is_its_rectangles()
         ReadsAll update_stream p bytes (update_of sent) [] → SpellsWholeUpdate p sent bytes }
     ensures past { (p : UpdatePoint) (sent : List SentRect) →
         past_all update_stream p (update_of sent) ≡ record p { left = 0 } }
+{}
+
+/// A picture that agrees with what is known agrees behind an update's rectangles with what these
+/// make known, one behind another.
+pub fn agreement_is_kept_by_an_update()
+    ensures { (p : UpdatePoint) (sent : List SentRect) (picture : Grid Colour)
+        (known now : Grid (Option ℕ)) →
+        IsGrid picture → IsGrid known → IsAlike picture known →
+        known.width ≡ p.width → known.height ≡ p.height →
+        Agrees p.form picture known → AreNoted p sent known now →
+        Agrees p.form (effects p (map item_of sent) picture) now }
 {}
 
 /// The point behind a head, and behind a rectangle.
