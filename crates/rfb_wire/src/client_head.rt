@@ -50,7 +50,8 @@ impl ClientHead {
     /// other byte is ever wrong. Flags are true where they are not zero, padding is ignored.
     pub fn read(bytes: &[u8]) -> Read<ClientHead>
         // What it tells is so.
-        ensures got { IfGot result (λ head used. (used ≤ length bytes.now) × SpellsClientHead head (take used bytes.now)) }
+        ensures got { IfGot result (λ head used. (used ≤ length bytes.now) ×
+            SpellsClientHead head (take used bytes.now)) }
         ensures more { IfMore result (λ n. Misses SpellsClientHead n bytes.now) }
         ensures bad { IfBad result (λ fault. IsUnknown SpellsClientHead fault bytes.now) }
 
@@ -59,9 +60,11 @@ impl ClientHead {
         ensures head { (head : ClientHead) (front rest : List ℕ) → bytes.now ≡ front ++ rest →
             SpellsClientHead head front → result ≡ Got head (length front) }
         ensures empty { bytes.now ≡ [] → result ≡ More 1 }
-        ensures front { (head : ClientHead) (missing : List ℕ) → 0 < length bytes.now → 0 < length missing →
+        ensures front { (head : ClientHead) (missing : List ℕ) → 0 < length bytes.now →
+            0 < length missing →
             SpellsClientHead head (bytes.now ++ missing) → result ≡ More (length missing) }
-        ensures unknown { (first : ℕ) (rest : List ℕ) → bytes.now ≡ first ∷ rest → BeginsNone SpellsClientHead first → result ≡ Bad (UnknownMessage first) }
+        ensures unknown { (first : ℕ) (rest : List ℕ) → bytes.now ≡ first ∷ rest →
+            BeginsNone SpellsClientHead first → result ≡ Bad (UnknownMessage first) }
     {
         let Some(&kind) = bytes.first() else {
             return Read::More(1);
@@ -150,15 +153,19 @@ impl ClientHead {
     /// head's bytes go on as another's.
     pub fn spellings_are_apart()
         ensures { (head other : ClientHead) (front rest : List ℕ) →
-            SpellsClientHead head front → SpellsClientHead other (front ++ rest) → (other ≡ head) × (rest ≡ []) }
+            SpellsClientHead head front → SpellsClientHead other (front ++ rest) →
+            (other ≡ head) × (rest ≡ []) }
     {}
 
     /// A law about `SpellsClientHead`, with nothing to run: a head has as many bytes as its type byte asks
     /// for, and as many bytes as their first asks for are always a head.
     pub fn type_tells_the_size()
         ensures size { (head : ClientHead) (bytes : List ℕ) →
-            SpellsClientHead head bytes → client_head_size (slice_index bytes 0) ≡ Some (length bytes) }
-        ensures whole { (bytes : List ℕ) → client_head_size (slice_index bytes 0) ≡ Some (length bytes) → (head : ClientHead) × SpellsClientHead head bytes }
+            SpellsClientHead head bytes →
+            client_head_size (slice_index bytes 0) ≡ Some (length bytes) }
+        ensures whole { (bytes : List ℕ) →
+            client_head_size (slice_index bytes 0) ≡ Some (length bytes) →
+            (head : ClientHead) × SpellsClientHead head bytes }
     {}
 }
 

@@ -31,7 +31,8 @@ impl Encoding {
 
     /// The encoding of a number, or None where no encoding here has it.
     pub fn of(number: i32) -> Option<Encoding>
-        ensures { MatchOption result (IsNoEncoding number) (λ encoding. number_of encoding ≡ number) }
+        ensures { MatchOption result (IsNoEncoding number)
+            (λ encoding. number_of encoding ≡ number) }
     {
         match number {
             0 => Some(Encoding::Raw),

@@ -33,18 +33,22 @@ impl RectHead {
     /// judged at its twelfth byte: first the encoding, then whether an edge passes the screen's.
     pub fn read(bytes: &[u8], width: u16, height: u16) -> Read<RectHead>
         // What it tells is so.
-        ensures got { IfGot result (λ head used. (used ≤ length bytes.now) × SpellsRectHead head (take used bytes.now) × IsOnScreen width height head.rect) }
+        ensures got { IfGot result (λ head used. (used ≤ length bytes.now) ×
+            SpellsRectHead head (take used bytes.now) × IsOnScreen width height head.rect) }
         ensures more { IfMore result (λ n. (0 < n) × (length bytes.now + n ≡ 12)) }
         ensures bad { IfBad result (λ fault. IsRectFault width height fault bytes.now) }
 
         // And it is told wherever it is so: of bytes that begin with a head on the screen, of fewer
         // than a head's, of a number that no encoding has, and of a head that leaves the screen.
         ensures head { (head : RectHead) (front rest : List ℕ) → bytes.now ≡ front ++ rest →
-            SpellsRectHead head front → IsOnScreen width height head.rect → result ≡ Got head (length front) }
+            SpellsRectHead head front → IsOnScreen width height head.rect →
+            result ≡ Got head (length front) }
         ensures front { (n : ℕ) → 0 < n → length bytes.now + n ≡ 12 → result ≡ More n }
-        ensures unknown { 12 ≤ length bytes.now → IsNoEncoding (s32_at 8 bytes.now) → result ≡ Bad (UnknownEncoding (s32_at 8 bytes.now)) }
+        ensures unknown { 12 ≤ length bytes.now → IsNoEncoding (s32_at 8 bytes.now) →
+            result ≡ Bad (UnknownEncoding (s32_at 8 bytes.now)) }
         ensures outside { (head : RectHead) (front rest : List ℕ) → bytes.now ≡ front ++ rest →
-            SpellsRectHead head front → (IsOnScreen width height head.rect → ⊥) → result ≡ Bad RectOutside }
+            SpellsRectHead head front → (IsOnScreen width height head.rect → ⊥) →
+            result ≡ Bad RectOutside }
     {
         if bytes.len() < HEAD_SIZE {
             return Read::More(HEAD_SIZE - bytes.len());
@@ -76,7 +80,8 @@ impl RectHead {
     /// bytes go on as another's.
     pub fn spellings_are_apart()
         ensures { (head other : RectHead) (front rest : List ℕ) →
-            SpellsRectHead head front → SpellsRectHead other (front ++ rest) → (other ≡ head) × (rest ≡ []) }
+            SpellsRectHead head front → SpellsRectHead other (front ++ rest) →
+            (other ≡ head) × (rest ≡ []) }
     {}
 }
 

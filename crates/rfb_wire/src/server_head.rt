@@ -42,7 +42,8 @@ impl ServerHead {
     /// other byte is ever wrong. Padding is ignored.
     pub fn read(bytes: &[u8]) -> Read<ServerHead>
         // What it tells is so.
-        ensures got { IfGot result (λ head used. (used ≤ length bytes.now) × SpellsServerHead head (take used bytes.now)) }
+        ensures got { IfGot result (λ head used. (used ≤ length bytes.now) ×
+            SpellsServerHead head (take used bytes.now)) }
         ensures more { IfMore result (λ n. Misses SpellsServerHead n bytes.now) }
         ensures bad { IfBad result (λ fault. IsUnknown SpellsServerHead fault bytes.now) }
 
@@ -51,9 +52,11 @@ impl ServerHead {
         ensures head { (head : ServerHead) (front rest : List ℕ) → bytes.now ≡ front ++ rest →
             SpellsServerHead head front → result ≡ Got head (length front) }
         ensures empty { bytes.now ≡ [] → result ≡ More 1 }
-        ensures front { (head : ServerHead) (missing : List ℕ) → 0 < length bytes.now → 0 < length missing →
+        ensures front { (head : ServerHead) (missing : List ℕ) → 0 < length bytes.now →
+            0 < length missing →
             SpellsServerHead head (bytes.now ++ missing) → result ≡ More (length missing) }
-        ensures unknown { (first : ℕ) (rest : List ℕ) → bytes.now ≡ first ∷ rest → BeginsNone SpellsServerHead first → result ≡ Bad (UnknownMessage first) }
+        ensures unknown { (first : ℕ) (rest : List ℕ) → bytes.now ≡ first ∷ rest →
+            BeginsNone SpellsServerHead first → result ≡ Bad (UnknownMessage first) }
     {
         let Some(&kind) = bytes.first() else {
             return Read::More(1);
@@ -115,15 +118,19 @@ impl ServerHead {
     /// head's bytes go on as another's.
     pub fn spellings_are_apart()
         ensures { (head other : ServerHead) (front rest : List ℕ) →
-            SpellsServerHead head front → SpellsServerHead other (front ++ rest) → (other ≡ head) × (rest ≡ []) }
+            SpellsServerHead head front → SpellsServerHead other (front ++ rest) →
+            (other ≡ head) × (rest ≡ []) }
     {}
 
     /// A law about `SpellsServerHead`, with nothing to run: a head has as many bytes as its type byte asks
     /// for, and as many bytes as their first asks for are always a head.
     pub fn type_tells_the_size()
         ensures size { (head : ServerHead) (bytes : List ℕ) →
-            SpellsServerHead head bytes → server_head_size (slice_index bytes 0) ≡ Some (length bytes) }
-        ensures whole { (bytes : List ℕ) → server_head_size (slice_index bytes 0) ≡ Some (length bytes) → (head : ServerHead) × SpellsServerHead head bytes }
+            SpellsServerHead head bytes →
+            server_head_size (slice_index bytes 0) ≡ Some (length bytes) }
+        ensures whole { (bytes : List ℕ) →
+            server_head_size (slice_index bytes 0) ≡ Some (length bytes) →
+            (head : ServerHead) × SpellsServerHead head bytes }
     {}
 }
 
