@@ -1,5 +1,5 @@
 -- The cover of a block over its background: subrectangles that with it show the block.
-use Rattle.std.specs.Prelude.{◌≡◌, ◌≢◌, ℕ, ◌+◌, ◌*◌, ◌<◌, List, [], ◌∷◌, length, slice_index}
+use Rattle.std.specs.Prelude.{◌≡◌, ◌≢◌, ℕ, ◌+◌, ◌*◌, ◌<◌, ◌≤◌, List, [], ◌∷◌, length, slice_index}
 use Rattle.rfb_wire.specs.RectHead.{IsOnScreen}
 use Rattle.rfb_codec.specs.declared.subrect.Subrect.{Subrect}
 use Rattle.rfb_codec.specs.Rre.{pixel_at}
@@ -26,3 +26,14 @@ ArePartsOf width height pixels background (s ∷ subs) = IsPartOf width height p
 pub record IsCover (width height : ℕ) (pixels : List ℕ) (background : ℕ) (subs : List Subrect) : Type 0 where
   pub parts : ArePartsOf width height pixels background subs
   pub shows : (x y : ℕ) → x < width → y < height → pixel_at background subs x y ≡ slice_index pixels (y * width + x)
+
+-- ---- the rule's choices
+
+-- the place has that pixel, and no subrectangle so far reaches down to it: until has the first row of
+-- each column that none reaches
+abbrev pub IsOpen : ℕ → List ℕ → List ℕ → ℕ → ℕ → ℕ → Type 0
+IsOpen width pixels until pixel x y = (slice_index pixels (y * width + x) ≡ pixel) × (slice_index until x ≤ y)
+
+-- all places of row y from column x up to end have that pixel
+abbrev pub HasRun : ℕ → List ℕ → ℕ → ℕ → ℕ → ℕ → Type 0
+HasRun width pixels pixel x end y = (i : ℕ) → x ≤ i → i < end → slice_index pixels (y * width + i) ≡ pixel

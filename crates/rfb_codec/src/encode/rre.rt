@@ -72,11 +72,15 @@ fn encode_with<const N: usize>(block: &Block, format: &Format, out: &mut Vec<u8>
 {
     let pixels = block.pixels();
     let (width, height) = (usize::from(block.width()), usize::from(block.height()));
-    let background = background_of(pixels);
     let size = format.size();
     let raw = height * width * size;
-    // More subrectangles than that have as many bytes by themselves.
+    // More subrectangles than that have as many bytes by themselves, and each pixel but the background
+    // needs one.
     let limit = raw / (size + 8);
+    let background = match background_of(pixels, limit + 1) {
+        Some(background) => background,
+        None => return false,
+    };
     let mut subs: ArrayVec<Subrect, N> = ArrayVec::new();
     if !cover(pixels, width, height, background, limit, &mut subs) {
         return false;

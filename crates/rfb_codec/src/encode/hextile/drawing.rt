@@ -8,7 +8,7 @@ ghost use Rattle.rfb_codec.specs.Carried.{Sends};
 use super::carried::{Carried, named};
 use super::colours::{Colours, colours_of};
 use super::spelling::spelled_length;
-use crate::encode::background::background_within;
+use crate::encode::background::background_of;
 use crate::encode::cover::cover;
 use crate::subrect::Subrect;
 use crate::tiles::TileLayout;
@@ -110,7 +110,7 @@ fn over_background(
         }
         Colours::More => {
             let limit = 255.min(room / (format.size() + 2));
-            let background = background_within(pixels, limit + 1)?;
+            let background = background_of(pixels, limit + 1)?;
             if !cover(pixels, width, height, background, limit, subs) {
                 return None;
             }

@@ -21,11 +21,11 @@ pub returns-clause-spelled : goal.returns-clause-spelled
 returns-clause-spelled g c =
     let f = c.args.format.now in
     let block = c.args.block.now in
-    let background = c.background_of-background.result in
+    let background = c.in-Some.background in
     let subs = c.cover.new.subs.items in
     let head = rre_head f (length subs) background in
     let list = flat_map (subrect_bytes f) subs in
-    let plain : IsPixelOf block.places background = rw c.pixels-pixels.ensures.value at c.background_of-background.ensures in
+    let plain : IsPixelOf block.places background = rw c.pixels-pixels.ensures.value at c.in-Some.ensures in
     let cover : IsCover block.width block.height block.places background subs = rw (c.from-width.ensures, c.width.ensures.value, c.from-height.ensures, c.height.ensures.value, c.pixels-pixels.ensures.value) at c.if-not-cover.ensures.cover in
     let few : length subs < 2 ^ 32 = omega arith in
     let count : c.len.result ≡ length subs = c.len.ensures.value in

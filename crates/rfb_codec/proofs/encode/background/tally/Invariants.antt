@@ -1,5 +1,5 @@
 use Rattle.std.proofs.Common.{◌<◌, ◌-◌, length}
-use Rattle.rfb_codec.proofs.encode.background.most_frequent.Given as goal
+use Rattle.rfb_codec.proofs.encode.background.tally.Given as goal
 
 abbrev pub invariant-loop-start : goal.invariant-loop-start
 invariant-loop-start g l = l.best < length l.pixels
