@@ -2,3 +2,4 @@ pub mod MessageLemmas
 pub mod PairLemmas
 pub mod PixmapLemmas
 pub mod RunLemmas
+pub mod ScriptLemmas

@@ -1,6 +1,9 @@
 //! The command line: what the words ask for, what is read and printed, and the exit status.
 
-ghost use Rattle.std.specs.Prelude.{◌≡◌, ◌≢◌, ◌≤◌};
+ghost use Rattle.std.specs.Prelude.{◌≡◌, ◌≢◌, ◌≤◌, map};
+ghost use Rattle.clap.specs.Faults.{fault_of};
+ghost use Rattle.clap.specs.Kinds.{FailsBy};
+ghost use Rattle.rfb.specs.CommandLine.{AreMistaken, HaveMeaning, program};
 ghost use Rattle.std.specs.IoError.{error_kind};
 ghost use Rattle.std.specs.declared.io.ErrorKind.TheVariants.{InvalidData};
 
@@ -56,7 +59,9 @@ pub fn command<P: AllocGlobal, S: AsStr, R: Read, W: Write, E: Write>(
     output: &mut W,
     errors: &mut E,
 ) -> u8
-    ensures { result ≤ 2 }
+    ensures range { result ≤ 2 }
+    ensures done { result ≡ 0 → HaveMeaning (map S.text words.now) }
+    ensures mistake { result ≡ 2 → AreMistaken (map S.text words.now) }
 {
     let alloc = rt.alloc();
     let done = match parse(alloc, words) {
@@ -98,7 +103,10 @@ pub fn without_words<E: Write>(error: io::Error, errors: &mut E) -> u8
     tell(Failure::Fault(Fault::from(error)), errors)
 }
 
-fn parse<'a, S: AsStr>(alloc: Global, words: &'a [S]) -> Result<ArgMatches<'a>, clap::Error> {
+// What the words are, or what is wrong with them.
+fn parse<'a, S: AsStr>(alloc: Global, words: &'a [S]) -> Result<ArgMatches<'a>, clap::Error>
+    ensures { FailsBy (fault_of program (map S.text words.now)) result }
+{
     let script = Command::new(alloc, "script")
         .about("Runs a script from standard input, and writes the viewer's picture as PPM")
         .after_help(LANGUAGE);

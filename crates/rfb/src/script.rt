@@ -16,10 +16,12 @@
 
 mod line;
 mod number;
+mod read;
 
 use crate::fault::{Failure, Fault};
 use crate::pair::PairEvent;
-use crate::script::line::{Line, Screen, read_line};
+use crate::script::line::{Line, Screen};
+use crate::script::read::read_line;
 use std::alloc::Global;
 
 /// A script that was read to its end and has no bad line.

@@ -1,7 +1,7 @@
 -- `decode_sized` answers `Ok` to six hexadecimal digits alone.
 use Rattle.std.proofs.Common.{◌≡◌, ◌∙◌, sym, refl, true, false}
 use Rattle.hex.proofs.HexLemmas.{IsOk-decode_sized}
-use Rattle.rfb.proofs.script.line.read_colour.Goals as goal
+use Rattle.rfb.proofs.script.read.read_colour.Goals as goal
 
 pub returns-in_err-r-clause-found : goal.returns-in_err-r-clause-found
 returns-in_err-r-clause-found c =
