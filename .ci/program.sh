@@ -3,6 +3,7 @@
 # error and status. A call is a folder of these files; what a missing one would hold is empty:
 #   args     the words behind the program's name, one a line
 #   stdin    what the program reads
+#   more     what it reads behind that: a number, and a line that comes so many times
 #   stdout   what it must print, and nothing else
 #   stderr   what it must print there, and nothing else
 #   status   the exit status that it must have
@@ -18,6 +19,12 @@ trap 'rm -rf "$room"' EXIT
 # The file of a call, or nothing.
 file() { if [ -e "$1" ]; then echo "$1"; else echo /dev/null; fi; }
 
+# What the program reads on the call $1.
+input() {
+    cat "$(file "$1/stdin")"
+    if [ -e "$1/more" ]; then yes "$(tail -n 1 "$1/more")" | head -n "$(head -n 1 "$1/more")"; fi
+}
+
 # Runs the program $1 on the call $2. It tells on standard output what is wrong.
 try() {
     local words wanted device status=0
@@ -25,11 +32,12 @@ try() {
     wanted=$(cat "$2/status")
     device=$room/stdout
     : > "$device"
+    input "$2" > "$room/stdin"
     if [ -e "$2/device" ]; then device=$(cat "$2/device"); fi
     (
         if [ -e "$2/memory" ]; then ulimit -v "$(cat "$2/memory")"; fi
         exec timeout 60 "$1" "${words[@]}"
-    ) < "$(file "$2/stdin")" > "$device" 2> "$room/stderr" || status=$?
+    ) < "$room/stdin" > "$device" 2> "$room/stderr" || status=$?
     [ "$status" = "$wanted" ] || echo "its status is $status, and not $wanted"
     local stream
     for stream in stdout stderr; do
