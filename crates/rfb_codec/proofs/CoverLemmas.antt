@@ -8,7 +8,7 @@ use Rattle.rfb_picture.proofs.GridLemmas.{place_below, contains_true}
 use Rattle.rfb_wire.specs.RectHead.{IsOnScreen}
 use Rattle.rfb_codec.specs.declared.subrect.Subrect.{Subrect}
 use Rattle.rfb_codec.specs.Rre.{pixel_at}
-use Rattle.rfb_codec.specs.Cover.{IsPartOf, ArePartsOf, IsCover}
+use Rattle.rfb_codec.specs.Cover.{IsPartOf, ArePartsOf, IsCover, IsGivenUp}
 use Rattle.rfb_codec.proofs.RreLaws.{pixel_at-last}
 
 -- ---- subrectangles
@@ -156,3 +156,13 @@ covering_all width height pixels until background subs old = record {
       let done : is_done 0 height u i j ≡ true = grind (arith, nat_tests) in
       rw done at (old.shown i j left below);
 }
+
+-- where no further one may be taken, the place that the scan stands at is not shown
+pub given_up : (width height x y limit : ℕ) (pixels until : List ℕ) (background : ℕ) (subs : List Subrect) → x < width → y < height → length subs ≡ limit →
+    slice_index pixels (y * width + x) ≢ background → slice_index until x ≤ y → Covering width height x y pixels until background subs →
+    IsGivenUp width height pixels background limit subs
+given_up width height x y limit pixels until background subs left below full other free old =
+    let u = slice_index until x in
+    let passed : is_done x y u x y ≡ false = grind (arith, nat_tests) in
+    let shown : pixel_at background subs x y ≡ background = rw passed at (old.shown x y left below) in
+    record { full = full; x = x; y = y; column = left; row = below; differs = λ same. other (sym same ∙ shown) }

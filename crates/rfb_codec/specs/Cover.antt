@@ -27,6 +27,15 @@ pub record IsCover (width height : ℕ) (pixels : List ℕ) (background : ℕ) (
   pub parts : ArePartsOf width height pixels background subs
   pub shows : (x y : ℕ) → x < width → y < height → pixel_at background subs x y ≡ slice_index pixels (y * width + x)
 
+-- as many subrectangles as that were taken, and over the background they do not show every pixel
+pub record IsGivenUp (width height : ℕ) (pixels : List ℕ) (background limit : ℕ) (subs : List Subrect) : Type 0 where
+  pub full : length subs ≡ limit
+  pub x : ℕ
+  pub y : ℕ
+  pub column : x < width
+  pub row : y < height
+  pub differs : pixel_at background subs x y ≢ slice_index pixels (y * width + x)
+
 -- ---- the rule's choices
 
 -- the place has that pixel, and no subrectangle so far reaches down to it: until has the first row of

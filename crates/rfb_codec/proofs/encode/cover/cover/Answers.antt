@@ -1,5 +1,5 @@
 use Rattle.std.proofs.Common.{arith, inl, inr, refl}
-use Rattle.rfb_codec.proofs.CoverLemmas.{covering_none, covering_passed, covering_plain, covering_taken}
+use Rattle.rfb_codec.proofs.CoverLemmas.{covering_none, covering_passed, covering_plain, covering_taken, given_up}
 use Rattle.rfb_codec.proofs.encode.cover.cover.Goals as goal
 use Rattle.rfb_codec.proofs.encode.cover.cover.Goals.{then-pixel-background+then-until-x+else-len-limit, else-pixel-background, else-pixel-background-via-then-pixel-background+else-until-x, else-pixel-background-via-else-pixel-background}
 
@@ -40,3 +40,8 @@ loop-x-preserved g c =
                 })
           ]
     ]
+
+pub returns-then-len-limit-clause-over : goal.returns-then-len-limit-clause-over
+returns-then-len-limit-clause-over g c =
+    given_up c.args.width c.args.height c.loop-x.x c.loop-y.y c.args.limit c.args.pixels.now c.loop-x.until c.args.background c.loop-x.subs.items
+    (omega arith) (omega arith) (omega (arith, c.if-len-limit.true, c.len.ensures.value)) c.if-pixel-background.true c.if-until-x.true c.loop-x.invariant.covering
