@@ -55,6 +55,13 @@ done
 for cell in noise_rgb888_raw noise_rgb888_rre noise_rgb888_hextile speckles_rgb888_rre speckles_rgb888_hextile; do
   difference "${cell##*_} of a cell of ${cell%%_*} at rgb888" rfb_codec "codec::tests::cell_$cell" "codec::tests::cell_${cell%_*}_none" 65536
 done
+for kinds in 65535 1366; do
+  for codec in rre hextile; do
+    difference "$codec of a cell of up to $kinds pixels of one slot" rfb_codec "codec::tests::cell_chosen_${kinds}_$codec" "codec::tests::cell_chosen_${kinds}_none" 65536
+  done
+done
+difference 'Block::pack of a cell at rgb888' rfb_codec codec::tests::pack_cell codec::tests::pack_none 65536
+difference 'Block::pack of one place' rfb_codec codec::tests::pack_place codec::tests::pack_none 16
 for codec in raw rre hextile; do
   difference "$codec of an office tile at rgb888" rfb_codec "codec::tests::tile_office_rgb888_$codec" codec::tests::tile_office_rgb888_none 4096
 done
