@@ -212,3 +212,16 @@ none_here words across row from to column mask x is none p l left right =
       | inl e ↦ here ∙ e
       | inr e ↦ absurd (both_ways _ e bit)
     ]
+
+-- nor are those of a word with no bit
+pub none_in_word : (words : List ℕ) (across row column x : ℕ) →
+    slice_index_or words (row * across + column) 0 ≡ 0 →
+    column * 64 ≤ x →
+    x < column * 64 + 64 →
+    has_place words across x row ≡ false
+none_in_word words across row column x none left right =
+    let place : column * 64 + (x - column * 64) ≡ x = omega arith in
+    let there = bit_of_place words across column (x - column * 64) row (omega arith) in
+    let here = rw place at there in
+    let zero : has_bit (slice_index_or words (row * across + column) 0) (x - column * 64) ≡ false = rw (none, bit_at-zero (x - column * 64)) refl in
+    here ∙ zero

@@ -8,6 +8,7 @@ use crate::words::{
     add_places, clear_column, columns_between, has_places, next_place, take_column, take_places,
 };
 use std::alloc::{AllocError, Global};
+use std::boxed::BoxedSlice;
 use std::marker::Model;
 
 /// Marks of the places of a rectangle of that size, numbered from the top left. It keeps its size;
@@ -18,13 +19,15 @@ pub(crate) struct Plane {
     height: u16,
     // How many words a row has.
     across: usize,
-    // Row after row; of a row each word has 64 places, the lowest bit the leftmost.
-    words: Vec<u64>,
+    // Row after row; of a row each word has 64 places, the lowest bit the leftmost. As a boxed slice they
+    // can't grow.
+    words: BoxedSlice<u64>,
 }
 
 impl Model for Plane {
     ghost use Rattle.std.specs.Prelude.{Bool};
     ghost use Rattle.std.specs.Coded.{coded_bool};
+    ghost use Rattle.std.specs.Box.{boxed_slice_items};
     ghost use Rattle.rfb_picture.specs.Grid.{Grid, grid_code};
     ghost use Rattle.rfb_picture.specs.Plane.{plane, IsPlane};
 
@@ -32,9 +35,9 @@ impl Model for Plane {
 
     ghost coded = { grid_code coded_bool };
 
-    ghost view = { λ s. plane s.width s.height s.across s.words.items };
+    ghost view = { λ s. plane s.width s.height s.across (boxed_slice_items s.words) };
 
-    ghost invariant = { λ s. IsPlane s.width s.height s.across s.words.items };
+    ghost invariant = { λ s. IsPlane s.width s.height s.across (boxed_slice_items s.words) };
 }
 
 impl Plane {
@@ -59,7 +62,7 @@ impl Plane {
             width,
             height,
             across,
-            words,
+            words: words.into_boxed_slice(),
         })
     }
 
@@ -124,6 +127,7 @@ impl Plane {
     }
 
     /// The column of the first marked place of row `y` from column `x` on; `None` where none is.
+    #[inline]
     pub(crate) fn next(&self, x: u16, y: u16) -> Option<u16>
         requires { y < self.now.height }
         ensures { MatchOption result (NoneInRow (is_in self.now) y x self.now.width) (λ i. IsNext (is_in self.now) y x self.now.width i) }

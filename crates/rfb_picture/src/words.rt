@@ -128,6 +128,7 @@ fn has_column(
 
 /// The first place of row `row` from column `from` up to column `to` whose bit is set, where `to` is in
 /// the row's last word.
+#[inline]
 pub(crate) fn next_place(
     words: &[u64],
     across: usize,
@@ -141,9 +142,12 @@ pub(crate) fn next_place(
     ensures { MatchOption result (NoneInRow (has_place words.now across) row from to) (λ x. IsNext (has_place words.now across) row from to x) }
 {
     for column in from / 64..across {
-        let bits = words[row * across + column] & columns_between(column, from, to);
-        if bits != 0 {
-            return Some(column * 64 + bits.trailing_zeros() as usize);
+        let word = words[row * across + column];
+        if word != 0 {
+            let bits = word & columns_between(column, from, to);
+            if bits != 0 {
+                return Some(column * 64 + bits.trailing_zeros() as usize);
+            }
         }
     }
     None

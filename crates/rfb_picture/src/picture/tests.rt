@@ -88,6 +88,28 @@ fn sixteen(alloc: Global) -> Result<Picture<u8>, AllocError>
     Ok(picture)
 }
 
+// No clause says it: a vector may grow.
+#[test]
+fn no_call_takes_more_room(rt: HostRuntime) -> Result<(), Fail> {
+    let mut picture = Picture::new(rt.alloc(), 4, 3, 0u8)?;
+    let other = Picture::new(rt.alloc(), 4, 3, 9u8)?;
+    let all = Rect {
+        x: 0,
+        y: 0,
+        w: 4,
+        h: 3,
+    };
+    assert_eq!(rt; picture.places.capacity(), 12);
+    picture.copy_from(&other);
+    assert_eq!(rt; picture.places.capacity(), 12);
+    picture.fill(all, 7);
+    picture.put_row(1, 1, &[5, 6]);
+    picture.copy(Rect { w: 3, ..all }, 1, 0);
+    picture.row_mut(0, 0, 4)[3] = 1;
+    assert_eq!(rt; picture.places.capacity(), 12);
+    Ok(())
+}
+
 #[test]
 fn lends_a_row_for_writing(rt: HostRuntime) -> Result<(), Fail> {
     let mut picture = Picture::new(rt.alloc(), 4, 3, 0u8)?;

@@ -22,6 +22,7 @@ impl Layers {
     }
 
     // The same in one row of cells. A cell that `other` does not use costs nothing here.
+    #[inline]
     fn take_row(&mut self, other: &Layers, row: u16)
         requires sound { IsLayers self.old }
         requires sound_other { IsLayers other.now }

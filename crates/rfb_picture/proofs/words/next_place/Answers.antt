@@ -1,7 +1,8 @@
 use Rattle.std.proofs.Common.{◌+◌, ◌*◌, slice_index_or, arith, inl, inr}
 use Rattle.std.specs.Int.Bits.{and_lt}
 use Rattle.std.proofs.lemmas.Bool.{cases_lt}
-use Rattle.rfb_picture.proofs.TakenWordLemmas.{next_here, none_here}
+use Rattle.rfb_picture.proofs.TakenWordLemmas.{next_here, none_here, none_in_word}
+use Rattle.rfb_picture.proofs.words.next_place.Goals.{then-word-ne0+else-bits-ne0, else-word-ne0}
 use Rattle.rfb_picture.proofs.words.next_place.Goals as goal
 
 pub returns-then-bits-ne0 : goal.returns-then-bits-ne0
@@ -18,5 +19,8 @@ loop-column-preserved c =
     λ x p l before.
     elim (cases_lt x (column * 64)) [
       | inl left ↦ c.loop-column.invariant x p l left
-      | inr right ↦ none_here c.args.words.now c.args.across c.args.row c.args.from c.args.to column c.columns_between.result x c.columns_between.ensures c.if-bits-ne0.false p l right (omega arith)
+      | inr right ↦ elim c.if-word-ne0.branch [
+        | then-word-ne0+else-bits-ne0 w ↦ none_here c.args.words.now c.args.across c.args.row c.args.from c.args.to column w.columns_between.result x w.columns_between.ensures w.if-bits-ne0.false p l right (omega arith)
+        | else-word-ne0 w ↦ none_in_word c.args.words.now c.args.across c.args.row column x w.if-word-ne0.false right (omega arith)
+      ]
     ]

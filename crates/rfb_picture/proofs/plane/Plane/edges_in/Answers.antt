@@ -10,4 +10,4 @@ returns c =
     let room = rw (← c.self.view_is) at c.requires.room in
     let found = rw c.deref.ensures.value at c.edges_in.ensures in
     rw (← c.self.view_is)
-    (edges-plane c.self.inside.width c.self.inside.height c.self.inside.across c.self.inside.words.items c.args.zone c.edges_in.result room found)
+    (edges-plane c.self.inside.width c.self.inside.height c.self.inside.across c.self.inside.words.items.items c.args.zone c.edges_in.result room found)

@@ -32,6 +32,6 @@ returns c =
     let row = rw (← c.self.view_is) at c.requires.row in
     let within = place_word_below _ _ c.self.inside.across _ c.args.x c.args.y c.self.invariant column row in
     let is = rw (c.from.ensures, c.from-2.ensures) at c.index-word.ensures in
-    let read = get_or_read c.self.inside.words.items (c.args.y * c.self.inside.across + c.args.x / 64) c.index-word.result.now within is 0 in
-    rw (← c.self.view_is, at-plane c.self.inside.width c.self.inside.height c.self.inside.across c.self.inside.words.items c.args.x c.args.y false column row, shr_and_one)
+    let read = get_or_read c.self.inside.words.items.items (c.args.y * c.self.inside.across + c.args.x / 64) c.index-word.result.now within is 0 in
+    rw (← c.self.view_is, at-plane c.self.inside.width c.self.inside.height c.self.inside.across c.self.inside.words.items.items c.args.x c.args.y false column row, shr_and_one)
     (ap (λ n. has_bit n (c.args.x % 64)) read)

@@ -6,6 +6,6 @@ returns c =
     let room = rw (← c.self.view_is) at c.requires in
     let has = rw c.deref.ensures.value at c.has_places.ensures in
     rw (← c.self.view_is) (
-      λ yes. all-plane _ _ _ c.self.inside.words.items c.args.rect room (has.0 yes),
-      λ all. has.1 (all-words _ _ _ c.self.inside.words.items c.args.rect room all),
+      λ yes. all-plane _ _ _ c.self.inside.words.items.items c.args.rect room (has.0 yes),
+      λ all. has.1 (all-words _ _ _ c.self.inside.words.items.items c.args.rect room all),
     )
