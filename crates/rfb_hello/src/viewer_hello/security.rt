@@ -1,13 +1,12 @@
 //! What a viewer takes of a server up to ServerInit: its version, the security types and the result.
 
-ghost use Rattle.std.specs.Prelude.{◌≡◌, ◌≢◌, ◌≤◌, ◌<◌, ℕ, [], ◌∷◌, length, take, true, IfOk, IfErr, Some, None, Ok, Err, Bool};
+ghost use Rattle.std.specs.Prelude.{◌≡◌, ◌≤◌, ◌<◌, ℕ, [], ◌∷◌, length, take, true, IfOk, IfErr, Some, None, Ok, Bool};
 ghost use Rattle.arrayvec.specs.ArrayVec.{ArrayVec as Items};
 ghost use Rattle.rfb_wire.specs.End.{StepsBy};
 ghost use Rattle.rfb_hello.specs.Version.{lower};
 ghost use Rattle.rfb_hello.specs.ViewerEnd.{ViewerSetup, viewer_end, choice_bytes, shared_flag};
 ghost use Rattle.rfb_hello.specs.ViewerStanding.{KeepsReason, RunsOutAs, StandsFor, StepsAs, fault_of, is_open, setup_of};
 ghost use Rattle.rfb_hello.specs.ViewerProgress.{progress_behind_version, progress_behind_types};
-ghost use Rattle.rfb_hello.specs.declared.fault.HelloFault.TheVariants.{NoMemory};
 ghost use Rattle.rfb_hello.specs.declared.viewer_hello.progress.Progress.{Progress};
 
 use crate::fault::HelloFault;

@@ -1,13 +1,12 @@
 //! What a viewer takes of a server with its texts: a reason, and ServerInit with the name.
 
-ghost use Rattle.std.specs.Prelude.{◌≡◌, ◌≢◌, ◌≤◌, ◌<◌, ℕ, [], length, take, true, IfOk, IfErr, Some, None, Ok, Err};
+ghost use Rattle.std.specs.Prelude.{◌≡◌, ◌≤◌, ◌<◌, ℕ, [], length, take, true, IfOk, IfErr, Some, None};
 ghost use Rattle.arrayvec.specs.ArrayVec.{ArrayVec as Items};
 ghost use Rattle.rfb_hello.specs.KeptText.{KeptText, kept_of};
 ghost use Rattle.rfb_hello.specs.ServerReading.{screen_fault};
 ghost use Rattle.rfb_hello.specs.ViewerEnd.{told_of_init};
-ghost use Rattle.rfb_hello.specs.ViewerStanding.{KeepsReason, RunsOutAs, StandsFor, StepsAs, fault_of, is_open, setup_of};
+ghost use Rattle.rfb_hello.specs.ViewerStanding.{KeepsReason, RunsOutAs, StepsAs, fault_of, is_open, setup_of};
 ghost use Rattle.rfb_hello.specs.ViewerProgress.{progress_behind_init};
-ghost use Rattle.rfb_hello.specs.declared.fault.HelloFault.TheVariants.{NoMemory};
 ghost use Rattle.rfb_hello.specs.declared.viewer_hello.progress.Progress.{Progress};
 ghost use Rattle.rfb_hello.specs.declared.viewer_hello.progress.Cause.{Cause};
 
