@@ -38,8 +38,10 @@ pub trait Codec {
         requires pixels { HasPixels format.now block.now }
         requires room { vec_len out.old + raw_of format.now block.now ≤ vec_capacity out.old }
 
-        ensures spelled { OnTrue result (Appends stands format.now block.now out.old.items out.new.items) }
-        ensures shorter { OnTrue (shortens encoding) (OnTrue result (vec_len out.new < vec_len out.old + raw_of format.now block.now)) }
+        ensures spelled { OnTrue result
+            (Appends stands format.now block.now out.old.items out.new.items) }
+        ensures shorter { OnTrue (shortens encoding)
+            (OnTrue result (vec_len out.new < vec_len out.old + raw_of format.now block.now)) }
         ensures kept { OnFalse result (out.new.items ≡ out.old.items) }
         ensures room { vec_capacity out.new ≡ vec_capacity out.old };
 
@@ -47,7 +49,8 @@ pub trait Codec {
     ghost numbered: { number_of encoding ≡ NUMBER };
 
     // What stands for a block is, under the head of a rectangle of its size, data of the encoding.
-    ghost read_back: { (f : PixelFormat) (width height : ℕ) (rect : Rect) (block : Grid ℕ) (bytes : List ℕ) →
+    ghost read_back: { (f : PixelFormat) (width height : ℕ) (rect : Rect)
+        (block : Grid ℕ) (bytes : List ℕ) →
         IsSized rect.w rect.h block → stands f block bytes →
         SpellsData f width height rect encoding (Pixels block) bytes };
 }

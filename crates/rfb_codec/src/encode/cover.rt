@@ -89,8 +89,12 @@ fn take_from(
     ensures inside { IsOnScreen width height result }
     ensures same { (i j : ℕ) → x ≤ i → i < x + result.w → y ≤ j → j < y + result.h → slice_index pixels.now (j * width + i) ≡ slice_index pixels.now (y * width + x) }
     ensures uncovered { (i : ℕ) → x ≤ i → i < x + result.w → slice_index until.old i ≤ y }
-    ensures longest { x + result.w < width → IsOpen width pixels.now until.old (slice_index pixels.now (y * width + x)) (x + result.w) y → ⊥ }
-    ensures lowest { y + result.h < height → HasRun width pixels.now (slice_index pixels.now (y * width + x)) x (x + result.w) (y + result.h) → ⊥ }
+    ensures longest { x + result.w < width →
+        IsOpen width pixels.now until.old (slice_index pixels.now (y * width + x))
+        (x + result.w) y → ⊥ }
+    ensures lowest { y + result.h < height →
+        HasRun width pixels.now (slice_index pixels.now (y * width + x))
+        x (x + result.w) (y + result.h) → ⊥ }
     ensures noted { (i : ℕ) → i < width → slice_index until.new i ≡ (if nat_le x i && nat_lt i (x + result.w) then y + result.h else slice_index until.old i) }
 {
     let right = run_end(pixels, until, width, x, y);
@@ -124,7 +128,8 @@ fn run_end(pixels: &[u32], until: &[usize], width: usize, x: usize, y: usize) ->
     ensures within { result ≤ width }
     ensures run { (i : ℕ) → x ≤ i → i < result → slice_index pixels.now (y * width + i) ≡ slice_index pixels.now (y * width + x) }
     ensures uncovered { (i : ℕ) → x ≤ i → i < result → slice_index until.now i ≤ y }
-    ensures longest { result < width → IsOpen width pixels.now until.now (slice_index pixels.now (y * width + x)) result y → ⊥ }
+    ensures longest { result < width →
+        IsOpen width pixels.now until.now (slice_index pixels.now (y * width + x)) result y → ⊥ }
 {
     let pixel = pixels[y * width + x];
     for i in x + 1..width {
@@ -143,7 +148,8 @@ fn lower_end(pixels: &[u32], width: usize, height: usize, x: usize, right: usize
     requires first { (i : ℕ) → x ≤ i → i < right → slice_index pixels.now (y * width + i) ≡ slice_index pixels.now (y * width + x) }
     ensures some { y < result }
     ensures within { result ≤ height }
-    ensures lowest { result < height → HasRun width pixels.now (slice_index pixels.now (y * width + x)) x right result → ⊥ }
+    ensures lowest { result < height →
+        HasRun width pixels.now (slice_index pixels.now (y * width + x)) x right result → ⊥ }
     ensures same { (i j : ℕ) → x ≤ i → i < right → y ≤ j → j < result → slice_index pixels.now (j * width + i) ≡ slice_index pixels.now (y * width + x) }
 {
     let pixel = pixels[y * width + x];
@@ -159,7 +165,8 @@ fn lower_end(pixels: &[u32], width: usize, height: usize, x: usize, right: usize
 fn has_run(pixels: &[u32], start: usize, end: usize, pixel: u32) -> bool
     requires { end ≤ length pixels.now }
     ensures has { OnTrue result ((i : ℕ) → start ≤ i → i < end → slice_index pixels.now i ≡ pixel) }
-    ensures other { OnFalse result ((i : ℕ) × (start ≤ i) × (i < end) × (slice_index pixels.now i ≢ pixel)) }
+    ensures other { OnFalse result
+        ((i : ℕ) × (start ≤ i) × (i < end) × (slice_index pixels.now i ≢ pixel)) }
 {
     for i in start..end {
         if pixels[i] != pixel {

@@ -40,7 +40,8 @@ impl Codec for Raw {
 
         ensures always { IsTrue result }
         ensures spelled { OnTrue result (Appends StandsRaw format.now block.now out.old.items out.new.items) }
-        ensures shorter { OnTrue (shortens RawEncoding) (OnTrue result (vec_len out.new < vec_len out.old + raw_of format.now block.now)) }
+        ensures shorter { OnTrue (shortens RawEncoding)
+            (OnTrue result (vec_len out.new < vec_len out.old + raw_of format.now block.now)) }
         ensures kept { OnFalse result (out.new.items ≡ out.old.items) }
         ensures room { vec_capacity out.new ≡ vec_capacity out.old }
     {

@@ -1,6 +1,6 @@
 //! Whether a tile has one pixel, two, or more.
 
-ghost use Rattle.std.specs.Prelude.{◌≡◌, ℕ, ◌<◌, ◌≤◌, length, slice_index};
+ghost use Rattle.std.specs.Prelude.{◌≡◌, ◌≢◌, ℕ, ◌<◌, ◌≤◌, length, slice_index};
 ghost use Rattle.rfb_codec.specs.Colours.{HasColours};
 
 /// The pixels that a tile has.
@@ -54,6 +54,7 @@ pub fn colours_of(pixels: &[u32]) -> Colours
 fn end_of_run(pixels: &[u32], pixel: u32) -> usize
     ensures within { result ≤ length pixels.now }
     ensures run { (i : ℕ) → i < result → slice_index pixels.now i ≡ pixel }
+    ensures other { result < length pixels.now → slice_index pixels.now result ≢ pixel }
 {
     for (i, other) in pixels.iter().enumerate() {
         if *other != pixel {
