@@ -41,9 +41,17 @@ difference 'first_diff of equal rows' rfb_pixel format::tests::diff_first format
 difference 'last_diff of equal rows' rfb_pixel format::tests::diff_last format::tests::diff_none 16384
 difference 'Picture::copy down by a row' rfb_picture tests::picture_copy_down tests::picture_new $((1024 * 1023))
 difference 'Picture::copy aside by a place' rfb_picture tests::picture_copy_aside tests::picture_new $((1024 * 1023))
+difference 'Picture::fill of places of three bytes' rfb_picture tests::picture_fill tests::picture_new $((1024 * 1023))
+difference 'Picture::fill of places of four bytes' rfb_picture tests::picture_fill_words tests::picture_new_words $((1024 * 1023))
 difference 'Area::add of all' rfb_picture tests::area_add_all tests::area_new 1
 difference 'Area::add of all but a border' rfb_picture tests::area_add_most tests::area_new 1
 difference 'Area::clear' rfb_picture tests::area_clear tests::area_new 1
+for what in all place nothing; do
+  difference "PlaceSet::take_away of $what" rfb_picture "tests::set_take_$what" "tests::set_take_${what}_none" 1
+done
+difference 'PlaceSet::has_all of all but a border' rfb_picture tests::set_all_most tests::set_all_none 1
+difference 'PlaceSet::has_all of cells that are in it whole' rfb_picture tests::set_all_inside tests::set_all_none 1
+difference 'PlaceSet::row_bits of 64 rows of a cell in part' rfb_picture tests::set_bits tests::set_bits_none 64
 for cell in unused full part; do
   echo "Area::bounds_in, cell $cell: $(within rfb_picture "tests::area_bounds_$cell" '*bounds_in*')"
 done

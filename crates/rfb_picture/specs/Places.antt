@@ -1,6 +1,6 @@
 -- Sets of places: all places of a rectangle, a set without another, the places of a row as bits, and
 -- the next place of a row.
-use Rattle.std.specs.Prelude.{ℕ, Bool, true, false, ◌≡◌, ◌+◌, ◌<◌, ◌≤◌, ◌&&◌, not, nat_lt}
+use Rattle.std.specs.Prelude.{ℕ, Bool, true, false, ◌≡◌, ◌+◌, ◌<◌, ◌≤◌, ◌&&◌, not, nat_lt, Option, MatchOption}
 use Rattle.rfb_picture.specs.declared.rect.Rect.{Rect}
 use Rattle.rfb_picture.specs.Rect.{contains}
 use Rattle.rfb_picture.specs.Grid.{Grid, changed}
@@ -35,3 +35,7 @@ pub record IsNext (p : ℕ → ℕ → Bool) (y from to column : ℕ) : Type 0 w
   pub before : column < to
   pub none : NoneInRow p y from column
   pub here : p column y ≡ true
+
+-- the first marked place of row y from one column up to another is at that column, or there is none
+abbrev pub HasNext : (ℕ → ℕ → Bool) → ℕ → ℕ → ℕ → Option ℕ → Type 0
+HasNext p y from to found = MatchOption found (NoneInRow p y from to) (λ x. IsNext p y from to x)

@@ -1,5 +1,5 @@
 -- How a `Plane` holds which places are marked, as bits of words: a row is so many words across.
-use Rattle.std.specs.Prelude.{ℕ, Bool, true, false, List, ◌≡◌, ◌+◌, ◌*◌, ◌/◌, ◌%◌, ◌^◌, ◌<◌, ◌≤◌, ◌&&◌, length, nat_eq, slice_index_or}
+use Rattle.std.specs.Prelude.{ℕ, Bool, true, false, List, ◌≡◌, ◌+◌, ◌*◌, ◌/◌, ◌%◌, ◌^◌, ◌<◌, ◌≤◌, ◌&&◌, length, nat_eq, nat_le, nat_lt, not, slice_index_or}
 use Rattle.std.specs.Int.{bit_at}
 use Rattle.rfb_picture.specs.Grid.{Grid, grid, changed, uniform}
 
@@ -24,6 +24,16 @@ has_masked words across k mask y i = has_at words across y k i && has_bit mask i
 abbrev pub HasMasked : List ℕ → ℕ → ℕ → ℕ → ℕ → ℕ → Type 0
 HasMasked words across k mask from to =
     (y i : ℕ) → from ≤ y → y < to → i < 64 → has_bit mask i ≡ true → has_at words across y k i ≡ true
+
+-- word k of each row from the first up to another lost the bits that the other words have there
+abbrev pub ColumnLost : ℕ → ℕ → ℕ → ℕ → List ℕ → List ℕ → List ℕ → Type 0
+ColumnLost across column from to other old new =
+    (k y i : ℕ) → k < across → i < 64 → has_at new across y k i ≡ (has_at old across y k i && not ((nat_eq k column && (nat_le from y && nat_lt y to)) && has_at other across y k i))
+
+-- so did each word of the first rows
+abbrev pub RowsLost : ℕ → ℕ → List ℕ → List ℕ → List ℕ → Type 0
+RowsLost across rows other old new =
+    (k y i : ℕ) → k < across → y < rows → i < 64 → has_at new across y k i ≡ (has_at old across y k i && not (has_at other across y k i))
 
 -- place (x, y) is marked: a word holds 64 places of a row, the lowest bit the leftmost place
 abbrev pub has_place : List ℕ → ℕ → ℕ → ℕ → Bool

@@ -1,6 +1,6 @@
 //! A mark for each place of a picture, or for each of its cells.
 
-ghost use Rattle.std.specs.Prelude.{◌≡◌, ◌↔◌, ◌+◌, ◌*◌, ◌/◌, ◌%◌, ◌<◌, ◌≤◌, false, true, IfOk, IsTrue, MatchOption};
+ghost use Rattle.std.specs.Prelude.{◌≡◌, ◌↔◌, ◌+◌, ◌*◌, ◌/◌, ◌%◌, ◌<◌, ◌≤◌, false, true, IfOk, IsTrue};
 
 use crate::edges::{Edges, edges_in};
 use crate::rect::Rect;
@@ -45,7 +45,7 @@ impl Plane {
     ghost use Rattle.rfb_picture.specs.Box.{is_in};
     ghost use Rattle.rfb_picture.specs.Edges.{HasEdges};
     ghost use Rattle.rfb_picture.specs.Cells.{cell_at, one_cell};
-    ghost use Rattle.rfb_picture.specs.Places.{AllMarked, HasRowBits, NoneInRow, IsNext, without, without_in};
+    ghost use Rattle.rfb_picture.specs.Places.{AllMarked, HasRowBits, HasNext, without, without_in};
 
     /// No mark, at `width` by `height` places. It asks for room for all its bits, in one piece; where
     /// there is none it gives the error, and nothing is kept.
@@ -130,7 +130,7 @@ impl Plane {
     #[inline]
     pub(crate) fn next(&self, x: u16, y: u16) -> Option<u16>
         requires { y < self.now.height }
-        ensures { MatchOption result (NoneInRow (is_in self.now) y x self.now.width) (λ i. IsNext (is_in self.now) y x self.now.width i) }
+        ensures { HasNext (is_in self.now) y x self.now.width result }
     {
         let row = usize::from(y);
         let to = usize::from(self.width);

@@ -1,9 +1,9 @@
 //! Rows of words, each with a bit for 64 places: the lowest for the leftmost.
 
-ghost use Rattle.std.specs.Prelude.{◌≡◌, ◌↔◌, ℕ, ◌+◌, ◌*◌, ◌^◌, ◌<◌, ◌≤◌, ◌&&◌, ◌||◌, not, false, nat_eq, nat_le, nat_lt, length, if◌then◌else◌, IsTrue, MatchOption};
+ghost use Rattle.std.specs.Prelude.{◌≡◌, ◌↔◌, ℕ, ◌+◌, ◌*◌, ◌^◌, ◌<◌, ◌≤◌, ◌&&◌, ◌||◌, false, nat_eq, nat_le, nat_lt, length, if◌then◌else◌, IsTrue};
 ghost use Rattle.rfb_picture.specs.Rect.{contains};
-ghost use Rattle.rfb_picture.specs.Plane.{has_bit, has_at, has_place, HasMasked};
-ghost use Rattle.rfb_picture.specs.Places.{AllMarked, NoneInRow, IsNext};
+ghost use Rattle.rfb_picture.specs.Plane.{has_bit, has_at, has_place, HasMasked, ColumnLost, RowsLost};
+ghost use Rattle.rfb_picture.specs.Places.{AllMarked, HasNext};
 
 use crate::rect::Rect;
 
@@ -67,7 +67,7 @@ pub(crate) fn take_column(
     requires order { top ≤ bottom }
     requires rows { bottom * across ≤ length words.old }
     requires others { bottom * across ≤ length other.now }
-    ensures { (k y i : ℕ) → k < across → i < 64 → has_at words.new across y k i ≡ (has_at words.old across y k i && not ((nat_eq k column && (nat_le top y && nat_lt y bottom)) && has_at other.now across y k i)) }
+    ensures { ColumnLost across column top bottom other.now words.old words.new }
 {
     for row in top..bottom {
         let at = row * across + column;
@@ -79,7 +79,7 @@ pub(crate) fn take_column(
 pub(crate) fn take_places(words: &mut [u64], other: &[u64], across: usize, rows: usize)
     requires rows { rows * across ≤ length words.old }
     requires others { rows * across ≤ length other.now }
-    ensures { (k y i : ℕ) → k < across → y < rows → i < 64 → has_at words.new across y k i ≡ (has_at words.old across y k i && not (has_at other.now across y k i)) }
+    ensures { RowsLost across rows other.now words.old words.new }
 {
     for column in 0..across {
         take_column(words, other, across, column, 0, rows);
@@ -139,7 +139,7 @@ pub(crate) fn next_place(
     requires room { (to ≤ across * 64) × (across * 64 < to + 64) }
     requires small { across < 2 ^ 16 }
     requires row { (row + 1) * across ≤ length words.now }
-    ensures { MatchOption result (NoneInRow (has_place words.now across) row from to) (λ x. IsNext (has_place words.now across) row from to x) }
+    ensures { HasNext (has_place words.now across) row from to result }
 {
     for column in from / 64..across {
         let word = words[row * across + column];
