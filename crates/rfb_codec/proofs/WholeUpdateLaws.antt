@@ -9,7 +9,7 @@ use Rattle.rfb_wire.specs.ServerMessage.{ServerMessage, FramebufferUpdate, Spell
 use Rattle.rfb_codec.specs.UpdateStream.{UpdatePoint, Message, Rectangle, SpellsRectangle, SpellsNext, update_stream}
 use Rattle.rfb_codec.specs.Effect.{effect, effects, IsAlike, Agrees, noted}
 use Rattle.rfb_codec.specs.WholeUpdate.{SentRect, item_of, SpellsRectangles, SpellsWholeUpdate, update_of, AreNoted}
-use Rattle.rfb_codec.proofs.EffectLaws.{IsKept, effect_picture, noted_kept, agrees_item}
+use Rattle.rfb_codec.proofs.EffectLaws.{effect_picture, noted_kept, agrees_item}
 use Rattle.rfb_codec.proofs.UpdateStreamLaws.{update_spelled}
 
 -- a rectangle does not depend on how many are left
