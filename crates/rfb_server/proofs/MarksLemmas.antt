@@ -1,8 +1,8 @@
 -- Marks, where a session is made and where its screen is drawn.
-use Rattle.std.proofs.Common.{◌≡◌, ℕ, ◌<◌, Bool, true, false, Option, Some, None, if◌then◌else◌, ◌≤◌, ◌+◌, refl, sym, ◌∙◌, arith, nat_lt, nat_le}
+use Rattle.std.proofs.Common.{◌≡◌, ℕ, ◌<◌, Bool, true, false, Option, Some, None, if◌then◌else◌, ◌≤◌, ◌+◌, refl, sym, ◌∙◌, arith}
 use Rattle.std.proofs.lemmas.Bool.Decides.{nat_tests}
 use Rattle.rfb_pixel.specs.declared.colour.Colour.{Colour}
-use Rattle.rfb_pixel.specs.Format.{PixelFormat, pixel_of}
+use Rattle.rfb_pixel.specs.Format.{PixelFormat}
 use Rattle.rfb_picture.specs.declared.rect.Rect.{Rect}
 use Rattle.rfb_picture.specs.Rect.{contains}
 use Rattle.rfb_picture.specs.Grid.{Grid, IsGrid, at_or, changed, filled, uniform}
@@ -47,7 +47,7 @@ caught_unseen screen known area form marks all =
     true_false e = cc
 
 -- a place that is not marked behind a rectangle was not before, and lies outside
-unmarked : (marks : Grid Bool) (rect : Rect) (x y : ℕ) → IsGrid marks → x < marks.width → y < marks.height →
+pub unmarked : (marks : Grid Bool) (rect : Rect) (x y : ℕ) → IsGrid marks → x < marks.width → y < marks.height →
     is_in (filled rect true marks) x y ≡ false → (contains rect x y ≡ false) × (is_in marks x y ≡ false)
 unmarked marks rect x y whole p q e = split (contains rect x y) (is_in marks x y) (sym (at-filled rect true marks x y false whole p q) ∙ e)
   where
@@ -91,7 +91,7 @@ outside_changed rect f picture whole stays =
       same = λ x y p q e. at-changed f picture x y black whole p q ∙ stays x y (at_or picture x y black) e;
     }
 
-contained : (r : Rect) (x y : ℕ) → r.x ≤ x → x < r.x + r.w → r.y ≤ y → y < r.y + r.h → contains r x y ≡ true
+pub contained : (r : Rect) (x y : ℕ) → r.x ≤ x → x < r.x + r.w → r.y ≤ y → y < r.y + r.h → contains r x y ≡ true
 contained r x y a b c d = grind (arith, nat_tests)
 
 -- each place of a screen lies in the rectangle of its size

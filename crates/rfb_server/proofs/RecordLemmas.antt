@@ -1,9 +1,16 @@
 -- A record by its pixels and its set of known places.
-use Rattle.std.proofs.Common.{◌≡◌, ℕ, ◌<◌, Bool, false, Option, Some, None, if◌then◌else◌, sym, ◌∙◌, refl}
-use Rattle.rfb_picture.specs.Grid.{Grid, IsGrid, at_or, uniform}
+use Rattle.std.proofs.Common.{◌≡◌, ℕ, ◌<◌, ◌≤◌, ◌+◌, ◌-◌, ◌*◌, ◌||◌, Bool, true, false, Option, Some, None, if◌then◌else◌, List, length, ap, sym, ◌∙◌, refl, arith, zero-add}
+use Rattle.std.proofs.lemmas.Bool.Decides.{nat_tests}
+use Rattle.std.specs.Prelude.{slice_index_or}
+use Rattle.std.proofs.lemmas.List.{get_or_default}
+use Rattle.rfb_picture.specs.declared.rect.Rect.{Rect}
+use Rattle.rfb_picture.specs.Rect.{contains}
+use Rattle.rfb_picture.specs.Grid.{Grid, IsGrid, Holds, at_or, uniform, filled, copied, row_of, with_row}
+use Rattle.rfb_codec.specs.RectData.{moved_to}
 use Rattle.rfb_picture.specs.Box.{is_in}
-use Rattle.rfb_picture.proofs.GridLemmas.{at-changed, width-changed, height-changed, whole-changed, at-uniform, width-uniform, height-uniform, whole-uniform, same_grid}
-use Rattle.rfb_server.specs.Record.{forgotten, record_of}
+use Rattle.rfb_picture.proofs.GridLemmas.{at-changed, width-changed, height-changed, whole-changed, at-uniform, width-uniform, height-uniform, whole-uniform, same_grid, place_below, contains_more, contains_true, at-with_row, at-filled, slice_index_or-row_of}
+use Rattle.rfb_codec.specs.Effect.{IsRecorded}
+use Rattle.rfb_server.specs.Record.{AreKnown, forgotten, record_of}
 
 -- the size of a record is that of its pixels
 pub width-record_of : (pixels : Grid ℕ) (known : Grid Bool) → (record_of pixels known).width ≡ pixels.width
@@ -49,3 +56,165 @@ pub record-forgotten : (pixels : Grid ℕ) (known : Grid Bool) →
 record-forgotten pixels known e f =
     rw (width-record_of pixels known, height-record_of pixels known, e, f)
     (record-none pixels pixels.width pixels.height refl refl)
+
+-- what stands at a place of a grid does not depend on the value for places that it has not
+at_any : (g : Grid ℕ) (x y d e : ℕ) → IsGrid g → x < g.width → y < g.height → at_or g x y d ≡ at_or g x y e
+at_any g x y d e whole p q =
+    let below = place_below g.width g.height x y p q in
+    get_or_default g.places (y * g.width + x) d e (rw whole below)
+
+-- ---- a block put over a rectangle, row by row
+
+-- so many rows of the block were put over those of the rectangle
+pub record IsPut (rect : Rect) (rows : ℕ) (block first now : Grid ℕ) : Type 0 where
+  pub whole : IsGrid now
+  pub width : now.width ≡ first.width
+  pub height : now.height ≡ first.height
+  pub each : (x y : ℕ) → x < first.width → y < first.height →
+      at_or now x y 0 ≡ (if contains (record rect { h = rows }) x y then at_or block (x - rect.x) (y - rect.y) 0 else at_or first x y 0)
+
+none_in_no_rows : (rect : Rect) (x y : ℕ) → contains (record rect { h = 0 }) x y ≡ false
+none_in_no_rows rect x y = grind (arith, nat_tests)
+
+pub put_start : (rect : Rect) (block first : Grid ℕ) → IsGrid first → IsPut rect 0 block first first
+put_start rect block first whole = record { whole = whole; width = refl; height = refl; each = λ x y p q. rw (none_in_no_rows rect x y) refl }
+
+-- what a place of the next row is
+in_next_row : (rect : Rect) (n x y : ℕ) → contains (record { x = rect.x; y = rect.y + n; w = rect.w; h = 1 }) x y ≡ true →
+    (rect.x ≤ x) × (x - rect.x < rect.w) × (y ≡ rect.y + n)
+in_next_row rect n x y e = let h = contains_true (record { x = rect.x; y = rect.y + n; w = rect.w; h = 1 }) x y e in (h.0, omega arith, omega arith)
+
+or_true : (b : Bool) → (b || true) ≡ true
+or_true true = refl
+or_true false = refl
+
+or_false : (b : Bool) → (b || false) ≡ b
+or_false true = refl
+or_false false = refl
+
+-- one row more
+pub put_more : (rect : Rect) (n : ℕ) (block first now : Grid ℕ) (row : List ℕ) →
+    IsGrid block → block.width ≡ rect.w → n < block.height → length row ≡ rect.w →
+    row ≡ row_of block 0 n block.width →
+    IsPut rect n block first now → IsPut rect (n + 1) block first (with_row rect.x (rect.y + n) row now)
+put_more rect n block first now row sound wide below long is put =
+    record {
+      whole = whole-changed _ now put.whole;
+      width = width-changed _ now ∙ put.width;
+      height = height-changed _ now ∙ put.height;
+      each = λ x y p q.
+          let p' : x < now.width = rw (put.width) p in
+          let q' : y < now.height = rw (put.height) q in
+          let written = at-with_row rect.x (rect.y + n) row now x y 0 put.whole p' q' in
+          written ∙ by_row x y (contains (record { x = rect.x; y = rect.y + n; w = length row; h = 1 }) x y) refl (put.each x y p q);
+    }
+  where
+    by_row : (x y : ℕ) (here : Bool) → contains (record { x = rect.x; y = rect.y + n; w = length row; h = 1 }) x y ≡ here →
+        at_or now x y 0 ≡ (if contains (record rect { h = n }) x y then at_or block (x - rect.x) (y - rect.y) 0 else at_or first x y 0) →
+        (if here then slice_index_or row (x - rect.x) (at_or now x y 0) else at_or now x y 0)
+        ≡ (if contains (record rect { h = n + 1 }) x y then at_or block (x - rect.x) (y - rect.y) 0 else at_or first x y 0)
+    by_row x y true e before =
+        let there : contains (record { x = rect.x; y = rect.y + n; w = rect.w; h = 1 }) x y ≡ true = rw (← long) e in
+        let place = in_next_row rect n x y there in
+        let inside : contains (record rect { h = n + 1 }) x y ≡ true = rw (contains_more rect n x y, there) (or_true (contains (record rect { h = n }) x y)) in
+        let row_is : y - rect.y ≡ n = omega (arith, place.2) in
+        let shown : x - rect.x < block.width = rw wide place.1 in
+        rw (inside, row_is, is)
+        (slice_index_or-row_of block 0 n block.width (x - rect.x) (at_or now x y 0) shown
+        ∙ (ap (λ (k : ℕ). at_or block k n (at_or now x y 0)) (zero-add (x - rect.x)) ∙ at_any block (x - rect.x) n _ 0 sound shown below))
+    by_row x y false e before =
+        let there : contains (record { x = rect.x; y = rect.y + n; w = rect.w; h = 1 }) x y ≡ false = rw (← long) e in
+        let same : contains (record rect { h = n + 1 }) x y ≡ contains (record rect { h = n }) x y = contains_more rect n x y ∙ (rw there (or_false (contains (record rect { h = n }) x y))) in
+        rw same before
+
+-- the record whose pixels and set of known places have taken a block
+pub recorded_of : (pixels now block : Grid ℕ) (known : Grid Bool) (rect : Rect) →
+    IsGrid known → known.width ≡ pixels.width → known.height ≡ pixels.height →
+    now.width ≡ pixels.width → now.height ≡ pixels.height →
+    ((x y : ℕ) → x < pixels.width → y < pixels.height →
+    at_or now x y 0 ≡ (if contains rect x y then at_or block (x - rect.x) (y - rect.y) 0 else at_or pixels x y 0)) →
+    IsRecorded rect block (record_of pixels known) (record_of now (filled rect true known))
+recorded_of pixels now block known rect sound wide high width height each x y p q =
+    let pn = rw width-record_of at p in
+    let qn = rw height-record_of at q in
+    let pp : x < pixels.width = rw (← width) pn in
+    let qq : y < pixels.height = rw (← height) qn in
+    let pk : x < known.width = rw wide pp in
+    let qk : y < known.height = rw high qq in
+    at-record_of now (filled rect true known) x y None pn qn
+    ∙ (rw (at-filled rect true known x y false sound pk qk, at-record_of pixels known x y None pp qq, each x y pp qq)
+    (by_place (contains rect x y) (is_in known x y) (at_or block (x - rect.x) (y - rect.y) 0) (at_or pixels x y 0)))
+  where
+    by_place : (inside old : Bool) (fresh before : ℕ) →
+        (if (if inside then true else old) then Some (if inside then fresh else before) else None)
+        ≡ (if inside then Some fresh else (if old then Some before else None))
+    by_place true old fresh before = refl
+    by_place false true fresh before = refl
+    by_place false false fresh before = refl
+
+-- ---- a rectangle copied
+
+known_there : (b : Bool) (v w : ℕ) → (if b then Some v else None) ≡ Some w → b ≡ true
+known_there true v w h = refl
+known_there false v w h = absurd cc
+
+in_source : (to : Rect) (sx sy x y : ℕ) → to.x ≤ x → x < to.x + to.w → to.y ≤ y → y < to.y + to.h → contains (moved_to sx sy to) (sx + (x - to.x)) (sy + (y - to.y)) ≡ true
+in_source to sx sy x y a b c d = grind (arith, nat_tests)
+
+-- what is known of the source's places is known of the rectangle's from then on
+pub record_copied : (pixels : Grid ℕ) (known : Grid Bool) (to : Rect) (sx sy : ℕ) →
+    IsGrid pixels → IsGrid known → known.width ≡ pixels.width → known.height ≡ pixels.height →
+    Holds pixels (moved_to sx sy to) → AreKnown (record_of pixels known) (moved_to sx sy to) →
+    record_of (copied to sx sy pixels) (filled to true known) ≡ copied to sx sy (record_of pixels known)
+record_copied pixels known to sx sy whole sound wide high held all =
+    same_grid (record_of (copied to sx sy pixels) (filled to true known)) (copied to sx sy (record_of pixels known))
+    (whole-record_of _ _) (whole-changed _ _ (whole-record_of pixels known))
+    (left_wide ∙ sym right_wide) (left_high ∙ sym right_high) each
+  where
+    left_wide : (record_of (copied to sx sy pixels) (filled to true known)).width ≡ pixels.width
+    left_wide = width-record_of _ _ ∙ width-changed _ pixels
+
+    left_high : (record_of (copied to sx sy pixels) (filled to true known)).height ≡ pixels.height
+    left_high = height-record_of _ _ ∙ height-changed _ pixels
+
+    right_wide : (copied to sx sy (record_of pixels known)).width ≡ pixels.width
+    right_wide = width-changed _ (record_of pixels known) ∙ width-record_of pixels known
+
+    right_high : (copied to sx sy (record_of pixels known)).height ≡ pixels.height
+    right_high = height-changed _ (record_of pixels known) ∙ height-record_of pixels known
+
+    -- the source of a place of the rectangle
+    source_known : (x y : ℕ) → contains to x y ≡ true →
+        (sx + (x - to.x) < pixels.width) × (sy + (y - to.y) < pixels.height) × (is_in known (sx + (x - to.x)) (sy + (y - to.y)) ≡ true)
+    source_known x y e =
+        let h = contains_true to x y e in
+        let p : sx + (x - to.x) < pixels.width = omega (arith, held.0, h.0, h.1) in
+        let q : sy + (y - to.y) < pixels.height = omega (arith, held.1, h.2, h.3) in
+        let there = all (sx + (x - to.x)) (sy + (y - to.y)) (in_source to sx sy x y h.0 h.1 h.2 h.3) in
+        (p, q, known_there (is_in known (sx + (x - to.x)) (sy + (y - to.y))) (at_or pixels (sx + (x - to.x)) (sy + (y - to.y)) 0) there.0 (sym (at-record_of pixels known (sx + (x - to.x)) (sy + (y - to.y)) None p q) ∙ there.1))
+
+    by_place : (x y : ℕ) (d : Option ℕ) (inside : Bool) → contains to x y ≡ inside → x < pixels.width → y < pixels.height →
+        (if (if inside then true else is_in known x y) then Some (if inside then at_or pixels (sx + (x - to.x)) (sy + (y - to.y)) (at_or pixels x y 0) else at_or pixels x y 0) else None)
+        ≡ (if inside then at_or (record_of pixels known) (sx + (x - to.x)) (sy + (y - to.y)) (at_or (record_of pixels known) x y d) else at_or (record_of pixels known) x y d)
+    by_place x y d true e pp qq =
+        let s = source_known x y e in
+        sym (at-record_of pixels known (sx + (x - to.x)) (sy + (y - to.y)) (at_or (record_of pixels known) x y d) s.0 s.1
+        ∙ (rw (s.2) (ap (λ (v : ℕ). Some v) (at_any pixels (sx + (x - to.x)) (sy + (y - to.y)) 0 (at_or pixels x y 0) whole s.0 s.1))))
+    by_place x y d false e pp qq = sym (at-record_of pixels known x y d pp qq)
+
+    each : (x y : ℕ) (d : Option ℕ) → x < (record_of (copied to sx sy pixels) (filled to true known)).width → y < (record_of (copied to sx sy pixels) (filled to true known)).height →
+        at_or (record_of (copied to sx sy pixels) (filled to true known)) x y d ≡ at_or (copied to sx sy (record_of pixels known)) x y d
+    each x y d p q =
+        let pp : x < pixels.width = rw (← left_wide) p in
+        let qq : y < pixels.height = rw (← left_high) q in
+        let pc : x < (copied to sx sy pixels).width = rw (width-changed (λ i j old. if contains to i j then at_or pixels (sx + (i - to.x)) (sy + (j - to.y)) old else old) pixels) pp in
+        let qc : y < (copied to sx sy pixels).height = rw (height-changed (λ i j old. if contains to i j then at_or pixels (sx + (i - to.x)) (sy + (j - to.y)) old else old) pixels) qq in
+        let pk : x < known.width = rw wide pp in
+        let qk : y < known.height = rw high qq in
+        let pr : x < (record_of pixels known).width = rw (width-record_of pixels known) pp in
+        let qr : y < (record_of pixels known).height = rw (height-record_of pixels known) qq in
+        let left = at-record_of (copied to sx sy pixels) (filled to true known) x y d pc qc in
+        let now = at-filled to true known x y false sound pk qk in
+        let pixel = at-changed (λ i j old. if contains to i j then at_or pixels (sx + (i - to.x)) (sy + (j - to.y)) old else old) pixels x y 0 whole pp qq in
+        let right = at-changed (λ i j old. if contains to i j then at_or (record_of pixels known) (sx + (i - to.x)) (sy + (j - to.y)) old else old) (record_of pixels known) x y d (whole-record_of pixels known) pr qr in
+        left ∙ (rw (now, pixel) (by_place x y d (contains to x y) refl pp qq) ∙ sym right)

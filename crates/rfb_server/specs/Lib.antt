@@ -10,3 +10,4 @@ pub mod Marks
 pub mod Progress
 pub mod Standing
 pub mod Sessions
+pub mod Sending

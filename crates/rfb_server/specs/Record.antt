@@ -1,5 +1,7 @@
 -- What a session knows of its viewer's picture: at each place a pixel, or that it is not known.
-use Rattle.std.specs.Prelude.{◌≡◌, ℕ, Bool, Option, Some, None, if◌then◌else◌}
+use Rattle.std.specs.Prelude.{◌≡◌, ℕ, Bool, true, Option, Some, None, if◌then◌else◌}
+use Rattle.rfb_picture.specs.declared.rect.Rect.{Rect}
+use Rattle.rfb_picture.specs.Rect.{contains}
 use Rattle.rfb_picture.specs.Grid.{Grid, IsGrid, at_or, changed, uniform}
 use Rattle.rfb_picture.specs.Box.{is_in}
 use Rattle.rfb_picture.specs.Area.{Places, IsArea}
@@ -7,6 +9,11 @@ use Rattle.rfb_picture.specs.Area.{Places, IsArea}
 -- nothing is known of any place of a screen of that size
 abbrev pub forgotten : {X : Type 0} → Grid X → Grid (Option ℕ)
 forgotten g = uniform g.width g.height None
+
+-- each place of the rectangle is known
+abbrev pub AreKnown : Grid (Option ℕ) → Rect → Type 0
+AreKnown known rect =
+    (x y : ℕ) → contains rect x y ≡ true → (pixel : ℕ) × (at_or known x y None ≡ Some pixel)
 
 -- ---- how a `Record` holds it: a pixel at every place, and the set of the known places
 

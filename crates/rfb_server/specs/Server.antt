@@ -1,13 +1,11 @@
 -- What a server's session is, and what an item of its client's makes of it, RFC 6143 section 7.5.
-use Rattle.std.specs.Prelude.{ℕ, ℤ, Bool, true, false, not, ◌||◌, List, [], ◌∷◌, ◌++◌, Option, Some, None, if◌then◌else◌}
+use Rattle.std.specs.Prelude.{ℕ, not, List, [], Option, None}
 use Rattle.rfb_pixel.specs.declared.colour.Colour.{Colour}
 use Rattle.rfb_pixel.specs.Format.{PixelFormat, rgb888}
 use Rattle.rfb_picture.specs.Grid.{Grid, uniform}
 use Rattle.rfb_picture.specs.Area.{Places, no_places, added}
 use Rattle.rfb_wire.specs.declared.encoding.Encoding.{Encoding}
-use Rattle.rfb_wire.specs.declared.encoding.Encoding.TheVariants.{Raw, CopyRect, Rre, Hextile}
 use Rattle.rfb_wire.specs.ClientMessage.{ClientMessage, SetPixelFormat, SetEncodings, FramebufferUpdateRequest, KeyEvent, PointerEvent, ClientCutText}
-use Rattle.rfb_wire.specs.RectStream.{encoding_of}
 use Rattle.rfb_wire.specs.Sequel.{First, Second, past_in}
 use Rattle.rfb_wire.specs.End.{Machine}
 use Rattle.rfb_hello.specs.ClientHandshake.{AwaitsVersion}

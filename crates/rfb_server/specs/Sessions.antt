@@ -1,11 +1,20 @@
 -- What calls on a `Session` change of it.
-use Rattle.std.specs.Prelude.{◌≡◌, ℕ, ◌<◌, [], ◌∷◌, ◌++◌, true}
+use Rattle.std.specs.Prelude.{◌≡◌, ℕ, ◌<◌, Bool, [], ◌∷◌, ◌++◌, true, false}
 use Rattle.circular_buffer.specs.Buffer.{keep_last}
+use Rattle.rfb_pixel.specs.declared.colour.Colour.{Colour}
+use Rattle.rfb_pixel.specs.Format.{PixelFormat}
 use Rattle.rfb_picture.specs.declared.rect.Rect.{Rect}
-use Rattle.rfb_picture.specs.Grid.{filled}
+use Rattle.rfb_picture.specs.Grid.{Grid, filled}
+use Rattle.rfb_picture.specs.Area.{added}
+use Rattle.rfb_codec.specs.Effect.{IsAlike}
 use Rattle.rfb_picture.specs.Box.{is_in}
+use Rattle.rfb_hello.specs.ServerEnd.{as_reply}
+use Rattle.rfb_hello.specs.ServerStanding.{setup_of, is_open}
+use Rattle.rfb_server.specs.Record.{forgotten}
+use Rattle.rfb_server.specs.Marks.{IsCaughtUp}
 use Rattle.rfb_server.specs.declared.hint.Hint.{Hint}
 use Rattle.rfb_server.specs.declared.session.Session.{Session}
+use Rattle.rfb_server.specs.declared.session.progress.Progress.TheVariants.{Handshake, Head}
 
 -- all but marks and hints is as it was
 pub record IsSame (old new : Session) : Type 0 where
@@ -32,3 +41,74 @@ pub record IsHinted (hint : Hint) (old new : Session) : Type 0 where
   pub same : IsSame old new
   pub marks : new.marks ≡ old.marks
   pub hints : new.hints.items ≡ keep_last 16 (old.hints.items ++ hint ∷ [])
+
+-- the handshake's end was fed, and its progress is the session's: while it goes on the session is in the
+-- handshake, and once it is done between two messages
+pub record IsGreeted (old new : Session) : Type 0 where
+  pub setup : setup_of new.hello ≡ setup_of old.hello
+  pub goes : is_open new.hello ≡ true → new.progress ≡ Handshake
+  pub done : is_open new.hello ≡ false → new.progress ≡ Head (as_reply [])
+  pub text_limit : new.text_limit ≡ old.text_limit
+  pub format : new.format ≡ old.format
+  pub encodings : new.encodings ≡ old.encodings
+  pub known : new.known ≡ old.known
+  pub area : new.area ≡ old.area
+  pub marks : new.marks ≡ old.marks
+  pub hints : new.hints ≡ old.hints
+
+-- the session goes on as its handshake's end does: in the handshake while that goes on, and once it is
+-- done between two messages
+pub record GoesOn (old new : Session) : Type 0 where
+  pub hello : new.hello ≡ old.hello
+  pub goes : is_open new.hello ≡ true → new.progress ≡ Handshake
+  pub done : is_open new.hello ≡ false → new.progress ≡ Head (as_reply [])
+  pub text_limit : new.text_limit ≡ old.text_limit
+  pub format : new.format ≡ old.format
+  pub encodings : new.encodings ≡ old.encodings
+  pub known : new.known ≡ old.known
+  pub area : new.area ≡ old.area
+  pub marks : new.marks ≡ old.marks
+  pub hints : new.hints ≡ old.hints
+
+-- a message comes next
+pub record BeginsMessage (old new : Session) : Type 0 where
+  pub hello : new.hello ≡ old.hello
+  pub progress : new.progress ≡ Head (as_reply [])
+  pub text_limit : new.text_limit ≡ old.text_limit
+  pub format : new.format ≡ old.format
+  pub encodings : new.encodings ≡ old.encodings
+  pub known : new.known ≡ old.known
+  pub area : new.area ≡ old.area
+  pub marks : new.marks ≡ old.marks
+  pub hints : new.hints ≡ old.hints
+
+-- whatever the screen looks like, a session that had caught up with it still has
+abbrev pub StaysCaughtUp : Session → Session → Type 0
+StaysCaughtUp old new =
+    (screen : Grid Colour) → IsAlike screen old.known →
+    IsCaughtUp screen old.known old.area old.format old.marks →
+    IsCaughtUp screen new.known new.area new.format new.marks
+
+-- the rectangle's places were asked for, and whole if that was asked
+pub record IsAskedFor (rect : Rect) (whole : Bool) (old new : Session) : Type 0 where
+  pub hello : new.hello ≡ old.hello
+  pub progress : new.progress ≡ old.progress
+  pub text_limit : new.text_limit ≡ old.text_limit
+  pub format : new.format ≡ old.format
+  pub encodings : new.encodings ≡ old.encodings
+  pub known : new.known ≡ old.known
+  pub hints : new.hints ≡ old.hints
+  pub area : new.area ≡ added rect whole old.area
+  pub caught_up : StaysCaughtUp old new
+
+-- updates are sent in that format, and nothing is known that was sent
+pub record HasFormat (form : PixelFormat) (old new : Session) : Type 0 where
+  pub hello : new.hello ≡ old.hello
+  pub progress : new.progress ≡ old.progress
+  pub text_limit : new.text_limit ≡ old.text_limit
+  pub format : new.format ≡ form
+  pub encodings : new.encodings ≡ old.encodings
+  pub known : new.known ≡ forgotten old.known
+  pub hints : new.hints ≡ old.hints
+  pub area : new.area ≡ old.area
+  pub caught_up : StaysCaughtUp old new

@@ -2,6 +2,7 @@
 -- has.
 use Rattle.std.specs.Prelude.{◌≡◌, ℕ, List, Option}
 use Rattle.rfb_pixel.specs.declared.colour.Colour.{Colour}
+use Rattle.rfb_picture.specs.declared.rect.Rect.{Rect}
 use Rattle.rfb_picture.specs.Grid.{Grid}
 use Rattle.rfb_hello.specs.declared.version.Version.{Version}
 use Rattle.rfb_hello.specs.ServerStanding.{setup_of}
@@ -48,6 +49,10 @@ fault_of server = fault_in server.session.progress
 -- the state with another screen
 abbrev pub with_screen : Grid Colour → ServerState → ServerState
 with_screen screen s = record s { screen = screen }
+
+-- so many places of row y, from column x on
+abbrev pub row_from : ℕ → ℕ → ℕ → Rect
+row_from x y n = record { x = x; y = y; w = n; h = 1 }
 
 -- a drawing gave it this screen, and changed nothing else that it stands for
 pub record Draws (screen : Grid Colour) (old new : Server) : Type 0 where

@@ -83,3 +83,6 @@ impl ServerFault {
 #[derive(Clone, Copy, Debug, PartialEq, Eq, Error)]
 #[error("24 Outside")]
 pub struct Outside;
+
+#[cfg(test)]
+mod tests;

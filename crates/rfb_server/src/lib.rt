@@ -11,6 +11,7 @@ mod fault;
 mod hint;
 pub mod law;
 mod record;
+mod sending;
 mod server;
 mod session;
 

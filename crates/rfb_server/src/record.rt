@@ -2,6 +2,8 @@
 
 ghost use Rattle.std.specs.Prelude.{◌≡◌, ◌<◌, None, IfOk};
 
+mod taking;
+
 use rfb_picture::{Area, Picture};
 use std::alloc::{AllocError, Global};
 use std::marker::Model;

@@ -1,6 +1,6 @@
 //! A server: a screen and a session.
 
-ghost use Rattle.std.specs.Prelude.{◌≡◌, ◌≤◌, ◌↔◌, [], length, IfOk, OnOk, OnErr, IsErr};
+ghost use Rattle.std.specs.Prelude.{◌≡◌, ◌≤◌, ◌↔◌, ℕ, List, [], length, IfOk, OnOk, OnErr, IsErr};
 ghost use Rattle.rfb_picture.specs.Grid.{IsGrid};
 ghost use Rattle.rfb_codec.specs.Effect.{IsAlike};
 ghost use Rattle.rfb_server.specs.Marks.{IsCaughtUp};
@@ -9,8 +9,8 @@ use crate::fault::Outside;
 use crate::hint::Hint;
 use crate::session::Session;
 use rfb_hello::Version;
-use rfb_picture::{Picture, Rect};
-use rfb_pixel::Colour;
+use rfb_picture::{Area, Picture, Rect};
+use rfb_pixel::{Colour, Format};
 use std::alloc::{AllocError, Global};
 
 /// A screen and the session of its one viewer. The owner draws on the screen, feeds it what the viewer
@@ -29,8 +29,9 @@ const BLACK: Colour = Colour { r: 0, g: 0, b: 0 };
 
 impl Server {
     ghost use Rattle.rfb_picture.specs.Grid.{Holds, filled, copied, with_row};
-    ghost use Rattle.rfb_server.specs.Server.{first_server};
-    ghost use Rattle.rfb_server.specs.Standing.{StandsFor, serving_with, screen_of, Draws, Keeps};
+    ghost use Rattle.rfb_server.specs.Server.{Serving, ServerState, first_server};
+    ghost use Rattle.rfb_hello.specs.Version.{version_text};
+    ghost use Rattle.rfb_server.specs.Standing.{StandsFor, serving_with, screen_of, row_from, Draws, Keeps};
     ghost use Rattle.rfb_codec.specs.RectData.{moved_to};
 
     /// A server that was fed nothing, with a black screen of `width` by `height` places: nothing was
@@ -73,6 +74,53 @@ impl Server {
         Ok(())
     }
 
+    /// Gives colours to a part of row `y` of the screen, from column `x` on. Where they leave the
+    /// screen they are refused, however many they are, and nothing changes; `row` stays the caller's.
+    pub fn put(&mut self, x: u16, y: u16, row: &[Colour]) -> Result<(), Outside>
+        ensures refused { IsErr result
+            ↔ (Holds (screen_of self.old) (row_from x y (length row.now)) → ⊥) }
+        ensures kept { OnErr result (self.new ≡ self.old) }
+        ensures drawn { OnOk result
+            (Draws (with_row x y row.now (screen_of self.old)) self.old self.new) }
+    {
+        let width = usize::from(self.screen.width());
+        let fits = row.len() <= width && usize::from(x) <= width - row.len();
+        if !fits || y >= self.screen.height() {
+            return Err(Outside);
+        }
+        self.screen.put_row(x, y, row);
+        self.session.drawn(Rect {
+            x,
+            y,
+            w: row.len() as u16,
+            h: 1,
+        });
+        Ok(())
+    }
+
+    /// Gives each place of `dst` what its place of the rectangle of that size at (`sx`, `sy`) had,
+    /// as CopyRect does (RFC 6143 section 7.7.2). Where one of them leaves the screen it is refused,
+    /// and nothing changes.
+    pub fn copy(&mut self, dst: Rect, sx: u16, sy: u16) -> Result<(), Outside>
+        ensures refused { IsErr result
+            ↔ (Holds (screen_of self.old) dst × Holds (screen_of self.old) (moved_to sx sy dst) → ⊥) }
+        ensures kept { OnErr result (self.new ≡ self.old) }
+        ensures drawn { OnOk result
+            (Draws (copied dst sx sy (screen_of self.old)) self.old self.new) }
+    {
+        let source = Rect {
+            x: sx,
+            y: sy,
+            ..dst
+        };
+        if !self.screen.holds(dst) || !self.screen.holds(source) {
+            return Err(Outside);
+        }
+        self.screen.copy(dst, sx, sy);
+        self.session.drawn(dst);
+        Ok(())
+    }
+
     /// Says that the rectangle `dst` looks as the one of its size at (`sx`, `sy`) did when it was last
     /// sent, so that the viewer may be told to copy it. Nothing rests on it, and nothing else changes.
     /// The last sixteen are kept until an update is composed. One that leaves the screen is refused.
@@ -93,4 +141,38 @@ impl Server {
         self.session.hint(Hint { to: dst, sx, sy });
         Ok(())
     }
+
+    /// The ProtocolVersion that is sent before all else, RFC 6143 section 7.1.1.
+    pub fn greeting(&self) -> [u8; 12]
+        ensures { (serving : Serving) (s : ServerState) (prefix : List ℕ)
+            → StandsFor serving self.now s prefix → result ≡ version_text serving.hello.offer }
+    {
+        self.session.greeting()
+    }
+
+    /// Lends the screen.
+    pub fn screen(&self) -> &Picture<Colour>
+        ensures { result.now ≡ screen_of self.now }
+    {
+        &self.screen
+    }
+
+    /// Lends what the viewer asked for since the latest update.
+    pub fn asked(&self) -> &Area
+        ensures { (serving : Serving) (s : ServerState) (prefix : List ℕ)
+            → StandsFor serving self.now s prefix → result.now ≡ s.area }
+    {
+        self.session.asked()
+    }
+
+    /// The format that updates are sent in.
+    pub fn format(&self) -> Format
+        ensures { (serving : Serving) (s : ServerState) (prefix : List ℕ)
+            → StandsFor serving self.now s prefix → result ≡ s.form }
+    {
+        self.session.format()
+    }
 }
+
+#[cfg(test)]
+mod tests;

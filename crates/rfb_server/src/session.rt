@@ -4,7 +4,10 @@ ghost use Rattle.std.specs.Prelude.{◌≡◌, ◌≤◌, ◌<◌, [], length, I
 ghost use Rattle.rfb_picture.specs.Grid.{Holds, filled};
 ghost use Rattle.rfb_server.specs.Marks.{AreAlike};
 
+mod asking;
+mod greeting;
 mod progress;
+mod telling;
 
 use crate::encodings::EncodingList;
 use crate::hint::{Hint, MAX_HINTS};
@@ -40,6 +43,8 @@ impl Session {
     ghost use Rattle.rfb_server.specs.Server.{black, first_server};
     ghost use Rattle.rfb_server.specs.Standing.{SessionStandsFor, serving_with};
     ghost use Rattle.rfb_server.specs.Marks.{IsCaughtUp, IsSameOutside};
+    ghost use Rattle.rfb_hello.specs.Version.{version_text};
+    ghost use Rattle.rfb_hello.specs.ServerStanding.{setup_of};
     ghost use Rattle.rfb_server.specs.Sessions.{IsUnseen, IsMarked, IsHinted};
 
     /// A session that was fed nothing, over a black screen of that size. It asks for all the memory
@@ -97,5 +102,26 @@ impl Session {
         ensures { IsHinted hint self.old self.new }
     {
         self.hints.push_back(hint);
+    }
+
+    /// The ProtocolVersion that is sent before all else.
+    pub(crate) fn greeting(&self) -> [u8; 12]
+        ensures { result ≡ version_text (setup_of self.now.hello).offer }
+    {
+        self.hello.greeting()
+    }
+
+    /// Lends what the viewer asked for.
+    pub(crate) fn asked(&self) -> &Area
+        ensures { result.now ≡ self.now.area }
+    {
+        &self.area
+    }
+
+    /// The format that updates are sent in.
+    pub(crate) fn format(&self) -> Format
+        ensures { result ≡ self.now.format }
+    {
+        self.format
     }
 }

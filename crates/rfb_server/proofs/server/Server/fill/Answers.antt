@@ -1,5 +1,4 @@
-use Rattle.std.proofs.Common.{Bool, true, false, ◌≡◌, if◌then◌else◌, refl}
-use Rattle.rfb_pixel.specs.declared.colour.Colour.{Colour}
+use Rattle.std.proofs.Common.{if◌then◌else◌, refl}
 use Rattle.rfb_picture.specs.Rect.{contains}
 use Rattle.rfb_server.proofs.MarksLemmas.{drawn_kept}
 use Rattle.rfb_server.proofs.server.Server.fill.Goals as goal

@@ -1,4 +1,4 @@
-use Rattle.std.proofs.Common.{sym, ◌∙◌, ap}
+use Rattle.std.proofs.Common.{sym, ◌∙◌}
 use Rattle.rfb_picture.proofs.GridLemmas.{whole-uniform, width-uniform, height-uniform}
 use Rattle.rfb_server.proofs.MarksLemmas.{caught_unseen}
 use Rattle.rfb_server.proofs.server.Server.new.Goals as goal

@@ -1,7 +1,5 @@
-use Rattle.std.proofs.Common.{◌≡◌, true, refl, rules, ap, sym, ◌∙◌, if◌then◌else◌, arith}
-use Rattle.rfb_picture.specs.Rect.{contains}
-use Rattle.rfb_picture.specs.Grid.{filled, uniform}
-use Rattle.rfb_picture.proofs.GridLemmas.{at-filled, whole-changed, whole-uniform, width-uniform, height-uniform}
+use Rattle.std.proofs.Common.{ap, sym, ◌∙◌}
+use Rattle.rfb_picture.proofs.GridLemmas.{whole-changed, whole-uniform}
 use Rattle.rfb_picture.proofs.AreaLemmas.{area-no_places}
 use Rattle.rfb_server.proofs.MarksLemmas.{in_all}
 use Rattle.rfb_server.proofs.session.Session.new.Goals as goal

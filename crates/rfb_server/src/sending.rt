@@ -1,0 +1,99 @@
+//! A rectangle of an update, appended to the bytes that are to be sent.
+
+ghost use Rattle.std.specs.Prelude.{◌≡◌, ◌+◌, ◌≤◌, ◌++◌, length, vec_len};
+ghost use Rattle.std.specs.Bool.{OnTrue, OnFalse};
+ghost use Rattle.std.specs.Vec.{vec_capacity};
+ghost use Rattle.rfb_wire.specs.declared.encoding.Encoding.TheVariants.{Raw as RawEncoding};
+ghost use Rattle.rfb_codec.specs.Pixels.{HasPixels, IsSized};
+ghost use Rattle.rfb_codec.specs.Codec.{raw_of};
+ghost use Rattle.rfb_server.specs.Sending.{AppendsIn, SendsRect};
+
+use rfb_codec::{Block, Codec, Hextile, Raw, Rre};
+use rfb_picture::Rect;
+use rfb_pixel::Format;
+use rfb_wire::{Encoding, RectHead};
+
+/// How many bytes the head of a rectangle has, RFC 6143 section 7.6.1.
+pub(crate) const RECT_HEAD_SIZE: usize = 12;
+
+// Appends a rectangle with the pixels of a block: in that encoding where it is one for pixels and does
+// not give the block up, else in Raw. The room is the caller's: that of its head and its pixels.
+pub(crate) fn append_rect(
+    encoding: Encoding,
+    rect: Rect,
+    block: &Block,
+    format: &Format,
+    out: &mut Vec<u8>,
+)
+    requires sized { IsSized rect.w rect.h block.now }
+    requires pixels { HasPixels format.now block.now }
+    requires room { vec_len out.old + 12 + raw_of format.now block.now ≤ vec_capacity out.old }
+    ensures sent { SendsRect format.now rect encoding block.now out.old.items out.new.items }
+    ensures room { vec_capacity out.new ≡ vec_capacity out.old }
+{
+    let sent = match encoding {
+        Encoding::Rre => append_coded::<Rre>(Encoding::Rre, rect, block, format, out),
+        Encoding::Hextile => append_coded::<Hextile>(Encoding::Hextile, rect, block, format, out),
+        Encoding::Raw | Encoding::CopyRect => false,
+    };
+    if !sent {
+        append_raw(rect, block, format, out);
+    }
+}
+
+// Appends the rectangle in Raw, which gives up no block.
+fn append_raw(rect: Rect, block: &Block, format: &Format, out: &mut Vec<u8>)
+    requires sized { IsSized rect.w rect.h block.now }
+    requires pixels { HasPixels format.now block.now }
+    requires room { vec_len out.old + 12 + raw_of format.now block.now ≤ vec_capacity out.old }
+    ensures sent { AppendsIn format.now rect RawEncoding block.now out.old.items out.new.items }
+    ensures room { vec_capacity out.new ≡ vec_capacity out.old }
+{
+    let head = RectHead {
+        rect,
+        encoding: Encoding::Raw,
+    };
+    append_within(out, head.spell().as_slice());
+    if !Raw::encode(block, format, out) {
+        unreachable!()
+    }
+}
+
+// Appends the rectangle by a codec, which may give the block up: then nothing was appended.
+fn append_coded<C: Codec>(
+    encoding: Encoding,
+    rect: Rect,
+    block: &Block,
+    format: &Format,
+    out: &mut Vec<u8>,
+) -> bool
+    requires encoding { C.encoding ≡ encoding }
+    requires sized { IsSized rect.w rect.h block.now }
+    requires pixels { HasPixels format.now block.now }
+    requires room { vec_len out.old + 12 + raw_of format.now block.now ≤ vec_capacity out.old }
+    ensures sent { OnTrue result
+        (AppendsIn format.now rect encoding block.now out.old.items out.new.items) }
+    ensures kept { OnFalse result (out.new.items ≡ out.old.items) }
+    ensures room { vec_capacity out.new ≡ vec_capacity out.old }
+{
+    let start = out.len();
+    let head = RectHead { rect, encoding };
+    append_within(out, head.spell().as_slice());
+    if C::encode(block, format, out) {
+        return true;
+    }
+    out.truncate(start);
+    false
+}
+
+// Appends bytes for which there is room, so the vector keeps its memory.
+fn append_within(out: &mut Vec<u8>, bytes: &[u8])
+    requires { vec_len out.old + length bytes.now ≤ vec_capacity out.old }
+    ensures items { out.new.items ≡ out.old.items ++ bytes.now }
+    ensures len { vec_len out.new ≡ vec_len out.old + length bytes.now }
+    ensures room { vec_capacity out.new ≡ vec_capacity out.old }
+{
+    for byte in bytes {
+        out.push_reserved(*byte);
+    }
+}
