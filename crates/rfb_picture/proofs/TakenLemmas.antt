@@ -15,6 +15,60 @@ use Rattle.rfb_picture.proofs.WordLemmas.{cases_place}
 use Rattle.rfb_picture.proofs.TakenWordLemmas.{and_true}
 use Rattle.rfb_picture.proofs.PlaceSetLemmas.{cell_below, layered_is, at-layered, whole-layered, same_sizes}
 
+-- ---- rows of cells
+
+lost_twice : (s a b p : Bool) → ((s && not (a && p)) && not (b && p)) ≡ (s && not ((a || b) && p))
+lost_twice true true true true = refl
+lost_twice true true true false = refl
+lost_twice true true false true = refl
+lost_twice true true false false = refl
+lost_twice true false b p = refl
+lost_twice false a b p = refl
+
+no_part : (t f u p : Bool) → u ≡ false → (t && (not f && (u && p))) ≡ false
+no_part true true u p e = refl
+no_part true false u p e = rw e refl
+no_part false f u p e = refl
+
+-- one row more, of which the set lost its places
+pub rows_more : (row : ℕ) (other old mid new : Layers) →
+    HasLost (λ _ j. nat_lt j row) other old mid →
+    HasLost (λ _ j. nat_eq j row) other mid new →
+    HasLost (λ _ j. nat_lt j (row + 1)) other old new
+rows_more row other old mid new first second = record {
+  sound = second.sound;
+  alike = (second.alike.0 ∙ first.alike.0, second.alike.1 ∙ first.alike.1);
+  each = λ x y p q.
+      let here = second.each x y (rw first.alike.0 p) (rw first.alike.1 q) in
+      let same : nat_lt (y / 64) (row + 1) ≡ (nat_lt (y / 64) row || nat_eq (y / 64) row) = grind (arith, nat_tests) in
+      rw same (here ∙ (rw (first.each x y p q) (lost_twice (in_set old x y) (nat_lt (y / 64) row) (nat_eq (y / 64) row) (in_part other x y))));
+}
+
+-- one row more, of which the other set uses no cell
+pub rows_skipped : (row : ℕ) (other old new : Layers) →
+    IsLayers other →
+    AreAlike old other →
+    NoneInRow (is_in other.used) row 0 other.used.width →
+    HasLost (λ _ j. nat_lt j row) other old new →
+    HasLost (λ _ j. nat_lt j (row + 1)) other old new
+rows_skipped row other old new sound alike none lost = record {
+  sound = lost.sound;
+  alike = lost.alike;
+  each = λ x y p q.
+      let i = cell_below x other.places.width other.used.width sound.used_wide (rw (← alike.0) p) in
+      let was = lost.each x y p q in
+      elim (cases_eq (y / 64) row) [
+        | inl here ↦
+            let off : is_in other.used (x / 64) (y / 64) ≡ false = rw here (none (x / 64) (omega arith) i) in
+            let now = no_part (nat_lt (y / 64) (row + 1)) (is_in other.full (x / 64) (y / 64)) _ (is_in other.places x y) off in
+            let before = no_part (nat_lt (y / 64) row) (is_in other.full (x / 64) (y / 64)) _ (is_in other.places x y) off in
+            rw now (rw before at was)
+        | inr apart ↦
+            let same : nat_lt (y / 64) (row + 1) ≡ nat_lt (y / 64) row = grind (arith, nat_tests) in
+            rw same was
+      ];
+}
+
 -- ---- one cell
 
 -- a cell's places

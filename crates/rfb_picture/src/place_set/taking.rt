@@ -17,12 +17,15 @@ impl Layers {
         ensures { HasLost (λ _ _. true) other.now self.old self.new }
     {
         for row in 0..other.used.height() {
-            self.take_row(other, row);
+            match other.used.next(0, row) {
+                None => {}
+                Some(_) => self.take_row(other, row),
+            }
         }
     }
 
     // The same in one row of cells. A cell that `other` does not use costs nothing here.
-    #[inline]
+    #[inline(never)]
     fn take_row(&mut self, other: &Layers, row: u16)
         requires sound { IsLayers self.old }
         requires sound_other { IsLayers other.now }
