@@ -21,6 +21,7 @@ pub mod MaskFaultLaws
 pub mod TileLaws
 pub mod HextileLaws
 pub mod CoverLemmas
+pub mod ColoursLemmas
 pub mod RreEncodeLemmas
 pub mod TileLengthLemmas
 pub mod TileSpellingLemmas

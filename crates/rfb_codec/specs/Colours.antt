@@ -1,5 +1,5 @@
 -- Which pixels a tile has.
-use Rattle.std.specs.Prelude.{◌≡◌, ◌≢◌, ℕ, ◌<◌, ◌⊎◌, List, length, slice_index}
+use Rattle.std.specs.Prelude.{◌≡◌, ◌≢◌, ℕ, ◌<◌, ◌⊎◌, List, length, slice_index, nat_eq, count_by}
 use Rattle.rfb_codec.specs.declared.encode.hextile.colours.Colours.{Colours}
 use Rattle.rfb_codec.specs.declared.encode.hextile.colours.Colours.TheVariants.{One, Two, More}
 use Rattle.rfb_codec.specs.Cover.{IsPixelOf}
@@ -16,8 +16,17 @@ pub record HasThird (pixels : List ℕ) : Type 0 where
   pub not_first : third ≢ first
   pub not_second : third ≢ second
 
+-- how many places have the pixel
+abbrev pub places_of : ℕ → List ℕ → ℕ
+places_of pixel pixels = count_by (λ p. nat_eq p pixel) pixels
+
+-- more places have the background than the other pixel, or as many and it is the lesser
+abbrev pub IsMoreFrequent : ℕ → ℕ → List ℕ → Type 0
+IsMoreFrequent background other pixels =
+    (places_of other pixels < places_of background pixels) ⊎ ((places_of other pixels ≡ places_of background pixels) × (background < other))
+
 -- each place has the one pixel, or one of the two, both of which are there, or there are three at least
 abbrev pub HasColours : Colours → List ℕ → Type 0
 HasColours (One pixel) pixels = (i : ℕ) → i < length pixels → slice_index pixels i ≡ pixel
-HasColours (Two background foreground) pixels = IsPixelOf pixels background × IsPixelOf pixels foreground × ((i : ℕ) → i < length pixels → (slice_index pixels i ≡ background) ⊎ (slice_index pixels i ≡ foreground))
+HasColours (Two background foreground) pixels = IsPixelOf pixels background × IsPixelOf pixels foreground × ((i : ℕ) → i < length pixels → (slice_index pixels i ≡ background) ⊎ (slice_index pixels i ≡ foreground)) × IsMoreFrequent background foreground pixels
 HasColours More pixels = HasThird pixels

@@ -1,7 +1,8 @@
 //! Whether a tile has one pixel, two, or more.
 
-ghost use Rattle.std.specs.Prelude.{◌≡◌, ◌≢◌, ℕ, ◌<◌, ◌≤◌, length, slice_index};
-ghost use Rattle.rfb_codec.specs.Colours.{HasColours};
+ghost use Rattle.std.specs.Prelude.{◌≡◌, ◌≢◌, ℕ, ◌<◌, ◌≤◌, ◌⊎◌, length, slice_index};
+ghost use Rattle.rfb_codec.specs.Colours.{HasColours, places_of};
+ghost use Rattle.std.specs.Bool.{OnTrue, OnFalse};
 
 /// The pixels that a tile has.
 #[derive(Clone, Copy, Debug, PartialEq, Eq)]
@@ -24,20 +25,17 @@ pub fn colours_of(pixels: &[u32]) -> Colours
         return Colours::One(first);
     }
     let second = pixels[start];
-    let (mut seconds, mut others) = (0u32, 0u32);
+    let mut others = 0u32;
     for pixel in pixels {
-        if *pixel == second {
-            seconds += 1;
-        } else if *pixel != first {
+        if *pixel != first && *pixel != second {
             others += 1;
         }
     }
     if others > 0 {
         return Colours::More;
     }
-    let seconds = seconds as usize;
-    let firsts = pixels.len() - seconds;
-    if firsts > seconds || (firsts == seconds && first < second) {
+    let seconds = places_of(pixels, second);
+    if is_more(pixels.len() - seconds, seconds, first, second) {
         Colours::Two {
             background: first,
             foreground: second,
@@ -48,6 +46,38 @@ pub fn colours_of(pixels: &[u32]) -> Colours
             foreground: first,
         }
     }
+}
+
+// How many places have the pixel.
+fn places_of(pixels: &[u32], pixel: u32) -> usize
+    requires { length pixels.now ≤ 256 }
+    ensures value { result ≡ places_of pixel pixels.now }
+    ensures few { result ≤ length pixels.now }
+{
+    let mut count = 0u32;
+    for other in pixels {
+        if *other == pixel {
+            count += 1;
+        }
+    }
+    count as usize
+}
+
+// Whether the first of two pixels has more places, or as many and is the lesser.
+fn is_more(firsts: usize, seconds: usize, first: u32, second: u32) -> bool
+    ensures more { OnTrue result ((seconds < firsts) ⊎ ((firsts ≡ seconds) × (first < second))) }
+    ensures less { OnFalse result ((firsts ≤ seconds) × (firsts ≡ seconds → second ≤ first)) }
+{
+    if firsts > seconds {
+        return true;
+    }
+    if firsts < seconds {
+        return false;
+    }
+    if first < second {
+        return true;
+    }
+    false
 }
 
 // How many places from the first on have the pixel.
