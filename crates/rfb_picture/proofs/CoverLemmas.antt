@@ -1,6 +1,6 @@
 -- All places of a zone, by cells, and the bits of a row.
-use Rattle.std.proofs.Common.{ℕ, Bool, true, false, ◌≡◌, ◌+◌, ◌-◌, ◌*◌, ◌/◌, ◌%◌, ◌<◌, ◌≤◌, ◌&&◌, ◌||◌, min, refl, sym, ◌∙◌, arith, nat_le, nat_lt, inl, inr}
-use Rattle.std.proofs.lemmas.Bool.{cases_Bool, or_cases, or_left, or_right}
+use Rattle.std.proofs.Common.{ℕ, Bool, true, false, ◌≡◌, ◌+◌, ◌-◌, ◌*◌, ◌/◌, ◌%◌, ◌<◌, ◌≤◌, ◌&&◌, min, refl, sym, ◌∙◌, arith, nat_le, nat_lt, inl, inr}
+use Rattle.std.proofs.lemmas.Bool.{or_cases}
 use Rattle.std.proofs.lemmas.Bool.Decides.{nat_tests}
 use Rattle.std.proofs.lemmas.Nat.{div-add-mod'}
 use Rattle.rfb_picture.specs.declared.rect.Rect.{Rect}
@@ -10,11 +10,11 @@ use Rattle.rfb_picture.specs.Grid.{Holds}
 use Rattle.rfb_picture.specs.Box.{is_in}
 use Rattle.rfb_picture.specs.Plane.{has_bit}
 use Rattle.rfb_picture.specs.Places.{AllMarked}
-use Rattle.rfb_picture.specs.Cells.{in_column, in_row, touched}
-use Rattle.rfb_picture.specs.PlaceSet.{in_set, layered, IsLayers}
+use Rattle.rfb_picture.specs.Cells.{in_column}
+use Rattle.rfb_picture.specs.PlaceSet.{in_set, layered}
 use Rattle.rfb_picture.proofs.GridLemmas.{contains_true, contains_row}
-use Rattle.rfb_picture.proofs.CellLemmas.{columns_to, columns_more, rows_to, same_cell}
-use Rattle.rfb_picture.proofs.PlaceSetLemmas.{at-layered, touched_cell}
+use Rattle.rfb_picture.proofs.CellLemmas.{columns_to, columns_more, same_cell}
+use Rattle.rfb_picture.proofs.PlaceSetLemmas.{at-layered}
 
 -- ---- parts of a zone
 

@@ -1,14 +1,14 @@
 -- What a set has after places of another were taken away, by cells.
-use Rattle.std.proofs.Common.{ℕ, Bool, true, false, ◌≡◌, ◌+◌, ◌*◌, ◌/◌, ◌<◌, ◌≤◌, ◌&&◌, ◌||◌, not, refl, sym, ◌∙◌, arith, nat_eq, nat_lt, if◌then◌else◌, inl, inr, ◌⊎◌}
-use Rattle.std.proofs.lemmas.Bool.{cases_Bool, cases_eq, cases_lt}
+use Rattle.std.proofs.Common.{ℕ, Bool, true, false, ◌≡◌, ◌+◌, ◌/◌, ◌<◌, ◌&&◌, ◌||◌, not, refl, sym, ◌∙◌, arith, nat_eq, nat_lt, inl, inr}
+use Rattle.std.proofs.lemmas.Bool.{cases_Bool, cases_eq}
 use Rattle.std.proofs.lemmas.Bool.Decides.{nat_tests}
 use Rattle.rfb_picture.specs.declared.rect.Rect.{Rect}
 use Rattle.rfb_picture.specs.declared.place_set.layers.Layers.{Layers}
 use Rattle.rfb_picture.specs.Rect.{contains}
-use Rattle.rfb_picture.specs.Grid.{Grid, filled}
+use Rattle.rfb_picture.specs.Grid.{filled}
 use Rattle.rfb_picture.specs.Box.{is_in}
-use Rattle.rfb_picture.specs.Places.{without, without_in, NoneInRow, IsNext}
-use Rattle.rfb_picture.specs.Cells.{cells_in, cell_at, one_cell, in_column, in_row}
+use Rattle.rfb_picture.specs.Places.{without, without_in, NoneInRow}
+use Rattle.rfb_picture.specs.Cells.{cell_at, one_cell, in_column, in_row}
 use Rattle.rfb_picture.specs.PlaceSet.{in_set, in_part, layered, IsLayers, AreAlike, IsSpread, HasLost}
 use Rattle.rfb_picture.proofs.GridLemmas.{contains_true, contains_row, width-changed, height-changed, whole-changed, at-changed, at-filled}
 use Rattle.rfb_picture.proofs.WordLemmas.{cases_place}

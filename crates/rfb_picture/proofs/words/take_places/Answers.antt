@@ -1,4 +1,4 @@
-use Rattle.std.proofs.Common.{◌≡◌, ◌<◌, true, nat_lt, arith}
+use Rattle.std.proofs.Common.{◌≡◌, true, nat_lt, arith}
 use Rattle.std.proofs.lemmas.Bool.Decides.{nat_tests}
 use Rattle.rfb_picture.specs.Plane.{has_at}
 use Rattle.rfb_picture.proofs.TakenWordLemmas.{one_column_taken}
