@@ -1,4 +1,4 @@
-use Rattle.std.proofs.Common.{◌-◌, ◌<◌, ◌≤◌, length}
+use Rattle.std.proofs.Common.{◌-◌, ◌≤◌, length}
 use Rattle.rfb_codec.proofs.encode.background.with_aside.Given as goal
 
 abbrev pub invariant-loop-start : goal.invariant-loop-start
