@@ -1,5 +1,5 @@
--- One composing: the update that is sent, and what is recorded of it. Which rectangles it has is the
--- composer's choice, within the bounds that stand here.
+-- One composing: the update that is sent, and what is recorded of it. Which rectangles it has is
+-- the composer's choice, within the bounds that stand here.
 use Rattle.std.specs.Prelude.{◌≡◌, ◌≢◌, ℕ, zero, suc, ◌+◌, ◌<◌, Bool, true, false, not, ◌||◌, List, [], ◌∷◌, ◌++◌, map, Some, ◌⊎◌, if◌then◌else◌}
 use Rattle.rfb_pixel.specs.declared.colour.Colour.{Colour}
 use Rattle.rfb_picture.specs.declared.rect.Rect.{Rect}
@@ -79,8 +79,8 @@ count_rows p x y w (suc h) = count_rows p x y w h + count_row p x (y + h) w
 abbrev pub count_in : (ℕ → ℕ → Bool) → Rect → ℕ
 count_in p rect = count_rows p rect.x rect.y rect.w rect.h
 
--- the rectangle and its source lie on the screen, each place of the source is known, and the copy leaves
--- more places of the rectangle recorded with the wanted pixel than there were
+-- the rectangle and its source lie on the screen, each place of the source is known, and the copy
+-- leaves more places of the rectangle recorded with the wanted pixel than there were
 pub record IsGain (s : ServerState) (move : Move) : Type 0 where
   pub on_screen : Holds s.screen move.to
   pub source_on_screen : Holds s.screen (moved_to move.sx move.sy move.to)
@@ -107,8 +107,8 @@ AreCopies (move ∷ moves) (part ∷ parts) = IsCopy move part × AreCopies move
 
 -- ---- rectangles whose pixels are sent
 
--- the part brings pixels, in an encoding that the viewer takes; its first and last row and column have a
--- place each that needs sending
+-- the part brings pixels, in an encoding that the viewer takes; its first and last row and column
+-- have a place each that needs sending
 pub record IsBlockOf (s : ServerState) (part : Part) : Type 0 where
   pub block : Grid ℕ
   pub contents_are : part.contents ≡ Pixels block
@@ -136,8 +136,8 @@ abbrev pub HaveTheirData : ServerState → List Part → Type 0
 HaveTheirData s [] = Unit {0}
 HaveTheirData s (part ∷ parts) = HasItsData s part × HaveTheirData s parts
 
--- a composing: the state before it and behind it, the bytes that were appended, and the rectangles that
--- these are, first those that are copied
+-- a composing: the state before it and behind it, the bytes that were appended, and the rectangles
+-- that these are, first those that are copied
 pub record Composes (old new : ServerState) (bytes : List ℕ) (copies blocks : List Part) : Type 0 where
   -- the bytes are one update in the server's format, with these rectangles, all on the screen
   pub is_update : ReadsAll update_stream (between old) bytes (update_of (map sent_as (copies ++ blocks))) []

@@ -10,8 +10,8 @@ use Rattle.rfb_picture.specs.Area.{Places, IsArea, whole_at}
 use Rattle.rfb_server.specs.Server.{black}
 use Rattle.rfb_server.specs.Request.{wanted_at}
 
--- what is known, what is asked and what is marked are of the places of one screen, and a screen has at
--- most 4,096 columns and as many rows
+-- what is known, what is asked and what is marked are of the places of one screen, and a screen has
+-- at most 4,096 columns and as many rows
 pub record AreAlike (known : Grid (Option ℕ)) (area : Places) (marks : Grid Bool) : Type 0 where
   pub known_whole : IsGrid known
   pub area_is : IsArea area

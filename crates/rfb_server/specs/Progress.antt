@@ -33,8 +33,8 @@ pub record IsListBegun (left : ℕ) (number : List ℕ) (list : List Encoding) (
   pub short : length number < 4
   pub list_is : list ≡ known_among numbers []
 
--- the bytes are a ClientCutText of which so many bytes are missing: its head, and a text of which the
--- first ones are kept, with room for as many as are to be
+-- the bytes are a ClientCutText of which so many bytes are missing: its head, and a text of which
+-- the first ones are kept, with room for as many as are to be
 pub record IsTextBegun (text_limit text_length left : ℕ) (kept : KeptText) (prefix : List ℕ) : Type 0 where
   pub head : List ℕ
   pub text : List ℕ

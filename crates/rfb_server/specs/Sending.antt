@@ -9,7 +9,8 @@ use Rattle.rfb_wire.specs.RectHead.{SpellsRectHead}
 use Rattle.rfb_codec.specs.RectData.{Pixels, SpellsData}
 use Rattle.rfb_codec.specs.Codec.{raw_of}
 
--- the bytes are a rectangle in that encoding, whose data are the block's pixels, on a screen of any size
+-- the bytes are a rectangle in that encoding, whose data are the block's pixels, on a screen of any
+-- size
 pub record IsCoded (f : PixelFormat) (rect : Rect) (encoding : Encoding) (block : Grid ℕ) (bytes : List ℕ) : Type 0 where
   pub head : List ℕ
   pub body : List ℕ

@@ -21,8 +21,9 @@ pub record Serving : Type 0 where
   pub hello : ServerSetup
   pub text_limit : ℕ
 
--- where the client's bytes stand; the screen; of each place the pixel that the viewer has or will have,
--- where that is known; the places that are asked; the format, and the encodings that the viewer listed
+-- where the client's bytes stand; the screen; of each place the pixel that the viewer has or will
+-- have, where that is known; the places that are asked; the format, and the encodings that the
+-- viewer listed
 pub record ServerState : Type 0 where
   pub point : ClientAt
   pub screen : Grid Colour
@@ -33,8 +34,9 @@ pub record ServerState : Type 0 where
 
 -- ---- what an item makes of it
 
--- a format is the server's from here on, and what was sent in another is forgotten; a list of encodings
--- takes the place of the one before it; a request asks for its area, whole if it is not incremental
+-- a format is the server's from here on, and what was sent in another is forgotten; a list of
+-- encodings takes the place of the one before it; a request asks for its area, whole if it is not
+-- incremental
 abbrev pub message_acts : ServerState → ClientMessage → ServerState
 message_acts s (SetPixelFormat format) = record s { form = format; known = forgotten s.known }
 message_acts s (SetEncodings numbers) = record s { encodings = known_among numbers [] }

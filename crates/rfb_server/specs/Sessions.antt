@@ -42,8 +42,8 @@ pub record IsHinted (hint : Hint) (old new : Session) : Type 0 where
   pub marks : new.marks ≡ old.marks
   pub hints : new.hints.items ≡ keep_last 16 (old.hints.items ++ hint ∷ [])
 
--- the handshake's end was fed, and its progress is the session's: while it goes on the session is in the
--- handshake, and once it is done between two messages
+-- the handshake's end was fed, and its progress is the session's: while it goes on the session is
+-- in the handshake, and once it is done between two messages
 pub record IsGreeted (old new : Session) : Type 0 where
   pub setup : setup_of new.hello ≡ setup_of old.hello
   pub goes : is_open new.hello ≡ true → new.progress ≡ Handshake
@@ -56,8 +56,8 @@ pub record IsGreeted (old new : Session) : Type 0 where
   pub marks : new.marks ≡ old.marks
   pub hints : new.hints ≡ old.hints
 
--- the session goes on as its handshake's end does: in the handshake while that goes on, and once it is
--- done between two messages
+-- the session goes on as its handshake's end does: in the handshake while that goes on, and once it
+-- is done between two messages
 pub record GoesOn (old new : Session) : Type 0 where
   pub hello : new.hello ≡ old.hello
   pub goes : is_open new.hello ≡ true → new.progress ≡ Handshake

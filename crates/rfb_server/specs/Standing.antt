@@ -1,9 +1,10 @@
--- What a `Server` stands for: a state, and the bytes that came of the client's next item, fewer than it
--- has.
+-- What a `Server` stands for: a state, and the bytes that came of the client's next item, fewer
+-- than it has.
 use Rattle.std.specs.Prelude.{◌≡◌, ℕ, List, Option}
 use Rattle.rfb_pixel.specs.declared.colour.Colour.{Colour}
 use Rattle.rfb_picture.specs.declared.rect.Rect.{Rect}
-use Rattle.rfb_picture.specs.Grid.{Grid}
+use Rattle.rfb_picture.specs.Grid.{Grid, Holds}
+use Rattle.rfb_codec.specs.RectData.{moved_to}
 use Rattle.rfb_hello.specs.declared.version.Version.{Version}
 use Rattle.rfb_hello.specs.ServerStanding.{setup_of}
 use Rattle.rfb_server.specs.declared.fault.ServerFault.{ServerFault}
@@ -53,6 +54,10 @@ with_screen screen s = record s { screen = screen }
 -- so many places of row y, from column x on
 abbrev pub row_from : ℕ → ℕ → ℕ → Rect
 row_from x y n = record { x = x; y = y; w = n; h = 1 }
+
+-- a rectangle, and the one of its size at (sx, sy), lie on the screen
+abbrev pub HoldsBoth : Grid Colour → Rect → ℕ → ℕ → Type 0
+HoldsBoth screen rect sx sy = Holds screen rect × Holds screen (moved_to sx sy rect)
 
 -- a drawing gave it this screen, and changed nothing else that it stands for
 pub record Draws (screen : Grid Colour) (old new : Server) : Type 0 where

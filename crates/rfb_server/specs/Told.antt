@@ -6,8 +6,8 @@ use Rattle.rfb_hello.specs.declared.step.ServerStep.TheVariants.{Reply as ReplyS
 use Rattle.rfb_server.specs.declared.event.ServerEvent.{ServerEvent}
 use Rattle.rfb_server.specs.declared.event.ServerEvent.TheVariants.{Reply as ReplyEvent, Ready as ReadyEvent, Key as KeyTold, Pointer as PointerTold, CutText as CutTextTold}
 
--- an answer that is to be sent; the last one, with the shared-flag; a key; the pointer; a text, as much
--- of it as is kept and how many bytes it has
+-- an answer that is to be sent; the last one, with the shared-flag; a key; the pointer; a text, as
+-- much of it as is kept and how many bytes it has
 pub data ServerTold : Type 0 where
   Reply : (bytes : List ℕ) → ServerTold
   Ready : (bytes : List ℕ) → (shared : Bool) → ServerTold

@@ -2,7 +2,8 @@
 
 use arrayvec::ArrayVec;
 
-/// How many bytes an answer has at most: ServerInit with a name of 255 bytes, RFC 6143 section 7.3.2.
+/// How many bytes an answer has at most: ServerInit with a name of 255 bytes, RFC 6143 section
+/// 7.3.2.
 pub const MAX_REPLY: usize = 279;
 
 /// What happened at the last byte that was used. SetPixelFormat, SetEncodings and
@@ -11,8 +12,8 @@ pub const MAX_REPLY: usize = 279;
 pub enum ServerEvent {
     /// Bytes that are to be sent to the client.
     Reply(ArrayVec<u8, MAX_REPLY>),
-    /// The handshake is done: the last bytes to be sent, ServerInit; and whether the client shares the
-    /// screen with others.
+    /// The handshake is done: the last bytes to be sent, ServerInit; and whether the client shares
+    /// the screen with others.
     Ready {
         reply: ArrayVec<u8, MAX_REPLY>,
         shared: bool,
@@ -22,14 +23,15 @@ pub enum ServerEvent {
         down: bool,
         key: u32,
     },
-    /// PointerEvent, section 7.5.5: the buttons that are down, a bit each, and where the pointer is.
+    /// PointerEvent, section 7.5.5: the buttons that are down, a bit each, and where the pointer
+    /// is.
     Pointer {
         buttons: u8,
         x: u16,
         y: u16,
     },
-    /// ClientCutText, section 7.5.6: as much of the text as is kept, which is the caller's from here
-    /// on, and how many bytes it had.
+    /// ClientCutText, section 7.5.6: as much of the text as is kept, which is the caller's from
+    /// here on, and how many bytes it had.
     CutText {
         kept: Vec<u8>,
         length: u32,

@@ -14,8 +14,8 @@ ghost use Rattle.rfb_server.specs.Server.{Serving, ServerState, server, black};
 ghost use Rattle.rfb_server.specs.Request.{wanted, recorded, is_asked};
 ghost use Rattle.rfb_server.specs.Composing.{Part, Composes, IsPlace, between, sent_as};
 
-/// All that a client sends is read as RFC 6143 has it, its handshake and then its messages, whatever
-/// version was offered.
+/// All that a client sends is read as RFC 6143 has it, its handshake and then its messages,
+/// whatever version was offered.
 pub fn client_bytes_are_spelled()
     ensures stream { (offer : Version) → IsSpelled (client_bytes offer) (client_bytes_say offer) }
     ensures laws { (offer : Version) → IsGrammar (client_bytes offer) }

@@ -8,9 +8,9 @@ use rfb_picture::{Area, Picture};
 use std::alloc::{AllocError, Global};
 use std::marker::Model;
 
-/// For each place of a screen the pixel that the viewer has there, or will have once it has read what
-/// was composed, in the session's format; or that this is not known. It keeps its size. It owns 32 bits
-/// for each place, and two bits, with a few for each row and each cell.
+/// For each place of a screen the pixel that the viewer has there, or will have once it has read
+/// what was composed, in the session's format; or that this is not known. It keeps its size. It
+/// owns 32 bits for each place, and two bits, with a few for each row and each cell.
 #[derive(Drop)]
 pub struct Record {
     pixels: Picture<u32>,
@@ -36,8 +36,9 @@ impl Record {
     ghost use Rattle.rfb_picture.specs.Grid.{IsGrid, at_or, uniform};
     ghost use Rattle.rfb_server.specs.Record.{forgotten};
 
-    /// A record of a screen of `width` by `height` places, of which none is known. It asks for room for
-    /// all its places, in seven pieces; where there is none it gives the error, and nothing is kept.
+    /// A record of a screen of `width` by `height` places, of which none is known. It asks for room
+    /// for all its places, in seven pieces; where there is none it gives the error, and nothing is
+    /// kept.
     pub(crate) fn new(alloc: Global, width: u16, height: u16) -> Result<Record, AllocError>
         ensures value { IfOk result (λ r. r ≡ uniform width height None) }
         ensures width { IfOk result (λ r. r.width ≡ width) }

@@ -16,8 +16,9 @@ use rfb_wire::{Encoding, RectHead};
 /// How many bytes the head of a rectangle has, RFC 6143 section 7.6.1.
 pub(crate) const RECT_HEAD_SIZE: usize = 12;
 
-// Appends a rectangle with the pixels of a block: in that encoding where it is one for pixels and does
-// not give the block up, else in Raw. The room is the caller's: that of its head and its pixels.
+// Appends a rectangle with the pixels of a block: in that encoding where it is one for pixels and
+// does not give the block up, else in Raw. The room is the caller's: that of its head and its
+// pixels.
 pub(crate) fn append_rect(
     encoding: Encoding,
     rect: Rect,

@@ -13,8 +13,8 @@ use rfb_picture::{Area, Picture, Rect};
 use rfb_pixel::{Colour, Format};
 use std::alloc::{AllocError, Global};
 
-/// A screen and the session of its one viewer. The owner draws on the screen, feeds it what the viewer
-/// sends, and sends the viewer what it answers and composes.
+/// A screen and the session of its one viewer. The owner draws on the screen, feeds it what the
+/// viewer sends, and sends the viewer what it answers and composes.
 #[derive(Drop)]
 pub struct Server {
     screen: Picture<Colour>,
@@ -31,13 +31,13 @@ impl Server {
     ghost use Rattle.rfb_picture.specs.Grid.{Holds, filled, copied, with_row};
     ghost use Rattle.rfb_server.specs.Server.{Serving, ServerState, first_server};
     ghost use Rattle.rfb_hello.specs.Version.{version_text};
-    ghost use Rattle.rfb_server.specs.Standing.{StandsFor, serving_with, screen_of, row_from, Draws, Keeps};
-    ghost use Rattle.rfb_codec.specs.RectData.{moved_to};
+    ghost use Rattle.rfb_server.specs.Standing.{StandsFor, serving_with, screen_of, row_from, HoldsBoth, Draws, Keeps};
 
-    /// A server that was fed nothing, with a black screen of `width` by `height` places: nothing was
-    /// sent, and nothing is asked. It offers versions up to `offer`, names the screen, and keeps at most
-    /// `text_limit` bytes of each text that the viewer cuts. It asks for all the memory that it will
-    /// have but for texts; where there is none it gives the error, and nothing is kept.
+    /// A server that was fed nothing, with a black screen of `width` by `height` places: nothing
+    /// was sent, and nothing is asked. It offers versions up to `offer`, names the screen, and
+    /// keeps at most `text_limit` bytes of each text that the viewer cuts. It asks for all the
+    /// memory that it will have but for texts; where there is none it gives the error, and nothing
+    /// is kept.
     pub fn new(
         alloc: Global,
         width: u16,
@@ -64,7 +64,8 @@ impl Server {
     pub fn fill(&mut self, rect: Rect, colour: Colour) -> Result<(), Outside>
         ensures refused { IsErr result ↔ (Holds (screen_of self.old) rect → ⊥) }
         ensures kept { OnErr result (self.new ≡ self.old) }
-        ensures drawn { OnOk result (Draws (filled rect colour (screen_of self.old)) self.old self.new) }
+        ensures drawn { OnOk result
+            (Draws (filled rect colour (screen_of self.old)) self.old self.new) }
     {
         if !self.screen.holds(rect) {
             return Err(Outside);
@@ -75,7 +76,8 @@ impl Server {
     }
 
     /// Gives colours to a part of row `y` of the screen, from column `x` on. Where they leave the
-    /// screen they are refused, however many they are, and nothing changes; `row` stays the caller's.
+    /// screen they are refused, however many they are, and nothing changes; `row` stays the
+    /// caller's.
     pub fn put(&mut self, x: u16, y: u16, row: &[Colour]) -> Result<(), Outside>
         ensures refused { IsErr result
             ↔ (Holds (screen_of self.old) (row_from x y (length row.now)) → ⊥) }
@@ -99,11 +101,11 @@ impl Server {
     }
 
     /// Gives each place of `dst` what its place of the rectangle of that size at (`sx`, `sy`) had,
-    /// as CopyRect does (RFC 6143 section 7.7.2). Where one of them leaves the screen it is refused,
-    /// and nothing changes.
+    /// as CopyRect does (RFC 6143 section 7.7.2). Where one of them leaves the screen it is
+    /// refused, and nothing changes.
     pub fn copy(&mut self, dst: Rect, sx: u16, sy: u16) -> Result<(), Outside>
         ensures refused { IsErr result
-            ↔ (Holds (screen_of self.old) dst × Holds (screen_of self.old) (moved_to sx sy dst) → ⊥) }
+            ↔ (HoldsBoth (screen_of self.old) dst sx sy → ⊥) }
         ensures kept { OnErr result (self.new ≡ self.old) }
         ensures drawn { OnOk result
             (Draws (copied dst sx sy (screen_of self.old)) self.old self.new) }
@@ -121,12 +123,13 @@ impl Server {
         Ok(())
     }
 
-    /// Says that the rectangle `dst` looks as the one of its size at (`sx`, `sy`) did when it was last
-    /// sent, so that the viewer may be told to copy it. Nothing rests on it, and nothing else changes.
-    /// The last sixteen are kept until an update is composed. One that leaves the screen is refused.
+    /// Says that the rectangle `dst` looks as the one of its size at (`sx`, `sy`) did when it was
+    /// last sent, so that the viewer may be told to copy it. Nothing rests on it, and nothing else
+    /// changes. The last sixteen are kept until an update is composed. One that leaves the screen
+    /// is refused.
     pub fn hint(&mut self, dst: Rect, sx: u16, sy: u16) -> Result<(), Outside>
         ensures refused { IsErr result
-            ↔ (Holds (screen_of self.old) dst × Holds (screen_of self.old) (moved_to sx sy dst) → ⊥) }
+            ↔ (HoldsBoth (screen_of self.old) dst sx sy → ⊥) }
         ensures kept { OnErr result (self.new ≡ self.old) }
         ensures hinted { OnOk result (Keeps self.old self.new) }
     {

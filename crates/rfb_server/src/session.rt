@@ -19,9 +19,9 @@ use rfb_picture::{Area, PlaceSet, Rect};
 use rfb_pixel::Format;
 use std::alloc::{AllocError, Global};
 
-/// One viewer's part of a server: its handshake, its format and its list of encodings, what it was sent,
-/// what it asked for, hints, and marks where the screen may differ from what it was sent. The screen is
-/// someone else's: a session is told where it was drawn, and is lent it to compose.
+/// One viewer's part of a server: its handshake, its format and its list of encodings, what it was
+/// sent, what it asked for, hints, and marks where the screen may differ from what it was sent. The
+/// screen is someone else's: a session is told where it was drawn, and is lent it to compose.
 #[derive(Drop)]
 pub struct Session {
     hello: ServerHello,
@@ -48,7 +48,8 @@ impl Session {
     ghost use Rattle.rfb_server.specs.Sessions.{IsUnseen, IsMarked, IsHinted};
 
     /// A session that was fed nothing, over a black screen of that size. It asks for all the memory
-    /// that it will have but for texts; where there is none it gives the error, and nothing is kept.
+    /// that it will have but for texts; where there is none it gives the error, and nothing is
+    /// kept.
     pub(crate) fn new(
         alloc: Global,
         width: u16,

@@ -16,8 +16,8 @@ use rfb_pixel::{Colour, Format};
 impl Record {
     ghost use Rattle.rfb_server.specs.Record.{AreKnown};
 
-    /// Packs the rectangle of the screen into the block, from which it is to be sent, and records its
-    /// pixels.
+    /// Packs the rectangle of the screen into the block, from which it is to be sent, and records
+    /// its pixels.
     pub(crate) fn take(
         &mut self,
         screen: &Picture<Colour>,
@@ -42,8 +42,8 @@ impl Record {
         self.known.add(rect, false);
     }
 
-    /// What is known of the rectangle of that size at (`sx`, `sy`), of which each place is known, is
-    /// known of `to` from here on: the viewer is told to copy it.
+    /// What is known of the rectangle of that size at (`sx`, `sy`), of which each place is known,
+    /// is known of `to` from here on: the viewer is told to copy it.
     pub(crate) fn copy(&mut self, to: Rect, sx: u16, sy: u16)
         requires target { Holds self.old to }
         requires source { Holds self.old (moved_to sx sy to) }

@@ -1,4 +1,4 @@
-//! Each call on a server once with ample memory, and each of its growths refused.
+//! Each drawing on a server once, with ample memory.
 
 use super::*;
 use std::test::Fail;
@@ -21,13 +21,34 @@ const RIGHT_HALF: Rect = Rect {
     h: 2,
 };
 
+// The colour of a place of the screen; none beyond its edges.
+fn shown(server: &Server, x: u16, y: u16) -> Option<Colour> {
+    let screen = server.screen();
+    if x < screen.width() && y < screen.height() {
+        Some(screen.at(x, y))
+    } else {
+        None
+    }
+}
+
+// Whether a place is asked for; none beyond the edges of the screen.
+fn is_asked(server: &Server, x: u16, y: u16) -> Option<bool> {
+    let area = server.asked();
+    if x < area.width() && y < area.height() {
+        Some(area.is_asked(x, y))
+    } else {
+        None
+    }
+}
+
 #[test]
 fn a_new_server_is_black_and_greets_by_its_offer(rt: HostRuntime) -> Result<(), Fail> {
     let name = b"t".as_slice();
     let server = Server::new(rt.alloc(), 4, 2, name, Version::V37, 4)?;
     assert_eq!(rt; server.greeting().as_slice(), b"RFB 003.007\n".as_slice());
-    assert_eq!(rt; server.screen().at(3, 1), BLACK);
-    assert!(rt; !server.asked().is_asked(3, 1));
+    assert_eq!(rt; shown(&server, 3, 1), Some(BLACK));
+    assert_eq!(rt; shown(&server, 4, 1), None);
+    assert_eq!(rt; is_asked(&server, 3, 1), Some(false));
     assert_eq!(rt; server.format(), Format::rgb888());
     Ok(())
 }
@@ -39,18 +60,20 @@ fn drawings_change_the_screen_and_hints_do_not(rt: HostRuntime) -> Result<(), Fa
     assert!(rt; server.fill(LEFT_HALF, RED).is_ok());
     assert!(rt; server.put(1, 1, [BLUE, BLUE].as_slice()).is_ok());
     assert!(rt; server.hint(RIGHT_HALF, 0, 0).is_ok());
-    assert_eq!(rt;
-        server.screen().row(0, 0, 4),
-        [RED, RED, BLACK, BLACK].as_slice()
-    );
-    assert_eq!(rt;
-        server.screen().row(0, 1, 4),
-        [RED, BLUE, BLUE, BLACK].as_slice()
-    );
+    let drawn = [
+        (0, 0, RED),
+        (2, 0, BLACK),
+        (0, 1, RED),
+        (1, 1, BLUE),
+        (2, 1, BLUE),
+        (3, 1, BLACK),
+    ];
+    for (x, y, colour) in drawn {
+        assert_eq!(rt; shown(&server, x, y), Some(colour));
+    }
     assert!(rt; server.copy(RIGHT_HALF, 0, 0).is_ok());
-    assert_eq!(rt;
-        server.screen().row(0, 1, 4),
-        [RED, BLUE, RED, BLUE].as_slice()
-    );
+    for (x, y, colour) in [(2, 0, RED), (3, 0, RED), (2, 1, RED), (3, 1, BLUE)] {
+        assert_eq!(rt; shown(&server, x, y), Some(colour));
+    }
     Ok(())
 }

@@ -11,8 +11,9 @@ use rfb_pixel::Format;
 impl Session {
     ghost use Rattle.rfb_server.specs.Sessions.{IsAskedFor, HasFormat};
 
-    /// FramebufferUpdateRequest, RFC 6143 section 7.5.3: the viewer asks for the part of the rectangle
-    /// that lies on the screen, for whatever it has there if the request is not incremental.
+    /// FramebufferUpdateRequest, RFC 6143 section 7.5.3: the viewer asks for the part of the
+    /// rectangle that lies on the screen, for whatever it has there if the request is not
+    /// incremental.
     pub(crate) fn request(&mut self, incremental: bool, rect: Rect)
         ensures { IsAskedFor rect (not incremental) self.old self.new }
     {
@@ -41,8 +42,8 @@ impl Session {
         self.marks.add(rect);
     }
 
-    /// SetPixelFormat, section 7.5.1: updates are sent in the format from here on, and what was sent in
-    /// another is known no more.
+    /// SetPixelFormat, section 7.5.1: updates are sent in the format from here on, and what was
+    /// sent in another is known no more.
     pub(crate) fn set_format(&mut self, format: Format)
         ensures { HasFormat format self.old self.new }
     {

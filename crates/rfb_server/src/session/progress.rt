@@ -18,8 +18,8 @@ pub(crate) enum Progress {
     Handshake,
     /// Those of a message's head: what came of it.
     Head(ArrayVec<u8, MAX_HEAD>),
-    /// Those of a number in SetEncodings: how many numbers are missing, what came of the next one, and
-    /// the encodings that are known among those before it.
+    /// Those of a number in SetEncodings: how many numbers are missing, what came of the next one,
+    /// and the encodings that are known among those before it.
     Encodings {
         left: u16,
         number: ArrayVec<u8, NUMBER_SIZE>,
