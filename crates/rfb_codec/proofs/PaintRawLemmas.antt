@@ -1,9 +1,9 @@
 -- Laws of Raw data that are painted: when they are all there, and what they stand for.
-use Rattle.std.proofs.Common.{◌≡◌, ℕ, ◌<◌, List, [], length, subst, ap, append-nil}
+use Rattle.std.proofs.Common.{◌≡◌, ℕ, ◌<◌, List, length, ap}
 use Rattle.rfb_pixel.specs.Format.{PixelFormat}
-use Rattle.rfb_wire.specs.Reading.{More, Got}
-use Rattle.rfb_wire.specs.Parts.{piece, behind, done}
-use Rattle.rfb_wire.proofs.PartLaws.{piece_only, piece_short}
+use Rattle.rfb_wire.specs.Reading.{More}
+use Rattle.rfb_wire.specs.Parts.{behind, done}
+use Rattle.rfb_wire.proofs.PartLaws.{piece_short}
 use Rattle.rfb_codec.specs.declared.fault.PaintFault.{PaintFault}
 use Rattle.rfb_codec.specs.Pixels.{drawn}
 use Rattle.rfb_codec.specs.Raw.{raw, raw_length, raw_pixel}
@@ -13,11 +13,3 @@ pub raw_short : (f : PixelFormat) (w h : ℕ) (bytes : List ℕ) → length byte
 unfolding raw
 raw_short f w h bytes fewer =
     ap (behind {F = PaintFault} (λ part. done (drawn w h (raw_pixel f w part)))) (piece_short (raw_length f w h) bytes fewer)
-
--- so many are the block's pixels
-pub raw_whole : (f : PixelFormat) (w h : ℕ) (bytes : List ℕ) → length bytes ≡ raw_length f w h → raw f w h bytes ≡ Got (drawn w h (raw_pixel f w bytes)) []
-unfolding raw
-raw_whole f w h bytes all =
-    let n = raw_length f w h in
-    let whole : piece {F = PaintFault} n bytes ≡ Got bytes [] = subst (λ (ys : List ℕ). piece {F = PaintFault} n ys ≡ Got bytes []) (append-nil bytes) (piece_only n bytes [] all) in
-    ap (behind {F = PaintFault} (λ part. done (drawn w h (raw_pixel f w part)))) whole

@@ -8,21 +8,17 @@ use Rattle.rfb_pixel.specs.declared.colour.Colour.{Colour}
 use Rattle.rfb_pixel.specs.Format.{PixelFormat, colour_of}
 use Rattle.rfb_picture.specs.declared.rect.Rect.{Rect}
 use Rattle.rfb_picture.specs.Rect.{contains}
-use Rattle.rfb_picture.specs.Grid.{Grid, IsGrid, at_or, changed}
+use Rattle.rfb_picture.specs.Grid.{Grid, IsGrid, at_or}
 use Rattle.rfb_picture.proofs.GridLemmas.{changed_twice, same_changes, contains_true, same_grid, at-changed, whole-changed, width-changed, height-changed}
 use Rattle.rfb_wire.specs.RectHead.{IsOnScreen}
 use Rattle.rfb_codec.specs.Tile.{Tile, RawTile, tile_pixel}
 use Rattle.rfb_codec.specs.Hextile.{across, tile_count, tile_width, tile_height, tile_at, pixel_of_tiles}
 use Rattle.rfb_codec.specs.Painter.{over}
+use Rattle.rfb_codec.specs.Front.{tiles_over}
 use Rattle.rfb_codec.proofs.HextileEncodeLemmas.{column_of, row_of_tiles, in_tile, tile_below}
 use Rattle.rfb_codec.proofs.PaintRreLemmas.{moved}
 
 -- ---- what is painted
-
--- the picture with the first n tiles of a rectangle painted
-abbrev pub tiles_over : PixelFormat → Rect → ℕ → List Tile → Grid Colour → Grid Colour
-tiles_over f rect n tiles picture =
-    changed (λ x y old. if contains rect x y && nat_lt (tile_at rect.w (x - rect.x) (y - rect.y)) n then colour_of f (pixel_of_tiles f rect.w tiles (x - rect.x) (y - rect.y)) else old) picture
 
 unchanged : (f : Bool) (n : ℕ) (m : ℕ) (c old : Colour) → n ≡ 0 → (if f && nat_lt m n then c else old) ≡ old
 unchanged true n m c old none = rw none (let off : nat_lt m 0 ≡ false = grind (arith, nat_tests) in rw off refl)

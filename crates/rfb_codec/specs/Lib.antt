@@ -16,3 +16,6 @@ pub mod WholeUpdate
 pub mod TileRead
 pub mod Painter
 pub mod Pending
+pub mod Front
+pub mod Stage
+pub mod UnderWay

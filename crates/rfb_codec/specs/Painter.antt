@@ -1,7 +1,7 @@
 -- A rectangle under way in a `Painter`: what it and the picture stand for.
-use Rattle.std.specs.Prelude.{◌≡◌, ℕ, zero, suc, ◌+◌, ◌-◌, ◌*◌, ◌^◌, ◌<◌, ◌≤◌, List, [], ◌∷◌, length, take, drop, if◌then◌else◌}
+use Rattle.std.specs.Prelude.{◌≡◌, ℕ, ◌-◌, ◌^◌, ◌<◌, List, if◌then◌else◌}
 use Rattle.rfb_pixel.specs.declared.colour.Colour.{Colour}
-use Rattle.rfb_pixel.specs.Format.{PixelFormat, size_of}
+use Rattle.rfb_pixel.specs.Format.{PixelFormat}
 use Rattle.rfb_picture.specs.declared.rect.Rect.{Rect}
 use Rattle.rfb_picture.specs.Rect.{contains}
 use Rattle.rfb_picture.specs.Grid.{Grid, IsGrid, Holds, changed}
@@ -10,8 +10,6 @@ use Rattle.rfb_wire.specs.Reading.{Reading}
 use Rattle.rfb_wire.specs.declared.rect_head.RectHead.{RectHead}
 use Rattle.rfb_wire.specs.RectHead.{SpellsRectHead, IsOnScreen}
 use Rattle.rfb_codec.specs.declared.fault.PaintFault.{PaintFault}
-use Rattle.rfb_codec.specs.declared.subrect.Subrect.{Subrect}
-use Rattle.rfb_codec.specs.Rre.{subrect_of}
 use Rattle.rfb_codec.specs.RectData.{RectData, rect_data}
 use Rattle.rfb_codec.specs.UpdateStream.{UpdatePoint}
 
@@ -24,11 +22,6 @@ pub record Painting : Type 0 where
 -- what data begin with, on a screen of the picture's size
 abbrev pub data_of : Painting → Grid Colour → Reading RectData PaintFault
 data_of p picture = rect_data p.form picture.width picture.height p.rect p.encoding
-
--- the painter and the picture stand for the picture before the rectangle and for its data so far:
--- none are kept while the data are not whole, and the picture is as it was
-abbrev pub StandsFor : Painting → Grid Colour → Grid Colour → List ℕ → Type 0
-StandsFor p now before body = (body ≡ []) × (now ≡ before)
 
 -- ---- a painter at its place in an update
 
@@ -56,21 +49,3 @@ pub record IsPaintable (picture : Grid Colour) (rect : Rect) : Type 0 where
 -- the picture with colour c x y at place (x, y) of the rectangle, counted from its corner
 abbrev pub over : Rect → (ℕ → ℕ → Colour) → Grid Colour → Grid Colour
 over rect c picture = changed (λ x y old. if contains rect x y then c (x - rect.x) (y - rect.y) else old) picture
-
--- how many bytes a subrectangle has
-abbrev pub subrect_size : PixelFormat → ℕ
-subrect_size f = size_of f + 8
-
--- the subrectangle behind so many others
-abbrev pub subrect_at : PixelFormat → List ℕ → ℕ → Subrect
-subrect_at f bytes k = subrect_of f (take (subrect_size f) (drop (k * subrect_size f) bytes))
-
--- the subrectangles that bytes begin with, so many
-abbrev pub subrects_in : PixelFormat → ℕ → List ℕ → List Subrect
-subrects_in f zero bytes = []
-subrects_in f (suc n) bytes = subrect_of f (take (subrect_size f) bytes) ∷ subrects_in f n (drop (subrect_size f) bytes)
-
--- so many are there, and none of them leaves a rectangle of that size
-pub record AreInside (f : PixelFormat) (width height n : ℕ) (bytes : List ℕ) : Type 0 where
-  pub enough : n * subrect_size f ≤ length bytes
-  pub inside : (k : ℕ) → k < n → IsOnScreen width height (subrect_at f bytes k).rect

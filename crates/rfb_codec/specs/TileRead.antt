@@ -53,6 +53,12 @@ TellsTile f width height bytes (Ok None) next = next ≡ More
 TellsTile f width height bytes (Ok (Some read)) next = (next ≡ Got (tile_of_read f width height read bytes) (drop read.used bytes)) × LiesIn f width height read bytes × AreInside width height (places_of (tile_of_read f width height read bytes))
 TellsTile f width height bytes (Err fault) next = next ≡ Bad fault
 
+-- bytes that are not all of a tile are fewer than the longest has
+abbrev pub IsShort : List ℕ → Result (Option TileRead) PaintFault → Type 0
+IsShort bytes (Ok None) = length bytes < 1536
+IsShort bytes (Ok (Some read)) = Unit {0}
+IsShort bytes (Err fault) = Unit {0}
+
 -- the colours that a layout names
 abbrev pub background_named : TileLayout → Option ℕ
 background_named Raw = None
@@ -103,13 +109,3 @@ next_tile f width height before = tile_behind f (tile_width width (length before
 -- the tiles of a rectangle
 abbrev pub all_tiles : PixelFormat → ℕ → ℕ → Reading (List Tile) PaintFault
 all_tiles f width height = each (tile_count width height) (next_tile f width height) []
-
--- what is told of all tiles is what the reading gives
-abbrev pub TellsTiles : List ℕ → Result (Option ℕ) PaintFault → Next (List Tile) PaintFault → Type 0
-TellsTiles bytes (Ok None) next = next ≡ More
-TellsTiles bytes (Ok (Some used)) next = (tiles : List Tile) × (next ≡ Got tiles (drop used bytes)) × (used ≤ length bytes)
-TellsTiles bytes (Err fault) next = next ≡ Bad fault
-
--- the bytes begin with all tiles
-abbrev pub HasTiles : PixelFormat → ℕ → ℕ → List ℕ → Type 0
-HasTiles f width height bytes = (tiles : List Tile) × (rest : List ℕ) × (all_tiles f width height bytes ≡ Got tiles rest)

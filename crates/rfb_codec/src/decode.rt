@@ -1,46 +1,119 @@
-//! The data of each encoding, painted into a picture from the bytes where they lie.
-//!
-//! Each part judges all of the data before it changes the picture, takes no memory and keeps nothing.
+//! The data of each encoding, painted into a picture piece by piece from the slices that they come in.
 
-ghost use Rattle.std.specs.Prelude.{◌≡◌, ◌≤◌, length, take, [], IfOk, IfErr, IfSome, MatchOption, OnErr};
-ghost use Rattle.rfb_wire.specs.Reading.{More, Got, Bad};
-ghost use Rattle.rfb_codec.specs.RectData.{RectData, painted, rect_data};
+ghost use Rattle.std.specs.Prelude.{◌≡◌, ◌<◌, ◌≤◌, length, take, true, false, IfOk, IfErr, OnErr};
+ghost use Rattle.arrayvec.specs.ArrayVec.{array_vec_len};
+ghost use Rattle.rfb_picture.specs.Grid.{Holds};
 ghost use Rattle.rfb_codec.specs.Painter.{IsPaintable};
+ghost use Rattle.rfb_codec.specs.Stage.{GoesOn, Stops, encoding_at, is_ended, is_sound};
 
 mod copy_rect;
 mod fill;
-mod hextile;
+pub mod gather;
+pub mod hextile;
 mod raw;
 mod rre;
+pub mod stage;
 
 use crate::fault::PaintFault;
+use crate::tiles::tile_count;
 pub use copy_rect::spell_source;
+use gather::Pending;
 use rfb_picture::{Picture, Rect};
 use rfb_pixel::{Colour, Format};
-use rfb_wire::Encoding;
+use stage::{Stage, Step};
 
-/// Paints the rectangle where bytes begin with all of its data, and tells how many bytes these have.
-/// None where they are not all there, and the fault of the first element that is whole and at fault;
-/// nothing is painted then.
-pub fn paint(
+/// Whether the data have ended.
+pub fn is_ended(rect: Rect, stage: Stage) -> bool
+    ensures { result ≡ is_ended rect stage }
+{
+    match stage {
+        Stage::Copied => true,
+        Stage::InPixels { at } => rect.w == 0 || at.y >= rect.h,
+        Stage::InSubrects { left } => left == 0,
+        Stage::InTiles { tile, .. } => tile >= tile_count(rect.w, rect.h),
+        Stage::BeforeSource | Stage::BeforeHead | Stage::InRawTile { .. } => false,
+    }
+}
+
+/// Takes bytes of the data up to their last one, piece by piece. On a fault nothing is pending.
+pub fn feed(
     format: Format,
     rect: Rect,
-    encoding: Encoding,
+    stage: Stage,
+    pending: &mut Pending,
     bytes: &[u8],
     picture: &mut Picture<Colour>,
-) -> Result<Option<usize>, PaintFault>
-    requires { IsPaintable picture.old rect }
-    ensures used { IfOk result (λ told. IfSome told (λ used. used ≤ length bytes.now)) }
-    ensures told { IfOk result (λ told. MatchOption told ((rect_data format picture.old.width picture.old.height rect encoding bytes.now ≡ More) × (picture.new ≡ picture.old)) (λ used. (contents : RectData) × (rect_data format picture.old.width picture.old.height rect encoding (take used bytes.now) ≡ Got contents []) × (picture.new ≡ painted format rect contents picture.old))) }
-    ensures fault { IfErr result (λ fault. rect_data format picture.old.width picture.old.height rect encoding bytes.now ≡ Bad fault) }
-    ensures kept { OnErr result (picture.new ≡ picture.old) }
+) -> Result<Step, PaintFault>
+    requires place { Holds picture.old rect }
+    requires sound { is_sound format rect stage (array_vec_len pending.old) ≡ true }
+    ensures used { IfOk result (λ step. step.used ≤ length bytes.now) }
+    ensures all { IfOk result (λ step.
+        is_ended rect step.stage ≡ false → step.used ≡ length bytes.now) }
+    ensures sound { IfOk result (λ step.
+        is_sound format rect step.stage (array_vec_len pending.new) ≡ true) }
+    ensures same { IfOk result (λ step. encoding_at step.stage ≡ encoding_at stage) }
+    ensures goes_on { IfOk result (λ step.
+        GoesOn format rect stage pending.old.items picture.old (take step.used bytes.now)
+        step.stage pending.new.items picture.new) }
+    ensures fault { IfErr result
+        (Stops format rect stage pending.old.items picture.old bytes.now picture.new) }
+    ensures emptied { OnErr result (array_vec_len pending.new ≡ 0) }
     ensures width { picture.new.width ≡ picture.old.width }
     ensures height { picture.new.height ≡ picture.old.height }
 {
-    match encoding {
-        Encoding::Raw => Ok(raw::paint(format, rect, bytes, picture)),
-        Encoding::CopyRect => copy_rect::paint(rect, bytes, picture),
-        Encoding::Rre => rre::paint(format, rect, bytes, picture),
-        Encoding::Hextile => hextile::paint(format, rect, bytes, picture),
+    let mut used = 0;
+    let mut now = stage;
+    'pieces: while used < bytes.len() && !is_ended(rect, now) {
+        // They tell that the picture has a colour at each place, and numbers these in 16 bits.
+        let (_width, _height) = (picture.width(), picture.height());
+        let step = take(format, rect, now, pending, &bytes[used..], picture)?;
+        now = step.stage;
+        used += step.used;
+    }
+    Ok(Step { used, stage: now })
+}
+
+// Takes the next piece of the data, a run of pixels, or bytes of a piece.
+#[inline(always)]
+fn take(
+    format: Format,
+    rect: Rect,
+    stage: Stage,
+    pending: &mut Pending,
+    bytes: &[u8],
+    picture: &mut Picture<Colour>,
+) -> Result<Step, PaintFault>
+    requires place { IsPaintable picture.old rect }
+    requires some { 0 < length bytes.now }
+    requires left { is_ended rect stage ≡ false }
+    requires sound { is_sound format rect stage (array_vec_len pending.old) ≡ true }
+    ensures some { IfOk result (λ step. 0 < step.used) }
+    ensures used { IfOk result (λ step. step.used ≤ length bytes.now) }
+    ensures sound { IfOk result (λ step.
+        is_sound format rect step.stage (array_vec_len pending.new) ≡ true) }
+    ensures same { IfOk result (λ step. encoding_at step.stage ≡ encoding_at stage) }
+    ensures goes_on { IfOk result (λ step.
+        GoesOn format rect stage pending.old.items picture.old (take step.used bytes.now)
+        step.stage pending.new.items picture.new) }
+    ensures fault { IfErr result
+        (Stops format rect stage pending.old.items picture.old bytes.now picture.new) }
+    ensures emptied { OnErr result (array_vec_len pending.new ≡ 0) }
+    ensures width { picture.new.width ≡ picture.old.width }
+    ensures height { picture.new.height ≡ picture.old.height }
+{
+    match stage {
+        Stage::BeforeSource => copy_rect::take_source(rect, pending, bytes, picture),
+        Stage::Copied => unreachable!(),
+        Stage::InPixels { at } => Ok(raw::take_run(format, rect, at, pending, bytes, picture)),
+        Stage::BeforeHead => Ok(rre::take_head(format, rect, pending, bytes, picture)),
+        Stage::InSubrects { left } => {
+            rre::take_subrect(format, rect, left, pending, bytes, picture)
+        }
+        Stage::InTiles { tile, seen } => {
+            hextile::take_tile(format, rect, tile, seen, pending, bytes, picture)
+        }
+        Stage::InRawTile { tile, seen, at } => Ok(hextile::take_raw(
+            format, rect, tile, seen, at, pending, bytes, picture,
+        )),
     }
 }

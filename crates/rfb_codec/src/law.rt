@@ -13,6 +13,7 @@ ghost use Rattle.rfb_codec.specs.RectData.{RectData, SpellsData, data_says, rect
 ghost use Rattle.rfb_codec.specs.UpdateStream.{update_says, update_stream};
 
 pub mod effects;
+pub mod painters;
 pub mod pending;
 pub mod tiles;
 pub mod updates;

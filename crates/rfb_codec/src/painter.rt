@@ -1,14 +1,17 @@
-//! The decoder: data of a rectangle, painted into a picture.
+//! The decoder: data of a rectangle, painted into a picture piece by piece, as they come.
 
-ghost use Rattle.std.specs.Prelude.{◌≡◌, ◌≢◌, ◌≤◌, ℕ, List, [], ◌++◌, length, take, true, false, IfOk, IfErr, OnErr};
+ghost use Rattle.std.specs.Prelude.{◌≡◌, ◌<◌, ◌≤◌, [], length, take, true, false, IfOk, IfErr};
 ghost use Rattle.rfb_pixel.specs.declared.colour.Colour.{Colour};
 ghost use Rattle.rfb_picture.specs.Grid.{Grid, Holds};
-ghost use Rattle.rfb_wire.specs.Reading.{More, Got, Bad};
-ghost use Rattle.rfb_codec.specs.RectData.{RectData, painted};
-ghost use Rattle.rfb_codec.specs.Painter.{data_of, StandsFor};
+ghost use Rattle.rfb_codec.specs.UnderWay.{painting, StandsFor, Paints, Waits, Refuses};
+ghost use Rattle.rfb_codec.specs.Stage.{encoding_at, stage_of};
 
 use crate::decode;
+use crate::decode::gather::Pending;
+use crate::decode::hextile::NOTHING;
+use crate::decode::stage::{Place, Stage};
 use crate::fault::PaintFault;
+use arrayvec::ArrayVec;
 use rfb_picture::{Picture, Rect};
 use rfb_pixel::{Colour, Format};
 use rfb_wire::Encoding;
@@ -23,71 +26,122 @@ pub struct Painted {
     pub done: bool,
 }
 
-/// A rectangle of an update whose data are awaited, RFC 6143 section 7.7: where it lies, how its data
-/// are laid out, and the format of their pixels. It keeps no bytes and takes no memory. The picture is
-/// the caller's, and is lent at each call.
+/// A rectangle of an update whose data come in slices, RFC 6143 section 7.7: where it lies, the format
+/// of its pixels, and how far its data have come. The picture is the caller's, and is lent at each call.
+///
+/// Data are pieces: the source of a CopyRect, a pixel of Raw or of a raw tile, RRE's count with its
+/// background, a subrectangle of RRE, and a tile that is not raw. A painter shows each at its last byte,
+/// keeps the bytes of the piece under way, at most 1,535, and takes no memory.
 #[derive(Drop)]
 pub struct Painter {
     rect: Rect,
-    encoding: Encoding,
     format: Format,
+    stage: Stage,
+    pending: Pending,
 }
 
 impl Model for Painter {
-    ghost use Rattle.rfb_codec.specs.Painter.{Painting};
+    ghost use Rattle.std.specs.Prelude.{◌≡◌, true};
+    ghost use Rattle.arrayvec.specs.ArrayVec.{array_vec_len};
+    ghost use Rattle.rfb_codec.specs.UnderWay.{UnderWay};
+    ghost use Rattle.rfb_codec.specs.Stage.{is_sound};
 
-    ghost Value = { Painting };
+    ghost Value = { UnderWay };
 
-    ghost view = { λ p. record { rect = p.rect; encoding = p.encoding; form = p.format } };
+    ghost view = { λ p. record { rect = p.rect; form = p.format; stage = p.stage; pending = p.pending.items } };
+
+    ghost invariant = { λ p. is_sound p.format p.rect p.stage (array_vec_len p.pending) ≡ true };
 }
 
 impl Painter {
     /// The painter of a rectangle with this head, in the format that is in force there. It stands for
     /// the picture as it is, and for no data.
     pub fn new(rect: Rect, encoding: Encoding, format: Format) -> Painter
-        ensures value { result ≡ record { rect = rect; encoding = encoding; form = format } }
+        ensures value { painting result ≡ record { rect = rect; encoding = encoding; form = format } }
+        ensures fresh { result.pending ≡ [] }
         ensures stands { (picture : Grid Colour) → StandsFor result picture picture [] }
     {
+        // It tells that a pixel has bytes.
+        let _size = format.size();
         Painter {
             rect,
-            encoding,
             format,
+            stage: first_stage(encoding),
+            pending: ArrayVec::new(),
         }
     }
 
-    /// Paints the rectangle where `bytes` begin with all of its data, and tells how many bytes these
-    /// have; a rectangle without data is painted at once. While they are not all there it takes
-    /// nothing and paints nothing, and is to be fed again from the first byte on, with more behind.
+    /// Takes bytes of the rectangle's data up to their last one, and paints each piece of them at its
+    /// last byte. A rectangle without data is painted at once, by the empty slice too.
     ///
-    /// `SubrectOutside` at the first subrectangle that is whole and leaves the rectangle, or at the last
-    /// byte of the first tile that one leaves; `NoBackground`, `BothColourBits` and `NoForeground` at a
-    /// tile's mask, in that order; `SourceOutside` for a source that leaves the picture. The picture is
-    /// then as it was, and the same bytes give the same fault again.
+    /// `SubrectOutside` at the last byte of a subrectangle that leaves the rectangle, or of a tile that
+    /// one leaves; `NoBackground`, `BothColourBits` and `NoForeground` at a tile's mask, in that order;
+    /// `SourceOutside` at the last byte of a source that leaves the picture. The picture then shows the
+    /// pieces before that one, and the painter is not fed again.
     pub fn feed(
         &mut self,
         bytes: &[u8],
         picture: &mut Picture<Colour>,
     ) -> Result<Painted, PaintFault>
         requires { Holds picture.old self.old.rect }
+        // how much was taken
         ensures used { IfOk result (λ answer. answer.used ≤ length bytes.now) }
-        ensures done { IfOk result (λ answer. answer.done ≡ true → (before : Grid Colour) (body : List ℕ) → StandsFor self.old picture.old before body → (contents : RectData) × (data_of self.old before (body ++ take answer.used bytes.now) ≡ Got contents []) × (picture.new ≡ painted self.old.form self.old.rect contents before)) }
-        ensures more { IfOk result (λ answer. answer.done ≡ false → (before : Grid Colour) (body : List ℕ) → StandsFor self.old picture.old before body → (answer.used ≡ 0) × (data_of self.old before (body ++ bytes.now) ≡ More) × StandsFor self.new picture.new before (body ++ take answer.used bytes.now)) }
-        ensures fault { IfErr result (λ fault. (before : Grid Colour) (body : List ℕ) → StandsFor self.old picture.old before body → data_of self.old before (body ++ bytes.now) ≡ Bad fault) }
-        ensures kept { OnErr result (picture.new ≡ picture.old) }
-        ensures same { self.new ≡ self.old }
+        ensures all { IfOk result (λ answer. answer.done ≡ false → answer.used ≡ length bytes.now) }
+        // what it makes of the picture
+        ensures done { IfOk result (λ answer. answer.done ≡ true →
+            Paints self.old picture.old (take answer.used bytes.now) self.new picture.new) }
+        ensures more { IfOk result (λ answer. answer.done ≡ false →
+            Waits self.old picture.old bytes.now self.new picture.new) }
+        ensures fault { IfErr result (Refuses self.old picture.old bytes.now picture.new) }
+        // what stays
+        ensures rect { self.new.rect ≡ self.old.rect }
+        ensures form { self.new.form ≡ self.old.form }
+        ensures encoding { encoding_at self.new.stage ≡ encoding_at self.old.stage }
         ensures width { picture.new.width ≡ picture.old.width }
         ensures height { picture.new.height ≡ picture.old.height }
     {
-        // They tell that the picture has a colour at each place, and numbers these in 16 bits.
-        let (_width, _height) = (picture.width(), picture.height());
-        match decode::paint(self.format, self.rect, self.encoding, bytes, picture) {
-            Ok(Some(used)) => Ok(Painted { used, done: true }),
-            Ok(None) => Ok(Painted {
-                used: 0,
-                done: false,
-            }),
-            Err(fault) => Err(fault),
-        }
+        // It tells that the picture has a colour at each place.
+        let _width = picture.width();
+        let step = decode::feed(
+            self.format,
+            self.rect,
+            self.stage,
+            &mut self.pending,
+            bytes,
+            picture,
+        )?;
+        self.stage = step.stage;
+        Ok(Painted {
+            used: step.used,
+            done: decode::is_ended(self.rect, step.stage),
+        })
+    }
+
+    /// How many bytes of the piece under way are kept. The mask of a raw tile is not among them.
+    pub fn pending(&self) -> usize
+        ensures value { result ≡ length self.now.pending }
+        ensures few { result < 1536 }
+    {
+        // It tells how few they are.
+        let _size = self.format.size();
+        self.pending.len()
+    }
+}
+
+// Where the data of each encoding begin.
+fn first_stage(encoding: Encoding) -> Stage
+    ensures { result ≡ stage_of encoding }
+{
+    match encoding {
+        Encoding::Raw => Stage::InPixels {
+            at: Place { x: 0, y: 0 },
+        },
+        Encoding::CopyRect => Stage::BeforeSource,
+        Encoding::Rre => Stage::BeforeHead,
+        Encoding::Hextile => Stage::InTiles {
+            tile: 0,
+            seen: NOTHING,
+        },
     }
 }
 

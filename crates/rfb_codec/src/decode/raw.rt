@@ -1,38 +1,18 @@
 //! Raw, RFC 6143 section 7.7.1: pixels row by row.
 
-ghost use Rattle.std.specs.Prelude.{◌≡◌, ℕ, ◌*◌, ◌<◌, ◌≤◌, length, take, drop, slice_index_or, List, [], IfSome, MatchOption};
+ghost use Rattle.std.specs.Prelude.{◌≡◌, ℕ, ◌+◌, ◌*◌, ◌<◌, ◌≤◌, length, drop, slice_index_or};
 ghost use Rattle.rfb_pixel.specs.declared.colour.Colour.{Colour};
 ghost use Rattle.rfb_pixel.specs.Format.{size_of, pixel_number, colour_of};
-ghost use Rattle.rfb_picture.specs.Grid.{Grid};
-ghost use Rattle.rfb_wire.specs.Reading.{More, Got};
-ghost use Rattle.rfb_codec.specs.Raw.{raw, raw_length, raw_pixel};
-ghost use Rattle.rfb_codec.specs.RectData.{replaced};
+ghost use Rattle.rfb_codec.specs.Raw.{raw_length, raw_pixel};
 ghost use Rattle.rfb_codec.specs.Painter.{IsPaintable, over};
+ghost use Rattle.rfb_codec.specs.Stage.{places_before, PaintsRun};
 
+mod walk;
+
+use crate::decode::stage::Place;
 use rfb_picture::{Picture, Rect};
 use rfb_pixel::{Colour, Format};
-
-/// Paints the pixels that bytes begin with over the rectangle, and tells how many bytes they have.
-/// None where fewer are there; nothing is painted then.
-pub fn paint(
-    format: Format,
-    rect: Rect,
-    bytes: &[u8],
-    picture: &mut Picture<Colour>,
-) -> Option<usize>
-    requires { IsPaintable picture.old rect }
-    ensures used { IfSome result (λ used. used ≤ length bytes.now) }
-    ensures told { MatchOption result ((raw format rect.w rect.h bytes.now ≡ More) × (picture.new ≡ picture.old)) (λ used. (block : Grid ℕ) × (raw format rect.w rect.h (take used bytes.now) ≡ Got block []) × (picture.new ≡ replaced format rect block picture.old)) }
-    ensures width { picture.new.width ≡ picture.old.width }
-    ensures height { picture.new.height ≡ picture.old.height }
-{
-    let length = usize::from(rect.h) * usize::from(rect.w) * format.size();
-    if bytes.len() < length {
-        return None;
-    }
-    paint_rows(format, rect, &bytes[..length], picture);
-    Some(length)
-}
+pub use walk::{take_pixels, take_run};
 
 /// Paints each row of the rectangle.
 pub fn paint_rows(format: Format, rect: Rect, bytes: &[u8], picture: &mut Picture<Colour>)
@@ -48,6 +28,28 @@ pub fn paint_rows(format: Format, rect: Rect, bytes: &[u8], picture: &mut Pictur
         let places = picture.row_mut(rect.x, rect.y + row, rect.w);
         unpack_row(format, &bytes[start..start + length], places);
     }
+}
+
+/// Paints so many pixels of one row of the rectangle, from a place on, which stand behind those of the
+/// places before it.
+pub fn paint_run(
+    format: Format,
+    rect: Rect,
+    at: Place,
+    count: u16,
+    bytes: &[u8],
+    picture: &mut Picture<Colour>,
+)
+    requires place { IsPaintable picture.old rect }
+    requires row { at.y < rect.h }
+    requires columns { at.x + count ≤ rect.w }
+    requires whole { length bytes.now ≡ count * size_of format }
+    ensures value { PaintsRun format rect (places_before rect.w at) count bytes.now picture.old picture.new }
+    ensures width { picture.new.width ≡ picture.old.width }
+    ensures height { picture.new.height ≡ picture.old.height }
+{
+    let places = picture.row_mut(rect.x + at.x, rect.y + at.y, count);
+    unpack_row(format, bytes, places);
 }
 
 // Writes the colour of each pixel of a row.

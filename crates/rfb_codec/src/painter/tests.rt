@@ -9,6 +9,7 @@ use std::alloc::Global;
 use std::process::Abort;
 use std::test::Fail;
 
+mod cuts;
 mod hextile;
 mod hostile;
 mod masks;
@@ -27,11 +28,10 @@ const fn done(used: usize) -> Result<Painted, PaintFault> {
     Ok(Painted { used, done: true })
 }
 
-// They are not.
-const MORE: Result<Painted, PaintFault> = Ok(Painted {
-    used: 0,
-    done: false,
-});
+// They are not, and so many bytes came.
+const fn more(used: usize) -> Result<Painted, PaintFault> {
+    Ok(Painted { used, done: false })
+}
 
 // What a new painter answers to bytes at a rectangle of the picture.
 fn fed(
@@ -118,42 +118,6 @@ fn subrectangles_are_placed_in_their_rectangle(rt: HostRuntime) -> Result<(), Fa
     assert_eq!(rt; picture.row(0, 0, 4), [RED, RED, RED, RED].as_slice());
     assert_eq!(rt; picture.row(0, 1, 4), [RED, BLUE, BLUE, RED].as_slice());
     assert_eq!(rt; picture.row(0, 2, 4), [RED, BLUE, GREEN, RED].as_slice());
-    Ok(())
-}
-
-#[test]
-fn data_are_taken_at_their_last_byte_and_no_earlier(rt: HostRuntime) -> Result<(), Fail> {
-    cut_everywhere(&rt, rt.alloc(), 3, Encoding::Raw, &[0x07, 0x38, 0xC0])?;
-    cut_everywhere(&rt, rt.alloc(), 3, Encoding::CopyRect, &COPY)?;
-    cut_everywhere(&rt, rt.alloc(), 3, Encoding::Rre, &LAST_WINS)?;
-    cut_everywhere(&rt, rt.alloc(), 48, Encoding::Hextile, &hextile::THREE)
-}
-
-// One painter of all of a row waits with each front of the data, and leaves what stands behind them.
-fn cut_everywhere(
-    rt: &impl Abort,
-    alloc: Global,
-    width: u16,
-    encoding: Encoding,
-    data: &[u8],
-) -> Result<(), Fail> {
-    let mut picture = Picture::new(alloc, width, 1, BLUE)?;
-    let row = Rect {
-        x: 0,
-        y: 0,
-        w: width,
-        h: 1,
-    };
-    let mut painter = Painter::new(row, encoding, Format::bgr233());
-    for n in 0..data.len() {
-        let answer = painter.feed(&data[..n], &mut picture);
-        assert_eq!(rt; answer, MORE, "{encoding:?} at {n}");
-    }
-    let mut longer = Vec::new(alloc);
-    longer.extend_from_slice(data)?;
-    longer.push(0xFF)?;
-    let answer = painter.feed(&longer, &mut picture);
-    assert_eq!(rt; answer, done(data.len()), "{encoding:?}");
     Ok(())
 }
 

@@ -1,11 +1,11 @@
 //! A tile, found and judged in the bytes that begin with it.
 
-ghost use Rattle.std.specs.Prelude.{◌≡◌, ℕ, ◌+◌, ◌*◌, ◌≤◌, ◌<◌, ◌==◌, not, List, length, drop, slice_index, MatchOption, true, false, ◌⊎◌};
+ghost use Rattle.std.specs.Prelude.{◌≡◌, ℕ, ◌+◌, ◌*◌, ◌≤◌, ◌<◌, ◌==◌, not, List, length, drop, slice_index, MatchOption, None, true, false, ◌⊎◌};
 ghost use Rattle.rfb_pixel.specs.Format.{size_of};
 ghost use Rattle.rfb_wire.specs.Reading.{More, Got};
 ghost use Rattle.rfb_wire.specs.Parts.{optional};
 ghost use Rattle.rfb_codec.specs.Tile.{Tile, is_raw, subrects_colored, mask_fault, tile_colour, behind_mask, are_inside, places_of, place_of, tile_behind};
-ghost use Rattle.rfb_codec.specs.TileRead.{LiesIn, tile_of_read, Sees, TellsTile, IsCount, places_from};
+ghost use Rattle.rfb_codec.specs.TileRead.{LiesIn, tile_of_read, Sees, TellsTile, IsShort, IsCount, places_from};
 
 use super::tile_read::{Seen, TileRead};
 use crate::fault::PaintFault;
@@ -27,7 +27,8 @@ pub fn read_tile(
     bytes: &[u8],
 ) -> Result<Option<TileRead>, PaintFault>
     requires { (width ≤ 16) × (height ≤ 16) }
-    ensures { (before : List Tile) → Sees before seen → TellsTile format width height bytes.now result (tile_behind format width height before bytes.now) }
+    ensures told { (before : List Tile) → Sees before seen → TellsTile format width height bytes.now result (tile_behind format width height before bytes.now) }
+    ensures short { IsShort bytes.now result }
 {
     if bytes.is_empty() {
         return Ok(None);
@@ -47,18 +48,6 @@ pub fn read_tile(
             }
         }
     }
-}
-
-/// The tile of that size that the bytes begin with, where it is known to be good since `read_tile` has
-/// told it before. Neither its mask nor its subrectangles are judged again.
-pub fn find_tile(format: Format, width: u16, height: u16, bytes: &[u8]) -> Option<TileRead>
-    requires { (width ≤ 16) × (height ≤ 16) }
-    ensures { (before : List Tile) (tile : Tile) (rest : List ℕ) → tile_behind format width height before bytes.now ≡ Got tile rest → TellsTile format width height bytes.now (Ok result) (Got tile rest) }
-{
-    if bytes.is_empty() {
-        return None;
-    }
-    find(format, width, height, bytes[0], bytes)
 }
 
 // The fault of a mask, if it has one, behind tiles that have specified the colours seen.
@@ -86,7 +75,8 @@ fn fault_of_mask(mask: u8, seen: Seen) -> Option<PaintFault>
 fn find(format: Format, width: u16, height: u16, mask: u8, bytes: &[u8]) -> Option<TileRead>
     requires size { (width ≤ 16) × (height ≤ 16) }
     requires mask { 1 ≤ length bytes.now }
-    ensures { MatchOption result (behind_mask format width height mask (is_raw mask) (subrects_colored mask) (drop 1 bytes.now) ≡ More) (λ read. (behind_mask format width height mask (is_raw mask) (subrects_colored mask) (drop 1 bytes.now) ≡ Got (tile_of_read format width height read bytes.now) (drop read.used bytes.now)) × LiesIn format width height read bytes.now) }
+    ensures short { result ≡ None → length bytes.now < 1536 }
+    ensures told { MatchOption result (behind_mask format width height mask (is_raw mask) (subrects_colored mask) (drop 1 bytes.now) ≡ More) (λ read. (behind_mask format width height mask (is_raw mask) (subrects_colored mask) (drop 1 bytes.now) ≡ Got (tile_of_read format width height read bytes.now) (drop read.used bytes.now)) × LiesIn format width height read bytes.now) }
 {
     let size = format.size();
     if mask & RAW != 0 {

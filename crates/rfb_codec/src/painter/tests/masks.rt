@@ -3,7 +3,8 @@
 use super::hextile::painted;
 use super::*;
 
-// What is answered to tiles of a row so wide, which stays as it is if they are not done.
+// What is answered to tiles of a row so wide. Its last place, which belongs to the last tile, stays as it
+// is if they are not done.
 fn answered(
     rt: &impl Abort,
     alloc: Global,
@@ -12,9 +13,7 @@ fn answered(
 ) -> Result<Result<Painted, PaintFault>, Fail> {
     let (answer, row) = painted(alloc, width, Format::bgr233(), data)?;
     if !matches!(answer, Ok(Painted { done: true, .. })) {
-        for colour in row.iter() {
-            assert_eq!(rt; *colour, RED);
-        }
+        assert!(rt; row.ends_with(&[RED]));
     }
     Ok(answer)
 }
@@ -63,7 +62,7 @@ fn a_subrectangle_that_leaves_its_tile_is_refused_at_the_last_byte(
 // Data of seventeen places by one are waited with up to their last byte, and refused there.
 fn refused_at_the_end(rt: &impl Abort, alloc: Global, data: &[u8]) -> Result<(), Fail> {
     for n in 0..data.len() {
-        assert_eq!(rt; answered(rt, alloc, 17, &data[..n])?, MORE);
+        assert_eq!(rt; answered(rt, alloc, 17, &data[..n])?, more(n));
     }
     let answer = answered(rt, alloc, 17, data)?;
     assert_eq!(rt; answer, Err(PaintFault::SubrectOutside));
@@ -177,7 +176,7 @@ fn judged(
             for n in 0..data.len() {
                 assert_eq!(rt;
                     answered(rt, alloc, width, &data[..n])?,
-                    MORE,
+                    more(n),
                     "mask {mask}"
                 );
             }

@@ -3,8 +3,8 @@ use Rattle.rfb_codec.specs.Tile.{is_raw, subrects_colored}
 use Rattle.rfb_codec.proofs.PaintTileLemmas.{bit_clear, bit_set, found_colored, found_plain}
 use Rattle.rfb_codec.proofs.decode.hextile.reading.find.Goals as goal
 
-pub returns-in_ok-count : goal.returns-in_ok-count
-returns-in_ok-count c =
+pub returns-in_ok-count-clause-told : goal.returns-in_ok-count-clause-told
+returns-in_ok-count-clause-told c =
     let drawn : is_raw c.args.mask ≡ false = bit_clear 1 c.args.mask c.if-mask-ne0.false in
     let colored : subrects_colored c.args.mask ≡ true = bit_set 16 c.args.mask c.if-mask-ne0-2.true in
     let first = c.in_ok-background.ensures in
@@ -13,8 +13,8 @@ returns-in_ok-count c =
     drawn colored first.0 first.3 (omega (arith, first.1, count.3)) count.0
     (ap (λ n. c.in_ok-count.list + c.in_ok-count.count * (n + 2)) c.size-size.ensures.value) c.whole-then-mask-ne0-2.ensures
 
-pub returns-in_ok-count-2 : goal.returns-in_ok-count-2
-returns-in_ok-count-2 c =
+pub returns-in_ok-count-2-clause-told : goal.returns-in_ok-count-2-clause-told
+returns-in_ok-count-2-clause-told c =
     let drawn : is_raw c.args.mask ≡ false = bit_clear 1 c.args.mask c.if-mask-ne0.false in
     let plain : subrects_colored c.args.mask ≡ false = bit_clear 16 c.args.mask c.if-mask-ne0-2.false in
     let first = c.in_ok-background.ensures in

@@ -1,0 +1,147 @@
+-- A slice of a rectangle's data, taken step by step.
+use Rattle.std.proofs.Common.{◌≡◌, ℕ, ◌+◌, ◌-◌, ◌*◌, ◌/◌, ◌%◌, ◌<◌, ◌==◌, ◌||◌, ◌&&◌, nat_lt, List, [], ◌∷◌, ◌++◌, Bool, true, false, if◌then◌else◌, length, take, drop, refl, sym, subst, ◌∙◌, ap, append-nil, append_assoc, arith, length-drop, take-append-drop}
+use Rattle.std.proofs.lemmas.List.{take_all}
+use Rattle.std.proofs.lemmas.Bool.Decides.{nat_tests}
+use Rattle.rfb_pixel.specs.declared.colour.Colour.{Colour}
+use Rattle.rfb_pixel.specs.Format.{PixelFormat, size_of}
+use Rattle.rfb_picture.specs.declared.rect.Rect.{Rect}
+use Rattle.rfb_picture.specs.Rect.{contains}
+use Rattle.rfb_picture.specs.Grid.{Grid, IsGrid, grid, by_index, changed}
+use Rattle.rfb_wire.specs.declared.encoding.Encoding.{Encoding}
+use Rattle.rfb_wire.specs.declared.encoding.Encoding.TheVariants.{Raw, CopyRect, Rre, Hextile}
+use Rattle.rfb_wire.specs.Reading.{Bad}
+use Rattle.rfb_wire.proofs.FeedLaws.{take_add}
+use Rattle.rfb_wire.proofs.ReadingLaws.{reads_bad}
+use Rattle.rfb_codec.specs.declared.fault.PaintFault.{PaintFault}
+use Rattle.rfb_codec.specs.declared.decode.stage.Stage.{Stage}
+use Rattle.rfb_codec.specs.declared.decode.stage.Stage.TheVariants.{BeforeSource, Copied, InPixels, BeforeHead, InSubrects, InTiles, InRawTile}
+use Rattle.rfb_codec.specs.RectData.{data_says, rect_data}
+use Rattle.rfb_codec.specs.Front.{ShowsFront}
+use Rattle.rfb_codec.specs.Hextile.{tile_count, tile_width, tile_height}
+use Rattle.rfb_codec.specs.Stage.{encoding_at, stage_of, is_ended, is_sound, StandsAt, GoesOn, Stops, IsRefused}
+use Rattle.rfb_codec.specs.UnderWay.{Paints, Waits, Refuses}
+use Rattle.rfb_codec.proofs.RectDataLaws.{rect_data_reads}
+use Rattle.rfb_codec.proofs.VerdictLemmas.{whole_under, stage_ended, stage_waits}
+
+-- ---- before the first byte
+
+module _ {X : Type 0} where
+  same_items : (f : ℕ → X → X) (n : ℕ) (xs : List X) → ((i : ℕ) (old : X) → f i old ≡ old) → by_index f n xs ≡ xs
+  same_items f n [] same = refl
+  same_items f n (x ∷ xs) same = ap (λ (y : X). y ∷ by_index f (n + 1) xs) (same n x) ∙ ap (λ (ys : List X). x ∷ ys) (same_items f (n + 1) xs same)
+
+  -- a change that changes nothing
+  unchanged : (f : ℕ → ℕ → X → X) (g : Grid X) → ((x y : ℕ) (old : X) → f x y old ≡ old) → g ≡ changed f g
+  unfolding changed
+  unchanged f g same = ap (grid g.width g.height) (sym (same_items (λ i old. f (i % g.width) (i / g.width) old) 0 g.places (λ i old. same (i % g.width) (i / g.width) old)))
+
+none_below : (b : Bool) (m : ℕ) (c old : Colour) → (if b && nat_lt m 0 then c else old) ≡ old
+none_below true m c old = let off : nat_lt m 0 ≡ false = grind (arith, nat_tests) in rw off refl
+none_below false m c old = refl
+
+pub fresh_stands : (f : PixelFormat) (rect : Rect) (encoding : Encoding) (picture : Grid Colour) → 0 < size_of f → StandsAt f rect (stage_of encoding) [] picture picture []
+fresh_stands f rect Raw picture some =
+    let none : 0 * rect.w + 0 ≡ 0 = omega arith in (
+      [],
+      rw none (record {
+        spelled = record { whole = refl; size = omega arith; few = omega arith; short = some; ended = λ e. refl };
+        shows = unchanged _ picture (λ x y old. none_below (contains rect x y) ((y - rect.y) * rect.w + (x - rect.x)) _ old);
+      }),
+    )
+fresh_stands f rect CopyRect picture some = record { spelled = (refl, omega arith); shows = refl }
+fresh_stands f rect Rre picture some = record { spelled = (refl, omega arith); shows = refl }
+fresh_stands f rect Hextile picture some = (
+  [],
+  refl,
+  record { background = refl; foreground = refl },
+  record {
+    spelled = record { front = []; whole = refl; spelled = refl; begins = omega arith };
+    shows = unchanged _ picture (λ x y old. none_below (contains rect x y) _ _ old);
+  },
+)
+
+fresh_pixel : (w s : ℕ) → 0 < s → (nat_lt 0 s && (w == 0 || nat_lt 0 w)) ≡ true
+fresh_pixel w s some = grind (arith, nat_tests)
+
+below_it : (a m : ℕ) → a < m → nat_lt a m ≡ true
+below_it a m p = grind (arith, nat_tests)
+
+pub fresh_sound : (f : PixelFormat) (rect : Rect) (encoding : Encoding) → 0 < size_of f → is_sound f rect (stage_of encoding) 0 ≡ true
+fresh_sound f rect Raw some = fresh_pixel rect.w (size_of f) some
+fresh_sound f rect CopyRect some = refl
+fresh_sound f rect Rre some = below_it 0 (4 + size_of f) (omega arith)
+fresh_sound f rect Hextile some = refl
+
+pub fresh_encoding : (encoding : Encoding) → encoding_at (stage_of encoding) ≡ encoding
+fresh_encoding Raw = refl
+fresh_encoding CopyRect = refl
+fresh_encoding Rre = refl
+fresh_encoding Hextile = refl
+
+-- ---- step by step
+
+pub fed_none : (f : PixelFormat) (rect : Rect) (stage : Stage) (pending : List ℕ) (picture : Grid Colour) (bytes : List ℕ) → GoesOn f rect stage pending picture (take 0 bytes) stage pending picture
+fed_none f rect stage pending picture bytes = λ before body stands. subst (λ (ys : List ℕ). StandsAt f rect stage pending picture before ys) (sym (append-nil body)) stands
+
+slices : (i n : ℕ) (body bytes slice : List ℕ) → slice ≡ drop i bytes → (body ++ take i bytes) ++ take n slice ≡ body ++ take (i + n) bytes
+slices i n body bytes slice is =
+    append_assoc body (take i bytes) (take n slice) ∙ ap (λ (ys : List ℕ). body ++ (take i bytes ++ take n ys)) is ∙ ap (λ (ys : List ℕ). body ++ ys) (sym (take_add i n bytes))
+
+pub fed_more : (f : PixelFormat) (rect : Rect) (first stage next : Stage) (none pending rest : List ℕ) (old picture new : Grid Colour) (i n : ℕ) (bytes slice : List ℕ) → slice ≡ drop i bytes → GoesOn f rect first none old (take i bytes) stage pending picture → GoesOn f rect stage pending picture (take n slice) next rest new → GoesOn f rect first none old (take (i + n) bytes) next rest new
+fed_more f rect first stage next none pending rest old picture new i n bytes slice is one two = λ before body stands.
+    subst (λ (ys : List ℕ). StandsAt f rect next rest new before ys) (slices i n body bytes slice is) (two before (body ++ take i bytes) (one before body stands))
+
+pub stopped : (f : PixelFormat) (rect : Rect) (first stage : Stage) (none pending : List ℕ) (old picture new : Grid Colour) (i : ℕ) (bytes slice : List ℕ) (fault : PaintFault) → slice ≡ drop i bytes → encoding_at stage ≡ encoding_at first → GoesOn f rect first none old (take i bytes) stage pending picture → Stops f rect stage pending picture slice new fault → Stops f rect first none old bytes new fault
+stopped f rect first stage none pending old picture new i bytes slice fault is same one two = λ before body stands.
+    let r = two before (body ++ take i bytes) (one before body stands) in
+    let left : length slice ≡ length bytes - i = ap length is ∙ length-drop i bytes in
+    let below = r.within in
+    let last : i + (r.n + 1) ≡ i + r.n + 1 = omega arith in
+    let bad = subst (λ (ys : List ℕ). rect_data f before.width before.height rect (encoding_at stage) ys ≡ Bad fault) (slices i (r.n + 1) body bytes slice is ∙ ap (λ (n : ℕ). body ++ take n bytes) last) r.bad in
+    let shows = subst (λ (ys : List ℕ). ShowsFront f rect (encoding_at stage) before ys r.pending new) (slices i r.n body bytes slice is) r.shows in
+    record { n = i + r.n; pending = r.pending; within = omega (arith, left, below); bad = rw same at bad; shows = rw same at shows }
+
+-- ---- a slice
+
+-- all of it shows the fault too
+pub refuses_all : (f : PixelFormat) (rect : Rect) (encoding : Encoding) (before : Grid Colour) (body bytes : List ℕ) (fault : PaintFault) (now : Grid Colour) → IsRefused f rect encoding before body bytes fault now → rect_data f before.width before.height rect encoding (body ++ bytes) ≡ Bad fault
+refuses_all f rect encoding before body bytes fault now r =
+    let n = r.n + 1 in
+    let more = reads_bad (rect_data f before.width before.height rect encoding) (data_says f before.width before.height rect encoding) (rect_data_reads f before.width before.height rect encoding) (body ++ take n bytes) (drop n bytes) fault r.bad in
+    subst (λ (ys : List ℕ). rect_data f before.width before.height rect encoding ys ≡ Bad fault) (append_assoc body (take n bytes) (drop n bytes) ∙ ap (λ (ys : List ℕ). body ++ ys) (take-append-drop n bytes)) more
+
+-- where they end, they are painted
+pub feed_paints : (f : PixelFormat) (rect : Rect) (stage next : Stage) (pending rest : List ℕ) (old new : Grid Colour) (bytes : List ℕ) → IsGrid old → is_ended rect next ≡ true → encoding_at next ≡ encoding_at stage → GoesOn f rect stage pending old bytes next rest new → Paints (record { rect = rect; form = f; stage = stage; pending = pending }) old bytes (record { rect = rect; form = f; stage = next; pending = rest }) new
+feed_paints f rect stage next pending rest old new bytes whole ended same goes = λ before body stands.
+    let whole' = whole_under f rect stage pending old before body whole stands in
+    let end = stage_ended f rect next rest new before (body ++ bytes) whole' ended (goes before body stands) in
+    (end.contents, rw same at end.read, end.shows, end.none)
+
+-- and where they do not, more are waited for
+pub feed_waits : (f : PixelFormat) (rect : Rect) (stage next : Stage) (pending rest : List ℕ) (old new : Grid Colour) (used : ℕ) (bytes : List ℕ) → used ≡ length bytes → is_ended rect next ≡ false → is_sound f rect next (length rest) ≡ true → encoding_at next ≡ encoding_at stage → GoesOn f rect stage pending old (take used bytes) next rest new → Waits (record { rect = rect; form = f; stage = stage; pending = pending }) old bytes (record { rect = rect; form = f; stage = next; pending = rest }) new
+feed_waits f rect stage next pending rest old new used bytes all ended sound same goes = λ before body stands.
+    let taken : take used bytes ≡ bytes = take_all used bytes (omega (arith, all)) in
+    let there = subst (λ (ys : List ℕ). StandsAt f rect next rest new before (body ++ ys)) taken (goes before body stands) in
+    let waits = stage_waits f rect next rest new before (body ++ bytes) ended sound there in
+    (rw same at waits, there)
+
+pub feed_refuses : (f : PixelFormat) (rect : Rect) (stage : Stage) (pending : List ℕ) (old new : Grid Colour) (bytes : List ℕ) (fault : PaintFault) → Stops f rect stage pending old bytes new fault → Refuses (record { rect = rect; form = f; stage = stage; pending = pending }) old bytes new fault
+feed_refuses f rect stage pending old new bytes fault stops = λ before body stands.
+    let r = stops before body stands in
+    (refuses_all f rect (encoding_at stage) before body bytes fault new r, r)
+
+-- with nothing pending a stage is as sound as before
+pub sound_empty : (f : PixelFormat) (rect : Rect) (stage : Stage) (n : ℕ) → is_sound f rect stage n ≡ true → is_sound f rect stage 0 ≡ true
+sound_empty f rect BeforeSource n e = refl
+sound_empty f rect Copied n e = refl
+sound_empty f rect (InPixels at) n e = fewer n (size_of f) (rect.w == 0 || nat_lt at.x rect.w) e
+  where
+    fewer : (n s : ℕ) (b : Bool) → (nat_lt n s && b) ≡ true → (nat_lt 0 s && b) ≡ true
+    fewer n s b e = grind (arith, nat_tests)
+sound_empty f rect BeforeHead n e = below_it 0 (4 + size_of f) (omega arith)
+sound_empty f rect (InSubrects left) n e = below_it 0 (size_of f + 8) (omega arith)
+sound_empty f rect (InTiles tile seen) n e = refl
+sound_empty f rect (InRawTile tile seen at) n e = fewer n (size_of f) (nat_lt tile (tile_count rect.w rect.h)) (nat_lt at.x (tile_width rect.w tile) && nat_lt at.y (tile_height rect.w rect.h tile)) e
+  where
+    fewer : (n s : ℕ) (a b : Bool) → (nat_lt n s && a && b) ≡ true → (nat_lt 0 s && a && b) ≡ true
+    fewer n s a b e = grind (arith, nat_tests)

@@ -1,0 +1,34 @@
+use Rattle.std.proofs.Common.{◌≡◌, ◌∙◌, take, length, true, false, sym, subst}
+use Rattle.std.proofs.lemmas.Result.{err_from_is_err_and}
+use Rattle.rfb_codec.specs.Stage.{is_ended}
+use Rattle.rfb_codec.specs.UnderWay.{UnderWay, Paints, Waits, Refuses}
+use Rattle.rfb_codec.proofs.FeedLemmas.{feed_paints, feed_waits, feed_refuses}
+use Rattle.rfb_codec.proofs.painter.Painter.feed.Goals as goal
+
+pub returns-in_err-step-clause-fault : goal.returns-in_err-step-clause-fault
+returns-in_err-step-clause-fault c =
+    let old = c.self.inside in
+    let fault = c.in_err-step.field-0.0 in
+    let refuses = feed_refuses old.format old.rect old.stage old.pending.items c.args.picture.now c.feed.new.picture c.args.bytes.now fault c.in_err-step.ensures.fault in
+    let here = subst (λ (p : UnderWay). Refuses p c.args.picture.now c.args.bytes.now c.feed.new.picture fault) c.self.view_is refuses in
+    let p = err_from_is_err_and c.from_residual.result c.from_residual.ensures.1 in
+    rw (p.1, p.2) here
+
+pub returns-clause-done : goal.returns-clause-done
+returns-clause-done c = λ ended.
+    let old = c.self.inside in
+    let step = c.in_ok-step.step in
+    let ended' : is_ended old.rect step.stage ≡ true = sym c.is_ended.ensures ∙ ended in
+    let paints = feed_paints old.format old.rect old.stage step.stage old.pending.items c.feed.new.pending.items c.args.picture.now c.feed.new.picture (take step.used c.args.bytes.now) c.width-width.ensures.whole ended' c.in_ok-step.ensures.same c.in_ok-step.ensures.goes_on in
+    let next : UnderWay = record { rect = old.rect; form = old.format; stage = step.stage; pending = c.feed.new.pending.items } in
+    subst (λ (p : UnderWay). Paints p c.args.picture.now (take step.used c.args.bytes.now) next c.feed.new.picture) c.self.view_is paints
+
+pub returns-clause-more : goal.returns-clause-more
+returns-clause-more c = λ ended.
+    let old = c.self.inside in
+    let step = c.in_ok-step.step in
+    let ended' : is_ended old.rect step.stage ≡ false = sym c.is_ended.ensures ∙ ended in
+    let all : step.used ≡ length c.args.bytes.now = c.in_ok-step.ensures.all ended' in
+    let waits = feed_waits old.format old.rect old.stage step.stage old.pending.items c.feed.new.pending.items c.args.picture.now c.feed.new.picture step.used c.args.bytes.now all ended' c.in_ok-step.ensures.sound c.in_ok-step.ensures.same c.in_ok-step.ensures.goes_on in
+    let next : UnderWay = record { rect = old.rect; form = old.format; stage = step.stage; pending = c.feed.new.pending.items } in
+    subst (λ (p : UnderWay). Waits p c.args.picture.now c.args.bytes.now next c.feed.new.picture) c.self.view_is waits
