@@ -10,6 +10,8 @@ mod fault;
 pub mod law;
 mod painter;
 mod subrect;
+#[cfg(test)]
+mod tests;
 mod tiles;
 
 pub use block::{Block, PLACES, SIDE};

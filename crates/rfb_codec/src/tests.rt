@@ -1,0 +1,3 @@
+//! Tests of the crate as one who uses it sees it.
+
+mod usage;
