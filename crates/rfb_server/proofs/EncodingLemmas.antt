@@ -1,5 +1,6 @@
 -- Lists of encodings, each once: what one more makes of them, and that there is room for it.
-use Rattle.std.proofs.Common.{◌≡◌, ◌+◌, ◌<◌, ◌≤◌, ◌||◌, Bool, true, false, List, [], ◌∷◌, ◌++◌, length, if◌then◌else◌, refl, ap, ◌∙◌, arith}
+use Rattle.std.proofs.Common.{Bool, List, [], ap, arith, false, get_or, if◌then◌else◌, length, refl, suc, take, true, zero, ℕ, ◌++◌, ◌+◌, ◌<◌, ◌||◌, ◌∙◌, ◌∷◌, ◌≡◌, ◌≤◌}
+use Rattle.std.proofs.lemmas.List.{take_more}
 use Rattle.rfb_wire.specs.declared.encoding.Encoding.{Encoding}
 use Rattle.rfb_wire.specs.declared.encoding.Encoding.TheVariants.{Raw, CopyRect, Rre, Hextile}
 use Rattle.rfb_server.specs.Encodings.{is_same, is_listed, times_listed, IsEachOnce}
@@ -71,3 +72,19 @@ has_room Raw xs once h = omega (arith, counted xs, none_listed Raw xs h, once Co
 has_room CopyRect xs once h = omega (arith, counted xs, none_listed CopyRect xs h, once Raw, once Rre, once Hextile)
 has_room Rre xs once h = omega (arith, counted xs, none_listed Rre xs h, once Raw, once CopyRect, once Hextile)
 has_room Hextile xs once h = omega (arith, counted xs, none_listed Hextile xs h, once Raw, once CopyRect, once Rre)
+
+or_true : (b : Bool) → (b || true) ≡ true
+or_true true = refl
+or_true false = refl
+
+-- an encoding that stands at an index is listed
+pub listed_at : (e : Encoding) (xs : List Encoding) (i : ℕ) (d : Encoding) → i < length xs → is_same e (get_or xs i d) ≡ true → is_listed e xs ≡ true
+listed_at e [] i d l s = absurd (omega arith)
+listed_at e (x ∷ xs) zero d l s = rw s refl
+listed_at e (x ∷ xs) (suc i) d l s = rw (listed_at e xs i d (omega arith) s) (or_true (is_same e x))
+
+-- if none of the first is it, and the next is not, none of these is
+pub none_more : (e : Encoding) (xs : List Encoding) (i : ℕ) (d : Encoding) → i < length xs → is_listed e (take i xs) ≡ false →
+    is_same e (get_or xs i d) ≡ false → is_listed e (take (i + 1) xs) ≡ false
+none_more e xs i d l before s =
+    ap (λ (zs : List Encoding). is_listed e zs) (take_more xs i d l) ∙ (listed_more e (take i xs) (get_or xs i d) ∙ (rw (before, s) refl))

@@ -1,6 +1,7 @@
 //! The encodings that a viewer listed.
 
-ghost use Rattle.std.specs.Prelude.{◌≡◌, []};
+ghost use Rattle.std.specs.Prelude.{◌≡◌, [], Some};
+ghost use Rattle.rfb_server.specs.Encodings.{is_same};
 
 use rfb_wire::Encoding;
 use std::marker::Model;
@@ -28,6 +29,8 @@ impl Model for EncodingList {
 }
 
 impl EncodingList {
+    ghost use Rattle.rfb_server.specs.Encodings.{is_listed, with_encoding};
+
     /// No encoding is listed.
     pub(crate) fn new() -> EncodingList
         ensures { result ≡ [] }
@@ -37,4 +40,47 @@ impl EncodingList {
             count: 0,
         }
     }
+
+    /// The encodings, the one that the viewer prefers first.
+    pub(crate) fn as_slice(&self) -> &[Encoding]
+        ensures { result.now ≡ self.now }
+    {
+        &self.slots[..self.count]
+    }
+
+    /// Whether the encoding is listed.
+    pub(crate) fn has(&self, encoding: Encoding) -> bool
+        ensures { result ≡ is_listed encoding self.now }
+    {
+        let list = self.as_slice();
+        for i in 0..list.len() {
+            if same(encoding, list[i]) {
+                return true;
+            }
+        }
+        false
+    }
+
+    /// Lists the encoding behind the others, unless it is listed.
+    pub(crate) fn add(&mut self, encoding: Encoding)
+        ensures { self.new ≡ with_encoding self.old (Some encoding) }
+    {
+        if !self.has(encoding) {
+            self.slots[self.count] = encoding;
+            self.count += 1;
+        }
+    }
+}
+
+// Whether both are one encoding.
+fn same(one: Encoding, other: Encoding) -> bool
+    ensures { result ≡ is_same one other }
+{
+    matches!(
+        (one, other),
+        (Encoding::Raw, Encoding::Raw)
+            | (Encoding::CopyRect, Encoding::CopyRect)
+            | (Encoding::Rre, Encoding::Rre)
+            | (Encoding::Hextile, Encoding::Hextile)
+    )
 }
