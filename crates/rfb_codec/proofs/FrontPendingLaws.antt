@@ -20,7 +20,8 @@ use Rattle.rfb_codec.specs.Pending.{tile_pending, tiles_pending, data_pending}
 use Rattle.rfb_codec.specs.Front.{NoSource, TheSource, SomePixels, NoHead, SomeParts, SomeTiles, SomeOfRaw, SpellsPixels, BeginsTile, ShowsFront}
 use Rattle.rfb_codec.specs.Stage.{StandsAt, encoding_at, places_before}
 use Rattle.rfb_codec.proofs.TileLaws.{tile_reads}
-use Rattle.rfb_codec.proofs.TakeTileLemmas.{begun, raw_waits}
+use Rattle.rfb_codec.proofs.TakeTileLemmas.{begun}
+use Rattle.rfb_codec.proofs.TileFaultLemmas.{raw_waits}
 use Rattle.rfb_codec.proofs.VerdictLemmas.{fewer_bytes}
 
 short_is : (n m k : ℕ) → n < m → (if nat_lt n m then n else k) ≡ n

@@ -40,6 +40,8 @@ pub mod RunLemmas
 pub mod FrontLemmas
 pub mod ByteLemmas
 pub mod TakeTileLemmas
+pub mod RawTileLemmas
+pub mod TileFaultLemmas
 pub mod TakePartLemmas
 pub mod VerdictLemmas
 pub mod FeedLemmas

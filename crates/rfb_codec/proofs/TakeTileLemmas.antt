@@ -1,45 +1,33 @@
 -- Tiles that are taken one after another, and the pixels of a raw one.
-use Rattle.std.proofs.Common.{◌≡◌, ℕ, zero, suc, ◌+◌, ◌-◌, ◌*◌, ◌/◌, ◌%◌, ◌<◌, ◌≤◌, ◌&&◌, nat_lt, nat_le, List, [], ◌∷◌, ◌++◌, Bool, true, false, if◌then◌else◌, Option, Some, None, Result, Ok, Err, length, take, drop, inl, inr, refl, sym, subst, ◌∙◌, ap, append-nil, append_assoc, arith, length-append, length-drop}
+use Rattle.std.proofs.Common.{◌≡◌, ℕ, ◌+◌, ◌-◌, ◌*◌, ◌/◌, ◌%◌, ◌<◌, ◌≤◌, ◌&&◌, nat_lt, List, [], ◌∷◌, ◌++◌, Bool, true, false, if◌then◌else◌, Option, Some, None, Result, Ok, Err, length, take, drop, refl, sym, subst, ◌∙◌, ap, append-nil, append_assoc, arith, length-append, length-drop}
 use Rattle.std.specs.Prelude.{IfOk, IfSome, slice_index}
-use Rattle.std.proofs.lemmas.List.{take_at, take_all, get_or-take}
-use Rattle.std.proofs.lemmas.Bool.{cases_lt}
-use Rattle.std.proofs.Math.Nat.{mul-le-mul_right}
+use Rattle.std.proofs.lemmas.List.{take_at, take_all}
 use Rattle.std.proofs.lemmas.Bool.Decides.{nat_tests}
 use Rattle.rfb_pixel.specs.declared.colour.Colour.{Colour}
 use Rattle.rfb_pixel.specs.Format.{PixelFormat, size_of, colour_of}
 use Rattle.rfb_picture.specs.declared.rect.Rect.{Rect}
 use Rattle.rfb_picture.specs.Rect.{contains}
 use Rattle.rfb_picture.specs.Grid.{Grid, IsGrid, at_or}
-use Rattle.rfb_picture.proofs.GridLemmas.{same_changes, same_grid, contains_true, place_below, at-changed, whole-changed, whole_before, width-changed, height-changed}
-use Rattle.rfb_wire.specs.declared.encoding.Encoding.TheVariants.{Hextile}
-use Rattle.rfb_wire.specs.Reading.{Next, More, Got, Bad, ListedAfter}
-use Rattle.rfb_wire.specs.Fields.{u8_at}
-use Rattle.rfb_wire.specs.Parts.{named}
-use Rattle.rfb_wire.proofs.PartLaws.{piece_short}
+use Rattle.rfb_picture.proofs.GridLemmas.{same_changes, same_grid, at-changed, whole-changed, whole_before, width-changed, height-changed}
+use Rattle.rfb_wire.specs.Reading.{Next, More, Got}
 use Rattle.rfb_wire.specs.RectHead.{IsOnScreen}
 use Rattle.rfb_codec.specs.declared.fault.PaintFault.{PaintFault}
 use Rattle.rfb_codec.specs.declared.decode.hextile.tile_read.TileRead.{TileRead}
 use Rattle.rfb_codec.specs.declared.decode.hextile.tile_read.Seen.{Seen}
-use Rattle.rfb_codec.specs.declared.decode.stage.Place.{Place}
 use Rattle.rfb_codec.specs.declared.decode.stage.Step.{Step}
 use Rattle.rfb_codec.specs.declared.decode.stage.Stage.TheVariants.{InTiles, InRawTile}
-use Rattle.rfb_codec.specs.Raw.{raw_length, raw_pixel}
-use Rattle.rfb_codec.specs.Tile.{Tile, RawTile, PlainTile, is_raw, subrects_colored, behind_mask, mask_fault, background_of, foreground_of, later, tile_pixel, tile_behind}
-use Rattle.rfb_codec.specs.Hextile.{across, tile_count, tile_width, tile_height, tile_at, pixel_of_tiles, SpellsNextTile, hextile}
+use Rattle.rfb_codec.specs.Raw.{raw_pixel}
+use Rattle.rfb_codec.specs.Tile.{Tile, PlainTile, is_raw, later, tile_pixel, tile_behind}
+use Rattle.rfb_codec.specs.Hextile.{across, tile_count, tile_width, tile_height, tile_at, pixel_of_tiles, SpellsNextTile}
 use Rattle.rfb_codec.specs.TileRead.{tile_of_read, TellsTile, background_named, foreground_named, Sees, next_tile}
-use Rattle.rfb_codec.specs.RectData.{Pixels, rect_data}
 use Rattle.rfb_codec.specs.Painter.{over}
-use Rattle.rfb_codec.specs.Front.{SomeTiles, SpellsTiles, BeginsTile, pixels_over, tiles_over, tile_places, ShowsFront}
-use Rattle.rfb_codec.specs.Stage.{places_before, StandsPixels, StandsAt, DrawsTile, TellsNext, IsGoodTile, IsRefused, is_sound}
-use Rattle.rfb_codec.proofs.CarriedLemmas.{last_of-more}
+use Rattle.rfb_codec.specs.Front.{SpellsTiles, BeginsTile, pixels_over, tiles_over, tile_places}
+use Rattle.rfb_codec.specs.Stage.{StandsAt, DrawsTile, TellsNext, IsGoodTile, is_sound}
 use Rattle.rfb_codec.proofs.HextileEncodeLemmas.{listed_more, shown_before}
-use Rattle.rfb_codec.proofs.HextileLaws.{hextile_reads}
 use Rattle.rfb_codec.proofs.TileLaws.{tile_says, tile_reads}
-use Rattle.rfb_codec.proofs.PaintTileLemmas.{tile_got}
 use Rattle.rfb_codec.proofs.TileReadLemmas.{sees_more}
 use Rattle.rfb_codec.proofs.TilesOverLemmas.{IsTileRect, tile_over}
-use Rattle.rfb_codec.proofs.FrontLemmas.{run_within}
-use Rattle.rfb_codec.proofs.ByteLemmas.{last_byte, first_bad}
+use Rattle.rfb_codec.proofs.ByteLemmas.{last_byte}
 
 -- ---- a tile that was read
 
@@ -95,7 +83,7 @@ same_tiles : (f : PixelFormat) (rect : Rect) (n : ℕ) (tiles : List Tile) (t : 
 same_tiles f rect n tiles t g whole number = same_changes _ _ g whole (λ x y d p q. earlier_tile f rect.w (contains rect x y) tiles t (x - rect.x) (y - rect.y) n (at_or g x y d) number)
 
 -- a tile drawn over them
-draws : (f : PixelFormat) (rect : Rect) (n : ℕ) (tiles : List Tile) (t : Tile) (old new before : Grid Colour) → length tiles ≡ n → rect.x + n % across rect.w * 16 + tile_width rect.w n ≤ rect.x + rect.w → rect.y + n / across rect.w * 16 + tile_height rect.w rect.h n ≤ rect.y + rect.h → IsGrid old → old ≡ tiles_over f rect n tiles before → new ≡ over (tile_places rect n) (λ x y. colour_of f (tile_pixel f (tile_width rect.w n) (tiles ++ t ∷ []) t x y)) old → new ≡ tiles_over f rect (n + 1) (tiles ++ t ∷ []) before
+pub draws : (f : PixelFormat) (rect : Rect) (n : ℕ) (tiles : List Tile) (t : Tile) (old new before : Grid Colour) → length tiles ≡ n → rect.x + n % across rect.w * 16 + tile_width rect.w n ≤ rect.x + rect.w → rect.y + n / across rect.w * 16 + tile_height rect.w rect.h n ≤ rect.y + rect.h → IsGrid old → old ≡ tiles_over f rect n tiles before → new ≡ over (tile_places rect n) (λ x y. colour_of f (tile_pixel f (tile_width rect.w n) (tiles ++ t ∷ []) t x y)) old → new ≡ tiles_over f rect (n + 1) (tiles ++ t ∷ []) before
 draws f rect n tiles t old new before number columns rows whole was drawn =
     let part : Rect = record { x = n % across rect.w * 16; y = n / across rect.w * 16; w = tile_width rect.w n; h = tile_height rect.w rect.h n } in
     let on : IsOnScreen rect.w rect.h part = (omega (arith, columns), omega (arith, rows)) in
@@ -229,197 +217,3 @@ front_sound f rect n seen pending rest bytes step below wide high size none shor
         let all : rest ≡ [] = told.1 ∙ none in
         rw (told.0, all) (all_four n 0 0 0 (tile_count rect.w rect.h) (tile_width rect.w n) (tile_height rect.w rect.h n) (size_of f) below wide high size)
     by false e = let told = other e in rw (told.0, told.1) (below_it (length bytes) 1536 short)
-
--- ---- the pixels of a raw tile
-
--- all of them
-pub pixels_all : (f : PixelFormat) (rect : Rect) (count : ℕ) (pixels : List ℕ) (g : Grid Colour) → IsGrid g → count ≡ rect.h * rect.w → pixels_over f rect count pixels g ≡ over rect (λ x y. colour_of f (raw_pixel f rect.w pixels x y)) g
-pixels_all f rect count pixels g whole all =
-    same_changes _ _ g whole
-    (λ x y d p q. by (contains rect x y) _ (at_or g x y d)
-    (λ e.
-    let h = contains_true rect x y e in
-    let below = place_below rect.w rect.h (x - rect.x) (y - rect.y) (omega arith) (omega arith) in
-    grind (arith, nat_tests)))
-  where
-    by : (b : Bool) (c old : Colour) {t : Bool} → (b ≡ true → t ≡ true) → (if b && t then c else old) ≡ (if b then c else old)
-    by true c old on = rw (on refl) refl
-    by false c old on = refl
-
--- a raw tile that is whole
-raw_spelled : (f : PixelFormat) (w h : ℕ) (tiles : List Tile) (mask : ℕ) (pixels : List ℕ) → is_raw mask ≡ true → length pixels ≡ raw_length f (tile_width w (length tiles)) (tile_height w h (length tiles)) → SpellsNextTile f w h tiles (RawTile pixels) (mask ∷ pixels)
-raw_spelled f w h tiles mask pixels raw size = (
-  record { head = mask ∷ []; rest = pixels; whole = refl; one = refl; good = rw raw refl; behind = (raw, refl, size) },
-  tt,
-)
-
--- pixels taken of it, and those that are left
-pub raw_goes_on : (f : PixelFormat) (rect places : Rect) (n : ℕ) (seen : Seen) (at next : Place) (pending more rest : List ℕ) (old new before : Grid Colour) (body : List ℕ) → places ≡ tile_places rect n → next.x < places.w → next.y < places.h → ((before : Grid Colour) (back : List ℕ) → StandsPixels f places at pending old before back → StandsPixels f places next rest new before (back ++ more)) → StandsAt f rect (InRawTile n seen at) pending old before body → StandsAt f rect (InRawTile n seen next) rest new before (body ++ more)
-raw_goes_on f rect places n seen at next pending more rest old new before body is wide high goes (tiles, pixels, number, sees, s) =
-    let w = tile_width rect.w n in
-    let h = tile_height rect.w rect.h n in
-    let r = s.spelled in
-    let goes' = subst (λ (p : Rect). (before : Grid Colour) (back : List ℕ) → StandsPixels f p at pending old before back → StandsPixels f p next rest new before (back ++ more)) is goes in
-    let wide' : next.x < w = subst (λ (p : Rect). next.x < p.w) is wide in
-    let high' : next.y < h = subst (λ (p : Rect). next.y < p.h) is high in
-    let got = goes' (tiles_over f rect n tiles before) r.back (pixels, rw number at r.some, rw number at s.shows) in
-    let inside = run_within w h next.x next.y 1 (omega arith) high' in (
-      tiles,
-      got.0,
-      number,
-      sees,
-      record {
-        spelled = record {
-          front = r.front;
-          mask = r.mask;
-          back = r.back ++ more;
-          whole = ap (λ (ys : List ℕ). ys ++ more) r.whole ∙ append_assoc r.front (r.mask ∷ r.back) more;
-          spelled = r.spelled;
-          raw = r.raw;
-          fewer = r.fewer;
-          left = rw number (omega (arith, inside));
-          some = rw number got.1;
-        };
-        shows = rw number got.2;
-      },
-    )
-
-pub raw_ends : (f : PixelFormat) (rect places : Rect) (n : ℕ) (seen : Seen) (at next : Place) (pending more rest : List ℕ) (old new before : Grid Colour) (body : List ℕ) → places ≡ tile_places rect n → places.x + places.w ≤ rect.x + rect.w → places.y + places.h ≤ rect.y + rect.h → IsGrid old → places.h ≤ next.y → ((before : Grid Colour) (back : List ℕ) → StandsPixels f places at pending old before back → StandsPixels f places next rest new before (back ++ more)) → StandsAt f rect (InRawTile n seen at) pending old before body → StandsAt f rect (InTiles (n + 1) seen) rest new before (body ++ more)
-raw_ends f rect places n seen at next pending more rest old new before body is columns rows whole high goes (tiles, pixels, number, sees, s) =
-    let w = tile_width rect.w n in
-    let h = tile_height rect.w rect.h n in
-    let r = s.spelled in
-    let shown_before' = tiles_over f rect n tiles before in
-    let goes' = subst (λ (p : Rect). (before : Grid Colour) (back : List ℕ) → StandsPixels f p at pending old before back → StandsPixels f p next rest new before (back ++ more)) is goes in
-    let high' : h ≤ next.y = subst (λ (p : Rect). p.h ≤ next.y) is high in
-    let columns' : rect.x + n % across rect.w * 16 + w ≤ rect.x + rect.w = subst (λ (p : Rect). p.x + p.w ≤ rect.x + rect.w) is columns in
-    let rows' : rect.y + n / across rect.w * 16 + h ≤ rect.y + rect.h = subst (λ (p : Rect). p.y + p.h ≤ rect.y + rect.h) is rows in
-    let was : old ≡ pixels_over f (tile_places rect n) (places_before w at) pixels shown_before' = rw number at s.shows in
-    let got = goes' shown_before' r.back (pixels, rw number at r.some, was) in
-    let past : h * w ≤ next.y * w = mul-le-mul_right w high' in
-    let few = got.1.few in
-    let all : places_before w next ≡ h * w = omega (arith, past, few) in
-    let none : rest ≡ [] = got.1.ended all in
-    let t = RawTile got.0 in
-    let long : length (tiles ++ t ∷ []) ≡ n + 1 = length-append tiles (t ∷ []) ∙ ap (λ (k : ℕ). k + 1) number in
-    let size : length got.0 ≡ raw_length f w h = got.1.size ∙ ap (λ (k : ℕ). k * size_of f) all in
-    let whole' : IsGrid shown_before' = whole_before _ shown_before' (subst (λ (g : Grid Colour). IsGrid g) was whole) in
-    let pixels_end : r.back ++ more ≡ got.0 = got.1.whole ∙ ap (λ (ys : List ℕ). got.0 ++ ys) none ∙ append-nil got.0 in
-    let drawn : new ≡ over (tile_places rect n) (λ x y. colour_of f (raw_pixel f w got.0 x y)) shown_before' = got.2 ∙ pixels_all f (tile_places rect n) (places_before w next) got.0 shown_before' whole' all in (
-      tiles ++ t ∷ [],
-      long,
-      record { background = sees.background ∙ sym (last_of-more background_of tiles t); foreground = sees.foreground ∙ sym (last_of-more foreground_of tiles t) },
-      record {
-        spelled = rw none (record {
-          front = r.front ++ (r.mask ∷ got.0);
-          whole = ap (λ (ys : List ℕ). ys ++ more) r.whole ∙ append_assoc r.front (r.mask ∷ r.back) more ∙ ap (λ (ys : List ℕ). r.front ++ (r.mask ∷ ys)) pixels_end ∙ sym (append-nil (r.front ++ (r.mask ∷ got.0)));
-          spelled = listed_more (SpellsNextTile f rect.w rect.h) [] tiles t r.front (r.mask ∷ got.0) r.spelled (raw_spelled f rect.w rect.h tiles r.mask got.0 r.raw (rw number size));
-          begins = let fewer = r.fewer in omega (arith, long, number, fewer);
-        });
-        shows = rw long (draws f rect n tiles t shown_before' new before number columns' rows' whole' refl drawn);
-      },
-    )
-
--- ---- faults
-
--- a raw tile that is not whole is waited for
-pub raw_waits : (f : PixelFormat) (w h : ℕ) (tiles : List Tile) (bytes : List ℕ) (mask : ℕ) → 1 ≤ length bytes → mask ≡ slice_index bytes 0 → is_raw mask ≡ true → length (drop 1 bytes) < raw_length f (tile_width w (length tiles)) (tile_height w h (length tiles)) → next_tile f w h tiles bytes ≡ More
-raw_waits f w h tiles bytes mask some mask_is raw short =
-    let tw = tile_width w (length tiles) in
-    let th = tile_height w h (length tiles) in
-    let whole : nat_le 1 (length bytes) ≡ true = grind (arith, nat_tests) in
-    let first : u8_at 0 (take 1 bytes) ≡ mask = get_or-take 1 bytes 0 0 (omega arith) ∙ sym mask_is in
-    let good : mask_fault tiles mask ≡ None = rw raw refl in
-    let waits : behind_mask f tw th mask (is_raw mask) (subrects_colored mask) (drop 1 bytes) ≡ More = rw (raw, piece_short {F = PaintFault} (raw_length f tw th) (drop 1 bytes) short) refl in
-    rw (whole, first, good, waits) refl
-
--- and never at fault
-raw_is_good : (f : PixelFormat) (w h : ℕ) (tiles : List Tile) (mask : ℕ) (rest : List ℕ) (fault : PaintFault) → is_raw mask ≡ true → next_tile f w h tiles (mask ∷ rest) ≡ Bad fault → ⊥
-raw_is_good f w h tiles mask rest fault raw bad =
-    let tw = tile_width w (length tiles) in
-    let th = tile_height w h (length tiles) in
-    let n = raw_length f tw th in
-    let good : mask_fault tiles mask ≡ None = rw raw refl in
-    elim (cases_lt (length rest) n) [
-      | inl short ↦ let more = raw_waits f w h tiles (mask ∷ rest) mask (omega arith) refl raw short in
-          let both : ◌≡◌ {A = Next Tile PaintFault} More (Bad fault) = sym more ∙ bad in cc
-      | inr enough ↦
-          let long : nat_le n (length rest) ≡ true = grind (arith, nat_tests) in
-          let found : behind_mask f tw th mask (is_raw mask) (subrects_colored mask) rest ≡ Got (RawTile (take n rest)) (drop n rest) = rw (raw, long) refl in
-          let got = tile_got f tw th tiles (mask ∷ rest) mask (RawTile (take n rest)) (drop n rest) (omega arith) refl good found refl in
-          let both : ◌≡◌ {A = Next Tile PaintFault} (Got (RawTile (take n rest)) (drop n rest)) (Bad fault) = sym got ∙ bad in cc
-    ]
-
--- the data of tiles show what the tile after them shows
-pub hextile_bad : (f : PixelFormat) (w h : ℕ) (tiles : List Tile) (front xs : List ℕ) (fault : PaintFault) → ListedAfter (SpellsNextTile f w h) [] tiles front → length tiles < tile_count w h → next_tile f w h tiles xs ≡ Bad fault → hextile f w h (front ++ xs) ≡ Bad fault
-hextile_bad f w h tiles front xs fault spelled fewer bad =
-    let n = length tiles in
-    let one = (tile_reads f (tile_width w n) (tile_height w h n) tiles).blamed xs fault bad in
-    let u = one.0 in
-    let read = (hextile_reads f w h).blames fault (front ++ u) one.1 (record { tiles = tiles; front = front; back = u; whole = refl; fewer = fewer; spelled = spelled; bad = one.3 }) in
-    subst (λ (ys : List ℕ). hextile f w h ys ≡ Bad fault) (append_assoc front u one.1 ∙ ap (λ (ys : List ℕ). front ++ ys) (sym one.2)) read
-
-hextile_data : (f : PixelFormat) (width height : ℕ) (rect : Rect) (bytes : List ℕ) (fault : PaintFault) → hextile f rect.w rect.h bytes ≡ Bad fault → rect_data f width height rect Hextile bytes ≡ Bad fault
-unfolding rect_data
-hextile_data f width height rect bytes fault bad = ap (named (λ block. Pixels block) (λ fault. fault)) bad
-
--- a tile that is refused with byte k of these
-tile_refused : (f : PixelFormat) (rect : Rect) (n : ℕ) (seen : Seen) (pending bytes : List ℕ) (fault : PaintFault) (now before : Grid Colour) (body : List ℕ) → n < tile_count rect.w rect.h → ((tiles : List Tile) → length tiles ≡ n → Sees tiles seen → BeginsTile f rect.w rect.h tiles pending → (k : ℕ) × (k < length bytes) × BeginsTile f rect.w rect.h tiles (pending ++ take k bytes) × (next_tile f rect.w rect.h tiles (pending ++ take (k + 1) bytes) ≡ Bad fault)) → StandsAt f rect (InTiles n seen) pending now before body → IsRefused f rect Hextile before body bytes fault now
-tile_refused f rect n seen pending bytes fault now before body below refused (tiles, number, sees, s) =
-    let at = refused tiles number sees s.spelled.begins in
-    let k = at.0 in
-    let fewer : length tiles < tile_count rect.w rect.h = rw number below in
-    let whole : body ++ take (k + 1) bytes ≡ s.spelled.front ++ (pending ++ take (k + 1) bytes) = ap (λ (ys : List ℕ). ys ++ take (k + 1) bytes) s.spelled.whole ∙ append_assoc s.spelled.front pending (take (k + 1) bytes) in
-    let bad = hextile_bad f rect.w rect.h tiles s.spelled.front (pending ++ take (k + 1) bytes) fault s.spelled.spelled fewer at.3 in
-    record {
-      n = k;
-      pending = pending ++ take k bytes;
-      within = at.1;
-      bad = hextile_data f before.width before.height rect (body ++ take (k + 1) bytes) fault (rw whole bad);
-      shows = record {
-        front = SomeTiles tiles;
-        encoding_is = refl;
-        shown_is = record { spelled = tiles_wait f rect.w rect.h tiles pending (take k bytes) (pending ++ take k bytes) body s.spelled refl at.2; shows = s.shows };
-      };
-    }
-
--- with the byte after those pending
-pub byte_refused : (f : PixelFormat) (rect : Rect) (n : ℕ) (seen : Seen) (pending xs : List ℕ) (byte : ℕ) (fault : PaintFault) (now before : Grid Colour) (body : List ℕ) → n < tile_count rect.w rect.h → xs ≡ pending ++ byte ∷ [] → TellsNext f rect n seen xs (Err fault) → StandsAt f rect (InTiles n seen) pending now before body → IsRefused f rect Hextile before body (byte ∷ []) fault now
-byte_refused f rect n seen pending xs byte fault now before body below is tells stands =
-    tile_refused f rect n seen pending (byte ∷ []) fault now before body below
-    (λ tiles number sees begins.
-    let none : pending ++ take 0 (byte ∷ []) ≡ pending = append-nil pending in
-    (0, omega arith, rw none begins, subst (λ (ys : List ℕ). next_tile f rect.w rect.h tiles ys ≡ Bad fault) is (tells tiles number sees)))
-    stands
-
--- in a slice, with the first byte with which it is
-begins_before : (f : PixelFormat) (w h : ℕ) (tiles : List Tile) (bytes : List ℕ) (k : ℕ) (fault : PaintFault) → length tiles < tile_count w h → next_tile f w h tiles (take k bytes) ≡ More → next_tile f w h tiles bytes ≡ Bad fault → BeginsTile f w h tiles (take k bytes)
-begins_before f w h tiles bytes zero fault fewer more bad = omega arith
-begins_before f w h tiles [] (suc k) fault fewer more bad = omega arith
-begins_before f w h tiles (mask ∷ rest) (suc k) fault fewer more bad = (fewer, drawn (is_raw mask) refl, more)
-  where
-    drawn : (b : Bool) → is_raw mask ≡ b → is_raw mask ≡ false
-    drawn true e = absurd (raw_is_good f w h tiles mask rest fault e bad)
-    drawn false e = e
-
-pub slice_refused : (f : PixelFormat) (rect : Rect) (n : ℕ) (seen : Seen) (pending bytes : List ℕ) (fault : PaintFault) (now before : Grid Colour) (body : List ℕ) → n < tile_count rect.w rect.h → pending ≡ [] → TellsNext f rect n seen bytes (Err fault) → StandsAt f rect (InTiles n seen) pending now before body → IsRefused f rect Hextile before body bytes fault now
-slice_refused f rect n seen pending bytes fault now before body below none tells stands =
-    tile_refused f rect n seen pending bytes fault now before body below
-    (λ tiles number sees begins.
-    let m = length tiles in
-    let fewer : length tiles < tile_count rect.w rect.h = rw number below in
-    let bad = tells tiles number sees in
-    let at = first_bad (next_tile f rect.w rect.h tiles) (tile_says f (tile_width rect.w m) (tile_height rect.w rect.h m) tiles) (tile_reads f (tile_width rect.w m) (tile_height rect.w rect.h m) tiles) bytes fault refl bad in
-    rw none (at.0, at.1, begins_before f rect.w rect.h tiles bytes at.0 fault fewer at.2 bad, at.3))
-    stands
-
--- ---- a fault in more bytes
-
--- the first of them showed it
-pub first_refused : (f : PixelFormat) (rect : Rect) (before : Grid Colour) (body bytes : List ℕ) (fault : PaintFault) (now : Grid Colour) → 0 < length bytes → IsRefused f rect Hextile before body (slice_index bytes 0 ∷ []) fault now → IsRefused f rect Hextile before body bytes fault now
-first_refused f rect before body [] fault now some r = absurd (omega arith)
-first_refused f rect before body (byte ∷ rest) fault now some r =
-    let none : r.n ≡ 0 = let a = r.within in omega arith in
-    let bad : rect_data f before.width before.height rect Hextile (body ++ take (0 + 1) (byte ∷ [])) ≡ Bad fault = rw none at r.bad in
-    let shows : ShowsFront f rect Hextile before (body ++ take 0 (byte ∷ [])) r.pending now = rw none at r.shows in
-    record { n = 0; pending = r.pending; within = omega arith; bad = bad; shows = shows }

@@ -41,7 +41,9 @@ use Rattle.rfb_codec.proofs.TilesOverLemmas.{tiles_all}
 use Rattle.rfb_codec.proofs.PaintHextileLemmas.{hextile_opened, shown_tiles}
 use Rattle.rfb_codec.proofs.RectDataLaws.{rect_data_reads}
 use Rattle.rfb_codec.proofs.FrontLemmas.{run_within}
-use Rattle.rfb_codec.proofs.TakeTileLemmas.{pixels_all, begun, raw_waits}
+use Rattle.rfb_codec.proofs.TakeTileLemmas.{begun}
+use Rattle.rfb_codec.proofs.RawTileLemmas.{pixels_all}
+use Rattle.rfb_codec.proofs.TileFaultLemmas.{raw_waits}
 
 -- ---- numbers
 

@@ -2,7 +2,8 @@ use Rattle.std.proofs.Common.{◌≡◌, ◌∙◌, [], ◌∷◌, ◌++◌, Lis
 use Rattle.rfb_codec.specs.Hextile.{tile_width, tile_height}
 use Rattle.rfb_codec.specs.TileRead.{tile_of_read}
 use Rattle.rfb_codec.specs.Stage.{TellsNext}
-use Rattle.rfb_codec.proofs.TakeTileLemmas.{byte_refused, byte_waits, last_taken, tile_goes_on}
+use Rattle.rfb_codec.proofs.TakeTileLemmas.{byte_waits, last_taken, tile_goes_on}
+use Rattle.rfb_codec.proofs.TileFaultLemmas.{byte_refused}
 use Rattle.rfb_codec.proofs.decode.hextile.take.take_byte.Goals as goal
 
 pub returns-in-Err-clause-fault : goal.returns-in-Err-clause-fault

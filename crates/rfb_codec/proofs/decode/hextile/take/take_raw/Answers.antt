@@ -1,5 +1,5 @@
 use Rattle.std.proofs.Common.{take}
-use Rattle.rfb_codec.proofs.TakeTileLemmas.{raw_goes_on, raw_ends}
+use Rattle.rfb_codec.proofs.RawTileLemmas.{raw_goes_on, raw_ends}
 use Rattle.rfb_codec.proofs.decode.hextile.take.take_raw.Goals as goal
 
 pub returns-then-at-places-clause-goes_on : goal.returns-then-at-places-clause-goes_on

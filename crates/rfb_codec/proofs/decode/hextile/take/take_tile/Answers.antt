@@ -6,7 +6,8 @@ use Rattle.rfb_codec.specs.declared.decode.stage.Stage.TheVariants.{InTiles}
 use Rattle.rfb_codec.specs.TileRead.{tile_of_read}
 use Rattle.rfb_codec.specs.Stage.{Stops}
 use Rattle.rfb_codec.proofs.FrontLemmas.{no_items, some_places}
-use Rattle.rfb_codec.proofs.TakeTileLemmas.{first_refused, slice_refused, front_goes_on, front_sound, tile_goes_on, tile_taken}
+use Rattle.rfb_codec.proofs.TakeTileLemmas.{front_goes_on, front_sound, tile_goes_on, tile_taken}
+use Rattle.rfb_codec.proofs.TileFaultLemmas.{first_refused, slice_refused}
 use Rattle.rfb_codec.proofs.decode.hextile.take.take_tile.Goals as goal
 
 pub returns-then-not-is_empty-clause-fault : goal.returns-then-not-is_empty-clause-fault
