@@ -3,6 +3,7 @@ use Rattle.std.proofs.Common.{Bool, List, [], ap, arith, false, get_or, if◌the
 use Rattle.std.proofs.lemmas.List.{take_more}
 use Rattle.rfb_wire.specs.declared.encoding.Encoding.{Encoding}
 use Rattle.rfb_wire.specs.declared.encoding.Encoding.TheVariants.{Raw, CopyRect, Rre, Hextile}
+use Rattle.rfb_server.specs.Composing.{may_send}
 use Rattle.rfb_server.specs.Encodings.{is_same, is_listed, times_listed, IsEachOnce}
 
 same_is : (a b : Encoding) → is_same a b ≡ true → a ≡ b
@@ -88,3 +89,14 @@ pub none_more : (e : Encoding) (xs : List Encoding) (i : ℕ) (d : Encoding) →
     is_same e (get_or xs i d) ≡ false → is_listed e (take (i + 1) xs) ≡ false
 none_more e xs i d l before s =
     ap (λ (zs : List Encoding). is_listed e zs) (take_more xs i d l) ∙ (listed_more e (take i xs) (get_or xs i d) ∙ (rw (before, s) refl))
+
+same_self : (e : Encoding) → is_same e e ≡ true
+same_self Raw = refl
+same_self CopyRect = refl
+same_self Rre = refl
+same_self Hextile = refl
+
+-- one of a list may be sent
+pub may_send_at : (xs : List Encoding) (i : ℕ) (d : Encoding) → i < length xs → may_send xs (get_or xs i d) ≡ true
+may_send_at xs i d l =
+    rw (listed_at (get_or xs i d) xs i d l (same_self (get_or xs i d))) (or_true (is_same (get_or xs i d) Raw))

@@ -1,6 +1,6 @@
 //! The encodings that a viewer listed.
 
-ghost use Rattle.std.specs.Prelude.{◌≡◌, [], Some};
+ghost use Rattle.std.specs.Prelude.{◌≡◌, [], Some, true, false};
 ghost use Rattle.rfb_server.specs.Encodings.{is_same};
 
 use rfb_wire::Encoding;
@@ -29,7 +29,9 @@ impl Model for EncodingList {
 }
 
 impl EncodingList {
+    ghost use Rattle.rfb_wire.specs.declared.encoding.Encoding.TheVariants.{CopyRect};
     ghost use Rattle.rfb_server.specs.Encodings.{is_listed, with_encoding};
+    ghost use Rattle.rfb_server.specs.Composing.{may_send};
 
     /// No encoding is listed.
     pub(crate) fn new() -> EncodingList
@@ -59,6 +61,22 @@ impl EncodingList {
             }
         }
         false
+    }
+
+    /// The encoding that pixels are to be sent in: the first listed one that brings pixels, and Raw
+    /// where there is none.
+    pub(crate) fn preferred(&self) -> Encoding
+        ensures sendable { may_send self.now result ≡ true }
+        ensures pixels { is_same result CopyRect ≡ false }
+    {
+        let list = self.as_slice();
+        for i in 0..list.len() {
+            let encoding = list[i];
+            if !same(encoding, Encoding::CopyRect) {
+                return encoding;
+            }
+        }
+        Encoding::Raw
     }
 
     /// Lists the encoding behind the others, unless it is listed.
