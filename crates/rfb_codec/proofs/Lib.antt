@@ -22,6 +22,10 @@ pub mod TileLaws
 pub mod HextileLaws
 pub mod CoverLemmas
 pub mod ColoursLemmas
+pub mod PlacesLemmas
+pub mod TallyLemmas
+pub mod CountLemmas
+pub mod StepLemmas
 pub mod RreEncodeLemmas
 pub mod TileLengthLemmas
 pub mod TileSpellingLemmas

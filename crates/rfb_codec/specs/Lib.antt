@@ -9,6 +9,7 @@ pub mod Hextile
 pub mod TileSpelling
 pub mod Carried
 pub mod Colours
+pub mod Background
 pub mod RectData
 pub mod UpdateStream
 pub mod Effect

@@ -1,7 +1,8 @@
 //! The background that an encoder chooses, by this project's rule.
 
-ghost use Rattle.std.specs.Prelude.{◌<◌, ◌≤◌, length, IfOk, IfSome};
-ghost use Rattle.rfb_codec.specs.Cover.{IsPixelOf};
+ghost use Rattle.std.specs.Prelude.{◌≡◌, ◌+◌, ◌<◌, ◌≤◌, ◌++◌, length, replicate, IfOk, IfErr, IfSome, IfNone};
+ghost use Rattle.std.specs.Bool.{OnTrue, OnFalse};
+ghost use Rattle.rfb_codec.specs.Background.{IsBackground, HasMore, IsStopped, IsLed, IsRun, EndsRun, Leads, hash_of};
 
 use crate::block::PLACES;
 use arrayvec::ArrayVec;
@@ -27,8 +28,9 @@ enum Stop {
     Room,
 }
 
-/// The pixel that the most places have, among equals the least; or None, where there are more than
-/// `most` pixels. `pixels` stay the caller's.
+/// The pixel that the most places have, among equals the least. `pixels` stay the caller's.
+///
+/// None comes only where there are more than `most` different pixels.
 ///
 /// It goes by runs of one pixel and counts each in a table on the stack, of which most blocks need a
 /// small one. A slot belongs to the first pixel that comes to it. Others that come to it are put aside and
@@ -36,14 +38,13 @@ enum Stop {
 pub(crate) fn background_of(pixels: &[u32], most: usize) -> Option<u32>
     requires some { 0 < length pixels.now }
     requires few { length pixels.now ≤ PLACES }
-    ensures { IfSome result (λ pixel. IsPixelOf pixels.now pixel) }
+    ensures background { IfSome result (λ pixel. IsBackground pixels.now pixel) }
+    ensures more { IfNone result (HasMore most pixels.now) }
 {
-    let stop = match tally::<FEW, ASIDE>(pixels, most.min(FEW / 2)) {
-        Ok(best) => return Some(pixels[best]),
-        Err(stop) => stop,
-    };
-    if stop == Stop::Pixels && most <= FEW / 2 {
-        return None;
+    match tally::<FEW, ASIDE>(pixels, most.min(FEW / 2)) {
+        Ok(pixel) => return Some(pixel),
+        Err(Stop::Pixels) if most <= FEW / 2 => return None,
+        Err(_) => {}
     }
     let found = if pixels.len() <= TILE {
         tally::<FEW, TILE>(pixels, most)
@@ -51,46 +52,48 @@ pub(crate) fn background_of(pixels: &[u32], most: usize) -> Option<u32>
         tally::<MANY, PLACES>(pixels, most)
     };
     match found {
-        Ok(best) => Some(pixels[best]),
+        Ok(pixel) => Some(pixel),
         Err(_) => None,
     }
 }
 
-// A place of the most frequent pixel, the least of those. It stops at more pixels than `free`, or at more
-// places aside than `ROOM`.
+// The most frequent pixel, the least of those. It stops at more pixels than `free`, or at more places
+// aside than `ROOM`.
 fn tally<const SLOTS: usize, const ROOM: usize>(
     pixels: &[u32],
     mut free: usize,
-) -> Result<usize, Stop>
+) -> Result<u32, Stop>
     requires some { 0 < length pixels.now }
     requires few { length pixels.now ≤ PLACES }
     requires slots { (0 < SLOTS) × (SLOTS ≤ MANY) }
     requires room { ROOM ≤ PLACES }
-    ensures { IfOk result (λ best. best < length pixels.now) }
+    ensures found { IfOk result (λ pixel. IsBackground pixels.now pixel) }
+    ensures stopped { IfErr result (λ stop. IsStopped stop free ROOM pixels.now) }
 {
     // Of the pixel that a slot belongs to, the first place and 1, and how many places have it so far.
     let mut firsts = [0u16; SLOTS];
     let mut counts = [0u16; SLOTS];
     let mut aside: ArrayVec<u32, ROOM> = ArrayVec::new();
-    let (mut best, mut most) = (0, 0);
+    let (mut better, mut most) = (pixels[0], 0u16);
     let mut start = 0;
     while start < pixels.len() {
         let end = run_end(pixels, start);
         let pixel = pixels[start];
         let slot = hash(pixel) % SLOTS;
-        let first = usize::from(firsts[slot]);
+        let mut first = usize::from(firsts[slot]);
         if first == 0 {
             if free == 0 {
                 return Err(Stop::Pixels);
             }
             free -= 1;
-            firsts[slot] = start as u16 + 1;
+            first = start + 1;
+            firsts[slot] = first as u16;
         }
-        if first == 0 || pixels.get(first - 1) == Some(&pixel) {
-            let count = counts[slot].saturating_add((end - start) as u16);
+        if pixels[first - 1] == pixel {
+            let count = counts[slot] + (end - start) as u16;
             counts[slot] = count;
-            if most < count || (most == count && pixel < pixels[best]) {
-                (best, most) = (start, count);
+            if leads(usize::from(count), pixel, usize::from(most), better) {
+                (better, most) = (pixel, count);
             }
         } else if !put_aside(&mut aside, pixel, end - start) {
             return Err(Stop::Room);
@@ -98,14 +101,16 @@ fn tally<const SLOTS: usize, const ROOM: usize>(
         start = end;
     }
     if aside.is_empty() {
-        return Ok(best);
+        return Ok(better);
     }
-    Ok(with_aside(pixels, best, usize::from(most), &mut aside))
+    Ok(with_aside(better, usize::from(most), &mut aside))
 }
 
 // Puts that many places of a pixel aside, if there is room for them.
 fn put_aside<const ROOM: usize>(aside: &mut ArrayVec<u32, ROOM>, pixel: u32, count: usize) -> bool
     requires { ROOM ≤ PLACES }
+    ensures all { OnTrue result (aside.new.items ≡ aside.old.items ++ replicate count pixel) }
+    ensures full { OnFalse result (ROOM < length aside.old.items + count) }
 {
     for _ in 0..count {
         if aside.try_push(pixel).is_err() {
@@ -115,35 +120,41 @@ fn put_aside<const ROOM: usize>(aside: &mut ArrayVec<u32, ROOM>, pixel: u32, cou
     true
 }
 
-// The place `best`, whose pixel `most` places have, or that of a better pixel of those aside.
+// Whether a pixel that `count` places have comes before `better`, which `most` have.
+fn leads(count: usize, pixel: u32, most: usize, better: u32) -> bool
+    ensures yes { OnTrue result (Leads count pixel most better) }
+    ensures no { OnFalse result ((count ≤ most) × (count ≡ most → better ≤ pixel)) }
+{
+    if most < count {
+        return true;
+    }
+    if count < most {
+        return false;
+    }
+    pixel < better
+}
+
+// The pixel `better`, which `most` places have, or a better one of those aside.
 fn with_aside<const ROOM: usize>(
-    pixels: &[u32],
-    best: usize,
+    mut better: u32,
     mut most: usize,
     aside: &mut ArrayVec<u32, ROOM>,
-) -> usize
-    requires place { best < length pixels.now }
+) -> u32
     requires room { ROOM ≤ PLACES }
-    ensures { result < length pixels.now }
+    ensures { IsLed aside.old.items better most result }
 {
     aside.as_mut_slice().sort_unstable();
     let sorted = aside.as_slice();
-    let mut better = pixels[best];
     let mut start = 0;
     while start < sorted.len() {
         let end = run_end(sorted, start);
         let (pixel, count) = (sorted[start], end - start);
-        if most < count || (most == count && pixel < better) {
+        if leads(count, pixel, most, better) {
             (better, most) = (pixel, count);
         }
         start = end;
     }
-    for (place, pixel) in pixels.iter().enumerate() {
-        if *pixel == better {
-            return place;
-        }
-    }
-    best
+    better
 }
 
 // The end of the run of one pixel that begins at `start`.
@@ -151,6 +162,8 @@ fn run_end(pixels: &[u32], start: usize) -> usize
     requires { start < length pixels.now }
     ensures within { result ≤ length pixels.now }
     ensures some { start < result }
+    ensures run { IsRun pixels.now start result }
+    ensures other { EndsRun pixels.now start result }
 {
     let pixel = pixels[start];
     for i in start + 1..pixels.len() {
@@ -162,7 +175,9 @@ fn run_end(pixels: &[u32], start: usize) -> usize
 }
 
 // Spreads pixel values over a table.
-fn hash(pixel: u32) -> usize {
+fn hash(pixel: u32) -> usize
+    ensures { result ≡ hash_of pixel }
+{
     (pixel.wrapping_mul(0x9E37_79B1) >> 16) as usize
 }
 

@@ -22,7 +22,7 @@ pub returns-else-not-cover-2-clause-sends : goal.returns-else-not-cover-2-clause
 returns-else-not-cover-2-clause-sends c =
     sends_more c.args.format.now c.args.width c.args.height c.args.pixels.now c.cover-in-More.new.subs.items c.args.carried c.in_ok-background-in-More.background c.named-in-More.result
     c.requires.whole (c.requires.columns, c.requires.rows) c.requires.pixels
-    (pixel_small c.args.format.now c.args.pixels.now c.in_ok-background-in-More.background c.requires.pixels c.in_ok-background-in-More.ensures)
+    (pixel_small c.args.format.now c.args.pixels.now c.in_ok-background-in-More.background c.requires.pixels c.in_ok-background-in-More.ensures.background.there)
     c.if-not-cover-2.ensures.cover c.named-in-More.ensures
 
 pub returns-else-not-cover-2-clause-parts : goal.returns-else-not-cover-2-clause-parts
