@@ -3,10 +3,12 @@
 ghost use Rattle.std.specs.Prelude.{◌≡◌, MatchOption};
 ghost use Rattle.rfb_wire.specs.Encoding.{number_of, IsNoEncoding};
 
-/// An encoding of this project's, of those that RFC 6143 has.
-#[derive(Clone, Copy, Debug, PartialEq, Eq)]
+/// An encoding of this project's, of those that RFC 6143 has. The default is Raw, which every viewer
+/// has to take.
+#[derive(Clone, Copy, Debug, Default, PartialEq, Eq)]
 pub enum Encoding {
     /// Pixels row by row, section 7.7.1.
+    #[default]
     Raw,
     /// A copy of another rectangle of the screen, section 7.7.2.
     CopyRect,
