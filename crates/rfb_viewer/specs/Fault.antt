@@ -1,0 +1,45 @@
+-- The faults of the handshake, of a message, of a rectangle's head and of its data, as faults of a
+-- viewer.
+use Rattle.rfb_wire.specs.declared.fault.WireFault.{WireFault}
+use Rattle.rfb_wire.specs.declared.fault.WireFault.TheVariants.{UnknownMessage as WireMessage, UnknownEncoding as WireEncoding, RectOutside as WireOutside}
+use Rattle.rfb_wire.specs.ServerMessage.{UnknownType}
+use Rattle.rfb_codec.specs.declared.fault.PaintFault.{PaintFault}
+use Rattle.rfb_codec.specs.declared.fault.PaintFault.TheVariants.{SubrectOutside as Subrect, NoBackground as Background, NoForeground as Foreground, BothColourBits as Both, SourceOutside as Source}
+use Rattle.rfb_codec.specs.UpdateStream.{UpdateFault, InMessage, InHead, InData}
+use Rattle.rfb_hello.specs.declared.fault.HelloFault.{HelloFault}
+use Rattle.rfb_hello.specs.declared.fault.HelloFault.TheVariants.{BadVersion as Version, VersionTooHigh as High, BadSecurityChoice as Choice, NoneNotOffered as NotOffered, Refused as Refusal, BadSecurityWord as Word, SecurityFailed as Failure, ScreenEmpty as Empty, ScreenTooLarge as Large, NoMemory as Memory}
+use Rattle.rfb_viewer.specs.declared.fault.ViewerFault.{ViewerFault}
+use Rattle.rfb_viewer.specs.declared.fault.ViewerFault.TheVariants.{UnknownMessage, UnknownEncoding, RectOutside, SubrectOutside, NoBackground, NoForeground, BothColourBits, SourceOutside, BadVersion, NoneNotOffered, Refused, BadSecurityWord, SecurityFailed, ScreenEmpty, ScreenTooLarge, NoMemory}
+
+-- of the handshake's faults the second and the third are a client's, and never come of a server's bytes
+abbrev pub fault_of_hello : HelloFault → ViewerFault
+fault_of_hello Version = BadVersion
+fault_of_hello High = BadVersion
+fault_of_hello Choice = BadVersion
+fault_of_hello NotOffered = NoneNotOffered
+fault_of_hello (Refusal reason_length) = Refused reason_length
+fault_of_hello Word = BadSecurityWord
+fault_of_hello (Failure reason_length) = SecurityFailed reason_length
+fault_of_hello Empty = ScreenEmpty
+fault_of_hello Large = ScreenTooLarge
+fault_of_hello Memory = NoMemory
+
+-- of a head
+abbrev pub fault_of_wire : WireFault → ViewerFault
+fault_of_wire (WireMessage message_type) = UnknownMessage message_type
+fault_of_wire (WireEncoding number) = UnknownEncoding number
+fault_of_wire WireOutside = RectOutside
+
+-- of a rectangle's data
+abbrev pub fault_of_paint : PaintFault → ViewerFault
+fault_of_paint Subrect = SubrectOutside
+fault_of_paint Background = NoBackground
+fault_of_paint Foreground = NoForeground
+fault_of_paint Both = BothColourBits
+fault_of_paint Source = SourceOutside
+
+-- of what a server sends behind the handshake
+abbrev pub fault_of_update : UpdateFault → ViewerFault
+fault_of_update (InMessage (UnknownType message_type)) = UnknownMessage message_type
+fault_of_update (InHead fault) = fault_of_wire fault
+fault_of_update (InData fault) = fault_of_paint fault

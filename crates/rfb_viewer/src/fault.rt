@@ -1,0 +1,82 @@
+//! Why a viewer ends, and why it refuses a call. Each fault prints as its number and its name.
+
+use thiserror::Error;
+
+/// What a server did wrong, or refused, and want of memory.
+#[derive(Clone, Copy, Debug, PartialEq, Eq, Error)]
+pub enum ViewerFault {
+    /// No server message has this type byte, RFC 6143 section 7.6.
+    #[error("7 UnknownMessage")]
+    UnknownMessage(u8),
+    /// A rectangle's encoding is none of the four that are known here, section 7.7.
+    #[error("8 UnknownEncoding")]
+    UnknownEncoding(i32),
+    /// A rectangle leaves the screen, section 7.6.1.
+    #[error("9 RectOutside")]
+    RectOutside,
+    /// A subrectangle leaves its rectangle or its tile, sections 7.7.3 and 7.7.4.
+    #[error("10 SubrectOutside")]
+    SubrectOutside,
+    /// A tile of Hextile is drawn over a background, and none was specified in its rectangle.
+    #[error("11 NoBackground")]
+    NoBackground,
+    /// Subrectangles of a tile have no pixels of their own, and no foreground was specified in its
+    /// rectangle.
+    #[error("12 NoForeground")]
+    NoForeground,
+    /// A tile has a foreground and subrectangles with pixels of their own.
+    #[error("13 BothColourBits")]
+    BothColourBits,
+    /// The source of a CopyRect leaves the screen, section 7.7.2.
+    #[error("14 SourceOutside")]
+    SourceOutside,
+    /// The server's ProtocolVersion is no version, section 7.1.1.
+    #[error("15 BadVersion")]
+    BadVersion,
+    /// The server has no security type None, section 7.1.2.
+    #[error("18 NoneNotOffered")]
+    NoneNotOffered,
+    /// The server refused the connection: how many bytes its reason has, section 7.1.2.
+    #[error("19 Refused")]
+    Refused(u32),
+    /// A 3.3 server sent a security type above 2, Appendix A.
+    #[error("20 BadSecurityWord")]
+    BadSecurityWord,
+    /// SecurityResult was not success: how many bytes its reason has, section 7.1.3.
+    #[error("21 SecurityFailed")]
+    SecurityFailed(u32),
+    /// The screen has no place, section 7.3.2.
+    #[error("22 ScreenEmpty")]
+    ScreenEmpty,
+    /// The screen has more places than are admitted.
+    #[error("23 ScreenTooLarge")]
+    ScreenTooLarge,
+    /// There is no memory for the screen or for a text.
+    #[error("30 NoMemory")]
+    NoMemory,
+}
+
+/// Why a call is refused. Nothing was changed, and nothing is to be sent.
+#[derive(Clone, Copy, Debug, PartialEq, Eq, Error)]
+pub enum CallFault {
+    /// The handshake is not done, or the viewer has failed.
+    #[error("25 NotReady")]
+    NotReady,
+    /// A request is outstanding; or, for a format, the server's bytes stand inside an update.
+    #[error("26 Busy")]
+    Busy,
+    /// The area has no place, or leaves the screen.
+    #[error("27 AreaOutside")]
+    AreaOutside,
+}
+
+/// Why a text is not sent. Nothing was changed.
+#[derive(Clone, Copy, Debug, PartialEq, Eq, Error)]
+pub enum TextFault {
+    /// The handshake is not done, or the viewer has failed.
+    #[error("25 NotReady")]
+    NotReady,
+    /// There is no memory for the message.
+    #[error("30 NoMemory")]
+    NoMemory,
+}

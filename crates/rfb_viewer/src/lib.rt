@@ -1,0 +1,14 @@
+//! The viewer's end of a connection: a picture that is made of what a server sends.
+//!
+//! Bytes of a server go in; answers, events and a picture come out, and the owner's calls become
+//! messages. Nothing here reads or writes a device: the caller owns the bytes, and sends what it is
+//! given in order. `law` says in contracts alone what the server's stream and the viewer's states
+//! rest on.
+#![tactic(auto)]
+
+mod event;
+mod fault;
+pub mod law;
+
+pub use event::{MAX_ANSWER, MAX_READY, ViewerEvent};
+pub use fault::{CallFault, TextFault, ViewerFault};
