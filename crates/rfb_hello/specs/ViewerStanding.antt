@@ -1,10 +1,11 @@
 -- What a `ViewerHello` stands for: a setup, a point of the handshake, and the bytes that came of the
 -- server's next item, fewer than it has.
-use Rattle.std.specs.Prelude.{◌≡◌, ◌≢◌, ℕ, Bool, List, ◌++◌, Option, Result, Err, length}
+use Rattle.std.specs.Prelude.{◌≡◌, ◌≢◌, ℕ, Bool, true, false, List, ◌++◌, Option, None, Some, Result, Err, length}
 use Rattle.rfb_wire.specs.End.{RunsOutBy, StepsBy}
 use Rattle.rfb_hello.specs.declared.fault.HelloFault.{HelloFault}
 use Rattle.rfb_hello.specs.declared.fault.HelloFault.TheVariants.{Refused as RefusedFault, SecurityFailed as FailedFault, NoMemory}
 use Rattle.rfb_hello.specs.declared.step.ViewerStep.{ViewerStep}
+use Rattle.rfb_hello.specs.declared.step.ViewerStep.TheVariants.{Reply, Screen, Ready}
 use Rattle.rfb_hello.specs.declared.viewer_hello.progress.Cause.{Cause}
 use Rattle.rfb_hello.specs.declared.viewer_hello.progress.Cause.TheVariants.{Refused, SecurityFailed}
 use Rattle.rfb_hello.specs.declared.viewer_hello.ViewerHello.{ViewerHello}
@@ -29,6 +30,13 @@ fault_of hello = fault_in hello.progress
 -- the server's bytes go on in the handshake
 abbrev pub is_open : ViewerHello → Bool
 is_open hello = goes_on hello.progress
+
+-- the handshake goes on behind what was told: `Ready` is the last
+abbrev pub goes_on_behind : Option ViewerStep → Bool
+goes_on_behind None = true
+goes_on_behind (Some (Reply reply)) = true
+goes_on_behind (Some (Screen width height)) = true
+goes_on_behind (Some (Ready width height version name name_length)) = false
 
 -- what is kept of the reason that it has failed for; without one nothing
 abbrev pub reason_of : ViewerHello → KeptText

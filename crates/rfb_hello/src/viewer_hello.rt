@@ -6,7 +6,7 @@ ghost use Rattle.rfb_hello.specs.KeptText.{no_text};
 ghost use Rattle.rfb_hello.specs.ServerHandshake.{AwaitsVersion, ServerPoint};
 ghost use Rattle.rfb_hello.specs.Pending.{server_handshake_pending};
 ghost use Rattle.rfb_hello.specs.ViewerEnd.{ViewerSetup, viewer_end, AsksMemory};
-ghost use Rattle.rfb_hello.specs.ViewerStanding.{KeepsReason, RunsOutAs, StandsFor, StepsAs, fault_of, is_open, reason_of, setup_of};
+ghost use Rattle.rfb_hello.specs.ViewerStanding.{KeepsReason, RunsOutAs, StandsFor, StepsAs, fault_of, goes_on_behind, is_open, reason_of, setup_of};
 ghost use Rattle.rfb_hello.specs.declared.fault.HelloFault.TheVariants.{NoMemory};
 ghost use Rattle.rfb_hello.specs.declared.viewer_hello.progress.Progress.{Progress};
 
@@ -80,6 +80,8 @@ impl ViewerHello {
         ensures fed { IfOk result (λ fed. (setup : ViewerSetup)
             → FedBy (viewer_end setup) (StandsFor setup)
             self.old (take fed.used bytes.now) fed.event self.new) }
+        ensures ready { IfOk result (λ fed. is_open self.old ≡ true
+            → is_open self.new ≡ goes_on_behind fed.event) }
         ensures setup { setup_of self.new ≡ setup_of self.old }
 
         // When a fault comes, when memory is wanting, and that it stays.
@@ -144,7 +146,7 @@ impl ViewerHello {
         requires some { 0 < length bytes.now }
         requires open { is_open self.old ≡ true }
         ensures used { (0 < result.0) × (result.0 ≤ length bytes.now) }
-        ensures open { IfOk result.1 (λ event. event ≡ None → is_open self.new ≡ true) }
+        ensures open { IfOk result.1 (λ event. is_open self.new ≡ goes_on_behind event) }
         ensures going { IfOk result.1 (λ event. fault_of self.new ≡ None) }
         ensures fails { IfErr result.1 (λ fault. fault_of self.new ≡ Some fault) }
         ensures steps { StepsAs self.old (take result.0 bytes.now) result.1 self.new }

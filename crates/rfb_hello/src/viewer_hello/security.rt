@@ -5,7 +5,7 @@ ghost use Rattle.arrayvec.specs.ArrayVec.{ArrayVec as Items};
 ghost use Rattle.rfb_wire.specs.End.{StepsBy};
 ghost use Rattle.rfb_hello.specs.Version.{lower};
 ghost use Rattle.rfb_hello.specs.ViewerEnd.{ViewerSetup, viewer_end, choice_bytes, shared_flag};
-ghost use Rattle.rfb_hello.specs.ViewerStanding.{KeepsReason, RunsOutAs, StandsFor, StepsAs, fault_of, is_open, setup_of};
+ghost use Rattle.rfb_hello.specs.ViewerStanding.{KeepsReason, RunsOutAs, StandsFor, StepsAs, fault_of, goes_on_behind, is_open, setup_of};
 ghost use Rattle.rfb_hello.specs.ViewerProgress.{progress_behind_version, progress_behind_types};
 ghost use Rattle.rfb_hello.specs.declared.viewer_hello.progress.Progress.{Progress};
 
@@ -27,7 +27,7 @@ impl ViewerHello {
         requires some { 0 < length bytes.now }
         requires open { (part : Items ℕ) × (self.old.progress ≡ Progress.Version part) }
         ensures used { (0 < result.0) × (result.0 ≤ length bytes.now) }
-        ensures open { IfOk result.1 (λ event. event ≡ None → is_open self.new ≡ true) }
+        ensures open { IfOk result.1 (λ event. is_open self.new ≡ goes_on_behind event) }
         ensures going { IfOk result.1 (λ event. fault_of self.new ≡ None) }
         ensures fails { IfErr result.1 (λ fault. fault_of self.new ≡ Some fault) }
         ensures steps { StepsAs self.old (take result.0 bytes.now) result.1 self.new }
@@ -59,7 +59,7 @@ impl ViewerHello {
         requires some { 0 < length bytes.now }
         requires open { (part : Items ℕ) × (self.old.progress ≡ Progress.Word part) }
         ensures used { (0 < result.0) × (result.0 ≤ length bytes.now) }
-        ensures open { IfOk result.1 (λ event. event ≡ None → is_open self.new ≡ true) }
+        ensures open { IfOk result.1 (λ event. is_open self.new ≡ goes_on_behind event) }
         ensures going { IfOk result.1 (λ event. fault_of self.new ≡ None) }
         ensures fails { IfErr result.1 (λ fault. fault_of self.new ≡ Some fault) }
         ensures steps { StepsAs self.old (take result.0 bytes.now) result.1 self.new }
@@ -117,7 +117,7 @@ impl ViewerHello {
         requires open { (version : Version) × (more : ℕ) × (none : Bool)
             × (self.old.progress ≡ Progress.Types version more none) }
         ensures used { (0 < result.0) × (result.0 ≤ length bytes.now) }
-        ensures open { IfOk result.1 (λ event. event ≡ None → is_open self.new ≡ true) }
+        ensures open { IfOk result.1 (λ event. is_open self.new ≡ goes_on_behind event) }
         ensures going { IfOk result.1 (λ event. fault_of self.new ≡ None) }
         ensures fails { IfErr result.1 (λ fault. fault_of self.new ≡ Some fault) }
         ensures steps { StepsAs self.old (take result.0 bytes.now) result.1 self.new }
@@ -158,7 +158,7 @@ impl ViewerHello {
         requires open { (version : Version) × (part : Items ℕ)
             × (self.old.progress ≡ Progress.Result version part) }
         ensures used { (0 < result.0) × (result.0 ≤ length bytes.now) }
-        ensures open { IfOk result.1 (λ event. event ≡ None → is_open self.new ≡ true) }
+        ensures open { IfOk result.1 (λ event. is_open self.new ≡ goes_on_behind event) }
         ensures going { IfOk result.1 (λ event. fault_of self.new ≡ None) }
         ensures fails { IfErr result.1 (λ fault. fault_of self.new ≡ Some fault) }
         ensures steps { StepsAs self.old (take result.0 bytes.now) result.1 self.new }

@@ -5,8 +5,8 @@ ghost use Rattle.arrayvec.specs.ArrayVec.{ArrayVec as Items};
 ghost use Rattle.rfb_hello.specs.KeptText.{KeptText, kept_of};
 ghost use Rattle.rfb_hello.specs.ServerReading.{screen_fault};
 ghost use Rattle.rfb_hello.specs.ViewerEnd.{told_of_init};
-ghost use Rattle.rfb_hello.specs.ViewerStanding.{KeepsReason, RunsOutAs, StepsAs, fault_of, is_open, setup_of};
-ghost use Rattle.rfb_hello.specs.ViewerProgress.{progress_behind_init};
+ghost use Rattle.rfb_hello.specs.ViewerStanding.{KeepsReason, RunsOutAs, StepsAs, fault_of, goes_on_behind, is_open, setup_of};
+ghost use Rattle.rfb_hello.specs.ViewerProgress.{progress_behind_init, is_open as goes_on};
 ghost use Rattle.rfb_hello.specs.declared.viewer_hello.progress.Progress.{Progress};
 ghost use Rattle.rfb_hello.specs.declared.viewer_hello.progress.Cause.{Cause};
 
@@ -31,7 +31,7 @@ impl ViewerHello {
         requires open { (cause : Cause) × (part : Items ℕ)
             × (self.old.progress ≡ Progress.ReasonLength cause part) }
         ensures used { (0 < result.0) × (result.0 ≤ length bytes.now) }
-        ensures open { IfOk result.1 (λ event. event ≡ None → is_open self.new ≡ true) }
+        ensures open { IfOk result.1 (λ event. is_open self.new ≡ goes_on_behind event) }
         ensures going { IfOk result.1 (λ event. fault_of self.new ≡ None) }
         ensures fails { IfErr result.1 (λ fault. fault_of self.new ≡ Some fault) }
         ensures steps { StepsAs self.old (take result.0 bytes.now) result.1 self.new }
@@ -73,7 +73,7 @@ impl ViewerHello {
         requires open { (cause : Cause) × (n more : ℕ) × (kept : KeptText)
             × (self.old.progress ≡ Progress.Reason cause n more kept) }
         ensures used { (0 < result.0) × (result.0 ≤ length bytes.now) }
-        ensures open { IfOk result.1 (λ event. event ≡ None → is_open self.new ≡ true) }
+        ensures open { IfOk result.1 (λ event. is_open self.new ≡ goes_on_behind event) }
         ensures going { IfOk result.1 (λ event. fault_of self.new ≡ None) }
         ensures fails { IfErr result.1 (λ fault. fault_of self.new ≡ Some fault) }
         ensures steps { StepsAs self.old (take result.0 bytes.now) result.1 self.new }
@@ -112,7 +112,7 @@ impl ViewerHello {
         requires open { (version : Version) × (part : Items ℕ)
             × (self.old.progress ≡ Progress.Init version part) }
         ensures used { (0 < result.0) × (result.0 ≤ length bytes.now) }
-        ensures open { IfOk result.1 (λ event. event ≡ None → is_open self.new ≡ true) }
+        ensures open { IfOk result.1 (λ event. is_open self.new ≡ goes_on_behind event) }
         ensures going { IfOk result.1 (λ event. fault_of self.new ≡ None) }
         ensures fails { IfErr result.1 (λ fault. fault_of self.new ≡ Some fault) }
         ensures steps { StepsAs self.old (take result.0 bytes.now) result.1 self.new }
@@ -155,6 +155,8 @@ impl ViewerHello {
             behind.0 ≡ progress_behind_init self.now.text_limit version width height length) }
         ensures told { IfOk result (λ behind.
             behind.1 ≡ told_of_init self.now.text_limit version width height length) }
+        ensures open { IfOk result (λ behind.
+            goes_on behind.0 ≡ goes_on_behind (Some behind.1)) }
         ensures asked { IfErr result (λ _. 0 < length) }
     {
         let Some(more) = length.checked_sub(1) else {
@@ -188,7 +190,7 @@ impl ViewerHello {
         requires open { (version : Version) × (width height n more : ℕ) × (kept : KeptText)
             × (self.old.progress ≡ Progress.Name version width height n more kept) }
         ensures used { (0 < result.0) × (result.0 ≤ length bytes.now) }
-        ensures open { IfOk result.1 (λ event. event ≡ None → is_open self.new ≡ true) }
+        ensures open { IfOk result.1 (λ event. is_open self.new ≡ goes_on_behind event) }
         ensures going { IfOk result.1 (λ event. fault_of self.new ≡ None) }
         ensures fails { IfErr result.1 (λ fault. fault_of self.new ≡ Some fault) }
         ensures steps { StepsAs self.old (take result.0 bytes.now) result.1 self.new }
