@@ -47,6 +47,8 @@ pub fn feed(
     requires place { Holds picture.old rect }
     requires sound { is_sound format rect stage (array_vec_len pending.old) ≡ true }
     ensures used { IfOk result (λ step. step.used ≤ length bytes.now) }
+    ensures some { IfOk result (λ step.
+        is_ended rect stage ≡ false → 0 < length bytes.now → 0 < step.used) }
     ensures all { IfOk result (λ step.
         is_ended rect step.stage ≡ false → step.used ≡ length bytes.now) }
     ensures sound { IfOk result (λ step.

@@ -4,7 +4,7 @@ ghost use Rattle.std.specs.Prelude.{◌≡◌, ◌<◌, ◌≤◌, [], length, t
 ghost use Rattle.rfb_pixel.specs.declared.colour.Colour.{Colour};
 ghost use Rattle.rfb_picture.specs.Grid.{Grid, Holds};
 ghost use Rattle.rfb_codec.specs.UnderWay.{painting, StandsFor, Paints, Waits, Refuses};
-ghost use Rattle.rfb_codec.specs.Stage.{encoding_at, stage_of};
+ghost use Rattle.rfb_codec.specs.Stage.{encoding_at, is_ended, stage_of};
 
 use crate::decode;
 use crate::decode::gather::Pending;
@@ -86,7 +86,11 @@ impl Painter {
         requires { Holds picture.old self.old.rect }
         // how much was taken
         ensures used { IfOk result (λ answer. answer.used ≤ length bytes.now) }
+        ensures some { IfOk result (λ answer. is_ended self.old.rect self.old.stage ≡ false →
+            0 < length bytes.now → 0 < answer.used) }
         ensures all { IfOk result (λ answer. answer.done ≡ false → answer.used ≡ length bytes.now) }
+        ensures ended { IfOk result (λ answer.
+            answer.done ≡ is_ended self.new.rect self.new.stage) }
         // what it makes of the picture
         ensures done { IfOk result (λ answer. answer.done ≡ true →
             Paints self.old picture.old (take answer.used bytes.now) self.new picture.new) }

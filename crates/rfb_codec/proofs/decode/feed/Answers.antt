@@ -7,6 +7,7 @@ use Rattle.rfb_codec.proofs.decode.feed.Goals as goal
 pub pieces-init : goal.pieces-init
 pieces-init c = record {
   within = omega arith;
+  begun = λ _. refl;
   sound = c.requires.sound;
   same = refl;
   goes_on = fed_none c.args.format c.args.rect c.args.stage c.args.pending.now.items c.args.picture.now c.args.bytes.now;
@@ -24,6 +25,7 @@ pieces-preserved c =
     let some = c.in_ok-step.ensures.used in
     record {
       within = omega (arith, left, some);
+      begun = λ none. absurd (omega (arith, none, c.in_ok-step.ensures.some));
       sound = c.in_ok-step.ensures.sound;
       same = c.in_ok-step.ensures.same ∙ c.pieces.invariant.same;
       goes_on = fed_more c.args.format c.args.rect c.args.stage c.pieces.now step.stage c.args.pending.now.items c.pieces.pending.items c.take.new.pending.items c.args.picture.now c.pieces.picture c.take.new.picture used step.used bytes slice (take_rest bytes used) c.pieces.invariant.goes_on c.in_ok-step.ensures.goes_on;

@@ -6,6 +6,7 @@ use Rattle.rfb_codec.proofs.decode.feed.Given as goal
 abbrev pub invariant-pieces : goal.invariant-pieces
 invariant-pieces l = record {
   within : l.used ≤ length l.bytes;
+  begun : l.used ≡ 0 → l.now ≡ l.fn.stage;
   sound : is_sound l.format l.rect l.now (array_vec_len l.pending) ≡ true;
   same : encoding_at l.now ≡ encoding_at l.fn.stage;
   goes_on : GoesOn l.format l.rect l.fn.stage l.fn.pending.items l.fn.picture (take l.used l.bytes) l.now l.pending.items l.picture;
