@@ -1,9 +1,9 @@
 -- Readings of bytes that come one after another.
 use Rattle.std.proofs.Common.{◌≡◌, ℕ, zero, suc, ◌+◌, ◌<◌, ◌≤◌, List, [], ◌∷◌, ◌++◌, length, take, drop, refl, sym, ◌∙◌, ap, subst, arith, length-append, take-append-drop}
 use Rattle.std.proofs.lemmas.List.{take-append-le, take_at, take_all}
-use Rattle.rfb_wire.specs.Reading.{Next, More, Got, Bad, Reading, Says, Reads}
-use Rattle.rfb_wire.proofs.FeedLaws.{take_add}
-use Rattle.rfb_wire.proofs.ReadingLaws.{reads_more, reads_bad}
+use Rattle.rfb_wire.specs.stream.Reading.{Next, More, Got, Bad, Reading, Says, Reads}
+use Rattle.rfb_wire.proofs.stream_laws.FeedLaws.{take_add}
+use Rattle.rfb_wire.proofs.stream_laws.ReadingLaws.{reads_more, reads_bad}
 
 module _ {A F : Type 0} where
   -- with the byte that an item was waited for with, nothing is left behind it

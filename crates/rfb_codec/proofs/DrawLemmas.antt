@@ -6,7 +6,7 @@ use Rattle.std.proofs.lemmas.Nat.{div-add-mod', mod_below, div_below, pow_pos}
 use Rattle.rfb_pixel.specs.Format.{PixelFormat, size_of}
 use Rattle.rfb_picture.specs.Grid.{Grid, IsGrid}
 use Rattle.rfb_picture.proofs.GridLemmas.{place_below, some_in_row}
-use Rattle.rfb_wire.specs.Reading.{ListedAfter}
+use Rattle.rfb_wire.specs.stream.Reading.{ListedAfter}
 use Rattle.rfb_codec.specs.declared.subrect.Subrect.{Subrect}
 use Rattle.rfb_codec.specs.declared.tiles.layout.TileLayout.{TileLayout}
 use Rattle.rfb_codec.specs.declared.tiles.layout.TileLayout.TheVariants.{Raw, Plain, Colored}

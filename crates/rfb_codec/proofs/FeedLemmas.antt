@@ -9,9 +9,9 @@ use Rattle.rfb_picture.specs.Rect.{contains}
 use Rattle.rfb_picture.specs.Grid.{Grid, IsGrid, grid, by_index, changed}
 use Rattle.rfb_wire.specs.declared.encoding.Encoding.{Encoding}
 use Rattle.rfb_wire.specs.declared.encoding.Encoding.TheVariants.{Raw, CopyRect, Rre, Hextile}
-use Rattle.rfb_wire.specs.Reading.{Bad}
-use Rattle.rfb_wire.proofs.FeedLaws.{take_add}
-use Rattle.rfb_wire.proofs.ReadingLaws.{reads_bad}
+use Rattle.rfb_wire.specs.stream.Reading.{Bad}
+use Rattle.rfb_wire.proofs.stream_laws.FeedLaws.{take_add}
+use Rattle.rfb_wire.proofs.stream_laws.ReadingLaws.{reads_bad}
 use Rattle.rfb_codec.specs.declared.fault.PaintFault.{PaintFault}
 use Rattle.rfb_codec.specs.declared.decode.stage.Stage.{Stage}
 use Rattle.rfb_codec.specs.declared.decode.stage.Stage.TheVariants.{BeforeSource, Copied, InPixels, BeforeHead, InSubrects, InTiles, InRawTile}

@@ -7,8 +7,8 @@ use Rattle.rfb_pixel.specs.declared.colour.Colour.{Colour}
 use Rattle.rfb_pixel.specs.Format.{PixelFormat, size_of}
 use Rattle.rfb_picture.specs.declared.rect.Rect.{Rect}
 use Rattle.rfb_picture.specs.Grid.{Grid}
-use Rattle.rfb_wire.specs.Reading.{More, Got, Listed, ListedAfter}
-use Rattle.rfb_wire.specs.Pending.{in_pieces}
+use Rattle.rfb_wire.specs.stream.Reading.{More, Got, Listed, ListedAfter}
+use Rattle.rfb_wire.specs.stream.Pending.{in_pieces}
 use Rattle.rfb_codec.specs.declared.subrect.Subrect.{Subrect}
 use Rattle.rfb_codec.specs.declared.decode.stage.Stage.{Stage}
 use Rattle.rfb_codec.specs.declared.decode.stage.Stage.TheVariants.{BeforeSource, Copied, InPixels, BeforeHead, InSubrects, InTiles, InRawTile}

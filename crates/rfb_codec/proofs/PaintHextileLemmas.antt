@@ -4,8 +4,8 @@ use Rattle.rfb_pixel.specs.declared.colour.Colour.{Colour}
 use Rattle.rfb_pixel.specs.Format.{PixelFormat, colour_of, size_of}
 use Rattle.rfb_picture.specs.declared.rect.Rect.{Rect}
 use Rattle.rfb_picture.specs.Grid.{Grid}
-use Rattle.rfb_wire.specs.Reading.{Next}
-use Rattle.rfb_wire.specs.Parts.{behind, done}
+use Rattle.rfb_wire.specs.stream.Reading.{Next}
+use Rattle.rfb_wire.specs.stream.Parts.{behind, done}
 use Rattle.rfb_codec.specs.declared.fault.PaintFault.{PaintFault}
 use Rattle.rfb_codec.specs.declared.tiles.layout.TileLayout.{TileLayout}
 use Rattle.rfb_codec.specs.declared.tiles.layout.TileLayout.TheVariants.{Raw, Plain, Colored}

@@ -10,10 +10,10 @@ use Rattle.rfb_picture.specs.declared.rect.Rect.{Rect}
 use Rattle.rfb_picture.specs.Rect.{contains}
 use Rattle.rfb_picture.specs.Grid.{Grid, IsGrid, at_or, filled}
 use Rattle.rfb_picture.proofs.GridLemmas.{changed_twice, same_changes}
-use Rattle.rfb_wire.specs.Reading.{More, Next}
-use Rattle.rfb_wire.specs.Parts.{behind, done, many}
+use Rattle.rfb_wire.specs.stream.Reading.{More, Next}
+use Rattle.rfb_wire.specs.stream.Parts.{behind, done, many}
 use Rattle.rfb_wire.specs.RectHead.{IsOnScreen}
-use Rattle.rfb_wire.proofs.PartLaws.{piece_short}
+use Rattle.rfb_wire.proofs.stream_laws.PartLaws.{piece_short}
 use Rattle.rfb_codec.specs.declared.fault.PaintFault.{PaintFault}
 use Rattle.rfb_codec.specs.declared.subrect.Subrect.{Subrect}
 use Rattle.rfb_codec.specs.Pixels.{drawn}

@@ -7,10 +7,10 @@ use Rattle.std.proofs.lemmas.Bool.Decides.{nat_tests}
 use Rattle.rfb_pixel.specs.Format.{PixelFormat, size_of}
 use Rattle.rfb_picture.specs.declared.rect.Rect.{Rect}
 use Rattle.rfb_wire.specs.Fields.{u8_at}
-use Rattle.rfb_wire.specs.Reading.{More, Got}
-use Rattle.rfb_wire.specs.Parts.{valued, optional, each}
+use Rattle.rfb_wire.specs.stream.Reading.{More, Got}
+use Rattle.rfb_wire.specs.stream.Parts.{valued, optional, each}
 use Rattle.rfb_wire.specs.RectStream.{is_on_screen}
-use Rattle.rfb_wire.proofs.PartLaws.{piece_short}
+use Rattle.rfb_wire.proofs.stream_laws.PartLaws.{piece_short}
 use Rattle.rfb_codec.specs.declared.fault.PaintFault.{PaintFault}
 use Rattle.rfb_codec.specs.declared.tiles.layout.TileLayout.{TileLayout}
 use Rattle.rfb_codec.specs.declared.tiles.layout.TileLayout.TheVariants.{Plain, Colored}

@@ -5,9 +5,9 @@ use Rattle.std.proofs.lemmas.Bool.{cases_lt}
 use Rattle.std.proofs.lemmas.Bool.Decides.{nat_tests}
 use Rattle.rfb_pixel.specs.Format.{PixelFormat, IsFormat, size_of, pixel_number}
 use Rattle.rfb_pixel.specs.Reading.{AreBytes}
-use Rattle.rfb_wire.specs.Reading.{Next, More, Got, Bad, Reading, ListedAfter}
-use Rattle.rfb_wire.specs.Parts.{valued, done, behind, judged, and_then, optional}
-use Rattle.rfb_wire.proofs.PendingLaws.{counted_pending, pieces_within}
+use Rattle.rfb_wire.specs.stream.Reading.{Next, More, Got, Bad, Reading, ListedAfter}
+use Rattle.rfb_wire.specs.stream.Parts.{valued, done, behind, judged, and_then, optional}
+use Rattle.rfb_wire.proofs.stream_laws.PendingLaws.{counted_pending, pieces_within}
 use Rattle.rfb_codec.specs.declared.fault.PaintFault.{PaintFault}
 use Rattle.rfb_codec.specs.Tile.{Tile, is_raw, subrects_colored, background_specified, foreground_specified, any_subrects, mask_fault, tile_colour, counted, place_of, colored_of, PlainTile, ColoredTile, behind_mask, tile_layout, tile_fault, tile_behind}
 use Rattle.rfb_codec.specs.Hextile.{tile_width, tile_height, SpellsNextTile}

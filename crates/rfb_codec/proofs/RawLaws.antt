@@ -2,10 +2,10 @@
 use Rattle.std.proofs.Common.{◌≡◌, ℕ, List, length, sym, subst}
 use Rattle.rfb_pixel.specs.Format.{PixelFormat}
 use Rattle.rfb_picture.specs.Grid.{Grid}
-use Rattle.rfb_wire.specs.Reading.{Says, Reads, Same}
-use Rattle.rfb_wire.specs.Parts.{valued}
-use Rattle.rfb_wire.proofs.PartLaws.{same_reads}
-use Rattle.rfb_wire.proofs.RepeatLaws.{valued_says, valued_reads}
+use Rattle.rfb_wire.specs.stream.Reading.{Says, Reads, Same}
+use Rattle.rfb_wire.specs.stream.Parts.{valued}
+use Rattle.rfb_wire.proofs.stream_laws.PartLaws.{same_reads}
+use Rattle.rfb_wire.proofs.stream_laws.RepeatLaws.{valued_says, valued_reads}
 use Rattle.rfb_codec.specs.declared.fault.PaintFault.{PaintFault}
 use Rattle.rfb_codec.specs.Pixels.{IsSized, Shows, drawn}
 use Rattle.rfb_codec.specs.Raw.{raw_length, raw_pixel, StandsRaw, raw}

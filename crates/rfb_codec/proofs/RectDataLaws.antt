@@ -6,12 +6,12 @@ use Rattle.rfb_picture.specs.Grid.{Grid}
 use Rattle.rfb_wire.specs.declared.encoding.Encoding.{Encoding}
 use Rattle.rfb_wire.specs.declared.encoding.Encoding.TheVariants.{Raw, CopyRect, Rre, Hextile}
 use Rattle.rfb_wire.specs.Fields.{u16_at}
-use Rattle.rfb_wire.specs.Reading.{Says, Reads, Same}
-use Rattle.rfb_wire.specs.Parts.{renamed}
+use Rattle.rfb_wire.specs.stream.Reading.{Says, Reads, Same}
+use Rattle.rfb_wire.specs.stream.Parts.{renamed}
 use Rattle.rfb_wire.specs.RectHead.{IsOnScreen}
 use Rattle.rfb_wire.specs.RectStream.{is_on_screen}
-use Rattle.rfb_wire.proofs.PartLaws.{same_reads}
-use Rattle.rfb_wire.proofs.RepeatLaws.{checked_says, checked_reads, renamed_says, renamed_reads}
+use Rattle.rfb_wire.proofs.stream_laws.PartLaws.{same_reads}
+use Rattle.rfb_wire.proofs.stream_laws.RepeatLaws.{checked_says, checked_reads, renamed_says, renamed_reads}
 use Rattle.rfb_wire.proofs.RectStreamLaws.{on_true, on_test, off_test}
 use Rattle.rfb_codec.specs.declared.fault.PaintFault.{PaintFault}
 use Rattle.rfb_codec.specs.declared.fault.PaintFault.TheVariants.{SourceOutside}

@@ -12,7 +12,7 @@ use Rattle.rfb_picture.specs.declared.rect.Rect.{Rect}
 use Rattle.rfb_picture.specs.Grid.{Grid, IsGrid}
 use Rattle.rfb_picture.proofs.GridLemmas.{place_below}
 use Rattle.rfb_wire.specs.Fields.{IsRectAt, rect_bytes}
-use Rattle.rfb_wire.specs.Reading.{Listed}
+use Rattle.rfb_wire.specs.stream.Reading.{Listed}
 use Rattle.rfb_wire.specs.RectHead.{IsOnScreen}
 use Rattle.rfb_codec.specs.declared.subrect.Subrect.{Subrect}
 use Rattle.rfb_codec.specs.Pixels.{IsPixel, HasPixels}

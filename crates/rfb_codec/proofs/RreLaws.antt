@@ -5,12 +5,12 @@ use Rattle.rfb_pixel.specs.Format.{PixelFormat, size_of}
 use Rattle.rfb_picture.specs.declared.rect.Rect.{Rect}
 use Rattle.rfb_picture.specs.Rect.{contains}
 use Rattle.rfb_picture.specs.Grid.{Grid}
-use Rattle.rfb_wire.specs.Reading.{Says, Reads, Same, Listed}
-use Rattle.rfb_wire.specs.Parts.{done, and_then, valued, many}
+use Rattle.rfb_wire.specs.stream.Reading.{Says, Reads, Same, Listed}
+use Rattle.rfb_wire.specs.stream.Parts.{done, and_then, valued, many}
 use Rattle.rfb_wire.specs.RectHead.{IsOnScreen}
 use Rattle.rfb_wire.specs.RectStream.{is_on_screen}
-use Rattle.rfb_wire.proofs.PartLaws.{alone, done_says, done_reads, then_says, then_reads, same_reads}
-use Rattle.rfb_wire.proofs.RepeatLaws.{valued_says, valued_reads, checked_says, checked_reads, many_says, many_reads}
+use Rattle.rfb_wire.proofs.stream_laws.PartLaws.{alone, done_says, done_reads, then_says, then_reads, same_reads}
+use Rattle.rfb_wire.proofs.stream_laws.RepeatLaws.{valued_says, valued_reads, checked_says, checked_reads, many_says, many_reads}
 use Rattle.rfb_wire.proofs.RectStreamLaws.{on_true, on_test, off_test}
 use Rattle.rfb_codec.specs.declared.subrect.Subrect.{Subrect}
 use Rattle.rfb_codec.specs.declared.fault.PaintFault.{PaintFault}

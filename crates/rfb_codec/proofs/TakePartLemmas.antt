@@ -8,10 +8,10 @@ use Rattle.rfb_picture.specs.Grid.{Grid, IsGrid, filled}
 use Rattle.rfb_picture.proofs.GridLemmas.{whole_before}
 use Rattle.rfb_wire.specs.declared.encoding.Encoding.{Encoding}
 use Rattle.rfb_wire.specs.declared.encoding.Encoding.TheVariants.{CopyRect, Rre}
-use Rattle.rfb_wire.specs.Reading.{Bad}
+use Rattle.rfb_wire.specs.stream.Reading.{Bad}
 use Rattle.rfb_wire.specs.RectHead.{IsOnScreen}
 use Rattle.rfb_wire.specs.Fields.{u16_at}
-use Rattle.rfb_wire.proofs.RepeatLaws.{listed_from, listed_to}
+use Rattle.rfb_wire.proofs.stream_laws.RepeatLaws.{listed_from, listed_to}
 use Rattle.rfb_codec.specs.declared.subrect.Subrect.{Subrect}
 use Rattle.rfb_codec.specs.declared.fault.PaintFault.{PaintFault}
 use Rattle.rfb_codec.specs.declared.fault.PaintFault.TheVariants.{SubrectOutside, SourceOutside}

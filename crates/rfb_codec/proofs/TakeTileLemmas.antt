@@ -9,7 +9,7 @@ use Rattle.rfb_picture.specs.declared.rect.Rect.{Rect}
 use Rattle.rfb_picture.specs.Rect.{contains}
 use Rattle.rfb_picture.specs.Grid.{Grid, IsGrid, at_or}
 use Rattle.rfb_picture.proofs.GridLemmas.{same_changes, same_grid, at-changed, whole-changed, whole_before, width-changed, height-changed}
-use Rattle.rfb_wire.specs.Reading.{Next, More, Got}
+use Rattle.rfb_wire.specs.stream.Reading.{Next, More, Got}
 use Rattle.rfb_wire.specs.RectHead.{IsOnScreen}
 use Rattle.rfb_codec.specs.declared.fault.PaintFault.{PaintFault}
 use Rattle.rfb_codec.specs.declared.decode.hextile.tile_read.TileRead.{TileRead}

@@ -9,10 +9,10 @@ use Rattle.rfb_pixel.specs.Format.{PixelFormat}
 use Rattle.rfb_picture.specs.declared.rect.Rect.{Rect}
 use Rattle.rfb_picture.specs.Grid.{Grid}
 use Rattle.rfb_wire.specs.declared.encoding.Encoding.TheVariants.{Hextile}
-use Rattle.rfb_wire.specs.Reading.{Next, More, Got, Bad, ListedAfter}
+use Rattle.rfb_wire.specs.stream.Reading.{Next, More, Got, Bad, ListedAfter}
 use Rattle.rfb_wire.specs.Fields.{u8_at}
-use Rattle.rfb_wire.specs.Parts.{named}
-use Rattle.rfb_wire.proofs.PartLaws.{piece_short}
+use Rattle.rfb_wire.specs.stream.Parts.{named}
+use Rattle.rfb_wire.proofs.stream_laws.PartLaws.{piece_short}
 use Rattle.rfb_codec.specs.declared.fault.PaintFault.{PaintFault}
 use Rattle.rfb_codec.specs.declared.decode.hextile.tile_read.Seen.{Seen}
 use Rattle.rfb_codec.specs.declared.decode.stage.Stage.TheVariants.{InTiles}

@@ -4,11 +4,11 @@ use Rattle.std.proofs.Common.{◌≡◌, ℕ, ◌+◌, ◌⊎◌, inl, inr, List
 use Rattle.rfb_pixel.specs.Format.{PixelFormat, size_of}
 use Rattle.rfb_picture.specs.declared.rect.Rect.{Rect}
 use Rattle.rfb_wire.specs.Fields.{u8_at}
-use Rattle.rfb_wire.specs.Reading.{Says, Reads, Same}
-use Rattle.rfb_wire.specs.Parts.{piece, done, judged, and_then, valued, checked, optional}
+use Rattle.rfb_wire.specs.stream.Reading.{Says, Reads, Same}
+use Rattle.rfb_wire.specs.stream.Parts.{piece, done, judged, and_then, valued, checked, optional}
 use Rattle.rfb_wire.specs.RectStream.{is_on_screen}
-use Rattle.rfb_wire.proofs.PartLaws.{alone, piece_says, piece_reads, done_says, done_reads, judged_says, judged_reads, then_says, then_reads, same_reads}
-use Rattle.rfb_wire.proofs.RepeatLaws.{FaultIf, checked_says, checked_reads, optional_says, optional_reads}
+use Rattle.rfb_wire.proofs.stream_laws.PartLaws.{alone, piece_says, piece_reads, done_says, done_reads, judged_says, judged_reads, then_says, then_reads, same_reads}
+use Rattle.rfb_wire.proofs.stream_laws.RepeatLaws.{FaultIf, checked_says, checked_reads, optional_says, optional_reads}
 use Rattle.rfb_wire.proofs.RectStreamLaws.{on_true, on_test}
 use Rattle.rfb_codec.specs.declared.fault.PaintFault.{PaintFault}
 use Rattle.rfb_codec.specs.declared.fault.PaintFault.TheVariants.{SubrectOutside}

@@ -5,7 +5,7 @@ use Rattle.std.proofs.Math.Nat.{mod-eq_of_lt}
 use Rattle.std.proofs.lemmas.List.{drop_at}
 use Rattle.rfb_pixel.specs.Format.{PixelFormat, size_of, pixel_bytes, pixel_number}
 use Rattle.rfb_pixel.proofs.FormatLemmas.{pixel_number-pixel_bytes}
-use Rattle.rfb_wire.specs.Reading.{Listed, Optionally}
+use Rattle.rfb_wire.specs.stream.Reading.{Listed, Optionally}
 use Rattle.rfb_codec.specs.declared.subrect.Subrect.{Subrect}
 use Rattle.rfb_codec.specs.declared.tiles.layout.TileLayout.{TileLayout}
 use Rattle.rfb_codec.specs.declared.tiles.layout.TileLayout.TheVariants.{Raw, Plain, Colored}

@@ -3,15 +3,15 @@ use Rattle.std.proofs.Common.{◌≡◌, ℕ, zero, suc, ◌<◌, ◌+◌, inl, 
 use Rattle.rfb_wire.specs.declared.rect_head.RectHead.{RectHead}
 use Rattle.rfb_wire.specs.RectHead.{SpellsRectHead, IsOnScreen}
 use Rattle.rfb_wire.specs.RectStream.{rect_head, rect_head_says}
-use Rattle.rfb_wire.specs.Reading.{Says, Reads, Same}
-use Rattle.rfb_wire.specs.Parts.{kept, renamed}
-use Rattle.rfb_wire.specs.Stream.{IsSpelled, IsGrammar}
+use Rattle.rfb_wire.specs.stream.Reading.{Says, Reads, Same}
+use Rattle.rfb_wire.specs.stream.Parts.{kept, renamed}
+use Rattle.rfb_wire.specs.stream.Grammar.{IsSpelled, IsGrammar}
 use Rattle.rfb_wire.specs.ServerMessage.{server_says, server_message}
-use Rattle.rfb_wire.proofs.PartLaws.{kept_says, then_says, then_reads, same_reads}
-use Rattle.rfb_wire.proofs.RepeatLaws.{kept_reads, renamed_says, renamed_reads}
+use Rattle.rfb_wire.proofs.stream_laws.PartLaws.{kept_says, then_says, then_reads, same_reads}
+use Rattle.rfb_wire.proofs.stream_laws.RepeatLaws.{kept_reads, renamed_says, renamed_reads}
 use Rattle.rfb_wire.proofs.RectStreamLaws.{rect_head_reads}
 use Rattle.rfb_wire.proofs.ServerMessageLaws.{server_message_reads, server_message_sized, server_fault_some}
-use Rattle.rfb_wire.proofs.StreamLaws.{spelled_grammar}
+use Rattle.rfb_wire.proofs.stream_laws.GrammarLaws.{spelled_grammar}
 use Rattle.rfb_codec.specs.declared.fault.PaintFault.{PaintFault}
 use Rattle.rfb_codec.specs.RectData.{FaultsData, data_says, rect_data}
 use Rattle.rfb_codec.specs.UpdateStream.{UpdatePoint, UpdateItem, Message, Rectangle, UpdateFault, InMessage, InHead, InData, IsBody, SpellsNext, FaultsNext, update_says, rectangle, next_item, update_item_size, update_stream}

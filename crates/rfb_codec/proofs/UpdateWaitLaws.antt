@@ -6,10 +6,10 @@ use Rattle.rfb_wire.specs.declared.rect_head.RectHead.{RectHead}
 use Rattle.rfb_wire.specs.declared.fault.WireFault.{WireFault}
 use Rattle.rfb_wire.specs.RectHead.{SpellsRectHead, IsOnScreen, IsRectFault}
 use Rattle.rfb_wire.specs.RectStream.{rect_head}
-use Rattle.rfb_wire.specs.Reading.{More, Got, Bad}
-use Rattle.rfb_wire.specs.Parts.{renamed, named}
+use Rattle.rfb_wire.specs.stream.Reading.{More, Got, Bad}
+use Rattle.rfb_wire.specs.stream.Parts.{renamed, named}
 use Rattle.rfb_wire.specs.ServerMessage.{ServerMessage, FramebufferUpdate, ServerFault, server_message}
-use Rattle.rfb_wire.proofs.PartLaws.{piece_short}
+use Rattle.rfb_wire.proofs.stream_laws.PartLaws.{piece_short}
 use Rattle.rfb_wire.proofs.RectStreamLaws.{rect_head_reads}
 use Rattle.rfb_codec.specs.declared.fault.PaintFault.{PaintFault}
 use Rattle.rfb_codec.specs.RectData.{RectData, FaultsData, rect_data, painted}

@@ -10,11 +10,11 @@ use Rattle.rfb_picture.proofs.GridLemmas.{whole_before}
 use Rattle.rfb_wire.specs.declared.encoding.Encoding.{Encoding}
 use Rattle.rfb_wire.specs.declared.encoding.Encoding.TheVariants.{Raw, CopyRect, Rre, Hextile}
 use Rattle.rfb_wire.specs.Fields.{u32_at}
-use Rattle.rfb_wire.specs.Reading.{More, Got, Listed, ListedAfter}
-use Rattle.rfb_wire.specs.Parts.{behind, and_then, done, valued, many, named}
-use Rattle.rfb_wire.proofs.PartLaws.{piece_short}
-use Rattle.rfb_wire.proofs.ReadingLaws.{each_waits, many_waits}
-use Rattle.rfb_wire.proofs.RepeatLaws.{valued_reads}
+use Rattle.rfb_wire.specs.stream.Reading.{More, Got, Listed, ListedAfter}
+use Rattle.rfb_wire.specs.stream.Parts.{behind, and_then, done, valued, many, named}
+use Rattle.rfb_wire.proofs.stream_laws.PartLaws.{piece_short}
+use Rattle.rfb_wire.proofs.stream_laws.ReadingLaws.{each_waits, many_waits}
+use Rattle.rfb_wire.proofs.stream_laws.RepeatLaws.{valued_reads}
 use Rattle.rfb_codec.specs.declared.fault.PaintFault.{PaintFault}
 use Rattle.rfb_codec.specs.declared.subrect.Subrect.{Subrect}
 use Rattle.rfb_codec.specs.declared.decode.stage.Place.{Place}

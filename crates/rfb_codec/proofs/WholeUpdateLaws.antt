@@ -3,8 +3,8 @@ use Rattle.std.proofs.Common.{◌≡◌, ℕ, zero, suc, ◌-◌, List, [], ◌�
 use Rattle.rfb_pixel.specs.declared.colour.Colour.{Colour}
 use Rattle.rfb_picture.specs.Grid.{Grid, IsGrid}
 use Rattle.rfb_wire.specs.declared.rect_head.RectHead.{RectHead}
-use Rattle.rfb_wire.specs.Reading.{Got}
-use Rattle.rfb_wire.specs.Stream.{ReadsAll, past_all}
+use Rattle.rfb_wire.specs.stream.Reading.{Got}
+use Rattle.rfb_wire.specs.stream.Grammar.{ReadsAll, past_all}
 use Rattle.rfb_wire.specs.ServerMessage.{ServerMessage, FramebufferUpdate, SpellsServerMessage}
 use Rattle.rfb_codec.specs.UpdateStream.{UpdatePoint, Message, Rectangle, SpellsRectangle, SpellsNext, update_stream}
 use Rattle.rfb_codec.specs.Effect.{effect, effects, IsAlike, Agrees, noted}

@@ -4,8 +4,8 @@ use Rattle.std.specs.Prelude.{◌≡◌, ℕ, ◌+◌, ◌-◌, ◌*◌, ◌/◌
 use Rattle.rfb_pixel.specs.Format.{PixelFormat}
 use Rattle.rfb_picture.specs.declared.rect.Rect.{Rect}
 use Rattle.rfb_picture.specs.Grid.{Grid}
-use Rattle.rfb_wire.specs.Reading.{Reading, ListedAfter}
-use Rattle.rfb_wire.specs.Parts.{done, and_then, each}
+use Rattle.rfb_wire.specs.stream.Reading.{Reading, ListedAfter}
+use Rattle.rfb_wire.specs.stream.Parts.{done, and_then, each}
 use Rattle.rfb_codec.specs.declared.fault.PaintFault.{PaintFault}
 use Rattle.rfb_codec.specs.declared.fault.PaintFault.TheVariants.{SubrectOutside}
 use Rattle.rfb_codec.specs.Pixels.{Shows, drawn}

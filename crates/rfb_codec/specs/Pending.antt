@@ -8,9 +8,10 @@ use Rattle.rfb_picture.specs.declared.rect.Rect.{Rect}
 use Rattle.rfb_wire.specs.declared.encoding.Encoding.{Encoding}
 use Rattle.rfb_wire.specs.declared.encoding.Encoding.TheVariants.{Raw, CopyRect, Rre, Hextile}
 use Rattle.rfb_wire.specs.declared.rect_head.RectHead.{RectHead}
-use Rattle.rfb_wire.specs.Reading.{Next, More, Got, Bad}
+use Rattle.rfb_wire.specs.stream.Reading.{Next, More, Got, Bad}
 use Rattle.rfb_wire.specs.RectStream.{rect_head_of}
-use Rattle.rfb_wire.specs.Pending.{in_pieces, behind_piece, behind_pieces, server_pending, rect_pending}
+use Rattle.rfb_wire.specs.stream.Pending.{in_pieces, behind_piece, behind_pieces}
+use Rattle.rfb_wire.specs.Pending.{server_pending, rect_pending}
 use Rattle.rfb_codec.specs.declared.fault.PaintFault.{PaintFault}
 use Rattle.rfb_codec.specs.Tile.{Tile, is_raw}
 use Rattle.rfb_codec.specs.Hextile.{tile_count}

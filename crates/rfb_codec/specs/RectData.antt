@@ -8,8 +8,8 @@ use Rattle.rfb_picture.specs.Grid.{Grid, at_or, changed, copied}
 use Rattle.rfb_wire.specs.declared.encoding.Encoding.{Encoding}
 use Rattle.rfb_wire.specs.declared.encoding.Encoding.TheVariants.{Raw, CopyRect, Rre, Hextile}
 use Rattle.rfb_wire.specs.Fields.{u16_at}
-use Rattle.rfb_wire.specs.Reading.{Reading, Says}
-use Rattle.rfb_wire.specs.Parts.{checked, renamed}
+use Rattle.rfb_wire.specs.stream.Reading.{Reading, Says}
+use Rattle.rfb_wire.specs.stream.Parts.{checked, renamed}
 use Rattle.rfb_wire.specs.RectHead.{IsOnScreen}
 use Rattle.rfb_wire.specs.RectStream.{is_on_screen}
 use Rattle.rfb_codec.specs.declared.fault.PaintFault.{PaintFault}

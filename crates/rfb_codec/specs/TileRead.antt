@@ -3,8 +3,8 @@ use Rattle.std.specs.Prelude.{◌≡◌, ℕ, zero, suc, ◌+◌, ◌*◌, ◌�
 use Rattle.rfb_pixel.specs.Format.{PixelFormat, size_of}
 use Rattle.rfb_picture.specs.declared.rect.Rect.{Rect}
 use Rattle.rfb_wire.specs.RectHead.{IsOnScreen}
-use Rattle.rfb_wire.specs.Reading.{Next, More, Got, Bad, Reading}
-use Rattle.rfb_wire.specs.Parts.{each}
+use Rattle.rfb_wire.specs.stream.Reading.{Next, More, Got, Bad, Reading}
+use Rattle.rfb_wire.specs.stream.Parts.{each}
 use Rattle.rfb_codec.specs.declared.subrect.Subrect.{Subrect}
 use Rattle.rfb_codec.specs.declared.fault.PaintFault.{PaintFault}
 use Rattle.rfb_codec.specs.declared.tiles.layout.TileLayout.{TileLayout}

@@ -6,9 +6,9 @@ use Rattle.rfb_wire.specs.declared.rect_head.RectHead.{RectHead}
 use Rattle.rfb_wire.specs.declared.fault.WireFault.{WireFault}
 use Rattle.rfb_wire.specs.RectHead.{SpellsRectHead, IsOnScreen, IsRectFault}
 use Rattle.rfb_wire.specs.RectStream.{rect_head}
-use Rattle.rfb_wire.specs.Reading.{Reading, Says}
-use Rattle.rfb_wire.specs.Parts.{kept, and_then, renamed}
-use Rattle.rfb_wire.specs.Stream.{Grammar}
+use Rattle.rfb_wire.specs.stream.Reading.{Reading, Says}
+use Rattle.rfb_wire.specs.stream.Parts.{kept, and_then, renamed}
+use Rattle.rfb_wire.specs.stream.Grammar.{Grammar}
 use Rattle.rfb_wire.specs.ServerMessage.{ServerMessage, FramebufferUpdate, SetColorMapEntries, Bell, ServerCutText, ServerFault, SpellsServerMessage, FaultsServerMessage, server_message, server_message_size}
 use Rattle.rfb_codec.specs.declared.fault.PaintFault.{PaintFault}
 use Rattle.rfb_codec.specs.RectData.{RectData, SpellsData, FaultsData, rect_data}

@@ -2,12 +2,12 @@
 use Rattle.std.proofs.Common.{◌≡◌, ◌≢◌, ℕ, ◌≤◌, ◌<◌, ◌==◌, nat_le, Bool, true, false, List, Option, Some, None, if◌then◌else◌, length, refl, sym, subst, ap, arith}
 use Rattle.std.proofs.lemmas.Bool.Decides.{nat_tests}
 use Rattle.rfb_wire.specs.Fields.{u8_at, flag_at}
-use Rattle.rfb_wire.specs.Reading.{Reads, Same}
-use Rattle.rfb_wire.specs.Stream.{IsSpelled, IsGrammar}
-use Rattle.rfb_wire.proofs.PartLaws.{same_reads}
-use Rattle.rfb_wire.proofs.RepeatLaws.{valued_says, valued_reads, checked_says, checked_reads}
-use Rattle.rfb_wire.proofs.HeadedLaws.{one_byte, waiting_says, waiting_reads}
-use Rattle.rfb_wire.proofs.StreamLaws.{spelled_grammar}
+use Rattle.rfb_wire.specs.stream.Reading.{Reads, Same}
+use Rattle.rfb_wire.specs.stream.Grammar.{IsSpelled, IsGrammar}
+use Rattle.rfb_wire.proofs.stream_laws.PartLaws.{same_reads}
+use Rattle.rfb_wire.proofs.stream_laws.RepeatLaws.{valued_says, valued_reads, checked_says, checked_reads}
+use Rattle.rfb_wire.proofs.stream_laws.HeadedLaws.{one_byte, waiting_says, waiting_reads}
+use Rattle.rfb_wire.proofs.stream_laws.GrammarLaws.{spelled_grammar}
 use Rattle.rfb_hello.specs.declared.version.Version.{Version}
 use Rattle.rfb_hello.specs.declared.fault.HelloFault.{HelloFault}
 use Rattle.rfb_hello.specs.declared.fault.HelloFault.TheVariants.{BadVersion, VersionTooHigh, BadSecurityChoice}

@@ -1,7 +1,7 @@
 -- Two ends speak the whole handshake.
 use Rattle.std.proofs.Common.{◌≡◌, ℕ, Bool, true, false, List, [], ◌∷◌, ◌++◌, length, refl, ap, append-nil}
-use Rattle.rfb_wire.specs.Stream.{ReadsAll}
-use Rattle.rfb_wire.specs.End.{acts, told}
+use Rattle.rfb_wire.specs.stream.Grammar.{ReadsAll}
+use Rattle.rfb_wire.specs.stream.End.{acts, told}
 use Rattle.rfb_hello.specs.declared.version.Version.{Version}
 use Rattle.rfb_hello.specs.declared.version.Version.TheVariants.{V33, V37, V38}
 use Rattle.rfb_hello.specs.Version.{version_text}

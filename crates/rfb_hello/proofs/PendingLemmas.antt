@@ -1,7 +1,7 @@
 -- What an end keeps of a piece that is not whole is what is pending.
 use Rattle.std.proofs.Common.{◌≡◌, ◌≢◌, ℕ, suc, ◌+◌, ◌<◌, List, [], ◌∷◌, ◌++◌, length, refl, sym, ◌∙◌, ap, arith}
-use Rattle.rfb_wire.specs.Pending.{in_pieces}
-use Rattle.rfb_wire.proofs.PendingLaws.{counted_pending, bytes_pending, piece_pending, past_piece}
+use Rattle.rfb_wire.specs.stream.Pending.{in_pieces}
+use Rattle.rfb_wire.proofs.stream_laws.PendingLaws.{counted_pending, bytes_pending, piece_pending, past_piece}
 use Rattle.rfb_hello.specs.declared.version.Version.{Version}
 use Rattle.rfb_hello.specs.declared.version.Version.TheVariants.{V33, V37, V38}
 use Rattle.rfb_hello.specs.declared.server_hello.progress.Progress.{Progress as ServerProgress}

@@ -1,11 +1,11 @@
 -- The reading of a server's handshake is what RFC 6143 says of its bytes, in both directions.
 use Rattle.std.proofs.Common.{◌≡◌, ℕ, zero, suc, ◌<◌, ◌⊎◌, inl, inr, Bool, true, false, List, [], ◌∷◌, ◌++◌, Option, Some, None, if◌then◌else◌, length, refl, sym, subst, ◌∙◌, ap, append-nil, arith}
 use Rattle.rfb_wire.specs.Fields.{u8_at, u32_at}
-use Rattle.rfb_wire.specs.Reading.{Says, Reads, Same}
-use Rattle.rfb_wire.specs.Parts.{piece, refused, and_then, valued}
-use Rattle.rfb_wire.proofs.PartLaws.{alone, done_says, piece_says, then_says, done_reads, piece_reads, then_reads, same_reads}
-use Rattle.rfb_wire.proofs.RepeatLaws.{valued_says, valued_reads, checked_says, checked_reads}
-use Rattle.rfb_wire.proofs.HeadedLaws.{one_byte, refused_says, refused_reads}
+use Rattle.rfb_wire.specs.stream.Reading.{Says, Reads, Same}
+use Rattle.rfb_wire.specs.stream.Parts.{piece, refused, and_then, valued}
+use Rattle.rfb_wire.proofs.stream_laws.PartLaws.{alone, done_says, piece_says, then_says, done_reads, piece_reads, then_reads, same_reads}
+use Rattle.rfb_wire.proofs.stream_laws.RepeatLaws.{valued_says, valued_reads, checked_says, checked_reads}
+use Rattle.rfb_wire.proofs.stream_laws.HeadedLaws.{one_byte, refused_says, refused_reads}
 use Rattle.rfb_hello.specs.declared.version.Version.TheVariants.{V33}
 use Rattle.rfb_hello.specs.declared.fault.HelloFault.{HelloFault}
 use Rattle.rfb_hello.specs.declared.fault.HelloFault.TheVariants.{NoneNotOffered, Refused, BadSecurityWord}

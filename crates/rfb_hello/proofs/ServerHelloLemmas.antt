@@ -1,9 +1,9 @@
 -- The server's end, step by step.
 use Rattle.std.proofs.Common.{◌≡◌, ℕ, ◌<◌, List, [], ◌∷◌, ◌++◌, Option, Some, None, is_some, true, false, Ok, Err, length, take, slice_index, refl, sym, subst, ◌∙◌, ap, append-nil, arith}
-use Rattle.rfb_wire.specs.Reading.{Got, Bad}
-use Rattle.rfb_wire.specs.End.{IsMachine, FedBy, RefusedBy, StepsBy}
-use Rattle.rfb_wire.proofs.RepeatLaws.{checked_reads}
-use Rattle.rfb_wire.proofs.FeedLaws.{step_feeds, front_refuses}
+use Rattle.rfb_wire.specs.stream.Reading.{Got, Bad}
+use Rattle.rfb_wire.specs.stream.End.{IsMachine, FedBy, RefusedBy, StepsBy}
+use Rattle.rfb_wire.proofs.stream_laws.RepeatLaws.{checked_reads}
+use Rattle.rfb_wire.proofs.stream_laws.FeedLaws.{step_feeds, front_refuses}
 use Rattle.rfb_hello.specs.declared.version.Version.{Version}
 use Rattle.rfb_hello.specs.declared.version.Version.TheVariants.{V33, V37, V38}
 use Rattle.rfb_hello.specs.declared.fault.HelloFault.{HelloFault}

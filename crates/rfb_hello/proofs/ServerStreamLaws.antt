@@ -2,13 +2,13 @@
 use Rattle.std.proofs.Common.{◌≡◌, ◌≢◌, ℕ, zero, suc, ◌+◌, ◌*◌, ◌<◌, ◌==◌, inl, inr, nat_lt, Bool, true, false, List, [], ◌++◌, Option, Some, None, if◌then◌else◌, length, refl, sym, subst, ◌∙◌, ap, append-nil, length-append, arith}
 use Rattle.std.proofs.lemmas.Bool.Decides.{nat_tests}
 use Rattle.rfb_wire.specs.Fields.{u8_at, u16_at, u32_at}
-use Rattle.rfb_wire.specs.Reading.{Says, Reads, Same}
-use Rattle.rfb_wire.specs.Parts.{and_then, valued}
-use Rattle.rfb_wire.specs.Stream.{IsSpelled, IsGrammar}
-use Rattle.rfb_wire.proofs.PartLaws.{done_says, then_says, done_reads, then_reads, same_reads}
-use Rattle.rfb_wire.proofs.RepeatLaws.{valued_says, valued_reads, checked_says, checked_reads}
-use Rattle.rfb_wire.proofs.HeadedLaws.{waiting_says, waiting_reads}
-use Rattle.rfb_wire.proofs.StreamLaws.{spelled_grammar}
+use Rattle.rfb_wire.specs.stream.Reading.{Says, Reads, Same}
+use Rattle.rfb_wire.specs.stream.Parts.{and_then, valued}
+use Rattle.rfb_wire.specs.stream.Grammar.{IsSpelled, IsGrammar}
+use Rattle.rfb_wire.proofs.stream_laws.PartLaws.{done_says, then_says, done_reads, then_reads, same_reads}
+use Rattle.rfb_wire.proofs.stream_laws.RepeatLaws.{valued_says, valued_reads, checked_says, checked_reads}
+use Rattle.rfb_wire.proofs.stream_laws.HeadedLaws.{waiting_says, waiting_reads}
+use Rattle.rfb_wire.proofs.stream_laws.GrammarLaws.{spelled_grammar}
 use Rattle.rfb_hello.specs.declared.version.Version.{Version}
 use Rattle.rfb_hello.specs.declared.version.Version.TheVariants.{V33, V37, V38}
 use Rattle.rfb_hello.specs.declared.fault.HelloFault.{HelloFault}

@@ -1,6 +1,6 @@
 -- A viewer's answers are read as the items that the handshake asks next.
 use Rattle.std.proofs.Common.{◌≡◌, ℕ, List, [], ◌∷◌, Bool, true, false, refl}
-use Rattle.rfb_wire.specs.Stream.{ReadsAll}
+use Rattle.rfb_wire.specs.stream.Grammar.{ReadsAll}
 use Rattle.rfb_hello.specs.declared.version.Version.{Version}
 use Rattle.rfb_hello.specs.declared.version.Version.TheVariants.{V33, V37, V38}
 use Rattle.rfb_hello.specs.Version.{lower}

@@ -3,11 +3,11 @@ use Rattle.std.proofs.Common.{◌≡◌, ◌≢◌, ℕ, zero, suc, ◌+◌, ◌
 use Rattle.std.proofs.lemmas.Bool.Decides.{nat_tests}
 use Rattle.std.proofs.lemmas.List.{take-append-le, take_all, length-take-le}
 use Rattle.rfb_wire.specs.Fields.{u16_at, u32_at}
-use Rattle.rfb_wire.specs.Reading.{More, Got, Bad}
-use Rattle.rfb_wire.specs.End.{IsMachine, FedBy, RunsOutBy, StepsBy}
-use Rattle.rfb_wire.proofs.RepeatLaws.{checked_reads}
-use Rattle.rfb_wire.proofs.PartLaws.{piece_short}
-use Rattle.rfb_wire.proofs.FeedLaws.{fed_start, memory_step}
+use Rattle.rfb_wire.specs.stream.Reading.{More, Got, Bad}
+use Rattle.rfb_wire.specs.stream.End.{IsMachine, FedBy, RunsOutBy, StepsBy}
+use Rattle.rfb_wire.proofs.stream_laws.RepeatLaws.{checked_reads}
+use Rattle.rfb_wire.proofs.stream_laws.PartLaws.{piece_short}
+use Rattle.rfb_wire.proofs.stream_laws.FeedLaws.{fed_start, memory_step}
 use Rattle.rfb_hello.specs.declared.version.Version.{Version}
 use Rattle.rfb_hello.specs.declared.version.Version.TheVariants.{V33, V37, V38}
 use Rattle.rfb_hello.specs.declared.fault.HelloFault.{HelloFault}

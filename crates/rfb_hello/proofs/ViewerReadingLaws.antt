@@ -1,9 +1,9 @@
 -- What is read of a server's bytes that a viewer has in parts.
 use Rattle.std.proofs.Common.{◌≡◌, ◌≢◌, ℕ, zero, suc, ◌<◌, ◌||◌, ◌==◌, Bool, true, false, List, [], ◌∷◌, ◌++◌, length, refl, subst, ◌∙◌, ap, append-nil, arith}
 use Rattle.rfb_wire.specs.Fields.{u8_at, u32_at}
-use Rattle.rfb_wire.specs.Reading.{More, Got, Bad, Reading}
-use Rattle.rfb_wire.specs.Parts.{piece, refused, and_then, valued}
-use Rattle.rfb_wire.proofs.PartLaws.{piece_only, piece_short}
+use Rattle.rfb_wire.specs.stream.Reading.{More, Got, Bad, Reading}
+use Rattle.rfb_wire.specs.stream.Parts.{piece, refused, and_then, valued}
+use Rattle.rfb_wire.proofs.stream_laws.PartLaws.{piece_only, piece_short}
 use Rattle.rfb_hello.specs.declared.version.Version.{Version}
 use Rattle.rfb_hello.specs.declared.version.Version.TheVariants.{V33, V37, V38}
 use Rattle.rfb_hello.specs.declared.fault.HelloFault.{HelloFault}

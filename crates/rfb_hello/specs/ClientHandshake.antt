@@ -2,9 +2,9 @@
 -- from version 3.7 on its choice of a security type, and ClientInit.
 use Rattle.std.specs.Prelude.{◌≡◌, ◌≢◌, ℕ, ◌≤◌, ◌<◌, ◌==◌, Bool, true, false, List, [], ◌∷◌, length, Option, Some, None, nat_le, if◌then◌else◌}
 use Rattle.rfb_wire.specs.Fields.{u8_at, flag_at}
-use Rattle.rfb_wire.specs.Reading.{Reading, Says}
-use Rattle.rfb_wire.specs.Parts.{valued, checked, waiting}
-use Rattle.rfb_wire.specs.Stream.{Grammar}
+use Rattle.rfb_wire.specs.stream.Reading.{Reading, Says}
+use Rattle.rfb_wire.specs.stream.Parts.{valued, checked, waiting}
+use Rattle.rfb_wire.specs.stream.Grammar.{Grammar}
 use Rattle.rfb_hello.specs.declared.version.Version.{Version}
 use Rattle.rfb_hello.specs.declared.version.Version.TheVariants.{V33, V37, V38}
 use Rattle.rfb_hello.specs.declared.fault.HelloFault.{HelloFault}

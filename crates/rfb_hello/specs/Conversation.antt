@@ -1,8 +1,8 @@
 -- A whole handshake as two ends speak it: who sends what and when, by the version that both use, RFC 6143
 -- sections 7.1 to 7.3 and Appendix A.
 use Rattle.std.specs.Prelude.{◌≡◌, ℕ, Bool, List, [], ◌∷◌, ◌++◌, Some}
-use Rattle.rfb_wire.specs.Stream.{ReadsAll}
-use Rattle.rfb_wire.specs.End.{acts, told}
+use Rattle.rfb_wire.specs.stream.Grammar.{ReadsAll}
+use Rattle.rfb_wire.specs.stream.End.{acts, told}
 use Rattle.rfb_hello.specs.declared.version.Version.{Version}
 use Rattle.rfb_hello.specs.declared.version.Version.TheVariants.{V33, V37, V38}
 use Rattle.rfb_hello.specs.declared.step.ServerStep.{ServerStep}

@@ -3,7 +3,7 @@
 -- of a reason and each byte of it, ServerInit up to the name and each byte of that; a client's are its
 -- version's text, its choice and ClientInit.
 use Rattle.std.specs.Prelude.{ℕ, zero, suc, List, [], ◌∷◌}
-use Rattle.rfb_wire.specs.Pending.{in_pieces, behind_piece}
+use Rattle.rfb_wire.specs.stream.Pending.{in_pieces, behind_piece}
 use Rattle.rfb_hello.specs.declared.version.Version.{Version}
 use Rattle.rfb_hello.specs.declared.version.Version.TheVariants.{V33, V37, V38}
 use Rattle.rfb_hello.specs.ClientHandshake.{ClientPoint, AwaitsVersion as AwaitsClientVersion, AwaitsChoice, AwaitsInit as AwaitsClientInit, Begun as ClientBegun}

@@ -1,7 +1,7 @@
 -- The viewer's end of the handshake: what it answers to what a server sends, and what it tells of it, RFC
 -- 6143 sections 7.1 to 7.3 and Appendix A.
 use Rattle.std.specs.Prelude.{◌≡◌, ◌≢◌, ◌<◌, ℕ, zero, suc, List, [], ◌∷◌, ◌++◌, Option, Some, None, Bool, true, false}
-use Rattle.rfb_wire.specs.End.{Machine}
+use Rattle.rfb_wire.specs.stream.End.{Machine}
 use Rattle.rfb_hello.specs.declared.version.Version.{Version}
 use Rattle.rfb_hello.specs.declared.version.Version.TheVariants.{V33, V37, V38}
 use Rattle.rfb_hello.specs.declared.fault.HelloFault.{HelloFault}

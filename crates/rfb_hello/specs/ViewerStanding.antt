@@ -1,7 +1,7 @@
 -- What a `ViewerHello` stands for: a setup, a point of the handshake, and the bytes that came of the
 -- server's next item, fewer than it has.
 use Rattle.std.specs.Prelude.{◌≡◌, ◌≢◌, ℕ, Bool, true, false, List, ◌++◌, Option, None, Some, Result, Err, length}
-use Rattle.rfb_wire.specs.End.{RunsOutBy, StepsBy}
+use Rattle.rfb_wire.specs.stream.End.{RunsOutBy, StepsBy}
 use Rattle.rfb_hello.specs.declared.fault.HelloFault.{HelloFault}
 use Rattle.rfb_hello.specs.declared.fault.HelloFault.TheVariants.{Refused as RefusedFault, SecurityFailed as FailedFault, NoMemory}
 use Rattle.rfb_hello.specs.declared.step.ViewerStep.{ViewerStep}

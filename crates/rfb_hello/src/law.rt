@@ -2,8 +2,8 @@
 
 ghost use Rattle.std.specs.Prelude.{◌≡◌, ℕ, Bool, List, [], ◌∷◌, None, Some};
 ghost use Rattle.arrayvec.specs.ArrayVec.{ArrayVec};
-ghost use Rattle.rfb_wire.specs.Stream.{IsSpelled, IsGrammar, ReadsAll};
-ghost use Rattle.rfb_wire.specs.End.{IsMachine};
+ghost use Rattle.rfb_wire.specs.stream.Grammar.{IsSpelled, IsGrammar, ReadsAll};
+ghost use Rattle.rfb_wire.specs.stream.End.{IsMachine};
 ghost use Rattle.rfb_hello.specs.declared.version.Version.{Version};
 ghost use Rattle.rfb_hello.specs.declared.server_hello.ServerHello.{ServerHello};
 ghost use Rattle.rfb_hello.specs.declared.viewer_hello.ViewerHello.{ViewerHello};

@@ -1,7 +1,7 @@
 //! The viewer's end of a handshake.
 
 ghost use Rattle.std.specs.Prelude.{◌≡◌, ◌≢◌, ◌≤◌, ◌<◌, ℕ, List, [], length, take, true, false, IfOk, IfErr, Some, None, Ok, Err};
-ghost use Rattle.rfb_wire.specs.End.{FedBy, RefusedBy, RunsOutBy, StaysFailed};
+ghost use Rattle.rfb_wire.specs.stream.End.{FedBy, RefusedBy, RunsOutBy, StaysFailed};
 ghost use Rattle.rfb_hello.specs.KeptText.{no_text};
 ghost use Rattle.rfb_hello.specs.ServerHandshake.{AwaitsVersion, ServerPoint};
 ghost use Rattle.rfb_hello.specs.Pending.{server_handshake_pending};

@@ -3,13 +3,13 @@ use Rattle.std.proofs.Common.{◌≡◌, ℕ, Bool, true, false, List, [], ◌�
 use Rattle.std.specs.Option.{IfSome}
 use Rattle.rfb_pixel.specs.declared.colour.Colour.{Colour}
 use Rattle.rfb_picture.specs.Grid.{Grid}
-use Rattle.rfb_wire.specs.Reading.{Next, More}
-use Rattle.rfb_wire.specs.Parts.{named}
-use Rattle.rfb_wire.specs.Stream.{ReadsAll}
-use Rattle.rfb_wire.specs.Sequel.{First, Second, StaysFirst, past_in}
-use Rattle.rfb_wire.specs.End.{acts, EndsWith, FedBy, RefusedBy}
-use Rattle.rfb_wire.proofs.EndLaws.{quiet_first}
-use Rattle.rfb_wire.proofs.SequelLaws.{all_first}
+use Rattle.rfb_wire.specs.stream.Reading.{Next, More}
+use Rattle.rfb_wire.specs.stream.Parts.{named}
+use Rattle.rfb_wire.specs.stream.Grammar.{ReadsAll}
+use Rattle.rfb_wire.specs.stream.Sequel.{First, Second, StaysFirst, past_in}
+use Rattle.rfb_wire.specs.stream.End.{acts, EndsWith, FedBy, RefusedBy}
+use Rattle.rfb_wire.proofs.stream_laws.EndLaws.{quiet_first}
+use Rattle.rfb_wire.proofs.stream_laws.SequelLaws.{all_first}
 use Rattle.rfb_hello.specs.declared.version.Version.TheVariants.{V33, V37, V38}
 use Rattle.rfb_hello.specs.declared.fault.HelloFault.{HelloFault}
 use Rattle.rfb_hello.specs.declared.step.ServerStep.{ServerStep}

@@ -1,10 +1,10 @@
 -- What a client sends is read by its grammar, and a server is a machine over it.
 use Rattle.std.proofs.Common.{refl}
-use Rattle.rfb_wire.specs.Stream.{IsSpelled, IsGrammar}
-use Rattle.rfb_wire.specs.End.{IsMachine}
+use Rattle.rfb_wire.specs.stream.Grammar.{IsSpelled, IsGrammar}
+use Rattle.rfb_wire.specs.stream.End.{IsMachine}
 use Rattle.rfb_wire.specs.ClientMessage.{client_says}
-use Rattle.rfb_wire.proofs.StreamLaws.{spelled_grammar}
-use Rattle.rfb_wire.proofs.SequelLaws.{sequel_spelled}
+use Rattle.rfb_wire.proofs.stream_laws.GrammarLaws.{spelled_grammar}
+use Rattle.rfb_wire.proofs.stream_laws.SequelLaws.{sequel_spelled}
 use Rattle.rfb_wire.proofs.ClientStreamLaws.{client_spelled}
 use Rattle.rfb_hello.specs.declared.version.Version.{Version}
 use Rattle.rfb_hello.specs.ClientHandshake.{client_item_says}

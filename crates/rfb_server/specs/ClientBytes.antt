@@ -1,8 +1,8 @@
 -- All that a client sends, RFC 6143 sections 7.1 to 7.5: its handshake, and then its messages.
 use Rattle.std.specs.Prelude.{Option, Some, None, ⊤}
-use Rattle.rfb_wire.specs.Reading.{Says}
-use Rattle.rfb_wire.specs.Stream.{Grammar}
-use Rattle.rfb_wire.specs.Sequel.{Stage, Two, sequel, sequel_says}
+use Rattle.rfb_wire.specs.stream.Reading.{Says}
+use Rattle.rfb_wire.specs.stream.Grammar.{Grammar}
+use Rattle.rfb_wire.specs.stream.Sequel.{Stage, Two, sequel, sequel_says}
 use Rattle.rfb_wire.specs.ClientMessage.{ClientMessage, ClientFault, client_says}
 use Rattle.rfb_wire.specs.ClientStream.{client_stream}
 use Rattle.rfb_hello.specs.declared.version.Version.{Version}

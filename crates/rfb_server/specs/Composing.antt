@@ -10,8 +10,8 @@ use Rattle.rfb_picture.specs.Box.{IsTight}
 use Rattle.rfb_wire.specs.declared.encoding.Encoding.{Encoding}
 use Rattle.rfb_wire.specs.declared.encoding.Encoding.TheVariants.{Raw, CopyRect}
 use Rattle.rfb_wire.specs.declared.rect_head.RectHead.{RectHead}
-use Rattle.rfb_wire.specs.Stream.{ReadsAll}
-use Rattle.rfb_wire.specs.Sequel.{Second}
+use Rattle.rfb_wire.specs.stream.Grammar.{ReadsAll}
+use Rattle.rfb_wire.specs.stream.Sequel.{Second}
 use Rattle.rfb_codec.specs.RectData.{RectData, Pixels, Source, SpellsData, moved_to}
 use Rattle.rfb_codec.specs.UpdateStream.{UpdatePoint, update_stream}
 use Rattle.rfb_codec.specs.Effect.{effects, IsAlike, Agrees}

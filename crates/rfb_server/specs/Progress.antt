@@ -1,10 +1,10 @@
 -- How far a client's bytes have come in a session, and what it holds of the item under way.
 use Rattle.std.specs.Prelude.{◌≡◌, ℕ, ℤ, ◌+◌, ◌<◌, min, List, [], ◌∷◌, ◌++◌, length, take, true, Option, Some, None}
 use Rattle.rfb_wire.specs.declared.encoding.Encoding.{Encoding}
-use Rattle.rfb_wire.specs.Reading.{Listed}
+use Rattle.rfb_wire.specs.stream.Reading.{Listed}
 use Rattle.rfb_wire.specs.ClientHead.{client_head_size, SpellsSetEncodings, SpellsClientCutText}
 use Rattle.rfb_wire.specs.ClientMessage.{SpellsNumber}
-use Rattle.rfb_wire.specs.Sequel.{First, Second}
+use Rattle.rfb_wire.specs.stream.Sequel.{First, Second}
 use Rattle.rfb_hello.specs.KeptText.{KeptText}
 use Rattle.rfb_hello.specs.declared.server_hello.ServerHello.{ServerHello}
 use Rattle.rfb_hello.specs.ServerStanding.{StandsFor as HelloStandsFor, is_open}

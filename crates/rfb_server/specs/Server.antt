@@ -6,8 +6,8 @@ use Rattle.rfb_picture.specs.Grid.{Grid, uniform}
 use Rattle.rfb_picture.specs.Area.{Places, no_places, added}
 use Rattle.rfb_wire.specs.declared.encoding.Encoding.{Encoding}
 use Rattle.rfb_wire.specs.ClientMessage.{ClientMessage, SetPixelFormat, SetEncodings, FramebufferUpdateRequest, KeyEvent, PointerEvent, ClientCutText}
-use Rattle.rfb_wire.specs.Sequel.{First, Second, past_in}
-use Rattle.rfb_wire.specs.End.{Machine}
+use Rattle.rfb_wire.specs.stream.Sequel.{First, Second, past_in}
+use Rattle.rfb_wire.specs.stream.End.{Machine}
 use Rattle.rfb_hello.specs.ClientHandshake.{AwaitsVersion}
 use Rattle.rfb_hello.specs.ServerEnd.{ServerSetup, server_tells as handshake_tells}
 use Rattle.rfb_server.specs.declared.fault.ServerFault.{ServerFault}

@@ -4,8 +4,8 @@ ghost use Rattle.std.specs.Prelude.{◌≡◌, ℕ, List, true, map, ◌++◌, S
 ghost use Rattle.rfb_pixel.specs.declared.colour.Colour.{Colour};
 ghost use Rattle.rfb_pixel.specs.Format.{PixelFormat, seen_through};
 ghost use Rattle.rfb_picture.specs.Grid.{Grid, IsGrid, at_or};
-ghost use Rattle.rfb_wire.specs.Stream.{IsSpelled, IsGrammar};
-ghost use Rattle.rfb_wire.specs.End.{IsMachine};
+ghost use Rattle.rfb_wire.specs.stream.Grammar.{IsSpelled, IsGrammar};
+ghost use Rattle.rfb_wire.specs.stream.End.{IsMachine};
 ghost use Rattle.rfb_hello.specs.declared.version.Version.{Version};
 ghost use Rattle.rfb_server.specs.ClientBytes.{client_bytes, client_bytes_say};
 ghost use Rattle.rfb_codec.specs.Effect.{effects, IsAlike, Agrees};

@@ -1,10 +1,10 @@
 -- What a server sends is read by its grammar, and a viewer is a machine over it.
 use Rattle.std.proofs.Common.{refl}
 use Rattle.rfb_pixel.specs.Format.{PixelFormat}
-use Rattle.rfb_wire.specs.Stream.{IsSpelled, IsGrammar}
-use Rattle.rfb_wire.specs.End.{IsMachine}
-use Rattle.rfb_wire.proofs.StreamLaws.{spelled_grammar}
-use Rattle.rfb_wire.proofs.SequelLaws.{sequel_spelled}
+use Rattle.rfb_wire.specs.stream.Grammar.{IsSpelled, IsGrammar}
+use Rattle.rfb_wire.specs.stream.End.{IsMachine}
+use Rattle.rfb_wire.proofs.stream_laws.GrammarLaws.{spelled_grammar}
+use Rattle.rfb_wire.proofs.stream_laws.SequelLaws.{sequel_spelled}
 use Rattle.rfb_codec.specs.UpdateStream.{update_says}
 use Rattle.rfb_codec.proofs.UpdateStreamLaws.{update_spelled}
 use Rattle.rfb_hello.specs.ServerHandshake.{server_item_says}

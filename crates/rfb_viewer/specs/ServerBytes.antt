@@ -2,9 +2,9 @@
 -- of updates with their rectangles.
 use Rattle.std.specs.Prelude.{ℕ, zero, suc, Option, Some, None}
 use Rattle.rfb_pixel.specs.Format.{PixelFormat}
-use Rattle.rfb_wire.specs.Reading.{Says}
-use Rattle.rfb_wire.specs.Stream.{Grammar}
-use Rattle.rfb_wire.specs.Sequel.{Stage, Two, sequel, sequel_says}
+use Rattle.rfb_wire.specs.stream.Reading.{Says}
+use Rattle.rfb_wire.specs.stream.Grammar.{Grammar}
+use Rattle.rfb_wire.specs.stream.Sequel.{Stage, Two, sequel, sequel_says}
 use Rattle.rfb_codec.specs.UpdateStream.{UpdatePoint, UpdateItem, UpdateFault, update_stream, update_says}
 use Rattle.rfb_hello.specs.declared.fault.HelloFault.{HelloFault}
 use Rattle.rfb_hello.specs.ServerHandshake.{ServerPoint, AwaitsInit, AwaitsName, ServerItem, ServerInit, Name, server_item_says}

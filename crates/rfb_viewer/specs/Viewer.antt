@@ -5,9 +5,9 @@ use Rattle.rfb_pixel.specs.Format.{PixelFormat}
 use Rattle.rfb_picture.specs.Grid.{Grid, uniform}
 use Rattle.rfb_wire.specs.declared.encoding.Encoding.{Encoding}
 use Rattle.rfb_wire.specs.ServerHead.{SpellsServerCutText}
-use Rattle.rfb_wire.specs.Sequel.{First, Second, past_in}
-use Rattle.rfb_wire.specs.Both.{event_as}
-use Rattle.rfb_wire.specs.End.{Machine}
+use Rattle.rfb_wire.specs.stream.Sequel.{First, Second, past_in}
+use Rattle.rfb_wire.specs.stream.Both.{event_as}
+use Rattle.rfb_wire.specs.stream.End.{Machine}
 use Rattle.rfb_codec.specs.UpdateStream.{UpdatePoint, UpdateItem}
 use Rattle.rfb_codec.specs.Effect.{effect}
 use Rattle.rfb_hello.specs.ServerHandshake.{ServerPoint, AwaitsVersion, AwaitsInit, ServerItem, ProtocolVersion, SecurityNone, SecurityTypes, SecurityResult, ServerInit, Name, SpellsServerInit, IsAdmitted}

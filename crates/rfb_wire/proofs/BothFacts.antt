@@ -2,16 +2,16 @@
 -- a client.
 use Rattle.std.proofs.Common.{◌≡◌, ℕ, [], ◌∷◌, Option, Some, None, true, refl, ap}
 use Rattle.std.specs.Prelude.{⊤}
-use Rattle.rfb_wire.specs.Stream.{ReadsAll, past_all}
-use Rattle.rfb_wire.specs.End.{Machine, IsMachine, Takes}
+use Rattle.rfb_wire.specs.stream.Grammar.{ReadsAll, past_all}
+use Rattle.rfb_wire.specs.stream.End.{Machine, IsMachine, Takes}
 use Rattle.rfb_wire.specs.ClientMessage.{ClientMessage, KeyEvent, PointerEvent, ClientFault, client_says}
 use Rattle.rfb_wire.specs.ClientStream.{client_message, client_stream}
-use Rattle.rfb_wire.specs.Sequel.{Stage, First, Second, in_both, Two, sequel, sequel_says}
-use Rattle.rfb_wire.specs.Both.{first_point, end_at, GoesAsFirst}
-use Rattle.rfb_wire.proofs.StreamLaws.{spelled_grammar}
-use Rattle.rfb_wire.proofs.SequelLaws.{sequel_spelled}
+use Rattle.rfb_wire.specs.stream.Sequel.{Stage, First, Second, in_both, Two, sequel, sequel_says}
+use Rattle.rfb_wire.specs.stream.Both.{first_point, end_at, GoesAsFirst}
+use Rattle.rfb_wire.proofs.stream_laws.GrammarLaws.{spelled_grammar}
+use Rattle.rfb_wire.proofs.stream_laws.SequelLaws.{sequel_spelled}
 use Rattle.rfb_wire.proofs.ClientStreamLaws.{client_spelled}
-use Rattle.rfb_wire.proofs.BothLaws.{at_first}
+use Rattle.rfb_wire.proofs.stream_laws.BothLaws.{at_first}
 
 -- a key leads over
 abbrev key_leads : ClientMessage → Option ⊤

@@ -8,7 +8,7 @@ use Rattle.rfb_wire.specs.declared.client_head.ClientHead.TheVariants.{SetPixelF
 use Rattle.rfb_wire.specs.Fields.{u8_at, u16_at, u32_at, flag_at}
 use Rattle.rfb_wire.specs.ClientHead.{SpellsClientHead, client_head_size}
 use Rattle.rfb_wire.specs.ClientStream.{client_head_of}
-use Rattle.rfb_wire.proofs.HeadLemmas.{SizesSpell}
+use Rattle.rfb_wire.proofs.stream_laws.HeadLemmas.{SizesSpell}
 
 -- bytes of the size that their type asks for are a head
 pub client-sizes : SizesSpell SpellsClientHead client_head_size

@@ -11,16 +11,16 @@ use Rattle.rfb_wire.specs.declared.client_head.ClientHead.{ClientHead}
 use Rattle.rfb_wire.specs.declared.client_head.ClientHead.TheVariants.{SetPixelFormat as FormatHead, SetEncodings as EncodingsHead, Request, Key, Pointer, CutText}
 use Rattle.rfb_wire.specs.Fields.{s32_at}
 use Rattle.rfb_wire.specs.ClientHead.{SpellsClientHead, client_head_size}
-use Rattle.rfb_wire.specs.Reading.{Says, Reads, Same, Listed}
-use Rattle.rfb_wire.specs.Parts.{piece, done, and_then, valued, many, headed}
-use Rattle.rfb_wire.specs.Stream.{IsSpelled}
+use Rattle.rfb_wire.specs.stream.Reading.{Says, Reads, Same, Listed}
+use Rattle.rfb_wire.specs.stream.Parts.{piece, done, and_then, valued, many, headed}
+use Rattle.rfb_wire.specs.stream.Grammar.{IsSpelled}
 use Rattle.rfb_wire.specs.ClientMessage.{ClientMessage, SetPixelFormat, SetEncodings, FramebufferUpdateRequest, KeyEvent, PointerEvent, ClientCutText, ClientFault, BadFormat, UnknownType, SpellsNumber, SpellsClientMessage, FaultsClientMessage, client_says, client_message_size}
 use Rattle.rfb_wire.specs.ClientStream.{client_head_of, format_of, format_fault, behind_head, client_message, client_stream}
-use Rattle.rfb_wire.proofs.HeadLemmas.{begins_some}
+use Rattle.rfb_wire.proofs.stream_laws.HeadLemmas.{begins_some}
 use Rattle.rfb_wire.proofs.ClientLemmas.{client-sizes, client-spelled}
-use Rattle.rfb_wire.proofs.PartLaws.{alone, piece_says, done_says, judged_says, then_says, piece_reads, done_reads, judged_reads, then_reads, same_reads}
-use Rattle.rfb_wire.proofs.RepeatLaws.{valued_says, many_says, valued_reads, many_reads}
-use Rattle.rfb_wire.proofs.HeadedLaws.{IsHeaded, headed_says, headed_reads}
+use Rattle.rfb_wire.proofs.stream_laws.PartLaws.{alone, piece_says, done_says, judged_says, then_says, piece_reads, done_reads, judged_reads, then_reads, same_reads}
+use Rattle.rfb_wire.proofs.stream_laws.RepeatLaws.{valued_says, many_says, valued_reads, many_reads}
+use Rattle.rfb_wire.proofs.stream_laws.HeadedLaws.{IsHeaded, headed_says, headed_reads}
 
 -- ---- heads
 

@@ -1,8 +1,9 @@
 -- How many bytes are pending behind each front of an item, computed from the tables: a head is pending
 -- until it is whole, then each number, color or byte of a text.
 use Rattle.std.proofs.Common.{◌≡◌, ℕ, List, [], ◌∷◌, ◌++◌, refl}
-use Rattle.rfb_wire.specs.Sequel.{First, Second}
-use Rattle.rfb_wire.specs.Pending.{in_pieces, behind_pieces, client_pending, server_pending, rect_pending, pending_in}
+use Rattle.rfb_wire.specs.stream.Sequel.{First, Second}
+use Rattle.rfb_wire.specs.stream.Pending.{in_pieces, behind_pieces, pending_in}
+use Rattle.rfb_wire.specs.Pending.{client_pending, server_pending, rect_pending}
 
 -- what is pending of each front, from the first bytes on, that lacks a byte at least
 abbrev at_fronts : (List ℕ → ℕ) → List ℕ → List ℕ → List ℕ

@@ -7,7 +7,7 @@ use Rattle.rfb_wire.specs.declared.server_head.ServerHead.TheVariants.{Update, C
 use Rattle.rfb_wire.specs.Fields.{u16_at, u32_at}
 use Rattle.rfb_wire.specs.ServerHead.{SpellsServerHead, server_head_size}
 use Rattle.rfb_wire.specs.ServerMessage.{server_head_of}
-use Rattle.rfb_wire.proofs.HeadLemmas.{SizesSpell}
+use Rattle.rfb_wire.proofs.stream_laws.HeadLemmas.{SizesSpell}
 
 -- bytes of the size that their type asks for are a head
 pub server-sizes : SizesSpell SpellsServerHead server_head_size

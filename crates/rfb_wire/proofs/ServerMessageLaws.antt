@@ -4,14 +4,14 @@ use Rattle.std.proofs.lemmas.Bool.Decides.{nat_tests}
 use Rattle.rfb_wire.specs.declared.server_head.ServerHead.{ServerHead}
 use Rattle.rfb_wire.specs.declared.server_head.ServerHead.TheVariants.{Update, ColourMap, Bell as BellHead, CutText}
 use Rattle.rfb_wire.specs.ServerHead.{SpellsServerHead, server_head_size}
-use Rattle.rfb_wire.specs.Reading.{Says, Reads, Same, Listed}
-use Rattle.rfb_wire.specs.Parts.{piece, done, and_then, valued, many, headed}
+use Rattle.rfb_wire.specs.stream.Reading.{Says, Reads, Same, Listed}
+use Rattle.rfb_wire.specs.stream.Parts.{piece, done, and_then, valued, many, headed}
 use Rattle.rfb_wire.specs.ServerMessage.{Color, ServerMessage, FramebufferUpdate, SetColorMapEntries, Bell, ServerCutText, ServerFault, UnknownType, SpellsColor, SpellsServerMessage, FaultsServerMessage, server_says, server_message_size, server_head_of, color_of, behind_head, server_message}
-use Rattle.rfb_wire.proofs.HeadLemmas.{begins_some}
+use Rattle.rfb_wire.proofs.stream_laws.HeadLemmas.{begins_some}
 use Rattle.rfb_wire.proofs.ServerLemmas.{server-sizes, server-spelled}
-use Rattle.rfb_wire.proofs.PartLaws.{alone, piece_says, done_says, then_says, piece_reads, done_reads, then_reads, same_reads}
-use Rattle.rfb_wire.proofs.RepeatLaws.{valued_says, many_says, valued_reads, many_reads}
-use Rattle.rfb_wire.proofs.HeadedLaws.{IsHeaded, headed_says, headed_reads}
+use Rattle.rfb_wire.proofs.stream_laws.PartLaws.{alone, piece_says, done_says, then_says, piece_reads, done_reads, then_reads, same_reads}
+use Rattle.rfb_wire.proofs.stream_laws.RepeatLaws.{valued_says, many_says, valued_reads, many_reads}
+use Rattle.rfb_wire.proofs.stream_laws.HeadedLaws.{IsHeaded, headed_says, headed_reads}
 
 -- ---- heads
 

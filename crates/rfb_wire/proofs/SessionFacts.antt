@@ -3,9 +3,9 @@ use Rattle.std.proofs.Common.{◌≡◌, ℕ, List, [], ◌∷◌, ◌++◌, Som
 use Rattle.std.specs.Prelude.{⊤}
 use Rattle.rfb_wire.specs.ClientMessage.{ClientMessage, KeyEvent, PointerEvent, ClientFault, UnknownType}
 use Rattle.rfb_wire.specs.ClientStream.{client_message, client_stream}
-use Rattle.rfb_wire.specs.End.{Machine, Takes, Refuses, Call, bytes_of, events_of}
-use Rattle.rfb_wire.specs.Both.{end_at}
-use Rattle.rfb_wire.specs.Session.{IsSession, DeliversAll}
+use Rattle.rfb_wire.specs.stream.End.{Machine, Takes, Refuses, Call, bytes_of, events_of}
+use Rattle.rfb_wire.specs.stream.Both.{end_at}
+use Rattle.rfb_wire.specs.stream.Session.{IsSession, DeliversAll}
 
 -- an end that tells each message
 abbrev teller : Machine ⊤ ⊤ ClientMessage ClientFault ClientMessage

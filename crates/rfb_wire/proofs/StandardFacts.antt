@@ -7,7 +7,7 @@ use Rattle.rfb_wire.specs.declared.encoding.Encoding.{Encoding}
 use Rattle.rfb_wire.specs.declared.encoding.Encoding.TheVariants.{Raw, CopyRect, Rre, Hextile}
 use Rattle.rfb_wire.specs.Encoding.{number_of, IsNoEncoding}
 use Rattle.rfb_wire.specs.Fields.{s32_at}
-use Rattle.rfb_wire.specs.Heads.{BeginsNone}
+use Rattle.rfb_wire.specs.stream.Heads.{BeginsNone}
 use Rattle.rfb_wire.specs.ClientHead.{SpellsClientHead}
 use Rattle.rfb_wire.specs.ServerHead.{SpellsServerHead}
 use Rattle.rfb_wire.specs.RectHead.{SpellsRectHead, IsOnScreen}

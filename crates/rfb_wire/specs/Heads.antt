@@ -1,6 +1,7 @@
 -- What reading a head answers: the three answers, and for a message what each says of the relation
 -- between heads and their bytes.
-use Rattle.std.specs.Prelude.{◌≡◌, ℕ, ◌<◌, List, [], ◌∷◌, ◌++◌, length, ⊤}
+use Rattle.std.specs.Prelude.{◌≡◌, ℕ, List, ◌∷◌, ⊤}
+use Rattle.rfb_wire.specs.stream.Heads.{BeginsNone}
 use Rattle.rfb_wire.specs.declared.fault.WireFault.{WireFault}
 use Rattle.rfb_wire.specs.declared.fault.WireFault.TheVariants.{UnknownMessage, UnknownEncoding, RectOutside}
 use Rattle.rfb_wire.specs.declared.read.Read.{Read}
@@ -24,17 +25,6 @@ module _ {V : Type 0} where
   IfBad (More n) P = ⊤
   IfBad (Got v used) P = ⊤
   IfBad (Bad fault) P = P fault
-
-  -- no head begins with this byte
-  abbrev pub BeginsNone : (V → List ℕ → Type 0) → ℕ → Type 0
-  BeginsNone Spells first = (v : V) (rest : List ℕ) → Spells v (first ∷ rest) → ⊥
-
-  -- so many bytes are missing: one before the type byte, and then those that make the bytes a head,
-  -- whatever they are
-  abbrev pub Misses : (V → List ℕ → Type 0) → ℕ → List ℕ → Type 0
-  Misses Spells n [] = n ≡ 1
-  Misses Spells n (first ∷ rest) =
-      (0 < n) × ((missing : List ℕ) → length missing ≡ n → (v : V) × Spells v (first ∷ rest ++ missing))
 
   -- the fault is the first byte, with which no head begins; a message's head has no other
   abbrev pub IsUnknown : (V → List ℕ → Type 0) → WireFault → List ℕ → Type 0

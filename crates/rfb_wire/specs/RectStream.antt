@@ -8,8 +8,8 @@ use Rattle.rfb_wire.specs.declared.rect_head.RectHead.{RectHead}
 use Rattle.rfb_wire.specs.declared.fault.WireFault.{WireFault}
 use Rattle.rfb_wire.specs.declared.fault.WireFault.TheVariants.{UnknownEncoding, RectOutside}
 use Rattle.rfb_wire.specs.Fields.{u16_at, s32_at}
-use Rattle.rfb_wire.specs.Reading.{Reading, Says}
-use Rattle.rfb_wire.specs.Parts.{checked}
+use Rattle.rfb_wire.specs.stream.Reading.{Reading, Says}
+use Rattle.rfb_wire.specs.stream.Parts.{checked}
 use Rattle.rfb_wire.specs.RectHead.{SpellsRectHead, IsOnScreen, IsRectFault}
 
 -- twelve bytes are this head, and its rectangle lies on the screen; or they are at fault

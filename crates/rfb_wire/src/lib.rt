@@ -2,8 +2,10 @@
 //!
 //! `ClientHead`, `ServerHead` and `RectHead` are read from the front of a slice, which may hold less
 //! than a head or more, and are spelled as bytes. Nothing here takes memory, keeps bytes or asks what
-//! was read before; the caller owns the slice, and drops from it what a `Read::Got` has used. `law`
-//! says of streams of messages, in contracts alone, what every end that is fed one rests on.
+//! was read before; the caller owns the slice, and drops from it what a `Read::Got` has used.
+//!
+//! `stream` says in contracts alone what every end that is fed a stream of bytes rests on, and knows no
+//! message; `law` says which bytes of a stream are which messages.
 #![tactic(auto)]
 
 mod client_head;
@@ -14,6 +16,7 @@ pub mod law;
 mod read;
 mod rect_head;
 mod server_head;
+pub mod stream;
 
 pub use client_head::ClientHead;
 pub use encoding::Encoding;

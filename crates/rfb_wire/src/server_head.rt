@@ -1,7 +1,8 @@
 //! The heads of the messages from server to client, RFC 6143 section 7.6.
 
 ghost use Rattle.std.specs.Prelude.{◌≡◌, ℕ, ◌<◌, ◌≤◌, List, [], ◌∷◌, ◌++◌, length, take, slice_index, Some};
-ghost use Rattle.rfb_wire.specs.Heads.{IfMore, IfGot, IfBad, BeginsNone, Misses, IsUnknown};
+ghost use Rattle.rfb_wire.specs.stream.Heads.{BeginsNone, Misses};
+ghost use Rattle.rfb_wire.specs.Heads.{IfMore, IfGot, IfBad, IsUnknown};
 ghost use Rattle.rfb_wire.specs.ServerHead.{SpellsServerHead, server_head_bytes, server_head_size};
 
 use crate::fault::WireFault;

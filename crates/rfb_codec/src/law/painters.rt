@@ -3,7 +3,7 @@
 ghost use Rattle.std.specs.Prelude.{◌≡◌, ℕ, List, [], length, true};
 ghost use Rattle.rfb_pixel.specs.declared.colour.Colour.{Colour};
 ghost use Rattle.rfb_picture.specs.Grid.{Grid, IsGrid};
-ghost use Rattle.rfb_wire.specs.Reading.{Got};
+ghost use Rattle.rfb_wire.specs.stream.Reading.{Got};
 ghost use Rattle.rfb_codec.specs.RectData.{RectData, painted};
 ghost use Rattle.rfb_codec.specs.Painter.{data_of};
 ghost use Rattle.rfb_codec.specs.Pending.{data_pending};

@@ -8,7 +8,7 @@ ghost use Rattle.rfb_picture.specs.declared.rect.Rect.{Rect};
 ghost use Rattle.rfb_wire.specs.declared.encoding.Encoding.{Encoding};
 ghost use Rattle.rfb_wire.specs.declared.encoding.Encoding.TheVariants.{Raw, CopyRect, Rre, Hextile};
 ghost use Rattle.rfb_wire.specs.declared.rect_head.RectHead.{RectHead};
-ghost use Rattle.rfb_wire.specs.Reading.{More, Listed, ListedAfter};
+ghost use Rattle.rfb_wire.specs.stream.Reading.{More, Listed, ListedAfter};
 ghost use Rattle.rfb_wire.specs.RectHead.{SpellsRectHead, IsOnScreen};
 ghost use Rattle.rfb_wire.specs.Pending.{server_pending};
 ghost use Rattle.rfb_codec.specs.declared.subrect.Subrect.{Subrect};

@@ -13,7 +13,7 @@ use rfb_hello::Fed;
 impl Session {
     ghost use Rattle.rfb_pixel.specs.declared.colour.Colour.{Colour};
     ghost use Rattle.rfb_picture.specs.Grid.{Grid};
-    ghost use Rattle.rfb_wire.specs.End.{FedBy, RefusedBy};
+    ghost use Rattle.rfb_wire.specs.stream.End.{FedBy, RefusedBy};
     ghost use Rattle.rfb_hello.specs.ServerStanding.{is_open};
     ghost use Rattle.rfb_server.specs.declared.session.progress.Progress.{Progress};
     ghost use Rattle.rfb_server.specs.Told.{seen};

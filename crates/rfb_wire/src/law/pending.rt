@@ -1,31 +1,15 @@
-//! Laws of pending bytes, those of an item under way that stand behind its last whole piece.
+//! Laws of the pending bytes of messages: which pieces a message has.
 
-ghost use Rattle.std.specs.Prelude.{ℕ, ℤ, List, [], ◌++◌, ◌≡◌, ◌*◌, ◌<◌, ◌≤◌, length};
+ghost use Rattle.std.specs.Prelude.{ℕ, ℤ, List, [], ◌++◌, ◌≡◌, ◌<◌, ◌≤◌, length};
 ghost use Rattle.rfb_wire.specs.declared.client_head.ClientHead.{ClientHead as ClientHeadValue};
 ghost use Rattle.rfb_wire.specs.declared.server_head.ServerHead.{ServerHead as ServerHeadValue};
-ghost use Rattle.rfb_wire.specs.Reading.{Listed};
+ghost use Rattle.rfb_wire.specs.stream.Reading.{Listed};
 ghost use Rattle.rfb_wire.specs.ClientHead.{SpellsClientHead, SpellsSetEncodings};
 ghost use Rattle.rfb_wire.specs.ClientHead.{SpellsClientCutText};
 ghost use Rattle.rfb_wire.specs.ServerHead.{SpellsServerHead, SpellsColourMap, SpellsServerCutText};
 ghost use Rattle.rfb_wire.specs.ClientMessage.{SpellsNumber};
 ghost use Rattle.rfb_wire.specs.ServerMessage.{Color, SpellsColor};
-ghost use Rattle.rfb_wire.specs.Pending.{in_pieces, behind_piece, client_pending, server_pending};
-
-/// A piece is pending until its last byte is there; behind it, and behind whole pieces of one
-/// size, it is what follows that may be. No more bytes are pending than came.
-pub fn pending_bytes_follow_the_last_piece()
-    ensures part { (size : ℕ) (pending : List ℕ → ℕ) (bytes : List ℕ) →
-        length bytes < size → behind_piece size pending bytes ≡ length bytes }
-    ensures behind { (size : ℕ) (pending : List ℕ → ℕ) (front rest : List ℕ) →
-        length front ≡ size → behind_piece size pending (front ++ rest) ≡ pending rest }
-    ensures pieces { (size count : ℕ) (front rest : List ℕ) →
-        length front ≡ count * size → length rest < size →
-        in_pieces size (front ++ rest) ≡ length rest }
-    ensures few { (size : ℕ) (bytes : List ℕ) → in_pieces size bytes ≤ length bytes }
-    ensures within { (size : ℕ) (pending : List ℕ → ℕ) (bytes : List ℕ) →
-        ((rest : List ℕ) → pending rest ≤ length rest) →
-        behind_piece size pending bytes ≤ length bytes }
-{}
+ghost use Rattle.rfb_wire.specs.Pending.{client_pending, server_pending};
 
 /// Of a client message the head is one piece, each number of SetEncodings one, and each byte of a
 /// text one. At most 19 bytes are pending, and no more than came.

@@ -1,8 +1,8 @@
 //! Laws of bytes that are too few: where no item is whole yet, more is waited for.
 
 ghost use Rattle.std.specs.Prelude.{ℕ, List, ◌∷◌, ◌++◌, ◌≡◌, ◌*◌, ◌<◌, length};
-ghost use Rattle.rfb_wire.specs.Heads.{BeginsNone, Misses};
-ghost use Rattle.rfb_wire.specs.Reading.{More, Bad};
+ghost use Rattle.rfb_wire.specs.stream.Heads.{BeginsNone, Misses};
+ghost use Rattle.rfb_wire.specs.stream.Reading.{More, Bad};
 ghost use Rattle.rfb_wire.specs.ClientHead.{SpellsClientHead};
 ghost use Rattle.rfb_wire.specs.ClientHead.{SpellsSetEncodings, SpellsClientCutText};
 ghost use Rattle.rfb_wire.specs.ClientMessage.{UnknownType};

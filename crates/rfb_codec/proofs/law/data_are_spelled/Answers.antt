@@ -1,5 +1,5 @@
 use Rattle.rfb_codec.specs.RectData.{data_says, rect_data}
-use Rattle.rfb_wire.proofs.ReadingLaws.{reads_one}
+use Rattle.rfb_wire.proofs.stream_laws.ReadingLaws.{reads_one}
 use Rattle.rfb_codec.proofs.RectDataLaws.{rect_data_reads}
 use Rattle.rfb_codec.proofs.law.data_are_spelled.Goals as goal
 

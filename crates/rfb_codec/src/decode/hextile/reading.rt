@@ -2,8 +2,8 @@
 
 ghost use Rattle.std.specs.Prelude.{◌≡◌, ℕ, ◌+◌, ◌*◌, ◌≤◌, ◌<◌, ◌==◌, not, List, length, drop, slice_index, MatchOption, None, true, false, ◌⊎◌};
 ghost use Rattle.rfb_pixel.specs.Format.{size_of};
-ghost use Rattle.rfb_wire.specs.Reading.{More, Got};
-ghost use Rattle.rfb_wire.specs.Parts.{optional};
+ghost use Rattle.rfb_wire.specs.stream.Reading.{More, Got};
+ghost use Rattle.rfb_wire.specs.stream.Parts.{optional};
 ghost use Rattle.rfb_codec.specs.Tile.{Tile, is_raw, subrects_colored, mask_fault, tile_colour, behind_mask, are_inside, places_of, place_of, tile_behind};
 ghost use Rattle.rfb_codec.specs.TileRead.{LiesIn, tile_of_read, Sees, TellsTile, IsShort, IsCount, places_from};
 

@@ -1,7 +1,7 @@
 use Rattle.rfb_wire.specs.ClientMessage.{client_says}
 use Rattle.rfb_wire.specs.ClientStream.{client_message, client_stream}
-use Rattle.rfb_wire.proofs.ReadingLaws.{reads_one}
-use Rattle.rfb_wire.proofs.StreamLaws.{spelled_grammar}
+use Rattle.rfb_wire.proofs.stream_laws.ReadingLaws.{reads_one}
+use Rattle.rfb_wire.proofs.stream_laws.GrammarLaws.{spelled_grammar}
 use Rattle.rfb_wire.proofs.ClientStreamLaws.{client_message_reads, client_spelled}
 use Rattle.rfb_wire.proofs.law.client_messages_are_spelled.Goals as goal
 

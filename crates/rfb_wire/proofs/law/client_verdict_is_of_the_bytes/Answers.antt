@@ -1,6 +1,6 @@
 use Rattle.rfb_wire.specs.ClientMessage.{client_says}
 use Rattle.rfb_wire.specs.ClientStream.{client_stream}
-use Rattle.rfb_wire.proofs.StreamLaws.{spelled_grammar, cuts_agree}
+use Rattle.rfb_wire.proofs.stream_laws.GrammarLaws.{spelled_grammar, cuts_agree}
 use Rattle.rfb_wire.proofs.ClientStreamLaws.{client_spelled}
 use Rattle.rfb_wire.proofs.law.client_verdict_is_of_the_bytes.Goals as goal
 

@@ -1,5 +1,5 @@
 use Rattle.rfb_wire.specs.ServerMessage.{server_says, server_message}
-use Rattle.rfb_wire.proofs.ReadingLaws.{reads_one}
+use Rattle.rfb_wire.proofs.stream_laws.ReadingLaws.{reads_one}
 use Rattle.rfb_wire.proofs.ServerMessageLaws.{server_message_reads}
 use Rattle.rfb_wire.proofs.law.server_messages_are_spelled.Goals as goal
 

@@ -1,6 +1,6 @@
 use Rattle.std.proofs.Common.{◌≡◌, ◌∙◌, ◌++◌, ◌-◌, ℕ, List, ap, refl, sym, Some, None, length, take, length-append, arith}
 use Rattle.std.proofs.lemmas.List.{length-take-le}
-use Rattle.rfb_wire.proofs.FeedLaws.{step_feeds, front_refuses}
+use Rattle.rfb_wire.proofs.stream_laws.FeedLaws.{step_feeds, front_refuses}
 use Rattle.rfb_hello.specs.declared.step.ServerStep.TheVariants.{Reply}
 use Rattle.rfb_hello.specs.Version.{version_of}
 use Rattle.rfb_hello.specs.ClientHandshake.{client_version_fault}

@@ -1,7 +1,7 @@
 use Rattle.std.proofs.Common.{◌≡◌, refl, ◌∙◌, ◌≤◌, sym, subst, ℕ, List, ◌-◌, length, take, drop, length-drop, ap, Option, Ok, Err, None, arith}
 use Rattle.std.proofs.lemmas.List.{take_rest}
 use Rattle.std.proofs.lemmas.Result.{err_from_is_err_and}
-use Rattle.rfb_wire.proofs.FeedLaws.{fed_step, fault_step, memory_step}
+use Rattle.rfb_wire.proofs.stream_laws.FeedLaws.{fed_step, fault_step, memory_step}
 use Rattle.rfb_hello.specs.declared.fault.HelloFault.TheVariants.{NoMemory}
 use Rattle.rfb_hello.specs.declared.step.ViewerStep.{ViewerStep}
 use Rattle.rfb_hello.specs.ViewerEnd.{viewer_end, AsksMemory}

@@ -5,7 +5,7 @@ use Rattle.rfb_wire.specs.Fields.{u16_at, u32_at}
 use Rattle.rfb_hello.specs.declared.step.ViewerStep.{ViewerStep}
 use Rattle.rfb_hello.specs.ServerReading.{screen_fault}
 use Rattle.rfb_hello.specs.ViewerEnd.{told_of_init, viewer_end}
-use Rattle.rfb_wire.specs.End.{StepsBy}
+use Rattle.rfb_wire.specs.stream.End.{StepsBy}
 use Rattle.rfb_hello.specs.ViewerStanding.{StandsFor}
 use Rattle.rfb_hello.specs.ViewerProgress.{progress_behind_init}
 use Rattle.rfb_hello.proofs.ViewerHelloLemmas.{becomes, init_told, init_asks}

@@ -1,6 +1,6 @@
 use Rattle.std.proofs.Common.{◌≡◌, ◌∙◌, ◌+◌, ℕ, length, take, ap, sym, subst, Err}
 use Rattle.std.proofs.lemmas.List.{length-take-le}
-use Rattle.rfb_wire.specs.End.{StepsBy}
+use Rattle.rfb_wire.specs.stream.End.{StepsBy}
 use Rattle.rfb_hello.specs.declared.fault.HelloFault.{HelloFault}
 use Rattle.rfb_hello.specs.declared.viewer_hello.progress.Progress.TheVariants.{Failed}
 use Rattle.rfb_hello.specs.ViewerEnd.{viewer_end, fault_for}

@@ -1,6 +1,6 @@
 use Rattle.std.proofs.Common.{◌≡◌, slice_index, Some, arith}
 use Rattle.rfb_wire.specs.ClientHead.{SpellsClientHead, client_head_size}
-use Rattle.rfb_wire.proofs.HeadLemmas.{misses_rest, begins_some}
+use Rattle.rfb_wire.proofs.stream_laws.HeadLemmas.{misses_rest, begins_some}
 use Rattle.rfb_wire.proofs.ClientLemmas.{client-sizes}
 use Rattle.rfb_wire.proofs.client_head.ClientHead.read.Goals as goal
 

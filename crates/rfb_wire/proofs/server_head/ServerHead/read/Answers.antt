@@ -1,6 +1,6 @@
 use Rattle.std.proofs.Common.{◌≡◌, slice_index, Some, arith}
 use Rattle.rfb_wire.specs.ServerHead.{SpellsServerHead, server_head_size}
-use Rattle.rfb_wire.proofs.HeadLemmas.{misses_rest, begins_some}
+use Rattle.rfb_wire.proofs.stream_laws.HeadLemmas.{misses_rest, begins_some}
 use Rattle.rfb_wire.proofs.ServerLemmas.{server-sizes}
 use Rattle.rfb_wire.proofs.server_head.ServerHead.read.Goals as goal
 

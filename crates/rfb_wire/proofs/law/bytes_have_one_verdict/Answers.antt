@@ -1,8 +1,0 @@
-use Rattle.rfb_wire.proofs.StreamLaws.{verdict_some, verdict_one}
-use Rattle.rfb_wire.proofs.law.bytes_have_one_verdict.Goals as goal
-
-pub returns-clause-some : goal.returns-clause-some
-returns-clause-some g c = λ grammar p bytes laws. verdict_some grammar laws p bytes
-
-pub returns-clause-one : goal.returns-clause-one
-returns-clause-one g c = λ grammar p bytes items others fault other a b. verdict_one grammar p bytes items others fault other a b

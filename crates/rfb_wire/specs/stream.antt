@@ -1,0 +1,11 @@
+-- Streams of bytes, whatever their items are: what bytes begin with, the grammar of a stream, an end that
+-- is fed one in slices, and two grammars one behind the other. Nothing here knows a message.
+pub mod Reading
+pub mod Parts
+pub mod Heads
+pub mod Grammar
+pub mod End
+pub mod Sequel
+pub mod Both
+pub mod Session
+pub mod Pending
