@@ -1,6 +1,6 @@
 //! One component's field in a pixel value, and the conversion between components and fields.
 
-ghost use Rattle.std.specs.Prelude.{◌≡◌, ◌*◌, ◌^◌, ◌<◌, ◌≤◌, ◌+◌, OnErr, IfOk, if◌then◌else◌};
+ghost use Rattle.std.specs.Prelude.{◌≡◌, ◌*◌, ◌^◌, ◌<◌, ◌≤◌, ◌+◌, ◌-◌, OnErr, IfOk, if◌then◌else◌};
 ghost use Rattle.byteorder.specs.Endian.{big_bytes};
 ghost use Rattle.rfb_pixel.specs.Channel.{IsField, IsMax, IsMaxOf, max_of, rescaled, field_for, component_in, width_of, is_max, is_apart, are_within, are_apart};
 
@@ -72,7 +72,12 @@ impl Channel {
         ensures { result ≡ component_in self pixel }
     {
         let max = self.max();
-        rescale((pixel >> self.shift) & max, max, COMPONENT_MAX) as u8
+        let held = (pixel >> self.shift) & max;
+        if self.width <= 8 {
+            widen(self.width, held as u16)
+        } else {
+            rescale(held, max, COMPONENT_MAX) as u8
+        }
     }
 }
 
@@ -112,6 +117,25 @@ fn rescale(value: u32, from: u32, to: u32) -> u32
     } else {
         (value * to + (from - 1) / 2) / from
     }
+}
+
+// What a value of a field is multiplied by to be a component, and what is added to that, in 256ths. They
+// stand by the field's width.
+const FACTORS: [u16; 9] = [0, 65_277, 21_757, 9_322, 4_349, 2_105, 1_036, 513, 256];
+
+const OFFSETS: [u16; 9] = [0, 3, 9, 132, 45, 140, 132, 192, 0];
+
+/// A value of a field of 1 to 8 bits as the nearest component. It is what `rescale` gives for each of
+/// them, without a division, and sixteen bits are enough for it.
+#[inline]
+fn widen(width: u8, value: u16) -> u8
+    requires some { 1 ≤ width }
+    requires few { width ≤ 8 }
+    requires value { value < 2 ^ width }
+    ensures { result ≡ rescaled (2 ^ width - 1) COMPONENT_MAX value }
+{
+    let at = usize::from(width);
+    ((value * FACTORS[at] + OFFSETS[at]) / 256) as u8
 }
 
 #[cfg(test)]
