@@ -11,7 +11,8 @@ use Rattle.rfb_picture.specs.declared.rect.Rect.{Rect}
 use Rattle.rfb_picture.specs.Grid.{Grid, grid, row_of}
 use Rattle.rfb_picture.proofs.GridLemmas.{place_below, slice_index_or-row_of}
 use Rattle.rfb_codec.specs.Pixels.{IsPixel}
-use Rattle.rfb_codec.specs.Codec.{PacksRows, PacksRect}
+use Rattle.rfb_codec.specs.inside.Encode.{PacksRows}
+use Rattle.rfb_codec.specs.Codec.{PacksRect}
 
 -- one row more of a rectangle
 pub rows_packed : (f : PixelFormat) (picture : Grid Colour) (rect : Rect) (n : ℕ) (old row : List ℕ) (colours : List Colour) →

@@ -2,7 +2,7 @@
 use Rattle.std.proofs.Common.{◌≡◌, ℕ, List, [], ◌∷◌, ◌++◌, Bool, true, false, Option, Some, None, if◌then◌else◌, refl, sym, subst, ◌∙◌, ap, append-nil, append_assoc}
 use Rattle.rfb_codec.specs.Tile.{Tile, later, last_of, is_missing}
 use Rattle.rfb_codec.specs.Hextile.{behind_last, NoneIs, KeepsRule, CarriesColours}
-use Rattle.rfb_codec.specs.Carried.{IsCarried, IsCarriedIf, IsNamed}
+use Rattle.rfb_codec.specs.inside.Carried.{IsCarried, IsCarriedIf, IsNamed}
 use Rattle.rfb_codec.proofs.TileSpellingLemmas.{IsInForce}
 
 -- ---- one tile more

@@ -8,16 +8,16 @@ use Rattle.rfb_picture.specs.Grid.{Grid, IsGrid}
 use Rattle.rfb_picture.proofs.GridLemmas.{place_below, some_in_row}
 use Rattle.rfb_wire.specs.stream.Reading.{ListedAfter}
 use Rattle.rfb_codec.specs.declared.subrect.Subrect.{Subrect}
-use Rattle.rfb_codec.specs.declared.tiles.layout.TileLayout.{TileLayout}
-use Rattle.rfb_codec.specs.declared.tiles.layout.TileLayout.TheVariants.{Raw, Plain, Colored}
-use Rattle.rfb_codec.specs.declared.encode.hextile.carried.Carried.{Carried}
+use Rattle.rfb_codec.specs.declared.hextile.layout.TileLayout.{TileLayout}
+use Rattle.rfb_codec.specs.declared.hextile.layout.TileLayout.TheVariants.{Raw, Plain, Colored}
+use Rattle.rfb_codec.specs.declared.hextile.encode.carried.Carried.{Carried}
 use Rattle.rfb_codec.specs.Pixels.{IsPixel, HasPixels}
 use Rattle.rfb_codec.specs.Rre.{pixel_at}
-use Rattle.rfb_codec.specs.Cover.{IsPixelOf, ArePartsOf, IsCover}
+use Rattle.rfb_codec.specs.inside.Cover.{IsPixelOf, ArePartsOf, IsCover}
 use Rattle.rfb_codec.specs.Tile.{Tile, background_of, foreground_of, tile_pixel, FitsTile, SpellsTile}
-use Rattle.rfb_codec.specs.TileSpelling.{tile_of, tile_bytes, are_some, AreTileParts}
+use Rattle.rfb_codec.specs.inside.TileSpelling.{tile_of, tile_bytes, are_some, AreTileParts}
 use Rattle.rfb_codec.specs.Hextile.{across, tile_count, tile_width, tile_height, tile_at, SpellsNextTile, pixel_of_tiles, StandsByRule, CarriesColours, is_raw_tile, is_raw_or_colored, uses_foreground}
-use Rattle.rfb_codec.specs.Carried.{Remembers, IsNamed, Sends}
+use Rattle.rfb_codec.specs.inside.Carried.{Remembers, IsNamed, Sends}
 use Rattle.rfb_codec.proofs.TileSpellingLemmas.{IsTileSize, IsColourOf, spells_raw, spells_plain, spells_colored_tile, fits_tile}
 use Rattle.rfb_codec.proofs.CarriedLemmas.{carried_kept, carried_on, in_force, unbroken, carries_more}
 use Rattle.rfb_codec.proofs.HextileEncodeLemmas.{AreAll, shows_raw, shows_plain, shows_colored, listed_more, shown_before, shown_here, column_of, row_of_tiles, in_tile, tile_below}

@@ -13,12 +13,13 @@ use Rattle.rfb_wire.specs.stream.Reading.{Bad}
 use Rattle.rfb_wire.proofs.stream_laws.FeedLaws.{take_add}
 use Rattle.rfb_wire.proofs.stream_laws.ReadingLaws.{reads_bad}
 use Rattle.rfb_codec.specs.declared.fault.PaintFault.{PaintFault}
-use Rattle.rfb_codec.specs.declared.decode.stage.Stage.{Stage}
-use Rattle.rfb_codec.specs.declared.decode.stage.Stage.TheVariants.{BeforeSource, Copied, InPixels, BeforeHead, InSubrects, InTiles, InRawTile}
+use Rattle.rfb_codec.specs.declared.painter.stage.Stage.{Stage}
+use Rattle.rfb_codec.specs.declared.painter.stage.Stage.TheVariants.{BeforeSource, Copied, InPixels, BeforeHead, InSubrects, InTiles, InRawTile}
 use Rattle.rfb_codec.specs.RectData.{data_says, rect_data}
 use Rattle.rfb_codec.specs.Front.{ShowsFront}
 use Rattle.rfb_codec.specs.Hextile.{tile_count, tile_width, tile_height}
-use Rattle.rfb_codec.specs.Stage.{encoding_at, stage_of, is_ended, is_sound, StandsAt, GoesOn, Stops, IsRefused}
+use Rattle.rfb_codec.specs.Stage.{encoding_at, is_ended, is_sound, StandsAt, IsRefused}
+use Rattle.rfb_codec.specs.inside.Step.{stage_of, GoesOn, Stops}
 use Rattle.rfb_codec.specs.UnderWay.{Paints, Waits, Refuses}
 use Rattle.rfb_codec.proofs.RectDataLaws.{rect_data_reads}
 use Rattle.rfb_codec.proofs.VerdictLemmas.{whole_under, stage_ended, stage_waits}

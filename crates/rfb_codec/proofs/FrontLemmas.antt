@@ -5,9 +5,10 @@ use Rattle.rfb_pixel.specs.Format.{PixelFormat, size_of}
 use Rattle.rfb_pixel.specs.declared.colour.Colour.{Colour}
 use Rattle.rfb_picture.specs.declared.rect.Rect.{Rect}
 use Rattle.rfb_picture.specs.Grid.{Grid}
-use Rattle.rfb_codec.specs.declared.decode.stage.Place.{Place}
+use Rattle.rfb_codec.specs.declared.painter.stage.Place.{Place}
 use Rattle.rfb_codec.specs.Front.{SpellsPixels}
-use Rattle.rfb_codec.specs.Stage.{places_before, StandsPixels, PaintsRun}
+use Rattle.rfb_codec.specs.Stage.{places_before}
+use Rattle.rfb_codec.specs.inside.Step.{StandsPixels, PaintsRun}
 
 -- ---- pixels
 

@@ -7,15 +7,16 @@ use Rattle.rfb_picture.specs.Grid.{Grid}
 use Rattle.rfb_wire.specs.stream.Reading.{Next}
 use Rattle.rfb_wire.specs.stream.Parts.{behind, done}
 use Rattle.rfb_codec.specs.declared.fault.PaintFault.{PaintFault}
-use Rattle.rfb_codec.specs.declared.tiles.layout.TileLayout.{TileLayout}
-use Rattle.rfb_codec.specs.declared.tiles.layout.TileLayout.TheVariants.{Raw, Plain, Colored}
-use Rattle.rfb_codec.specs.declared.decode.hextile.tile_read.Seen.{Seen}
+use Rattle.rfb_codec.specs.declared.hextile.layout.TileLayout.{TileLayout}
+use Rattle.rfb_codec.specs.declared.hextile.layout.TileLayout.TheVariants.{Raw, Plain, Colored}
+use Rattle.rfb_codec.specs.declared.hextile.paint.tile_read.Seen.{Seen}
 use Rattle.rfb_codec.specs.Pixels.{drawn}
 use Rattle.rfb_codec.specs.Raw.{raw_length, raw_pixel}
 use Rattle.rfb_codec.specs.Rre.{pixel_at}
 use Rattle.rfb_codec.specs.Tile.{Tile, PlainTile, background_of, last_of, colour_or_zero, tile_pixel, place_of, colored_of, in_pixel}
 use Rattle.rfb_codec.specs.Hextile.{pixel_of_tiles, hextile}
-use Rattle.rfb_codec.specs.TileRead.{values_in, tile_in, subs_in, Sees, all_tiles}
+use Rattle.rfb_codec.specs.inside.TileRead.{values_in, tile_in, subs_in, all_tiles}
+use Rattle.rfb_codec.specs.Stage.{Sees}
 use Rattle.rfb_codec.specs.Painter.{over}
 
 -- ---- all of it

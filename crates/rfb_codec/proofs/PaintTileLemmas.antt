@@ -12,11 +12,11 @@ use Rattle.rfb_wire.specs.stream.Parts.{valued, optional, each}
 use Rattle.rfb_wire.specs.RectStream.{is_on_screen}
 use Rattle.rfb_wire.proofs.stream_laws.PartLaws.{piece_short}
 use Rattle.rfb_codec.specs.declared.fault.PaintFault.{PaintFault}
-use Rattle.rfb_codec.specs.declared.tiles.layout.TileLayout.{TileLayout}
-use Rattle.rfb_codec.specs.declared.tiles.layout.TileLayout.TheVariants.{Plain, Colored}
-use Rattle.rfb_codec.specs.declared.decode.hextile.tile_read.TileRead.{TileRead}
+use Rattle.rfb_codec.specs.declared.hextile.layout.TileLayout.{TileLayout}
+use Rattle.rfb_codec.specs.declared.hextile.layout.TileLayout.TheVariants.{Plain, Colored}
+use Rattle.rfb_codec.specs.declared.hextile.paint.tile_read.TileRead.{TileRead}
 use Rattle.rfb_codec.specs.Tile.{Tile, has_bit, is_raw, background_specified, foreground_specified, any_subrects, subrects_colored, tile_colour, place_of, colored_of, counted, behind_mask, rect_in, are_inside, mask_fault, places_of, tile_behind}
-use Rattle.rfb_codec.specs.TileRead.{values_in, tile_of_read, LiesIn, IsCount, places_from}
+use Rattle.rfb_codec.specs.inside.TileRead.{values_in, tile_of_read, LiesIn, IsCount, places_from}
 
 -- ---- values
 

@@ -22,7 +22,7 @@ use Rattle.rfb_codec.specs.declared.subrect.Subrect.{Subrect}
 use Rattle.rfb_codec.specs.Rre.{SpellsRreHead, SpellsInside}
 use Rattle.rfb_codec.specs.Tile.{Tile}
 use Rattle.rfb_codec.specs.Hextile.{tile_count, SpellsNextTile}
-use Rattle.rfb_codec.specs.TileRead.{next_tile}
+use Rattle.rfb_codec.specs.Hextile.{next_tile}
 use Rattle.rfb_codec.specs.UpdateStream.{UpdatePoint}
 use Rattle.rfb_codec.specs.Pending.{tile_pending, data_pending, pending_behind, next_pending, update_pending}
 use Rattle.rfb_wire.proofs.stream_laws.RepeatLaws.{checked_reads}

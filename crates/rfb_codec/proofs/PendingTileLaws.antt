@@ -11,7 +11,7 @@ use Rattle.rfb_wire.proofs.stream_laws.PendingLaws.{counted_pending, pieces_with
 use Rattle.rfb_codec.specs.declared.fault.PaintFault.{PaintFault}
 use Rattle.rfb_codec.specs.Tile.{Tile, is_raw, subrects_colored, background_specified, foreground_specified, any_subrects, mask_fault, tile_colour, counted, place_of, colored_of, PlainTile, ColoredTile, behind_mask, tile_layout, tile_fault, tile_behind}
 use Rattle.rfb_codec.specs.Hextile.{tile_width, tile_height, SpellsNextTile}
-use Rattle.rfb_codec.specs.TileRead.{next_tile}
+use Rattle.rfb_codec.specs.Hextile.{next_tile}
 use Rattle.rfb_codec.specs.Pending.{tile_pending, behind_tile, tiles_pending}
 use Rattle.rfb_codec.proofs.TileLaws.{tile_reads}
 use Rattle.rfb_codec.proofs.EnoughLaws.{bytes_behind, Suffices, done_suffices, valued_suffices, then_suffices, optional_suffices, counted_suffices}

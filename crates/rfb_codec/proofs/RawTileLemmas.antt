@@ -8,15 +8,16 @@ use Rattle.rfb_picture.specs.declared.rect.Rect.{Rect}
 use Rattle.rfb_picture.specs.Rect.{contains}
 use Rattle.rfb_picture.specs.Grid.{Grid, IsGrid, at_or}
 use Rattle.rfb_picture.proofs.GridLemmas.{same_changes, contains_true, place_below, whole_before}
-use Rattle.rfb_codec.specs.declared.decode.hextile.tile_read.Seen.{Seen}
-use Rattle.rfb_codec.specs.declared.decode.stage.Place.{Place}
-use Rattle.rfb_codec.specs.declared.decode.stage.Stage.TheVariants.{InTiles, InRawTile}
+use Rattle.rfb_codec.specs.declared.hextile.paint.tile_read.Seen.{Seen}
+use Rattle.rfb_codec.specs.declared.painter.stage.Place.{Place}
+use Rattle.rfb_codec.specs.declared.painter.stage.Stage.TheVariants.{InTiles, InRawTile}
 use Rattle.rfb_codec.specs.Raw.{raw_length, raw_pixel}
 use Rattle.rfb_codec.specs.Tile.{Tile, RawTile, is_raw, background_of, foreground_of}
 use Rattle.rfb_codec.specs.Hextile.{across, tile_width, tile_height, SpellsNextTile}
 use Rattle.rfb_codec.specs.Painter.{over}
 use Rattle.rfb_codec.specs.Front.{pixels_over, tiles_over, tile_places}
-use Rattle.rfb_codec.specs.Stage.{places_before, StandsPixels, StandsAt}
+use Rattle.rfb_codec.specs.Stage.{places_before, StandsAt}
+use Rattle.rfb_codec.specs.inside.Step.{StandsPixels}
 use Rattle.rfb_codec.proofs.CarriedLemmas.{last_of-more}
 use Rattle.rfb_codec.proofs.HextileEncodeLemmas.{listed_more}
 use Rattle.rfb_codec.proofs.FrontLemmas.{run_within}

@@ -17,8 +17,8 @@ use Rattle.rfb_wire.specs.RectHead.{IsOnScreen}
 use Rattle.rfb_codec.specs.declared.subrect.Subrect.{Subrect}
 use Rattle.rfb_codec.specs.Pixels.{IsPixel, HasPixels}
 use Rattle.rfb_codec.specs.Rre.{SpellsRreHead, SpellsSubrect, SpellsInside, StandsRre}
-use Rattle.rfb_codec.specs.Codec.{subrect_bytes}
-use Rattle.rfb_codec.specs.Cover.{IsPixelOf, ArePartsOf, IsCover}
+use Rattle.rfb_codec.specs.inside.Encode.{subrect_bytes}
+use Rattle.rfb_codec.specs.inside.Cover.{IsPixelOf, ArePartsOf, IsCover}
 use Rattle.rfb_codec.proofs.PixelLemmas.{length-pixel_bytes}
 
 -- a pixel of the format is read back from its bytes

@@ -15,10 +15,11 @@ use Rattle.rfb_wire.proofs.stream_laws.RepeatLaws.{listed_from, listed_to}
 use Rattle.rfb_codec.specs.declared.subrect.Subrect.{Subrect}
 use Rattle.rfb_codec.specs.declared.fault.PaintFault.{PaintFault}
 use Rattle.rfb_codec.specs.declared.fault.PaintFault.TheVariants.{SubrectOutside, SourceOutside}
-use Rattle.rfb_codec.specs.declared.decode.stage.Stage.TheVariants.{InSubrects}
+use Rattle.rfb_codec.specs.declared.painter.stage.Stage.TheVariants.{InSubrects}
 use Rattle.rfb_codec.specs.Rre.{SpellsInside, subrect_of}
 use Rattle.rfb_codec.specs.RectData.{FaultsData, moved_to, rect_data}
-use Rattle.rfb_codec.specs.Front.{NoSource, NoHead, SomeParts, moved_into, Shows}
+use Rattle.rfb_codec.specs.Front.{NoSource, NoHead, SomeParts, Shows}
+use Rattle.rfb_codec.specs.inside.Step.{moved_into}
 use Rattle.rfb_codec.specs.Stage.{StandsAt, IsRefused}
 use Rattle.rfb_codec.proofs.HextileEncodeLemmas.{listed_more}
 use Rattle.rfb_codec.proofs.PaintLemmas.{pixel_number-take}

@@ -12,17 +12,20 @@ use Rattle.rfb_picture.proofs.GridLemmas.{same_changes, same_grid, at-changed, w
 use Rattle.rfb_wire.specs.stream.Reading.{Next, More, Got}
 use Rattle.rfb_wire.specs.RectHead.{IsOnScreen}
 use Rattle.rfb_codec.specs.declared.fault.PaintFault.{PaintFault}
-use Rattle.rfb_codec.specs.declared.decode.hextile.tile_read.TileRead.{TileRead}
-use Rattle.rfb_codec.specs.declared.decode.hextile.tile_read.Seen.{Seen}
-use Rattle.rfb_codec.specs.declared.decode.stage.Step.{Step}
-use Rattle.rfb_codec.specs.declared.decode.stage.Stage.TheVariants.{InTiles, InRawTile}
+use Rattle.rfb_codec.specs.declared.hextile.paint.tile_read.TileRead.{TileRead}
+use Rattle.rfb_codec.specs.declared.hextile.paint.tile_read.Seen.{Seen}
+use Rattle.rfb_codec.specs.declared.painter.stage.Step.{Step}
+use Rattle.rfb_codec.specs.declared.painter.stage.Stage.TheVariants.{InTiles, InRawTile}
 use Rattle.rfb_codec.specs.Raw.{raw_pixel}
 use Rattle.rfb_codec.specs.Tile.{Tile, PlainTile, is_raw, later, tile_pixel, tile_behind}
 use Rattle.rfb_codec.specs.Hextile.{across, tile_count, tile_width, tile_height, tile_at, pixel_of_tiles, SpellsNextTile}
-use Rattle.rfb_codec.specs.TileRead.{tile_of_read, TellsTile, background_named, foreground_named, Sees, next_tile}
+use Rattle.rfb_codec.specs.inside.TileRead.{tile_of_read, TellsTile, background_named, foreground_named}
+use Rattle.rfb_codec.specs.Stage.{Sees}
+use Rattle.rfb_codec.specs.Hextile.{next_tile}
 use Rattle.rfb_codec.specs.Painter.{over}
 use Rattle.rfb_codec.specs.Front.{SpellsTiles, BeginsTile, pixels_over, tiles_over, tile_places}
-use Rattle.rfb_codec.specs.Stage.{StandsAt, DrawsTile, TellsNext, IsGoodTile, is_sound}
+use Rattle.rfb_codec.specs.Stage.{StandsAt, is_sound}
+use Rattle.rfb_codec.specs.inside.Step.{DrawsTile, TellsNext, IsGoodTile}
 use Rattle.rfb_codec.proofs.HextileEncodeLemmas.{listed_more, shown_before}
 use Rattle.rfb_codec.proofs.TileLaws.{tile_says, tile_reads}
 use Rattle.rfb_codec.proofs.TileReadLemmas.{sees_more}

@@ -14,15 +14,17 @@ use Rattle.rfb_wire.specs.Fields.{u8_at}
 use Rattle.rfb_wire.specs.stream.Parts.{named}
 use Rattle.rfb_wire.proofs.stream_laws.PartLaws.{piece_short}
 use Rattle.rfb_codec.specs.declared.fault.PaintFault.{PaintFault}
-use Rattle.rfb_codec.specs.declared.decode.hextile.tile_read.Seen.{Seen}
-use Rattle.rfb_codec.specs.declared.decode.stage.Stage.TheVariants.{InTiles}
+use Rattle.rfb_codec.specs.declared.hextile.paint.tile_read.Seen.{Seen}
+use Rattle.rfb_codec.specs.declared.painter.stage.Stage.TheVariants.{InTiles}
 use Rattle.rfb_codec.specs.Raw.{raw_length}
 use Rattle.rfb_codec.specs.Tile.{Tile, RawTile, is_raw, subrects_colored, behind_mask, mask_fault}
 use Rattle.rfb_codec.specs.Hextile.{tile_count, tile_width, tile_height, SpellsNextTile, hextile}
-use Rattle.rfb_codec.specs.TileRead.{Sees, next_tile}
+use Rattle.rfb_codec.specs.Stage.{Sees}
+use Rattle.rfb_codec.specs.Hextile.{next_tile}
 use Rattle.rfb_codec.specs.RectData.{Pixels, rect_data}
 use Rattle.rfb_codec.specs.Front.{SomeTiles, BeginsTile, ShowsFront}
-use Rattle.rfb_codec.specs.Stage.{StandsAt, TellsNext, IsRefused}
+use Rattle.rfb_codec.specs.Stage.{StandsAt, IsRefused}
+use Rattle.rfb_codec.specs.inside.Step.{TellsNext}
 use Rattle.rfb_codec.proofs.HextileLaws.{hextile_reads}
 use Rattle.rfb_codec.proofs.TileLaws.{tile_says, tile_reads}
 use Rattle.rfb_codec.proofs.PaintTileLemmas.{tile_got}

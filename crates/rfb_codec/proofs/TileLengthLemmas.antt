@@ -3,8 +3,8 @@ use Rattle.std.proofs.Common.{◌≡◌, ℕ, zero, suc, get_or, ◌+◌, ◌*�
 use Rattle.std.specs.List.{flat_map}
 use Rattle.rfb_pixel.specs.Format.{PixelFormat, size_of, pixel_bytes}
 use Rattle.rfb_codec.specs.declared.subrect.Subrect.{Subrect}
-use Rattle.rfb_codec.specs.declared.tiles.layout.TileLayout.TheVariants.{Raw, Plain, Colored}
-use Rattle.rfb_codec.specs.TileSpelling.{are_some, colour_bytes, count_bytes, place_bytes, colored_bytes, counted_bytes, tile_bytes, IsTilePart, AreTileParts}
+use Rattle.rfb_codec.specs.declared.hextile.layout.TileLayout.TheVariants.{Raw, Plain, Colored}
+use Rattle.rfb_codec.specs.inside.TileSpelling.{are_some, colour_bytes, count_bytes, place_bytes, colored_bytes, counted_bytes, tile_bytes, IsTilePart, AreTileParts}
 use Rattle.rfb_codec.proofs.PixelLemmas.{length-pixel_bytes, length-pixels}
 
 -- ---- lengths

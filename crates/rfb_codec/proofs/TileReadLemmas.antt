@@ -5,11 +5,12 @@ use Rattle.rfb_pixel.specs.Format.{PixelFormat, size_of}
 use Rattle.rfb_picture.specs.declared.rect.Rect.{Rect}
 use Rattle.rfb_wire.specs.RectHead.{IsOnScreen}
 use Rattle.rfb_codec.specs.declared.subrect.Subrect.{Subrect}
-use Rattle.rfb_codec.specs.declared.tiles.layout.TileLayout.{TileLayout}
-use Rattle.rfb_codec.specs.declared.tiles.layout.TileLayout.TheVariants.{Raw, Plain, Colored}
-use Rattle.rfb_codec.specs.declared.decode.hextile.tile_read.Seen.{Seen}
+use Rattle.rfb_codec.specs.declared.hextile.layout.TileLayout.{TileLayout}
+use Rattle.rfb_codec.specs.declared.hextile.layout.TileLayout.TheVariants.{Raw, Plain, Colored}
+use Rattle.rfb_codec.specs.declared.hextile.paint.tile_read.Seen.{Seen}
 use Rattle.rfb_codec.specs.Tile.{Tile, background_of, foreground_of, later, last_of, AreInside, place_of, colored_of, rect_in, in_pixel}
-use Rattle.rfb_codec.specs.TileRead.{values_in, tile_in, background_named, foreground_named, sub_behind, subs_in, AreSubsInside, Sees}
+use Rattle.rfb_codec.specs.inside.TileRead.{values_in, tile_in, background_named, foreground_named, sub_behind, subs_in, AreSubsInside}
+use Rattle.rfb_codec.specs.Stage.{Sees}
 use Rattle.rfb_codec.proofs.CarriedLemmas.{last_of-more}
 
 -- ---- subrectangles

@@ -7,11 +7,11 @@ use Rattle.rfb_pixel.specs.Format.{PixelFormat, size_of, pixel_bytes, pixel_numb
 use Rattle.rfb_pixel.proofs.FormatLemmas.{pixel_number-pixel_bytes}
 use Rattle.rfb_wire.specs.stream.Reading.{Listed, Optionally}
 use Rattle.rfb_codec.specs.declared.subrect.Subrect.{Subrect}
-use Rattle.rfb_codec.specs.declared.tiles.layout.TileLayout.{TileLayout}
-use Rattle.rfb_codec.specs.declared.tiles.layout.TileLayout.TheVariants.{Raw, Plain, Colored}
+use Rattle.rfb_codec.specs.declared.hextile.layout.TileLayout.{TileLayout}
+use Rattle.rfb_codec.specs.declared.hextile.layout.TileLayout.TheVariants.{Raw, Plain, Colored}
 use Rattle.rfb_codec.specs.Pixels.{IsPixel}
 use Rattle.rfb_codec.specs.Tile.{is_raw, background_specified, foreground_specified, any_subrects, subrects_colored, Tile, background_of, foreground_of, later, last_of, is_missing, mask_fault, AreInside, FitsTile, rect_in, SpellsPixel, SpellsPlace, SpellsColored, CountedIf, SpellsTile}
-use Rattle.rfb_codec.specs.TileSpelling.{tile_of, bit_if, is_there, are_some, mask_of, colour_bytes, place_bytes, colored_bytes, counted_bytes, behind_bytes, tile_bytes, IsTilePart, AreTileParts}
+use Rattle.rfb_codec.specs.inside.TileSpelling.{tile_of, bit_if, is_there, are_some, mask_of, colour_bytes, place_bytes, colored_bytes, counted_bytes, behind_bytes, tile_bytes, IsTilePart, AreTileParts}
 use Rattle.rfb_codec.proofs.PixelLemmas.{length-pixel_bytes, length-pixels}
 
 -- ---- subrectangles

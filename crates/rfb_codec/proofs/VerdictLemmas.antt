@@ -17,15 +17,16 @@ use Rattle.rfb_wire.proofs.stream_laws.ReadingLaws.{each_waits, many_waits}
 use Rattle.rfb_wire.proofs.stream_laws.RepeatLaws.{valued_reads}
 use Rattle.rfb_codec.specs.declared.fault.PaintFault.{PaintFault}
 use Rattle.rfb_codec.specs.declared.subrect.Subrect.{Subrect}
-use Rattle.rfb_codec.specs.declared.decode.stage.Place.{Place}
-use Rattle.rfb_codec.specs.declared.decode.stage.Stage.{Stage}
-use Rattle.rfb_codec.specs.declared.decode.stage.Stage.TheVariants.{BeforeSource, Copied, InPixels, BeforeHead, InSubrects, InTiles, InRawTile}
+use Rattle.rfb_codec.specs.declared.painter.stage.Place.{Place}
+use Rattle.rfb_codec.specs.declared.painter.stage.Stage.{Stage}
+use Rattle.rfb_codec.specs.declared.painter.stage.Stage.TheVariants.{BeforeSource, Copied, InPixels, BeforeHead, InSubrects, InTiles, InRawTile}
 use Rattle.rfb_codec.specs.Pixels.{drawn}
 use Rattle.rfb_codec.specs.Raw.{raw_length, raw_pixel}
 use Rattle.rfb_codec.specs.Rre.{RreHead, SpellsRreHead, SpellsInside, pixel_at, rre, rre_head_of, subrect}
 use Rattle.rfb_codec.specs.Tile.{Tile}
 use Rattle.rfb_codec.specs.Hextile.{tile_count, tile_width, tile_height, SpellsNextTile, pixel_of_tiles, hextile}
-use Rattle.rfb_codec.specs.TileRead.{next_tile, all_tiles}
+use Rattle.rfb_codec.specs.Hextile.{next_tile}
+use Rattle.rfb_codec.specs.inside.TileRead.{all_tiles}
 use Rattle.rfb_codec.specs.RectData.{RectData, Pixels, Source, SpellsData, rect_data, painted}
 use Rattle.rfb_codec.specs.Front.{SomePixels, SpellsPixels, BeginsTile, tiles_over, Shows}
 use Rattle.rfb_codec.specs.Stage.{places_before, encoding_at, is_ended, is_sound, StandsAt}

@@ -1,13 +1,11 @@
 -- What an encoder is given and what it promises.
-use Rattle.std.specs.Prelude.{◌≡◌, ℕ, ◌+◌, ◌*◌, ◌<◌, ◌≤◌, Bool, true, false, List, ◌++◌, length, slice_index}
+use Rattle.std.specs.Prelude.{◌≡◌, ℕ, ◌+◌, ◌<◌, ◌≤◌, Bool, true, false, List, ◌++◌, length}
 use Rattle.rfb_pixel.specs.declared.colour.Colour.{Colour}
-use Rattle.rfb_pixel.specs.Format.{PixelFormat, pixel_bytes, pixel_of}
+use Rattle.rfb_pixel.specs.Format.{PixelFormat, pixel_of}
 use Rattle.rfb_picture.specs.declared.rect.Rect.{Rect}
 use Rattle.rfb_picture.specs.Grid.{Grid, IsGrid, at_or}
 use Rattle.rfb_wire.specs.declared.encoding.Encoding.{Encoding}
 use Rattle.rfb_wire.specs.declared.encoding.Encoding.TheVariants.{Raw, CopyRect, Rre, Hextile}
-use Rattle.rfb_wire.specs.Fields.{rect_bytes}
-use Rattle.rfb_codec.specs.declared.subrect.Subrect.{Subrect}
 use Rattle.rfb_codec.specs.Raw.{raw_length}
 
 -- a block has from 1 to 64 columns and rows, and one pixel for each place
@@ -17,11 +15,6 @@ pub record IsBlock (block : Grid ℕ) : Type 0 where
   pub some_rows : 1 ≤ block.height
   pub rows : block.height ≤ 64
   pub whole : IsGrid block
-
--- of the first rows of a rectangle of a picture, one behind another, each place has its colour's pixel
-abbrev pub PacksRows : PixelFormat → Grid Colour → Rect → ℕ → List ℕ → Type 0
-PacksRows f picture rect rows pixels = (x y : ℕ) (d : Colour) → x < rect.w → y < rows →
-    slice_index pixels (y * rect.w + x) ≡ pixel_of f (at_or picture (rect.x + x) (rect.y + y) d)
 
 -- each place of the block has the pixel of the colour that the picture has there in the rectangle
 abbrev pub PacksRect : PixelFormat → Grid Colour → Rect → Grid ℕ → Type 0
@@ -43,7 +36,3 @@ shortens Hextile = true
 abbrev pub Appends : (PixelFormat → Grid ℕ → List ℕ → Type 0) → PixelFormat → Grid ℕ → List ℕ → List ℕ → Type 0
 Appends stands f block old new =
     (bytes : List ℕ) × (new ≡ old ++ bytes) × stands f block bytes × (length bytes ≤ raw_of f block)
-
--- the bytes that a subrectangle is written as
-abbrev pub subrect_bytes : PixelFormat → Subrect → List ℕ
-subrect_bytes f s = pixel_bytes f s.pixel ++ rect_bytes s.rect

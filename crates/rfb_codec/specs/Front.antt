@@ -16,7 +16,7 @@ use Rattle.rfb_codec.specs.Raw.{raw_pixel}
 use Rattle.rfb_codec.specs.Rre.{pixel_at, SpellsRreHead, SpellsInside}
 use Rattle.rfb_codec.specs.Tile.{Tile, is_raw}
 use Rattle.rfb_codec.specs.Hextile.{across, tile_count, tile_width, tile_height, tile_at, SpellsNextTile, pixel_of_tiles}
-use Rattle.rfb_codec.specs.TileRead.{next_tile}
+use Rattle.rfb_codec.specs.Hextile.{next_tile}
 use Rattle.rfb_codec.specs.RectData.{SpellsSource, moved_to}
 use Rattle.rfb_codec.specs.Painter.{over}
 
@@ -108,10 +108,6 @@ pixels_over f rect count pixels picture =
 abbrev pub tiles_over : PixelFormat → Rect → ℕ → List Tile → Grid Colour → Grid Colour
 tiles_over f rect n tiles picture =
     changed (λ x y old. if contains rect x y && nat_lt (tile_at rect.w (x - rect.x) (y - rect.y)) n then colour_of f (pixel_of_tiles f rect.w tiles (x - rect.x) (y - rect.y)) else old) picture
-
--- a rectangle of another, where that one lies
-abbrev pub moved_into : Rect → Rect → Rect
-moved_into rect s = record { x = rect.x + s.x; y = rect.y + s.y; w = s.w; h = s.h }
 
 -- the places of the picture that the rectangle's tile with that number has
 abbrev pub tile_places : Rect → ℕ → Rect

@@ -126,3 +126,7 @@ unfoldable pub hextile : PixelFormat → ℕ → ℕ → Reading (Grid ℕ) Pain
 hextile f width height =
     and_then (each (tile_count width height) (λ before. tile_behind f (tile_width width (length before)) (tile_height width height (length before)) before) [])
     (λ tiles. done (drawn width height (pixel_of_tiles f width tiles)))
+
+-- a tile behind those before it in a rectangle of that size
+abbrev pub next_tile : PixelFormat → ℕ → ℕ → List Tile → Reading Tile PaintFault
+next_tile f width height before = tile_behind f (tile_width width (length before)) (tile_height width height (length before)) before

@@ -1,10 +1,10 @@
 -- A rectangle under way in a `Painter`: what it and the picture stand for.
-use Rattle.std.specs.Prelude.{◌≡◌, ℕ, ◌-◌, ◌^◌, ◌<◌, List, if◌then◌else◌}
+use Rattle.std.specs.Prelude.{◌≡◌, ℕ, ◌-◌, ◌<◌, List, if◌then◌else◌}
 use Rattle.rfb_pixel.specs.declared.colour.Colour.{Colour}
 use Rattle.rfb_pixel.specs.Format.{PixelFormat}
 use Rattle.rfb_picture.specs.declared.rect.Rect.{Rect}
 use Rattle.rfb_picture.specs.Rect.{contains}
-use Rattle.rfb_picture.specs.Grid.{Grid, IsGrid, Holds, changed}
+use Rattle.rfb_picture.specs.Grid.{Grid, changed}
 use Rattle.rfb_wire.specs.declared.encoding.Encoding.{Encoding}
 use Rattle.rfb_wire.specs.stream.Reading.{Reading}
 use Rattle.rfb_wire.specs.declared.rect_head.RectHead.{RectHead}
@@ -37,14 +37,7 @@ pub record AwaitsData (p : UpdatePoint) (head : RectHead) (front : List ℕ) (pi
   pub columns : picture.width ≡ p.width
   pub rows : picture.height ≡ p.height
 
--- ---- for the parts of a painter
-
--- the rectangle lies in a picture, whose places are numbered in 16 bits
-pub record IsPaintable (picture : Grid Colour) (rect : Rect) : Type 0 where
-  pub whole : IsGrid picture
-  pub inside : Holds picture rect
-  pub columns : picture.width < 2 ^ 16
-  pub rows : picture.height < 2 ^ 16
+-- ---- places of a picture
 
 -- the picture with colour c x y at place (x, y) of the rectangle, counted from its corner
 abbrev pub over : Rect → (ℕ → ℕ → Colour) → Grid Colour → Grid Colour

@@ -15,7 +15,7 @@ use Rattle.rfb_wire.specs.Pending.{server_pending, rect_pending}
 use Rattle.rfb_codec.specs.declared.fault.PaintFault.{PaintFault}
 use Rattle.rfb_codec.specs.Tile.{Tile, is_raw}
 use Rattle.rfb_codec.specs.Hextile.{tile_count}
-use Rattle.rfb_codec.specs.TileRead.{next_tile}
+use Rattle.rfb_codec.specs.Hextile.{next_tile}
 use Rattle.rfb_codec.specs.UpdateStream.{UpdatePoint}
 
 -- ---- Hextile

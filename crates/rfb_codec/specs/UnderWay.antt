@@ -6,7 +6,7 @@ use Rattle.rfb_picture.specs.declared.rect.Rect.{Rect}
 use Rattle.rfb_picture.specs.Grid.{Grid}
 use Rattle.rfb_wire.specs.stream.Reading.{More, Got, Bad}
 use Rattle.rfb_codec.specs.declared.fault.PaintFault.{PaintFault}
-use Rattle.rfb_codec.specs.declared.decode.stage.Stage.{Stage}
+use Rattle.rfb_codec.specs.declared.painter.stage.Stage.{Stage}
 use Rattle.rfb_codec.specs.RectData.{RectData, painted}
 use Rattle.rfb_codec.specs.Painter.{Painting, data_of}
 use Rattle.rfb_codec.specs.Front.{ShowsFront}

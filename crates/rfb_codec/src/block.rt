@@ -5,7 +5,8 @@ ghost use Rattle.arrayvec.specs.ArrayVec.{array_vec_len};
 ghost use Rattle.rfb_pixel.specs.Format.{ArePixels};
 ghost use Rattle.rfb_picture.specs.Grid.{Holds};
 ghost use Rattle.rfb_codec.specs.Pixels.{HasPixels, IsSized};
-ghost use Rattle.rfb_codec.specs.Codec.{PacksRect, PacksRows};
+ghost use Rattle.rfb_codec.specs.Codec.{PacksRect};
+ghost use Rattle.rfb_codec.specs.inside.Encode.{PacksRows};
 
 use arrayvec::ArrayVec;
 use rfb_picture::{Picture, Rect};

@@ -2,21 +2,26 @@
 //! and a decoder that paints them.
 #![tactic(auto)]
 
+mod append;
 mod block;
+mod choice;
 mod codec;
-mod decode;
-mod encode;
+mod copy_rect;
 mod fault;
+mod hextile;
 pub mod law;
 mod painter;
+mod raw;
+mod rre;
 mod subrect;
 #[cfg(test)]
 mod tests;
-mod tiles;
 
 pub use block::{Block, PLACES, SIDE};
 pub use codec::Codec;
-pub use decode::spell_source;
-pub use encode::{Hextile, Raw, Rre};
+pub use copy_rect::spell_source;
 pub use fault::PaintFault;
+pub use hextile::Hextile;
 pub use painter::{Painted, Painter};
+pub use raw::Raw;
+pub use rre::Rre;

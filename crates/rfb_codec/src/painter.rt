@@ -4,17 +4,22 @@ ghost use Rattle.std.specs.Prelude.{◌≡◌, ◌<◌, ◌≤◌, [], length, t
 ghost use Rattle.rfb_pixel.specs.declared.colour.Colour.{Colour};
 ghost use Rattle.rfb_picture.specs.Grid.{Grid, Holds};
 ghost use Rattle.rfb_codec.specs.UnderWay.{painting, StandsFor, Paints, Waits, Refuses};
-ghost use Rattle.rfb_codec.specs.Stage.{encoding_at, is_ended, stage_of};
+ghost use Rattle.rfb_codec.specs.Stage.{encoding_at, is_ended};
+ghost use Rattle.rfb_codec.specs.inside.Step.{stage_of};
 
-use crate::decode;
-use crate::decode::gather::Pending;
-use crate::decode::hextile::NOTHING;
-use crate::decode::stage::{Place, Stage};
+pub mod fill;
+pub mod gather;
+mod pieces;
+pub mod stage;
+
 use crate::fault::PaintFault;
+use crate::hextile::NOTHING;
 use arrayvec::ArrayVec;
+use gather::Pending;
 use rfb_picture::{Picture, Rect};
 use rfb_pixel::{Colour, Format};
 use rfb_wire::Encoding;
+use stage::{Place, Stage};
 use std::marker::Model;
 
 /// What a call of `feed` did.
@@ -106,7 +111,7 @@ impl Painter {
     {
         // It tells that the picture has a colour at each place.
         let _width = picture.width();
-        let step = decode::feed(
+        let step = pieces::feed(
             self.format,
             self.rect,
             self.stage,
@@ -117,7 +122,7 @@ impl Painter {
         self.stage = step.stage;
         Ok(Painted {
             used: step.used,
-            done: decode::is_ended(self.rect, step.stage),
+            done: pieces::is_ended(self.rect, step.stage),
         })
     }
 

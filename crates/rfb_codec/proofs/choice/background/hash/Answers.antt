@@ -1,0 +1,7 @@
+use Rattle.std.proofs.Common.{refl}
+use Rattle.rfb_codec.specs.inside.Background.{hash_of}
+use Rattle.rfb_codec.proofs.choice.background.hash.Goals as goal
+
+pub returns : goal.returns
+unfolding hash_of
+returns c = refl

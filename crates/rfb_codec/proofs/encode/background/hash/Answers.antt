@@ -1,7 +1,0 @@
-use Rattle.std.proofs.Common.{refl}
-use Rattle.rfb_codec.specs.Background.{hash_of}
-use Rattle.rfb_codec.proofs.encode.background.hash.Goals as goal
-
-pub returns : goal.returns
-unfolding hash_of
-returns c = refl

@@ -1,0 +1,18 @@
+use Rattle.std.proofs.Common.{◌≡◌, ◌∙◌, ◌≤◌, true, refl, sym, arith, length, slice_index}
+use Rattle.std.proofs.lemmas.Bool.Decides.{nat_tests}
+use Rattle.rfb_codec.specs.Tile.{are_inside, places_of}
+use Rattle.rfb_codec.specs.inside.TileRead.{tile_of_read}
+use Rattle.rfb_codec.proofs.TileLaws.{inside_true}
+use Rattle.rfb_codec.proofs.PaintTileLemmas.{tile_got}
+use Rattle.rfb_codec.proofs.hextile.paint.reading.read_tile.Goals as goal
+
+pub returns-then-fits-clause-told : goal.returns-then-fits-clause-told
+returns-then-fits-clause-told c = λ before sees.
+    let w = c.args.width in
+    let h = c.args.height in
+    let read = c.in-Some-find.read in
+    let tile = tile_of_read c.args.format w h read c.args.bytes.now in
+    let inside : are_inside w h (places_of tile) ≡ true = sym c.fits.ensures ∙ c.if-fits.true in
+    let found = c.in-Some-find.ensures.told in
+    let some : 1 ≤ length c.args.bytes.now = grind (arith, nat_tests, c.is_empty.ensures) in
+    (tile_got c.args.format w h before c.args.bytes.now (slice_index c.args.bytes.now 0) tile _ some refl (sym (c.in-None.ensures before sees)) found.0 inside, found.1, inside_true w h (places_of tile) inside)

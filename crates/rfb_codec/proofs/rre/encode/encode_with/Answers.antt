@@ -1,0 +1,42 @@
+use Rattle.std.proofs.Common.{rules, ◌≡◌, ◌∙◌, ◌<◌, ◌^◌, ◌++◌, ◌+◌, ◌*◌, arith, ap, refl, append_assoc, length, length-append}
+use Rattle.std.specs.List.{flat_map}
+use Rattle.rfb_pixel.specs.Format.{size_of}
+use Rattle.rfb_codec.specs.inside.Encode.{subrect_bytes}
+use Rattle.rfb_codec.specs.inside.Cover.{IsCover, IsPixelOf}
+use Rattle.rfb_codec.specs.Raw.{raw_length}
+use Rattle.rfb_codec.proofs.PixelLemmas.{length-pixel_bytes}
+use Rattle.rfb_codec.proofs.RreEncodeLemmas.{length-subrects, limit_fits, rre_head, stands_rre}
+use Rattle.rfb_codec.proofs.rre.encode.encode_with.Goals as goal
+
+pub cover-requires : goal.cover-requires
+cover-requires g c =
+    let h = c.from-height.result in
+    let w = c.from-width.result in
+    let whole : length c.pixels-pixels.result.now ≡ h * w = rw (c.from-width.ensures, c.width.ensures.value, c.from-height.ensures, c.height.ensures.value, c.pixels-pixels.ensures.value) c.pixels-pixels.ensures.whole in
+    let same = ap length c.pixels-pixels.ensures.value in
+    let limit = limit_fits (h * w) c.size-size.result g.row.N (omega (arith, whole, same)) (omega arith) in
+    search rules
+
+pub returns-clause-spelled : goal.returns-clause-spelled
+returns-clause-spelled g c =
+    let f = c.args.format.now in
+    let block = c.args.block.now in
+    let background = c.in-Some.background in
+    let subs = c.cover.new.subs.items in
+    let head = rre_head f (length subs) background in
+    let list = flat_map (subrect_bytes f) subs in
+    let plain : IsPixelOf block.places background = rw c.pixels-pixels.ensures.value at c.in-Some.ensures.background.there in
+    let cover : IsCover block.width block.height block.places background subs = rw (c.from-width.ensures, c.width.ensures.value, c.from-height.ensures, c.height.ensures.value, c.pixels-pixels.ensures.value) at c.if-not-cover.ensures.cover in
+    let few : length subs < 2 ^ 32 = omega arith in
+    let count : c.len.result ≡ length subs = c.len.ensures.value in
+    let raw : c.from-height.result * c.from-width.result * c.size-size.result ≡ raw_length f block.width block.height = rw (c.from-width.ensures, c.width.ensures.value, c.from-height.ensures, c.height.ensures.value, c.size-size.ensures.value) refl in
+    let data_of : 4 + c.size-size.result + c.len.result * (c.size-size.result + 8) ≡ 4 + size_of f + length subs * (size_of f + 8) = rw (c.size-size.ensures.value, count) refl in
+    let first : length head ≡ 4 + size_of f = let pixel = length-pixel_bytes f background in omega (arith, pixel) in
+    let more : length list ≡ length subs * (size_of f + 8) = length-subrects f subs in (
+      head ++ list,
+      c.append_subrects.ensures.items ∙ ap (λ some. c.append_head.new.out.items ++ flat_map (subrect_bytes f) some) c.as_slice.ensures.value
+          ∙ ap (λ front. front ++ list) (c.append_head.ensures.items ∙ ap (λ n. c.args.out.now.items ++ rre_head f n background) c.len-2.ensures.value)
+          ∙ append_assoc c.args.out.now.items head list,
+      stands_rre f block background subs c.pixels-pixels.ensures.whole (omega arith) (omega arith) few c.requires.pixels plain cover,
+      rw length-append (omega (arith, first, more, raw, data_of)),
+    )

@@ -1,0 +1,9 @@
+-- Words of private contracts. No public clause reads them, so a reader can skip them.
+pub mod Encode
+pub mod Cover
+pub mod Colours
+pub mod Background
+pub mod TileSpelling
+pub mod Carried
+pub mod TileRead
+pub mod Step

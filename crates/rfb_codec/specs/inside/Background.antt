@@ -1,0 +1,55 @@
+-- The background that an encoder chooses, by this project's rule.
+-- No public clause reads these words.
+use Rattle.std.specs.Prelude.{◌≡◌, ◌≢◌, ℕ, ◌*◌, ◌/◌, ◌%◌, ◌<◌, ◌≤◌, ◌⊎◌, slice_index, List, [], ◌∷◌, length, All}
+use Rattle.rfb_codec.specs.declared.choice.background.Stop.{Stop}
+use Rattle.rfb_codec.specs.declared.choice.background.Stop.TheVariants.{Pixels, Room}
+use Rattle.rfb_codec.specs.inside.Cover.{IsPixelOf}
+use Rattle.rfb_codec.specs.inside.Colours.{places_of}
+
+-- it is the pixel that the most places have, and the least of those that as many have
+pub record IsBackground (pixels : List ℕ) (pixel : ℕ) : Type 0 where
+  pub there : IsPixelOf pixels pixel
+  pub most : (other : ℕ) → IsPixelOf pixels other → places_of other pixels ≤ places_of pixel pixels
+  pub least : (other : ℕ) → IsPixelOf pixels other → places_of other pixels ≡ places_of pixel pixels → pixel ≤ other
+
+-- no two of them are the same
+abbrev pub AllDiffer : List ℕ → Type 0
+AllDiffer [] = Unit {0}
+AllDiffer (pixel ∷ others) = All (λ other. other ≢ pixel) others × AllDiffer others
+
+-- there are more different pixels than that
+pub record HasMore (most : ℕ) (pixels : List ℕ) : Type 0 where
+  pub some : List ℕ
+  pub many : most < length some
+  pub there : All (λ pixel. IsPixelOf pixels pixel) some
+  pub differ : AllDiffer some
+
+-- why a tally of the pixels has no result: so many pixels were allowed, and so many places aside
+abbrev pub IsStopped : Stop → ℕ → ℕ → List ℕ → Type 0
+IsStopped Pixels most room pixels = HasMore most pixels
+IsStopped Room most room pixels = room < length pixels
+
+-- places from one up to an end have one pixel
+abbrev pub IsRun : List ℕ → ℕ → ℕ → Type 0
+IsRun pixels start end = (i : ℕ) → start ≤ i → i < end → slice_index pixels i ≡ slice_index pixels start
+
+-- at the end of those, if it is a place, stands another
+abbrev pub EndsRun : List ℕ → ℕ → ℕ → Type 0
+EndsRun pixels start end = end < length pixels → slice_index pixels end ≢ slice_index pixels start
+
+-- a pixel that so many places have comes before another that most have
+abbrev pub Leads : ℕ → ℕ → ℕ → ℕ → Type 0
+Leads count pixel most better = (most < count) ⊎ ((most ≡ count) × (pixel < better))
+
+-- of these places beside a pixel that so many places have: the pixel that the most have, the least of those
+pub record IsLed (aside : List ℕ) (better most result : ℕ) : Type 0 where
+  pub count : ℕ
+  pub from : ((result ≡ better) × (count ≡ most)) ⊎ ((0 < count) × (count ≤ places_of result aside))
+  pub kept : most ≤ count
+  pub before : most ≡ count → result ≤ better
+  pub each : (other : ℕ) → places_of other aside ≤ count
+  pub tied : (other : ℕ) → 0 < places_of other aside → places_of other aside ≡ count → result ≤ other
+
+-- a number that spreads pixels: the remainder by the slots of a table is the slot of the pixel
+unfoldable pub hash_of : ℕ → ℕ
+hash_of pixel = pixel * 2654435761 % 4294967296 / 65536

@@ -1,0 +1,82 @@
+-- How an encoder spells a tile of Hextile: the value that it sends, and the bytes.
+-- No public clause reads these words.
+use Rattle.std.specs.Prelude.{ℕ, ◌+◌, ◌-◌, ◌*◌, ◌≤◌, Bool, true, false, List, [], ◌∷◌, ◌++◌, length, map, Option, Some, None, bit_or, if◌then◌else◌}
+use Rattle.std.specs.List.{flat_map}
+use Rattle.rfb_pixel.specs.Format.{PixelFormat, pixel_bytes}
+use Rattle.rfb_codec.specs.declared.subrect.Subrect.{Subrect}
+use Rattle.rfb_codec.specs.declared.hextile.layout.TileLayout.{TileLayout}
+use Rattle.rfb_codec.specs.declared.hextile.layout.TileLayout.TheVariants.{Raw, Plain, Colored}
+use Rattle.rfb_wire.specs.RectHead.{IsOnScreen}
+use Rattle.rfb_codec.specs.Pixels.{IsPixel}
+use Rattle.rfb_codec.specs.Tile.{Tile, RawTile, PlainTile, ColoredTile, rect_in}
+
+-- the tile that is sent of these pixels, or of these subrectangles
+abbrev pub tile_of : PixelFormat → TileLayout → List ℕ → List Subrect → Tile
+tile_of f Raw pixels subs = RawTile (flat_map (pixel_bytes f) pixels)
+tile_of f (Plain background foreground) pixels subs = PlainTile background foreground (map rect_in subs)
+tile_of f (Colored background) pixels subs = ColoredTile background subs
+
+-- ---- its bytes
+
+-- the value of a bit of the mask, where it is set
+abbrev pub bit_if : ℕ → Bool → ℕ
+bit_if value set = if set then value else 0
+
+abbrev pub is_there : Option ℕ → Bool
+is_there None = false
+is_there (Some colour) = true
+
+abbrev pub are_some : List Subrect → Bool
+are_some [] = false
+are_some (s ∷ subs) = true
+
+-- a mask with these bits; SubrectsColored and ForegroundSpecified are never both set
+abbrev pub mask_of : TileLayout → List Subrect → ℕ
+mask_of Raw subs = 1
+mask_of (Plain background foreground) subs = bit_or (bit_or (bit_if 2 (is_there background)) (bit_if 4 (is_there foreground))) (bit_if 8 (are_some subs))
+mask_of (Colored background) subs = bit_or (bit_or (bit_if 2 (is_there background)) (bit_if 8 (are_some subs))) 16
+
+abbrev pub colour_bytes : PixelFormat → Option ℕ → List ℕ
+colour_bytes f None = []
+colour_bytes f (Some colour) = pixel_bytes f colour
+
+-- a subrectangle's place and size
+abbrev pub place_bytes : Subrect → List ℕ
+place_bytes s = (s.rect.x * 16 + s.rect.y) ∷ ((s.rect.w - 1) * 16 + (s.rect.h - 1)) ∷ []
+
+-- the same behind its pixel
+abbrev pub colored_bytes : PixelFormat → Subrect → List ℕ
+colored_bytes f s = pixel_bytes f s.pixel ++ place_bytes s
+
+-- how many there are, if there are any
+abbrev pub count_bytes : List Subrect → List ℕ
+count_bytes [] = []
+count_bytes (s ∷ subs) = length (s ∷ subs) ∷ []
+
+-- their count and they
+abbrev pub counted_bytes : (Subrect → List ℕ) → List Subrect → List ℕ
+counted_bytes bytes subs = count_bytes subs ++ flat_map bytes subs
+
+-- what follows the mask
+abbrev pub behind_bytes : PixelFormat → TileLayout → List ℕ → List Subrect → List ℕ
+behind_bytes f Raw pixels subs = flat_map (pixel_bytes f) pixels
+behind_bytes f (Plain background foreground) pixels subs = colour_bytes f background ++ (colour_bytes f foreground ++ counted_bytes place_bytes subs)
+behind_bytes f (Colored background) pixels subs = colour_bytes f background ++ counted_bytes (colored_bytes f) subs
+
+-- the bytes of the tile
+abbrev pub tile_bytes : PixelFormat → TileLayout → List ℕ → List Subrect → List ℕ
+tile_bytes f layout pixels subs = mask_of layout subs ∷ behind_bytes f layout pixels subs
+
+-- ---- what the subrectangles of a tile have to be
+
+-- it has a place, all of them in a tile of that size, and a pixel of the format
+pub record IsTilePart (f : PixelFormat) (w h : ℕ) (s : Subrect) : Type 0 where
+  pub pixel : IsPixel f s.pixel
+  pub inside : IsOnScreen w h s.rect
+  pub wide : 1 ≤ s.rect.w
+  pub high : 1 ≤ s.rect.h
+
+-- each of them does
+abbrev pub AreTileParts : PixelFormat → ℕ → ℕ → List Subrect → Type 0
+AreTileParts f w h [] = Unit {0}
+AreTileParts f w h (s ∷ subs) = IsTilePart f w h s × AreTileParts f w h subs

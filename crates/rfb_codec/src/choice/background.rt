@@ -1,0 +1,185 @@
+//! The background that an encoder chooses, by this project's rule.
+
+ghost use Rattle.std.specs.Prelude.{◌≡◌, ◌+◌, ◌<◌, ◌≤◌, ◌++◌, length, replicate, IfOk, IfErr, IfSome, IfNone};
+ghost use Rattle.std.specs.Bool.{OnTrue, OnFalse};
+ghost use Rattle.rfb_codec.specs.inside.Background.{IsBackground, HasMore, IsStopped, IsLed, IsRun, EndsRun, Leads, hash_of};
+
+use crate::block::PLACES;
+use arrayvec::ArrayVec;
+use std::result::Result;
+
+// The slots of the small table, for up to half as many pixels, which most blocks have, and how many
+// places beside it.
+const FEW: usize = 512;
+
+const ASIDE: usize = 64;
+
+// The slots of the large table, and the places of a tile.
+const MANY: usize = 4096;
+
+const TILE: usize = 256;
+
+// Why a tally has no result.
+#[derive(Clone, Copy, Debug, PartialEq, Eq)]
+enum Stop {
+    /// More pixels than were allowed.
+    Pixels,
+    /// More places aside than there is room for.
+    Room,
+}
+
+/// The pixel that the most places have, among equals the least. `pixels` stay the caller's.
+///
+/// None comes only where there are more than `most` different pixels.
+///
+/// It goes by runs of one pixel and counts each in a table on the stack, of which most blocks need a
+/// small one. A slot belongs to the first pixel that comes to it. Others that come to it are put aside and
+/// sorted at the end, so whatever the pixels it takes no more than a sort of them.
+pub(crate) fn background_of(pixels: &[u32], most: usize) -> Option<u32>
+    requires some { 0 < length pixels.now }
+    requires few { length pixels.now ≤ PLACES }
+    ensures background { IfSome result (λ pixel. IsBackground pixels.now pixel) }
+    ensures more { IfNone result (HasMore most pixels.now) }
+{
+    match tally::<FEW, ASIDE>(pixels, most.min(FEW / 2)) {
+        Ok(pixel) => return Some(pixel),
+        Err(Stop::Pixels) if most <= FEW / 2 => return None,
+        Err(_) => {}
+    }
+    let found = if pixels.len() <= TILE {
+        tally::<FEW, TILE>(pixels, most)
+    } else {
+        tally::<MANY, PLACES>(pixels, most)
+    };
+    match found {
+        Ok(pixel) => Some(pixel),
+        Err(_) => None,
+    }
+}
+
+// The most frequent pixel, the least of those. It stops at more pixels than `free`, or at more places
+// aside than `ROOM`.
+fn tally<const SLOTS: usize, const ROOM: usize>(
+    pixels: &[u32],
+    mut free: usize,
+) -> Result<u32, Stop>
+    requires some { 0 < length pixels.now }
+    requires few { length pixels.now ≤ PLACES }
+    requires slots { (0 < SLOTS) × (SLOTS ≤ MANY) }
+    requires room { ROOM ≤ PLACES }
+    ensures found { IfOk result (λ pixel. IsBackground pixels.now pixel) }
+    ensures stopped { IfErr result (λ stop. IsStopped stop free ROOM pixels.now) }
+{
+    // Of the pixel that a slot belongs to, the first place and 1, and how many places have it so far.
+    let mut firsts = [0u16; SLOTS];
+    let mut counts = [0u16; SLOTS];
+    let mut aside: ArrayVec<u32, ROOM> = ArrayVec::new();
+    let (mut better, mut most) = (pixels[0], 0u16);
+    let mut start = 0;
+    while start < pixels.len() {
+        let end = run_end(pixels, start);
+        let pixel = pixels[start];
+        let slot = hash(pixel) % SLOTS;
+        let mut first = usize::from(firsts[slot]);
+        if first == 0 {
+            if free == 0 {
+                return Err(Stop::Pixels);
+            }
+            free -= 1;
+            first = start + 1;
+            firsts[slot] = first as u16;
+        }
+        if pixels[first - 1] == pixel {
+            let count = counts[slot] + (end - start) as u16;
+            counts[slot] = count;
+            if leads(usize::from(count), pixel, usize::from(most), better) {
+                (better, most) = (pixel, count);
+            }
+        } else if !put_aside(&mut aside, pixel, end - start) {
+            return Err(Stop::Room);
+        }
+        start = end;
+    }
+    if aside.is_empty() {
+        return Ok(better);
+    }
+    Ok(with_aside(better, usize::from(most), &mut aside))
+}
+
+// Puts that many places of a pixel aside, if there is room for them.
+fn put_aside<const ROOM: usize>(aside: &mut ArrayVec<u32, ROOM>, pixel: u32, count: usize) -> bool
+    requires { ROOM ≤ PLACES }
+    ensures all { OnTrue result (aside.new.items ≡ aside.old.items ++ replicate count pixel) }
+    ensures full { OnFalse result (ROOM < length aside.old.items + count) }
+{
+    for _ in 0..count {
+        if aside.try_push(pixel).is_err() {
+            return false;
+        }
+    }
+    true
+}
+
+// Whether a pixel that `count` places have comes before `better`, which `most` have.
+fn leads(count: usize, pixel: u32, most: usize, better: u32) -> bool
+    ensures yes { OnTrue result (Leads count pixel most better) }
+    ensures no { OnFalse result ((count ≤ most) × (count ≡ most → better ≤ pixel)) }
+{
+    if most < count {
+        return true;
+    }
+    if count < most {
+        return false;
+    }
+    pixel < better
+}
+
+// The pixel `better`, which `most` places have, or a better one of those aside.
+fn with_aside<const ROOM: usize>(
+    mut better: u32,
+    mut most: usize,
+    aside: &mut ArrayVec<u32, ROOM>,
+) -> u32
+    requires room { ROOM ≤ PLACES }
+    ensures { IsLed aside.old.items better most result }
+{
+    aside.as_mut_slice().sort_unstable();
+    let sorted = aside.as_slice();
+    let mut start = 0;
+    while start < sorted.len() {
+        let end = run_end(sorted, start);
+        let (pixel, count) = (sorted[start], end - start);
+        if leads(count, pixel, most, better) {
+            (better, most) = (pixel, count);
+        }
+        start = end;
+    }
+    better
+}
+
+// The end of the run of one pixel that begins at `start`.
+fn run_end(pixels: &[u32], start: usize) -> usize
+    requires { start < length pixels.now }
+    ensures within { result ≤ length pixels.now }
+    ensures some { start < result }
+    ensures run { IsRun pixels.now start result }
+    ensures other { EndsRun pixels.now start result }
+{
+    let pixel = pixels[start];
+    for i in start + 1..pixels.len() {
+        if pixels[i] != pixel {
+            return i;
+        }
+    }
+    pixels.len()
+}
+
+// Spreads pixel values over a table.
+fn hash(pixel: u32) -> usize
+    ensures { result ≡ hash_of pixel }
+{
+    (pixel.wrapping_mul(0x9E37_79B1) >> 16) as usize
+}
+
+#[cfg(test)]
+mod tests;

@@ -1,0 +1,180 @@
+//! The cover of a block over its background, by this project's rule.
+
+ghost use Rattle.std.specs.Prelude.{◌≡◌, ◌≢◌, ℕ, ◌+◌, ◌*◌, ◌<◌, ◌≤◌, [], ◌&&◌, nat_le, nat_lt, length, slice_index, if◌then◌else◌};
+ghost use Rattle.std.specs.Bool.{OnTrue, OnFalse};
+ghost use Rattle.arrayvec.specs.ArrayVec.{array_vec_len};
+ghost use Rattle.rfb_wire.specs.RectHead.{IsOnScreen};
+ghost use Rattle.rfb_codec.specs.inside.Cover.{IsCover, IsGivenUp, IsOpen, HasRun};
+
+use crate::block::SIDE;
+use crate::subrect::Subrect;
+use arrayvec::ArrayVec;
+use rfb_picture::Rect;
+
+/// Gives `subs` the subrectangles that cover the places of another pixel than the background, or
+/// answers false once there are more than `limit`.
+///
+/// Rows are gone through from the top, each from the left. At a place that is not covered and has
+/// another pixel than the background, the longest run to the right of uncovered places with its pixel
+/// begins a subrectangle, and as many further rows belong to it as have that pixel under the whole run.
+pub(crate) fn cover<const N: usize>(
+    pixels: &[u32],
+    width: usize,
+    height: usize,
+    background: u32,
+    limit: usize,
+    subs: &mut ArrayVec<Subrect, N>,
+) -> bool
+    requires whole { length pixels.now ≡ height * width }
+    requires columns { width ≤ SIDE }
+    requires rows { height ≤ SIDE }
+    requires limit { limit ≤ N }
+    requires empty { subs.old.items ≡ [] }
+    ensures cover { OnTrue result (IsCover width height pixels.now background subs.new.items) }
+    ensures over { OnFalse result (IsGivenUp width height pixels.now background limit subs.new.items) }
+    ensures few { array_vec_len subs.new ≤ limit }
+{
+    // Of each column the first row that no subrectangle taken in it reaches. What lies above the row
+    // that is gone through is never asked again, so it is all that has to be known.
+    let mut until = [0; SIDE];
+    for y in 0..height {
+        let start = first_other(pixels, width, y, background);
+        for x in start..width {
+            let pixel = pixels[y * width + x];
+            if pixel != background && until[x] <= y {
+                if subs.len() == limit {
+                    return false;
+                }
+                let rect = take_from(pixels, width, height, &mut until, x, y);
+                subs.push(Subrect { pixel, rect });
+            }
+        }
+    }
+    true
+}
+
+// The first column of row `y` that has another pixel, or `width`.
+fn first_other(pixels: &[u32], width: usize, y: usize, background: u32) -> usize
+    requires { y * width + width ≤ length pixels.now }
+    ensures within { result ≤ width }
+    ensures plain { (i : ℕ) → i < result → slice_index pixels.now (y * width + i) ≡ background }
+{
+    let row = &pixels[y * width..y * width + width];
+    for (x, pixel) in row.iter().enumerate() {
+        if *pixel != background {
+            return x;
+        }
+    }
+    width
+}
+
+// Takes the subrectangle that begins at (x, y), which is not covered, and notes how far it reaches. As
+// subrectangles go on down from row to row, nothing below an uncovered place is covered. Not inlined, so
+// that the scan that calls it stays short: few places begin one.
+#[inline(never)]
+fn take_from(
+    pixels: &[u32],
+    width: usize,
+    height: usize,
+    until: &mut [usize],
+    x: usize,
+    y: usize,
+) -> Rect
+    requires whole { length pixels.now ≡ height * width }
+    requires columns { (x < width) × (width ≤ SIDE) × (width ≤ length until.old) }
+    requires rows { (y < height) × (height ≤ SIDE) }
+    requires here { slice_index until.old x ≤ y }
+    ensures corner { (result.x ≡ x) × (result.y ≡ y) }
+    ensures some { (0 < result.w) × (0 < result.h) }
+    ensures inside { IsOnScreen width height result }
+    ensures same { (i j : ℕ) → x ≤ i → i < x + result.w → y ≤ j → j < y + result.h → slice_index pixels.now (j * width + i) ≡ slice_index pixels.now (y * width + x) }
+    ensures uncovered { (i : ℕ) → x ≤ i → i < x + result.w → slice_index until.old i ≤ y }
+    ensures longest { x + result.w < width →
+        IsOpen width pixels.now until.old (slice_index pixels.now (y * width + x))
+        (x + result.w) y → ⊥ }
+    ensures lowest { y + result.h < height →
+        HasRun width pixels.now (slice_index pixels.now (y * width + x))
+        x (x + result.w) (y + result.h) → ⊥ }
+    ensures noted { (i : ℕ) → i < width → slice_index until.new i ≡ (if nat_le x i && nat_lt i (x + result.w) then y + result.h else slice_index until.old i) }
+{
+    let right = run_end(pixels, until, width, x, y);
+    let lower = lower_end(pixels, width, height, x, right, y);
+    note(until, x, right, lower);
+    Rect {
+        x: x as u16,
+        y: y as u16,
+        w: (right - x) as u16,
+        h: (lower - y) as u16,
+    }
+}
+
+// Notes this row for the columns from `start` up to `end`.
+fn note(until: &mut [usize], start: usize, end: usize, row: usize)
+    requires { (start ≤ end) × (end ≤ length until.old) }
+    ensures { (i : ℕ) → i < length until.old → slice_index until.new i ≡ (if nat_le start i && nat_lt i end then row else slice_index until.old i) }
+{
+    for column in start..end {
+        until[column] = row;
+    }
+}
+
+// The end of the run of uncovered places with the pixel of (x, y), which begins there.
+fn run_end(pixels: &[u32], until: &[usize], width: usize, x: usize, y: usize) -> usize
+    requires column { x < width }
+    requires row { y * width + width ≤ length pixels.now }
+    requires columns { width ≤ length until.now }
+    requires here { slice_index until.now x ≤ y }
+    ensures some { x < result }
+    ensures within { result ≤ width }
+    ensures run { (i : ℕ) → x ≤ i → i < result → slice_index pixels.now (y * width + i) ≡ slice_index pixels.now (y * width + x) }
+    ensures uncovered { (i : ℕ) → x ≤ i → i < result → slice_index until.now i ≤ y }
+    ensures longest { result < width →
+        IsOpen width pixels.now until.now (slice_index pixels.now (y * width + x)) result y → ⊥ }
+{
+    let pixel = pixels[y * width + x];
+    for i in x + 1..width {
+        if pixels[y * width + i] != pixel || until[i] > y {
+            return i;
+        }
+    }
+    width
+}
+
+// The row behind the last that has the pixel of (x, y) from column x up to `right`, from row y on.
+fn lower_end(pixels: &[u32], width: usize, height: usize, x: usize, right: usize, y: usize) -> usize
+    requires whole { length pixels.now ≡ height * width }
+    requires run { (x < right) × (right ≤ width) }
+    requires row { y < height }
+    requires first { (i : ℕ) → x ≤ i → i < right → slice_index pixels.now (y * width + i) ≡ slice_index pixels.now (y * width + x) }
+    ensures some { y < result }
+    ensures within { result ≤ height }
+    ensures lowest { result < height →
+        HasRun width pixels.now (slice_index pixels.now (y * width + x)) x right result → ⊥ }
+    ensures same { (i j : ℕ) → x ≤ i → i < right → y ≤ j → j < result → slice_index pixels.now (j * width + i) ≡ slice_index pixels.now (y * width + x) }
+{
+    let pixel = pixels[y * width + x];
+    for j in y + 1..height {
+        if !has_run(pixels, j * width + x, j * width + right, pixel) {
+            return j;
+        }
+    }
+    height
+}
+
+// Whether all places from `start` up to `end` have the pixel.
+fn has_run(pixels: &[u32], start: usize, end: usize, pixel: u32) -> bool
+    requires { end ≤ length pixels.now }
+    ensures has { OnTrue result ((i : ℕ) → start ≤ i → i < end → slice_index pixels.now i ≡ pixel) }
+    ensures other { OnFalse result
+        ((i : ℕ) × (start ≤ i) × (i < end) × (slice_index pixels.now i ≢ pixel)) }
+{
+    for i in start..end {
+        if pixels[i] != pixel {
+            return false;
+        }
+    }
+    true
+}
+
+#[cfg(test)]
+mod tests;

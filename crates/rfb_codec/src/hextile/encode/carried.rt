@@ -1,0 +1,21 @@
+//! The colours that a tile leaves to the next one.
+
+ghost use Rattle.rfb_codec.specs.inside.Carried.{IsNamed};
+
+/// The background and the foreground that the next tile may use without naming them, where there is
+/// one.
+#[derive(Clone, Copy, Debug, PartialEq, Eq)]
+pub struct Carried {
+    pub background: Option<u32>,
+    pub foreground: Option<u32>,
+}
+
+/// The colour where it has to be named: where it is not the one that is carried.
+pub fn named(carried: Option<u32>, colour: u32) -> Option<u32>
+    ensures { IsNamed result carried colour }
+{
+    match carried {
+        Some(held) if held == colour => None,
+        _ => Some(colour),
+    }
+}

@@ -1,0 +1,16 @@
+//! Tiles of Hextile, painted as they come.
+
+mod drawing;
+mod filling;
+mod reading;
+mod take;
+mod tile_read;
+
+pub use take::{take_raw, take_tile};
+pub use tile_read::Seen;
+
+/// The colours seen before the first tile.
+pub const NOTHING: Seen = Seen {
+    background: None,
+    foreground: None,
+};

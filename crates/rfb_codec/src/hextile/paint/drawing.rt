@@ -1,0 +1,131 @@
+//! A tile, painted where it lies in a picture.
+
+ghost use Rattle.std.specs.Prelude.{◌≡◌, ℕ, ◌+◌, ◌*◌, ◌≤◌, ◌<◌, List, [], ◌∷◌, ◌++◌, length, drop, false, true};
+ghost use Rattle.rfb_pixel.specs.Format.{size_of, colour_of};
+ghost use Rattle.rfb_codec.specs.Rre.{pixel_at};
+ghost use Rattle.rfb_codec.specs.Tile.{Tile, AreInside, places_of, tile_pixel, colored_of};
+ghost use Rattle.rfb_codec.specs.inside.TileRead.{LiesIn, tile_of_read, AreSubsInside, subs_in, sub_behind, sub_size};
+ghost use Rattle.rfb_codec.specs.Stage.{Sees};
+ghost use Rattle.rfb_codec.specs.inside.Step.{IsPaintable};
+ghost use Rattle.rfb_codec.specs.Painter.{over};
+
+use super::filling::{fill_part, fill_tile};
+use super::reading::place_of;
+use super::tile_read::{Seen, TileRead, or_zero};
+use crate::hextile::layout::TileLayout;
+use crate::raw::paint_rows;
+use crate::subrect::Subrect;
+use rfb_picture::{Picture, Rect};
+use rfb_pixel::{Colour, Format};
+
+/// Paints a tile that was read from the bytes over its rectangle. `seen` has its own colours too.
+pub fn draw_tile(
+    format: Format,
+    rect: Rect,
+    seen: Seen,
+    read: TileRead,
+    bytes: &[u8],
+    picture: &mut Picture<Colour>,
+)
+    requires place { IsPaintable picture.old rect }
+    requires lies { LiesIn format rect.w rect.h read bytes.now }
+    requires inside { AreInside rect.w rect.h (places_of (tile_of_read format rect.w rect.h read bytes.now)) }
+    ensures value { (before : List Tile) → Sees (before ++ tile_of_read format rect.w rect.h read bytes.now ∷ []) seen → picture.new ≡ over rect (λ x y. colour_of format (tile_pixel format rect.w (before ++ tile_of_read format rect.w rect.h read bytes.now ∷ []) (tile_of_read format rect.w rect.h read bytes.now) x y)) picture.old }
+    ensures width { picture.new.width ≡ picture.old.width }
+    ensures height { picture.new.height ≡ picture.old.height }
+{
+    let list = &bytes[read.list..];
+    let (background, foreground) = (or_zero(seen.background), or_zero(seen.foreground));
+    match read.layout {
+        TileLayout::Raw => paint_rows(format, rect, &bytes[read.list..read.used], picture),
+        TileLayout::Plain { .. } => {
+            draw_subs(
+                format, rect, background, foreground, false, read.count, list, picture,
+            );
+        }
+        TileLayout::Colored { .. } => {
+            draw_subs(
+                format, rect, background, foreground, true, read.count, list, picture,
+            );
+        }
+    }
+}
+
+// Paints the background over the rectangle, and then so many subrectangles, which lie inside it. Those
+// without a pixel of their own have the foreground. Inlined, so that its loop is made anew for each of the
+// two calls, which know whether there are such pixels.
+#[inline(always)]
+fn draw_subs(
+    format: Format,
+    rect: Rect,
+    background: u32,
+    foreground: u32,
+    colored: bool,
+    count: usize,
+    list: &[u8],
+    picture: &mut Picture<Colour>,
+)
+    requires place { IsPaintable picture.old rect }
+    requires inside { AreSubsInside format rect.w rect.h foreground colored count list.now }
+    ensures value { picture.new ≡ over rect (λ x y. colour_of format (pixel_at background (subs_in format foreground colored count list.now) x y)) picture.old }
+    ensures width { picture.new.width ≡ picture.old.width }
+    ensures height { picture.new.height ≡ picture.old.height }
+{
+    fill_tile(rect, unpacked(format, background), picture);
+    let own = unpacked(format, foreground);
+    for n in 0..count {
+        let part = sub_at(format, foreground, colored, n, list);
+        let colour = colour_at(format, colored, own, part.pixel);
+        let places = Rect {
+            x: rect.x + part.rect.x,
+            y: rect.y + part.rect.y,
+            ..part.rect
+        };
+        fill_part(places, colour, picture);
+    }
+}
+
+// The colour of a subrectangle: of its pixel, or that of the foreground where it has none of its own.
+fn colour_at(format: Format, colored: bool, own: Colour, pixel: u32) -> Colour
+    requires { colored ≡ false → own ≡ colour_of format pixel }
+    ensures { result ≡ colour_of format pixel }
+{
+    if colored {
+        unpacked(format, pixel)
+    } else {
+        own
+    }
+}
+
+// The colour of a pixel. The format that this project announces is known before it runs, and needs no
+// division.
+fn unpacked(format: Format, pixel: u32) -> Colour
+    ensures { result ≡ colour_of format pixel }
+{
+    if format == Format::rgb888() {
+        Format::rgb888().unpack(pixel)
+    } else {
+        format.unpack(pixel)
+    }
+}
+
+// The subrectangle behind so many others.
+fn sub_at(format: Format, foreground: u32, colored: bool, n: usize, list: &[u8]) -> Subrect
+    requires { (n + 1) * sub_size format colored ≤ length list.now }
+    ensures { result ≡ sub_behind format foreground colored n list.now }
+{
+    if colored {
+        let size = format.size();
+        let at = n * (size + 2);
+        let part = &list[at..at + (size + 2)];
+        Subrect {
+            pixel: format.take(&part[..size]),
+            rect: place_of(&part[size..]),
+        }
+    } else {
+        Subrect {
+            pixel: foreground,
+            rect: place_of(&list[n * 2..n * 2 + 2]),
+        }
+    }
+}

@@ -1,0 +1,210 @@
+//! A tile, found and judged in the bytes that begin with it.
+
+ghost use Rattle.std.specs.Prelude.{◌≡◌, ℕ, ◌+◌, ◌*◌, ◌≤◌, ◌<◌, ◌==◌, not, List, length, drop, slice_index, MatchOption, None, true, false, ◌⊎◌};
+ghost use Rattle.rfb_pixel.specs.Format.{size_of};
+ghost use Rattle.rfb_wire.specs.stream.Reading.{More, Got};
+ghost use Rattle.rfb_wire.specs.stream.Parts.{optional};
+ghost use Rattle.rfb_codec.specs.Tile.{Tile, is_raw, subrects_colored, mask_fault, tile_colour, behind_mask, are_inside, places_of, place_of, tile_behind};
+ghost use Rattle.rfb_codec.specs.inside.TileRead.{LiesIn, tile_of_read, TellsTile, IsShort, IsCount, places_from};
+ghost use Rattle.rfb_codec.specs.Stage.{Sees};
+
+use super::tile_read::{Seen, TileRead};
+use crate::fault::PaintFault;
+use crate::hextile::layout::TileLayout;
+use crate::hextile::mask::{
+    ANY_SUBRECTS, BACKGROUND_SPECIFIED, FOREGROUND_SPECIFIED, RAW, SUBRECTS_COLORED,
+};
+use rfb_picture::Rect;
+use rfb_pixel::Format;
+
+/// The tile of that size that the bytes begin with, behind tiles that have specified the colours seen.
+/// None where it is not all there. A mask is judged at its byte, and subrectangles that leave the tile
+/// at the last byte of the tile.
+pub fn read_tile(
+    format: Format,
+    seen: Seen,
+    width: u16,
+    height: u16,
+    bytes: &[u8],
+) -> Result<Option<TileRead>, PaintFault>
+    requires { (width ≤ 16) × (height ≤ 16) }
+    ensures told { (before : List Tile) → Sees before seen → TellsTile format width height bytes.now result (tile_behind format width height before bytes.now) }
+    ensures short { IsShort bytes.now result }
+{
+    if bytes.is_empty() {
+        return Ok(None);
+    }
+    let mask = bytes[0];
+    match fault_of_mask(mask, seen) {
+        Some(fault) => return Err(fault),
+        None => {}
+    }
+    match find(format, width, height, mask, bytes) {
+        None => Ok(None),
+        Some(read) => {
+            if fits(format, width, height, read, bytes) {
+                Ok(Some(read))
+            } else {
+                Err(PaintFault::SubrectOutside)
+            }
+        }
+    }
+}
+
+// The fault of a mask, if it has one, behind tiles that have specified the colours seen.
+fn fault_of_mask(mask: u8, seen: Seen) -> Option<PaintFault>
+    ensures { (before : List Tile) → Sees before seen → result ≡ mask_fault before mask }
+{
+    if mask & RAW != 0 {
+        None
+    } else if mask & BACKGROUND_SPECIFIED == 0 && seen.background.is_none() {
+        Some(PaintFault::NoBackground)
+    } else if mask & FOREGROUND_SPECIFIED != 0 && mask & SUBRECTS_COLORED != 0 {
+        Some(PaintFault::BothColourBits)
+    } else if mask & ANY_SUBRECTS != 0
+        && mask & FOREGROUND_SPECIFIED == 0
+        && mask & SUBRECTS_COLORED == 0
+        && seen.foreground.is_none()
+    {
+        Some(PaintFault::NoForeground)
+    } else {
+        None
+    }
+}
+
+// Where the parts of a tile lie behind its mask, if they are all there.
+fn find(format: Format, width: u16, height: u16, mask: u8, bytes: &[u8]) -> Option<TileRead>
+    requires size { (width ≤ 16) × (height ≤ 16) }
+    requires mask { 1 ≤ length bytes.now }
+    ensures short { result ≡ None → length bytes.now < 1536 }
+    ensures told { MatchOption result (behind_mask format width height mask (is_raw mask) (subrects_colored mask) (drop 1 bytes.now) ≡ More) (λ read. (behind_mask format width height mask (is_raw mask) (subrects_colored mask) (drop 1 bytes.now) ≡ Got (tile_of_read format width height read bytes.now) (drop read.used bytes.now)) × LiesIn format width height read bytes.now) }
+{
+    let size = format.size();
+    if mask & RAW != 0 {
+        let used = 1 + usize::from(height) * usize::from(width) * size;
+        return whole(TileLayout::Raw, 1, 0, used, bytes);
+    }
+    let (background, at) = find_colour(format, mask & BACKGROUND_SPECIFIED != 0, bytes, 1)?;
+    if mask & SUBRECTS_COLORED != 0 {
+        let (count, list) = find_count(mask & ANY_SUBRECTS != 0, bytes, at)?;
+        let layout = TileLayout::Colored { background };
+        whole(layout, list, count, list + count * (size + 2), bytes)
+    } else {
+        let (foreground, at) = find_colour(format, mask & FOREGROUND_SPECIFIED != 0, bytes, at)?;
+        let (count, list) = find_count(mask & ANY_SUBRECTS != 0, bytes, at)?;
+        let layout = TileLayout::Plain {
+            background,
+            foreground,
+        };
+        whole(layout, list, count, list + count * 2, bytes)
+    }
+}
+
+// The tile, if all of its bytes are there.
+fn whole(
+    layout: TileLayout,
+    list: usize,
+    count: usize,
+    used: usize,
+    bytes: &[u8],
+) -> Option<TileRead>
+    ensures { MatchOption result (length bytes.now < used) (λ read. (read ≡ record { layout = layout; list = list; count = count; used = used }) × (used ≤ length bytes.now)) }
+{
+    if bytes.len() < used {
+        return None;
+    }
+    Some(TileRead {
+        layout,
+        list,
+        count,
+        used,
+    })
+}
+
+// The colour at that place, if it is named, and the place behind it. None where it is not all there.
+fn find_colour(format: Format, named: bool, bytes: &[u8], at: usize) -> Option<(Option<u32>, usize)>
+    requires place { at ≤ length bytes.now }
+    requires low { at ≤ 8 }
+    ensures { MatchOption result (optional named (tile_colour format) (drop at bytes.now) ≡ More) (λ found. (optional named (tile_colour format) (drop at bytes.now) ≡ Got found.0 (drop found.1 bytes.now)) × (at ≤ found.1) × (found.1 ≤ at + 4) × (found.1 ≤ length bytes.now)) }
+{
+    if !named {
+        return Some((None, at));
+    }
+    let size = format.size();
+    if bytes.len() < at + size {
+        return None;
+    }
+    Some((Some(format.take(&bytes[at..at + size])), at + size))
+}
+
+// The number of subrectangles at that place, if there are any, and the place behind it.
+fn find_count(any: bool, bytes: &[u8], at: usize) -> Option<(usize, usize)>
+    requires place { at ≤ length bytes.now }
+    requires low { at ≤ 12 }
+    ensures { MatchOption result ((any ≡ true) × (length bytes.now ≡ at)) (λ found. IsCount any at bytes.now found.0 found.1 × (found.0 ≤ 255) × (found.1 ≤ at + 1) × (at ≤ found.1)) }
+{
+    if !any {
+        return Some((0, at));
+    }
+    if bytes.len() <= at {
+        return None;
+    }
+    Some((usize::from(bytes[at]), at + 1))
+}
+
+// Whether all subrectangles of a tile lie in it.
+fn fits(format: Format, width: u16, height: u16, read: TileRead, bytes: &[u8]) -> bool
+    requires { LiesIn format width height read bytes.now }
+    ensures { result ≡ are_inside width height (places_of (tile_of_read format width height read bytes.now)) }
+{
+    match read.layout {
+        TileLayout::Raw => true,
+        TileLayout::Plain { .. } => are_places_inside(
+            width,
+            height,
+            0,
+            read.count,
+            &bytes[read.list..],
+        ),
+        TileLayout::Colored { .. } => {
+            are_places_inside(
+                width,
+                height,
+                format.size(),
+                read.count,
+                &bytes[read.list..],
+            )
+        }
+    }
+}
+
+// Whether so many places lie in a tile, each behind so many bytes of a pixel.
+fn are_places_inside(width: u16, height: u16, skip: usize, count: usize, list: &[u8]) -> bool
+    requires all { count * (skip + 2) ≤ length list.now }
+    requires pixel { skip ≤ 4 }
+    ensures { result ≡ are_inside width height (places_from skip count list.now) }
+{
+    for i in 0..count {
+        let at = i * (skip + 2) + skip;
+        let place = place_of(&list[at..at + 2]);
+        if place.x + place.w > width || place.y + place.h > height {
+            return false;
+        }
+    }
+    true
+}
+
+/// The place that two bytes are: x and y in one, and width and height less one in the other.
+pub fn place_of(bytes: &[u8]) -> Rect
+    requires { length bytes.now ≡ 2 }
+    ensures value { result ≡ place_of bytes.now }
+    ensures small { (result.x ≤ 15) × (result.y ≤ 15) × (result.w ≤ 16) × (result.h ≤ 16) }
+{
+    let (position, size) = (u16::from(bytes[0]), u16::from(bytes[1]));
+    Rect {
+        x: position / 16,
+        y: position % 16,
+        w: size / 16 + 1,
+        h: size % 16 + 1,
+    }
+}

@@ -1,0 +1,87 @@
+//! The Raw encoder, RFC 6143 section 7.7.1.
+
+ghost use Rattle.std.specs.Prelude.{refl, ◌≡◌, ◌+◌, ◌*◌, ◌<◌, ◌≤◌, ◌++◌, length, vec_len, pos, IsTrue};
+ghost use Rattle.std.specs.List.{flat_map};
+ghost use Rattle.std.specs.Bool.{OnTrue, OnFalse};
+ghost use Rattle.std.specs.Vec.{vec_capacity};
+ghost use Rattle.rfb_pixel.specs.Format.{size_of, pixel_bytes};
+ghost use Rattle.rfb_codec.specs.Pixels.{HasPixels};
+ghost use Rattle.rfb_codec.specs.Raw.{StandsRaw};
+ghost use Rattle.rfb_wire.specs.declared.encoding.Encoding.TheVariants.{Raw as RawEncoding};
+ghost use Rattle.rfb_codec.specs.Codec.{Appends, raw_of, shortens};
+
+use crate::append::append_within;
+use crate::block::Block;
+use crate::codec::Codec;
+use rfb_pixel::Format;
+
+// How many pixels are appended at once.
+const PIECE: usize = 64;
+
+/// Raw: the pixels row by row from the top, each row from the left. Every block can be sent so.
+pub struct Raw;
+
+impl Codec for Raw {
+    ghost stands = { StandsRaw };
+
+    ghost encoding = { RawEncoding };
+
+    ghost NUMBER = { pos 0 };
+
+    ghost numbered = { refl };
+
+    ghost read_back = { λ f width height rect block bytes sized stands. (sized, stands) };
+
+    const NUMBER: i32 = 0;
+
+    fn encode(block: &Block, format: &Format, out: &mut Vec<u8>) -> bool
+        requires pixels { HasPixels format.now block.now }
+        requires room { vec_len out.old + raw_of format.now block.now ≤ vec_capacity out.old }
+
+        ensures always { IsTrue result }
+        ensures spelled { OnTrue result (Appends StandsRaw format.now block.now out.old.items out.new.items) }
+        ensures shorter { OnTrue (shortens RawEncoding)
+            (OnTrue result (vec_len out.new < vec_len out.old + raw_of format.now block.now)) }
+        ensures kept { OnFalse result (out.new.items ≡ out.old.items) }
+        ensures room { vec_capacity out.new ≡ vec_capacity out.old }
+    {
+        let pixels = block.pixels();
+        let mut start = 0;
+        while start < pixels.len() {
+            let end = pixels.len().min(start + PIECE);
+            append_pixels(out, format, &pixels[start..end]);
+            start = end;
+        }
+        true
+    }
+}
+
+// Appends a piece of the pixels.
+fn append_pixels(out: &mut Vec<u8>, format: &Format, pixels: &[u32])
+    requires few { length pixels.now ≤ PIECE }
+    requires room { vec_len out.old + length pixels.now * size_of format.now ≤ vec_capacity out.old }
+    ensures items { out.new.items ≡ out.old.items ++ flat_map (pixel_bytes format.now) pixels.now }
+    ensures len { vec_len out.new ≡ vec_len out.old + length pixels.now * size_of format.now }
+    ensures room { vec_capacity out.new ≡ vec_capacity out.old }
+{
+    let mut bytes = [0; 4 * PIECE];
+    let length = pixels.len() * format.size();
+    put_pixels(format, pixels, &mut bytes[..length]);
+    append_within(out, &bytes[..length]);
+}
+
+/// Writes the bytes of each pixel.
+pub fn put_pixels(format: &Format, pixels: &[u32], bytes: &mut [u8])
+    requires { length bytes.old ≡ length pixels.now * size_of format.now }
+    ensures { bytes.new ≡ flat_map (pixel_bytes format.now) pixels.now }
+{
+    // A copy, which no byte that is written can change: what it alone decides stays the same.
+    let kept = *format;
+    let size = format.size();
+    for i in 0..pixels.len() {
+        kept.put(pixels[i], &mut bytes[i * size..i * size + size]);
+    }
+}
+
+#[cfg(test)]
+mod tests;

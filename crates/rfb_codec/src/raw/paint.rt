@@ -1,0 +1,77 @@
+//! Raw, RFC 6143 section 7.7.1: pixels row by row.
+
+ghost use Rattle.std.specs.Prelude.{◌≡◌, ℕ, ◌+◌, ◌*◌, ◌<◌, ◌≤◌, length, drop, slice_index_or};
+ghost use Rattle.rfb_pixel.specs.declared.colour.Colour.{Colour};
+ghost use Rattle.rfb_pixel.specs.Format.{size_of, pixel_number, colour_of};
+ghost use Rattle.rfb_codec.specs.Raw.{raw_length, raw_pixel};
+ghost use Rattle.rfb_codec.specs.inside.Step.{IsPaintable};
+ghost use Rattle.rfb_codec.specs.Painter.{over};
+ghost use Rattle.rfb_codec.specs.Stage.{places_before};
+ghost use Rattle.rfb_codec.specs.inside.Step.{PaintsRun};
+
+use crate::painter::stage::Place;
+use rfb_picture::{Picture, Rect};
+use rfb_pixel::{Colour, Format};
+
+/// Paints each row of the rectangle.
+pub fn paint_rows(format: Format, rect: Rect, bytes: &[u8], picture: &mut Picture<Colour>)
+    requires place { IsPaintable picture.old rect }
+    requires whole { length bytes.now ≡ raw_length format rect.w rect.h }
+    ensures value { picture.new ≡ over rect (λ x y. colour_of format (raw_pixel format rect.w bytes.now x y)) picture.old }
+    ensures width { picture.new.width ≡ picture.old.width }
+    ensures height { picture.new.height ≡ picture.old.height }
+{
+    let length = usize::from(rect.w) * format.size();
+    for row in 0..rect.h {
+        let start = usize::from(row) * length;
+        let places = picture.row_mut(rect.x, rect.y + row, rect.w);
+        unpack_row(format, &bytes[start..start + length], places);
+    }
+}
+
+/// Paints so many pixels of one row of the rectangle, from a place on, which stand behind those of the
+/// places before it.
+pub fn paint_run(
+    format: Format,
+    rect: Rect,
+    at: Place,
+    count: u16,
+    bytes: &[u8],
+    picture: &mut Picture<Colour>,
+)
+    requires place { IsPaintable picture.old rect }
+    requires row { at.y < rect.h }
+    requires columns { at.x + count ≤ rect.w }
+    requires whole { length bytes.now ≡ count * size_of format }
+    ensures value { PaintsRun format rect (places_before rect.w at) count bytes.now picture.old picture.new }
+    ensures width { picture.new.width ≡ picture.old.width }
+    ensures height { picture.new.height ≡ picture.old.height }
+{
+    let places = picture.row_mut(rect.x + at.x, rect.y + at.y, count);
+    unpack_row(format, bytes, places);
+}
+
+// Writes the colour of each pixel of a row.
+fn unpack_row(format: Format, bytes: &[u8], row: &mut [Colour])
+    requires { length bytes.now ≡ length row.old * size_of format }
+    ensures { (k : ℕ) (d : Colour) → k < length row.new → slice_index_or row.new k d ≡ colour_of format (pixel_number format (drop (k * size_of format) bytes.now)) }
+{
+    // The format that this project announces is known before it runs, and its loop is far shorter.
+    if format == Format::rgb888() {
+        unpack_each(Format::rgb888(), bytes, row);
+    } else {
+        unpack_each(format, bytes, row);
+    }
+}
+
+// The same, by one loop for every format.
+#[inline]
+fn unpack_each(format: Format, bytes: &[u8], row: &mut [Colour])
+    requires { length bytes.now ≡ length row.old * size_of format }
+    ensures { (k : ℕ) (d : Colour) → k < length row.new → slice_index_or row.new k d ≡ colour_of format (pixel_number format (drop (k * size_of format) bytes.now)) }
+{
+    let size = format.size();
+    for (k, colour) in row.iter_mut().enumerate() {
+        *colour = format.unpack(format.take(&bytes[k * size..k * size + size]));
+    }
+}

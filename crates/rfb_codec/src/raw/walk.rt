@@ -1,0 +1,123 @@
+//! Pixels row by row, in runs of whole ones and across the slices that they come in.
+
+ghost use Rattle.std.specs.Prelude.{◌≡◌, ℕ, List, ◌+◌, ◌*◌, ◌<◌, ◌≤◌, ◌++◌, length, take, true, min};
+ghost use Rattle.arrayvec.specs.ArrayVec.{array_vec_len};
+ghost use Rattle.rfb_pixel.specs.declared.colour.Colour.{Colour};
+ghost use Rattle.rfb_pixel.specs.Format.{size_of};
+ghost use Rattle.rfb_picture.specs.Grid.{Grid};
+ghost use Rattle.rfb_codec.specs.declared.painter.stage.Stage.TheVariants.{InPixels};
+ghost use Rattle.rfb_codec.specs.inside.Step.{IsPaintable};
+ghost use Rattle.rfb_codec.specs.Stage.{places_before, encoding_at, is_sound};
+ghost use Rattle.rfb_codec.specs.inside.Step.{StandsPixels, GoesOn};
+
+use super::paint::paint_run;
+use crate::painter::gather::{Pending, gather};
+use crate::painter::stage::{Place, Stage, Step};
+use rfb_picture::{Picture, Rect};
+use rfb_pixel::{Colour, Format};
+
+/// Paints pixels of a rectangle from a place on: the whole ones of its row that the bytes begin with,
+/// or the pending one at its last byte. Returns how many bytes it used, and the next place.
+pub fn take_pixels(
+    format: Format,
+    rect: Rect,
+    at: Place,
+    pending: &mut Pending,
+    bytes: &[u8],
+    picture: &mut Picture<Colour>,
+) -> (usize, Place)
+    requires place { IsPaintable picture.old rect }
+    requires column { at.x < rect.w }
+    requires row { at.y < rect.h }
+    requires short { array_vec_len pending.old < size_of format }
+    requires some { 0 < length bytes.now }
+    ensures some { 0 < result.0 }
+    ensures used { result.0 ≤ length bytes.now }
+    ensures column { result.1.x < rect.w }
+    ensures short { array_vec_len pending.new < size_of format }
+    ensures goes_on { (before : Grid Colour) (body : List ℕ) →
+        StandsPixels format rect at pending.old.items picture.old before body →
+        StandsPixels format rect result.1 pending.new.items picture.new before
+        (body ++ take result.0 bytes.now) }
+    ensures width { picture.new.width ≡ picture.old.width }
+    ensures height { picture.new.height ≡ picture.old.height }
+{
+    let size = format.size();
+    if pending.is_empty() && bytes.len() >= size {
+        let run = whole_pixels(rect.w - at.x, size, bytes);
+        let used = usize::from(run) * size;
+        paint_run(format, rect, at, run, &bytes[..used], picture);
+        return (used, place_after(rect.w, at, run));
+    }
+    let used = gather(pending, size, bytes);
+    if pending.len() < size {
+        return (used, at);
+    }
+    paint_run(format, rect, at, 1, pending.as_slice(), picture);
+    pending.clear();
+    (used, place_after(rect.w, at, 1))
+}
+
+/// Takes pixels of Raw, from a place of the rectangle on.
+pub fn take_run(
+    format: Format,
+    rect: Rect,
+    at: Place,
+    pending: &mut Pending,
+    bytes: &[u8],
+    picture: &mut Picture<Colour>,
+) -> Step
+    requires place { IsPaintable picture.old rect }
+    requires column { at.x < rect.w }
+    requires row { at.y < rect.h }
+    requires short { array_vec_len pending.old < size_of format }
+    requires some { 0 < length bytes.now }
+    ensures some { 0 < result.used }
+    ensures used { result.used ≤ length bytes.now }
+    ensures sound { is_sound format rect result.stage (array_vec_len pending.new) ≡ true }
+    ensures same { encoding_at result.stage ≡ encoding_at (InPixels at) }
+    ensures goes_on { GoesOn format rect (InPixels at) pending.old.items picture.old
+        (take result.used bytes.now) result.stage pending.new.items picture.new }
+    ensures width { picture.new.width ≡ picture.old.width }
+    ensures height { picture.new.height ≡ picture.old.height }
+{
+    let (used, at) = take_pixels(format, rect, at, pending, bytes, picture);
+    Step {
+        used,
+        stage: Stage::InPixels { at },
+    }
+}
+
+// How many whole pixels of that size bytes begin with, at most so many.
+fn whole_pixels(most: u16, size: usize, bytes: &[u8]) -> u16
+    requires size { (0 < size) × (size ≤ 4) }
+    requires most { 0 < most }
+    requires one { size ≤ length bytes.now }
+    ensures some { 0 < result }
+    ensures most { result ≤ most }
+    ensures whole { result * size ≤ length bytes.now }
+{
+    if usize::from(most) * size <= bytes.len() {
+        most
+    } else {
+        (bytes.len() / size) as u16
+    }
+}
+
+// The place after so many of a row.
+fn place_after(width: u16, at: Place, count: u16) -> Place
+    requires row { at.x + count ≤ width }
+    requires some { 0 < width }
+    requires last { at.y < 65535 }
+    ensures count { places_before width result ≡ places_before width at + count }
+    ensures column { result.x < width }
+{
+    if at.x + count < width {
+        Place {
+            x: at.x + count,
+            y: at.y,
+        }
+    } else {
+        Place { x: 0, y: at.y + 1 }
+    }
+}
