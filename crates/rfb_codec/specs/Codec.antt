@@ -33,6 +33,7 @@ shortens Rre = true
 shortens Hextile = true
 
 -- bytes that stand for the block are appended, no more than its pixels have in Raw
-abbrev pub Appends : (PixelFormat → Grid ℕ → List ℕ → Type 0) → PixelFormat → Grid ℕ → List ℕ → List ℕ → Type 0
+abbrev pub Appends : (PixelFormat → Grid ℕ → List ℕ → Type 0) → PixelFormat → Grid ℕ → List ℕ →
+    List ℕ → Type 0
 Appends stands f block old new =
     (bytes : List ℕ) × (new ≡ old ++ bytes) × stands f block bytes × (length bytes ≤ raw_of f block)

@@ -25,8 +25,8 @@ effect p (Message message) picture = picture
 effect p (Rectangle head body) picture =
     painted_by p.form head.rect (rect_data p.form p.width p.height head.rect head.encoding body) picture
 
--- what items make of it, one behind another. Where in the stream they stand does not matter, but for
--- the screen's size and the format, which no item changes
+-- what items make of it, one behind another. Where in the stream they stand does not matter, but
+-- for the screen's size and the format, which no item changes
 abbrev pub effects : UpdatePoint → List UpdateItem → Grid Colour → Grid Colour
 effects p [] picture = picture
 effects p (item ∷ items) picture = effects p items (effect p item picture)
@@ -47,14 +47,16 @@ Agrees f picture known =
 -- what is known once a block's pixels were sent for a rectangle: these there, and the old elsewhere
 abbrev pub recorded : Rect → Grid ℕ → Grid (Option ℕ) → Grid (Option ℕ)
 recorded rect block known =
-    changed (λ x y old. if contains rect x y then Some (at_or block (x - rect.x) (y - rect.y) 0) else old) known
+    changed (λ x y old.
+    if contains rect x y then Some (at_or block (x - rect.x) (y - rect.y) 0) else old) known
 
 -- these and no others are known of a record `now`
 abbrev pub IsRecorded : Rect → Grid ℕ → Grid (Option ℕ) → Grid (Option ℕ) → Type 0
 IsRecorded rect block known now =
     (x y : ℕ) → x < now.width → y < now.height →
     at_or now x y None ≡
-    (if contains rect x y then Some (at_or block (x - rect.x) (y - rect.y) 0) else at_or known x y None)
+    (if contains rect x y then Some (at_or block (x - rect.x) (y - rect.y) 0) else
+    at_or known x y None)
 
 -- the same of data: a copy takes along what is known of its source, and that nothing is
 abbrev pub noted : Rect → RectData → Grid (Option ℕ) → Grid (Option ℕ)

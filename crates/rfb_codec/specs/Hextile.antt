@@ -1,5 +1,6 @@
 -- Hextile, RFC 6143 section 7.7.4: a rectangle cut into tiles, each with colours of its own or with
--- those of tiles before it. How colours are carried past raw and coloured tiles is this project's choice.
+-- those of tiles before it. How colours are carried past raw and coloured tiles is this project's
+-- choice.
 use Rattle.std.specs.Prelude.{◌≡◌, ℕ, ◌+◌, ◌-◌, ◌*◌, ◌/◌, ◌%◌, ◌<◌, ◌⊎◌, Bool, true, false, List, [], ◌∷◌, ◌++◌, length, take, slice_index_or, Option, None, min, if◌then◌else◌}
 use Rattle.rfb_pixel.specs.Format.{PixelFormat}
 use Rattle.rfb_picture.specs.declared.rect.Rect.{Rect}
@@ -11,8 +12,8 @@ use Rattle.rfb_codec.specs.declared.fault.PaintFault.TheVariants.{SubrectOutside
 use Rattle.rfb_codec.specs.Pixels.{Shows, drawn}
 use Rattle.rfb_codec.specs.Tile.{Tile, RawTile, PlainTile, ColoredTile, background_of, foreground_of, is_missing, last_of, tile_pixel, FitsTile, SpellsTile, FaultsMask, LeavesTile, tile_behind}
 
--- ---- tiles of a rectangle: 16 by 16, rows of them from the top, each from the left; those at the right
--- and at the lower edge may be smaller
+-- ---- tiles of a rectangle: 16 by 16, rows of them from the top, each from the left; those at the
+-- right and at the lower edge may be smaller
 
 -- how many lie along so many places
 abbrev pub across : ℕ → ℕ
@@ -36,7 +37,12 @@ tile_at width x y = y / 16 * across width + x / 16
 -- the places of the tile with that number, from the rectangle's corner
 abbrev pub tile_part : ℕ → ℕ → ℕ → Rect
 tile_part width height n =
-    record { x = n % across width * 16; y = n / across width * 16; w = tile_width width n; h = tile_height width height n }
+    record {
+      x = n % across width * 16;
+      y = n / across width * 16;
+      w = tile_width width n;
+      h = tile_height width height n;
+    }
 
 -- ---- the data
 
@@ -44,13 +50,15 @@ tile_part width height n =
 abbrev pub SpellsNextTile : PixelFormat → ℕ → ℕ → List Tile → Tile → List ℕ → Type 0
 SpellsNextTile f width height before tile bytes =
     let n = length before in
-    SpellsTile f (tile_width width n) (tile_height width height n) before tile bytes × FitsTile (tile_width width n) (tile_height width height n) tile
+    SpellsTile f (tile_width width n) (tile_height width height n) before tile bytes ×
+    FitsTile (tile_width width n) (tile_height width height n) tile
 
 -- the pixel of a place: that of its tile, which may use colours of the tiles before
 abbrev pub pixel_of_tiles : PixelFormat → ℕ → List Tile → ℕ → ℕ → ℕ
 pixel_of_tiles f width tiles x y =
     let n = tile_at width x y in
-    tile_pixel f (tile_width width n) (take (n + 1) tiles) (slice_index_or tiles n (RawTile [])) (x % 16) (y % 16)
+    tile_pixel f (tile_width width n) (take (n + 1) tiles) (slice_index_or tiles n (RawTile []))
+    (x % 16) (y % 16)
 
 -- the bytes spell a tile for each part of the rectangle, which show the block
 pub record StandsHextile (f : PixelFormat) (block : Grid ℕ) (bytes : List ℕ) : Type 0 where
@@ -62,17 +70,20 @@ pub record StandsHextile (f : PixelFormat) (block : Grid ℕ) (bytes : List ℕ)
 -- the bytes end in this fault of a tile: at its mask, or with a subrectangle that leaves it
 abbrev pub FaultsTile : PixelFormat → ℕ → ℕ → List Tile → PaintFault → List ℕ → Type 0
 FaultsTile f width height before fault bytes =
-    FaultsMask before fault bytes ⊎ ((fault ≡ SubrectOutside) × LeavesTile f width height before bytes)
+    FaultsMask before fault bytes ⊎
+    ((fault ≡ SubrectOutside) × LeavesTile f width height before bytes)
 
 -- the bytes end in a tile's fault, behind good tiles
-pub record FaultsHextile (f : PixelFormat) (width height : ℕ) (fault : PaintFault) (bytes : List ℕ) : Type 0 where
+pub record FaultsHextile (f : PixelFormat) (width height : ℕ) (fault : PaintFault) (bytes : List ℕ)
+    : Type 0 where
   pub tiles : List Tile
   pub front : List ℕ
   pub back : List ℕ
   pub whole : bytes ≡ front ++ back
   pub fewer : length tiles < tile_count width height
   pub spelled : ListedAfter (SpellsNextTile f width height) [] tiles front
-  pub bad : FaultsTile f (tile_width width (length tiles)) (tile_height width height (length tiles)) tiles fault back
+  pub bad : FaultsTile f (tile_width width (length tiles))
+      (tile_height width height (length tiles)) tiles fault back
 
 -- ---- this project's rule for senders
 
@@ -80,7 +91,8 @@ pub record FaultsHextile (f : PixelFormat) (width height : ℕ) (fault : PaintFa
 abbrev pub behind_last : (Tile → Option ℕ) → List Tile → List Tile
 behind_last colour [] = []
 behind_last colour (t ∷ tiles) =
-    if is_missing (last_of colour tiles) then (if is_missing (colour t) then t ∷ tiles else tiles) else behind_last colour tiles
+    if is_missing (last_of colour tiles) then (if is_missing (colour t) then t ∷ tiles else
+    tiles) else behind_last colour tiles
 
 abbrev pub is_raw_tile : Tile → Bool
 is_raw_tile (RawTile pixels) = true
@@ -104,11 +116,13 @@ abbrev pub NoneIs : (Tile → Bool) → List Tile → Type 0
 NoneIs test [] = Unit {0}
 NoneIs test (t ∷ tiles) = (test t ≡ false) × NoneIs test tiles
 
--- a tile behind others: where it is not raw and names no background, no raw one stands behind the tile
--- that specified it; where it uses a foreground and names none, no raw or coloured one does
+-- a tile behind others: where it is not raw and names no background, no raw one stands behind the
+-- tile that specified it; where it uses a foreground and names none, no raw or coloured one does
 pub record KeepsRule (before : List Tile) (t : Tile) : Type 0 where
-  pub background : is_raw_tile t ≡ false → background_of t ≡ None → NoneIs is_raw_tile (behind_last background_of before)
-  pub foreground : uses_foreground t ≡ true → foreground_of t ≡ None → NoneIs is_raw_or_colored (behind_last foreground_of before)
+  pub background : is_raw_tile t ≡ false → background_of t ≡ None →
+      NoneIs is_raw_tile (behind_last background_of before)
+  pub foreground : uses_foreground t ≡ true → foreground_of t ≡ None →
+      NoneIs is_raw_or_colored (behind_last foreground_of before)
 
 -- each of the tiles keeps the rule behind those before it
 abbrev pub CarriesColours : List Tile → List Tile → Type 0
@@ -124,9 +138,13 @@ StandsByRule f block bytes = (s : StandsHextile f block bytes) × CarriesColours
 -- the reading of Hextile data
 unfoldable pub hextile : PixelFormat → ℕ → ℕ → Reading (Grid ℕ) PaintFault
 hextile f width height =
-    and_then (each (tile_count width height) (λ before. tile_behind f (tile_width width (length before)) (tile_height width height (length before)) before) [])
+    and_then (each (tile_count width height)
+    (λ before. tile_behind f (tile_width width (length before))
+    (tile_height width height (length before)) before) [])
     (λ tiles. done (drawn width height (pixel_of_tiles f width tiles)))
 
 -- a tile behind those before it in a rectangle of that size
 abbrev pub next_tile : PixelFormat → ℕ → ℕ → List Tile → Reading Tile PaintFault
-next_tile f width height before = tile_behind f (tile_width width (length before)) (tile_height width height (length before)) before
+next_tile f width height before =
+    tile_behind f (tile_width width (length before))
+    (tile_height width height (length before)) before

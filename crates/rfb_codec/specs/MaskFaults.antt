@@ -59,6 +59,7 @@ pub record LacksForeground (before : List Tile) (mask : ℕ) : Type 0 where
 abbrev pub IsMaskFault : List Tile → ℕ → PaintFault → Type 0
 IsMaskFault before mask NoBackground = LacksBackground before mask
 IsMaskFault before mask BothColourBits = HasBothColours mask × (LacksBackground before mask → ⊥)
-IsMaskFault before mask NoForeground = LacksForeground before mask × (LacksBackground before mask → ⊥)
+IsMaskFault before mask NoForeground =
+    LacksForeground before mask × (LacksBackground before mask → ⊥)
 IsMaskFault before mask SubrectOutside = ⊥
 IsMaskFault before mask SourceOutside = ⊥

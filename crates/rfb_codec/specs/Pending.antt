@@ -1,7 +1,7 @@
--- Pending bytes of all that a server sends: those of an item under way that stand behind its last whole
--- piece. Of a rectangle's data, RFC 6143 section 7.7, a piece is a pixel of Raw; the source of CopyRect;
--- of RRE the count with the background, and a subrectangle; of Hextile a pixel of a raw tile, and
--- any other tile with its mask.
+-- Pending bytes of all that a server sends: those of an item under way that stand behind its last
+-- whole piece. Of a rectangle's data, RFC 6143 section 7.7, a piece is a pixel of Raw; the source
+-- of CopyRect; of RRE the count with the background, and a subrectangle; of Hextile a pixel of a
+-- raw tile, and any other tile with its mask.
 use Rattle.std.specs.Prelude.{ℕ, zero, suc, ◌+◌, List, [], ◌∷◌, ◌++◌, length, take, if◌then◌else◌}
 use Rattle.rfb_pixel.specs.Format.{PixelFormat, size_of}
 use Rattle.rfb_picture.specs.declared.rect.Rect.{Rect}
@@ -20,11 +20,12 @@ use Rattle.rfb_codec.specs.UpdateStream.{UpdatePoint}
 
 -- ---- Hextile
 
--- of a tile under way: its pixel under way where it is raw, whose mask is no longer needed; else all
--- its bytes with the mask
+-- of a tile under way: its pixel under way where it is raw, whose mask is no longer needed; else
+-- all its bytes with the mask
 abbrev pub tile_pending : PixelFormat → List ℕ → ℕ
 tile_pending f [] = 0
-tile_pending f (mask ∷ rest) = if is_raw mask then in_pieces (size_of f) rest else length (mask ∷ rest)
+tile_pending f (mask ∷ rest) =
+    if is_raw mask then in_pieces (size_of f) rest else length (mask ∷ rest)
 
 -- how many are pending behind what was read of tiles: nothing of whole ones, and nothing of a fault
 abbrev pub behind_tile : ℕ → (Tile → List ℕ → ℕ) → Next Tile PaintFault → ℕ
@@ -47,7 +48,8 @@ unfoldable pub data_pending : PixelFormat → Rect → Encoding → List ℕ →
 data_pending f rect Raw bytes = in_pieces (size_of f) bytes
 data_pending f rect CopyRect bytes = behind_piece 4 (λ rest. 0) bytes
 data_pending f rect Rre bytes = behind_pieces (4 + size_of f) (size_of f + 8) bytes
-data_pending f rect Hextile bytes = tiles_pending f rect.w rect.h (tile_count rect.w rect.h) [] bytes
+data_pending f rect Hextile bytes =
+    tiles_pending f rect.w rect.h (tile_count rect.w rect.h) [] bytes
 
 -- how many of these bytes are pending behind a head
 abbrev pub pending_behind : PixelFormat → RectHead → List ℕ → ℕ
@@ -58,7 +60,8 @@ pending_behind f head bytes = data_pending f head.rect head.encoding bytes
 -- how many are pending where so many rectangles are left: of a message, or of a rectangle
 abbrev pub next_pending : PixelFormat → ℕ → List ℕ → ℕ
 next_pending f zero bytes = server_pending bytes
-next_pending f (suc left) bytes = rect_pending (pending_behind f (rect_head_of (take 12 bytes))) bytes
+next_pending f (suc left) bytes =
+    rect_pending (pending_behind f (rect_head_of (take 12 bytes))) bytes
 
 -- how many bytes of an item under way are pending at a point of the stream
 unfoldable pub update_pending : UpdatePoint → List ℕ → ℕ

@@ -22,4 +22,5 @@ pub record StandsRaw (f : PixelFormat) (block : Grid ℕ) (bytes : List ℕ) : T
 
 -- the reading of Raw data
 unfoldable pub raw : PixelFormat → ℕ → ℕ → Reading (Grid ℕ) PaintFault
-raw f width height = valued (raw_length f width height) (λ bytes. drawn width height (raw_pixel f width bytes))
+raw f width height =
+    valued (raw_length f width height) (λ bytes. drawn width height (raw_pixel f width bytes))

@@ -18,7 +18,8 @@ use Rattle.rfb_codec.specs.Pixels.{Shows, drawn}
 -- the pixel of a place: that of the last subrectangle that holds it, else the background
 abbrev pub pixel_at : ℕ → List Subrect → ℕ → ℕ → ℕ
 pixel_at background [] x y = background
-pixel_at background (s ∷ subs) x y = pixel_at (if contains s.rect x y then s.pixel else background) subs x y
+pixel_at background (s ∷ subs) x y =
+    pixel_at (if contains s.rect x y then s.pixel else background) subs x y
 
 -- ---- the data
 
@@ -69,15 +70,19 @@ pub record LeavesAtEnd (f : PixelFormat) (width height : ℕ) (bytes : List ℕ)
 
 -- the subrectangle that bytes begin with
 abbrev pub subrect_of : PixelFormat → List ℕ → Subrect
-subrect_of f bytes = record { pixel = pixel_number f bytes; rect = rect_of (drop (size_of f) bytes) }
+subrect_of f bytes =
+    record { pixel = pixel_number f bytes; rect = rect_of (drop (size_of f) bytes) }
 
 -- the fault of a subrectangle, if it has one
 abbrev pub subrect_fault : ℕ → ℕ → Subrect → Option PaintFault
-subrect_fault width height s = if is_on_screen width height s.rect then None else Some SubrectOutside
+subrect_fault width height s =
+    if is_on_screen width height s.rect then None else Some SubrectOutside
 
 -- a subrectangle, judged at its last byte
 abbrev pub subrect : PixelFormat → ℕ → ℕ → Reading Subrect PaintFault
-subrect f width height = checked (size_of f + 8) (λ bytes. subrect_fault width height (subrect_of f bytes)) (subrect_of f)
+subrect f width height =
+    checked (size_of f + 8) (λ bytes. subrect_fault width height (subrect_of f bytes))
+    (subrect_of f)
 
 -- how many subrectangles follow, and the background
 pub record RreHead : Type 0 where
@@ -92,4 +97,5 @@ rre_head_of f bytes = record { count = u32_at 0 bytes; background = pixel_number
 unfoldable pub rre : PixelFormat → ℕ → ℕ → Reading (Grid ℕ) PaintFault
 rre f width height =
     and_then (valued (4 + size_of f) (rre_head_of f))
-    (λ head. and_then (many head.count (subrect f width height)) (λ subs. done (drawn width height (pixel_at head.background subs))))
+    (λ head. and_then (many head.count (subrect f width height))
+    (λ subs. done (drawn width height (pixel_at head.background subs))))

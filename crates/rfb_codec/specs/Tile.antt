@@ -1,5 +1,6 @@
--- A tile of Hextile, RFC 6143 section 7.7.4: its mask, what stands behind it, and the faults of both.
--- Colours that are carried from tile to tile past a raw or a coloured one are this project's choice.
+-- A tile of Hextile, RFC 6143 section 7.7.4: its mask, what stands behind it, and the faults of
+-- both. Colours that are carried from tile to tile past a raw or a coloured one are this project's
+-- choice.
 use Rattle.std.specs.Prelude.{◌≡◌, ℕ, ◌+◌, ◌-◌, ◌*◌, ◌/◌, ◌%◌, ◌≤◌, ◌<◌, ◌==◌, ◌&&◌, not, Bool, true, false, List, [], ◌∷◌, ◌++◌, length, drop, map, Option, Some, None, bit_and, if◌then◌else◌}
 use Rattle.rfb_pixel.specs.Format.{PixelFormat, size_of, pixel_number}
 use Rattle.rfb_picture.specs.declared.rect.Rect.{Rect}
@@ -72,13 +73,15 @@ colour_or_zero (Some colour) = colour
 abbrev pub in_pixel : ℕ → Rect → Subrect
 in_pixel pixel place = record { pixel = pixel; rect = place }
 
--- the pixel at place (x, y) of a tile so wide, where the list has the tiles up to it and with it: as
--- in Raw; or as in RRE, with the last background and foreground specified
+-- the pixel at place (x, y) of a tile so wide, where the list has the tiles up to it and with it:
+-- as in Raw; or as in RRE, with the last background and foreground specified
 abbrev pub tile_pixel : PixelFormat → ℕ → List Tile → Tile → ℕ → ℕ → ℕ
 tile_pixel f width upto (RawTile pixels) x y = raw_pixel f width pixels x y
 tile_pixel f width upto (PlainTile background foreground places) x y =
-    pixel_at (colour_or_zero (last_of background_of upto)) (map (in_pixel (colour_or_zero (last_of foreground_of upto))) places) x y
-tile_pixel f width upto (ColoredTile background subs) x y = pixel_at (colour_or_zero (last_of background_of upto)) subs x y
+    pixel_at (colour_or_zero (last_of background_of upto))
+    (map (in_pixel (colour_or_zero (last_of foreground_of upto))) places) x y
+tile_pixel f width upto (ColoredTile background subs) x y =
+    pixel_at (colour_or_zero (last_of background_of upto)) subs x y
 
 -- ---- what is judged
 
@@ -87,18 +90,24 @@ is_missing None = true
 is_missing (Some colour) = false
 
 -- the fault of a mask behind these tiles, if it has one: no background to draw over; both bits that
--- say where the subrectangles' pixels are; no foreground for subrectangles that have none of their own
+-- say where the subrectangles' pixels are; no foreground for subrectangles that have none of their
+-- own
 abbrev pub mask_fault : List Tile → ℕ → Option PaintFault
 mask_fault before mask =
     if is_raw mask then None else
-    if not (background_specified mask) && is_missing (last_of background_of before) then Some NoBackground else
+    if not (background_specified mask) &&
+    is_missing (last_of background_of before) then Some NoBackground else
     if foreground_specified mask && subrects_colored mask then Some BothColourBits else
-    if any_subrects mask && (not (foreground_specified mask) && (not (subrects_colored mask) && is_missing (last_of foreground_of before))) then Some NoForeground else None
+    if any_subrects mask &&
+    (not (foreground_specified mask) &&
+    (not (subrects_colored mask) && is_missing (last_of foreground_of before))) then
+    Some NoForeground else None
 
 -- the places lie in the tile, which has that width and height
 abbrev pub AreInside : ℕ → ℕ → List Rect → Type 0
 AreInside width height [] = Unit {0}
-AreInside width height (place ∷ places) = IsOnScreen width height place × AreInside width height places
+AreInside width height (place ∷ places) =
+    IsOnScreen width height place × AreInside width height places
 
 abbrev pub rect_in : Subrect → Rect
 rect_in s = s.rect
@@ -151,8 +160,10 @@ module _ {A : Type 0} where
   CountedIf false R items bytes = (items ≡ []) × (bytes ≡ [])
   CountedIf true R items bytes = Counted R items bytes
 
--- behind a mask without SubrectsColored: the background and the foreground where specified, and places
-pub record SpellsPlain (f : PixelFormat) (mask : ℕ) (background foreground : Option ℕ) (places : List Rect) (bytes : List ℕ) : Type 0 where
+-- behind a mask without SubrectsColored: the background and the foreground where specified, and
+-- places
+pub record SpellsPlain (f : PixelFormat) (mask : ℕ) (background foreground : Option ℕ)
+    (places : List Rect) (bytes : List ℕ) : Type 0 where
   pub first : List ℕ
   pub second : List ℕ
   pub third : List ℕ
@@ -162,7 +173,8 @@ pub record SpellsPlain (f : PixelFormat) (mask : ℕ) (background foreground : O
   pub places_are : CountedIf (any_subrects mask) SpellsPlace places third
 
 -- behind one with it: the background where specified, and subrectangles with their pixels
-pub record SpellsColoredTile (f : PixelFormat) (mask : ℕ) (background : Option ℕ) (subs : List Subrect) (bytes : List ℕ) : Type 0 where
+pub record SpellsColoredTile (f : PixelFormat) (mask : ℕ) (background : Option ℕ)
+    (subs : List Subrect) (bytes : List ℕ) : Type 0 where
   pub first : List ℕ
   pub second : List ℕ
   pub whole : bytes ≡ first ++ second
@@ -171,12 +183,18 @@ pub record SpellsColoredTile (f : PixelFormat) (mask : ℕ) (background : Option
 
 -- the bytes behind the mask of a tile of that size
 abbrev pub SpellsBehind : PixelFormat → ℕ → ℕ → ℕ → Tile → List ℕ → Type 0
-SpellsBehind f width height mask (RawTile pixels) bytes = (is_raw mask ≡ true) × (bytes ≡ pixels) × (length bytes ≡ raw_length f width height)
-SpellsBehind f width height mask (PlainTile background foreground places) bytes = (is_raw mask ≡ false) × (subrects_colored mask ≡ false) × SpellsPlain f mask background foreground places bytes
-SpellsBehind f width height mask (ColoredTile background subs) bytes = (is_raw mask ≡ false) × (subrects_colored mask ≡ true) × SpellsColoredTile f mask background subs bytes
+SpellsBehind f width height mask (RawTile pixels) bytes =
+    (is_raw mask ≡ true) × (bytes ≡ pixels) × (length bytes ≡ raw_length f width height)
+SpellsBehind f width height mask (PlainTile background foreground places) bytes =
+    (is_raw mask ≡ false) × (subrects_colored mask ≡ false) ×
+    SpellsPlain f mask background foreground places bytes
+SpellsBehind f width height mask (ColoredTile background subs) bytes =
+    (is_raw mask ≡ false) × (subrects_colored mask ≡ true) ×
+    SpellsColoredTile f mask background subs bytes
 
 -- a tile of that size behind others: its mask, which is good there, and what follows it
-pub record SpellsTile (f : PixelFormat) (width height : ℕ) (before : List Tile) (tile : Tile) (bytes : List ℕ) : Type 0 where
+pub record SpellsTile (f : PixelFormat) (width height : ℕ) (before : List Tile) (tile : Tile)
+    (bytes : List ℕ) : Type 0 where
   pub head : List ℕ
   pub rest : List ℕ
   pub whole : bytes ≡ head ++ rest
@@ -189,7 +207,8 @@ pub record FaultsMask (before : List Tile) (fault : PaintFault) (bytes : List �
   pub one : length bytes ≡ 1
   pub bad : mask_fault before (u8_at 0 bytes) ≡ Some fault
 
-pub record LeavesTile (f : PixelFormat) (width height : ℕ) (before : List Tile) (bytes : List ℕ) : Type 0 where
+pub record LeavesTile (f : PixelFormat) (width height : ℕ) (before : List Tile) (bytes : List ℕ)
+    : Type 0 where
   pub tile : Tile
   pub spelled : SpellsTile f width height before tile bytes
   pub leaves : FitsTile width height tile → ⊥
@@ -202,11 +221,18 @@ tile_colour f = valued (size_of f) (pixel_number f)
 
 -- the place that two bytes are
 abbrev pub place_of : List ℕ → Rect
-place_of bytes = record { x = u8_at 0 bytes / 16; y = u8_at 0 bytes % 16; w = u8_at 1 bytes / 16 + 1; h = u8_at 1 bytes % 16 + 1 }
+place_of bytes =
+    record {
+      x = u8_at 0 bytes / 16;
+      y = u8_at 0 bytes % 16;
+      w = u8_at 1 bytes / 16 + 1;
+      h = u8_at 1 bytes % 16 + 1;
+    }
 
 -- the subrectangle that a pixel and two bytes are
 abbrev pub colored_of : PixelFormat → List ℕ → Subrect
-colored_of f bytes = record { pixel = pixel_number f bytes; rect = place_of (drop (size_of f) bytes) }
+colored_of f bytes =
+    record { pixel = pixel_number f bytes; rect = place_of (drop (size_of f) bytes) }
 
 -- so many parts behind a byte that counts them, or none
 abbrev pub counted : {A : Type 0} → Bool → Reading A PaintFault → Reading (List A) PaintFault
@@ -215,14 +241,17 @@ counted true p = and_then (valued 1 (u8_at 0)) (λ count. many count p)
 
 -- what follows the mask
 abbrev pub behind_mask : PixelFormat → ℕ → ℕ → ℕ → Bool → Bool → Reading Tile PaintFault
-behind_mask f width height mask true colored = and_then (piece (raw_length f width height)) (λ pixels. done (RawTile pixels))
+behind_mask f width height mask true colored =
+    and_then (piece (raw_length f width height)) (λ pixels. done (RawTile pixels))
 behind_mask f width height mask false false =
     and_then (optional (background_specified mask) (tile_colour f))
     (λ background. and_then (optional (foreground_specified mask) (tile_colour f))
-    (λ foreground. and_then (counted (any_subrects mask) (valued 2 place_of)) (λ places. done (PlainTile background foreground places))))
+    (λ foreground. and_then (counted (any_subrects mask) (valued 2 place_of))
+    (λ places. done (PlainTile background foreground places))))
 behind_mask f width height mask false true =
     and_then (optional (background_specified mask) (tile_colour f))
-    (λ background. and_then (counted (any_subrects mask) (valued (size_of f + 2) (colored_of f))) (λ subs. done (ColoredTile background subs)))
+    (λ background. and_then (counted (any_subrects mask) (valued (size_of f + 2) (colored_of f)))
+    (λ subs. done (ColoredTile background subs)))
 
 -- a tile as its bytes spell it
 abbrev pub tile_layout : PixelFormat → ℕ → ℕ → List Tile → Reading Tile PaintFault
@@ -233,12 +262,16 @@ tile_layout f width height before =
 -- all places lie in the tile
 abbrev pub are_inside : ℕ → ℕ → List Rect → Bool
 are_inside width height [] = true
-are_inside width height (place ∷ places) = is_on_screen width height place && are_inside width height places
+are_inside width height (place ∷ places) =
+    is_on_screen width height place && are_inside width height places
 
 -- the fault of a whole tile, if it has one
 abbrev pub tile_fault : ℕ → ℕ → Tile → Option PaintFault
-tile_fault width height tile = if are_inside width height (places_of tile) then None else Some SubrectOutside
+tile_fault width height tile =
+    if are_inside width height (places_of tile) then None else Some SubrectOutside
 
 -- a tile, whose subrectangles are judged at its last byte
 abbrev pub tile_behind : PixelFormat → ℕ → ℕ → List Tile → Reading Tile PaintFault
-tile_behind f width height before = and_then (tile_layout f width height before) (λ tile. judged (tile_fault width height tile) tile)
+tile_behind f width height before =
+    and_then (tile_layout f width height before)
+    (λ tile. judged (tile_fault width height tile) tile)

@@ -1,5 +1,5 @@
--- All that a server sends behind the handshake, RFC 6143 section 7.6: messages, and behind the head of
--- an update its rectangles with their data.
+-- All that a server sends behind the handshake, RFC 6143 section 7.6: messages, and behind the head
+-- of an update its rectangles with their data.
 use Rattle.std.specs.Prelude.{◌≡◌, ℕ, zero, suc, ◌+◌, ◌-◌, List, ◌++◌, length}
 use Rattle.rfb_pixel.specs.Format.{PixelFormat}
 use Rattle.rfb_wire.specs.declared.rect_head.RectHead.{RectHead}
@@ -13,8 +13,8 @@ use Rattle.rfb_wire.specs.ServerMessage.{ServerMessage, FramebufferUpdate, SetCo
 use Rattle.rfb_codec.specs.declared.fault.PaintFault.{PaintFault}
 use Rattle.rfb_codec.specs.RectData.{RectData, SpellsData, FaultsData, rect_data}
 
--- a point of the stream: the screen's size, the format in force, and how many rectangles are left of
--- the update that it stands in
+-- a point of the stream: the screen's size, the format in force, and how many rectangles are left
+-- of the update that it stands in
 pub record UpdatePoint : Type 0 where
   pub width : ℕ
   pub height : ℕ
@@ -36,7 +36,8 @@ pub data UpdateFault : Type 0 where
 
 -- the data stand for something under this head
 abbrev pub IsBody : UpdatePoint → RectHead → List ℕ → Type 0
-IsBody p head body = (contents : RectData) × SpellsData p.form p.width p.height head.rect head.encoding contents body
+IsBody p head body =
+    (contents : RectData) × SpellsData p.form p.width p.height head.rect head.encoding contents body
 
 -- the bytes are a rectangle on the screen: its head, and its data
 pub record SpellsRectangle (p : UpdatePoint) (head : RectHead) (body bytes : List ℕ) : Type 0 where
@@ -56,7 +57,8 @@ pub record FaultsInData (p : UpdatePoint) (fault : PaintFault) (bytes : List ℕ
   pub on_screen : IsOnScreen p.width p.height head.rect
   pub back_is : FaultsData p.form p.width p.height head.rect head.encoding fault back
 
--- the bytes are this item where so many rectangles are left: inside an update rectangles alone stand
+-- the bytes are this item where so many rectangles are left: inside an update rectangles alone
+-- stand
 abbrev pub SpellsNext : UpdatePoint → ℕ → UpdateItem → List ℕ → Type 0
 SpellsNext p zero (Message message) bytes = SpellsServerMessage message bytes
 SpellsNext p zero (Rectangle head body) bytes = ⊥
@@ -69,7 +71,8 @@ FaultsNext p zero (InMessage fault) bytes = FaultsServerMessage fault bytes
 FaultsNext p zero (InHead fault) bytes = ⊥
 FaultsNext p zero (InData fault) bytes = ⊥
 FaultsNext p (suc left) (InMessage fault) bytes = ⊥
-FaultsNext p (suc left) (InHead fault) bytes = (length bytes ≡ 12) × IsRectFault p.width p.height fault bytes
+FaultsNext p (suc left) (InHead fault) bytes =
+    (length bytes ≡ 12) × IsRectFault p.width p.height fault bytes
 FaultsNext p (suc left) (InData fault) bytes = FaultsInData p fault bytes
 
 -- what bytes say at a point
@@ -82,7 +85,8 @@ update_says p = record { item = SpellsNext p p.left; fault = FaultsNext p p.left
 abbrev pub rectangle : UpdatePoint → Reading UpdateItem UpdateFault
 rectangle p =
     and_then (renamed (λ head. head) (λ fault. InHead fault) (rect_head p.width p.height))
-    (λ head. renamed (λ body. Rectangle head body) (λ fault. InData fault) (kept (rect_data p.form p.width p.height head.rect head.encoding)))
+    (λ head. renamed (λ body. Rectangle head body) (λ fault. InData fault)
+    (kept (rect_data p.form p.width p.height head.rect head.encoding)))
 
 -- what stands next where so many rectangles are left
 abbrev pub next_item : UpdatePoint → ℕ → Reading UpdateItem UpdateFault

@@ -20,10 +20,12 @@ item_of sent = Rectangle sent.head sent.body
 
 -- the bytes are these rectangles one behind another, all on the screen and with data of their heads
 abbrev pub SpellsRectangles : UpdatePoint → List SentRect → List ℕ → Type 0
-SpellsRectangles p sent bytes = Listed (λ (s : SentRect). SpellsRectangle p s.head s.body) sent bytes
+SpellsRectangles p sent bytes =
+    Listed (λ (s : SentRect). SpellsRectangle p s.head s.body) sent bytes
 
 -- the bytes are an update with these rectangles
-pub record SpellsWholeUpdate (p : UpdatePoint) (sent : List SentRect) (bytes : List ℕ) : Type 0 where
+pub record SpellsWholeUpdate (p : UpdatePoint) (sent : List SentRect) (bytes : List ℕ)
+    : Type 0 where
   pub head : List ℕ
   pub list : List ℕ
   pub whole : bytes ≡ head ++ list

@@ -2,9 +2,12 @@
 
 ghost use Rattle.std.specs.Prelude.{◌≡◌, ◌+◌, ◌≤◌, ◌++◌, length, vec_len};
 ghost use Rattle.std.specs.Vec.{vec_capacity};
+ghost use Rattle.arrayvec.specs.ArrayVec.{array_vec_len};
 
-/// Appends bytes for which there is room, so the vector keeps its memory. Each is a push into that room,
-/// since of a whole slice std says only that the room does not become less.
+use arrayvec::ArrayVec;
+
+/// Appends bytes for which there is room, so the vector keeps its memory. Each is a push into that
+/// room, since of a whole slice std says only that the room does not become less.
 pub fn append_within(out: &mut Vec<u8>, bytes: &[u8])
     requires { vec_len out.old + length bytes.now ≤ vec_capacity out.old }
     ensures items { out.new.items ≡ out.old.items ++ bytes.now }
@@ -13,5 +16,17 @@ pub fn append_within(out: &mut Vec<u8>, bytes: &[u8])
 {
     for byte in bytes {
         out.push_reserved(*byte);
+    }
+}
+
+/// The same to a list of fixed room.
+pub fn extend_within<T: Copy, const ROOM: usize>(list: &mut ArrayVec<T, ROOM>, items: &[T])
+    requires { array_vec_len list.old + length items.now ≤ ROOM }
+    ensures items { list.new.items ≡ list.old.items ++ items.now }
+    ensures len { array_vec_len list.new ≡ array_vec_len list.old + length items.now }
+{
+    match list.try_extend_from_slice(items) {
+        Ok(()) => {}
+        Err(_) => unreachable!(),
     }
 }

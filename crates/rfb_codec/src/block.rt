@@ -22,7 +22,7 @@ pub const PLACES: usize = SIDE * SIDE;
 /// 1 to 64 columns and 1 to 64 rows of pixel values of one format, row by row from the top. It owns
 /// them, and has exactly one for each place. A caller keeps one and packs rectangle after rectangle
 /// into it: only what a rectangle needs is written.
-#[derive(Drop)]
+#[derive(Debug, Drop)]
 pub struct Block {
     width: u16,
     height: u16,
@@ -45,8 +45,8 @@ impl Model for Block {
 impl Block {
     ghost use Rattle.rfb_picture.specs.Grid.{grid, IsGrid, at_or, row_of};
 
-    /// The block of `width` columns and `height` rows that has these pixels, row by row from the top,
-    /// each row from the left.
+    /// The block of `width` columns and `height` rows that has these pixels, row by row from the
+    /// top, each row from the left.
     pub fn new(width: u16, height: u16, pixels: ArrayVec<u32, PLACES>) -> Block
         requires columns { (1 ≤ width) × (width ≤ SIDE) }
         requires rows { (1 ≤ height) × (height ≤ SIDE) }
@@ -71,9 +71,9 @@ impl Block {
         Block::new(1, 1, pixels)
     }
 
-    /// Becomes the block of a rectangle of a picture, in the format: as many columns and rows, and at
-    /// each place the pixel of the colour there. What it had before is gone; the picture stays the
-    /// caller's.
+    /// Becomes the block of a rectangle of a picture, in the format: as many columns and rows, and
+    /// at each place the pixel of the colour there. What it had before is gone; the picture stays
+    /// the caller's.
     pub fn pack(&mut self, format: &Format, picture: &Picture<Colour>, rect: Rect)
         requires held { Holds picture.now rect }
         requires columns { (1 ≤ rect.w) × (rect.w ≤ SIDE) }
@@ -145,7 +145,8 @@ fn pack_rows(pixels: &mut [u32; PLACES], format: &Format, picture: &Picture<Colo
     requires held { Holds picture.now rect }
     requires columns { rect.w ≤ SIDE }
     requires rows { rect.h ≤ SIDE }
-    ensures packed { PacksRows format.now picture.now rect rect.h (take (rect.h * rect.w) pixels.new) }
+    ensures packed { PacksRows format.now picture.now rect rect.h
+        (take (rect.h * rect.w) pixels.new) }
     ensures fits { ArePixels format.now (take (rect.h * rect.w) pixels.new) }
 {
     // It tells that the rectangle's lower edge fits 16 bits.

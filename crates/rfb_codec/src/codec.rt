@@ -32,8 +32,8 @@ pub trait Codec {
     /// have by themselves (Raw), and answers true. False is for a block that the encoding gives up,
     /// as one whose data would not be shorter than Raw; then `out` has what it had.
     ///
-    /// The caller owns all three. It has made the room that Raw would need, so no memory is taken and the
-    /// capacity stays, and no pixel has more bits than the format gives it.
+    /// The caller owns all three. It has made the room that Raw would need, so no memory is taken
+    /// and the capacity stays, and no pixel has more bits than the format gives it.
     fn encode(block: &Block, format: &Format, out: &mut Vec<u8>) -> bool
         requires pixels { HasPixels format.now block.now }
         requires room { vec_len out.old + raw_of format.now block.now ≤ vec_capacity out.old }

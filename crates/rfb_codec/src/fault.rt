@@ -11,8 +11,8 @@ pub enum PaintFault {
     /// A tile of Hextile is drawn over a background, and none was specified in its rectangle.
     #[error("11 NoBackground")]
     NoBackground,
-    /// Subrectangles without pixels of their own stand in a tile, and no foreground was specified in
-    /// its rectangle.
+    /// Subrectangles without pixels of their own stand in a tile, and no foreground was specified
+    /// in its rectangle.
     #[error("12 NoForeground")]
     NoForeground,
     /// A tile has a foreground and subrectangles with pixels of their own.

@@ -1,4 +1,5 @@
-//! Laws of what rectangles' data stand for and of the stream that they come in, with nothing to run.
+//! Laws of what rectangles' data stand for and of the stream that they come in, with nothing to
+//! run.
 
 ghost use Rattle.std.specs.Prelude.{ℕ, List, [], ◌∷◌, ◌≡◌, ◌++◌, if◌then◌else◌};
 ghost use Rattle.rfb_pixel.specs.Format.{PixelFormat};
@@ -21,22 +22,28 @@ pub mod updates;
 /// Reading the data of a rectangle gives exactly what the bytes say under its head and exactly the
 /// faults that they end in, whatever follows; so no data go on as others, and bytes say one thing.
 pub fn data_are_spelled()
-    ensures reads { (f : PixelFormat) (width height : ℕ) (rect : Rect) (encoding : Encoding) → Reads (rect_data f width height rect encoding) (data_says f width height rect encoding) }
-    ensures apart { (f : PixelFormat) (width height : ℕ) (rect : Rect) (encoding : Encoding) (contents other : RectData) (front rest : List ℕ) →
-        SpellsData f width height rect encoding contents front → SpellsData f width height rect encoding other (front ++ rest) → (contents ≡ other) × (rest ≡ []) }
+    ensures reads { (f : PixelFormat) (width height : ℕ) (rect : Rect) (encoding : Encoding) →
+        Reads (rect_data f width height rect encoding)
+        (data_says f width height rect encoding) }
+    ensures apart { (f : PixelFormat) (width height : ℕ) (rect : Rect) (encoding : Encoding)
+        (contents other : RectData) (front rest : List ℕ) →
+        SpellsData f width height rect encoding contents front →
+        SpellsData f width height rect encoding other (front ++ rest) →
+        (contents ≡ other) × (rest ≡ []) }
 {}
 
-/// Reading all that a server sends behind the handshake gives exactly the messages and the rectangles
-/// that its bytes spell, and exactly the faults that they end in, whatever follows.
+/// Reading all that a server sends behind the handshake gives exactly the messages and the
+/// rectangles that its bytes spell, and exactly the faults that they end in, whatever follows.
 pub fn updates_are_spelled()
     ensures stream { IsSpelled update_stream update_says }
     ensures laws { IsGrammar update_stream }
 {}
 
-/// Of the subrectangles that hold a place the last one's pixel is shown, and the background where none
-/// holds it.
+/// Of the subrectangles that hold a place the last one's pixel is shown, and the background where
+/// none holds it.
 pub fn the_last_subrectangle_wins()
     ensures none { (background x y : ℕ) → pixel_at background [] x y ≡ background }
     ensures last { (background : ℕ) (subs : List Subrect) (s : Subrect) (x y : ℕ) →
-        pixel_at background (subs ++ s ∷ []) x y ≡ (if contains s.rect x y then s.pixel else pixel_at background subs x y) }
+        pixel_at background (subs ++ s ∷ []) x y ≡
+        (if contains s.rect x y then s.pixel else pixel_at background subs x y) }
 {}

@@ -1,5 +1,5 @@
-//! The data of a rectangle, RFC 6143 section 7.7: what its bytes stand for, encoders that append them
-//! and a decoder that paints them.
+//! The data of a rectangle, RFC 6143 section 7.7: what its bytes stand for, encoders that append
+//! them and a decoder that paints them.
 #![tactic(auto)]
 
 mod append;

@@ -10,7 +10,8 @@ use Rattle.rfb_codec.specs.inside.Colours.{places_of}
 pub record IsBackground (pixels : List ℕ) (pixel : ℕ) : Type 0 where
   pub there : IsPixelOf pixels pixel
   pub most : (other : ℕ) → IsPixelOf pixels other → places_of other pixels ≤ places_of pixel pixels
-  pub least : (other : ℕ) → IsPixelOf pixels other → places_of other pixels ≡ places_of pixel pixels → pixel ≤ other
+  pub least : (other : ℕ) → IsPixelOf pixels other →
+      places_of other pixels ≡ places_of pixel pixels → pixel ≤ other
 
 -- no two of them are the same
 abbrev pub AllDiffer : List ℕ → Type 0
@@ -31,7 +32,8 @@ IsStopped Room most room pixels = room < length pixels
 
 -- places from one up to an end have one pixel
 abbrev pub IsRun : List ℕ → ℕ → ℕ → Type 0
-IsRun pixels start end = (i : ℕ) → start ≤ i → i < end → slice_index pixels i ≡ slice_index pixels start
+IsRun pixels start end =
+    (i : ℕ) → start ≤ i → i < end → slice_index pixels i ≡ slice_index pixels start
 
 -- at the end of those, if it is a place, stands another
 abbrev pub EndsRun : List ℕ → ℕ → ℕ → Type 0
@@ -41,14 +43,16 @@ EndsRun pixels start end = end < length pixels → slice_index pixels end ≢ sl
 abbrev pub Leads : ℕ → ℕ → ℕ → ℕ → Type 0
 Leads count pixel most better = (most < count) ⊎ ((most ≡ count) × (pixel < better))
 
--- of these places beside a pixel that so many places have: the pixel that the most have, the least of those
+-- of these places beside a pixel that so many places have: the pixel that the most have, the least
+-- of those
 pub record IsLed (aside : List ℕ) (better most result : ℕ) : Type 0 where
   pub count : ℕ
   pub from : ((result ≡ better) × (count ≡ most)) ⊎ ((0 < count) × (count ≤ places_of result aside))
   pub kept : most ≤ count
   pub before : most ≡ count → result ≤ better
   pub each : (other : ℕ) → places_of other aside ≤ count
-  pub tied : (other : ℕ) → 0 < places_of other aside → places_of other aside ≡ count → result ≤ other
+  pub tied : (other : ℕ) → 0 < places_of other aside → places_of other aside ≡ count →
+      result ≤ other
 
 -- a number that spreads pixels: the remainder by the slots of a table is the slot of the pixel
 unfoldable pub hash_of : ℕ → ℕ

@@ -24,10 +24,15 @@ places_of pixel pixels = count_by (λ p. nat_eq p pixel) pixels
 -- more places have the background than the other pixel, or as many and it is the lesser
 abbrev pub IsMoreFrequent : ℕ → ℕ → List ℕ → Type 0
 IsMoreFrequent background other pixels =
-    (places_of other pixels < places_of background pixels) ⊎ ((places_of other pixels ≡ places_of background pixels) × (background < other))
+    (places_of other pixels < places_of background pixels) ⊎
+    ((places_of other pixels ≡ places_of background pixels) × (background < other))
 
--- each place has the one pixel, or one of the two, both of which are there, or there are three at least
+-- each place has the one pixel, or one of the two, both of which are there, or there are three at
+-- least
 abbrev pub HasColours : Colours → List ℕ → Type 0
 HasColours (One pixel) pixels = (i : ℕ) → i < length pixels → slice_index pixels i ≡ pixel
-HasColours (Two background foreground) pixels = IsPixelOf pixels background × IsPixelOf pixels foreground × ((i : ℕ) → i < length pixels → (slice_index pixels i ≡ background) ⊎ (slice_index pixels i ≡ foreground)) × IsMoreFrequent background foreground pixels
+HasColours (Two background foreground) pixels =
+    IsPixelOf pixels background × IsPixelOf pixels foreground ×
+    ((i : ℕ) → i < length pixels → (slice_index pixels i ≡ background) ⊎
+    (slice_index pixels i ≡ foreground)) × IsMoreFrequent background foreground pixels
 HasColours More pixels = HasThird pixels

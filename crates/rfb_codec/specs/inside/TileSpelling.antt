@@ -13,7 +13,8 @@ use Rattle.rfb_codec.specs.Tile.{Tile, RawTile, PlainTile, ColoredTile, rect_in}
 -- the tile that is sent of these pixels, or of these subrectangles
 abbrev pub tile_of : PixelFormat → TileLayout → List ℕ → List Subrect → Tile
 tile_of f Raw pixels subs = RawTile (flat_map (pixel_bytes f) pixels)
-tile_of f (Plain background foreground) pixels subs = PlainTile background foreground (map rect_in subs)
+tile_of f (Plain background foreground) pixels subs =
+    PlainTile background foreground (map rect_in subs)
 tile_of f (Colored background) pixels subs = ColoredTile background subs
 
 -- ---- its bytes
@@ -33,8 +34,11 @@ are_some (s ∷ subs) = true
 -- a mask with these bits; SubrectsColored and ForegroundSpecified are never both set
 abbrev pub mask_of : TileLayout → List Subrect → ℕ
 mask_of Raw subs = 1
-mask_of (Plain background foreground) subs = bit_or (bit_or (bit_if 2 (is_there background)) (bit_if 4 (is_there foreground))) (bit_if 8 (are_some subs))
-mask_of (Colored background) subs = bit_or (bit_or (bit_if 2 (is_there background)) (bit_if 8 (are_some subs))) 16
+mask_of (Plain background foreground) subs =
+    bit_or (bit_or (bit_if 2 (is_there background)) (bit_if 4 (is_there foreground)))
+    (bit_if 8 (are_some subs))
+mask_of (Colored background) subs =
+    bit_or (bit_or (bit_if 2 (is_there background)) (bit_if 8 (are_some subs))) 16
 
 abbrev pub colour_bytes : PixelFormat → Option ℕ → List ℕ
 colour_bytes f None = []
@@ -60,8 +64,10 @@ counted_bytes bytes subs = count_bytes subs ++ flat_map bytes subs
 -- what follows the mask
 abbrev pub behind_bytes : PixelFormat → TileLayout → List ℕ → List Subrect → List ℕ
 behind_bytes f Raw pixels subs = flat_map (pixel_bytes f) pixels
-behind_bytes f (Plain background foreground) pixels subs = colour_bytes f background ++ (colour_bytes f foreground ++ counted_bytes place_bytes subs)
-behind_bytes f (Colored background) pixels subs = colour_bytes f background ++ counted_bytes (colored_bytes f) subs
+behind_bytes f (Plain background foreground) pixels subs =
+    colour_bytes f background ++ (colour_bytes f foreground ++ counted_bytes place_bytes subs)
+behind_bytes f (Colored background) pixels subs =
+    colour_bytes f background ++ counted_bytes (colored_bytes f) subs
 
 -- the bytes of the tile
 abbrev pub tile_bytes : PixelFormat → TileLayout → List ℕ → List Subrect → List ℕ

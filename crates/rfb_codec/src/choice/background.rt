@@ -32,9 +32,9 @@ enum Stop {
 ///
 /// None comes only where there are more than `most` different pixels.
 ///
-/// It goes by runs of one pixel and counts each in a table on the stack, of which most blocks need a
-/// small one. A slot belongs to the first pixel that comes to it. Others that come to it are put aside and
-/// sorted at the end, so whatever the pixels it takes no more than a sort of them.
+/// It goes by runs of one pixel and counts each in a table on the stack, of which most blocks need
+/// a small one. A slot belongs to the first pixel that comes to it. Others that come to it are put
+/// aside and sorted at the end, so whatever the pixels it takes no more than a sort of them.
 pub(crate) fn background_of(pixels: &[u32], most: usize) -> Option<u32>
     requires some { 0 < length pixels.now }
     requires few { length pixels.now ≤ PLACES }
@@ -51,14 +51,11 @@ pub(crate) fn background_of(pixels: &[u32], most: usize) -> Option<u32>
     } else {
         tally::<MANY, PLACES>(pixels, most)
     };
-    match found {
-        Ok(pixel) => Some(pixel),
-        Err(_) => None,
-    }
+    found.ok()
 }
 
-// The most frequent pixel, the least of those. It stops at more pixels than `free`, or at more places
-// aside than `ROOM`.
+// The most frequent pixel, the least of those. It stops at more pixels than `free`, or at more
+// places aside than `ROOM`.
 fn tally<const SLOTS: usize, const ROOM: usize>(
     pixels: &[u32],
     mut free: usize,
@@ -70,7 +67,8 @@ fn tally<const SLOTS: usize, const ROOM: usize>(
     ensures found { IfOk result (λ pixel. IsBackground pixels.now pixel) }
     ensures stopped { IfErr result (λ stop. IsStopped stop free ROOM pixels.now) }
 {
-    // Of the pixel that a slot belongs to, the first place and 1, and how many places have it so far.
+    // Of the pixel that a slot belongs to, the first place and 1, and how many places have it so
+    // far.
     let mut firsts = [0u16; SLOTS];
     let mut counts = [0u16; SLOTS];
     let mut aside: ArrayVec<u32, ROOM> = ArrayVec::new();

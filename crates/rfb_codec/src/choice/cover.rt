@@ -1,10 +1,10 @@
 //! The cover of a block over its background, by this project's rule.
 
-ghost use Rattle.std.specs.Prelude.{◌≡◌, ◌≢◌, ℕ, ◌+◌, ◌*◌, ◌<◌, ◌≤◌, [], ◌&&◌, nat_le, nat_lt, length, slice_index, if◌then◌else◌};
+ghost use Rattle.std.specs.Prelude.{◌≡◌, ◌≢◌, ℕ, ◌+◌, ◌*◌, ◌<◌, ◌≤◌, [], length, slice_index};
 ghost use Rattle.std.specs.Bool.{OnTrue, OnFalse};
 ghost use Rattle.arrayvec.specs.ArrayVec.{array_vec_len};
 ghost use Rattle.rfb_wire.specs.RectHead.{IsOnScreen};
-ghost use Rattle.rfb_codec.specs.inside.Cover.{IsCover, IsGivenUp, IsOpen, HasRun};
+ghost use Rattle.rfb_codec.specs.inside.Cover.{IsCover, IsGivenUp, IsOpen, IsUncovered, AreNoted, HasRun, HasRuns};
 
 use crate::block::SIDE;
 use crate::subrect::Subrect;
@@ -15,8 +15,9 @@ use rfb_picture::Rect;
 /// answers false once there are more than `limit`.
 ///
 /// Rows are gone through from the top, each from the left. At a place that is not covered and has
-/// another pixel than the background, the longest run to the right of uncovered places with its pixel
-/// begins a subrectangle, and as many further rows belong to it as have that pixel under the whole run.
+/// another pixel than the background, the longest run to the right of uncovered places with its
+/// pixel begins a subrectangle, and as many further rows belong to it as have that pixel under the
+/// whole run.
 pub(crate) fn cover<const N: usize>(
     pixels: &[u32],
     width: usize,
@@ -31,11 +32,12 @@ pub(crate) fn cover<const N: usize>(
     requires limit { limit ≤ N }
     requires empty { subs.old.items ≡ [] }
     ensures cover { OnTrue result (IsCover width height pixels.now background subs.new.items) }
-    ensures over { OnFalse result (IsGivenUp width height pixels.now background limit subs.new.items) }
+    ensures over { OnFalse result
+        (IsGivenUp width height pixels.now background limit subs.new.items) }
     ensures few { array_vec_len subs.new ≤ limit }
 {
-    // Of each column the first row that no subrectangle taken in it reaches. What lies above the row
-    // that is gone through is never asked again, so it is all that has to be known.
+    // Of each column the first row that no subrectangle taken in it reaches. What lies above the
+    // row that is gone through is never asked again, so it is all that has to be known.
     let mut until = [0; SIDE];
     for y in 0..height {
         let start = first_other(pixels, width, y, background);
@@ -68,9 +70,9 @@ fn first_other(pixels: &[u32], width: usize, y: usize, background: u32) -> usize
     width
 }
 
-// Takes the subrectangle that begins at (x, y), which is not covered, and notes how far it reaches. As
-// subrectangles go on down from row to row, nothing below an uncovered place is covered. Not inlined, so
-// that the scan that calls it stays short: few places begin one.
+// Takes the subrectangle that begins at (x, y), which is not covered, and notes how far it reaches.
+// As subrectangles go on down from row to row, nothing below an uncovered place is covered. Not
+// inlined, so that the scan that calls it stays short: few places begin one.
 #[inline(never)]
 fn take_from(
     pixels: &[u32],
@@ -87,15 +89,16 @@ fn take_from(
     ensures corner { (result.x ≡ x) × (result.y ≡ y) }
     ensures some { (0 < result.w) × (0 < result.h) }
     ensures inside { IsOnScreen width height result }
-    ensures same { (i j : ℕ) → x ≤ i → i < x + result.w → y ≤ j → j < y + result.h → slice_index pixels.now (j * width + i) ≡ slice_index pixels.now (y * width + x) }
-    ensures uncovered { (i : ℕ) → x ≤ i → i < x + result.w → slice_index until.old i ≤ y }
+    ensures same { HasRuns width pixels.now (slice_index pixels.now (y * width + x))
+        x (x + result.w) y (y + result.h) }
+    ensures uncovered { IsUncovered until.old x (x + result.w) y }
     ensures longest { x + result.w < width →
         IsOpen width pixels.now until.old (slice_index pixels.now (y * width + x))
         (x + result.w) y → ⊥ }
     ensures lowest { y + result.h < height →
         HasRun width pixels.now (slice_index pixels.now (y * width + x))
         x (x + result.w) (y + result.h) → ⊥ }
-    ensures noted { (i : ℕ) → i < width → slice_index until.new i ≡ (if nat_le x i && nat_lt i (x + result.w) then y + result.h else slice_index until.old i) }
+    ensures noted { AreNoted width until.old x (x + result.w) (y + result.h) until.new }
 {
     let right = run_end(pixels, until, width, x, y);
     let lower = lower_end(pixels, width, height, x, right, y);
@@ -111,7 +114,7 @@ fn take_from(
 // Notes this row for the columns from `start` up to `end`.
 fn note(until: &mut [usize], start: usize, end: usize, row: usize)
     requires { (start ≤ end) × (end ≤ length until.old) }
-    ensures { (i : ℕ) → i < length until.old → slice_index until.new i ≡ (if nat_le start i && nat_lt i end then row else slice_index until.old i) }
+    ensures { AreNoted (length until.old) until.old start end row until.new }
 {
     for column in start..end {
         until[column] = row;
@@ -126,8 +129,8 @@ fn run_end(pixels: &[u32], until: &[usize], width: usize, x: usize, y: usize) ->
     requires here { slice_index until.now x ≤ y }
     ensures some { x < result }
     ensures within { result ≤ width }
-    ensures run { (i : ℕ) → x ≤ i → i < result → slice_index pixels.now (y * width + i) ≡ slice_index pixels.now (y * width + x) }
-    ensures uncovered { (i : ℕ) → x ≤ i → i < result → slice_index until.now i ≤ y }
+    ensures run { HasRun width pixels.now (slice_index pixels.now (y * width + x)) x result y }
+    ensures uncovered { IsUncovered until.now x result y }
     ensures longest { result < width →
         IsOpen width pixels.now until.now (slice_index pixels.now (y * width + x)) result y → ⊥ }
 {
@@ -145,12 +148,13 @@ fn lower_end(pixels: &[u32], width: usize, height: usize, x: usize, right: usize
     requires whole { length pixels.now ≡ height * width }
     requires run { (x < right) × (right ≤ width) }
     requires row { y < height }
-    requires first { (i : ℕ) → x ≤ i → i < right → slice_index pixels.now (y * width + i) ≡ slice_index pixels.now (y * width + x) }
+    requires first { HasRun width pixels.now (slice_index pixels.now (y * width + x)) x right y }
     ensures some { y < result }
     ensures within { result ≤ height }
     ensures lowest { result < height →
         HasRun width pixels.now (slice_index pixels.now (y * width + x)) x right result → ⊥ }
-    ensures same { (i j : ℕ) → x ≤ i → i < right → y ≤ j → j < result → slice_index pixels.now (j * width + i) ≡ slice_index pixels.now (y * width + x) }
+    ensures same { HasRuns width pixels.now (slice_index pixels.now (y * width + x))
+        x right y result }
 {
     let pixel = pixels[y * width + x];
     for j in y + 1..height {

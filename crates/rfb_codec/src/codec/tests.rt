@@ -61,7 +61,8 @@ pub(crate) fn encoded<C: Codec>(
     format: &Format,
     before: &[u8],
 ) -> Result<(bool, Vec<u8>), AllocError>
-    ensures stands { IfOk result (λ r. OnTrue r.0 (Appends C.stands format.now block.now before.now r.1.items)) }
+    ensures stands { IfOk result (λ r. OnTrue r.0
+        (Appends C.stands format.now block.now before.now r.1.items)) }
     ensures kept { IfOk result (λ r. OnFalse r.0 (r.1.items ≡ before.now)) }
 {
     let mut out = Vec::new(alloc);

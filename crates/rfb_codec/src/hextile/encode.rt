@@ -9,9 +9,9 @@ ghost use Rattle.rfb_wire.specs.declared.encoding.Encoding.TheVariants.{Hextile 
 ghost use Rattle.rfb_codec.specs.Codec.{Appends, raw_of};
 
 mod carried;
+mod choosing;
 mod colours;
 mod cutting;
-mod drawing;
 mod pieces;
 mod spelling;
 
@@ -20,15 +20,16 @@ use crate::block::Block;
 use crate::codec::Codec;
 use crate::hextile::tiles::{tile_count, tile_rect};
 use carried::Carried;
+use choosing::{TileSubrects, choose};
 use cutting::{TilePixels, cut};
-use drawing::{TileSubrects, draw};
 use pieces::TileBytes;
 use rfb_pixel::Format;
 use spelling::{append, spelled_length};
 
-/// Hextile: tiles of 16 by 16, each of one pixel, of two or of more, or Raw where that is as short. A
-/// tile names its colours where they are not those that are carried to it. It gives up a block whose
-/// tiles all together are no shorter than Raw.
+/// Hextile: tiles of 16 by 16, each of one pixel, of two or of more, or Raw where that is as short.
+/// A tile names its colours where they are not those that are carried to it. It gives up a block
+/// whose tiles all together are no shorter than Raw.
+#[derive(Clone, Copy, Debug, PartialEq, Eq)]
 pub struct Hextile;
 
 impl Codec for Hextile {
@@ -58,8 +59,11 @@ impl Codec for Hextile {
 fn spell(block: &Block, format: &Format, out: &mut Vec<u8>) -> bool
     requires pixels { HasPixels format.now block.now }
     requires room { vec_len out.old + raw_of format.now block.now ≤ vec_capacity out.old }
-    ensures spelled { OnTrue result (Appends (λ f block bytes. StandsByRule f block bytes) format.now block.now out.old.items out.new.items) }
-    ensures shorter { OnTrue result (vec_len out.new < vec_len out.old + raw_of format.now block.now) }
+    ensures spelled { OnTrue result
+        (Appends (λ f block bytes. StandsByRule f block bytes)
+        format.now block.now out.old.items out.new.items) }
+    ensures shorter { OnTrue result
+        (vec_len out.new < vec_len out.old + raw_of format.now block.now) }
     ensures front { take (vec_len out.old) out.new.items ≡ out.old.items }
     ensures room { vec_capacity out.new ≡ vec_capacity out.old }
 {
@@ -76,7 +80,7 @@ fn spell(block: &Block, format: &Format, out: &mut Vec<u8>) -> bool
         let (width, height) = (usize::from(tile.w), usize::from(tile.h));
         cut(block, tile, &mut pixels);
         let part = pixels.as_slice();
-        let layout = draw(format, part, width, height, &mut carried, &mut subs);
+        let layout = choose(format, part, width, height, &mut carried, &mut subs);
         if out.len() + spelled_length(format, layout, part, &subs) >= end {
             return false;
         }

@@ -19,6 +19,7 @@ use rfb_pixel::Format;
 const PIECE: usize = 64;
 
 /// Raw: the pixels row by row from the top, each row from the left. Every block can be sent so.
+#[derive(Clone, Copy, Debug, PartialEq, Eq)]
 pub struct Raw;
 
 impl Codec for Raw {
@@ -39,7 +40,8 @@ impl Codec for Raw {
         requires room { vec_len out.old + raw_of format.now block.now ≤ vec_capacity out.old }
 
         ensures always { IsTrue result }
-        ensures spelled { OnTrue result (Appends StandsRaw format.now block.now out.old.items out.new.items) }
+        ensures spelled { OnTrue result
+            (Appends StandsRaw format.now block.now out.old.items out.new.items) }
         ensures shorter { OnTrue (shortens RawEncoding)
             (OnTrue result (vec_len out.new < vec_len out.old + raw_of format.now block.now)) }
         ensures kept { OnFalse result (out.new.items ≡ out.old.items) }

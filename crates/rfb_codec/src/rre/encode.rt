@@ -27,14 +27,15 @@ use rfb_pixel::Format;
 // Blocks of up to so many places are encoded with a small list of subrectangles.
 const SMALL: usize = 256;
 
-// A third of the places, and so no fewer than can be shorter than Raw: a subrectangle is at least as
-// long as three pixels, of four bytes.
+// A third of the places, and so no fewer than can be shorter than Raw: a subrectangle is at least
+// as long as three pixels, of four bytes.
 const FEW: usize = 86;
 
 const MANY: usize = 1366;
 
 /// RRE: the number of subrectangles and the background, then each subrectangle. It gives up a block
 /// whose data would not be shorter than Raw.
+#[derive(Clone, Copy, Debug, PartialEq, Eq)]
 pub struct Rre;
 
 impl Codec for Rre {
@@ -66,8 +67,10 @@ fn encode_with<const N: usize>(block: &Block, format: &Format, out: &mut Vec<u8>
     requires pixels { HasPixels format.now block.now }
     requires room { vec_len out.old + raw_of format.now block.now ≤ vec_capacity out.old }
 
-    ensures spelled { OnTrue result (Appends StandsRre format.now block.now out.old.items out.new.items) }
-    ensures shorter { OnTrue result (vec_len out.new < vec_len out.old + raw_of format.now block.now) }
+    ensures spelled { OnTrue result
+        (Appends StandsRre format.now block.now out.old.items out.new.items) }
+    ensures shorter { OnTrue result
+        (vec_len out.new < vec_len out.old + raw_of format.now block.now) }
     ensures kept { OnFalse result (out.new.items ≡ out.old.items) }
     ensures room { vec_capacity out.new ≡ vec_capacity out.old }
 {
@@ -75,12 +78,11 @@ fn encode_with<const N: usize>(block: &Block, format: &Format, out: &mut Vec<u8>
     let (width, height) = (usize::from(block.width()), usize::from(block.height()));
     let size = format.size();
     let raw = height * width * size;
-    // More subrectangles than that have as many bytes by themselves, and each pixel but the background
-    // needs one.
+    // More subrectangles than that have as many bytes by themselves, and each pixel but the
+    // background needs one.
     let limit = raw / (size + 8);
-    let background = match background_of(pixels, limit + 1) {
-        Some(background) => background,
-        None => return false,
+    let Some(background) = background_of(pixels, limit + 1) else {
+        return false;
     };
     let mut subs: ArrayVec<Subrect, N> = ArrayVec::new();
     if !cover(pixels, width, height, background, limit, &mut subs) {

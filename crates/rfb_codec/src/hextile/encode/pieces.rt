@@ -6,63 +6,55 @@ ghost use Rattle.arrayvec.specs.ArrayVec.{array_vec_len};
 ghost use Rattle.rfb_pixel.specs.Format.{size_of, pixel_bytes};
 ghost use Rattle.rfb_codec.specs.inside.TileSpelling.{IsTilePart, AreTileParts, colour_bytes, count_bytes, place_bytes, colored_bytes};
 
-use super::drawing::TileSubrects;
+use super::choosing::TileSubrects;
+use crate::append::extend_within;
 use crate::raw::put_pixels;
 use crate::subrect::Subrect;
 use arrayvec::ArrayVec;
 use rfb_pixel::Format;
 
+/// More bytes than any tile has.
+pub const MAX_TILE_BYTES: usize = 2048;
+
 /// Room for the bytes of a tile.
-pub type TileBytes = ArrayVec<u8, 2048>;
+pub type TileBytes = ArrayVec<u8, MAX_TILE_BYTES>;
 
 /// Appends a byte.
 pub fn append_byte(byte: u8, tile: &mut TileBytes)
-    requires { array_vec_len tile.old + 1 ≤ 2048 }
+    requires { array_vec_len tile.old + 1 ≤ MAX_TILE_BYTES }
     ensures items { tile.new.items ≡ tile.old.items ++ byte ∷ [] }
     ensures len { array_vec_len tile.new ≡ array_vec_len tile.old + 1 }
 {
     tile.push(byte);
 }
 
-// Appends bytes.
-fn append_bytes(bytes: &[u8], tile: &mut TileBytes)
-    requires { array_vec_len tile.old + length bytes.now ≤ 2048 }
-    ensures items { tile.new.items ≡ tile.old.items ++ bytes.now }
-    ensures len { array_vec_len tile.new ≡ array_vec_len tile.old + length bytes.now }
-{
-    match tile.try_extend_from_slice(bytes) {
-        Ok(()) => {}
-        Err(_) => unreachable!(),
-    }
-}
-
 /// Appends the pixels of a tile.
 pub fn append_pixels(format: &Format, pixels: &[u32], tile: &mut TileBytes)
     requires few { length pixels.now ≤ 256 }
-    requires room { array_vec_len tile.old + length pixels.now * size_of format.now ≤ 2048 }
+    requires room { array_vec_len tile.old + length pixels.now * size_of format.now ≤ MAX_TILE_BYTES }
     ensures { tile.new.items ≡ tile.old.items ++ flat_map (pixel_bytes format.now) pixels.now }
 {
     let mut bytes = [0; 1024];
     let size = pixels.len() * format.size();
     put_pixels(format, pixels, &mut bytes[..size]);
-    append_bytes(&bytes[..size], tile);
+    extend_within(tile, &bytes[..size]);
 }
 
 // Appends a pixel.
 fn append_pixel(format: &Format, pixel: u32, tile: &mut TileBytes)
-    requires { array_vec_len tile.old + size_of format.now ≤ 2048 }
+    requires { array_vec_len tile.old + size_of format.now ≤ MAX_TILE_BYTES }
     ensures items { tile.new.items ≡ tile.old.items ++ pixel_bytes format.now pixel }
     ensures len { array_vec_len tile.new ≡ array_vec_len tile.old + size_of format.now }
 {
     let mut bytes = [0; 4];
     let size = format.size();
     format.put(pixel, &mut bytes[..size]);
-    append_bytes(&bytes[..size], tile);
+    extend_within(tile, &bytes[..size]);
 }
 
 /// Appends a colour, if it is named.
 pub fn append_colour(format: &Format, colour: Option<u32>, tile: &mut TileBytes)
-    requires { array_vec_len tile.old + length (colour_bytes format.now colour) ≤ 2048 }
+    requires { array_vec_len tile.old + length (colour_bytes format.now colour) ≤ MAX_TILE_BYTES }
     ensures items { tile.new.items ≡ tile.old.items ++ colour_bytes format.now colour }
     ensures len { array_vec_len tile.new ≡ array_vec_len tile.old + length (colour_bytes format.now colour) }
 {
@@ -73,7 +65,7 @@ pub fn append_colour(format: &Format, colour: Option<u32>, tile: &mut TileBytes)
 
 /// Appends the number of subrectangles, if there are any.
 pub fn append_count(subs: &TileSubrects, tile: &mut TileBytes)
-    requires { array_vec_len tile.old + length (count_bytes subs.now.items) ≤ 2048 }
+    requires { array_vec_len tile.old + length (count_bytes subs.now.items) ≤ MAX_TILE_BYTES }
     ensures items { tile.new.items ≡ tile.old.items ++ count_bytes subs.now.items }
     ensures len { array_vec_len tile.new ≡ array_vec_len tile.old + length (count_bytes subs.now.items) }
 {
@@ -93,7 +85,7 @@ pub fn append_places(
     requires parts { AreTileParts format.now width height subs.now.items }
     requires columns { width ≤ 16 }
     requires rows { height ≤ 16 }
-    requires room { array_vec_len tile.old + length subs.now.items * 2 ≤ 2048 }
+    requires room { array_vec_len tile.old + length subs.now.items * 2 ≤ MAX_TILE_BYTES }
     ensures { tile.new.items ≡ tile.old.items ++ flat_map place_bytes subs.now.items }
 {
     for sub in subs.as_slice() {
@@ -112,7 +104,8 @@ pub fn append_colored(
     requires parts { AreTileParts format.now width height subs.now.items }
     requires columns { width ≤ 16 }
     requires rows { height ≤ 16 }
-    requires room { array_vec_len tile.old + length subs.now.items * (size_of format.now + 2) ≤ 2048 }
+    requires room { array_vec_len tile.old
+        + length subs.now.items * (size_of format.now + 2) ≤ MAX_TILE_BYTES }
     ensures { tile.new.items ≡ tile.old.items ++ flat_map (colored_bytes format.now) subs.now.items }
 {
     for sub in subs.as_slice() {
@@ -126,7 +119,7 @@ fn append_place(format: &Format, sub: Subrect, width: usize, height: usize, tile
     requires part { IsTilePart format.now width height sub }
     requires columns { width ≤ 16 }
     requires rows { height ≤ 16 }
-    requires room { array_vec_len tile.old + 2 ≤ 2048 }
+    requires room { array_vec_len tile.old + 2 ≤ MAX_TILE_BYTES }
     ensures items { tile.new.items ≡ tile.old.items ++ place_bytes sub }
     ensures len { array_vec_len tile.new ≡ array_vec_len tile.old + 2 }
 {

@@ -5,10 +5,10 @@ ghost use Rattle.arrayvec.specs.ArrayVec.{array_vec_len};
 ghost use Rattle.rfb_pixel.specs.Format.{size_of};
 ghost use Rattle.rfb_codec.specs.inside.TileSpelling.{AreTileParts, are_some, is_there, bit_if, mask_of, colour_bytes, tile_bytes};
 
-use super::drawing::TileSubrects;
+use super::choosing::TileSubrects;
 use super::pieces::{
-    TileBytes, append_byte, append_colored, append_colour, append_count, append_pixels,
-    append_places,
+    MAX_TILE_BYTES, TileBytes, append_byte, append_colored, append_colour, append_count,
+    append_pixels, append_places,
 };
 use crate::hextile::layout::TileLayout;
 use crate::hextile::mask::{
@@ -25,7 +25,7 @@ pub fn spelled_length(
 ) -> usize
     requires { length pixels.now ≤ 256 }
     ensures value { result ≡ length (tile_bytes format.now layout pixels.now subs.now.items) }
-    ensures few { result ≤ 2048 }
+    ensures few { result ≤ MAX_TILE_BYTES }
 {
     let size = format.size();
     match layout {
@@ -82,7 +82,8 @@ pub fn append(
     requires columns { width ≤ 16 }
     requires rows { height ≤ 16 }
     requires few { length pixels.now ≤ 256 }
-    requires room { array_vec_len tile.old + length (tile_bytes format.now layout pixels.now subs.now.items) ≤ 2048 }
+    requires room { array_vec_len tile.old
+        + length (tile_bytes format.now layout pixels.now subs.now.items) ≤ MAX_TILE_BYTES }
     ensures { tile.new.items ≡ tile.old.items ++ tile_bytes format.now layout pixels.now subs.now.items }
 {
     append_byte(mask_of(layout, subs), tile);

@@ -19,8 +19,8 @@ loop-n-init c = record {
   room = omega arith;
 }
 
-pub draw-layout-requires-clause-pixels : goal.draw-layout-requires-clause-pixels
-draw-layout-requires-clause-pixels c =
+pub choose-layout-requires-clause-pixels : goal.choose-layout-requires-clause-pixels
+choose-layout-requires-clause-pixels c =
     let tile = c.tile_rect-tile.result in
     let small = tile_small c.args.format.now c.args.block.now tile.w tile.h tile.x tile.y c.cut.new.pixels.items c.cut.ensures.size c.requires.pixels c.cut.ensures.value in
     rw c.as_slice-part.ensures.value small
@@ -34,10 +34,10 @@ loop-n-preserved c =
     let height : tile.h ≡ tile_height block.width block.height n = rw (c.width-in-loop-n.ensures.value, c.height-in-loop-n.ensures.value) at c.tile_rect-tile.ensures.height in
     let column : tile.x ≡ n % across block.width * 16 = rw c.width-in-loop-n.ensures.value at c.tile_rect-tile.ensures.column in
     let row : tile.y ≡ n / across block.width * 16 = rw c.width-in-loop-n.ensures.value at c.tile_rect-tile.ensures.row in
-    let sends : Sends c.args.format.now (tile_width block.width n) (tile_height block.width block.height n) c.draw-layout.result c.cut.new.pixels.items c.draw-layout.new.subs.items c.loop-n.carried c.draw-layout.new.carried = rw (c.from-width.ensures, width, c.from-height.ensures, height, c.as_slice-part.ensures.value) at c.draw-layout.ensures.sends in
+    let sends : Sends c.args.format.now (tile_width block.width n) (tile_height block.width block.height n) c.choose-layout.result c.cut.new.pixels.items c.choose-layout.new.subs.items c.loop-n.carried c.choose-layout.new.carried = rw (c.from-width.ensures, width, c.from-height.ensures, height, c.as_slice-part.ensures.value) at c.choose-layout.ensures.sends in
     let cut : (x y : ℕ) → x < tile_width block.width n → y < tile_height block.width block.height n → slice_index c.cut.new.pixels.items (y * tile_width block.width n + x) ≡ slice_index block.places ((n / across block.width * 16 + y) * block.width + (n % across block.width * 16 + x)) = rw (width, height, column, row) at c.cut.ensures.value in
-    let more = spelled_more c.args.format.now block n c.loop-n.carried c.draw-layout.new.carried c.loop-n.invariant.spelled.0 c.draw-layout.result c.cut.new.pixels.items c.draw-layout.new.subs.items c.loop-n.invariant.spelled.2 sends cut in
-    let sent = tile_bytes c.args.format.now c.draw-layout.result c.cut.new.pixels.items c.draw-layout.new.subs.items in
+    let more = spelled_more c.args.format.now block n c.loop-n.carried c.choose-layout.new.carried c.loop-n.invariant.spelled.0 c.choose-layout.result c.cut.new.pixels.items c.choose-layout.new.subs.items c.loop-n.invariant.spelled.2 sends cut in
+    let sent = tile_bytes c.args.format.now c.choose-layout.result c.cut.new.pixels.items c.choose-layout.new.subs.items in
     let appended : c.append.new.tile.items ≡ sent = rw (c.clear.ensures, c.as_slice-part.ensures.value) at c.append.ensures in
     let is : c.as_slice.result.now ≡ sent = c.as_slice.ensures.value ∙ appended in
     let size : c.spelled_length.result ≡ length sent = rw c.as_slice-part.ensures.value at c.spelled_length.ensures.value in

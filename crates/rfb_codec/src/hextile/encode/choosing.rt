@@ -15,20 +15,24 @@ use crate::subrect::Subrect;
 use arrayvec::ArrayVec;
 use rfb_pixel::Format;
 
-/// Room for the subrectangles of a tile, of which fewer are enough than it has places.
-pub type TileSubrects = ArrayVec<Subrect, 255>;
+/// The most subrectangles of a tile: a byte counts them.
+pub const MAX_SUBRECTS: usize = 255;
 
-// A tile that is drawn over a background, and what it leaves to the next one.
+/// Room for the subrectangles of a tile, of which fewer are enough than it has places.
+pub type TileSubrects = ArrayVec<Subrect, MAX_SUBRECTS>;
+
+// How a tile is sent over a background, and what it leaves to the next one.
 #[derive(Clone, Copy, Debug, PartialEq, Eq)]
-struct Drawn {
+struct Choice {
     layout: TileLayout,
     leaves: Carried,
 }
 
-/// How the tile is sent. `subs` becomes its subrectangles, and `carried` what it leaves to the next.
+/// How the tile is sent. `subs` becomes its subrectangles, and `carried` what it leaves to the
+/// next.
 ///
-/// It is Raw where what is drawn is no shorter than that, and then leaves nothing.
-pub fn draw(
+/// It is Raw where the tile over its background is no shorter than that, and then leaves nothing.
+pub fn choose(
     format: &Format,
     pixels: &[u32],
     width: usize,
@@ -41,14 +45,15 @@ pub fn draw(
     requires columns { width ≤ 16 }
     requires rows { height ≤ 16 }
     requires pixels { (i : ℕ) → IsPixel format.now (slice_index pixels.now i) }
-    ensures sends { Sends format.now width height result pixels.now subs.new.items carried.old carried.new }
+    ensures sends { Sends format.now width height result
+        pixels.now subs.new.items carried.old carried.new }
     ensures parts { AreTileParts format.now width height subs.new.items }
 {
     let raw = 1 + pixels.len() * format.size();
-    if let Some(drawn) = over_background(format, pixels, width, height, *carried, subs) {
-        if spelled_length(format, drawn.layout, pixels, subs) < raw {
-            *carried = drawn.leaves;
-            return drawn.layout;
+    if let Some(choice) = over_background(format, pixels, width, height, *carried, subs) {
+        if spelled_length(format, choice.layout, pixels, subs) < raw {
+            *carried = choice.leaves;
+            return choice.layout;
         }
     }
     subs.clear();
@@ -59,8 +64,9 @@ pub fn draw(
     TileLayout::Raw
 }
 
-// The tile over its background, if it has room for the subrectangles. Of one pixel it is a background
-// alone, of two the other is the foreground, and of more each subrectangle has a pixel of its own.
+// The tile over its background, if it has room for the subrectangles. Of one pixel it is a
+// background alone, of two the other is the foreground, and of more each subrectangle has a pixel
+// of its own.
 fn over_background(
     format: &Format,
     pixels: &[u32],
@@ -68,19 +74,20 @@ fn over_background(
     height: usize,
     carried: Carried,
     subs: &mut TileSubrects,
-) -> Option<Drawn>
+) -> Option<Choice>
     requires whole { length pixels.now ≡ height * width }
     requires some { 0 < length pixels.now }
     requires columns { width ≤ 16 }
     requires rows { height ≤ 16 }
     requires pixels { (i : ℕ) → IsPixel format.now (slice_index pixels.now i) }
-    ensures sends { IfSome result (λ drawn. Sends format.now width height drawn.layout pixels.now subs.new.items carried drawn.leaves) }
-    ensures parts { IfSome result (λ drawn. AreTileParts format.now width height subs.new.items) }
+    ensures sends { IfSome result (λ choice. Sends format.now width height choice.layout
+        pixels.now subs.new.items carried choice.leaves) }
+    ensures parts { IfSome result (λ choice. AreTileParts format.now width height subs.new.items) }
 {
     subs.clear();
     let room = pixels.len() * format.size();
     match colours_of(pixels) {
-        Colours::One(background) => Some(Drawn {
+        Colours::One(background) => Some(Choice {
             layout: TileLayout::Plain {
                 background: named(carried.background, background),
                 foreground: None,
@@ -94,10 +101,17 @@ fn over_background(
             background,
             foreground,
         } => {
-            if !cover(pixels, width, height, background, 255.min(room / 2), subs) {
+            if !cover(
+                pixels,
+                width,
+                height,
+                background,
+                MAX_SUBRECTS.min(room / 2),
+                subs,
+            ) {
                 return None;
             }
-            Some(Drawn {
+            Some(Choice {
                 layout: TileLayout::Plain {
                     background: named(carried.background, background),
                     foreground: named(carried.foreground, foreground),
@@ -109,12 +123,12 @@ fn over_background(
             })
         }
         Colours::More => {
-            let limit = 255.min(room / (format.size() + 2));
+            let limit = MAX_SUBRECTS.min(room / (format.size() + 2));
             let background = background_of(pixels, limit + 1)?;
             if !cover(pixels, width, height, background, limit, subs) {
                 return None;
             }
-            Some(Drawn {
+            Some(Choice {
                 layout: TileLayout::Colored {
                     background: named(carried.background, background),
                 },

@@ -1,5 +1,5 @@
 use Rattle.rfb_codec.proofs.DrawLemmas.{pixel_small, tile_parts, sends_one, sends_two, sends_more}
-use Rattle.rfb_codec.proofs.hextile.encode.drawing.over_background.Goals as goal
+use Rattle.rfb_codec.proofs.hextile.encode.choosing.over_background.Goals as goal
 
 pub returns-in-One-clause-sends : goal.returns-in-One-clause-sends
 returns-in-One-clause-sends c =
