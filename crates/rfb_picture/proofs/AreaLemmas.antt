@@ -21,7 +21,8 @@ area-no_places w h = record {
   wide = refl;
   high = refl;
   inside = λ x y p q e.
-      absurd (both_ways (whole_at (no_places w h) x y) (whole_at-no_places w h x y (rw width-uniform at p) (rw height-uniform at q)) e);
+      absurd (both_ways (whole_at (no_places w h) x y)
+      (whole_at-no_places w h x y (rw width-uniform at p) (rw height-uniform at q)) e);
 }
 
 -- ---- an area with a rectangle more
@@ -37,12 +38,15 @@ pub whole_at-added : (r : Rect) (w : Bool) (a : Places) (x y : ℕ) →
     IsArea a →
     x < a.asked.width →
     y < a.asked.height →
-    whole_at (added r w a) x y ≡ (if w then (if contains r x y then true else whole_at a x y) else whole_at a x y)
-whole_at-added r true a x y sound p q = at-filled r true a.whole x y false sound.wholes (rw sound.wide p) (rw sound.high q)
+    whole_at (added r w a) x y
+    ≡ (if w then (if contains r x y then true else whole_at a x y) else whole_at a x y)
+whole_at-added r true a x y sound p q =
+    at-filled r true a.whole x y false sound.wholes (rw sound.wide p) (rw sound.high q)
 whole_at-added r false a x y sound p q = refl
 
 -- a place that was asked stays asked, and one that was whole stays whole
-kept : (b u v : Bool) → (u ≡ true → v ≡ true) → (if b then true else u) ≡ true → (if b then true else v) ≡ true
+kept : (b u v : Bool) → (u ≡ true → v ≡ true) → (if b then true else u) ≡ true →
+    (if b then true else v) ≡ true
 kept true u v h e = refl
 kept false u v h e = h e
 
@@ -60,7 +64,9 @@ area-added r true a sound = record {
       let x_in = rw width-changed at p in
       let y_in = rw height-changed at q in
       let was = sym (whole_at-added r true a x y sound x_in y_in) ∙ e in
-      asked_at-added r true a x y sound x_in y_in ∙ kept (contains r x y) (whole_at a x y) (asked_at a x y) (sound.inside x y x_in y_in) was;
+      asked_at-added r true a x y sound x_in y_in
+      ∙ kept (contains r x y) (whole_at a x y) (asked_at a x y) (sound.inside x y x_in y_in)
+      was;
 }
 area-added r false a sound = record {
   asks = whole-changed _ a.asked sound.asks;
@@ -70,5 +76,6 @@ area-added r false a sound = record {
   inside = λ x y p q e.
       let x_in = rw width-changed at p in
       let y_in = rw height-changed at q in
-      asked_at-added r false a x y sound x_in y_in ∙ also (contains r x y) (asked_at a x y) (sound.inside x y x_in y_in e);
+      asked_at-added r false a x y sound x_in y_in
+      ∙ also (contains r x y) (asked_at a x y) (sound.inside x y x_in y_in e);
 }

@@ -21,16 +21,20 @@ word_zone zone column = record { x = column * 64; y = zone.y; w = 64; h = zone.h
 
 -- a mark that a mask leaves there, as a place of the zone
 pub word_marks : (words : List ℕ) (across column mask : ℕ) (zone : Rect) (x y : ℕ) →
-    ((i : ℕ) → i < 64 → has_bit mask i ≡ (nat_le zone.x (column * 64 + i) && nat_lt (column * 64 + i) (zone.x + zone.w))) →
+    ((i : ℕ) → i < 64 →
+    has_bit mask i
+    ≡ (nat_le zone.x (column * 64 + i) && nat_lt (column * 64 + i) (zone.x + zone.w))) →
     contains (word_zone zone column) x y ≡ true →
-    has_masked words across column mask y (x - column * 64) ≡ (has_place words across x y && contains zone x y)
+    has_masked words across column mask y (x - column * 64)
+    ≡ (has_place words across x y && contains zone x y)
 word_marks words across column mask zone x y is c =
     let (x0, x1, y0, y1) = contains_true (word_zone zone column) x y c in
     let e : column * 64 + (x - column * 64) ≡ x = omega arith in
     let word : x / 64 ≡ column = omega arith in
     let bit : x % 64 ≡ x - column * 64 = omega arith in
     let masked = rw e at (is (x - column * 64) (omega arith)) in
-    let inside : contains zone x y ≡ (nat_le zone.x x && nat_lt x (zone.x + zone.w)) = grind (arith, nat_tests) in
+    let inside : contains zone x y ≡ (nat_le zone.x x && nat_lt x (zone.x + zone.w)) =
+    grind (arith, nat_tests) in
     rw (word, bit, masked, inside) refl
 
 -- a zone of that column has its places there
@@ -76,7 +80,10 @@ edges_of_part p all part (Some e) within was =
 
 -- where a mask leaves no mark, the zone has none
 pub word_none : (words : List ℕ) (across mask : ℕ) (zone : Rect) (x y : ℕ) →
-    ((i : ℕ) → i < 64 → has_bit mask i ≡ (nat_le zone.x (zone.x / 64 * 64 + i) && nat_lt (zone.x / 64 * 64 + i) (zone.x + zone.w))) →
+    ((i : ℕ) → i < 64 →
+    has_bit mask i
+    ≡ (nat_le zone.x (zone.x / 64 * 64 + i)
+    && nat_lt (zone.x / 64 * 64 + i) (zone.x + zone.w))) →
     zone.x + zone.w ≤ zone.x / 64 * 64 + 64 →
     NoMarks (has_masked words across (zone.x / 64) mask) zone.y (zone.y + zone.h) →
     contains zone x y ≡ true →
@@ -93,16 +100,36 @@ word_none words across mask zone x y is one none c =
 
 -- else what was gathered of its words has its edges
 pub word_some : (words : List ℕ) (across mask : ℕ) (zone : Rect) (g : Gathered) →
-    ((i : ℕ) → i < 64 → has_bit mask i ≡ (nat_le zone.x (zone.x / 64 * 64 + i) && nat_lt (zone.x / 64 * 64 + i) (zone.x + zone.w))) →
+    ((i : ℕ) → i < 64 →
+    has_bit mask i
+    ≡ (nat_le zone.x (zone.x / 64 * 64 + i)
+    && nat_lt (zone.x / 64 * 64 + i) (zone.x + zone.w))) →
     zone.x + zone.w ≤ zone.x / 64 * 64 + 64 →
     IsGathered (has_masked words across (zone.x / 64) mask) zone.y (zone.y + zone.h) g →
-    IsEdges (has_place words across) zone (record { left = zone.x / 64 * 64 + trailing_zeros w64 g.bits; right = zone.x / 64 * 64 + 63 - leading_zeros w64 g.bits; top = g.top; bottom = g.bottom })
+    IsEdges (has_place words across) zone
+    (record {
+      left = zone.x / 64 * 64 + trailing_zeros w64 g.bits;
+      right = zone.x / 64 * 64 + 63 - leading_zeros w64 g.bits;
+      top = g.top;
+      bottom = g.bottom;
+    })
 word_some words across mask zone g is one found =
     let high : zone.y + zone.h - zone.y ≡ zone.h = omega arith in
-    let edges : Edges = record { left = zone.x / 64 * 64 + trailing_zeros w64 g.bits; right = zone.x / 64 * 64 + 63 - leading_zeros w64 g.bits; top = g.top; bottom = g.bottom } in
-    let column = rw high at (edges_of_column (has_masked words across (zone.x / 64) mask) (zone.x / 64 * 64) zone.y (zone.y + zone.h) g found) in
-    edges_of_part (has_place words across) (word_zone zone (zone.x / 64)) zone (Some edges) (λ x y c. word_holds zone x y one c)
-    (same_edges (λ x y. has_masked words across (zone.x / 64) mask y (x - zone.x / 64 * 64)) (λ x y. has_place words across x y && contains zone x y) (word_zone zone (zone.x / 64)) (Some edges)
+    let edges : Edges =
+    record {
+      left = zone.x / 64 * 64 + trailing_zeros w64 g.bits;
+      right = zone.x / 64 * 64 + 63 - leading_zeros w64 g.bits;
+      top = g.top;
+      bottom = g.bottom;
+    } in
+    let column =
+    rw high at (edges_of_column (has_masked words across (zone.x / 64) mask) (zone.x / 64 * 64)
+    zone.y (zone.y + zone.h) g found) in
+    edges_of_part (has_place words across) (word_zone zone (zone.x / 64)) zone (Some edges)
+    (λ x y c. word_holds zone x y one c)
+    (same_edges (λ x y. has_masked words across (zone.x / 64) mask y (x - zone.x / 64 * 64))
+    (λ x y. has_place words across x y && contains zone x y) (word_zone zone (zone.x / 64))
+    (Some edges)
     (λ x y c. word_marks words across (zone.x / 64) mask zone x y is c)
     column)
 
@@ -110,7 +137,8 @@ word_some words across mask zone g is one found =
 
 -- the order of the edges, and where they lie
 pub edges_order : (p : ℕ → ℕ → Bool) (cell : Rect) (e : Edges) →
-    IsEdges p cell e → (e.left ≤ e.right) × (e.right < cell.x + cell.w) × (e.top ≤ e.bottom) × (e.bottom < cell.y + cell.h)
+    IsEdges p cell e → (e.left ≤ e.right) × (e.right < cell.x + cell.w) × (e.top ≤ e.bottom)
+    × (e.bottom < cell.y + cell.h)
 edges_order p cell e is =
     let (y0, in0, m0) = is.at_left in
     let (y1, in1, m1) = is.at_right in
@@ -123,9 +151,11 @@ edges_order p cell e is =
 -- a rectangle with the edges is the least
 pub box_is : (p : ℕ → ℕ → Bool) (cell : Rect) (e : Edges) →
     IsEdges p cell e →
-    IsBox p cell (record { x = e.left; y = e.top; w = e.right - e.left + 1; h = e.bottom - e.top + 1 })
+    IsBox p cell
+    (record { x = e.left; y = e.top; w = e.right - e.left + 1; h = e.bottom - e.top + 1 })
 box_is p cell e is =
-    let box : Rect = record { x = e.left; y = e.top; w = e.right - e.left + 1; h = e.bottom - e.top + 1 } in
+    let box : Rect =
+    record { x = e.left; y = e.top; w = e.right - e.left + 1; h = e.bottom - e.top + 1 } in
     let (wide, right_in, high, bottom_in) = edges_order p cell e is in
     let (y0, in0, m0) = is.at_left in
     let (y1, in1, m1) = is.at_right in

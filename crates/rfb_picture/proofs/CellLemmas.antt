@@ -23,7 +23,16 @@ pub parts_all : (r i : Rect) (x y : ℕ) →
     i.x + i.w ≤ r.x + r.w →
     r.y ≤ i.y →
     i.y + i.h ≤ r.y + r.h →
-    contains r x y ≡ (contains i x y || contains (record { x = r.x; y = r.y; w = r.w; h = i.y - r.y }) x y || contains (record { x = r.x; y = i.y + i.h; w = r.w; h = r.y + r.h - (i.y + i.h) }) x y || contains (record { x = r.x; y = i.y; w = i.x - r.x; h = i.h }) x y || contains (record { x = i.x + i.w; y = i.y; w = r.x + r.w - (i.x + i.w); h = i.h }) x y)
+    contains r x y
+    ≡ (contains i x y || contains (record { x = r.x; y = r.y; w = r.w; h = i.y - r.y }) x y
+    || contains (record { x = r.x; y = i.y + i.h; w = r.w; h = r.y + r.h - (i.y + i.h) }) x
+    y || contains (record { x = r.x; y = i.y; w = i.x - r.x; h = i.h }) x y
+    || contains (record {
+      x = i.x + i.w;
+      y = i.y;
+      w = r.x + r.w - (i.x + i.w);
+      h = i.h;
+    }) x y)
 parts_all r i x y a b c d =
     elim (cases_lt y i.y) [
       | inl above ↦ grind (arith, nat_tests)
@@ -52,7 +61,8 @@ columns_to z column = record { x = z.x; y = z.y; w = min (z.x + z.w) (column * 6
 -- with one column more
 pub columns_more : (z : Rect) (column x y : ℕ) →
     z.x / 64 ≤ column →
-    contains (columns_to z (column + 1)) x y ≡ (contains (columns_to z column) x y || contains (in_column z column) x y)
+    contains (columns_to z (column + 1)) x y
+    ≡ (contains (columns_to z column) x y || contains (in_column z column) x y)
 columns_more z column x y p = grind (arith, nat_tests)
 
 -- ---- the edges of a set's places
@@ -64,11 +74,17 @@ pub full_edges : (p : ℕ → ℕ → Bool) (z : Rect) →
     ((x y : ℕ) → contains z x y ≡ true → p x y ≡ true) →
     IsEdges p z (record { left = z.x; right = z.x + z.w - 1; top = z.y; bottom = z.y + z.h - 1 })
 full_edges p z wide high all =
-    let left : contains z z.x z.y ≡ true = contains_row z z.x z.y (omega arith) (omega arith) (omega arith) (omega arith) in
-    let right : contains z (z.x + z.w - 1) z.y ≡ true = contains_row z (z.x + z.w - 1) z.y (omega arith) (omega arith) (omega arith) (omega arith) in
-    let bottom : contains z z.x (z.y + z.h - 1) ≡ true = contains_row z z.x (z.y + z.h - 1) (omega arith) (omega arith) (omega arith) (omega arith) in
+    let left : contains z z.x z.y ≡ true =
+    contains_row z z.x z.y (omega arith) (omega arith) (omega arith) (omega arith) in
+    let right : contains z (z.x + z.w - 1) z.y ≡ true =
+    contains_row z (z.x + z.w - 1) z.y (omega arith) (omega arith) (omega arith)
+    (omega arith) in
+    let bottom : contains z z.x (z.y + z.h - 1) ≡ true =
+    contains_row z z.x (z.y + z.h - 1) (omega arith) (omega arith) (omega arith)
+    (omega arith) in
     record {
-      holds = λ x y c m. let (x0, x1, y0, y1) = contains_true z x y c in (omega arith, omega arith, omega arith, omega arith);
+      holds = λ x y c m. let (x0, x1, y0, y1) =
+          contains_true z x y c in (omega arith, omega arith, omega arith, omega arith);
       at_left = (z.y, left, all z.x z.y left);
       at_right = (z.y, right, all (z.x + z.w - 1) z.y right);
       at_top = (z.x, left, all z.x z.y left);
@@ -85,7 +101,8 @@ same_cell z x y p q c = let (x0, x1, y0, y1) = contains_true z x y c in (omega a
 
 -- the edges by the marks are those of the set's places
 pub edges-layered : (l : Layers) (zone : Rect) (found : Option Edges) →
-    Holds (layered l) zone → HasEdges (in_set l) zone found → HasEdges (is_in (layered l)) zone found
+    Holds (layered l) zone → HasEdges (in_set l) zone found →
+    HasEdges (is_in (layered l)) zone found
 edges-layered l zone found room has =
     same_edges (in_set l) (is_in (layered l)) zone found
     (λ x y inside.

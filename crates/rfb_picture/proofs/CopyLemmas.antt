@@ -20,7 +20,8 @@ abbrev pub rows_done : Rect → ℕ → ℕ → Rect
 rows_done r sy n = record r { y = if nat_le r.y sy then r.y else r.y + (r.h - n); h = n }
 
 -- n places of one of h rows from y on, from column x on, end before the list does
-pub row_fits : (y row h x n w len : ℕ) → row < h → x + n ≤ w → (y + h) * w ≤ len → (y + row) * w + x + n ≤ len
+pub row_fits : (y row h x n w len : ℕ) → row < h → x + n ≤ w → (y + h) * w ≤ len →
+    (y + row) * w + x + n ≤ len
 row_fits y row h x n w len l p q =
     let over : (y + row + 1) * w ≤ (y + h) * w = mul-le-mul_right w (omega arith) in
     grind arith
@@ -28,21 +29,26 @@ row_fits y row h x n w len l p q =
 -- with that row written too, one row more is
 pub rows_done_more : (r : Rect) (sy n x y : ℕ) →
     n < r.h →
-    contains (rows_done r sy (n + 1)) x y ≡ (contains (rows_done r sy n) x y || contains (record { x = r.x; y = r.y + row_after r sy n; w = r.w; h = 1 }) x y)
+    contains (rows_done r sy (n + 1)) x y
+    ≡ (contains (rows_done r sy n) x y
+    || contains (record { x = r.x; y = r.y + row_after r sy n; w = r.w; h = 1 }) x y)
 rows_done_more r sy n x y l = grind (arith, nat_tests)
 
 -- and the row that it reads is not written yet
-pub source_row_left : (r : Rect) (sy n x : ℕ) → n < r.h → contains (rows_done r sy n) x (sy + row_after r sy n) ≡ false
+pub source_row_left : (r : Rect) (sy n x : ℕ) → n < r.h →
+    contains (rows_done r sy n) x (sy + row_after r sy n) ≡ false
 source_row_left r sy n x l = grind (arith, nat_tests)
 
 -- at the end all are written
-pub rows_all_done : (r : Rect) (sy n x y : ℕ) → n ≡ r.h → contains (rows_done r sy n) x y ≡ contains r x y
+pub rows_all_done : (r : Rect) (sy n x y : ℕ) → n ≡ r.h →
+    contains (rows_done r sy n) x y ≡ contains r x y
 rows_all_done r sy n x y e = grind (arith, nat_tests)
 
 -- in the rectangle of a row, the index in the list is as far from the start of its source as the
 -- column is from its first
 index_of_source : (x0 y0 sx sy n w x y : ℕ) →
-    contains (record { x = x0; y = y0; w = n; h = 1 }) x y ≡ true → sy * w + sx + (y * w + x - (y0 * w + x0)) ≡ sy * w + (sx + (x - x0))
+    contains (record { x = x0; y = y0; w = n; h = 1 }) x y ≡ true →
+    sy * w + sx + (y * w + x - (y0 * w + x0)) ≡ sy * w + (sx + (x - x0))
 index_of_source x0 y0 sx sy n w x y e =
     let h = contains_true (record { x = x0; y = y0; w = n; h = 1 }) x y e in
     let same : y ≡ y0 = omega arith in
@@ -63,12 +69,14 @@ source_row x0 y0 row sy n x y e =
     omega arith
 
 module _ {X : Type 0} where
-  either : (a b : Bool) (now u v : X) → now ≡ (if b then u else (if a then u else v)) → now ≡ (if a || b then u else v)
+  either : (a b : Bool) (now u v : X) → now ≡ (if b then u else (if a then u else v)) →
+      now ≡ (if a || b then u else v)
   either true true now u v e = e
   either true false now u v e = e
   either false b now u v e = e
 
-  at_value : (b : Bool) (now u v w : X) → now ≡ (if b then u else w) → (b ≡ true → u ≡ v) → now ≡ (if b then v else w)
+  at_value : (b : Bool) (now u v w : X) → now ≡ (if b then u else w) → (b ≡ true → u ≡ v) →
+      now ≡ (if b then v else w)
   at_value true now u v w e same = e ∙ same refl
   at_value false now u v w e same = e
 
@@ -79,22 +87,34 @@ module _ {X : Type 0} where
       n < r.h →
       row ≡ row_after r sy n →
       x < w →
-      ((x y : ℕ) → x < w → before (y * w + x) ≡ (if contains (rows_done r sy n) x y then first ((sy + (y - r.y)) * w + (sx + (x - r.x))) else first (y * w + x))) →
-      now ≡ (if nat_le ((r.y + row) * w + r.x) (y * w + x) && nat_lt (y * w + x) ((r.y + row) * w + r.x + r.w) then before ((sy + row) * w + sx + (y * w + x - ((r.y + row) * w + r.x))) else before (y * w + x)) →
-      now ≡ (if contains (rows_done r sy (n + 1)) x y then first ((sy + (y - r.y)) * w + (sx + (x - r.x))) else first (y * w + x))
+      ((x y : ℕ) → x < w →
+      before (y * w + x)
+      ≡ (if contains (rows_done r sy n) x y
+      then first ((sy + (y - r.y)) * w + (sx + (x - r.x))) else first (y * w + x))) →
+      now ≡ (if nat_le ((r.y + row) * w + r.x) (y * w + x)
+      && nat_lt (y * w + x) ((r.y + row) * w + r.x + r.w)
+      then before ((sy + row) * w + sx + (y * w + x - ((r.y + row) * w + r.x)))
+      else before (y * w + x)) →
+      now ≡ (if contains (rows_done r sy (n + 1)) x y
+      then first ((sy + (y - r.y)) * w + (sx + (x - r.x))) else first (y * w + x))
   copied_more r sx sy n row x y w now before first p q l this m was is =
       let test = index_in_row r.x (r.y + row) r.w w x y p m in
       let done = rows_done_more r sy n x y l in
       let more = rw (← this) at done in
       rw more
-      (either (contains (rows_done r sy n) x y) (contains (record { x = r.x; y = r.y + row; w = r.w; h = 1 }) x y) now _ _
+      (either (contains (rows_done r sy n) x y)
+      (contains (record { x = r.x; y = r.y + row; w = r.w; h = 1 }) x y) now _ _
       (rw (← was x y m)
-      (at_value (contains (record { x = r.x; y = r.y + row; w = r.w; h = 1 }) x y) now _ _ _ (rw test at is)
+      (at_value (contains (record { x = r.x; y = r.y + row; w = r.w; h = 1 }) x y) now _ _ _
+      (rw test at is)
       (λ e.
       let left = source_row_left r sy n (sx + (x - r.x)) l in
       let free = rw (← this) at left in
       let read = was (sx + (x - r.x)) (sy + row) (source_column r.x (r.y + row) sx r.w w x y q e) in
-      rw (index_of_source r.x (r.y + row) sx (sy + row) r.w w x y e, source_row r.x r.y row sy r.w x y e)
+      rw (
+        index_of_source r.x (r.y + row) sx (sy + row) r.w w x y e,
+        source_row r.x r.y row sy r.w x y e,
+      )
       (rw free at read)))))
 
   -- what is read lies in the grid, so it does not matter what stands for the places outside
@@ -107,7 +127,8 @@ module _ {X : Type 0} where
       at_value (contains r x y) now _ _ _ is
       (λ e.
       let h = contains_true r x y e in
-      let below = place_below g.width g.height (sx + (x - r.x)) (sy + (y - r.y)) (omega (arith, held.0)) (omega (arith, held.1)) in
+      let below = place_below g.width g.height (sx + (x - r.x)) (sy + (y - r.y))
+      (omega (arith, held.0)) (omega (arith, held.1)) in
       get_or_default g.places ((sy + (y - r.y)) * g.width + (sx + (x - r.x))) d other (omega arith))
 
   -- what stands at a place after a copy: in the rectangle, what stood at its source
@@ -116,6 +137,8 @@ module _ {X : Type 0} where
       Holds g (record r { x = sx; y = sy }) →
       x < g.width →
       y < g.height →
-      at_or (copied r sx sy g) x y d ≡ (if contains r x y then at_or g (sx + (x - r.x)) (sy + (y - r.y)) d else at_or g x y d)
+      at_or (copied r sx sy g) x y d
+      ≡ (if contains r x y then at_or g (sx + (x - r.x)) (sy + (y - r.y)) d else at_or g x y d)
   at-copied r sx sy g x y d whole held p q =
-      source_read r sx sy g x y (at_or (copied r sx sy g) x y d) (at_or g x y d) (at_or g x y d) d whole held (at-changed _ g x y d whole p q)
+      source_read r sx sy g x y (at_or (copied r sx sy g) x y d) (at_or g x y d) (at_or g x y d) d
+      whole held (at-changed _ g x y d whole p q)

@@ -33,7 +33,8 @@ pub all_columns_more : (p : ℕ → ℕ → Bool) (z : Rect) (column : ℕ) →
     AllMarked p (columns_to z (column + 1))
 all_columns_more p z column order first second =
     λ x y c.
-    elim (or_cases (contains (columns_to z column) x y) (contains (in_column z column) x y) (sym (columns_more z column x y order) ∙ c)) [
+    elim (or_cases (contains (columns_to z column) x y) (contains (in_column z column) x y)
+    (sym (columns_more z column x y order) ∙ c)) [
       | inl e ↦ first x y e
       | inr e ↦ second x y e
     ]
@@ -48,13 +49,15 @@ all_columns_done p z column done all =
 -- ---- a set's places
 
 -- the places by the marks are the set's
-pub all-layered : (l : Layers) (z : Rect) → Holds l.places z → AllMarked (in_set l) z → AllMarked (is_in (layered l)) z
+pub all-layered : (l : Layers) (z : Rect) → Holds l.places z → AllMarked (in_set l) z →
+    AllMarked (is_in (layered l)) z
 all-layered l z room all =
     λ x y c.
     let (x0, x1, y0, y1) = contains_true z x y c in
     at-layered l x y false (omega (arith, room.0)) (omega (arith, room.1)) ∙ all x y c
 
-pub all-in_set : (l : Layers) (z : Rect) → Holds l.places z → AllMarked (is_in (layered l)) z → AllMarked (in_set l) z
+pub all-in_set : (l : Layers) (z : Rect) → Holds l.places z → AllMarked (is_in (layered l)) z →
+    AllMarked (in_set l) z
 all-in_set l z room all =
     λ x y c.
     let (x0, x1, y0, y1) = contains_true z x y c in
@@ -93,7 +96,8 @@ pub bits-layered : (l : Layers) (x y i : ℕ) (b : Bool) →
     i < 64 →
     y < l.places.height →
     (x + i < l.places.width → in_set l (x + i) y ≡ b) →
-    (nat_lt (x + i) l.places.width && is_in (layered l) (x + i) y) ≡ (nat_lt (x + i) l.places.width && b)
+    (nat_lt (x + i) l.places.width && is_in (layered l) (x + i) y)
+    ≡ (nat_lt (x + i) l.places.width && b)
 bits-layered l x y i b start low q same =
     and_same (nat_lt (x + i) l.places.width) _ b
     (λ e.

@@ -15,12 +15,19 @@ use Rattle.rfb_picture.proofs.GatherLemmas.{some_bit, first_bit, last_bit}
 -- the edges of words one above the other
 pub edges_of_column : (q : ℕ → ℕ → Bool) (start top bottom : ℕ) (g : Gathered) →
     IsGathered q top bottom g →
-    IsEdges (λ x y. q y (x - start)) (record { x = start; y = top; w = 64; h = bottom - top }) (record { left = start + trailing_zeros w64 g.bits; right = start + 63 - leading_zeros w64 g.bits; top = g.top; bottom = g.bottom })
+    IsEdges (λ x y. q y (x - start)) (record { x = start; y = top; w = 64; h = bottom - top })
+    (record {
+      left = start + trailing_zeros w64 g.bits;
+      right = start + 63 - leading_zeros w64 g.bits;
+      top = g.top;
+      bottom = g.bottom;
+    })
 edges_of_column q start top bottom g is =
     let zone : Rect = record { x = start; y = top; w = 64; h = bottom - top } in
     let p : ℕ → ℕ → Bool = λ x y. q y (x - start) in
     let there : (i : ℕ) → i < 64 → start + i - start ≡ i = λ i m. omega arith in
-    let at : (y i : ℕ) → q y i ≡ true → p (start + i) y ≡ true = λ y i e. let same : start + i - start ≡ i = omega arith in rw same e in
+    let at : (y i : ℕ) → q y i ≡ true → p (start + i) y ≡ true =
+    λ y i e. let same : start + i - start ≡ i = omega arith in rw same e in
     let high = is.at_top in
     let low = is.at_bottom in
     let some = some_bit g.bits high.0 (is.each g.top high.0 high.1 high.2 high.3 high.4).0 in
@@ -28,21 +35,47 @@ edges_of_column q start top bottom g is =
     let last = last_bit g.bits some is.small in
     let left = is.some (trailing_zeros w64 g.bits) first.0 first.1 in
     let right = is.some (63 - leading_zeros w64 g.bits) (omega arith) last.1 in
-    let far : start + 63 - leading_zeros w64 g.bits ≡ start + (63 - leading_zeros w64 g.bits) = omega (arith, last.0) in
+    let far : start + 63 - leading_zeros w64 g.bits ≡ start + (63 - leading_zeros w64 g.bits) =
+    omega (arith, last.0) in
     record {
       holds = λ x y c m.
           let (x0, x1, y0, y1) = contains_true zone x y c in
-          let bit = is.each y (x - start) y0 (omega arith) (omega arith) m in
-          (omega (arith, first.2 (x - start) bit.0), omega (arith, last.2 (x - start) bit.0, last.0), bit.1, bit.2);
-      at_left = (left.0, contains_row zone _ left.0 (omega arith) (omega (arith, first.0)) left.1 (omega (arith, left.1, left.2)), at left.0 _ left.3);
-      at_right = rw far (right.0, contains_row zone _ right.0 (omega arith) (omega arith) right.1 (omega (arith, right.1, right.2)), at right.0 _ right.3);
-      at_top = (start + high.0, contains_row zone _ g.top (omega arith) (omega (arith, high.3)) high.1 (omega (arith, high.1, high.2)), at g.top high.0 high.4);
-      at_bottom = (start + low.0, contains_row zone _ g.bottom (omega arith) (omega (arith, low.3)) low.1 (omega (arith, low.1, low.2)), at g.bottom low.0 low.4);
+          let bit = is.each y (x - start) y0 (omega arith) (omega arith) m in (
+            omega (arith, first.2 (x - start) bit.0),
+            omega (arith, last.2 (x - start) bit.0, last.0),
+            bit.1,
+            bit.2,
+          );
+      at_left = (
+        left.0,
+        contains_row zone _ left.0 (omega arith) (omega (arith, first.0)) left.1
+            (omega (arith, left.1, left.2)),
+        at left.0 _ left.3,
+      );
+      at_right = rw far (
+        right.0,
+        contains_row zone _ right.0 (omega arith) (omega arith) right.1
+            (omega (arith, right.1, right.2)),
+        at right.0 _ right.3,
+      );
+      at_top = (
+        start + high.0,
+        contains_row zone _ g.top (omega arith) (omega (arith, high.3)) high.1
+            (omega (arith, high.1, high.2)),
+        at g.top high.0 high.4,
+      );
+      at_bottom = (
+        start + low.0,
+        contains_row zone _ g.bottom (omega arith) (omega (arith, low.3)) low.1
+            (omega (arith, low.1, low.2)),
+        at g.bottom low.0 low.4,
+      );
     }
 
 -- marks that are the same in the zone have the same edges
 pub same_edges : (p q : ℕ → ℕ → Bool) (zone : Rect) (found : Option Edges) →
-    ((x y : ℕ) → contains zone x y ≡ true → p x y ≡ q x y) → HasEdges p zone found → HasEdges q zone found
+    ((x y : ℕ) → contains zone x y ≡ true → p x y ≡ q x y) → HasEdges p zone found →
+    HasEdges q zone found
 same_edges p q zone None same was = λ x y c. sym (same x y c) ∙ was x y c
 same_edges p q zone (Some e) same was =
     let (y0, in0, m0) = was.at_left in
@@ -103,7 +136,8 @@ pub joined_first : (p : ℕ → ℕ → Bool) (first second all : Rect) (found :
     ((x y : ℕ) → contains second x y ≡ true → p x y ≡ false) →
     HasEdges p all found
 joined_first p first second all found parts was clear =
-    joined_second p second first all found (λ x y. parts x y ∙ or_swap (contains first x y) (contains second x y)) clear was
+    joined_second p second first all found
+    (λ x y. parts x y ∙ or_swap (contains first x y) (contains second x y)) clear was
 
 least : (P : ℕ → Type 0) (a b : ℕ) → P a → P b → P (min a b)
 least P a b p q =
@@ -124,7 +158,13 @@ pub joined_both : (p : ℕ → ℕ → Bool) (first second all : Rect) (a b : Ed
     ((x y : ℕ) → contains all x y ≡ (contains first x y || contains second x y)) →
     IsEdges p first a →
     IsEdges p second b →
-    IsEdges p all (record { left = min a.left b.left; right = max a.right b.right; top = min a.top b.top; bottom = max a.bottom b.bottom })
+    IsEdges p all
+    (record {
+      left = min a.left b.left;
+      right = max a.right b.right;
+      top = min a.top b.top;
+      bottom = max a.bottom b.bottom;
+    })
 joined_both p first second all a b parts is_a is_b =
     let in_a : (x y : ℕ) → contains first x y ≡ true → contains all x y ≡ true =
     λ x y c. parts x y ∙ or_left (contains first x y) (contains second x y) c in
@@ -143,11 +183,15 @@ joined_both p first second all a b parts is_a is_b =
     record {
       holds = λ x y c m.
           elim (or_cases (contains first x y) (contains second x y) (sym (parts x y) ∙ c)) [
-            | inl one ↦ let h = is_a.holds x y one m in (omega (arith, h.0), omega (arith, h.1), omega (arith, h.2), omega (arith, h.3))
-            | inr other ↦ let h = is_b.holds x y other m in (omega (arith, h.0), omega (arith, h.1), omega (arith, h.2), omega (arith, h.3))
+            | inl one ↦ let h = is_a.holds x y one m in
+                (omega (arith, h.0), omega (arith, h.1), omega (arith, h.2), omega (arith, h.3))
+            | inr other ↦ let h = is_b.holds x y other m in
+                (omega (arith, h.0), omega (arith, h.1), omega (arith, h.2), omega (arith, h.3))
           ];
       at_left = least Column a.left b.left (y0, in_a a.left y0 i0, m0) (y4, in_b b.left y4 i4, m4);
-      at_right = most Column a.right b.right (y1, in_a a.right y1 i1, m1) (y5, in_b b.right y5 i5, m5);
+      at_right = most Column a.right b.right (y1, in_a a.right y1 i1, m1)
+          (y5, in_b b.right y5 i5, m5);
       at_top = least Row a.top b.top (x0, in_a x0 a.top i2, m2) (x6, in_b x6 b.top i6, m6);
-      at_bottom = most Row a.bottom b.bottom (x1, in_a x1 a.bottom i3, m3) (x7, in_b x7 b.bottom i7, m7);
+      at_bottom = most Row a.bottom b.bottom (x1, in_a x1 a.bottom i3, m3)
+          (x7, in_b x7 b.bottom i7, m7);
     }

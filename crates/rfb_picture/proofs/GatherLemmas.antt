@@ -1,4 +1,5 @@
--- Bits of words one above the other, put together: which columns have one, and the first and last row.
+-- Bits of words one above the other, put together: which columns have one,
+-- and the first and last row.
 use Rattle.std.proofs.Common.{ℕ, suc, Bool, true, false, ◌≡◌, ◌+◌, ◌-◌, ◌*◌, ◌/◌, ◌^◌, ◌<◌, ◌≤◌, refl, arith, bit_and, List, slice_index_or, inl, inr}
 use Rattle.std.specs.Int.{w64, trailing_zeros, leading_zeros}
 use Rattle.std.proofs.Math.Nat.{one-mul, pow-suc}
@@ -25,7 +26,8 @@ some_bit n i e =
 pub first_bit : (n : ℕ) →
     0 < n →
     n < 2 ^ 64 →
-    (trailing_zeros w64 n < 64) × (has_bit n (trailing_zeros w64 n) ≡ true) × ((i : ℕ) → has_bit n i ≡ true → trailing_zeros w64 n ≤ i)
+    (trailing_zeros w64 n < 64) × (has_bit n (trailing_zeros w64 n) ≡ true)
+    × ((i : ℕ) → has_bit n i ≡ true → trailing_zeros w64 n ≤ i)
 first_bit n some small =
     let first = bit_at-trailing_zeros w64 n some small in
     let there : has_bit n (trailing_zeros w64 n) ≡ true = rw (first.1) refl in (
@@ -47,7 +49,8 @@ pow_more j = omega (arith, pow-suc 2 j)
 pub last_bit : (n : ℕ) →
     0 < n →
     n < 2 ^ 64 →
-    (leading_zeros w64 n ≤ 63) × (has_bit n (63 - leading_zeros w64 n) ≡ true) × ((i : ℕ) → has_bit n i ≡ true → i ≤ 63 - leading_zeros w64 n)
+    (leading_zeros w64 n ≤ 63) × (has_bit n (63 - leading_zeros w64 n) ≡ true)
+    × ((i : ℕ) → has_bit n i ≡ true → i ≤ 63 - leading_zeros w64 n)
 last_bit n some small =
     let top = leading_top 64 n some small in
     let j = top.0 in
@@ -83,9 +86,11 @@ some_masked words across column mask row some small =
 
 -- where it leaves nothing, there is none
 pub none_masked : (words : List ℕ) (across column mask row i : ℕ) →
-    bit_and (slice_index_or words (row * across + column) 0) mask ≡ 0 → has_masked words across column mask row i ≡ false
+    bit_and (slice_index_or words (row * across + column) 0) mask ≡ 0 →
+    has_masked words across column mask row i ≡ false
 none_masked words across column mask row i none =
-    let zero : has_bit (bit_and (slice_index_or words (row * across + column) 0) mask) i ≡ false = rw (none, bit_at-zero i) refl in
+    let zero : has_bit (bit_and (slice_index_or words (row * across + column) 0) mask) i ≡ false =
+    rw (none, bit_at-zero i) refl in
     rw has_bit-and at zero
 
 -- the bits of the rows from the first that has one to the last are those of all rows

@@ -19,7 +19,8 @@ place_below w h x y p q = grind (arith, rows)
 pub index_in_row : (x0 y0 n w x y : ℕ) →
     x0 + n ≤ w →
     x < w →
-    (nat_le (y0 * w + x0) (y * w + x) && nat_lt (y * w + x) (y0 * w + x0 + n)) ≡ contains (record { x = x0; y = y0; w = n; h = 1 }) x y
+    (nat_le (y0 * w + x0) (y * w + x) && nat_lt (y * w + x) (y0 * w + x0 + n))
+    ≡ contains (record { x = x0; y = y0; w = n; h = 1 }) x y
 index_in_row x0 y0 n w x y p q =
     elim (cases_order y0 y) [
       | inl e ↦ rw e (grind (arith, nat_tests))
@@ -33,21 +34,30 @@ index_in_row x0 y0 n w x y p q =
 
 -- a rectangle with one row more has the places of that row too
 pub contains_more : (r : Rect) (n x y : ℕ) →
-    contains (record r { h = n + 1 }) x y ≡ (contains (record r { h = n }) x y || contains (record { x = r.x; y = r.y + n; w = r.w; h = 1 }) x y)
+    contains (record r { h = n + 1 }) x y
+    ≡ (contains (record r { h = n }) x y
+    || contains (record { x = r.x; y = r.y + n; w = r.w; h = 1 }) x y)
 contains_more r n x y = grind (arith, nat_tests)
 
 -- what the test of a place tells
 pub contains_true : (r : Rect) (x y : ℕ) →
     contains r x y ≡ true → (r.x ≤ x) × (x < r.x + r.w) × (r.y ≤ y) × (y < r.y + r.h)
-contains_true r x y e = (grind (arith, nat_tests), grind (arith, nat_tests), grind (arith, nat_tests), grind (arith, nat_tests))
+contains_true r x y e = (
+  grind (arith, nat_tests),
+  grind (arith, nat_tests),
+  grind (arith, nat_tests),
+  grind (arith, nat_tests),
+)
 
 -- a place between the edges passes the test
-pub contains_row : (r : Rect) (x y : ℕ) → r.x ≤ x → x < r.x + r.w → r.y ≤ y → y < r.y + r.h → contains r x y ≡ true
+pub contains_row : (r : Rect) (x y : ℕ) → r.x ≤ x → x < r.x + r.w → r.y ≤ y → y < r.y + r.h →
+    contains r x y ≡ true
 contains_row r x y a b c d = grind (arith, nat_tests)
 
 -- in the rectangle of a row, the index in the row is the distance from its first column
 column_in_row : (x0 y0 n w x y : ℕ) →
-    contains (record { x = x0; y = y0; w = n; h = 1 }) x y ≡ true → (y * w + x - (y0 * w + x0) ≡ x - x0) × (x - x0 < n)
+    contains (record { x = x0; y = y0; w = n; h = 1 }) x y ≡ true →
+    (y * w + x - (y0 * w + x0) ≡ x - x0) × (x - x0 < n)
 column_in_row x0 y0 n w x y e =
     let h = contains_true (record { x = x0; y = y0; w = n; h = 1 }) x y e in
     let same : y ≡ y0 = omega arith in
@@ -81,12 +91,14 @@ module _ {X : Type 0} where
 
   -- ---- one place in a loop's step
 
-  either : (a b : Bool) (now u v : X) → now ≡ (if b then u else (if a then u else v)) → now ≡ (if a || b then u else v)
+  either : (a b : Bool) (now u v : X) → now ≡ (if b then u else (if a then u else v)) →
+      now ≡ (if a || b then u else v)
   either true true now u v e = e
   either true false now u v e = e
   either false b now u v e = e
 
-  at_value : (b : Bool) (now u v w : X) → now ≡ (if b then u else w) → (b ≡ true → u ≡ v) → now ≡ (if b then v else w)
+  at_value : (b : Bool) (now u v w : X) → now ≡ (if b then u else w) → (b ≡ true → u ≡ v) →
+      now ≡ (if b then v else w)
   at_value true now u v w e same = e ∙ same refl
   at_value false now u v w e same = e
 
@@ -95,18 +107,22 @@ module _ {X : Type 0} where
       r.x + r.w ≤ w →
       x < w →
       before ≡ (if contains (record r { h = n }) x y then value else first) →
-      now ≡ (if nat_le ((r.y + n) * w + r.x) (y * w + x) && nat_lt (y * w + x) ((r.y + n) * w + r.x + r.w) then value else before) →
+      now ≡ (if nat_le ((r.y + n) * w + r.x) (y * w + x)
+      && nat_lt (y * w + x) ((r.y + n) * w + r.x + r.w) then value else before) →
       now ≡ (if contains (record r { h = n + 1 }) x y then value else first)
   filled_more r n x y w now before first value p q was is =
       let row = index_in_row r.x (r.y + n) r.w w x y p q in
-      rw (contains_more r n x y) (either (contains (record r { h = n }) x y) _ now value first (rw (row, was) at is))
+      rw (contains_more r n x y)
+      (either (contains (record r { h = n }) x y) _ now value first (rw (row, was) at is))
 
   -- values written from (x, y) on stand in their row
   pub row_written : (x y w i j : ℕ) (row : List X) (d now old : X) →
       x + length row ≤ w →
       i < w →
-      now ≡ (if nat_le (y * w + x) (j * w + i) && nat_lt (j * w + i) (y * w + x + length row) then slice_index_or row (j * w + i - (y * w + x)) d else old) →
-      now ≡ (if contains (record { x = x; y = y; w = length row; h = 1 }) i j then slice_index_or row (i - x) old else old)
+      now ≡ (if nat_le (y * w + x) (j * w + i) && nat_lt (j * w + i) (y * w + x + length row)
+      then slice_index_or row (j * w + i - (y * w + x)) d else old) →
+      now ≡ (if contains (record { x = x; y = y; w = length row; h = 1 }) i j
+      then slice_index_or row (i - x) old else old)
   row_written x y w i j row d now old p q is =
       let written = rw (index_in_row x y (length row) w i j p q) at is in
       at_value (contains (record { x = x; y = y; w = length row; h = 1 }) i j) now _ _ old written
@@ -120,7 +136,8 @@ module _ {X : Type 0} where
   pub changed_is : (f : ℕ → ℕ → X → X) (g : Grid X) (new : List X) →
       IsGrid g →
       length new ≡ length g.places →
-      ((x y : ℕ) (d : X) → x < g.width → y < g.height → slice_index_or new (y * g.width + x) d ≡ f x y (at_or g x y d)) →
+      ((x y : ℕ) (d : X) → x < g.width → y < g.height →
+      slice_index_or new (y * g.width + x) d ≡ f x y (at_or g x y d)) →
       grid g.width g.height new ≡ changed f g
   unfolding changed
   changed_is f g new whole len each =
@@ -132,8 +149,10 @@ module _ {X : Type 0} where
       let below : k < g.height * g.width = omega arith in
       let some : 0 < g.width = some_in_row k g.height g.width below in
       let place : k / g.width * g.width + k % g.width ≡ k = div-add-mod' k g.width in
-      let there = each (k % g.width) (k / g.width) d (mod_below k g.width some) (div_below k g.width g.height some below) in
-      let read = get_or-by_index (λ i old. f (i % g.width) (i / g.width) old) 0 g.places k d within in
+      let there = each (k % g.width) (k / g.width) d (mod_below k g.width some)
+      (div_below k g.width g.height some below) in
+      let read = get_or-by_index (λ i old. f (i % g.width) (i / g.width) old) 0 g.places k d
+      within in
       rw place at there ∙ sym (rw zero-add at read)))
 
   -- what stands at a place of the changed grid
@@ -143,7 +162,8 @@ module _ {X : Type 0} where
   at-changed f g x y d whole p q =
       let below = place_below g.width g.height x y p q in
       let within : y * g.width + x < length g.places = omega arith in
-      let read = get_or-by_index (λ i old. f (i % g.width) (i / g.width) old) 0 g.places (y * g.width + x) d within in
+      let read = get_or-by_index (λ i old. f (i % g.width) (i / g.width) old) 0 g.places
+      (y * g.width + x) d within in
       rw (zero-add, mod-mul-add y g.width x p, div-mul-add y g.width x p) at read
 
   -- a change keeps the size, and the number of values
@@ -155,7 +175,8 @@ module _ {X : Type 0} where
   unfolding changed
   height-changed f g = refl
 
-  pub length-changed : (f : ℕ → ℕ → X → X) (g : Grid X) → length (changed f g).places ≡ length g.places
+  pub length-changed : (f : ℕ → ℕ → X → X) (g : Grid X) →
+      length (changed f g).places ≡ length g.places
   unfolding changed
   length-changed f g = length-by_index _ 0 g.places
 
@@ -175,16 +196,19 @@ module _ {X : Type 0} where
   unfolding changed
   changed_twice f k g =
       ap (grid g.width g.height)
-      (by_index_twice (λ i old. f (i % g.width) (i / g.width) old) (λ i old. k (i % g.width) (i / g.width) old) 0 g.places)
+      (by_index_twice (λ i old. f (i % g.width) (i / g.width) old)
+      (λ i old. k (i % g.width) (i / g.width) old) 0 g.places)
 
   -- two changes that put the same at each place are one
   pub same_changes : (f k : ℕ → ℕ → X → X) (g : Grid X) →
       IsGrid g →
-      ((x y : ℕ) (d : X) → x < g.width → y < g.height → f x y (at_or g x y d) ≡ k x y (at_or g x y d)) →
+      ((x y : ℕ) (d : X) → x < g.width → y < g.height →
+      f x y (at_or g x y d) ≡ k x y (at_or g x y d)) →
       changed f g ≡ changed k g
   unfolding changed
   same_changes f k g whole each =
-      changed_is k g (changed f g).places whole (length-changed f g) (λ x y d p q. at-changed f g x y d whole p q ∙ each x y d p q)
+      changed_is k g (changed f g).places whole (length-changed f g)
+      (λ x y d p q. at-changed f g x y d whole p q ∙ each x y d p q)
 
   -- ---- what stands at a place after each call
 
@@ -199,10 +223,13 @@ module _ {X : Type 0} where
       IsGrid g →
       i < g.width →
       j < g.height →
-      at_or (with_row x y row g) i j d ≡ (if contains (record { x = x; y = y; w = length row; h = 1 }) i j then slice_index_or row (i - x) (at_or g i j d) else at_or g i j d)
+      at_or (with_row x y row g) i j d
+      ≡ (if contains (record { x = x; y = y; w = length row; h = 1 }) i j
+      then slice_index_or row (i - x) (at_or g i j d) else at_or g i j d)
   at-with_row x y row g i j d whole p q = at-changed _ g i j d whole p q
 
-  pub at-uniform : (w h : ℕ) (c : X) (x y : ℕ) (d : X) → x < w → y < h → at_or (uniform w h c) x y d ≡ c
+  pub at-uniform : (w h : ℕ) (c : X) (x y : ℕ) (d : X) → x < w → y < h →
+      at_or (uniform w h c) x y d ≡ c
   unfolding uniform
   at-uniform w h c x y d p q = get_or-replicate (h * w) (y * w + x) c d (place_below w h x y p q)
 
@@ -219,9 +246,11 @@ module _ {X : Type 0} where
   unfolding uniform
   whole-uniform w h c = length-replicate (h * w) c
 
-  same_parts : (g k : Grid X) → g.width ≡ k.width → g.height ≡ k.height → g.places ≡ k.places → g ≡ k
+  same_parts : (g k : Grid X) → g.width ≡ k.width → g.height ≡ k.height → g.places ≡ k.places →
+      g ≡ k
   same_parts g k widths heights places =
-      let parts : grid g.width g.height g.places ≡ grid k.width k.height k.places = rw (widths, heights, places) in
+      let parts : grid g.width g.height g.places ≡ grid k.width k.height k.places =
+      rw (widths, heights, places) in
       parts
 
   -- two grids of one size with equal values at equal places are one
@@ -238,14 +267,16 @@ module _ {X : Type 0} where
       (λ n d l.
       let below : n < g.height * g.width = omega arith in
       let some : 0 < g.width = some_in_row n g.height g.width below in
-      let there = each (n % g.width) (n / g.width) d (mod_below n g.width some) (div_below n g.width g.height some below) in
+      let there = each (n % g.width) (n / g.width) d (mod_below n g.width some)
+      (div_below n g.width g.height some below) in
       let there_too = rw (← widths) at there in
       rw (div-add-mod' n g.width) at there_too))
 
   -- ---- rows
 
   -- a part of a row has as many values as it was asked for
-  pub length-row_of : (g : Grid X) (x y w : ℕ) → IsGrid g → x + w ≤ g.width → y < g.height → length (row_of g x y w) ≡ w
+  pub length-row_of : (g : Grid X) (x y w : ℕ) → IsGrid g → x + w ≤ g.width → y < g.height →
+      length (row_of g x y w) ≡ w
   length-row_of g x y w whole p q =
       let below = mul-le-mul_right g.width q in
       length-take-le w (drop (y * g.width + x) g.places) (rw length-drop (omega arith))
@@ -255,4 +286,5 @@ module _ {X : Type 0} where
       i < w → slice_index_or (row_of g x y w) i d ≡ at_or g (x + i) y d
   slice_index_or-row_of g x y w i d l =
       let e : y * g.width + (x + i) ≡ y * g.width + x + i = omega arith in
-      get_or-take w (drop (y * g.width + x) g.places) i d l ∙ (get_or-drop (y * g.width + x) g.places i d ∙ ap (λ n. get_or g.places n d) (sym e))
+      get_or-take w (drop (y * g.width + x) g.places) i d l
+      ∙ (get_or-drop (y * g.width + x) g.places i d ∙ ap (λ n. get_or g.places n d) (sym e))

@@ -9,16 +9,19 @@ use Rattle.rfb_picture.specs.Grid.{Grid, grid, IsGrid, at_or, changed, with_row,
 use Rattle.rfb_picture.proofs.GridLemmas.{place_below, changed_is, row_written, same_changes, width-changed, height-changed}
 
 module _ {X : Type 0} where
-  same_parts : (g k : Grid X) → g.width ≡ k.width → g.height ≡ k.height → g.places ≡ k.places → g ≡ k
+  same_parts : (g k : Grid X) → g.width ≡ k.width → g.height ≡ k.height → g.places ≡ k.places →
+      g ≡ k
   same_parts g k widths heights places =
-      let parts : grid g.width g.height g.places ≡ grid k.width k.height k.places = rw (widths, heights, places) in
+      let parts : grid g.width g.height g.places ≡ grid k.width k.height k.places =
+      rw (widths, heights, places) in
       parts
 
   -- values written over a list from index n on
   abbrev written_over : List X → ℕ → List X → List X
   written_over xs n ws = take n xs ++ (ws ++ drop (length ws) (drop n xs))
 
-  length-written_over : (xs : List X) (n : ℕ) (ws : List X) → n ≤ length xs → length xs ≤ length (written_over xs n ws)
+  length-written_over : (xs : List X) (n : ℕ) (ws : List X) → n ≤ length xs →
+      length xs ≤ length (written_over xs n ws)
   length-written_over xs n ws l =
       let front : length (take n xs) ≡ n = length-take-le n xs l in
       simp (length-append, length-drop) (omega arith)
@@ -30,10 +33,12 @@ module _ {X : Type 0} where
       get_or-append (take n xs) _ d k (omega arith) ∙ get_or-take n xs k d p
 
   in_run : (xs : List X) (n : ℕ) (ws : List X) (k : ℕ) (d other : X) →
-      n ≤ length xs → n ≤ k → k < n + length ws → get_or (written_over xs n ws) k d ≡ get_or ws (k - n) other
+      n ≤ length xs → n ≤ k → k < n + length ws →
+      get_or (written_over xs n ws) k d ≡ get_or ws (k - n) other
   in_run xs n ws k d other l p q =
       get_or-append_right (take n xs) _ n k d (length-take-le n xs l) p
-      ∙ (get_or-append ws _ d (k - n) (omega arith) ∙ get_or_default ws (k - n) d other (omega arith))
+      ∙ (get_or-append ws _ d (k - n) (omega arith)
+      ∙ get_or_default ws (k - n) d other (omega arith))
 
   after_run : (xs : List X) (n : ℕ) (ws : List X) (k : ℕ) (d : X) →
       n ≤ length xs → n + length ws ≤ k → get_or (written_over xs n ws) k d ≡ get_or xs k d
@@ -46,23 +51,37 @@ module _ {X : Type 0} where
 
   get_or-written_over : (xs : List X) (n : ℕ) (ws : List X) (k : ℕ) (d other : X) →
       n ≤ length xs →
-      get_or (written_over xs n ws) k d ≡ (if nat_le n k && nat_lt k (n + length ws) then get_or ws (k - n) other else get_or xs k d)
+      get_or (written_over xs n ws) k d
+      ≡ (if nat_le n k && nat_lt k (n + length ws) then get_or ws (k - n) other
+      else get_or xs k d)
   get_or-written_over xs n ws k d other l =
-      grind (arith, nat_tests, before_run xs n ws k d l, in_run xs n ws k d other l, after_run xs n ws k d l)
+      grind (
+        arith,
+        nat_tests,
+        before_run xs n ws k d l,
+        in_run xs n ws k d other l,
+        after_run xs n ws k d l,
+      )
 
   -- what stands at a place after the values that a loan of a vector's places left
   pub run_written : {Z : Type 0} (v : Vec X Z) (n : ℕ) (ws : List X) (k : ℕ) (d other : X) →
       n ≤ length v.items →
       k < length v.items →
-      get_or (with_items_from v n ws).items k d ≡ (if nat_le n k && nat_lt k (n + length ws) then get_or ws (k - n) other else get_or v.items k d)
+      get_or (with_items_from v n ws).items k d
+      ≡ (if nat_le n k && nat_lt k (n + length ws) then get_or ws (k - n) other
+      else get_or v.items k d)
   run_written v n ws k d other l below =
       let whole : v.len ≡ length v.items = v.ok.0 in
       let long = length-written_over v.items n ws l in
-      get_or-take v.len (written_over v.items n ws ++ drop (length (written_over v.items n ws)) v.items) k d (omega arith)
-      ∙ (get_or-append (written_over v.items n ws) _ d k (omega arith) ∙ get_or-written_over v.items n ws k d other l)
+      get_or-take v.len
+      (written_over v.items n ws ++ drop (length (written_over v.items n ws)) v.items) k d
+      (omega arith)
+      ∙ (get_or-append (written_over v.items n ws) _ d k (omega arith)
+      ∙ get_or-written_over v.items n ws k d other l)
 
   -- and they are as many as before
-  pub length-run_written : {Z : Type 0} (v : Vec X Z) (n : ℕ) (ws : List X) → length (with_items_from v n ws).items ≡ length v.items
+  pub length-run_written : {Z : Type 0} (v : Vec X Z) (n : ℕ) (ws : List X) →
+      length (with_items_from v n ws).items ≡ length v.items
   length-run_written v n ws = sym (with_items_from v n ws).ok.0 ∙ v.ok.0
 
   -- so the grid has them as a run of its places
@@ -76,17 +95,24 @@ module _ {X : Type 0} where
       let over = mul-le-mul_right w row in
       ap (λ (k : Grid X). grid w h k.places)
       (changed_is
-      (λ i j old. if nat_le (y * w + x) (j * w + i) && nat_lt (j * w + i) (y * w + x + length run) then slice_index_or run (j * w + i - (y * w + x)) old else old)
+      (λ i j old. if nat_le (y * w + x) (j * w + i) && nat_lt (j * w + i) (y * w + x + length run)
+      then slice_index_or run (j * w + i - (y * w + x)) old else old)
       g (with_items_from v (y * w + x) run).items whole (length-run_written v (y * w + x) run)
       (λ i j d p q.
       let below = place_below w h i j p q in
-      run_written v (y * w + x) run (j * w + i) d (get_or v.items (j * w + i) d) (omega arith) (omega arith)))
+      run_written v (y * w + x) run (j * w + i) d (get_or v.items (j * w + i) d) (omega arith)
+      (omega arith)))
 
   -- within a row a run is a part of that row
-  pub run_in_row : (x y : ℕ) (row : List X) (g : Grid X) → IsGrid g → x + length row ≤ g.width → with_run x y row g ≡ with_row x y row g
+  pub run_in_row : (x y : ℕ) (row : List X) (g : Grid X) → IsGrid g → x + length row ≤ g.width →
+      with_run x y row g ≡ with_row x y row g
   run_in_row x y row g whole fits =
       let same : changed _ g ≡ with_row x y row g = same_changes
-      (λ i j old. if nat_le (y * g.width + x) (j * g.width + i) && nat_lt (j * g.width + i) (y * g.width + x + length row) then slice_index_or row (j * g.width + i - (y * g.width + x)) old else old)
+      (λ i j old. if nat_le (y * g.width + x) (j * g.width + i)
+      && nat_lt (j * g.width + i) (y * g.width + x + length row)
+      then slice_index_or row (j * g.width + i - (y * g.width + x)) old else old)
       _ g whole
-      (λ i j d p q. row_written x y g.width i j row (at_or g i j d) _ (at_or g i j d) fits p refl) in
-      ap (λ (k : Grid X). grid g.width g.height k.places) same ∙ same_parts _ _ (sym (width-changed _ g)) (sym (height-changed _ g)) refl
+      (λ i j d p q.
+      row_written x y g.width i j row (at_or g i j d) _ (at_or g i j d) fits p refl) in
+      ap (λ (k : Grid X). grid g.width g.height k.places) same
+      ∙ same_parts _ _ (sym (width-changed _ g)) (sym (height-changed _ g)) refl

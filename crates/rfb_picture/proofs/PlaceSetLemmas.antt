@@ -23,9 +23,11 @@ pub layered_is : (l : Layers) (g : Grid Bool) →
     IsGrid g →
     g.width ≡ l.places.width →
     g.height ≡ l.places.height →
-    ((x y : ℕ) (d : Bool) → x < l.places.width → y < l.places.height → in_set l x y ≡ at_or g x y d) →
+    ((x y : ℕ) (d : Bool) → x < l.places.width → y < l.places.height →
+    in_set l x y ≡ at_or g x y d) →
     layered l ≡ g
-layered_is l g whole wide high each = marked_is l.places.width l.places.height (in_set l) g whole wide high each
+layered_is l g whole wide high each =
+    marked_is l.places.width l.places.height (in_set l) g whole wide high each
 
 -- what the marks say of a place
 pub at-layered : (l : Layers) (x y : ℕ) (d : Bool) →
@@ -73,10 +75,13 @@ pub layered-none : (l : Layers) →
     ((i j : ℕ) → i < l.used.width → j < l.used.height → is_in l.used i j ≡ false) →
     layered l ≡ uniform l.places.width l.places.height false
 layered-none l sound full used =
-    layered_is l (uniform l.places.width l.places.height false) (whole-uniform _ _ _) (width-uniform _ _ _) (height-uniform _ _ _)
+    layered_is l (uniform l.places.width l.places.height false) (whole-uniform _ _ _)
+    (width-uniform _ _ _) (height-uniform _ _ _)
     (λ x y d p q.
-    let f = full (x / 64) (y / 64) (cell_below x l.places.width l.full.width sound.full_wide p) (cell_below y l.places.height l.full.height sound.full_high q) in
-    let u = used (x / 64) (y / 64) (cell_below x l.places.width l.used.width sound.used_wide p) (cell_below y l.places.height l.used.height sound.used_high q) in
+    let f = full (x / 64) (y / 64) (cell_below x l.places.width l.full.width sound.full_wide p)
+    (cell_below y l.places.height l.full.height sound.full_high q) in
+    let u = used (x / 64) (y / 64) (cell_below x l.places.width l.used.width sound.used_wide p)
+    (cell_below y l.places.height l.used.height sound.used_high q) in
     let none : in_set l x y ≡ false = rw (f, u) refl in
     none ∙ sym (at-uniform l.places.width l.places.height false x y d p q))
 
@@ -122,7 +127,8 @@ layered-fresh w h i j l narrow low wide high places full used =
     let height : l.places.height ≡ h = rw places (height-uniform w h false) in
     layered-none l sound
     (λ a b p q. uniform_none l.full i j a b full (rw full_width at p) (rw full_height at q))
-    (λ a b p q. uniform_none l.used i j a b used (rw used_width at p) (rw used_height at q)) ∙ (rw (width, height) refl)
+    (λ a b p q. uniform_none l.used i j a b used (rw used_width at p) (rw used_height at q))
+    ∙ (rw (width, height) refl)
 
 -- ---- whole cells
 
@@ -137,9 +143,14 @@ pub layered-full : (l : Layers) (inner : Rect) →
     0 < inner.h →
     IsOfCells inner.x inner.w l.places.width →
     IsOfCells inner.y inner.h l.places.height →
-    layered (record { places = l.places; full = filled (touched inner) true l.full; used = l.used }) ≡ filled inner true (layered l)
+    layered (record { places = l.places; full = filled (touched inner) true l.full; used = l.used })
+    ≡ filled inner true (layered l)
 layered-full l inner sound wide high columns rows =
-    layered_is (record { places = l.places; full = filled (touched inner) true l.full; used = l.used }) (filled inner true (layered l))
+    layered_is (record {
+      places = l.places;
+      full = filled (touched inner) true l.full;
+      used = l.used;
+    }) (filled inner true (layered l))
     (whole-changed _ (layered l) (whole-layered l))
     (width-changed _ (layered l))
     (height-changed _ (layered l))
@@ -148,7 +159,8 @@ layered-full l inner sound wide high columns rows =
     let j = cell_below y l.places.height l.full.height sound.full_high q in
     let column = columns wide x p in
     let row = rows high y q in
-    let same : contains (touched inner) (x / 64) (y / 64) ≡ contains inner x y = grind (arith, nat_tests, column, row) in
+    let same : contains (touched inner) (x / 64) (y / 64) ≡ contains inner x y =
+    grind (arith, nat_tests, column, row) in
     let there = at-filled (touched inner) true l.full (x / 64) (y / 64) false sound.all_full i j in
     let after = at-filled inner true (layered l) x y d (whole-layered l) p q in
     let was = at-layered l x y d p q in
@@ -158,29 +170,35 @@ layered-full l inner sound wide high columns rows =
 
 -- a place's mark counts in an open cell
 open_mark : (f u p m was : Bool) →
-    (f || u) ≡ true → (f || (u && p)) ≡ was → (f || (u && (if m then true else p))) ≡ (if m then true else was)
+    (f || u) ≡ true → (f || (u && p)) ≡ was →
+    (f || (u && (if m then true else p))) ≡ (if m then true else was)
 open_mark true u p true was o e = refl
 open_mark false true p true was o e = refl
 open_mark false false p true was o e = absurd (false≢true o)
 open_mark f u p false was o e = e
 
 unmarked : (f u p m was : Bool) →
-    m ≡ false → (f || (u && p)) ≡ was → (f || (u && (if m then true else p))) ≡ (if m then true else was)
+    m ≡ false → (f || (u && p)) ≡ was →
+    (f || (u && (if m then true else p))) ≡ (if m then true else was)
 unmarked f u p m was e is = rw e is
 
 -- the cell of a place of a rectangle is one of those that it touches
-pub touched_cell : (r : Rect) (x y : ℕ) → contains r x y ≡ true → contains (touched r) (x / 64) (y / 64) ≡ true
+pub touched_cell : (r : Rect) (x y : ℕ) → contains r x y ≡ true →
+    contains (touched r) (x / 64) (y / 64) ≡ true
 touched_cell r x y c =
     let (x0, x1, y0, y1) = contains_true r x y c in
-    contains_row (touched r) (x / 64) (y / 64) (omega arith) (omega arith) (omega arith) (omega arith)
+    contains_row (touched r) (x / 64) (y / 64) (omega arith) (omega arith) (omega arith)
+    (omega arith)
 
 -- with the marks of a rectangle's places, in cells that were opened
 pub layered-part : (old new : Layers) (part : Rect) →
     IsLayers old →
     IsOpened (touched part) old new →
-    layered (record { places = filled part true new.places; full = new.full; used = new.used }) ≡ filled part true (layered old)
+    layered (record { places = filled part true new.places; full = new.full; used = new.used })
+    ≡ filled part true (layered old)
 layered-part old new part sound opens =
-    layered_is (record { places = filled part true new.places; full = new.full; used = new.used }) (filled part true (layered old))
+    layered_is (record { places = filled part true new.places; full = new.full; used = new.used })
+    (filled part true (layered old))
     (whole-changed _ (layered old) (whole-layered old))
     (width-changed _ (layered old) ∙ (sym opens.wide ∙ sym (width-changed _ new.places)))
     (height-changed _ (layered old) ∙ (sym opens.high ∙ sym (height-changed _ new.places)))
@@ -197,15 +215,18 @@ layered-part old new part sound opens =
     let f = is_in new.full (x / 64) (y / 64) in
     let u = is_in new.used (x / 64) (y / 64) in
     let m = is_in new.places x y in
-    let step : (f || (u && (if contains part x y then true else m))) ≡ (if contains part x y then true else in_set old x y) =
+    let step : (f || (u && (if contains part x y then true else m)))
+    ≡ (if contains part x y then true else in_set old x y) =
     elim (cases_Bool (contains part x y)) [
-      | inl e ↦ open_mark f u m (contains part x y) (in_set old x y) (opens.opened (x / 64) (y / 64) i j (touched_cell part x y e)) (opens.same x y p q)
+      | inl e ↦ open_mark f u m (contains part x y) (in_set old x y)
+          (opens.opened (x / 64) (y / 64) i j (touched_cell part x y e)) (opens.same x y p q)
       | inr e ↦ unmarked f u m (contains part x y) (in_set old x y) e (opens.same x y p q)
     ] in
     rw there (step ∙ (rw (← was) (sym after))))
 
 -- a cell whose marks did not count says nothing until they are cleared
-opened_mark : (b f u p : Bool) → (b ≡ true → f ≡ false) → (b ≡ true → u ≡ false) → (f || ((if b then true else u) && (if b then false else p))) ≡ (f || (u && p))
+opened_mark : (b f u p : Bool) → (b ≡ true → f ≡ false) → (b ≡ true → u ≡ false) →
+    (f || ((if b then true else u) && (if b then false else p))) ≡ (f || (u && p))
 opened_mark true f u p no_f no_u = rw (no_f refl, no_u refl) refl
 opened_mark false f u p no_f no_u = refl
 
@@ -226,30 +247,51 @@ pub opened_cell : (l : Layers) (column row : ℕ) →
     row < l.full.height →
     is_in l.full column row ≡ false →
     is_in l.used column row ≡ false →
-    IsOpened (one_cell column row) l (record { places = filled (cell_at column row) false l.places; full = l.full; used = filled (one_cell column row) true l.used })
+    IsOpened (one_cell column row) l
+    (record {
+      places = filled (cell_at column row) false l.places;
+      full = l.full;
+      used = filled (one_cell column row) true l.used;
+    })
 opened_cell l column row sound p q no_full no_used =
-    let new : Layers = record { places = filled (cell_at column row) false l.places; full = l.full; used = filled (one_cell column row) true l.used } in
-    let used_at : (i j : ℕ) → i < l.full.width → j < l.full.height → is_in new.used i j ≡ (if contains (one_cell column row) i j then true else is_in l.used i j) =
+    let new : Layers =
+    record {
+      places = filled (cell_at column row) false l.places;
+      full = l.full;
+      used = filled (one_cell column row) true l.used;
+    } in
+    let used_at : (i j : ℕ) → i < l.full.width → j < l.full.height →
+    is_in new.used i j
+    ≡ (if contains (one_cell column row) i j then true else is_in l.used i j) =
     λ i j a b.
     let a1 : i < l.used.width = rw (sound.used_wide, ← sound.full_wide) a in
     let b1 : j < l.used.height = rw (sound.used_high, ← sound.full_high) b in
     at-filled (one_cell column row) true l.used i j false sound.all_used a1 b1 in
     record {
-      sound = same_sizes l new sound (width-changed _ l.places) (height-changed _ l.places) refl refl (width-changed _ l.used) (height-changed _ l.used) (whole-changed _ l.places sound.all_places) sound.all_full (whole-changed _ l.used sound.all_used);
+      sound = same_sizes l new sound (width-changed _ l.places) (height-changed _ l.places) refl
+          refl (width-changed _ l.used) (height-changed _ l.used)
+          (whole-changed _ l.places sound.all_places) sound.all_full
+          (whole-changed _ l.used sound.all_used);
       wide = width-changed _ l.places;
       high = height-changed _ l.places;
       same_full = refl;
       same = λ x y a b.
           let i = cell_below x l.places.width l.full.width sound.full_wide a in
           let j = cell_below y l.places.height l.full.height sound.full_high b in
-          let there = at-filled (cell_at column row) false l.places x y false sound.all_places a b in
-          let cell : contains (cell_at column row) x y ≡ contains (one_cell column row) (x / 64) (y / 64) = grind (arith, nat_tests) in
-          let is : contains (one_cell column row) (x / 64) (y / 64) ≡ true → (x / 64 ≡ column) × (y / 64 ≡ row) =
-          λ c. let (c0, c1, c2, c3) = contains_true (one_cell column row) (x / 64) (y / 64) c in (omega arith, omega arith) in
+          let there = at-filled (cell_at column row) false l.places x y false sound.all_places a
+          b in
+          let cell : contains (cell_at column row) x y
+          ≡ contains (one_cell column row) (x / 64) (y / 64) = grind (arith, nat_tests) in
+          let is : contains (one_cell column row) (x / 64) (y / 64) ≡ true →
+          (x / 64 ≡ column) × (y / 64 ≡ row) =
+          λ c. let (c0, c1, c2, c3) = contains_true (one_cell column row) (x / 64) (y / 64) c in
+          (omega arith, omega arith) in
           rw (used_at (x / 64) (y / 64) i j, there, cell)
           (opened_mark (contains (one_cell column row) (x / 64) (y / 64)) _ _ _
           (λ c. let e = is c in rw (e.0, e.1) no_full)
           (λ c. let e = is c in rw (e.0, e.1) no_used));
-      kept = λ i j a b o. rw (used_at i j a b) (still_open (contains (one_cell column row) i j) _ _ o);
-      opened = λ i j a b c. rw (used_at i j a b) (now_open (contains (one_cell column row) i j) _ _ c);
+      kept = λ i j a b o.
+          rw (used_at i j a b) (still_open (contains (one_cell column row) i j) _ _ o);
+      opened = λ i j a b c.
+          rw (used_at i j a b) (now_open (contains (one_cell column row) i j) _ _ c);
     }

@@ -22,7 +22,8 @@ use Rattle.rfb_picture.proofs.GridLemmas.{contains_true, at-changed, width-chang
 -- it has a value for each place
 pub whole-marked : (w h : ℕ) (mark : ℕ → ℕ → Bool) → IsGrid (marked w h mark)
 whole-marked w h mark =
-    length-changed _ (uniform w h false) ∙ (rw (whole-uniform w h false, width-uniform, height-uniform) refl)
+    length-changed _ (uniform w h false)
+    ∙ (rw (whole-uniform w h false, width-uniform, height-uniform) refl)
 
 -- which is whether the place is marked
 pub at-marked : (w h : ℕ) (mark : ℕ → ℕ → Bool) (x y : ℕ) (d : Bool) →
@@ -31,8 +32,10 @@ at-marked w h mark x y d p q =
     let f : ℕ → ℕ → Bool → Bool = λ i j _. mark i j in
     let wide : x < (uniform w h false).width = rw width-uniform p in
     let high : y < (uniform w h false).height = rw height-uniform q in
-    let P : ℕ → Type 0 = λ n. slice_index_or (changed f (uniform w h false)).places (y * n + x) d ≡ mark x y in
-    subst P (width-changed f (uniform w h false) ∙ width-uniform w h false) (at-changed f (uniform w h false) x y d (whole-uniform w h false) wide high)
+    let P : ℕ → Type 0 =
+    λ n. slice_index_or (changed f (uniform w h false)).places (y * n + x) d ≡ mark x y in
+    subst P (width-changed f (uniform w h false) ∙ width-uniform w h false)
+    (at-changed f (uniform w h false) x y d (whole-uniform w h false) wide high)
 
 -- a grid that says the same of each place is the one that the marks make
 pub marked_is : (w h : ℕ) (mark : ℕ → ℕ → Bool) (g : Grid Bool) →
@@ -60,7 +63,8 @@ pub plane_is : (w h across : ℕ) (words : List ℕ) (g : Grid Bool) →
     g.height ≡ h →
     ((x y : ℕ) (d : Bool) → x < w → y < h → has_place words across x y ≡ at_or g x y d) →
     plane w h across words ≡ g
-plane_is w h across words g whole wide high each = marked_is w h (has_place words across) g whole wide high each
+plane_is w h across words g whole wide high each =
+    marked_is w h (has_place words across) g whole wide high each
 
 -- a word of a list of zeros is 0
 zero_there : (n i : ℕ) → slice_index_or (replicate {A = ℕ} n 0) i 0 ≡ 0
@@ -73,14 +77,17 @@ zero_there n i =
 -- the words of a new set
 pub resized_zeros : (n len : ℕ) (old new : List ℕ) →
     new ≡ take n old ++ replicate (n - len) 0 → old ≡ [] → len ≡ 0 → new ≡ replicate n 0
-resized_zeros n len old new e none no_len = rw (e, none, no_len, take_all {A = ℕ} n [] (omega arith), sub-zero) refl
+resized_zeros n len old new e none no_len =
+    rw (e, none, no_len, take_all {A = ℕ} n [] (omega arith), sub-zero) refl
 
 -- words that are all 0 make the set with no place
 pub plane-zeros : (w h across n : ℕ) → plane w h across (replicate n 0) ≡ uniform w h false
 plane-zeros w h across n =
-    plane_is w h across (replicate n 0) (uniform w h false) (whole-uniform w h false) (width-uniform w h false) (height-uniform w h false)
+    plane_is w h across (replicate n 0) (uniform w h false) (whole-uniform w h false)
+    (width-uniform w h false) (height-uniform w h false)
     (λ x y d p q.
-    let none : has_place (replicate n 0) across x y ≡ false = rw (zero_there n (y * across + x / 64), bit_at-zero (x % 64)) refl in
+    let none : has_place (replicate n 0) across x y ≡ false =
+    rw (zero_there n (y * across + x / 64), bit_at-zero (x % 64)) refl in
     none ∙ sym (at-uniform w h false x y d p q))
 
 -- ---- its words
@@ -91,7 +98,8 @@ pub word_below : (w h across : ℕ) (words : List ℕ) (k y : ℕ) →
 word_below w h across words k y plane p q = rw plane.size (grind (arith, rows))
 
 -- the word of a place is one of its row
-pub column_below : (w h across : ℕ) (words : List ℕ) (x : ℕ) → IsPlane w h across words → x < w → x / 64 < across
+pub column_below : (w h across : ℕ) (words : List ℕ) (x : ℕ) → IsPlane w h across words → x < w →
+    x / 64 < across
 column_below w h across words x plane p = let room = plane.room in omega arith
 
 -- so the word of a place is one
@@ -103,7 +111,8 @@ place_word_below w h across words x y plane p q =
 -- the number of words in a row follows from the width
 pub same_across : (w h across : ℕ) (words : List ℕ) (j other : ℕ) (more : List ℕ) →
     IsPlane w h across words → IsPlane w j other more → across ≡ other
-same_across w h across words j other more a b = let p = a.room in let q = a.least in let r = b.room in let s = b.least in omega arith
+same_across w h across words j other more a b = let p = a.room in let q = a.least in let r =
+    b.room in let s = b.least in omega arith
 
 -- ---- with a rectangle's places
 
@@ -116,7 +125,8 @@ or_is_if false false = refl
 -- words that have the rectangle's bits too make the set with its places
 pub plane-filled : (w h across : ℕ) (old new : List ℕ) (rect : Rect) →
     IsPlane w h across old →
-    ((k y i : ℕ) → k < across → i < 64 → has_at new across y k i ≡ (has_at old across y k i || contains rect (k * 64 + i) y)) →
+    ((k y i : ℕ) → k < across → i < 64 →
+    has_at new across y k i ≡ (has_at old across y k i || contains rect (k * 64 + i) y)) →
     plane w h across new ≡ filled rect true (plane w h across old)
 plane-filled w h across old new rect sound each =
     plane_is w h across new (filled rect true (plane w h across old))
@@ -136,7 +146,10 @@ plane-filled w h across old new rect sound each =
 pub plane-cell_cleared : (w h across : ℕ) (old new : List ℕ) (column row bottom : ℕ) →
     IsPlane w h across old →
     bottom ≡ min (row * 64 + 64) h →
-    ((k y i : ℕ) → k < across → has_at new across y k i ≡ (if nat_eq k column && (nat_le (row * 64) y && nat_lt y bottom) then false else has_at old across y k i)) →
+    ((k y i : ℕ) → k < across →
+    has_at new across y k i
+    ≡ (if nat_eq k column && (nat_le (row * 64) y && nat_lt y bottom) then false
+    else has_at old across y k i)) →
     plane w h across new ≡ filled (cell_at column row) false (plane w h across old)
 plane-cell_cleared w h across old new column row bottom sound low each =
     plane_is w h across new (filled (cell_at column row) false (plane w h across old))
@@ -145,9 +158,11 @@ plane-cell_cleared w h across old new column row bottom sound low each =
     (height-changed _ (plane w h across old))
     (λ x y d p q.
     let here = each (x / 64) y (x % 64) (column_below w h across old x sound p) in
-    let there = at-filled (cell_at column row) false (plane w h across old) x y d (whole-plane w h across old) p q in
+    let there = at-filled (cell_at column row) false (plane w h across old) x y d
+    (whole-plane w h across old) p q in
     let was = at-plane w h across old x y d p q in
-    let cell : (nat_eq (x / 64) column && (nat_le (row * 64) y && nat_lt y bottom)) ≡ contains (cell_at column row) x y = grind (arith, nat_tests) in
+    let cell : (nat_eq (x / 64) column && (nat_le (row * 64) y && nat_lt y bottom))
+    ≡ contains (cell_at column row) x y = grind (arith, nat_tests) in
     (rw cell at here) ∙ (rw (← was) (sym there)))
 
 -- ---- the edges of its places

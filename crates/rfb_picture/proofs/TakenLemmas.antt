@@ -40,8 +40,12 @@ rows_more row other old mid new first second = record {
   alike = (second.alike.0 ∙ first.alike.0, second.alike.1 ∙ first.alike.1);
   each = λ x y p q.
       let here = second.each x y (rw first.alike.0 p) (rw first.alike.1 q) in
-      let same : nat_lt (y / 64) (row + 1) ≡ (nat_lt (y / 64) row || nat_eq (y / 64) row) = grind (arith, nat_tests) in
-      rw same (here ∙ (rw (first.each x y p q) (lost_twice (in_set old x y) (nat_lt (y / 64) row) (nat_eq (y / 64) row) (in_part other x y))));
+      let same : nat_lt (y / 64) (row + 1) ≡ (nat_lt (y / 64) row || nat_eq (y / 64) row) =
+      grind (arith, nat_tests) in
+      rw same (here
+      ∙ (rw (first.each x y p q)
+      (lost_twice (in_set old x y) (nat_lt (y / 64) row) (nat_eq (y / 64) row)
+      (in_part other x y))));
 }
 
 -- one row more, of which the other set uses no cell
@@ -59,9 +63,13 @@ rows_skipped row other old new sound alike none lost = record {
       let was = lost.each x y p q in
       elim (cases_eq (y / 64) row) [
         | inl here ↦
-            let off : is_in other.used (x / 64) (y / 64) ≡ false = rw here (none (x / 64) (omega arith) i) in
-            let now = no_part (nat_lt (y / 64) (row + 1)) (is_in other.full (x / 64) (y / 64)) _ (is_in other.places x y) off in
-            let before = no_part (nat_lt (y / 64) row) (is_in other.full (x / 64) (y / 64)) _ (is_in other.places x y) off in
+            let off : is_in other.used (x / 64) (y / 64) ≡ false =
+            rw here (none (x / 64) (omega arith) i) in
+            let now = no_part (nat_lt (y / 64) (row + 1)) (is_in other.full (x / 64) (y / 64)) _
+            (is_in other.places x y) off in
+            let before =
+            no_part (nat_lt (y / 64) row) (is_in other.full (x / 64) (y / 64)) _
+            (is_in other.places x y) off in
             rw now (rw before at was)
         | inr apart ↦
             let same : nat_lt (y / 64) (row + 1) ≡ nat_lt (y / 64) row = grind (arith, nat_tests) in
@@ -72,25 +80,32 @@ rows_skipped row other old new sound alike none lost = record {
 -- ---- one cell
 
 -- a cell's places
-pub in_cell : (x y column row : ℕ) → x / 64 ≡ column → y / 64 ≡ row → contains (cell_at column row) x y ≡ true
-in_cell x y column row e f = contains_row (cell_at column row) x y (omega arith) (omega arith) (omega arith) (omega arith)
+pub in_cell : (x y column row : ℕ) → x / 64 ≡ column → y / 64 ≡ row →
+    contains (cell_at column row) x y ≡ true
+in_cell x y column row e f =
+    contains_row (cell_at column row) x y (omega arith) (omega arith) (omega arith) (omega arith)
 
 -- and those of others
-pub not_in_cell : (x y column row : ℕ) → (x / 64 ≡ column → y / 64 ≡ row → ⊥) → contains (cell_at column row) x y ≡ false
+pub not_in_cell : (x y column row : ℕ) → (x / 64 ≡ column → y / 64 ≡ row → ⊥) →
+    contains (cell_at column row) x y ≡ false
 not_in_cell x y column row apart =
     elim (cases_Bool (contains (cell_at column row) x y)) [
-      | inl e ↦ let (x0, x1, y0, y1) = contains_true (cell_at column row) x y e in absurd (apart (omega arith) (omega arith))
+      | inl e ↦ let (x0, x1, y0, y1) =
+          contains_true (cell_at column row) x y e in absurd (apart (omega arith) (omega arith))
       | inr e ↦ e
     ]
 
 -- the cell itself among cells
 in_one : (i j column row : ℕ) → i ≡ column → j ≡ row → contains (one_cell column row) i j ≡ true
-in_one i j column row e f = contains_row (one_cell column row) i j (omega arith) (omega arith) (omega arith) (omega arith)
+in_one i j column row e f =
+    contains_row (one_cell column row) i j (omega arith) (omega arith) (omega arith) (omega arith)
 
-not_in_one : (i j column row : ℕ) → (i ≡ column → j ≡ row → ⊥) → contains (one_cell column row) i j ≡ false
+not_in_one : (i j column row : ℕ) → (i ≡ column → j ≡ row → ⊥) →
+    contains (one_cell column row) i j ≡ false
 not_in_one i j column row apart =
     elim (cases_Bool (contains (one_cell column row) i j)) [
-      | inl e ↦ let (x0, x1, y0, y1) = contains_true (one_cell column row) i j e in absurd (apart (omega arith) (omega arith))
+      | inl e ↦ let (x0, x1, y0, y1) =
+          contains_true (one_cell column row) i j e in absurd (apart (omega arith) (omega arith))
       | inr e ↦ e
     ]
 
@@ -102,18 +117,36 @@ pub cell_lost : (column row : ℕ) (other old mid : Layers) →
     is_in other.full column row ≡ false →
     is_in other.used column row ≡ true →
     is_in mid.used column row ≡ true →
-    HasLost (λ i j. nat_eq i column && nat_eq j row) other old (record { places = without_in (cell_at column row) other.places mid.places; full = mid.full; used = mid.used })
+    HasLost (λ i j. nat_eq i column && nat_eq j row) other old
+    (record {
+      places = without_in (cell_at column row) other.places mid.places;
+      full = mid.full;
+      used = mid.used;
+    })
 cell_lost column row other old mid sound alike spread no_full used own =
-    let new : Layers = record { places = without_in (cell_at column row) other.places mid.places; full = mid.full; used = mid.used } in
-    let wide = width-changed (λ x y was. was && not (contains (cell_at column row) x y && is_in other.places x y)) mid.places in
-    let high = height-changed (λ x y was. was && not (contains (cell_at column row) x y && is_in other.places x y)) mid.places in
+    let new : Layers =
     record {
-      sound = same_sizes mid new spread.sound wide high refl refl refl refl (whole-changed _ mid.places spread.sound.all_places) spread.sound.all_full spread.sound.all_used;
+      places = without_in (cell_at column row) other.places mid.places;
+      full = mid.full;
+      used = mid.used;
+    } in
+    let wide = width-changed
+    (λ x y was. was && not (contains (cell_at column row) x y && is_in other.places x y))
+    mid.places in
+    let high = height-changed
+    (λ x y was. was && not (contains (cell_at column row) x y && is_in other.places x y))
+    mid.places in
+    record {
+      sound = same_sizes mid new spread.sound wide high refl refl refl refl
+          (whole-changed _ mid.places spread.sound.all_places) spread.sound.all_full
+          spread.sound.all_used;
       alike = (wide ∙ spread.alike.0, high ∙ spread.alike.1);
       each = λ x y p q.
           let p1 : x < mid.places.width = rw spread.alike.0 p in
           let q1 : y < mid.places.height = rw spread.alike.1 q in
-          let there = at-changed (λ x y was. was && not (contains (cell_at column row) x y && is_in other.places x y)) mid.places x y false spread.sound.all_places p1 q1 in
+          let there = at-changed
+          (λ x y was. was && not (contains (cell_at column row) x y && is_in other.places x y))
+          mid.places x y false spread.sound.all_places p1 q1 in
           let was = spread.same x y p q in
           elim (cases_place (x / 64) column (y / 64) row) [
             | inl same ↦
@@ -124,12 +157,15 @@ cell_lost column row other old mid sound alike spread no_full used own =
                 let some : is_in mid.used (x / 64) (y / 64) ≡ true = rw (e, f) own in
                 let other_none : is_in other.full (x / 64) (y / 64) ≡ false = rw (e, f) no_full in
                 let other_some : is_in other.used (x / 64) (y / 64) ≡ true = rw (e, f) used in
-                let test : (nat_eq (x / 64) column && nat_eq (y / 64) row) ≡ true = grind (arith, nat_tests) in
-                let before : in_set old x y ≡ is_in mid.places x y = sym was ∙ (rw (none, some) refl) in
+                let test : (nat_eq (x / 64) column && nat_eq (y / 64) row) ≡ true =
+                grind (arith, nat_tests) in
+                let before : in_set old x y ≡ is_in mid.places x y =
+                sym was ∙ (rw (none, some) refl) in
                 rw (there, none, some, inside, other_none, other_some, test, before) refl
             | inr apart ↦
                 let outside = not_in_cell x y column row apart in
-                let test : (nat_eq (x / 64) column && nat_eq (y / 64) row) ≡ false = grind (arith, nat_tests) in
+                let test : (nat_eq (x / 64) column && nat_eq (y / 64) row) ≡ false =
+                grind (arith, nat_tests) in
                 rw (there, outside, test, and_true, and_true) was
           ];
     }
@@ -142,32 +178,50 @@ pub spread_full : (column row : ℕ) (l : Layers) (part : Rect) →
     column < l.full.width →
     row < l.full.height →
     is_in l.full column row ≡ true →
-    ((x y : ℕ) → x < l.places.width → y < l.places.height → contains part x y ≡ contains (cell_at column row) x y) →
-    IsSpread column row l (record { places = filled part true l.places; full = filled (one_cell column row) false l.full; used = filled (one_cell column row) true l.used })
+    ((x y : ℕ) → x < l.places.width → y < l.places.height →
+    contains part x y ≡ contains (cell_at column row) x y) →
+    IsSpread column row l
+    (record {
+      places = filled part true l.places;
+      full = filled (one_cell column row) false l.full;
+      used = filled (one_cell column row) true l.used;
+    })
 spread_full column row l part sound p q full same_part =
-    let new : Layers = record { places = filled part true l.places; full = filled (one_cell column row) false l.full; used = filled (one_cell column row) true l.used } in
+    let new : Layers =
     record {
-      sound = same_sizes l new sound (width-changed _ l.places) (height-changed _ l.places) (width-changed _ l.full) (height-changed _ l.full) (width-changed _ l.used) (height-changed _ l.used) (whole-changed _ l.places sound.all_places) (whole-changed _ l.full sound.all_full) (whole-changed _ l.used sound.all_used);
+      places = filled part true l.places;
+      full = filled (one_cell column row) false l.full;
+      used = filled (one_cell column row) true l.used;
+    } in
+    record {
+      sound = same_sizes l new sound (width-changed _ l.places) (height-changed _ l.places)
+          (width-changed _ l.full) (height-changed _ l.full) (width-changed _ l.used)
+          (height-changed _ l.used) (whole-changed _ l.places sound.all_places)
+          (whole-changed _ l.full sound.all_full) (whole-changed _ l.used sound.all_used);
       alike = (width-changed _ l.places, height-changed _ l.places);
       same = λ x y a b.
           let i = cell_below x l.places.width l.full.width sound.full_wide a in
           let j = cell_below y l.places.height l.full.height sound.full_high b in
           let i1 = cell_below x l.places.width l.used.width sound.used_wide a in
           let j1 = cell_below y l.places.height l.used.height sound.used_high b in
-          let f = at-filled (one_cell column row) false l.full (x / 64) (y / 64) false sound.all_full i j in
-          let u = at-filled (one_cell column row) true l.used (x / 64) (y / 64) false sound.all_used i1 j1 in
+          let f = at-filled (one_cell column row) false l.full (x / 64) (y / 64) false
+          sound.all_full i j in
+          let u = at-filled (one_cell column row) true l.used (x / 64) (y / 64) false sound.all_used
+          i1 j1 in
           let m = at-filled part true l.places x y false sound.all_places a b in
           elim (cases_place (x / 64) column (y / 64) row) [
             | inl same ↦
                 let e = same.0 in
                 let g = same.1 in
                 let one = in_one (x / 64) (y / 64) column row e g in
-                let inside : contains part x y ≡ true = same_part x y a b ∙ in_cell x y column row e g in
+                let inside : contains part x y ≡ true =
+                same_part x y a b ∙ in_cell x y column row e g in
                 let was : is_in l.full (x / 64) (y / 64) ≡ true = rw (e, g) full in
                 rw (f, u, m, one, inside, was) refl
             | inr apart ↦
                 let one = not_in_one (x / 64) (y / 64) column row apart in
-                let outside : contains part x y ≡ false = same_part x y a b ∙ not_in_cell x y column row apart in
+                let outside : contains part x y ≡ false =
+                same_part x y a b ∙ not_in_cell x y column row apart in
                 rw (f, u, m, one, outside) refl
           ];
       parted =
@@ -179,7 +233,8 @@ spread_full column row l part sound p q full same_part =
 pub cell_part : (width height column row x y : ℕ) →
     x < width →
     y < height →
-    contains (in_row (in_column (record { x = 0; y = 0; w = width; h = height }) column) row) x y ≡ contains (cell_at column row) x y
+    contains (in_row (in_column (record { x = 0; y = 0; w = width; h = height }) column) row) x y
+    ≡ contains (cell_at column row) x y
 cell_part width height column row x y p q = grind (arith, nat_tests)
 
 -- ---- the whole set
@@ -206,9 +261,18 @@ pub layered-without : (other old mid : Layers) →
     IsLayers old →
     AreAlike old other →
     HasLost (λ _ _. true) other old mid →
-    layered (record { places = mid.places; full = without other.full mid.full; used = without other.full mid.used }) ≡ without (layered other) (layered old)
+    layered (record {
+      places = mid.places;
+      full = without other.full mid.full;
+      used = without other.full mid.used;
+    }) ≡ without (layered other) (layered old)
 layered-without other old mid sound_other sound alike lost =
-    let new : Layers = record { places = mid.places; full = without other.full mid.full; used = without other.full mid.used } in
+    let new : Layers =
+    record {
+      places = mid.places;
+      full = without other.full mid.full;
+      used = without other.full mid.used;
+    } in
     layered_is new (without (layered other) (layered old))
     (whole-changed _ (layered old) (whole-layered old))
     (width-changed _ (layered old) ∙ sym lost.alike.0)
@@ -216,21 +280,40 @@ layered-without other old mid sound_other sound alike lost =
     (λ x y d p1 q1.
     let p = rw (lost.alike.0) at p1 in
     let q = rw (lost.alike.1) at q1 in
-    let after = at-changed (λ x y was. was && not (is_in (layered other) x y)) (layered old) x y d (whole-layered old) p q in
+    let after = at-changed (λ x y was. was && not (is_in (layered other) x y)) (layered old) x y d
+    (whole-layered old) p q in
     let was = at-layered old x y d p q in
     let there = at-layered other x y false (rw (← alike.0) p) (rw (← alike.1) q) in
     let i = cell_below x mid.places.width mid.full.width lost.sound.full_wide p1 in
     let j = cell_below y mid.places.height mid.full.height lost.sound.full_high q1 in
     let i1 = cell_below x mid.places.width mid.used.width lost.sound.used_wide p1 in
     let j1 = cell_below y mid.places.height mid.used.height lost.sound.used_high q1 in
-    let f = at-changed (λ x y old. old && not (is_in other.full x y)) mid.full (x / 64) (y / 64) false lost.sound.all_full i j in
-    let u = at-changed (λ x y old. old && not (is_in other.full x y)) mid.used (x / 64) (y / 64) false lost.sound.all_used i1 j1 in
+    let f = at-changed (λ x y old. old && not (is_in other.full x y)) mid.full (x / 64) (y / 64)
+    false lost.sound.all_full i j in
+    let u = at-changed (λ x y old. old && not (is_in other.full x y)) mid.used (x / 64) (y / 64)
+    false lost.sound.all_used i1 j1 in
     rw (f, u)
-    (all_lost (is_in mid.full (x / 64) (y / 64)) (is_in mid.used (x / 64) (y / 64)) (is_in mid.places x y) (is_in other.full (x / 64) (y / 64)) (is_in other.used (x / 64) (y / 64)) (is_in other.places x y) (in_set old x y) (lost.each x y p q)
+    (all_lost (is_in mid.full (x / 64) (y / 64)) (is_in mid.used (x / 64) (y / 64))
+    (is_in mid.places x y) (is_in other.full (x / 64) (y / 64))
+    (is_in other.used (x / 64) (y / 64)) (is_in other.places x y) (in_set old x y)
+    (lost.each x y p q)
     ∙ (rw (← there, ← was) (sym after))))
 
 -- which keeps its sizes
 pub sound-without : (other mid : Layers) →
-    IsLayers mid → IsLayers (record { places = mid.places; full = without other.full mid.full; used = without other.full mid.used })
+    IsLayers mid →
+    IsLayers (record {
+      places = mid.places;
+      full = without other.full mid.full;
+      used = without other.full mid.used;
+    })
 sound-without other mid sound =
-    same_sizes mid (record { places = mid.places; full = without other.full mid.full; used = without other.full mid.used }) sound refl refl (width-changed _ mid.full) (height-changed _ mid.full) (width-changed _ mid.used) (height-changed _ mid.used) sound.all_places (whole-changed _ mid.full sound.all_full) (whole-changed _ mid.used sound.all_used)
+    same_sizes mid
+    (record {
+      places = mid.places;
+      full = without other.full mid.full;
+      used = without other.full mid.used;
+    }) sound refl refl (width-changed _ mid.full)
+    (height-changed _ mid.full) (width-changed _ mid.used) (height-changed _ mid.used)
+    sound.all_places (whole-changed _ mid.full sound.all_full)
+    (whole-changed _ mid.used sound.all_used)

@@ -44,12 +44,17 @@ pub plane-removed : (w h across : ℕ) (old : List ℕ) (x y : ℕ) →
     IsPlane w h across old →
     x < w →
     y < h →
-    plane w h across (slice_set old (y * across + x / 64) (bit_and (slice_index_or old (y * across + x / 64) 0) (bit_not w64 (1 * 2 ^ (x % 64) % 2 ^ 64)))) ≡ filled (one_cell x y) false (plane w h across old)
+    plane w h across
+    (slice_set old (y * across + x / 64)
+    (bit_and (slice_index_or old (y * across + x / 64) 0)
+    (bit_not w64 (1 * 2 ^ (x % 64) % 2 ^ 64))))
+    ≡ filled (one_cell x y) false (plane w h across old)
 plane-removed w h across old x y sound p q =
     let index = y * across + x / 64 in
     let value = bit_and (slice_index_or old index 0) (bit_not w64 (1 * 2 ^ (x % 64) % 2 ^ 64)) in
     let within = place_word_below w h across old x y sound p q in
-    plane-each (λ i j was. if contains (one_cell x y) i j then false else was) w h across old (slice_set old index value)
+    plane-each (λ i j was. if contains (one_cell x y) i j then false else was) w h across old
+    (slice_set old index value)
     (λ i j a b.
     elim (cases_place (i / 64) (x / 64) j y) [
       | inl same ↦
@@ -58,16 +63,25 @@ plane-removed w h across old x y sound p q =
           let there : j * across + i / 64 ≡ index = rw (e, f) refl in
           let low = mod_below x 64 (omega arith) in
           let low_too = mod_below i 64 (omega arith) in
-          let here : has_place (slice_set old index value) across i j ≡ (has_place old across i j && not (nat_eq (i % 64) (x % 64))) =
-          rw (there, get_or-set_same old index value 0 within, has_bit-less (slice_index_or old index 0) (x % 64) (i % 64) low low_too) refl in
-          let cell : contains (one_cell x y) i j ≡ nat_eq (i % 64) (x % 64) = grind (arith, nat_tests, div-add-mod' i 64, div-add-mod' x 64) in
+          let here : has_place (slice_set old index value) across i j
+          ≡ (has_place old across i j && not (nat_eq (i % 64) (x % 64))) =
+          rw (
+            there,
+            get_or-set_same old index value 0 within,
+            has_bit-less (slice_index_or old index 0) (x % 64) (i % 64) low low_too,
+          ) refl in
+          let cell : contains (one_cell x y) i j ≡ nat_eq (i % 64) (x % 64) =
+          grind (arith, nat_tests, div-add-mod' i 64, div-add-mod' x 64) in
           rw cell (here ∙ unset (nat_eq (i % 64) (x % 64)) (has_place old across i j))
       | inr apart ↦
           let elsewhere : (j * across + i / 64 ≡ index) → ⊥ =
-          λ e. let place = same_from_place j (i / 64) y (x / 64) across (column_below w h across old i sound a) (column_below w h across old x sound p) e in apart place.1 place.0 in
+          λ e. let place =
+          same_from_place j (i / 64) y (x / 64) across (column_below w h across old i sound a)
+          (column_below w h across old x sound p) e in apart place.1 place.0 in
           let cell : contains (one_cell x y) i j ≡ false =
           elim (cases_Bool (contains (one_cell x y) i j)) [
-            | inl e ↦ let (x0, x1, y0, y1) = contains_true (one_cell x y) i j e in absurd (apart (omega arith) (omega arith))
+            | inl e ↦ let (x0, x1, y0, y1) =
+                contains_true (one_cell x y) i j e in absurd (apart (omega arith) (omega arith))
             | inr e ↦ e
           ] in
           rw (get_or-set_other old index (j * across + i / 64) value 0 elsewhere, cell) refl
@@ -81,14 +95,16 @@ pub plane-taken : (w h across ow oh oacross : ℕ) (old new other : List ℕ) �
     IsPlane ow oh oacross other →
     w ≡ ow →
     h ≡ oh →
-    ((k y i : ℕ) → k < across → y < h → i < 64 → has_at new across y k i ≡ (has_at old across y k i && not (has_at other across y k i))) →
+    ((k y i : ℕ) → k < across → y < h → i < 64 →
+    has_at new across y k i ≡ (has_at old across y k i && not (has_at other across y k i))) →
     plane w h across new ≡ without (plane ow oh oacross other) (plane w h across old)
 plane-taken w h across ow oh oacross old new other sound sound_too wide high each =
     let same = same_across w h across old oh oacross other sound (rw wide sound_too) in
     plane-each (λ x y was. was && not (is_in (plane ow oh oacross other) x y)) w h across old new
     (λ x y p q.
     let there = at-plane ow oh oacross other x y false (rw (← wide) p) (rw (← high) q) in
-    let here = each (x / 64) y (x % 64) (column_below w h across old x sound p) q (mod_below x 64 (omega arith)) in
+    let here = each (x / 64) y (x % 64) (column_below w h across old x sound p) q
+    (mod_below x 64 (omega arith)) in
     rw (there, ← same) here)
 
 -- and of a cell of it alone
@@ -98,15 +114,25 @@ pub plane-cell_taken : (w h across ow oh oacross column row bottom : ℕ) (old n
     w ≡ ow →
     h ≡ oh →
     bottom ≡ min (row * 64 + 64) h →
-    ((k y i : ℕ) → k < across → i < 64 → has_at new across y k i ≡ (has_at old across y k i && not ((nat_eq k column && (nat_le (row * 64) y && nat_lt y bottom)) && has_at other across y k i))) →
-    plane w h across new ≡ without_in (cell_at column row) (plane ow oh oacross other) (plane w h across old)
-plane-cell_taken w h across ow oh oacross column row bottom old new other sound sound_too wide high low each =
+    ((k y i : ℕ) → k < across → i < 64 →
+    has_at new across y k i
+    ≡ (has_at old across y k i
+    && not ((nat_eq k column && (nat_le (row * 64) y && nat_lt y bottom))
+    && has_at other across y k i))) →
+    plane w h across new
+    ≡ without_in (cell_at column row) (plane ow oh oacross other) (plane w h across old)
+plane-cell_taken w h across ow oh oacross column row bottom old new other sound sound_too wide high
+    low each =
     let same = same_across w h across old oh oacross other sound (rw wide sound_too) in
-    plane-each (λ x y was. was && not (contains (cell_at column row) x y && is_in (plane ow oh oacross other) x y)) w h across old new
+    plane-each (λ x y was. was
+    && not (contains (cell_at column row) x y && is_in (plane ow oh oacross other) x y)) w h
+    across old new
     (λ x y p q.
     let there = at-plane ow oh oacross other x y false (rw (← wide) p) (rw (← high) q) in
-    let here = each (x / 64) y (x % 64) (column_below w h across old x sound p) (mod_below x 64 (omega arith)) in
-    let cell : (nat_eq (x / 64) column && (nat_le (row * 64) y && nat_lt y bottom)) ≡ contains (cell_at column row) x y = grind (arith, nat_tests) in
+    let here = each (x / 64) y (x % 64) (column_below w h across old x sound p)
+    (mod_below x 64 (omega arith)) in
+    let cell : (nat_eq (x / 64) column && (nat_le (row * 64) y && nat_lt y bottom))
+    ≡ contains (cell_at column row) x y = grind (arith, nat_tests) in
     rw (there, ← same) (rw cell at here))
 
 -- ---- a whole rectangle, a row
@@ -119,7 +145,8 @@ pub all-plane : (w h across : ℕ) (words : List ℕ) (r : Rect) →
 all-plane w h across words r room all =
     λ x y inside.
     let (x0, x1, y0, y1) = contains_true r x y inside in
-    at-plane w h across words x y false (omega (arith, room.0)) (omega (arith, room.1)) ∙ all x y inside
+    at-plane w h across words x y false (omega (arith, room.0)) (omega (arith, room.1))
+    ∙ all x y inside
 
 pub all-words : (w h across : ℕ) (words : List ℕ) (r : Rect) →
     Holds (plane w h across words) r →
@@ -128,7 +155,8 @@ pub all-words : (w h across : ℕ) (words : List ℕ) (r : Rect) →
 all-words w h across words r room all =
     λ x y inside.
     let (x0, x1, y0, y1) = contains_true r x y inside in
-    sym (at-plane w h across words x y false (omega (arith, room.0)) (omega (arith, room.1))) ∙ all x y inside
+    sym (at-plane w h across words x y false (omega (arith, room.0)) (omega (arith, room.1)))
+    ∙ all x y inside
 
 -- the marks of a word's places
 pub row_bits-plane : (w h across : ℕ) (words : List ℕ) (x y i mask : ℕ) →
@@ -136,7 +164,8 @@ pub row_bits-plane : (w h across : ℕ) (words : List ℕ) (x y i mask : ℕ) �
     y < h →
     i < 64 →
     has_bit mask i ≡ (nat_le x (x / 64 * 64 + i) && nat_lt (x / 64 * 64 + i) w) →
-    has_bit (bit_and (slice_index_or words (y * across + x / 64) 0) mask) i ≡ (nat_lt (x + i) w && is_in (plane w h across words) (x + i) y)
+    has_bit (bit_and (slice_index_or words (y * across + x / 64) 0) mask) i
+    ≡ (nat_lt (x + i) w && is_in (plane w h across words) (x + i) y)
 row_bits-plane w h across words x y i mask start q l is =
     let place : x / 64 * 64 + i ≡ x + i = omega (arith, div-add-mod' x 64) in
     let masked = rw place at is in
@@ -162,15 +191,19 @@ row_bits-plane w h across words x y i mask start q l is =
 
 -- the next place by the bits is the next marked one
 pub next-plane : (w h across : ℕ) (words : List ℕ) (y from column : ℕ) →
-    y < h → IsNext (has_place words across) y from w column → IsNext (is_in (plane w h across words)) y from w column
+    y < h → IsNext (has_place words across) y from w column →
+    IsNext (is_in (plane w h across words)) y from w column
 next-plane w h across words y from column q next = record {
   after = next.after;
   before = next.before;
-  none = λ x p l. let less = next.before in at-plane w h across words x y false (omega arith) q ∙ next.none x p l;
+  none = λ x p l. let less =
+      next.before in at-plane w h across words x y false (omega arith) q ∙ next.none x p l;
   here = at-plane w h across words column y false next.before q ∙ next.here;
 }
 
 -- or there is none
 pub none-plane : (w h across : ℕ) (words : List ℕ) (y from : ℕ) →
-    y < h → NoneInRow (has_place words across) y from w → NoneInRow (is_in (plane w h across words)) y from w
-none-plane w h across words y from q none = λ x p l. at-plane w h across words x y false l q ∙ none x p l
+    y < h → NoneInRow (has_place words across) y from w →
+    NoneInRow (is_in (plane w h across words)) y from w
+none-plane w h across words y from q none =
+    λ x p l. at-plane w h across words x y false l q ∙ none x p l

@@ -25,7 +25,8 @@ and_true false = refl
 pub has_bit-without : (a b i : ℕ) →
     b < 2 ^ 64 → i < 64 → has_bit (bit_and a (bit_not w64 b)) i ≡ (has_bit a i && not (has_bit b i))
 has_bit-without a b i small l =
-    rw (bit_at_and, bit_at_not w64 b i small l) (grind (arith, nat_tests, bit_at-lt a i, bit_at-lt b i))
+    rw (bit_at_and, bit_at_not w64 b i small l)
+    (grind (arith, nat_tests, bit_at-lt a i, bit_at-lt b i))
 
 -- a word without one bit
 pub has_bit-less : (a k i : ℕ) →
@@ -51,7 +52,8 @@ taken_here : (test now before first o : Bool) (was_in is_in : Bool) →
     before ≡ (first && not (was_in && o)) →
     now ≡ (before && not o) →
     now ≡ (first && not (is_in && o))
-taken_here test now before first o was_in is_in none some was here = rw some (here ∙ (rw (was, none, and_true) refl))
+taken_here test now before first o was_in is_in none some was here =
+    rw some (here ∙ (rw (was, none, and_true) refl))
 
 -- with the word of one row more
 pub one_row_taken : (words first other : List ℕ) (across column top row k y i : ℕ) →
@@ -61,24 +63,45 @@ pub one_row_taken : (words first other : List ℕ) (across column top row k y i 
     row * across + column < length words →
     slice_index_or other (row * across + column) 0 < 2 ^ 64 →
     top ≤ row →
-    has_at words across y k i ≡ (has_at first across y k i && not ((nat_eq k column && (nat_le top y && nat_lt y row)) && has_at other across y k i)) →
-    has_at (slice_set words (row * across + column) (bit_and (slice_index_or words (row * across + column) 0) (bit_not w64 (slice_index_or other (row * across + column) 0)))) across y k i ≡ (has_at first across y k i && not ((nat_eq k column && (nat_le top y && nat_lt y (row + 1))) && has_at other across y k i))
+    has_at words across y k i
+    ≡ (has_at first across y k i
+    && not ((nat_eq k column && (nat_le top y && nat_lt y row))
+    && has_at other across y k i)) →
+    has_at (slice_set words (row * across + column)
+    (bit_and (slice_index_or words (row * across + column) 0)
+    (bit_not w64 (slice_index_or other (row * across + column) 0)))) across y k i
+    ≡ (has_at first across y k i
+    && not ((nat_eq k column && (nat_le top y && nat_lt y (row + 1)))
+    && has_at other across y k i))
 one_row_taken words first other across column top row k y i p q small_i l small from was =
-    let value = bit_and (slice_index_or words (row * across + column) 0) (bit_not w64 (slice_index_or other (row * across + column) 0)) in
+    let value = bit_and (slice_index_or words (row * across + column) 0)
+    (bit_not w64 (slice_index_or other (row * across + column) 0)) in
     elim (cases_place k column y row) [
       | inl same ↦
           let e = same.0 in
           let f = same.1 in
           let index : y * across + k ≡ row * across + column = rw (e, f) refl in
-          let here : has_at (slice_set words (row * across + column) value) across y k i ≡ (has_at words across y k i && not (has_at other across y k i)) =
-          rw (index, get_or-set_same words (row * across + column) value 0 l, has_bit-without (slice_index_or words (row * across + column) 0) (slice_index_or other (row * across + column) 0) i small small_i) refl in
-          let none : (nat_eq k column && (nat_le top y && nat_lt y row)) ≡ false = grind (arith, nat_tests) in
-          let some : (nat_eq k column && (nat_le top y && nat_lt y (row + 1))) ≡ true = grind (arith, nat_tests) in
-          taken_here true _ _ (has_at first across y k i) (has_at other across y k i) _ _ none some was here
+          let here : has_at (slice_set words (row * across + column) value) across y k i
+          ≡ (has_at words across y k i && not (has_at other across y k i)) =
+          rw (
+            index,
+            get_or-set_same words (row * across + column) value 0 l,
+            has_bit-without (slice_index_or words (row * across + column) 0)
+                (slice_index_or other (row * across + column) 0) i small small_i,
+          ) refl in
+          let none : (nat_eq k column && (nat_le top y && nat_lt y row)) ≡ false =
+          grind (arith, nat_tests) in
+          let some : (nat_eq k column && (nat_le top y && nat_lt y (row + 1))) ≡ true =
+          grind (arith, nat_tests) in
+          taken_here true _ _ (has_at first across y k i) (has_at other across y k i) _ _ none some
+          was here
       | inr apart ↦
           let elsewhere : (y * across + k ≡ row * across + column) → ⊥ =
           λ e. let place = same_from_place y k row column across q p e in apart place.1 place.0 in
-          rw (get_or-set_other words (row * across + column) (y * across + k) value 0 elsewhere, ← unreached k column y top row apart) was
+          rw (
+            get_or-set_other words (row * across + column) (y * across + k) value 0 elsewhere,
+            ← unreached k column y top row apart,
+          ) was
     ]
 
 -- with the words of one column more
@@ -92,18 +115,21 @@ one_column_taken rows column k y now before first o l was here =
       | inl e ↦
           let old : nat_lt k column ≡ false = grind (arith, nat_tests) in
           let new : nat_lt k (column + 1) ≡ true = grind (arith, nat_tests) in
-          let test : (nat_eq k column && (nat_le 0 y && nat_lt y rows)) ≡ true = grind (arith, nat_tests) in
+          let test : (nat_eq k column && (nat_le 0 y && nat_lt y rows)) ≡ true =
+          grind (arith, nat_tests) in
           rw new (here ∙ (rw (was, old, test, and_true) refl))
       | inr other ↦
           let same : nat_lt k (column + 1) ≡ nat_lt k column = grind (arith, nat_tests) in
-          let test : (nat_eq k column && (nat_le 0 y && nat_lt y rows)) ≡ false = grind (arith, nat_tests) in
+          let test : (nat_eq k column && (nat_le 0 y && nat_lt y rows)) ≡ false =
+          grind (arith, nat_tests) in
           rw same (here ∙ (rw (was, test, and_true) refl))
     ]
 
 -- ---- a mask's bits
 
 -- a word that the mask leaves the mask of has its bits
-pub covered : (word mask i : ℕ) → bit_and word mask ≡ mask → has_bit mask i ≡ true → has_bit word i ≡ true
+pub covered : (word mask i : ℕ) → bit_and word mask ≡ mask → has_bit mask i ≡ true →
+    has_bit word i ≡ true
 covered word mask i e h =
     let both : has_bit (bit_and word mask) i ≡ true = rw e h in
     let split = and_parts (has_bit word i) (has_bit mask i) (rw has_bit-and at both) in
@@ -132,18 +158,24 @@ bit_of_place words across k i y l = rw (div-mul-add k 64 i l, mod-mul-add k 64 i
 
 -- the bits that a rectangle has in a column of words are set where its places' are
 pub masked_of_places : (words : List ℕ) (across column mask : ℕ) (r : Rect) →
-    ((i : ℕ) → i < 64 → has_bit mask i ≡ (nat_le r.x (column * 64 + i) && nat_lt (column * 64 + i) (r.x + r.w))) →
+    ((i : ℕ) → i < 64 →
+    has_bit mask i ≡ (nat_le r.x (column * 64 + i) && nat_lt (column * 64 + i) (r.x + r.w))) →
     ((x y : ℕ) → contains r x y ≡ true → has_place words across x y ≡ true) →
     HasMasked words across column mask r.y (r.y + r.h)
 masked_of_places words across column mask r is all =
     λ y i from to l set.
-    let (low, high) = and_parts (nat_le r.x (column * 64 + i)) (nat_lt (column * 64 + i) (r.x + r.w)) (sym (is i l) ∙ set) in
-    let inside = contains_row r (column * 64 + i) y (grind (arith, nat_tests)) (grind (arith, nat_tests)) from to in
+    let (low, high) =
+    and_parts (nat_le r.x (column * 64 + i)) (nat_lt (column * 64 + i) (r.x + r.w))
+    (sym (is i l) ∙ set) in
+    let inside =
+    contains_row r (column * 64 + i) y (grind (arith, nat_tests)) (grind (arith, nat_tests))
+    from to in
     sym (bit_of_place words across column i y l) ∙ all (column * 64 + i) y inside
 
 -- and the other way round
 pub place_of_masked : (words : List ℕ) (across column mask : ℕ) (r : Rect) (x y : ℕ) →
-    ((i : ℕ) → i < 64 → has_bit mask i ≡ (nat_le r.x (column * 64 + i) && nat_lt (column * 64 + i) (r.x + r.w))) →
+    ((i : ℕ) → i < 64 →
+    has_bit mask i ≡ (nat_le r.x (column * 64 + i) && nat_lt (column * 64 + i) (r.x + r.w))) →
     HasMasked words across column mask r.y (r.y + r.h) →
     column * 64 ≤ x →
     x < column * 64 + 64 →
@@ -152,7 +184,8 @@ pub place_of_masked : (words : List ℕ) (across column mask : ℕ) (r : Rect) (
 place_of_masked words across column mask r x y is masked from to c =
     let (x0, x1, y0, y1) = contains_true r x y c in
     let place : column * 64 + (x - column * 64) ≡ x = omega arith in
-    let bit : has_bit mask (x - column * 64) ≡ true = is (x - column * 64) (omega arith) ∙ (rw place (grind (arith, nat_tests))) in
+    let bit : has_bit mask (x - column * 64) ≡ true =
+    is (x - column * 64) (omega arith) ∙ (rw place (grind (arith, nat_tests))) in
     let there = bit_of_place words across column (x - column * 64) y (omega arith) in
     rw place at there ∙ masked y (x - column * 64) y0 y1 (omega arith) bit
 
@@ -160,17 +193,22 @@ place_of_masked words across column mask r x y is masked from to c =
 
 -- the lowest bit that is left of a word is the next place
 pub next_here : (words : List ℕ) (across row from to column mask : ℕ) →
-    ((i : ℕ) → i < 64 → has_bit mask i ≡ (nat_le from (column * 64 + i) && nat_lt (column * 64 + i) to)) →
+    ((i : ℕ) → i < 64 →
+    has_bit mask i ≡ (nat_le from (column * 64 + i) && nat_lt (column * 64 + i) to)) →
     ((x : ℕ) → from ≤ x → x < to → x < column * 64 → has_place words across x row ≡ false) →
     (bit_and (slice_index_or words (row * across + column) 0) mask ≡ 0 → ⊥) →
     bit_and (slice_index_or words (row * across + column) 0) mask < 2 ^ 64 →
-    IsNext (has_place words across) row from to (column * 64 + trailing_zeros w64 (bit_and (slice_index_or words (row * across + column) 0) mask))
+    IsNext (has_place words across) row from to
+    (column * 64
+    + trailing_zeros w64 (bit_and (slice_index_or words (row * across + column) 0) mask))
 next_here words across row from to column mask is before some small =
     let word = slice_index_or words (row * across + column) 0 in
     let first = first_bit (bit_and word mask) (omega arith) small in
     let i = trailing_zeros w64 (bit_and word mask) in
     let (set, masked) = and_parts (has_bit word i) (has_bit mask i) (rw has_bit-and at first.1) in
-    let (low, high) = and_parts (nat_le from (column * 64 + i)) (nat_lt (column * 64 + i) to) (sym (is i first.0) ∙ masked) in
+    let (low, high) =
+    and_parts (nat_le from (column * 64 + i)) (nat_lt (column * 64 + i) to)
+    (sym (is i first.0) ∙ masked) in
     record {
       after = grind (arith, nat_tests);
       before = grind (arith, nat_tests);
@@ -179,10 +217,14 @@ next_here words across row from to column mask is before some small =
             | inl left ↦ before x p (grind (arith, nat_tests)) left
             | inr right ↦
                 let place : column * 64 + (x - column * 64) ≡ x = omega arith in
-                let there = bit_of_place words across column (x - column * 64) row (omega (arith, first.0)) in
+                let there = bit_of_place words across column (x - column * 64) row
+                (omega (arith, first.0)) in
                 let here = rw place at there in
-                let far : (has_bit (bit_and word mask) (x - column * 64) ≡ true) → ⊥ = λ e. let after = first.2 (x - column * 64) e in omega (arith, after) in
-                let bit : has_bit mask (x - column * 64) ≡ true = is (x - column * 64) (omega (arith, first.0)) ∙ (rw place (grind (arith, nat_tests))) in
+                let far : (has_bit (bit_and word mask) (x - column * 64) ≡ true) → ⊥ =
+                λ e. let after = first.2 (x - column * 64) e in omega (arith, after) in
+                let bit : has_bit mask (x - column * 64) ≡ true =
+                is (x - column * 64) (omega (arith, first.0))
+                ∙ (rw place (grind (arith, nat_tests))) in
                 elim (cases_Bool (has_bit word (x - column * 64))) [
                   | inl e ↦ absurd (far (rw has_bit-and (and_from _ _ e bit)))
                   | inr e ↦ here ∙ e
@@ -193,7 +235,8 @@ next_here words across row from to column mask is before some small =
 
 -- where none is left, the word's places are not set
 pub none_here : (words : List ℕ) (across row from to column mask x : ℕ) →
-    ((i : ℕ) → i < 64 → has_bit mask i ≡ (nat_le from (column * 64 + i) && nat_lt (column * 64 + i) to)) →
+    ((i : ℕ) → i < 64 →
+    has_bit mask i ≡ (nat_le from (column * 64 + i) && nat_lt (column * 64 + i) to)) →
     bit_and (slice_index_or words (row * across + column) 0) mask ≡ 0 →
     from ≤ x →
     x < to →
@@ -206,9 +249,12 @@ none_here words across row from to column mask x is none p l left right =
     let place : column * 64 + (x - column * 64) ≡ x = omega arith in
     let there = bit_of_place words across column (x - column * 64) row (omega arith) in
     let here = rw place at there in
-    let zero : has_bit (bit_and word mask) (x - column * 64) ≡ false = rw (none, bit_at-zero (x - column * 64)) refl in
-    let bit : has_bit mask (x - column * 64) ≡ true = is (x - column * 64) (omega arith) ∙ (rw place (grind (arith, nat_tests))) in
-    elim (and_cases (has_bit word (x - column * 64)) (has_bit mask (x - column * 64)) (rw has_bit-and at zero)) [
+    let zero : has_bit (bit_and word mask) (x - column * 64) ≡ false =
+    rw (none, bit_at-zero (x - column * 64)) refl in
+    let bit : has_bit mask (x - column * 64) ≡ true =
+    is (x - column * 64) (omega arith) ∙ (rw place (grind (arith, nat_tests))) in
+    elim (and_cases (has_bit word (x - column * 64)) (has_bit mask (x - column * 64))
+    (rw has_bit-and at zero)) [
       | inl e ↦ here ∙ e
       | inr e ↦ absurd (both_ways _ e bit)
     ]
@@ -223,5 +269,6 @@ none_in_word words across row column x none left right =
     let place : column * 64 + (x - column * 64) ≡ x = omega arith in
     let there = bit_of_place words across column (x - column * 64) row (omega arith) in
     let here = rw place at there in
-    let zero : has_bit (slice_index_or words (row * across + column) 0) (x - column * 64) ≡ false = rw (none, bit_at-zero (x - column * 64)) refl in
+    let zero : has_bit (slice_index_or words (row * across + column) 0) (x - column * 64) ≡ false =
+    rw (none, bit_at-zero (x - column * 64)) refl in
     here ∙ zero

@@ -41,13 +41,22 @@ pub between : (start from to i : ℕ) →
     from < start + 64 →
     start < to →
     i < 64 →
-    has_bit (bit_and ((2 ^ 64 - 1) * 2 ^ (from - start) % 2 ^ 64) ((2 ^ 64 - 1) / 2 ^ (64 - min (to - start) 64))) i ≡ (nat_le from (start + i) && nat_lt (start + i) to)
+    has_bit (bit_and ((2 ^ 64 - 1) * 2 ^ (from - start) % 2 ^ 64)
+    ((2 ^ 64 - 1) / 2 ^ (64 - min (to - start) 64))) i
+    ≡ (nat_le from (start + i) && nat_lt (start + i) to)
 between start from to i p q l =
     let below : from - start ≤ 64 = omega arith in
     let low = ones_shl 64 (from - start) below in
     let high = ones_shr 64 (64 - min (to - start) 64) (omega arith) in
     let twice : 64 - (64 - min (to - start) 64) ≡ min (to - start) 64 = omega arith in
-    rw (low, high, twice, has_bit-and, high_ones (from - start) i l, low_ones (min (to - start) 64) i) (grind (arith, nat_tests))
+    rw (
+      low,
+      high,
+      twice,
+      has_bit-and,
+      high_ones (from - start) i l,
+      low_ones (min (to - start) 64) i,
+    ) (grind (arith, nat_tests))
 
 -- ---- rows of words
 
@@ -71,14 +80,17 @@ reached : (k column y top row : ℕ) (now before first mask : Bool) →
     now ≡ (before || mask) →
     now ≡ (first || ((nat_eq k column && (nat_le top y && nat_lt y (row + 1))) && mask))
 reached k column y top row now before first mask e f from was here =
-    let none : (nat_eq k column && (nat_le top y && nat_lt y row)) ≡ false = grind (arith, nat_tests) in
-    let some : (nat_eq k column && (nat_le top y && nat_lt y (row + 1))) ≡ true = grind (arith, nat_tests) in
+    let none : (nat_eq k column && (nat_le top y && nat_lt y row)) ≡ false =
+    grind (arith, nat_tests) in
+    let some : (nat_eq k column && (nat_le top y && nat_lt y (row + 1))) ≡ true =
+    grind (arith, nat_tests) in
     rw some (here ∙ (rw (was, none, or_false) refl))
 
 -- and one that it does not reach
 pub unreached : (k column y top row : ℕ) →
     (k ≡ column → y ≡ row → ⊥) →
-    (nat_eq k column && (nat_le top y && nat_lt y row)) ≡ (nat_eq k column && (nat_le top y && nat_lt y (row + 1)))
+    (nat_eq k column && (nat_le top y && nat_lt y row))
+    ≡ (nat_eq k column && (nat_le top y && nat_lt y (row + 1)))
 unreached k column y top row other = grind (arith, nat_tests)
 
 -- with the word of one row more
@@ -86,22 +98,41 @@ pub one_row_more : (words first : List ℕ) (across column top row mask k y i : 
     column < across →
     k < across →
     row * across + column < length words →
-    has_at words across y k i ≡ (has_at first across y k i || ((nat_eq k column && (nat_le top y && nat_lt y row)) && has_bit mask i)) →
+    has_at words across y k i
+    ≡ (has_at first across y k i
+    || ((nat_eq k column && (nat_le top y && nat_lt y row)) && has_bit mask i)) →
     top ≤ row →
-    has_at (slice_set words (row * across + column) (bit_or (slice_index_or words (row * across + column) 0) mask)) across y k i ≡ (has_at first across y k i || ((nat_eq k column && (nat_le top y && nat_lt y (row + 1))) && has_bit mask i))
+    has_at (slice_set words (row * across + column)
+    (bit_or (slice_index_or words (row * across + column) 0) mask)) across y k i
+    ≡ (has_at first across y k i
+    || ((nat_eq k column && (nat_le top y && nat_lt y (row + 1))) && has_bit mask i))
 one_row_more words first across column top row mask k y i p q l was from =
     elim (cases_place k column y row) [
       | inl same ↦
           let e = same.0 in
           let f = same.1 in
           let index : y * across + k ≡ row * across + column = rw (e, f) refl in
-          let here : has_at (slice_set words (row * across + column) (bit_or (slice_index_or words (row * across + column) 0) mask)) across y k i ≡ (has_at words across y k i || has_bit mask i) =
-          rw (index, get_or-set_same words (row * across + column) (bit_or (slice_index_or words (row * across + column) 0) mask) 0 l, has_bit-or) refl in
-          reached k column y top row _ _ (has_at first across y k i) (has_bit mask i) e f from was here
+          let here : has_at
+          (slice_set words (row * across + column)
+          (bit_or (slice_index_or words (row * across + column) 0) mask)) across y k i
+          ≡ (has_at words across y k i || has_bit mask i) =
+          rw (
+            index,
+            get_or-set_same words (row * across + column)
+                (bit_or (slice_index_or words (row * across + column) 0) mask) 0 l,
+            has_bit-or,
+          )
+          refl in
+          reached k column y top row _ _ (has_at first across y k i) (has_bit mask i) e f from was
+          here
       | inr other ↦
           let apart : (y * across + k ≡ row * across + column) → ⊥ =
           λ e. let place = same_from_place y k row column across q p e in other place.1 place.0 in
-          rw (get_or-set_other words (row * across + column) (y * across + k) (bit_or (slice_index_or words (row * across + column) 0) mask) 0 apart, ← unreached k column y top row other) was
+          rw (
+            get_or-set_other words (row * across + column) (y * across + k)
+                (bit_or (slice_index_or words (row * across + column) 0) mask) 0 apart,
+            ← unreached k column y top row other,
+          ) was
     ]
 
 -- with the word of one row more cleared
@@ -109,35 +140,46 @@ pub one_row_cleared : (words first : List ℕ) (across column top row k y i : �
     column < across →
     k < across →
     row * across + column < length words →
-    has_at words across y k i ≡ (if nat_eq k column && (nat_le top y && nat_lt y row) then false else has_at first across y k i) →
+    has_at words across y k i
+    ≡ (if nat_eq k column && (nat_le top y && nat_lt y row) then false
+    else has_at first across y k i) →
     top ≤ row →
-    has_at (slice_set words (row * across + column) 0) across y k i ≡ (if nat_eq k column && (nat_le top y && nat_lt y (row + 1)) then false else has_at first across y k i)
+    has_at (slice_set words (row * across + column) 0) across y k i
+    ≡ (if nat_eq k column && (nat_le top y && nat_lt y (row + 1)) then false
+    else has_at first across y k i)
 one_row_cleared words first across column top row k y i p q l was from =
     elim (cases_place k column y row) [
       | inl same ↦
           let e = same.0 in
           let f = same.1 in
           let index : y * across + k ≡ row * across + column = rw (e, f) refl in
-          let some : (nat_eq k column && (nat_le top y && nat_lt y (row + 1))) ≡ true = grind (arith, nat_tests) in
+          let some : (nat_eq k column && (nat_le top y && nat_lt y (row + 1))) ≡ true =
+          grind (arith, nat_tests) in
           let here : has_at (slice_set words (row * across + column) 0) across y k i ≡ false =
           rw (index, get_or-set_same words (row * across + column) 0 0 l, bit_at-zero i) refl in
           rw some here
       | inr other ↦
           let apart : (y * across + k ≡ row * across + column) → ⊥ =
           λ e. let place = same_from_place y k row column across q p e in other place.1 place.0 in
-          rw (get_or-set_other words (row * across + column) (y * across + k) 0 0 apart, ← unreached k column y top row other) was
+          rw (
+            get_or-set_other words (row * across + column) (y * across + k) 0 0 apart,
+            ← unreached k column y top row other,
+          ) was
     ]
 
 -- a word of a row is one of the words
 pub word_of_row : (row bottom column across n : ℕ) →
     row < bottom → column < across → bottom * across ≤ n → row * across + column < n
-word_of_row row bottom column across n p q l = let below = mul-add-lt row across column bottom p q in omega (arith, mul_comm bottom across)
+word_of_row row bottom column across n p q l = let below =
+    mul-add-lt row across column bottom p q in omega (arith, mul_comm bottom across)
 
 -- with the words of one column more
 pub one_column_more : (rect : Rect) (column k y i : ℕ) (now before first mask : Bool) →
-    (k ≡ column → mask ≡ (nat_le rect.x (column * 64 + i) && nat_lt (column * 64 + i) (rect.x + rect.w))) →
+    (k ≡ column →
+    mask ≡ (nat_le rect.x (column * 64 + i) && nat_lt (column * 64 + i) (rect.x + rect.w))) →
     before ≡ (first || (nat_lt k column && contains rect (k * 64 + i) y)) →
-    now ≡ (before || ((nat_eq k column && (nat_le rect.y y && nat_lt y (rect.y + rect.h))) && mask)) →
+    now ≡ (before
+    || ((nat_eq k column && (nat_le rect.y y && nat_lt y (rect.y + rect.h))) && mask)) →
     now ≡ (first || (nat_lt k (column + 1) && contains rect (k * 64 + i) y))
 one_column_more rect column k y i now before first mask is was here =
     elim (cases_eq k column) [

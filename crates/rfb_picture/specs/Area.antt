@@ -33,7 +33,8 @@ pub record IsArea (a : Places) : Type 0 where
   pub wholes : IsGrid a.whole
   pub wide : a.whole.width ≡ a.asked.width
   pub high : a.whole.height ≡ a.asked.height
-  pub inside : (x y : ℕ) → x < a.asked.width → y < a.asked.height → whole_at a x y ≡ true → asked_at a x y ≡ true
+  pub inside : (x y : ℕ) → x < a.asked.width → y < a.asked.height → whole_at a x y ≡ true →
+      asked_at a x y ≡ true
 
 -- the area of a screen of that width and height with no place asked
 abbrev pub no_places : ℕ → ℕ → Places
@@ -45,4 +46,5 @@ nothing a = no_places a.asked.width a.asked.height
 
 -- the rectangle's places are asked too, and whole if that is asked; what was whole stays whole
 abbrev pub added : Rect → Bool → Places → Places
-added r w a = record { asked = filled r true a.asked; whole = if w then filled r true a.whole else a.whole }
+added r w a =
+    record { asked = filled r true a.asked; whole = if w then filled r true a.whole else a.whole }

@@ -1,5 +1,5 @@
 -- The least rectangle that holds the marked places of another.
-use Rattle.std.specs.Prelude.{ℕ, Bool, true, false, ◌≡◌, ◌+◌, ◌-◌, ◌<◌, ◌≤◌}
+use Rattle.std.specs.Prelude.{ℕ, Bool, true, false, ◌≡◌, ◌+◌, ◌-◌, ◌<◌, ◌≤◌, Option, MatchOption}
 use Rattle.rfb_picture.specs.declared.rect.Rect.{Rect}
 use Rattle.rfb_picture.specs.Rect.{contains}
 use Rattle.rfb_picture.specs.Grid.{Grid, at_or}
@@ -20,8 +20,16 @@ pub record IsTight (p : ℕ → ℕ → Bool) (r : Rect) : Type 0 where
   pub top : (x : ℕ) × (contains r x r.y ≡ true) × (p x r.y ≡ true)
   pub bottom : (x : ℕ) × (contains r x (r.y + r.h - 1) ≡ true) × (p x (r.y + r.h - 1) ≡ true)
 
--- the rectangle lies in the cell, holds each marked place of the cell, and is no larger than that takes
+-- the rectangle lies in the cell, holds each marked place of the cell, and is
+-- no larger than that takes
 pub record IsBox (p : ℕ → ℕ → Bool) (cell r : Rect) : Type 0 where
-  pub within : (cell.x ≤ r.x) × (r.x + r.w ≤ cell.x + cell.w) × (cell.y ≤ r.y) × (r.y + r.h ≤ cell.y + cell.h)
+  pub within : (cell.x ≤ r.x) × (r.x + r.w ≤ cell.x + cell.w) × (cell.y ≤ r.y)
+      × (r.y + r.h ≤ cell.y + cell.h)
   pub holds : (x y : ℕ) → contains cell x y ≡ true → p x y ≡ true → contains r x y ≡ true
   pub tight : IsTight p r
+
+-- the cell's marked places have this box, or it has no marked place
+abbrev pub HasBox : (ℕ → ℕ → Bool) → Rect → Option Rect → Type 0
+HasBox p cell found =
+    MatchOption found (IsClear p cell.x (cell.x + cell.w) cell.y (cell.y + cell.h))
+    (λ r. IsBox p cell r)

@@ -4,7 +4,8 @@ use Rattle.std.specs.Coded.{Coded, code_by, coded×, coded_list, coded_ℕ}
 use Rattle.rfb_picture.specs.declared.rect.Rect.{Rect}
 use Rattle.rfb_picture.specs.Rect.{contains}
 
--- so many columns and rows of places, and the values at them, row after row from the top, each from the left
+-- so many columns and rows of places, and the values at them, row after row from
+-- the top, each from the left
 pub record Grid (X : Type 0) : Type 0 where
   pub width : ℕ
   pub height : ℕ
@@ -58,22 +59,26 @@ module _ {X : Type 0} where
   -- size at (sx, sy), and the other places as they were
   abbrev pub copied : Rect → ℕ → ℕ → Grid X → Grid X
   copied r sx sy g =
-      changed (λ x y old. if contains r x y then at_or g (sx + (x - r.x)) (sy + (y - r.y)) old else old) g
+      changed (λ x y old. if contains r x y then at_or g (sx + (x - r.x)) (sy + (y - r.y)) old
+      else old) g
 
   -- the grid with the list's values at (x, y) and on to the right, and the others as they were
   abbrev pub with_row : ℕ → ℕ → List X → Grid X → Grid X
   with_row x y row g =
       changed
-      (λ i j old. if contains (record { x = x; y = y; w = length row; h = 1 }) i j then slice_index_or row (i - x) old else old)
+      (λ i j old. if contains (record { x = x; y = y; w = length row; h = 1 }) i j
+      then slice_index_or row (i - x) old else old)
       g
 
-  -- the same where the list may be longer than what is left of the row: it goes on in the rows below,
-  -- as far as there are places
+  -- the same where the list may be longer than what is left of the row: it goes on in the rows
+  -- below, as far as there are places
   abbrev pub with_run : ℕ → ℕ → List X → Grid X → Grid X
   with_run x y run g =
       grid g.width g.height
       (changed
-      (λ i j old. if nat_le (y * g.width + x) (j * g.width + i) && nat_lt (j * g.width + i) (y * g.width + x + length run) then slice_index_or run (j * g.width + i - (y * g.width + x)) old else old)
+      (λ i j old. if nat_le (y * g.width + x) (j * g.width + i)
+      && nat_lt (j * g.width + i) (y * g.width + x + length run)
+      then slice_index_or run (j * g.width + i - (y * g.width + x)) old else old)
       g).places
 
   -- the grid of that width and height with value c at every place

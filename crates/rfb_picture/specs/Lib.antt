@@ -1,6 +1,7 @@
 pub mod Rect
 pub mod Grid
 pub mod Loan
+pub mod Runs
 pub mod Plane
 pub mod Box
 pub mod Places

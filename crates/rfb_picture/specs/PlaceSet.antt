@@ -14,7 +14,8 @@ is_open l i j = is_in l.full i j || is_in l.used i j
 
 -- place (x, y) is in the set
 abbrev pub in_set : Layers → ℕ → ℕ → Bool
-in_set l x y = is_in l.full (x / 64) (y / 64) || (is_in l.used (x / 64) (y / 64) && is_in l.places x y)
+in_set l x y =
+    is_in l.full (x / 64) (y / 64) || (is_in l.used (x / 64) (y / 64) && is_in l.places x y)
 
 -- the places, each true where it is in the set
 abbrev pub layered : Layers → Grid Bool
@@ -32,20 +33,24 @@ pub record IsLayers (l : Layers) : Type 0 where
   pub used_wide : l.used.width ≡ cells_in l.places.width
   pub used_high : l.used.height ≡ cells_in l.places.height
 
--- the cells of the rectangle were opened: their places' marks count, unless they are in the set whole.
--- It has the places that it had
+-- the cells of the rectangle were opened: their places' marks count, unless they are in the set
+-- whole. It has the places that it had
 pub record IsOpened (cells : Rect) (old new : Layers) : Type 0 where
   pub sound : IsLayers new
   pub wide : new.places.width ≡ old.places.width
   pub high : new.places.height ≡ old.places.height
   pub same_full : new.full ≡ old.full
-  pub same : (x y : ℕ) → x < old.places.width → y < old.places.height → in_set new x y ≡ in_set old x y
-  pub kept : (i j : ℕ) → i < old.full.width → j < old.full.height → is_open old i j ≡ true → is_open new i j ≡ true
-  pub opened : (i j : ℕ) → i < old.full.width → j < old.full.height → contains cells i j ≡ true → is_open new i j ≡ true
+  pub same : (x y : ℕ) → x < old.places.width → y < old.places.height →
+      in_set new x y ≡ in_set old x y
+  pub kept : (i j : ℕ) → i < old.full.width → j < old.full.height → is_open old i j ≡ true →
+      is_open new i j ≡ true
+  pub opened : (i j : ℕ) → i < old.full.width → j < old.full.height → contains cells i j ≡ true →
+      is_open new i j ≡ true
 
 -- place (x, y) is in the set, in a cell that is not in it whole
 abbrev pub in_part : Layers → ℕ → ℕ → Bool
-in_part l x y = not (is_in l.full (x / 64) (y / 64)) && (is_in l.used (x / 64) (y / 64) && is_in l.places x y)
+in_part l x y =
+    not (is_in l.full (x / 64) (y / 64)) && (is_in l.used (x / 64) (y / 64) && is_in l.places x y)
 
 -- both have one size
 abbrev pub AreAlike : Layers → Layers → Type 0
@@ -55,11 +60,13 @@ AreAlike l m = (l.places.width ≡ m.places.width) × (l.places.height ≡ m.pla
 pub record IsSpread (i j : ℕ) (old new : Layers) : Type 0 where
   pub sound : IsLayers new
   pub alike : AreAlike new old
-  pub same : (x y : ℕ) → x < old.places.width → y < old.places.height → in_set new x y ≡ in_set old x y
+  pub same : (x y : ℕ) → x < old.places.width → y < old.places.height →
+      in_set new x y ≡ in_set old x y
   pub parted : is_in new.full i j ≡ false
 
 -- of those cells, the set lost the places that another has in cells that it has not whole
 pub record HasLost (cells : ℕ → ℕ → Bool) (other old new : Layers) : Type 0 where
   pub sound : IsLayers new
   pub alike : AreAlike new old
-  pub each : (x y : ℕ) → x < old.places.width → y < old.places.height → in_set new x y ≡ (in_set old x y && not (cells (x / 64) (y / 64) && in_part other x y))
+  pub each : (x y : ℕ) → x < old.places.width → y < old.places.height →
+      in_set new x y ≡ (in_set old x y && not (cells (x / 64) (y / 64) && in_part other x y))

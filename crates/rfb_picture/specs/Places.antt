@@ -1,5 +1,5 @@
--- Sets of places: all places of a rectangle, a set without another, the places of a row as bits, and
--- the next place of a row.
+-- Sets of places: all places of a rectangle, a set without another, the places of a row as bits,
+-- and the next place of a row.
 use Rattle.std.specs.Prelude.{ℕ, Bool, true, false, ◌≡◌, ◌+◌, ◌<◌, ◌≤◌, ◌&&◌, not, nat_lt, Option, MatchOption}
 use Rattle.rfb_picture.specs.declared.rect.Rect.{Rect}
 use Rattle.rfb_picture.specs.Rect.{contains}
@@ -19,8 +19,8 @@ without other g = changed (λ x y old. old && not (is_in other x y)) g
 abbrev pub without_in : Rect → Grid Bool → Grid Bool → Grid Bool
 without_in r other g = changed (λ x y old. old && not (contains r x y && is_in other x y)) g
 
--- bit i of the word says whether the place i columns right of (x, y) is in the set; past the right edge
--- no bit is set
+-- bit i of the word says whether the place i columns right of (x, y) is in the set; past the
+-- right edge no bit is set
 abbrev pub HasRowBits : Grid Bool → ℕ → ℕ → ℕ → Type 0
 HasRowBits g x y word =
     (i : ℕ) → i < 64 → has_bit word i ≡ (nat_lt (x + i) g.width && is_in g (x + i) y)

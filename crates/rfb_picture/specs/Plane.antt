@@ -1,6 +1,8 @@
 -- How a `Plane` holds which places are marked, as bits of words: a row is so many words across.
-use Rattle.std.specs.Prelude.{ℕ, Bool, true, false, List, ◌≡◌, ◌+◌, ◌*◌, ◌/◌, ◌%◌, ◌^◌, ◌<◌, ◌≤◌, ◌&&◌, length, nat_eq, nat_le, nat_lt, not, slice_index_or}
+use Rattle.std.specs.Prelude.{ℕ, Bool, true, false, List, ◌≡◌, ◌+◌, ◌*◌, ◌/◌, ◌%◌, ◌^◌, ◌<◌, ◌≤◌, ◌&&◌, ◌||◌, length, nat_eq, nat_le, nat_lt, not, slice_index_or, if◌then◌else◌}
 use Rattle.std.specs.Int.{bit_at}
+use Rattle.rfb_picture.specs.declared.rect.Rect.{Rect}
+use Rattle.rfb_picture.specs.Rect.{contains}
 use Rattle.rfb_picture.specs.Grid.{Grid, grid, changed, uniform}
 
 -- the places of that width and height, each true where it is marked
@@ -23,17 +25,52 @@ has_masked words across k mask y i = has_at words across y k i && has_bit mask i
 -- each bit of the mask is set in word k of each row from the first up to another
 abbrev pub HasMasked : List ℕ → ℕ → ℕ → ℕ → ℕ → ℕ → Type 0
 HasMasked words across k mask from to =
-    (y i : ℕ) → from ≤ y → y < to → i < 64 → has_bit mask i ≡ true → has_at words across y k i ≡ true
+    (y i : ℕ) → from ≤ y → y < to → i < 64 → has_bit mask i ≡ true →
+    has_at words across y k i ≡ true
+
+-- row y is from the first up to another, and the word is that of a column of words
+abbrev pub in_words : ℕ → ℕ → ℕ → ℕ → ℕ → Bool
+in_words column from to k y = nat_eq k column && (nat_le from y && nat_lt y to)
+
+-- the words of a column, from the first row up to another, got the bits of the mask
+abbrev pub ColumnAdded : ℕ → ℕ → ℕ → ℕ → ℕ → List ℕ → List ℕ → Type 0
+ColumnAdded across column from to mask old new =
+    (k y i : ℕ) → k < across →
+    has_at new across y k i
+    ≡ (has_at old across y k i || (in_words column from to k y && has_bit mask i))
+
+-- the words of a column, from the first row up to another, have no bit
+abbrev pub ColumnCleared : ℕ → ℕ → ℕ → ℕ → List ℕ → List ℕ → Type 0
+ColumnCleared across column from to old new =
+    (k y i : ℕ) → k < across →
+    has_at new across y k i
+    ≡ (if in_words column from to k y then false else has_at old across y k i)
+
+-- the words got the bits of the rectangle's places
+abbrev pub PlacesAdded : ℕ → Rect → List ℕ → List ℕ → Type 0
+PlacesAdded across rect old new =
+    (k y i : ℕ) → k < across → i < 64 →
+    has_at new across y k i ≡ (has_at old across y k i || contains rect (k * 64 + i) y)
+
+-- a word has a bit for each place of a column of words from one place up to another
+abbrev pub IsBetween : ℕ → ℕ → ℕ → ℕ → Type 0
+IsBetween column from to word =
+    (i : ℕ) → i < 64 →
+    has_bit word i ≡ (nat_le from (column * 64 + i) && nat_lt (column * 64 + i) to)
 
 -- word k of each row from the first up to another lost the bits that the other words have there
 abbrev pub ColumnLost : ℕ → ℕ → ℕ → ℕ → List ℕ → List ℕ → List ℕ → Type 0
 ColumnLost across column from to other old new =
-    (k y i : ℕ) → k < across → i < 64 → has_at new across y k i ≡ (has_at old across y k i && not ((nat_eq k column && (nat_le from y && nat_lt y to)) && has_at other across y k i))
+    (k y i : ℕ) → k < across → i < 64 →
+    has_at new across y k i
+    ≡ (has_at old across y k i
+    && not (in_words column from to k y && has_at other across y k i))
 
 -- so did each word of the first rows
 abbrev pub RowsLost : ℕ → ℕ → List ℕ → List ℕ → List ℕ → Type 0
 RowsLost across rows other old new =
-    (k y i : ℕ) → k < across → y < rows → i < 64 → has_at new across y k i ≡ (has_at old across y k i && not (has_at other across y k i))
+    (k y i : ℕ) → k < across → y < rows → i < 64 →
+    has_at new across y k i ≡ (has_at old across y k i && not (has_at other across y k i))
 
 -- place (x, y) is marked: a word holds 64 places of a row, the lowest bit the leftmost place
 abbrev pub has_place : List ℕ → ℕ → ℕ → ℕ → Bool

@@ -1,8 +1,8 @@
 //! The part of a screen that a client asked for.
 
-ghost use Rattle.std.specs.Prelude.{◌≡◌, ◌+◌, ◌<◌, IfOk, MatchOption};
+ghost use Rattle.std.specs.Prelude.{◌≡◌, ◌<◌, IfOk};
 ghost use Rattle.rfb_picture.specs.Grid.{Holds};
-ghost use Rattle.rfb_picture.specs.Box.{IsClear, IsBox};
+ghost use Rattle.rfb_picture.specs.Box.{HasBox};
 ghost use Rattle.rfb_picture.specs.Area.{IsArea, asked_at, whole_at, no_places, nothing, added};
 
 use crate::place_set::PlaceSet;
@@ -13,10 +13,10 @@ use std::marker::Model;
 #[cfg(test)]
 mod tests;
 
-/// The places of a screen of that size that were asked for, RFC 6143 section 7.5.3, and those of them
-/// that are to be sent whole: whatever the client has there. Only an asked place is whole. It keeps
-/// its size; either may be 0. It owns two sets, `PlaceSet`: two bits for each place, and a few more for
-/// each row and for each cell of 64 by 64 places.
+/// The places of a screen of that size that were asked for, RFC 6143 section 7.5.3, and those of
+/// them that are to be sent whole: whatever the client has there. Only an asked place is whole. It
+/// keeps its size; either may be 0. It owns two sets, `PlaceSet`: two bits for each place, and a
+/// few more for each row and for each cell of 64 by 64 places.
 #[derive(Drop)]
 pub struct Area {
     asked: PlaceSet,
@@ -36,8 +36,9 @@ impl Model for Area {
 }
 
 impl Area {
-    /// An area of a screen of `width` by `height` places, of which none is asked. It asks for room
-    /// for all its bits, in six pieces; where there is none it gives the error, and nothing is kept.
+    /// An area of a screen of `width` by `height` places, of which none is asked. It
+    /// asks for room for all its bits, in six pieces; where there is none it gives the
+    /// error, and nothing is kept.
     pub fn new(alloc: Global, width: u16, height: u16) -> Result<Area, AllocError>
         ensures value { IfOk result (λ a. a ≡ no_places width height) }
         ensures width { IfOk result (λ a. a.asked.width ≡ width) }
@@ -102,17 +103,17 @@ impl Area {
         self.whole.has(x, y)
     }
 
-    /// The least rectangle that holds the asked places of the cell, which lies on the screen; `None`
-    /// where no place of the cell is asked.
+    /// The least rectangle that holds the asked places of the cell, which lies on the screen;
+    /// `None` where no place of the cell is asked.
     pub fn bounds_in(&self, cell: Rect) -> Option<Rect>
         requires { Holds self.now.asked cell }
-        ensures { MatchOption result (IsClear (asked_at self.now) cell.x (cell.x + cell.w) cell.y (cell.y + cell.h)) (λ r. IsBox (asked_at self.now) cell r) }
+        ensures { HasBox (asked_at self.now) cell result }
     {
         self.asked.bounds_in(cell)
     }
 
-    /// Asks for the places of the rectangle, which lies on the screen, and for them whole if `whole`.
-    /// A place that is whole already stays whole.
+    /// Asks for the places of the rectangle, which lies on the screen, and for them whole if
+    /// `whole`. A place that is whole already stays whole.
     pub fn add(&mut self, rect: Rect, whole: bool)
         requires { Holds self.old.asked rect }
         ensures value { self.new ≡ added rect whole self.old }

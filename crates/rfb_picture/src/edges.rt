@@ -1,9 +1,10 @@
 //! The outermost of the places whose bits are set in rows of words.
 
-ghost use Rattle.std.specs.Prelude.{◌≡◌, ℕ, Bool, true, ◌+◌, ◌-◌, ◌*◌, ◌/◌, ◌^◌, ◌<◌, ◌≤◌, ◌||◌, length, MatchOption};
-ghost use Rattle.rfb_picture.specs.Rect.{contains};
-ghost use Rattle.rfb_picture.specs.Plane.{has_bit, has_at, has_place, has_masked};
-ghost use Rattle.rfb_picture.specs.Edges.{HasEdges, HasGathered, HasMark, IsFirstRow, IsLastRow, NoMarks};
+ghost use Rattle.std.specs.Prelude.{◌≡◌, ◌+◌, ◌*◌, ◌/◌, ◌^◌, ◌<◌, ◌≤◌, length};
+ghost use Rattle.rfb_picture.specs.Plane.{has_place, has_masked};
+ghost use Rattle.rfb_picture.specs.Edges.{edges_of, rect_of, HasEdges, JoinsTo};
+ghost use Rattle.rfb_picture.specs.Edges.{HasMark, HasFirstRow, IsLastRow};
+ghost use Rattle.rfb_picture.specs.Edges.{HasAllBits, HasNoOtherBits, HasGathered};
 
 use crate::rect::Rect;
 use crate::words::columns_between;
@@ -21,7 +22,7 @@ impl Edges {
     /// The edges of a rectangle, which has a place.
     pub(crate) fn of(rect: Rect) -> Edges
         requires { (0 < rect.w) × (0 < rect.h) }
-        ensures { result ≡ record { left = rect.x; right = rect.x + rect.w - 1; top = rect.y; bottom = rect.y + rect.h - 1 } }
+        ensures { result ≡ edges_of rect }
     {
         Edges {
             left: usize::from(rect.x),
@@ -35,7 +36,7 @@ impl Edges {
     pub(crate) fn rect(self) -> Rect
         requires columns { (self.left ≤ self.right) × (self.right < 65535) }
         requires rows { (self.top ≤ self.bottom) × (self.bottom < 65535) }
-        ensures { result ≡ record { x = self.left; y = self.top; w = self.right - self.left + 1; h = self.bottom - self.top + 1 } }
+        ensures { result ≡ rect_of self }
     {
         Rect {
             x: self.left as u16,
@@ -54,8 +55,8 @@ struct Gathered {
     bottom: usize,
 }
 
-/// The edges of the zone's places whose bits are set, where a row is `across` words; `None` where none
-/// is. The zone's places of a row are of one word.
+/// The edges of the zone's places whose bits are set, where a row is `across` words; `None` where
+/// none is. The zone's places of a row are of one word.
 pub(crate) fn edges_in(words: &[u64], across: usize, zone: Rect) -> Option<Edges>
     requires small { across < 2 ^ 16 }
     requires columns { zone.x + zone.w ≤ across * 64 }
@@ -85,7 +86,7 @@ pub(crate) fn edges_in(words: &[u64], across: usize, zone: Rect) -> Option<Edges
 
 /// The edges of two parts together.
 pub(crate) fn joined(a: Option<Edges>, b: Option<Edges>) -> Option<Edges>
-    ensures { (p : ℕ → ℕ → Bool) (first second all : _) → ((x y : ℕ) → contains all x y ≡ (contains first x y || contains second x y)) → HasEdges p first a → HasEdges p second b → HasEdges p all result }
+    ensures { JoinsTo a b result }
 {
     match a {
         None => b,
@@ -139,7 +140,7 @@ fn first_row(
 ) -> Option<usize>
     requires column { column < across }
     requires rows { bottom * across ≤ length words.now }
-    ensures { MatchOption result (NoMarks (has_masked words.now across column mask) top bottom) (λ r. IsFirstRow (has_masked words.now across column mask) top bottom r) }
+    ensures { HasFirstRow (has_masked words.now across column mask) top bottom result }
 {
     for row in top..bottom {
         if words[row * across + column] & mask != 0 {
@@ -149,8 +150,8 @@ fn first_row(
     None
 }
 
-// The last of the rows from `top` up to `bottom` of whose word `column` the mask leaves a bit, as it
-// does of that of the row `top`.
+// The last of the rows from `top` up to `bottom` of whose word `column` the mask leaves a bit, as
+// it does of that of the row `top`.
 fn last_row(
     words: &[u64],
     across: usize,
@@ -177,8 +178,8 @@ fn all_bits(words: &[u64], across: usize, column: usize, top: usize, bottom: usi
     requires column { column < across }
     requires order { top ≤ bottom }
     requires rows { bottom * across ≤ length words.now }
-    ensures each { (y i : ℕ) → top ≤ y → y < bottom → has_at words.now across y column i ≡ true → has_bit result i ≡ true }
-    ensures some { (i : ℕ) → has_bit result i ≡ true → (y : ℕ) × (top ≤ y) × (y < bottom) × (has_at words.now across y column i ≡ true) }
+    ensures each { HasAllBits words.now across column top bottom result }
+    ensures some { HasNoOtherBits words.now across column top bottom result }
 {
     let mut bits = 0;
     for row in top..bottom {

@@ -1,11 +1,11 @@
 //! Pictures, rectangles and sets of places, whatever stands at the places.
 //!
-//! A `Picture` is a framebuffer of RFC 6143: rows of places, numbered from the top left, each with a
-//! value. An `Area` is what of it was asked for, and a `PlaceSet` any set of its places. Each owns
-//! its places; they are taken when it is made, and freed when it is let go. Nothing else here takes
-//! memory: what a set owns is of a type that can't grow, and that no call makes a picture grow is
-//! tested. The caller says that a place or a rectangle lies in it, and has `Picture::holds` to test it.
-//! No value is read or judged here, and no bytes of the protocol are known.
+//! A `Picture` is a framebuffer of RFC 6143: rows of places, numbered from the top left, each with
+//! a value. An `Area` is what of it was asked for, and a `PlaceSet` any set of its places. Each
+//! owns its places; they are taken when it is made, and freed when it is let go. Nothing else here
+//! takes memory: what a set owns is of a type that can't grow, and that no call makes a picture
+//! grow is tested. The caller says that a place or a rectangle lies in it, and has `Picture::holds`
+//! to test it. No value is read or judged here, and no bytes of the protocol are known.
 #![tactic(auto)]
 
 mod area;

@@ -1,8 +1,9 @@
 //! A picture of places, each with a value.
 
-ghost use Rattle.std.specs.Prelude.{◌≡◌, ℕ, ◌+◌, ◌-◌, ◌*◌, ◌<◌, ◌≤◌, ◌↔◌, ◌&&◌, nat_le, nat_lt, length, slice_index_or, if◌then◌else◌, IfOk, IsTrue};
+ghost use Rattle.std.specs.Prelude.{◌≡◌, ℕ, ◌+◌, ◌*◌, ◌<◌, ◌≤◌, ◌↔◌, length, slice_index_or, IfOk};
+ghost use Rattle.std.specs.Prelude.{IsTrue};
 ghost use Rattle.std.specs.Borrow.{sem};
-ghost use Rattle.rfb_picture.specs.Rect.{contains};
+ghost use Rattle.rfb_picture.specs.Runs.{RowsFilled, RunFilled, RunPut};
 
 mod copying;
 #[cfg(test)]
@@ -13,8 +14,8 @@ use copying::copy_rows;
 use std::alloc::{AllocError, Global};
 use std::marker::Model;
 
-/// `height` rows of `width` places, each with a value of `T`. Place (0, 0) is at the top left. It owns
-/// its values, keeps its size, and has exactly one value for each place; either size may be 0.
+/// `height` rows of `width` places, each with a value of `T`. Place (0, 0) is at the top left. It
+/// owns its values, keeps its size, and has exactly one value for each place; either size may be 0.
 #[derive(Drop)]
 pub struct Picture<T> {
     width: u16,
@@ -35,7 +36,8 @@ impl<T> Model for Picture<T> {
 }
 
 impl<T: Copy> Picture<T> {
-    ghost use Rattle.rfb_picture.specs.Grid.{IsGrid, Holds, at_or, row_of, filled, copied, with_row, uniform};
+    ghost use Rattle.rfb_picture.specs.Grid.{IsGrid, Holds, at_or, row_of};
+    ghost use Rattle.rfb_picture.specs.Grid.{filled, copied, with_row, uniform};
     ghost use Rattle.rfb_picture.specs.Loan.{LendsRow};
 
     /// A picture of `width` by `height` places with `value` at each. It asks for room for exactly
@@ -141,8 +143,8 @@ impl<T: Copy> Picture<T> {
         put_places(&mut self.places, start, row);
     }
 
-    /// Gives each place of `dst` what its place of the rectangle of that size at (`sx`, `sy`) had, as
-    /// CopyRect does (RFC 6143 section 7.7.2). The two rectangles may lie over one another.
+    /// Gives each place of `dst` what its place of the rectangle of that size at (`sx`, `sy`) had,
+    /// as CopyRect does (RFC 6143 section 7.7.2). The two rectangles may lie over one another.
     pub fn copy(&mut self, dst: Rect, sx: u16, sy: u16)
         requires target { Holds self.old dst }
         requires source { Holds self.old (record dst { x = sx; y = sy }) }
@@ -167,7 +169,7 @@ impl<T: Copy> Picture<T> {
 fn fill_rows<T: Copy>(places: &mut [T], width: usize, rect: Rect, value: T)
     requires columns { rect.x + rect.w ≤ width }
     requires rows { (rect.y + rect.h) * width ≤ length places.old }
-    ensures { (x y : ℕ) (d : T) → x < width → slice_index_or places.new (y * width + x) d ≡ (if contains rect x y then value else slice_index_or places.old (y * width + x) d) }
+    ensures { RowsFilled width rect value places.old places.new }
 {
     for row in 0..usize::from(rect.h) {
         let start = (usize::from(rect.y) + row) * width + usize::from(rect.x);
@@ -178,7 +180,7 @@ fn fill_rows<T: Copy>(places: &mut [T], width: usize, rect: Rect, value: T)
 // Gives `value` to `count` places in a row.
 fn fill_places<T: Copy>(places: &mut [T], start: usize, count: usize, value: T)
     requires { start + count ≤ length places.old }
-    ensures { (i : ℕ) (d : T) → slice_index_or places.new i d ≡ (if nat_le start i && nat_lt i (start + count) then value else slice_index_or places.old i d) }
+    ensures { RunFilled start count value places.old places.new }
 {
     fill_row(&mut places[start..start + count], value);
 }
@@ -197,7 +199,7 @@ fn fill_row<T: Copy>(row: &mut [T], value: T)
 // Writes `row` over as many places from `start` on.
 fn put_places<T: Copy>(places: &mut [T], start: usize, row: &[T])
     requires { start + length row.now ≤ length places.old }
-    ensures { (i : ℕ) (d : T) → slice_index_or places.new i d ≡ (if nat_le start i && nat_lt i (start + length row.now) then slice_index_or row.now (i - start) d else slice_index_or places.old i d) }
+    ensures { RunPut start row.now places.old places.new }
 {
     places[start..start + row.len()].copy_from_slice(row);
 }

@@ -1,6 +1,6 @@
 //! A set of the places of a picture.
 
-ghost use Rattle.std.specs.Prelude.{◌≡◌, ◌↔◌, ◌+◌, ◌%◌, ◌<◌, false, true, IfOk, IsTrue, MatchOption};
+ghost use Rattle.std.specs.Prelude.{◌≡◌, ◌↔◌, ◌%◌, ◌<◌, false, true, IfOk, IsTrue};
 
 use crate::plane::Plane;
 use crate::rect::Rect;
@@ -18,10 +18,10 @@ mod taking;
 #[cfg(test)]
 mod tests;
 
-/// Some of the places of a picture of that size, numbered from the top left. It keeps its size; either
-/// may be 0. It owns one bit for each place, up to 63 bits more for each row, and two bits, with up to
-/// 126 more for each row of them, for each cell of 64 by 64 places. By these a cell that is in the set
-/// whole, or has no place in it, needs no look at its places.
+/// Some of the places of a picture of that size, numbered from the top left. It keeps its size;
+/// either may be 0. It owns one bit for each place, up to 63 bits more for each row, and two bits,
+/// with up to 126 more for each row of them, for each cell of 64 by 64 places. By these a cell that
+/// is in the set whole, or has no place in it, needs no look at its places.
 #[derive(Drop)]
 pub struct PlaceSet {
     layers: Layers,
@@ -44,7 +44,7 @@ impl Model for PlaceSet {
 
 impl PlaceSet {
     ghost use Rattle.rfb_picture.specs.Grid.{IsGrid, Holds, at_or, filled, uniform};
-    ghost use Rattle.rfb_picture.specs.Box.{is_in, IsClear, IsBox};
+    ghost use Rattle.rfb_picture.specs.Box.{is_in, HasBox};
     ghost use Rattle.rfb_picture.specs.Cells.{IsOfCells};
     ghost use Rattle.rfb_picture.specs.Places.{AllMarked, HasRowBits, without};
 
@@ -103,8 +103,8 @@ impl PlaceSet {
         self.layers.has_all(rect)
     }
 
-    /// Which of 64 places of row `y` are in the set: bit `i` is set if place (`x` + `i`, `y`) is. They
-    /// begin at a cell's left edge. A bit past the picture's right edge is not set.
+    /// Which of 64 places of row `y` are in the set: bit `i` is set if place (`x` + `i`, `y`) is.
+    /// They begin at a cell's left edge. A bit past the picture's right edge is not set.
     pub fn row_bits(&self, x: u16, y: u16) -> u64
         requires start { x % 64 ≡ 0 }
         requires column { x < self.now.width }
@@ -122,11 +122,11 @@ impl PlaceSet {
         }
     }
 
-    /// The least rectangle that holds the set's places in the cell, which lies in the picture; `None`
-    /// where the set has no place there.
+    /// The least rectangle that holds the set's places in the cell, which lies in the picture;
+    /// `None` where the set has no place there.
     pub fn bounds_in(&self, cell: Rect) -> Option<Rect>
         requires { Holds self.now cell }
-        ensures { MatchOption result (IsClear (is_in self.now) cell.x (cell.x + cell.w) cell.y (cell.y + cell.h)) (λ r. IsBox (is_in self.now) cell r) }
+        ensures { HasBox (is_in self.now) cell result }
     {
         match self.layers.edges_in(cell) {
             None => None,
@@ -176,8 +176,8 @@ impl PlaceSet {
         }
     }
 
-    /// Takes the places of `other` out of the set. `other` is of the same size and stays the caller's.
-    /// It costs by the cells that `other` uses.
+    /// Takes the places of `other` out of the set. `other` is of the same size and stays the
+    /// caller's. It costs by the cells that `other` uses.
     pub fn take_away(&mut self, other: &PlaceSet)
         requires width { self.old.width ≡ other.now.width }
         requires height { self.old.height ≡ other.now.height }

@@ -1,6 +1,7 @@
 //! A mark for each place of a picture, or for each of its cells.
 
-ghost use Rattle.std.specs.Prelude.{◌≡◌, ◌↔◌, ◌+◌, ◌*◌, ◌/◌, ◌%◌, ◌<◌, ◌≤◌, false, true, IfOk, IsTrue};
+ghost use Rattle.std.specs.Prelude.{◌≡◌, ◌↔◌, ◌+◌, ◌*◌, ◌/◌, ◌%◌, ◌<◌, ◌≤◌, false, true, IfOk};
+ghost use Rattle.std.specs.Prelude.{IsTrue};
 
 use crate::edges::{Edges, edges_in};
 use crate::rect::Rect;
@@ -19,8 +20,8 @@ pub(crate) struct Plane {
     height: u16,
     // How many words a row has.
     across: usize,
-    // Row after row; of a row each word has 64 places, the lowest bit the leftmost. As a boxed slice they
-    // can't grow.
+    // Row after row; of a row each word has 64 places, the lowest bit the leftmost. As a
+    // boxed slice they can't grow.
     words: BoxedSlice<u64>,
 }
 
@@ -47,8 +48,8 @@ impl Plane {
     ghost use Rattle.rfb_picture.specs.Cells.{cell_at, one_cell};
     ghost use Rattle.rfb_picture.specs.Places.{AllMarked, HasRowBits, HasNext, without, without_in};
 
-    /// No mark, at `width` by `height` places. It asks for room for all its bits, in one piece; where
-    /// there is none it gives the error, and nothing is kept.
+    /// No mark, at `width` by `height` places. It asks for room for all its bits, in one piece;
+    /// where there is none it gives the error, and nothing is kept.
     pub(crate) fn new(alloc: Global, width: u16, height: u16) -> Result<Plane, AllocError>
         ensures value { IfOk result (λ s. s ≡ uniform width height false) }
         ensures width { IfOk result (λ s. s.width ≡ width) }
@@ -94,8 +95,8 @@ impl Plane {
         word >> (x % 64) & 1 == 1
     }
 
-    /// The edges of the marked places of the zone, which lies in one column of cells; `None` where none
-    /// is marked.
+    /// The edges of the marked places of the zone, which lies in one column of cells;
+    /// `None` where none is marked.
     pub(crate) fn edges_in(&self, zone: Rect) -> Option<Edges>
         requires room { Holds self.now zone }
         requires some { 0 < zone.w }

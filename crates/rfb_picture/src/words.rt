@@ -1,8 +1,8 @@
 //! Rows of words, each with a bit for 64 places: the lowest for the leftmost.
 
-ghost use Rattle.std.specs.Prelude.{◌≡◌, ◌↔◌, ℕ, ◌+◌, ◌*◌, ◌^◌, ◌<◌, ◌≤◌, ◌&&◌, ◌||◌, false, nat_eq, nat_le, nat_lt, length, if◌then◌else◌, IsTrue};
-ghost use Rattle.rfb_picture.specs.Rect.{contains};
-ghost use Rattle.rfb_picture.specs.Plane.{has_bit, has_at, has_place, HasMasked, ColumnLost, RowsLost};
+ghost use Rattle.std.specs.Prelude.{◌↔◌, ◌+◌, ◌*◌, ◌^◌, ◌<◌, ◌≤◌, length, IsTrue};
+ghost use Rattle.rfb_picture.specs.Plane.{has_place, HasMasked, PlacesAdded, IsBetween};
+ghost use Rattle.rfb_picture.specs.Plane.{ColumnAdded, ColumnCleared, ColumnLost, RowsLost};
 ghost use Rattle.rfb_picture.specs.Places.{AllMarked, HasNext};
 
 use crate::rect::Rect;
@@ -11,7 +11,7 @@ use crate::rect::Rect;
 pub(crate) fn add_places(words: &mut [u64], across: usize, rect: Rect)
     requires columns { rect.x + rect.w ≤ across * 64 }
     requires rows { (rect.y + rect.h) * across ≤ length words.old }
-    ensures { (k y i : ℕ) → k < across → i < 64 → has_at words.new across y k i ≡ (has_at words.old across y k i || contains rect (k * 64 + i) y) }
+    ensures { PlacesAdded across rect words.old words.new }
 {
     let from = usize::from(rect.x);
     let to = from + usize::from(rect.w);
@@ -28,7 +28,7 @@ fn add_column(words: &mut [u64], across: usize, column: usize, top: usize, botto
     requires column { column < across }
     requires order { top ≤ bottom }
     requires rows { bottom * across ≤ length words.old }
-    ensures { (k y i : ℕ) → k < across → has_at words.new across y k i ≡ (has_at words.old across y k i || ((nat_eq k column && (nat_le top y && nat_lt y bottom)) && has_bit mask i)) }
+    ensures { ColumnAdded across column top bottom mask words.old words.new }
 {
     for row in top..bottom {
         words[row * across + column] |= mask;
@@ -46,15 +46,15 @@ pub(crate) fn clear_column(
     requires column { column < across }
     requires order { top ≤ bottom }
     requires rows { bottom * across ≤ length words.old }
-    ensures { (k y i : ℕ) → k < across → has_at words.new across y k i ≡ (if nat_eq k column && (nat_le top y && nat_lt y bottom) then false else has_at words.old across y k i) }
+    ensures { ColumnCleared across column top bottom words.old words.new }
 {
     for row in top..bottom {
         words[row * across + column] = 0;
     }
 }
 
-/// Clears in one word of each row from `top` up to `bottom` the bits that are set in that of `other`,
-/// whose rows have as many words.
+/// Clears in one word of each row from `top` up to `bottom` the bits that are set in that of
+/// `other`, whose rows have as many words.
 pub(crate) fn take_column(
     words: &mut [u64],
     other: &[u64],
@@ -126,8 +126,8 @@ fn has_column(
     true
 }
 
-/// The first place of row `row` from column `from` up to column `to` whose bit is set, where `to` is in
-/// the row's last word.
+/// The first place of row `row` from column `from` up to column `to` whose bit is set, where `to`
+/// is in the row's last word.
 #[inline]
 pub(crate) fn next_place(
     words: &[u64],
@@ -157,7 +157,7 @@ pub(crate) fn next_place(
 pub(crate) fn columns_between(column: usize, from: usize, to: usize) -> u64
     requires from { from < column * 64 + 64 }
     requires to { column * 64 < to }
-    ensures { (i : ℕ) → i < 64 → has_bit result i ≡ (nat_le from (column * 64 + i) && nat_lt (column * 64 + i) to) }
+    ensures { IsBetween column from to result }
 {
     let start = column * 64;
     let low = from.saturating_sub(start);

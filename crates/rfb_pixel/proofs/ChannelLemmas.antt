@@ -25,7 +25,8 @@ pub rescaled-same : (m v : ℕ) → 0 < m → rescaled m m v ≡ v
 rescaled-same m v some = div-mul-add v m ((m - 1) / 2) (omega arith)
 
 -- there and back, by way of a finer range, leaves a value as it was; both ranges are odd
-pub rescaled-back : (m n p q v : ℕ) → m ≡ 2 * p + 1 → n ≡ 2 * q + 1 → m ≤ n → rescaled n m (rescaled m n v) ≡ v
+pub rescaled-back : (m n p q v : ℕ) → m ≡ 2 * p + 1 → n ≡ 2 * q + 1 → m ≤ n →
+    rescaled n m (rescaled m n v) ≡ v
 rescaled-back m n p q v odd_m odd_n finer =
     let sum = v * n + (m - 1) / 2 in
     let split : sum / m * m + sum % m ≡ sum = div-add-mod' sum m in
@@ -48,17 +49,21 @@ max_of-odd (suc w) some =
 -- the low w bits of a number
 bit_at-mod : (n w i : ℕ) → i < w → bit_at (n % 2 ^ w) i ≡ bit_at n i
 bit_at-mod n w i low =
-    sym (bit_at_cat_low (n / 2 ^ w) w (n % 2 ^ w) i low) ∙ ap (λ (m : ℕ). bit_at m i) (shr_split n w)
+    sym (bit_at_cat_low (n / 2 ^ w) w (n % 2 ^ w) i low)
+    ∙ ap (λ (m : ℕ). bit_at m i) (shr_split n w)
 
 -- a bit of what a field holds is a bit of the pixel
-pub bit_at-held_in : (c : Channel) (pixel i : ℕ) → i < c.width → bit_at (held_in c pixel) i ≡ bit_at pixel (c.shift + i)
+pub bit_at-held_in : (c : Channel) (pixel i : ℕ) → i < c.width →
+    bit_at (held_in c pixel) i ≡ bit_at pixel (c.shift + i)
 bit_at-held_in c pixel i low =
     bit_at-mod (pixel / 2 ^ c.shift) c.width i low ∙ ap (λ (m : ℕ). m % 2) (shr-shr pixel c.shift i)
 
 -- what a field holds is known by the field's bits alone
-pub held_in-is : (c : Channel) (pixel v : ℕ) → v < 2 ^ c.width → ((i : ℕ) → i < c.width → bit_at pixel (c.shift + i) ≡ bit_at v i) → held_in c pixel ≡ v
+pub held_in-is : (c : Channel) (pixel v : ℕ) → v < 2 ^ c.width →
+    ((i : ℕ) → i < c.width → bit_at pixel (c.shift + i) ≡ bit_at v i) → held_in c pixel ≡ v
 held_in-is c pixel v small same =
-    same_from_bits_below c.width (held_in c pixel) v (mod_below (pixel / 2 ^ c.shift) (2 ^ c.width) (pow_pos c.width)) small
+    same_from_bits_below c.width (held_in c pixel) v
+    (mod_below (pixel / 2 ^ c.shift) (2 ^ c.width) (pow_pos c.width)) small
     (λ i low. bit_at-held_in c pixel i low ∙ same i low)
 
 -- a value at its shift has its own bits from there on
@@ -70,7 +75,8 @@ bit_at-placed shift v i =
     ap (λ (m : ℕ). bit_at m (shift + i)) (sym whole) ∙ high ∙ ap (λ (j : ℕ). bit_at v j) left
 
 -- a field's value at its shift has no bit outside the field
-pub bit_at-outside : (c : Channel) (v i : ℕ) → v < 2 ^ c.width → (IsInField c i → ⊥) → bit_at (v * 2 ^ c.shift) i ≡ 0
+pub bit_at-outside : (c : Channel) (v i : ℕ) → v < 2 ^ c.width → (IsInField c i → ⊥) →
+    bit_at (v * 2 ^ c.shift) i ≡ 0
 bit_at-outside c v i small outside = elim (cases_lt i c.shift) [
   | inl low ↦
       let whole : v * 2 ^ c.shift + 0 ≡ v * 2 ^ c.shift = omega arith in
@@ -79,7 +85,8 @@ bit_at-outside c v i small outside = elim (cases_lt i c.shift) [
     | inl within ↦ absurd (outside (high, within))
     | inr above ↦
         let place : c.shift + (i - c.shift) ≡ i = omega arith in
-        ap (λ (j : ℕ). bit_at (v * 2 ^ c.shift) j) (sym place) ∙ bit_at-placed c.shift v (i - c.shift)
+        ap (λ (j : ℕ). bit_at (v * 2 ^ c.shift) j) (sym place)
+        ∙ bit_at-placed c.shift v (i - c.shift)
         ∙ bit_at_above v c.width (i - c.shift) small (omega arith)
   ]
 ]
@@ -92,7 +99,8 @@ ones_of_max (suc n) =
     let some = pow_pos n in
     let double : 2 ^ suc n ≡ 2 ^ n * 2 = pow-suc 2 n in
     let split : 2 ^ suc n - 1 ≡ 1 * 2 ^ n + (2 ^ n - 1) = omega arith in
-    ap count_ones split ∙ ones_cat n 1 (2 ^ n - 1) (omega arith) ∙ ap (λ (k : ℕ). 1 + k) (ones_of_max n) ∙ omega arith
+    ap count_ones split ∙ ones_cat n 1 (2 ^ n - 1) (omega arith)
+    ∙ ap (λ (k : ℕ). 1 + k) (ones_of_max n) ∙ omega arith
 
 -- a maximum passes the test
 pub max-passes : (m : ℕ) → IsMax m → (0 < m) × (m ≡ 2 ^ count_ones m - 1)

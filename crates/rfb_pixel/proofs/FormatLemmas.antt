@@ -25,22 +25,37 @@ only_byte (x ∷ []) b h = refl
 only_byte (x ∷ y ∷ bytes) b h = absurd (omega arith)
 
 -- a pixel of 8 bits is its low byte, in either byte order
-pub one_byte : (f : PixelFormat) (pixel : ℕ) (bytes : List ℕ) → f.bits_per_pixel ≡ 8 → length bytes ≡ size_of f → set bytes 0 (bit_and pixel 255) ≡ pixel_bytes f pixel
+pub one_byte : (f : PixelFormat) (pixel : ℕ) (bytes : List ℕ) → f.bits_per_pixel ≡ 8 →
+    length bytes ≡ size_of f → set bytes 0 (bit_and pixel 255) ≡ pixel_bytes f pixel
 one_byte f pixel bytes e h =
     let size : size_of f ≡ 1 = ap (λ (n : ℕ). n / 8) e in
     let low : bit_and pixel 255 ≡ pixel % 256 = and_mask pixel 8 in
     let big : big_bytes (size_of f) pixel ≡ pixel % 256 ∷ [] = rw size refl in
     let little : little_bytes (size_of f) pixel ≡ pixel % 256 ∷ [] = rw size refl in
-    let same : (b : Bool) → cond b (big_bytes (size_of f) pixel) (little_bytes (size_of f) pixel) ≡ pixel % 256 ∷ [] = λ b. elim b as (λ (v : Bool). cond v (big_bytes (size_of f) pixel) (little_bytes (size_of f) pixel) ≡ pixel % 256 ∷ []) [ true ↦ big | false ↦ little ] in
-    only_byte bytes (bit_and pixel 255) (h ∙ size) ∙ ap (λ (x : ℕ). x ∷ []) low ∙ sym (same f.big_endian)
+    let same : (b : Bool) →
+    cond b (big_bytes (size_of f) pixel) (little_bytes (size_of f) pixel) ≡ pixel % 256 ∷ [] =
+    λ b. elim b as
+    (λ (v : Bool). cond v (big_bytes (size_of f) pixel) (little_bytes (size_of f) pixel)
+    ≡ pixel % 256 ∷ []) [ true ↦ big | false ↦ little ] in
+    only_byte bytes (bit_and pixel 255) (h ∙ size) ∙ ap (λ (x : ℕ). x ∷ []) low
+    ∙ sym (same f.big_endian)
 
 -- what is read back of a pixel's bytes is the pixel's low bits, whatever follows
-pub pixel_number-pixel_bytes : (f : PixelFormat) (pixel : ℕ) (rest : List ℕ) → pixel_number f (pixel_bytes f pixel ++ rest) ≡ pixel % 2 ^ (8 * size_of f)
+pub pixel_number-pixel_bytes : (f : PixelFormat) (pixel : ℕ) (rest : List ℕ) →
+    pixel_number f (pixel_bytes f pixel ++ rest) ≡ pixel % 2 ^ (8 * size_of f)
 pixel_number-pixel_bytes f pixel rest = ordered f.big_endian
   where
-    ordered : (b : Bool) → cond b (big_number (size_of f) (cond b (big_bytes (size_of f) pixel) (little_bytes (size_of f) pixel) ++ rest)) (little_number (size_of f) (cond b (big_bytes (size_of f) pixel) (little_bytes (size_of f) pixel) ++ rest)) ≡ pixel % 2 ^ (8 * size_of f)
-    ordered true = big_from-bytes (size_of f) pixel rest ∙ ap (λ (m : ℕ). pixel % m) (pow256 (size_of f))
-    ordered false = little_from-bytes (size_of f) 0 pixel rest ∙ rw div-one (ap (λ (m : ℕ). pixel % m) (pow256 (size_of f)))
+    ordered : (b : Bool) →
+        cond b (big_number (size_of f)
+        (cond b (big_bytes (size_of f) pixel) (little_bytes (size_of f) pixel) ++ rest))
+        (little_number (size_of f)
+        (cond b (big_bytes (size_of f) pixel) (little_bytes (size_of f) pixel) ++ rest))
+        ≡ pixel % 2 ^ (8 * size_of f)
+    ordered true =
+        big_from-bytes (size_of f) pixel rest ∙ ap (λ (m : ℕ). pixel % m) (pow256 (size_of f))
+    ordered false =
+        little_from-bytes (size_of f) 0 pixel rest
+        ∙ rw div-one (ap (λ (m : ℕ). pixel % m) (pow256 (size_of f)))
 
 -- ---- fields
 
@@ -49,58 +64,82 @@ pub same_colour : (a b : Colour) → a.r ≡ b.r → a.g ≡ b.g → a.b ≡ b.b
 same_colour a b red green blue = λ i. record { r = red i; g = green i; b = blue i }
 
 -- a component is rounded into its field
-pub field_for-lt : (bits : ℕ) (c : Channel) (component : ℕ) → IsField bits c → component ≤ 255 → field_for c component < 2 ^ c.width
+pub field_for-lt : (bits : ℕ) (c : Channel) (component : ℕ) → IsField bits c → component ≤ 255 →
+    field_for c component < 2 ^ c.width
 field_for-lt bits c component ok small =
     omega (arith, rescaled-le 255 (max_of c) component (omega arith) small, pow_pos c.width)
 
 -- a bit of a pixel value: the greatest of the three fields' bits there
-bit_at-pixel_of : (f : PixelFormat) (c : Colour) (i : ℕ) → bit_at (pixel_of f c) i ≡ max (max (bit_at (field_for f.red c.r * 2 ^ f.red.shift) i) (bit_at (field_for f.green c.g * 2 ^ f.green.shift) i)) (bit_at (field_for f.blue c.b * 2 ^ f.blue.shift) i)
+bit_at-pixel_of : (f : PixelFormat) (c : Colour) (i : ℕ) →
+    bit_at (pixel_of f c) i
+    ≡ max (max (bit_at (field_for f.red c.r * 2 ^ f.red.shift) i)
+    (bit_at (field_for f.green c.g * 2 ^ f.green.shift) i))
+    (bit_at (field_for f.blue c.b * 2 ^ f.blue.shift) i)
 bit_at-pixel_of f c i =
     let red = field_for f.red c.r * 2 ^ f.red.shift in
     let green = field_for f.green c.g * 2 ^ f.green.shift in
     let blue = field_for f.blue c.b * 2 ^ f.blue.shift in
-    bit_at_or (bit_or red green) blue i ∙ ap (λ (m : ℕ). max m (bit_at blue i)) (bit_at_or red green i)
+    bit_at_or (bit_or red green) blue i
+    ∙ ap (λ (m : ℕ). max m (bit_at blue i)) (bit_at_or red green i)
 
 -- bits outside the fields are zero
-pub pixel_of-outside : (f : PixelFormat) (c : Colour) → IsFormat f → IsColour c → (i : ℕ) → IsOutsideFields f i → bit_at (pixel_of f c) i ≡ 0
+pub pixel_of-outside : (f : PixelFormat) (c : Colour) → IsFormat f → IsColour c → (i : ℕ) →
+    IsOutsideFields f i → bit_at (pixel_of f c) i ≡ 0
 pixel_of-outside f c ok small i out =
-    let red = bit_at-outside f.red (field_for f.red c.r) i (field_for-lt f.bits_per_pixel f.red c.r ok.red small.0) out.red in
-    let green = bit_at-outside f.green (field_for f.green c.g) i (field_for-lt f.bits_per_pixel f.green c.g ok.green small.1) out.green in
-    let blue = bit_at-outside f.blue (field_for f.blue c.b) i (field_for-lt f.bits_per_pixel f.blue c.b ok.blue small.2) out.blue in
+    let red = bit_at-outside f.red (field_for f.red c.r) i
+    (field_for-lt f.bits_per_pixel f.red c.r ok.red small.0) out.red in
+    let green = bit_at-outside f.green (field_for f.green c.g) i
+    (field_for-lt f.bits_per_pixel f.green c.g ok.green small.1) out.green in
+    let blue = bit_at-outside f.blue (field_for f.blue c.b) i
+    (field_for-lt f.bits_per_pixel f.blue c.b ok.blue small.2) out.blue in
     bit_at-pixel_of f c i ∙ rw (red, green, blue) refl
 
 -- each field of a colour's pixel value holds its component, rounded
-pub pixel_of-fields : (f : PixelFormat) (c : Colour) → IsFormat f → IsColour c → FieldsHold f c (pixel_of f c)
+pub pixel_of-fields : (f : PixelFormat) (c : Colour) → IsFormat f → IsColour c →
+    FieldsHold f c (pixel_of f c)
 pixel_of-fields f c ok small =
     let red_small = field_for-lt f.bits_per_pixel f.red c.r ok.red small.0 in
     let green_small = field_for-lt f.bits_per_pixel f.green c.g ok.green small.1 in
     let blue_small = field_for-lt f.bits_per_pixel f.blue c.b ok.blue small.2 in
-    let red_out = λ (i : ℕ) (out : IsInField f.red i → ⊥). bit_at-outside f.red (field_for f.red c.r) i red_small out in
-    let green_out = λ (i : ℕ) (out : IsInField f.green i → ⊥). bit_at-outside f.green (field_for f.green c.g) i green_small out in
-    let blue_out = λ (i : ℕ) (out : IsInField f.blue i → ⊥). bit_at-outside f.blue (field_for f.blue c.b) i blue_small out in
+    let red_out =
+    λ (i : ℕ) (out : IsInField f.red i → ⊥).
+    bit_at-outside f.red (field_for f.red c.r) i red_small out in
+    let green_out =
+    λ (i : ℕ) (out : IsInField f.green i → ⊥).
+    bit_at-outside f.green (field_for f.green c.g) i green_small out in
+    let blue_out =
+    λ (i : ℕ) (out : IsInField f.blue i → ⊥).
+    bit_at-outside f.blue (field_for f.blue c.b) i blue_small out in
     record {
       red = held_in-is f.red (pixel_of f c) (field_for f.red c.r) red_small (λ i low.
           let here : IsInField f.red (f.red.shift + i) = (omega arith, omega arith) in
           let own = bit_at-placed f.red.shift (field_for f.red c.r) i in
-          let green = green_out (f.red.shift + i) (λ there. ok.red_green (f.red.shift + i) here there) in
-          let blue = blue_out (f.red.shift + i) (λ there. ok.red_blue (f.red.shift + i) here there) in
+          let green = green_out (f.red.shift + i)
+          (λ there. ok.red_green (f.red.shift + i) here there) in
+          let blue = blue_out (f.red.shift + i)
+          (λ there. ok.red_blue (f.red.shift + i) here there) in
           bit_at-pixel_of f c (f.red.shift + i) ∙ rw (own, green, blue) (omega arith));
       green = held_in-is f.green (pixel_of f c) (field_for f.green c.g) green_small (λ i low.
           let here : IsInField f.green (f.green.shift + i) = (omega arith, omega arith) in
           let own = bit_at-placed f.green.shift (field_for f.green c.g) i in
-          let red = red_out (f.green.shift + i) (λ there. ok.red_green (f.green.shift + i) there here) in
-          let blue = blue_out (f.green.shift + i) (λ there. ok.green_blue (f.green.shift + i) here there) in
+          let red = red_out (f.green.shift + i)
+          (λ there. ok.red_green (f.green.shift + i) there here) in
+          let blue = blue_out (f.green.shift + i)
+          (λ there. ok.green_blue (f.green.shift + i) here there) in
           bit_at-pixel_of f c (f.green.shift + i) ∙ rw (red, own, blue) (omega arith));
       blue = held_in-is f.blue (pixel_of f c) (field_for f.blue c.b) blue_small (λ i low.
           let here : IsInField f.blue (f.blue.shift + i) = (omega arith, omega arith) in
           let own = bit_at-placed f.blue.shift (field_for f.blue c.b) i in
-          let red = red_out (f.blue.shift + i) (λ there. ok.red_blue (f.blue.shift + i) there here) in
-          let green = green_out (f.blue.shift + i) (λ there. ok.green_blue (f.blue.shift + i) there here) in
+          let red = red_out (f.blue.shift + i)
+          (λ there. ok.red_blue (f.blue.shift + i) there here) in
+          let green = green_out (f.blue.shift + i)
+          (λ there. ok.green_blue (f.blue.shift + i) there here) in
           bit_at-pixel_of f c (f.blue.shift + i) ∙ rw (red, green, own) (omega arith));
     }
 
 -- a field at its shift fits the pixel
-field-below : (bits : ℕ) (c : Channel) (component : ℕ) → IsField bits c → component ≤ 255 → field_for c component * 2 ^ c.shift < 2 ^ bits
+field-below : (bits : ℕ) (c : Channel) (component : ℕ) → IsField bits c → component ≤ 255 →
+    field_for c component * 2 ^ c.shift < 2 ^ bits
 field-below bits c component ok small =
     let held = field_for-lt bits c component ok small in
     let some = pow_pos c.shift in
@@ -108,7 +147,8 @@ field-below bits c component ok small =
     let ends : c.width + c.shift ≤ bits = omega arith in
     let above : field_for c component + 1 ≤ 2 ^ c.width = omega (arith, held) in
     let wide : 2 ^ (c.width + c.shift) ≤ 2 ^ bits = pow_mono ends in
-    let placed : (field_for c component + 1) * 2 ^ c.shift ≤ 2 ^ c.width * 2 ^ c.shift = mul-le-mul_right (2 ^ c.shift) above in
+    let placed : (field_for c component + 1) * 2 ^ c.shift ≤ 2 ^ c.width * 2 ^ c.shift =
+    mul-le-mul_right (2 ^ c.shift) above in
     omega (arith, placed, split, wide)
 
 -- the bits of a format's pixels, by bytes
@@ -116,7 +156,8 @@ size-bits : (f : PixelFormat) → IsFormat f → 8 * size_of f ≡ f.bits_per_pi
 size-bits f ok = grind (arith, nat_tests, ok.whole)
 
 -- a pixel value fits the format's size
-pub pixel_of-lt : (f : PixelFormat) (c : Colour) → IsFormat f → IsColour c → pixel_of f c < 2 ^ (8 * size_of f)
+pub pixel_of-lt : (f : PixelFormat) (c : Colour) → IsFormat f → IsColour c →
+    pixel_of f c < 2 ^ (8 * size_of f)
 pixel_of-lt f c ok small =
     let bits = f.bits_per_pixel in
     let red = field-below bits f.red c.r ok.red small.0 in
@@ -127,11 +168,13 @@ pixel_of-lt f c ok small =
 -- a field that has the same bits holds the same
 held_in-agree : (bits : ℕ) (c : Channel) (p q : ℕ) → AgreeInField c p q → held_in c p ≡ held_in c q
 held_in-agree bits c p q same =
-    held_in-is c p (held_in c q) (mod_below (q / 2 ^ c.shift) (2 ^ c.width) (pow_pos c.width)) (λ i low.
+    held_in-is c p (held_in c q) (mod_below (q / 2 ^ c.shift) (2 ^ c.width) (pow_pos c.width))
+    (λ i low.
     same (c.shift + i) (omega arith, omega arith) ∙ sym (bit_at-held_in c q i low))
 
 -- pixel values with the same bits in the fields have one colour
-pub colour_of-agree : (f : PixelFormat) (p q : ℕ) → AgreeInFields f p q → colour_of f p ≡ colour_of f q
+pub colour_of-agree : (f : PixelFormat) (p q : ℕ) → AgreeInFields f p q →
+    colour_of f p ≡ colour_of f q
 colour_of-agree f p q same =
     let red = held_in-agree 32 f.red p q same.red in
     let green = held_in-agree 32 f.green p q same.green in
@@ -139,23 +182,30 @@ colour_of-agree f p q same =
     rw (red, green, blue) refl
 
 -- a component comes back as it was from a field at least as fine
-component-exact : (c : Channel) (component pixel : ℕ) → 1 ≤ c.width → 255 ≤ max_of c → held_in c pixel ≡ field_for c component → component_in c pixel ≡ component
+component-exact : (c : Channel) (component pixel : ℕ) → 1 ≤ c.width → 255 ≤ max_of c →
+    held_in c pixel ≡ field_for c component → component_in c pixel ≡ component
 component-exact c component pixel some fine held =
-    rw held (rescaled-back 255 (max_of c) 127 (2 ^ (c.width - 1) - 1) component refl (max_of-odd c.width some) fine)
+    rw held (rescaled-back 255 (max_of c) 127 (2 ^ (c.width - 1) - 1) component refl
+    (max_of-odd c.width some) fine)
 
 -- a colour comes back as it was where each field is at least as fine as a component
-pub seen_through-exact : (f : PixelFormat) (c : Colour) → IsFormat f → KeepsColours f → IsColour c → seen_through f c ≡ c
+pub seen_through-exact : (f : PixelFormat) (c : Colour) → IsFormat f → KeepsColours f → IsColour c →
+    seen_through f c ≡ c
 seen_through-exact f c ok fine small =
     let held = pixel_of-fields f c ok small in
     let red = component-exact f.red c.r (pixel_of f c) (omega (arith, ok.red)) fine.0 held.red in
-    let green = component-exact f.green c.g (pixel_of f c) (omega (arith, ok.green)) fine.1 held.green in
-    let blue = component-exact f.blue c.b (pixel_of f c) (omega (arith, ok.blue)) fine.2 held.blue in
+    let green = component-exact f.green c.g (pixel_of f c) (omega (arith, ok.green)) fine.1
+    held.green in
+    let blue = component-exact f.blue c.b (pixel_of f c) (omega (arith, ok.blue)) fine.2
+    held.blue in
     same_colour (seen_through f c) c red green blue
 
 -- what a field no finer than a component holds comes back as it was
-field-kept : (c : Channel) (p q : ℕ) → 1 ≤ c.width → max_of c ≤ 255 → held_in c q ≡ field_for c (component_in c p) → held_in c q ≡ held_in c p
+field-kept : (c : Channel) (p q : ℕ) → 1 ≤ c.width → max_of c ≤ 255 →
+    held_in c q ≡ field_for c (component_in c p) → held_in c q ≡ held_in c p
 field-kept c p q some coarse held =
-    held ∙ rescaled-back (max_of c) 255 (2 ^ (c.width - 1) - 1) 127 (held_in c p) (max_of-odd c.width some) refl coarse
+    held ∙ rescaled-back (max_of c) 255 (2 ^ (c.width - 1) - 1) 127 (held_in c p)
+    (max_of-odd c.width some) refl coarse
 
 -- a component is at most 255
 component_in-le : (bits : ℕ) (c : Channel) (p : ℕ) → IsField bits c → component_in c p ≤ 255
@@ -164,10 +214,16 @@ component_in-le bits c p ok =
     let held = mod_below (p / 2 ^ c.shift) (2 ^ c.width) (pow_pos c.width) in
     rescaled-le (max_of c) 255 (held_in c p) (omega arith) (omega arith)
 
--- a pixel value's colour has a pixel value that agrees in the fields that are no finer than a component
-pub colour_of-kept : (f : PixelFormat) (p : ℕ) → IsFormat f → FieldsKept f p (pixel_of f (colour_of f p))
+-- a pixel value's colour has a pixel value that agrees in the fields that are
+-- no finer than a component
+pub colour_of-kept : (f : PixelFormat) (p : ℕ) → IsFormat f →
+    FieldsKept f p (pixel_of f (colour_of f p))
 colour_of-kept f p ok =
-    let small : IsColour (colour_of f p) = (component_in-le f.bits_per_pixel f.red p ok.red, component_in-le f.bits_per_pixel f.green p ok.green, component_in-le f.bits_per_pixel f.blue p ok.blue) in
+    let small : IsColour (colour_of f p) = (
+      component_in-le f.bits_per_pixel f.red p ok.red,
+      component_in-le f.bits_per_pixel f.green p ok.green,
+      component_in-le f.bits_per_pixel f.blue p ok.blue,
+    ) in
     let held = pixel_of-fields f (colour_of f p) ok small in
     let q = pixel_of f (colour_of f p) in
     record {
@@ -190,6 +246,8 @@ rgb888-is_format = record {
 }
 
 -- what a pixel's bytes read as
-pub low_bits : (f : PixelFormat) (pixel : ℕ) (bytes : List ℕ) → bytes ≡ pixel_bytes f pixel → pixel_number f bytes ≡ pixel % 2 ^ (8 * size_of f)
+pub low_bits : (f : PixelFormat) (pixel : ℕ) (bytes : List ℕ) → bytes ≡ pixel_bytes f pixel →
+    pixel_number f bytes ≡ pixel % 2 ^ (8 * size_of f)
 low_bits f pixel bytes e =
-    ap (pixel_number f) (e ∙ sym (append-nil (pixel_bytes f pixel))) ∙ pixel_number-pixel_bytes f pixel []
+    ap (pixel_number f) (e ∙ sym (append-nil (pixel_bytes f pixel)))
+    ∙ pixel_number-pixel_bytes f pixel []

@@ -17,18 +17,30 @@ use Rattle.rfb_pixel.proofs.ChannelLemmas.{ones_of_max, same_width, apart-passes
 
 -- what the reading of a field gives
 abbrev pub field_read : ℕ → ℕ → Result Channel FormatFault
-field_read m shift = if is_max m then Ok (record { width = width_of m; shift = shift }) else Err BadMax
+field_read m shift =
+    if is_max m then Ok (record { width = width_of m; shift = shift }) else Err BadMax
 
 -- what the reading of a field tells
-pub read_field : (m shift : ℕ) (c : Channel) → Ok c ≡ field_read m shift → (is_max m ≡ true) × (c ≡ record { width = width_of m; shift = shift })
+pub read_field : (m shift : ℕ) (c : Channel) → Ok c ≡ field_read m shift →
+    (is_max m ≡ true) × (c ≡ record { width = width_of m; shift = shift })
 read_field m shift c e = by (is_max m) e
   where
-    by : (b : Bool) → ◌≡◌ {A = Result Channel FormatFault} (Ok c) (if b then Ok (record { width = width_of m; shift = shift }) else Err BadMax) → (b ≡ true) × (c ≡ record { width = width_of m; shift = shift })
+    by : (b : Bool) →
+        ◌≡◌ {A = Result Channel FormatFault} (Ok c)
+        (if b then Ok (record { width = width_of m; shift = shift }) else Err BadMax) →
+        (b ≡ true) × (c ≡ record { width = width_of m; shift = shift })
     by true h = (refl, cc)
     by false h = cc
 
 -- the checks that are left once the maxima are read
-pub after_maxima : (bytes : List ℕ) (red green blue : Channel) → (slice_index bytes 0 == 8 || slice_index bytes 0 == 16 || slice_index bytes 0 == 32) ≡ true → nat_le (slice_index bytes 1) (slice_index bytes 0) ≡ true → (slice_index bytes 3 == 0) ≡ false → Ok red ≡ field_read (number_at 4 bytes) (slice_index bytes 10) → Ok green ≡ field_read (number_at 6 bytes) (slice_index bytes 11) → Ok blue ≡ field_read (number_at 8 bytes) (slice_index bytes 12) → first_fault bytes ≡ fault_of_fields (slice_index bytes 0) red green blue
+pub after_maxima : (bytes : List ℕ) (red green blue : Channel) →
+    (slice_index bytes 0 == 8 || slice_index bytes 0 == 16 || slice_index bytes 0 == 32) ≡ true →
+    nat_le (slice_index bytes 1) (slice_index bytes 0) ≡ true →
+    (slice_index bytes 3 == 0) ≡ false →
+    Ok red ≡ field_read (number_at 4 bytes) (slice_index bytes 10) →
+    Ok green ≡ field_read (number_at 6 bytes) (slice_index bytes 11) →
+    Ok blue ≡ field_read (number_at 8 bytes) (slice_index bytes 12) →
+    first_fault bytes ≡ fault_of_fields (slice_index bytes 0) red green blue
 after_maxima bytes red green blue bits depth colour r g b =
     let red_is = read_field (number_at 4 bytes) (slice_index bytes 10) red r in
     let green_is = read_field (number_at 6 bytes) (slice_index bytes 11) green g in
@@ -51,8 +63,10 @@ spells-same f g bytes a b =
     let depth : f.depth ≡ g.depth = cc in
     let order : f.big_endian ≡ g.big_endian = cc in
     let red = same_field f.red g.red (sym a.red_max ∙ b.red_max) (sym a.red_shift ∙ b.red_shift) in
-    let green = same_field f.green g.green (sym a.green_max ∙ b.green_max) (sym a.green_shift ∙ b.green_shift) in
-    let blue = same_field f.blue g.blue (sym a.blue_max ∙ b.blue_max) (sym a.blue_shift ∙ b.blue_shift) in
+    let green = same_field f.green g.green (sym a.green_max ∙ b.green_max)
+    (sym a.green_shift ∙ b.green_shift) in
+    let blue = same_field f.blue g.blue (sym a.blue_max ∙ b.blue_max)
+    (sym a.blue_shift ∙ b.blue_shift) in
     λ i. record {
       bits_per_pixel = bits i;
       depth = depth i;
@@ -63,7 +77,8 @@ spells-same f g bytes a b =
     }
 
 -- the maximum of a field passes the test
-max_of-passes : (c : Channel) (m : ℕ) → HasWidth c → m ≡ max_of c → (is_max m ≡ true) × (width_of m ≡ c.width)
+max_of-passes : (c : Channel) (m : ℕ) → HasWidth c → m ≡ max_of c →
+    (is_max m ≡ true) × (width_of m ≡ c.width)
 max_of-passes c m wide e =
     let some = pow_below 0 c.width (omega arith) in
     let width : width_of m ≡ c.width = ap width_of e ∙ ones_of_max c.width in
@@ -71,38 +86,62 @@ max_of-passes c m wide e =
     (grind (arith, nat_tests), width)
 
 -- the field that stands in bytes that spell it
-field_at-is : (c : Channel) (max shift : ℕ) (bytes : List ℕ) → width_of (number_at max bytes) ≡ c.width → slice_index bytes shift ≡ c.shift → field_at max shift bytes ≡ c
+field_at-is : (c : Channel) (max shift : ℕ) (bytes : List ℕ) →
+    width_of (number_at max bytes) ≡ c.width → slice_index bytes shift ≡ c.shift →
+    field_at max shift bytes ≡ c
 field_at-is c max shift bytes w s = λ i. record { width = w i; shift = s i }
 
 -- bytes that spell a format show no fault
-pub spells-accepted : (f : PixelFormat) (bytes : List ℕ) → IsFormat f → Spells f bytes → first_fault bytes ≡ None
+pub spells-accepted : (f : PixelFormat) (bytes : List ℕ) → IsFormat f → Spells f bytes →
+    first_fault bytes ≡ None
 spells-accepted f bytes ok s =
-    let bits : (slice_index bytes 0 == 8 || slice_index bytes 0 == 16 || slice_index bytes 0 == 32) ≡ true = rw s.bits_per_pixel ok.whole in
-    let depth : nat_le (slice_index bytes 1) (slice_index bytes 0) ≡ true = grind (arith, nat_tests, ok.deep, s.bits_per_pixel, s.depth) in
-    let colour : (slice_index bytes 3 == 0) ≡ false = grind (arith, nat_tests, s.true_colour_flag) in
-    let red_max = max_of-passes f.red (number_at 4 bytes) (omega (arith, ok.red), omega (arith, ok.red)) s.red_max in
-    let green_max = max_of-passes f.green (number_at 6 bytes) (omega (arith, ok.green), omega (arith, ok.green)) s.green_max in
-    let blue_max = max_of-passes f.blue (number_at 8 bytes) (omega (arith, ok.blue), omega (arith, ok.blue)) s.blue_max in
+    let bits : (slice_index bytes 0 == 8 || slice_index bytes 0 == 16 || slice_index bytes 0 == 32)
+    ≡ true = rw s.bits_per_pixel ok.whole in
+    let depth : nat_le (slice_index bytes 1) (slice_index bytes 0) ≡ true =
+    grind (arith, nat_tests, ok.deep, s.bits_per_pixel, s.depth) in
+    let colour : (slice_index bytes 3 == 0) ≡ false =
+    grind (arith, nat_tests, s.true_colour_flag) in
+    let red_max =
+    max_of-passes f.red (number_at 4 bytes) (omega (arith, ok.red), omega (arith, ok.red))
+    s.red_max in
+    let green_max =
+    max_of-passes f.green (number_at 6 bytes) (omega (arith, ok.green), omega (arith, ok.green))
+    s.green_max in
+    let blue_max =
+    max_of-passes f.blue (number_at 8 bytes) (omega (arith, ok.blue), omega (arith, ok.blue))
+    s.blue_max in
     let red_passes = red_max.0 in
     let green_passes = green_max.0 in
     let blue_passes = blue_max.0 in
     let red_is = field_at-is f.red 4 10 bytes red_max.1 s.red_shift in
     let green_is = field_at-is f.green 6 11 bytes green_max.1 s.green_shift in
     let blue_is = field_at-is f.blue 8 12 bytes blue_max.1 s.blue_shift in
-    let red_within : is_within (slice_index bytes 0) f.red ≡ true = grind (arith, nat_tests, ok.red, s.bits_per_pixel) in
-    let green_within : is_within (slice_index bytes 0) f.green ≡ true = grind (arith, nat_tests, ok.green, s.bits_per_pixel) in
-    let blue_within : is_within (slice_index bytes 0) f.blue ≡ true = grind (arith, nat_tests, ok.blue, s.bits_per_pixel) in
-    let red_green = apart-passes f.red f.green (omega (arith, ok.red)) (omega (arith, ok.green)) ok.red_green in
-    let red_blue = apart-passes f.red f.blue (omega (arith, ok.red)) (omega (arith, ok.blue)) ok.red_blue in
-    let green_blue = apart-passes f.green f.blue (omega (arith, ok.green)) (omega (arith, ok.blue)) ok.green_blue in
-    let fields : fault_of_fields (slice_index bytes 0) (red_at bytes) (green_at bytes) (blue_at bytes) ≡ fault_of_fields (slice_index bytes 0) f.red f.green f.blue = λ i. fault_of_fields (slice_index bytes 0) (red_is i) (green_is i) (blue_is i) in
-    let none : fault_of_fields (slice_index bytes 0) f.red f.green f.blue ≡ None = rw (red_within, green_within, blue_within, red_green, red_blue, green_blue) refl in
+    let red_within : is_within (slice_index bytes 0) f.red ≡ true =
+    grind (arith, nat_tests, ok.red, s.bits_per_pixel) in
+    let green_within : is_within (slice_index bytes 0) f.green ≡ true =
+    grind (arith, nat_tests, ok.green, s.bits_per_pixel) in
+    let blue_within : is_within (slice_index bytes 0) f.blue ≡ true =
+    grind (arith, nat_tests, ok.blue, s.bits_per_pixel) in
+    let red_green =
+    apart-passes f.red f.green (omega (arith, ok.red)) (omega (arith, ok.green)) ok.red_green in
+    let red_blue =
+    apart-passes f.red f.blue (omega (arith, ok.red)) (omega (arith, ok.blue)) ok.red_blue in
+    let green_blue =
+    apart-passes f.green f.blue (omega (arith, ok.green)) (omega (arith, ok.blue))
+    ok.green_blue in
+    let fields : fault_of_fields (slice_index bytes 0) (red_at bytes) (green_at bytes)
+    (blue_at bytes) ≡ fault_of_fields (slice_index bytes 0) f.red f.green f.blue =
+    λ i. fault_of_fields (slice_index bytes 0) (red_is i) (green_is i) (blue_is i) in
+    let none : fault_of_fields (slice_index bytes 0) f.red f.green f.blue ≡ None =
+    rw (red_within, green_within, blue_within, red_green, red_blue, green_blue) refl in
     rw (bits, depth, colour, red_passes, green_passes, blue_passes) (fields ∙ none)
 
 -- ---- the first check that fails
 
 -- a check that comes first tells its fault where it fails, and else the rest tells
-first_of : (t : Bool) (fault k : FormatFault) (rest : Option FormatFault) → (if t then Some fault else rest) ≡ Some k → ((t ≡ true) × (fault ≡ k)) ⊎ ((t ≡ false) × (rest ≡ Some k))
+first_of : (t : Bool) (fault k : FormatFault) (rest : Option FormatFault) →
+    (if t then Some fault else rest) ≡ Some k →
+    ((t ≡ true) × (fault ≡ k)) ⊎ ((t ≡ false) × (rest ≡ Some k))
 first_of true fault k rest h = inl (refl, cc)
 first_of false fault k rest h = inr (refl, h)
 
@@ -160,31 +199,45 @@ ends-within m shift bits h = λ n is.
     omega (arith, leb-true (shift + width_of m) bits h)
 
 -- after the maxima: the ends, and then what two fields share
-fields-reason : (bytes : List ℕ) (k : FormatFault) → Passes BadBits bytes → Passes DepthTooLarge bytes → Passes NotTrueColour bytes → IsMaxOf (number_at 4 bytes) (width_of (number_at 4 bytes)) → IsMaxOf (number_at 6 bytes) (width_of (number_at 6 bytes)) → IsMaxOf (number_at 8 bytes) (width_of (number_at 8 bytes)) → fault_of_fields (slice_index bytes 0) (red_at bytes) (green_at bytes) (blue_at bytes) ≡ Some k → IsFirstFault k bytes
+fields-reason : (bytes : List ℕ) (k : FormatFault) → Passes BadBits bytes →
+    Passes DepthTooLarge bytes → Passes NotTrueColour bytes →
+    IsMaxOf (number_at 4 bytes) (width_of (number_at 4 bytes)) →
+    IsMaxOf (number_at 6 bytes) (width_of (number_at 6 bytes)) →
+    IsMaxOf (number_at 8 bytes) (width_of (number_at 8 bytes)) →
+    fault_of_fields (slice_index bytes 0) (red_at bytes) (green_at bytes)
+    (blue_at bytes) ≡ Some k → IsFirstFault k bytes
 fields-reason bytes k whole deep colour red green blue h =
     let bits = slice_index bytes 0 in
-    let maxima : Passes BadMax bytes = (record { n = _; is = red }, record { n = _; is = green }, record { n = _; is = blue }) in
-    elim (first_of (not (are_within bits (red_at bytes) (green_at bytes) (blue_at bytes))) ShiftTooLarge k _ h) [
+    let maxima : Passes BadMax bytes =
+    (record { n = _; is = red }, record { n = _; is = green }, record { n = _; is = blue }) in
+    elim (first_of (not (are_within bits (red_at bytes) (green_at bytes) (blue_at bytes)))
+    ShiftTooLarge k _ h) [
       | inl t ↦ subst (λ (x : FormatFault). IsFirstFault x bytes) t.1 (record {
         before = (whole, deep, colour, maxima);
         fails = λ ends.
             let r = ends.0 (width_of (number_at 4 bytes)) red in
             let g = ends.1 (width_of (number_at 6 bytes)) green in
             let b = ends.2 (width_of (number_at 8 bytes)) blue in
-            let within : are_within bits (red_at bytes) (green_at bytes) (blue_at bytes) ≡ true = grind (arith, nat_tests) in
+            let within : are_within bits (red_at bytes) (green_at bytes) (blue_at bytes) ≡ true =
+            grind (arith, nat_tests) in
             not-true _ t.0 within;
       })
       | inr w ↦
-          let ends = all_three (is_within bits (red_at bytes)) (is_within bits (green_at bytes)) (is_within bits (blue_at bytes)) (not-false _ w.0) in
-          let within : Passes ShiftTooLarge bytes = (ends-within _ _ _ ends.0, ends-within _ _ _ ends.1, ends-within _ _ _ ends.2) in
-          elim (first_of (not (are_apart (red_at bytes) (green_at bytes) (blue_at bytes))) FieldsOverlap k _ w.1) [
+          let ends = all_three (is_within bits (red_at bytes)) (is_within bits (green_at bytes))
+          (is_within bits (blue_at bytes)) (not-false _ w.0) in
+          let within : Passes ShiftTooLarge bytes =
+          (ends-within _ _ _ ends.0, ends-within _ _ _ ends.1, ends-within _ _ _ ends.2) in
+          elim (first_of (not (are_apart (red_at bytes) (green_at bytes) (blue_at bytes)))
+          FieldsOverlap k _ w.1) [
             | inl t ↦ subst (λ (x : FormatFault). IsFirstFault x bytes) t.1 (record {
               before = (whole, deep, colour, maxima, within);
               fails = λ apart.
                   let one = apart-passes (red_at bytes) (green_at bytes) red.0 green.0 apart.0 in
                   let two = apart-passes (red_at bytes) (blue_at bytes) red.0 blue.0 apart.1 in
-                  let three = apart-passes (green_at bytes) (blue_at bytes) green.0 blue.0 apart.2 in
-                  let all : are_apart (red_at bytes) (green_at bytes) (blue_at bytes) ≡ true = rw (one, two, three) refl in
+                  let three = apart-passes (green_at bytes) (blue_at bytes) green.0 blue.0
+                  apart.2 in
+                  let all : are_apart (red_at bytes) (green_at bytes) (blue_at bytes) ≡ true =
+                  rw (one, two, three) refl in
                   not-true _ t.0 all;
             })
             | inr none ↦ absurd (cc none.1)
@@ -192,7 +245,12 @@ fields-reason bytes k whole deep colour red green blue h =
     ]
 
 -- after the flag: the maxima, and then the fields
-maxima-reason : (bytes : List ℕ) (k : FormatFault) → AreBytes bytes → Passes BadBits bytes → Passes DepthTooLarge bytes → Passes NotTrueColour bytes → (if not (is_max (number_at 4 bytes) && is_max (number_at 6 bytes) && is_max (number_at 8 bytes)) then Some BadMax else fault_of_fields (slice_index bytes 0) (red_at bytes) (green_at bytes) (blue_at bytes)) ≡ Some k → IsFirstFault k bytes
+maxima-reason : (bytes : List ℕ) (k : FormatFault) → AreBytes bytes → Passes BadBits bytes →
+    Passes DepthTooLarge bytes → Passes NotTrueColour bytes →
+    (if not (is_max (number_at 4 bytes) && is_max (number_at 6 bytes)
+    && is_max (number_at 8 bytes)) then Some BadMax
+    else fault_of_fields (slice_index bytes 0) (red_at bytes) (green_at bytes)
+    (blue_at bytes)) ≡ Some k → IsFirstFault k bytes
 maxima-reason bytes k fits whole deep colour h =
     let red = number_at 4 bytes in
     let green = number_at 6 bytes in
@@ -204,40 +262,54 @@ maxima-reason bytes k fits whole deep colour h =
             let one = max-is_max red maxima.0 in
             let two = max-is_max green maxima.1 in
             let three = max-is_max blue maxima.2 in
-            let all : (is_max red && is_max green && is_max blue) ≡ true = rw (one, two, three) refl in
+            let all : (is_max red && is_max green && is_max blue) ≡ true =
+            rw (one, two, three) refl in
             not-true _ t.0 all;
       })
       | inr m ↦
           let maxima = all_three (is_max red) (is_max green) (is_max blue) (not-false _ m.0) in
-          fields-reason bytes k whole deep colour (passes-max red (number_at-fits bytes 4 fits) maxima.0)
-          (passes-max green (number_at-fits bytes 6 fits) maxima.1) (passes-max blue (number_at-fits bytes 8 fits) maxima.2) m.1
+          fields-reason bytes k whole deep colour
+          (passes-max red (number_at-fits bytes 4 fits) maxima.0)
+          (passes-max green (number_at-fits bytes 6 fits) maxima.1)
+          (passes-max blue (number_at-fits bytes 8 fits) maxima.2) m.1
     ]
 
 -- the fault that is told is of the first check that fails
-pub first_fault-reason : (bytes : List ℕ) (k : FormatFault) → AreBytes bytes → first_fault bytes ≡ Some k → IsFirstFault k bytes
+pub first_fault-reason : (bytes : List ℕ) (k : FormatFault) → AreBytes bytes →
+    first_fault bytes ≡ Some k → IsFirstFault k bytes
 first_fault-reason bytes k fits h =
     let bits = slice_index bytes 0 in
     let is_whole = bits == 8 || bits == 16 || bits == 32 in
     elim (first_of (not is_whole) BadBits k _ h) [
-      | inl t ↦ subst (λ (x : FormatFault). IsFirstFault x bytes) t.1 (record { before = tt; fails = not-true is_whole t.0 })
+      | inl t ↦ subst (λ (x : FormatFault). IsFirstFault x bytes) t.1
+          (record { before = tt; fails = not-true is_whole t.0 })
       | inr b ↦
           let whole : Passes BadBits bytes = not-false is_whole b.0 in
           elim (first_of (not (nat_le (slice_index bytes 1) bits)) DepthTooLarge k _ b.1) [
-            | inl t ↦ subst (λ (x : FormatFault). IsFirstFault x bytes) t.1 (record { before = whole; fails = λ deep. not-true _ t.0 (le-leb _ _ deep) })
+            | inl t ↦ subst (λ (x : FormatFault). IsFirstFault x bytes) t.1
+                (record { before = whole; fails = λ deep. not-true _ t.0 (le-leb _ _ deep) })
             | inr d ↦
-                let deep : Passes DepthTooLarge bytes = leb-true (slice_index bytes 1) bits (not-false _ d.0) in
+                let deep : Passes DepthTooLarge bytes =
+                leb-true (slice_index bytes 1) bits (not-false _ d.0) in
                 elim (first_of (slice_index bytes 3 == 0) NotTrueColour k _ d.1) [
-                  | inl t ↦ subst (λ (x : FormatFault). IsFirstFault x bytes) t.1 (record { before = (whole, deep); fails = λ colour. colour (eqb-true (slice_index bytes 3) 0 t.0) })
+                  | inl t ↦ subst (λ (x : FormatFault). IsFirstFault x bytes) t.1
+                      (record {
+                        before = (whole, deep);
+                        fails = λ colour. colour (eqb-true (slice_index bytes 3) 0 t.0);
+                      })
                   | inr f ↦
                       let flag = f.0 in
-                      let colour : Passes NotTrueColour bytes = λ none. let zero : (slice_index bytes 3 == 0) ≡ true = grind (arith, nat_tests) in absurd (cc (flag, zero)) in
+                      let colour : Passes NotTrueColour bytes =
+                      λ none. let zero : (slice_index bytes 3 == 0) ≡ true =
+                      grind (arith, nat_tests) in absurd (cc (flag, zero)) in
                       maxima-reason bytes k fits whole deep colour f.1
                 ]
           ]
     ]
 
 -- where nothing is told, a check that comes first passes, and the rest tells nothing
-none_of : (t : Bool) (fault : FormatFault) (rest : Option FormatFault) → (if t then Some fault else rest) ≡ None → (t ≡ false) × (rest ≡ None)
+none_of : (t : Bool) (fault : FormatFault) (rest : Option FormatFault) →
+    (if t then Some fault else rest) ≡ None → (t ≡ false) × (rest ≡ None)
 none_of true fault rest h = absurd (cc h)
 none_of false fault rest h = (refl, h)
 
@@ -246,7 +318,8 @@ apart-means : (a b : Channel) → is_apart a b ≡ true → IsApart a b
 apart-means a b h = λ i here there. grind (arith, nat_tests)
 
 -- where no fault is told, each check passes
-pub first_fault-none : (bytes : List ℕ) (k : FormatFault) → AreBytes bytes → first_fault bytes ≡ None → Passes k bytes
+pub first_fault-none : (bytes : List ℕ) (k : FormatFault) → AreBytes bytes →
+    first_fault bytes ≡ None → Passes k bytes
 first_fault-none bytes k fits h =
     let bits = slice_index bytes 0 in
     let is_whole = bits == 8 || bits == 16 || bits == 32 in
@@ -257,13 +330,19 @@ first_fault-none bytes k fits h =
     let d = none_of (not (nat_le (slice_index bytes 1) bits)) DepthTooLarge _ b.1 in
     let f = none_of (slice_index bytes 3 == 0) NotTrueColour _ d.1 in
     let m = none_of (not (is_max red && is_max green && is_max blue)) BadMax _ f.1 in
-    let w = none_of (not (are_within bits (red_at bytes) (green_at bytes) (blue_at bytes))) ShiftTooLarge _ m.1 in
-    let a = none_of (not (are_apart (red_at bytes) (green_at bytes) (blue_at bytes))) FieldsOverlap _ w.1 in
+    let w = none_of (not (are_within bits (red_at bytes) (green_at bytes) (blue_at bytes)))
+    ShiftTooLarge _ m.1 in
+    let a = none_of (not (are_apart (red_at bytes) (green_at bytes) (blue_at bytes))) FieldsOverlap
+    _ w.1 in
     let maxima = all_three (is_max red) (is_max green) (is_max blue) (not-false _ m.0) in
-    let ends = all_three (is_within bits (red_at bytes)) (is_within bits (green_at bytes)) (is_within bits (blue_at bytes)) (not-false _ w.0) in
-    let apart = all_three (is_apart (red_at bytes) (green_at bytes)) (is_apart (red_at bytes) (blue_at bytes)) (is_apart (green_at bytes) (blue_at bytes)) (not-false _ a.0) in
+    let ends = all_three (is_within bits (red_at bytes)) (is_within bits (green_at bytes))
+    (is_within bits (blue_at bytes)) (not-false _ w.0) in
+    let apart = all_three (is_apart (red_at bytes) (green_at bytes))
+    (is_apart (red_at bytes) (blue_at bytes)) (is_apart (green_at bytes) (blue_at bytes))
+    (not-false _ a.0) in
     let flag = f.0 in
-    let colour : Passes NotTrueColour bytes = λ none. let zero : (slice_index bytes 3 == 0) ≡ true = grind (arith, nat_tests) in absurd (cc (flag, zero)) in
+    let colour : Passes NotTrueColour bytes = λ none. let zero : (slice_index bytes 3 == 0) ≡ true =
+    grind (arith, nat_tests) in absurd (cc (flag, zero)) in
     elim k as (λ (x : FormatFault). Passes x bytes) [
       | BadBits ↦ not-false is_whole b.0
       | DepthTooLarge ↦ leb-true (slice_index bytes 1) bits (not-false _ d.0)
@@ -273,7 +352,8 @@ first_fault-none bytes k fits h =
         record { n = _; is = passes-max green (number_at-fits bytes 6 fits) maxima.1 },
         record { n = _; is = passes-max blue (number_at-fits bytes 8 fits) maxima.2 },
       )
-      | ShiftTooLarge ↦ (ends-within _ _ _ ends.0, ends-within _ _ _ ends.1, ends-within _ _ _ ends.2)
+      | ShiftTooLarge ↦
+          (ends-within _ _ _ ends.0, ends-within _ _ _ ends.1, ends-within _ _ _ ends.2)
       | FieldsOverlap ↦ (apart-means _ _ apart.0, apart-means _ _ apart.1, apart-means _ _ apart.2)
     ]
 

@@ -15,13 +15,29 @@ pub record PixelFormat : Type 0 where
   pub green : Channel
   pub blue : Channel
 
+-- the format of so many bits, that depth and byte order, and three fields
+abbrev pub pixel_format : ℕ → ℕ → Bool → Channel → Channel → Channel → PixelFormat
+pixel_format bits depth big_endian red green blue = record {
+  bits_per_pixel = bits;
+  depth = depth;
+  big_endian = big_endian;
+  red = red;
+  green = green;
+  blue = blue;
+}
+
+-- a pixel has 8, 16 or 32 bits
+abbrev pub IsPixelSize : ℕ → Type 0
+IsPixelSize bits = IsTrue (bits == 8 || bits == 16 || bits == 32)
+
 -- no bit of a pixel is in both fields
 abbrev pub IsApart : Channel → Channel → Type 0
 IsApart a b = (i : ℕ) → IsInField a i → IsInField b i → ⊥
 
--- a format that a peer may ask for: 8, 16 or 32 bits, and three fields inside them that share no bit
+-- a format that a peer may ask for: 8, 16 or 32 bits, and three fields
+-- inside them that share no bit
 pub record IsFormat (f : PixelFormat) : Type 0 where
-  pub whole : IsTrue (f.bits_per_pixel == 8 || f.bits_per_pixel == 16 || f.bits_per_pixel == 32)
+  pub whole : IsPixelSize f.bits_per_pixel
   pub deep : f.depth ≤ f.bits_per_pixel
   pub red : IsField f.bits_per_pixel f.red
   pub green : IsField f.bits_per_pixel f.green
@@ -69,7 +85,8 @@ IsColour c = (c.r ≤ COMPONENT_MAX) × (c.g ≤ COMPONENT_MAX) × (c.b ≤ COMP
 
 -- the colour of a pixel value
 abbrev pub colour_of : PixelFormat → ℕ → Colour
-colour_of f p = record { r = component_in f.red p; g = component_in f.green p; b = component_in f.blue p }
+colour_of f p =
+    record { r = component_in f.red p; g = component_in f.green p; b = component_in f.blue p }
 
 -- what a colour looks like through a format
 abbrev pub seen_through : PixelFormat → Colour → Colour
@@ -77,7 +94,9 @@ seen_through f c = colour_of f (pixel_of f c)
 
 -- each field is fine enough for a colour to come back from a pixel value as it was
 abbrev pub KeepsColours : PixelFormat → Type 0
-KeepsColours f = (COMPONENT_MAX ≤ max_of f.red) × (COMPONENT_MAX ≤ max_of f.green) × (COMPONENT_MAX ≤ max_of f.blue)
+KeepsColours f =
+    (COMPONENT_MAX ≤ max_of f.red) × (COMPONENT_MAX ≤ max_of f.green)
+    × (COMPONENT_MAX ≤ max_of f.blue)
 
 -- each field that is no finer than a component holds the same in q as in p
 pub record FieldsKept (f : PixelFormat) (p q : ℕ) : Type 0 where
@@ -91,7 +110,8 @@ pixel_bytes f p = if f.big_endian then big_bytes (size_of f) p else little_bytes
 
 -- the pixel value that bytes begin with
 abbrev pub pixel_number : PixelFormat → List ℕ → ℕ
-pixel_number f bytes = if f.big_endian then big_number (size_of f) bytes else little_number (size_of f) bytes
+pixel_number f bytes =
+    if f.big_endian then big_number (size_of f) bytes else little_number (size_of f) bytes
 
 -- the format that this project announces
 abbrev pub rgb888 : PixelFormat

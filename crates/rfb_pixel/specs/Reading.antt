@@ -1,11 +1,12 @@
--- PIXEL_FORMAT, RFC 6143 section 7.4: the bytes that spell a format, and the fault that others show.
-use Rattle.std.specs.Prelude.{◌≡◌, ◌≢◌, ℕ, List, [], ◌∷◌, ◌++◌, not, ◌==◌, ◌||◌, ◌&&◌, nat_le, if◌then◌else◌, length, drop, slice_index, Option, Some, None, ◌<◌, ◌≤◌, IsTrue, ⊤}
+-- PIXEL_FORMAT, RFC 6143 section 7.4: the bytes that spell a format, and
+-- the fault that others show.
+use Rattle.std.specs.Prelude.{◌≡◌, ◌≢◌, ℕ, List, [], ◌∷◌, ◌++◌, not, ◌==◌, ◌||◌, ◌&&◌, nat_le, if◌then◌else◌, length, drop, slice_index, Option, Some, None, ◌<◌, ◌≤◌, ⊤}
 use Rattle.byteorder.specs.Endian.{big_bytes, big_number}
 use Rattle.rfb_pixel.specs.declared.channel.Channel.{Channel}
 use Rattle.rfb_pixel.specs.declared.fault.FormatFault.{FormatFault}
 use Rattle.rfb_pixel.specs.declared.fault.FormatFault.TheVariants.{BadBits, DepthTooLarge, NotTrueColour, BadMax, ShiftTooLarge, FieldsOverlap}
 use Rattle.rfb_pixel.specs.Channel.{IsMax, EndsWithin, max_of, width_of, is_max, are_within, are_apart}
-use Rattle.rfb_pixel.specs.Format.{PixelFormat, IsApart}
+use Rattle.rfb_pixel.specs.Format.{PixelFormat, IsPixelSize, IsApart}
 
 -- each number of a list is a byte
 abbrev pub AreBytes : List ℕ → Type 0
@@ -31,7 +32,8 @@ pub record Spells (f : PixelFormat) (bytes : List ℕ) : Type 0 where
 
 -- the field whose maximum and shift stand at these bytes
 abbrev pub field_at : ℕ → ℕ → List ℕ → Channel
-field_at max shift bytes = record { width = width_of (number_at max bytes); shift = slice_index bytes shift }
+field_at max shift bytes =
+    record { width = width_of (number_at max bytes); shift = slice_index bytes shift }
 
 -- the red, the green and the blue field of sixteen bytes
 abbrev pub red_at : List ℕ → Channel
@@ -56,7 +58,8 @@ first_fault bytes =
     if not (bits == 8 || bits == 16 || bits == 32) then Some BadBits else
     if not (nat_le (slice_index bytes 1) bits) then Some DepthTooLarge else
     if slice_index bytes 3 == 0 then Some NotTrueColour else
-    if not (is_max (number_at 4 bytes) && is_max (number_at 6 bytes) && is_max (number_at 8 bytes)) then Some BadMax else
+    if not (is_max (number_at 4 bytes) && is_max (number_at 6 bytes) && is_max (number_at 8 bytes))
+    then Some BadMax else
     fault_of_fields bits (red_at bytes) (green_at bytes) (blue_at bytes)
 
 -- the bytes that a format is written as: flags are 0 or 1, padding is zero
@@ -69,26 +72,32 @@ format_bytes f =
 -- the check of each fault, on sixteen bytes: bits-per-pixel, depth, true-colour-flag, the three
 -- maxima, the three ends and the three pairs of fields
 abbrev pub Passes : FormatFault → List ℕ → Type 0
-Passes BadBits bytes = IsTrue (slice_index bytes 0 == 8 || slice_index bytes 0 == 16 || slice_index bytes 0 == 32)
+Passes BadBits bytes = IsPixelSize (slice_index bytes 0)
 Passes DepthTooLarge bytes = slice_index bytes 1 ≤ slice_index bytes 0
 Passes NotTrueColour bytes = slice_index bytes 3 ≢ 0
-Passes BadMax bytes = IsMax (number_at 4 bytes) × IsMax (number_at 6 bytes) × IsMax (number_at 8 bytes)
+Passes BadMax bytes =
+    IsMax (number_at 4 bytes) × IsMax (number_at 6 bytes) × IsMax (number_at 8 bytes)
 Passes ShiftTooLarge bytes =
     EndsWithin (number_at 4 bytes) (slice_index bytes 10) (slice_index bytes 0)
     × EndsWithin (number_at 6 bytes) (slice_index bytes 11) (slice_index bytes 0)
     × EndsWithin (number_at 8 bytes) (slice_index bytes 12) (slice_index bytes 0)
 Passes FieldsOverlap bytes =
-    IsApart (red_at bytes) (green_at bytes) × IsApart (red_at bytes) (blue_at bytes) × IsApart (green_at bytes) (blue_at bytes)
+    IsApart (red_at bytes) (green_at bytes) × IsApart (red_at bytes) (blue_at bytes)
+    × IsApart (green_at bytes) (blue_at bytes)
 
 -- the checks that come before the one of a fault
 abbrev pub PassesBefore : FormatFault → List ℕ → Type 0
 PassesBefore BadBits bytes = ⊤
 PassesBefore DepthTooLarge bytes = Passes BadBits bytes
 PassesBefore NotTrueColour bytes = Passes BadBits bytes × Passes DepthTooLarge bytes
-PassesBefore BadMax bytes = Passes BadBits bytes × Passes DepthTooLarge bytes × Passes NotTrueColour bytes
-PassesBefore ShiftTooLarge bytes = Passes BadBits bytes × Passes DepthTooLarge bytes × Passes NotTrueColour bytes × Passes BadMax bytes
+PassesBefore BadMax bytes =
+    Passes BadBits bytes × Passes DepthTooLarge bytes × Passes NotTrueColour bytes
+PassesBefore ShiftTooLarge bytes =
+    Passes BadBits bytes × Passes DepthTooLarge bytes × Passes NotTrueColour bytes
+    × Passes BadMax bytes
 PassesBefore FieldsOverlap bytes =
-    Passes BadBits bytes × Passes DepthTooLarge bytes × Passes NotTrueColour bytes × Passes BadMax bytes × Passes ShiftTooLarge bytes
+    Passes BadBits bytes × Passes DepthTooLarge bytes × Passes NotTrueColour bytes
+    × Passes BadMax bytes × Passes ShiftTooLarge bytes
 
 -- the fault is the first: its check fails, and each check before it passes
 pub record IsFirstFault (fault : FormatFault) (bytes : List ℕ) : Type 0 where

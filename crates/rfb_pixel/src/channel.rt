@@ -2,7 +2,9 @@
 
 ghost use Rattle.std.specs.Prelude.{◌≡◌, ◌*◌, ◌^◌, ◌<◌, ◌≤◌, ◌+◌, ◌-◌, OnErr, IfOk, if◌then◌else◌};
 ghost use Rattle.byteorder.specs.Endian.{big_bytes};
-ghost use Rattle.rfb_pixel.specs.Channel.{IsField, IsMax, IsMaxOf, max_of, rescaled, field_for, component_in, width_of, is_max, is_apart, are_within, are_apart};
+ghost use Rattle.rfb_pixel.specs.Channel.{IsField, IsMax, IsMaxOf, max_of, width_of, is_max};
+ghost use Rattle.rfb_pixel.specs.Channel.{rescaled, field_for, component_in};
+ghost use Rattle.rfb_pixel.specs.Channel.{is_apart, are_within, are_apart};
 
 use crate::colour::COMPONENT_MAX;
 use crate::fault::FormatFault;
@@ -18,7 +20,8 @@ impl Channel {
     /// The field of a maximum and a shift. `BadMax` where the maximum is not 2^N - 1 with N from 1
     /// to 16.
     pub fn read(max: u16, shift: u8) -> Result<Channel, FormatFault>
-        ensures value { result ≡ if is_max max then Ok (record { width = width_of max; shift = shift }) else Err FormatFault.BadMax }
+        ensures value { result ≡ if is_max max
+            then Ok (record { width = width_of max; shift = shift }) else Err FormatFault.BadMax }
         ensures maximum { IfOk result (λ c. IsMaxOf max c.width) }
         ensures refused { OnErr result (IsMax max → ⊥) }
     {
@@ -119,14 +122,14 @@ fn rescale(value: u32, from: u32, to: u32) -> u32
     }
 }
 
-// What a value of a field is multiplied by to be a component, and what is added to that, in 256ths. They
-// stand by the field's width.
+// What a value of a field is multiplied by to be a component, and what is added to that, in 256ths.
+// They stand by the field's width.
 const FACTORS: [u16; 9] = [0, 65_277, 21_757, 9_322, 4_349, 2_105, 1_036, 513, 256];
 
 const OFFSETS: [u16; 9] = [0, 3, 9, 132, 45, 140, 132, 192, 0];
 
-/// A value of a field of 1 to 8 bits as the nearest component. It is what `rescale` gives for each of
-/// them, without a division, and sixteen bits are enough for it.
+/// A value of a field of 1 to 8 bits as the nearest component. It is what `rescale` gives for each
+/// of them, without a division, and sixteen bits are enough for it.
 #[inline]
 fn widen(width: u8, value: u16) -> u8
     requires some { 1 ≤ width }

@@ -1,10 +1,14 @@
 //! True-colour pixel formats, RFC 6143 section 7.4.
 
-ghost use Rattle.std.specs.Prelude.{◌≡◌, ℕ, ◌*◌, ◌%◌, ◌^◌, ◌<◌, length, IfOk, ◌==◌, ◌||◌, ◌≤◌, IsTrue, List, map};
+ghost use Rattle.std.specs.Prelude.{◌≡◌, ℕ, ◌*◌, ◌%◌, ◌^◌, ◌<◌, length, IfOk, ◌≤◌, List, map};
 ghost use Rattle.std.specs.Result.{result_err};
 ghost use Rattle.std.specs.Int.{bit_at};
-ghost use Rattle.rfb_pixel.specs.Format.{size_of, pixel_of, colour_of, pixel_bytes, pixel_number, seen_through, IsColour, FieldsHold, IsOutsideFields, AgreeInFields, KeepsColours, FieldsKept, ArePixels};
-ghost use Rattle.rfb_pixel.specs.Reading.{AreBytes, Spells, Passes, IsFirstFault, first_fault, fault_of_fields, format_bytes};
+ghost use Rattle.rfb_pixel.specs.Format.{pixel_format, IsPixelSize, size_of, pixel_of, colour_of};
+ghost use Rattle.rfb_pixel.specs.Format.{pixel_bytes, pixel_number, seen_through, ArePixels};
+ghost use Rattle.rfb_pixel.specs.Format.{IsColour, FieldsHold, IsOutsideFields, AgreeInFields};
+ghost use Rattle.rfb_pixel.specs.Format.{KeepsColours, FieldsKept};
+ghost use Rattle.rfb_pixel.specs.Reading.{AreBytes, Spells, Passes, IsFirstFault, first_fault};
+ghost use Rattle.rfb_pixel.specs.Reading.{fault_of_fields, format_bytes};
 ghost use Rattle.rfb_pixel.specs.Channel.{HasWidth};
 
 use crate::channel::{Channel, are_apart, are_within};
@@ -26,15 +30,23 @@ pub struct Format {
 }
 
 impl Model for Format {
-    ghost use Rattle.rfb_pixel.specs.Format.{PixelFormat, IsFormat};
+    ghost use Rattle.rfb_pixel.specs.Format.{PixelFormat, pixel_format, IsFormat};
 
     ghost Value = { PixelFormat };
 
-    ghost view = { λ f. record { bits_per_pixel = f.bits_per_pixel; depth = f.depth; big_endian = f.big_endian; red = f.red; green = f.green; blue = f.blue } };
+    ghost view = { λ f. pixel_format f.bits_per_pixel f.depth f.big_endian f.red f.green f.blue };
 
-    ghost invariant = { λ f. IsFormat (record { bits_per_pixel = f.bits_per_pixel; depth = f.depth; big_endian = f.big_endian; red = f.red; green = f.green; blue = f.blue }) };
+    ghost invariant = { λ f.
+        IsFormat (pixel_format f.bits_per_pixel f.depth f.big_endian f.red f.green f.blue) };
 
-    ghost inverse = { λ f. record { bits_per_pixel = f.bits_per_pixel; depth = f.depth; big_endian = f.big_endian; red = f.red; green = f.green; blue = f.blue } };
+    ghost inverse = { λ f. record {
+      bits_per_pixel = f.bits_per_pixel;
+      depth = f.depth;
+      big_endian = f.big_endian;
+      red = f.red;
+      green = f.green;
+      blue = f.blue;
+    } };
 }
 
 impl Format {
@@ -60,7 +72,8 @@ impl Format {
         }
     }
 
-    /// 16 bits, little-endian: five bits of red, six of green and five of blue at shifts 11, 5 and 0.
+    /// 16 bits, little-endian: five bits of red, six of green and five of
+    /// blue at shifts 11, 5 and 0.
     pub fn rgb565() -> Format
         ensures { result ≡ rgb565 }
     {
@@ -91,9 +104,9 @@ impl Format {
         }
     }
 
-    /// The format that a PIXEL_FORMAT spells. A flag is true where it is not zero, depth is kept and
-    /// compared with bits-per-pixel alone, and padding is ignored. The first check that fails, in
-    /// the order of `FormatFault`, is the error.
+    /// The format that a PIXEL_FORMAT spells. A flag is true where it is not zero, depth is kept
+    /// and compared with bits-per-pixel alone, and padding is ignored. The first check that fails,
+    /// in the order of `FormatFault`, is the error.
     pub fn read(bytes: &[u8; 16]) -> Result<Format, FormatFault>
         ensures found { IfOk result (λ f. Spells f bytes.now) }
         ensures fault { result_err result ≡ first_fault bytes.now }
@@ -114,11 +127,13 @@ impl Format {
         Format::of_fields(bits_per_pixel, depth, bytes[2] != 0, red, green, blue)
     }
 
-    /// A law about `first_fault`, with nothing to run: where it tells a fault, that one's check fails
-    /// and each check before it passes; where it tells none, every check passes.
+    /// A law about `first_fault`, with nothing to run: where it tells a fault, that one's check
+    /// fails and each check before it passes; where it tells none, every check passes.
     pub fn first_fault_is_of_the_first_check()
-        ensures told { (bytes : List ℕ) (fault : FormatFault) → AreBytes bytes → first_fault bytes ≡ Some fault → IsFirstFault fault bytes }
-        ensures none { (bytes : List ℕ) (fault : FormatFault) → AreBytes bytes → first_fault bytes ≡ None → Passes fault bytes }
+        ensures told { (bytes : List ℕ) (fault : FormatFault) → AreBytes bytes →
+            first_fault bytes ≡ Some fault → IsFirstFault fault bytes }
+        ensures none { (bytes : List ℕ) (fault : FormatFault) → AreBytes bytes →
+            first_fault bytes ≡ None → Passes fault bytes }
     {}
 
     /// A law about `format_bytes`, with nothing to run: they spell the format that they are of.
@@ -135,12 +150,13 @@ impl Format {
         green: Channel,
         blue: Channel,
     ) -> Result<Format, FormatFault>
-        requires whole { IsTrue (bits_per_pixel == 8 || bits_per_pixel == 16 || bits_per_pixel == 32) }
+        requires whole { IsPixelSize bits_per_pixel }
         requires deep { depth ≤ bits_per_pixel }
         requires red { HasWidth red }
         requires green { HasWidth green }
         requires blue { HasWidth blue }
-        ensures found { IfOk result (λ f. f ≡ record { bits_per_pixel = bits_per_pixel; depth = depth; big_endian = big_endian; red = red; green = green; blue = blue }) }
+        ensures found { IfOk result (λ f.
+            f ≡ pixel_format bits_per_pixel depth big_endian red green blue) }
         ensures fault { result_err result ≡ fault_of_fields bits_per_pixel red green blue }
     {
         if !are_within(bits_per_pixel, red, green, blue) {
@@ -159,8 +175,9 @@ impl Format {
         })
     }
 
-    /// The PIXEL_FORMAT that spells this format, with flags of 0 or 1 and padding of zeros. `read`
-    /// takes it, and gives this format back. It also tells that the format is one that RFC 6143 allows.
+    /// The PIXEL_FORMAT that spells this format, with flags of 0 or 1 and padding of
+    /// zeros. `read` takes it, and gives this format back. It also tells that the format
+    /// is one that RFC 6143 allows.
     pub fn write(&self) -> [u8; 16]
         ensures format { IsFormat self.now }
         ensures value { result ≡ format_bytes self.now }
@@ -200,8 +217,8 @@ impl Format {
         self.bits_per_pixel as usize / 8
     }
 
-    /// The pixel value of a colour. It fits the format's size, and bits outside the three fields are
-    /// zero.
+    /// The pixel value of a colour. It fits the format's size, and bits outside
+    /// the three fields are zero.
     pub fn pack(&self, colour: Colour) -> u32
         ensures value { result ≡ pixel_of self.now colour }
         ensures fields { FieldsHold self.now colour result }
@@ -228,7 +245,8 @@ impl Format {
     /// The colour of a pixel value. Bits outside the three fields are ignored.
     pub fn unpack(&self, pixel: u32) -> Colour
         ensures value { result ≡ colour_of self.now pixel }
-        ensures ignored { (other : ℕ) → AgreeInFields self.now pixel other → result ≡ colour_of self.now other }
+        ensures ignored { (other : ℕ) → AgreeInFields self.now pixel other →
+            result ≡ colour_of self.now other }
         ensures kept { FieldsKept self.now pixel (pixel_of self.now result) }
     {
         Colour {

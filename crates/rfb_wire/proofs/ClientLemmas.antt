@@ -14,25 +14,62 @@ use Rattle.rfb_wire.proofs.stream_laws.HeadLemmas.{SizesSpell}
 pub client-sizes : SizesSpell SpellsClientHead client_head_size
 client-sizes bytes h =
     elim (cases_eq (slice_index bytes 0) 0) [
-      | inl is ↦ (SetPixelFormat (drop 4 bytes), record { size = grind (arith, nat_tests); message_type = is; pixel_format_is = refl })
+      | inl is ↦ (
+        SetPixelFormat (drop 4 bytes),
+        record { size = grind (arith, nat_tests); message_type = is; pixel_format_is = refl },
+      )
       | inr not_0 ↦ elim (cases_eq (slice_index bytes 0) 2) [
-        | inl is ↦ (SetEncodings (u16_at 2 bytes), record { size = grind (arith, nat_tests); message_type = is; number_is = refl })
+        | inl is ↦ (
+          SetEncodings (u16_at 2 bytes),
+          record { size = grind (arith, nat_tests); message_type = is; number_is = refl },
+        )
         | inr not_2 ↦ elim (cases_eq (slice_index bytes 0) 3) [
           | inl is ↦ (
-            Request (flag_at 1 bytes) (record { x = u16_at 2 bytes; y = u16_at 4 bytes; w = u16_at 6 bytes; h = u16_at 8 bytes }),
+            Request (flag_at 1 bytes)
+                (record {
+                  x = u16_at 2 bytes;
+                  y = u16_at 4 bytes;
+                  w = u16_at 6 bytes;
+                  h = u16_at 8 bytes;
+                }),
             record {
               size = grind (arith, nat_tests);
               message_type = is;
               incremental_is = refl;
-              rect_is = record { x_position = refl; y_position = refl; width = refl; height = refl };
+              rect_is = record {
+                x_position = refl;
+                y_position = refl;
+                width = refl;
+                height = refl;
+              };
             },
           )
           | inr not_3 ↦ elim (cases_eq (slice_index bytes 0) 4) [
-            | inl is ↦ (Key (flag_at 1 bytes) (u32_at 4 bytes), record { size = grind (arith, nat_tests); message_type = is; down_flag_is = refl; key_is = refl })
+            | inl is ↦ (
+              Key (flag_at 1 bytes) (u32_at 4 bytes),
+              record {
+                size = grind (arith, nat_tests);
+                message_type = is;
+                down_flag_is = refl;
+                key_is = refl;
+              },
+            )
             | inr not_4 ↦ elim (cases_eq (slice_index bytes 0) 5) [
-              | inl is ↦ (Pointer (u8_at 1 bytes) (u16_at 2 bytes) (u16_at 4 bytes), record { size = grind (arith, nat_tests); message_type = is; button_mask_is = refl; x_position_is = refl; y_position_is = refl })
+              | inl is ↦ (
+                Pointer (u8_at 1 bytes) (u16_at 2 bytes) (u16_at 4 bytes),
+                record {
+                  size = grind (arith, nat_tests);
+                  message_type = is;
+                  button_mask_is = refl;
+                  x_position_is = refl;
+                  y_position_is = refl;
+                },
+              )
               | inr not_5 ↦ elim (cases_eq (slice_index bytes 0) 6) [
-                | inl is ↦ (CutText (u32_at 4 bytes), record { size = grind (arith, nat_tests); message_type = is; length_is = refl })
+                | inl is ↦ (
+                  CutText (u32_at 4 bytes),
+                  record { size = grind (arith, nat_tests); message_type = is; length_is = refl },
+                )
                 | inr not_6 ↦ absurd (grind (arith, nat_tests))
               ]
             ]
@@ -42,22 +79,33 @@ client-sizes bytes h =
     ]
 
 -- bytes spell no other head than their own, have its size, and are not none
-pub client-spelled : (head : ClientHead) (bytes : List ℕ) → SpellsClientHead head bytes → (head ≡ client_head_of bytes) × (client_head_size (slice_index bytes 0) ≡ Some (length bytes)) × (0 < length bytes)
-client-spelled (SetPixelFormat format) bytes s = (grind (arith, nat_tests), grind (arith, nat_tests), omega arith)
-client-spelled (SetEncodings count) bytes s = (grind (arith, nat_tests), grind (arith, nat_tests), omega arith)
-client-spelled (Request incremental rect) bytes s = (grind (arith, nat_tests), grind (arith, nat_tests), omega arith)
-client-spelled (Key down key) bytes s = (grind (arith, nat_tests), grind (arith, nat_tests), omega arith)
-client-spelled (Pointer buttons x y) bytes s = (grind (arith, nat_tests), grind (arith, nat_tests), omega arith)
-client-spelled (CutText text_length) bytes s = (grind (arith, nat_tests), grind (arith, nat_tests), omega arith)
+pub client-spelled : (head : ClientHead) (bytes : List ℕ) → SpellsClientHead head bytes →
+    (head ≡ client_head_of bytes) × (client_head_size (slice_index bytes 0) ≡ Some (length bytes))
+    × (0 < length bytes)
+client-spelled (SetPixelFormat format) bytes s =
+    (grind (arith, nat_tests), grind (arith, nat_tests), omega arith)
+client-spelled (SetEncodings count) bytes s =
+    (grind (arith, nat_tests), grind (arith, nat_tests), omega arith)
+client-spelled (Request incremental rect) bytes s =
+    (grind (arith, nat_tests), grind (arith, nat_tests), omega arith)
+client-spelled (Key down key) bytes s =
+    (grind (arith, nat_tests), grind (arith, nat_tests), omega arith)
+client-spelled (Pointer buttons x y) bytes s =
+    (grind (arith, nat_tests), grind (arith, nat_tests), omega arith)
+client-spelled (CutText text_length) bytes s =
+    (grind (arith, nat_tests), grind (arith, nat_tests), omega arith)
 
 -- bytes that go on behind a head spell no other, and do not go on
-pub client-apart : (head other : ClientHead) (front rest : List ℕ) → SpellsClientHead head front → SpellsClientHead other (front ++ rest) → (other ≡ head) × (rest ≡ [])
+pub client-apart : (head other : ClientHead) (front rest : List ℕ) → SpellsClientHead head front →
+    SpellsClientHead other (front ++ rest) → (other ≡ head) × (rest ≡ [])
 client-apart head other front rest a b =
     let one = client-spelled head front a in
     let two = client-spelled other (front ++ rest) b in
     let some : 0 < length front = one.2 in
-    let kind : slice_index (front ++ rest) 0 ≡ slice_index front 0 = get_or_append_left front rest 0 0 some in
-    let size : Some (length front) ≡ Some (length (front ++ rest)) = sym one.1 ∙ ap client_head_size (sym kind) ∙ two.1 in
+    let kind : slice_index (front ++ rest) 0 ≡ slice_index front 0 =
+    get_or_append_left front rest 0 0 some in
+    let size : Some (length front) ≡ Some (length (front ++ rest)) =
+    sym one.1 ∙ ap client_head_size (sym kind) ∙ two.1 in
     let same : length front ≡ length (front ++ rest) = cc in
     let none : rest ≡ [] = nil_from_length rest (omega (arith, length-append front rest)) in
     let whole : front ++ rest ≡ front = ap (λ (xs : List ℕ). front ++ xs) none ∙ append-nil front in

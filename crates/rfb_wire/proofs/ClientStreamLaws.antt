@@ -1,4 +1,5 @@
--- The reading of client messages is what RFC 6143 section 7.5 says of their bytes, in both directions.
+-- The reading of client messages is what RFC 6143 section 7.5 says of their
+-- bytes, in both directions.
 use Rattle.std.proofs.Common.{◌≡◌, ℕ, ℤ, ◌+◌, ◌-◌, ◌*◌, ◌^◌, ◌<◌, inl, inr, Bool, true, false, not, nat_le, ◌==◌, ◌||◌, ◌&&◌, if◌then◌else◌, List, [], ◌∷◌, ◌++◌, Option, Some, None, length, slice_index, refl, sym, subst, ◌∙◌, ap, append-nil, length-append, length-drop, arith}
 use Rattle.std.proofs.lemmas.Bool.Decides.{nat_tests}
 use Rattle.rfb_pixel.specs.declared.fault.FormatFault.{FormatFault}
@@ -29,16 +30,21 @@ client_head_some first n e = grind (arith, nat_tests)
 
 pub client_headed : IsHeaded SpellsClientHead client_head_size client_head_of
 client_headed = record {
-  made = λ bytes e. let head = client-sizes bytes e in let same : head.0 ≡ client_head_of bytes = (client-spelled head.0 bytes head.1).0 in subst (λ (h : ClientHead). SpellsClientHead h bytes) same head.1;
+  made = λ bytes e. let head = client-sizes bytes e in let same : head.0 ≡ client_head_of bytes =
+      (client-spelled head.0 bytes head.1).0 in
+      subst (λ (h : ClientHead). SpellsClientHead h bytes) same head.1;
   only = λ head bytes s. client-spelled head bytes s;
   some = client_head_some;
-  begins = λ first n e none. begins_some SpellsClientHead client_head_size client-sizes first n (client_head_some first n e) e none;
+  begins = λ first n e none.
+      begins_some SpellsClientHead client_head_size client-sizes first n
+      (client_head_some first n e) e none;
 }
 
 -- ---- formats
 
 -- no fault is told where no check is failed
-passes : (t : Bool) (fault : FormatFault) (rest : Option FormatFault) → (if t then Some fault else rest) ≡ None → (t ≡ false) × (rest ≡ None)
+passes : (t : Bool) (fault : FormatFault) (rest : Option FormatFault) →
+    (if t then Some fault else rest) ≡ None → (t ≡ false) × (rest ≡ None)
 passes true fault rest e = cc
 passes false fault rest e = (refl, e)
 
@@ -56,14 +62,35 @@ max_is : (m : ℕ) → is_max m ≡ true → m ≡ 2 ^ width_of m - 1
 max_is m e = grind (arith, nat_tests)
 
 -- sixteen bytes that pass every check spell a format
-pub format_spelled : (bytes : List ℕ) → length bytes ≡ 16 → first_fault bytes ≡ None → Spells (format_of bytes) bytes
+pub format_spelled : (bytes : List ℕ) → length bytes ≡ 16 → first_fault bytes ≡ None →
+    Spells (format_of bytes) bytes
 format_spelled bytes size good =
     let bits = slice_index bytes 0 in
-    let one = passes (not (bits == 8 || bits == 16 || bits == 32)) BadBits (if not (nat_le (slice_index bytes 1) bits) then Some DepthTooLarge else if slice_index bytes 3 == 0 then Some NotTrueColour else if not (is_max (number_at 4 bytes) && is_max (number_at 6 bytes) && is_max (number_at 8 bytes)) then Some BadMax else fault_of_fields bits (red_at bytes) (green_at bytes) (blue_at bytes)) good in
-    let two = passes (not (nat_le (slice_index bytes 1) bits)) DepthTooLarge (if slice_index bytes 3 == 0 then Some NotTrueColour else if not (is_max (number_at 4 bytes) && is_max (number_at 6 bytes) && is_max (number_at 8 bytes)) then Some BadMax else fault_of_fields bits (red_at bytes) (green_at bytes) (blue_at bytes)) one.1 in
-    let three_is = passes (slice_index bytes 3 == 0) NotTrueColour (if not (is_max (number_at 4 bytes) && is_max (number_at 6 bytes) && is_max (number_at 8 bytes)) then Some BadMax else fault_of_fields bits (red_at bytes) (green_at bytes) (blue_at bytes)) two.1 in
-    let four = passes (not (is_max (number_at 4 bytes) && is_max (number_at 6 bytes) && is_max (number_at 8 bytes))) BadMax (fault_of_fields bits (red_at bytes) (green_at bytes) (blue_at bytes)) three_is.1 in
-    let maxima = three (is_max (number_at 4 bytes)) (is_max (number_at 6 bytes)) (is_max (number_at 8 bytes)) (not-false (is_max (number_at 4 bytes) && is_max (number_at 6 bytes) && is_max (number_at 8 bytes)) four.0) in
+    let one = passes (not (bits == 8 || bits == 16 || bits == 32)) BadBits
+    (if not (nat_le (slice_index bytes 1) bits) then Some DepthTooLarge
+    else if slice_index bytes 3 == 0 then Some NotTrueColour
+    else if not (is_max (number_at 4 bytes) && is_max (number_at 6 bytes)
+    && is_max (number_at 8 bytes)) then Some BadMax
+    else fault_of_fields bits (red_at bytes) (green_at bytes) (blue_at bytes))
+    good in
+    let two = passes (not (nat_le (slice_index bytes 1) bits)) DepthTooLarge
+    (if slice_index bytes 3 == 0 then Some NotTrueColour
+    else if not (is_max (number_at 4 bytes) && is_max (number_at 6 bytes)
+    && is_max (number_at 8 bytes)) then Some BadMax else
+    fault_of_fields bits (red_at bytes) (green_at bytes) (blue_at bytes)) one.1 in
+    let three_is =
+    passes (slice_index bytes 3 == 0) NotTrueColour
+    (if not (is_max (number_at 4 bytes) && is_max (number_at 6 bytes)
+    && is_max (number_at 8 bytes)) then Some BadMax else
+    fault_of_fields bits (red_at bytes) (green_at bytes) (blue_at bytes)) two.1 in
+    let four = passes
+    (not (is_max (number_at 4 bytes) && is_max (number_at 6 bytes)
+    && is_max (number_at 8 bytes))) BadMax
+    (fault_of_fields bits (red_at bytes) (green_at bytes) (blue_at bytes)) three_is.1 in
+    let maxima =
+    three (is_max (number_at 4 bytes)) (is_max (number_at 6 bytes)) (is_max (number_at 8 bytes))
+    (not-false (is_max (number_at 4 bytes) && is_max (number_at 6 bytes)
+    && is_max (number_at 8 bytes)) four.0) in
     let colour : (slice_index bytes 3 == 0) ≡ false = three_is.0 in
     record {
       whole = size;
@@ -90,7 +117,9 @@ abbrev number_says : Says ℤ ClientFault
 number_says = record { item = SpellsNumber; fault = λ _ _. ⊥ }
 
 number_reads : Reads {F = ClientFault} (valued 4 (λ bytes. s32_at 0 bytes)) number_says
-number_reads = same_reads (valued 4 (λ bytes. s32_at 0 bytes)) (valued_says 4 (λ bytes. s32_at 0 bytes)) number_says same (valued_reads 4 (λ bytes. s32_at 0 bytes))
+number_reads =
+    same_reads (valued 4 (λ bytes. s32_at 0 bytes)) (valued_says 4 (λ bytes. s32_at 0 bytes))
+    number_says same (valued_reads 4 (λ bytes. s32_at 0 bytes))
   where
     same : Same (valued_says 4 (λ bytes. s32_at 0 bytes)) number_says
     same = record {
@@ -102,58 +131,94 @@ number_reads = same_reads (valued 4 (λ bytes. s32_at 0 bytes)) (valued_says 4 (
 
 -- what the bytes behind a head say
 abbrev behind_says : ClientHead → Says ClientMessage ClientFault
-behind_says (FormatHead bytes) = judged_says (format_fault (first_fault bytes)) (SetPixelFormat (format_of bytes))
-behind_says (EncodingsHead count) = then_says (many_says count number_says) (λ numbers. done_says (SetEncodings numbers))
+behind_says (FormatHead bytes) =
+    judged_says (format_fault (first_fault bytes)) (SetPixelFormat (format_of bytes))
+behind_says (EncodingsHead count) =
+    then_says (many_says count number_says) (λ numbers. done_says (SetEncodings numbers))
 behind_says (Request incremental rect) = done_says (FramebufferUpdateRequest incremental rect)
 behind_says (Key down key) = done_says (KeyEvent down key)
 behind_says (Pointer buttons x y) = done_says (PointerEvent buttons x y)
-behind_says (CutText text_length) = then_says (piece_says text_length) (λ text. done_says (ClientCutText text))
+behind_says (CutText text_length) =
+    then_says (piece_says text_length) (λ text. done_says (ClientCutText text))
 
 behind_reads : (head : ClientHead) → Reads (behind_head head) (behind_says head)
-behind_reads (FormatHead bytes) = judged_reads (format_fault (first_fault bytes)) (SetPixelFormat (format_of bytes))
-behind_reads (EncodingsHead count) = then_reads (many count (valued 4 (λ bytes. s32_at 0 bytes))) (λ numbers. done (SetEncodings numbers)) (many_says count number_says) (λ numbers. done_says (SetEncodings numbers)) (many_reads count (valued 4 (λ bytes. s32_at 0 bytes)) number_says number_reads) (λ numbers. done_reads (SetEncodings numbers))
+behind_reads (FormatHead bytes) =
+    judged_reads (format_fault (first_fault bytes)) (SetPixelFormat (format_of bytes))
+behind_reads (EncodingsHead count) =
+    then_reads (many count (valued 4 (λ bytes. s32_at 0 bytes)))
+    (λ numbers. done (SetEncodings numbers)) (many_says count number_says)
+    (λ numbers. done_says (SetEncodings numbers))
+    (many_reads count (valued 4 (λ bytes. s32_at 0 bytes)) number_says number_reads)
+    (λ numbers. done_reads (SetEncodings numbers))
 behind_reads (Request incremental rect) = done_reads (FramebufferUpdateRequest incremental rect)
 behind_reads (Key down key) = done_reads (KeyEvent down key)
 behind_reads (Pointer buttons x y) = done_reads (PointerEvent buttons x y)
-behind_reads (CutText text_length) = then_reads (piece text_length) (λ text. done (ClientCutText text)) (piece_says text_length) (λ text. done_says (ClientCutText text)) (piece_reads text_length) (λ text. done_reads (ClientCutText text))
+behind_reads (CutText text_length) =
+    then_reads (piece text_length) (λ text. done (ClientCutText text)) (piece_says text_length)
+    (λ text. done_says (ClientCutText text)) (piece_reads text_length)
+    (λ text. done_reads (ClientCutText text))
 
 -- ---- whole messages
 
 abbrev parts_say : Says ClientMessage ClientFault
 parts_say = then_says (headed_says SpellsClientHead (λ first. UnknownType first)) behind_says
 
-spells_item : (head : ClientHead) (m : ClientMessage) (bytes front back : List ℕ) → bytes ≡ front ++ back → SpellsClientHead head front → (behind_says head).item m back → SpellsClientMessage m bytes
+spells_item : (head : ClientHead) (m : ClientMessage) (bytes front back : List ℕ) →
+    bytes ≡ front ++ back → SpellsClientHead head front → (behind_says head).item m back →
+    SpellsClientMessage m bytes
 spells_item (FormatHead pixel_format) m bytes front back e s h =
     let good = fault_none (first_fault pixel_format) h.0 in
-    let size : length pixel_format ≡ 16 = ap length (sym s.pixel_format_is) ∙ length-drop 4 front ∙ omega (arith, s.size) in
-    rw (h.1, alone bytes front back e h.2) (record { pixel_format = pixel_format; head = s; spelled = format_spelled pixel_format size good; passes = good })
+    let size : length pixel_format ≡ 16 =
+    ap length (sym s.pixel_format_is) ∙ length-drop 4 front ∙ omega (arith, s.size) in
+    rw (h.1, alone bytes front back e h.2)
+    (record {
+      pixel_format = pixel_format;
+      head = s;
+      spelled = format_spelled pixel_format size good;
+      passes = good;
+    })
 spells_item (EncodingsHead count) m bytes front back e s (numbers, one, two, split, many, is) =
     let all : back ≡ one = alone back one two split is.1 in
     rw is.0 (record {
       head = front;
       list = back;
       whole = e;
-      head_is = record { size = s.size; message_type = s.message_type; number_is = s.number_is ∙ sym many.0 };
+      head_is = record {
+        size = s.size;
+        message_type = s.message_type;
+        number_is = s.number_is ∙ sym many.0;
+      };
       listed = rw all many.1;
     })
-spells_item (Request incremental rect) m bytes front back e s h = rw (h.0, alone bytes front back e h.1) s
+spells_item (Request incremental rect) m bytes front back e s h =
+    rw (h.0, alone bytes front back e h.1) s
 spells_item (Key down key) m bytes front back e s h = rw (h.0, alone bytes front back e h.1) s
-spells_item (Pointer buttons x y) m bytes front back e s h = rw (h.0, alone bytes front back e h.1) s
+spells_item (Pointer buttons x y) m bytes front back e s h =
+    rw (h.0, alone bytes front back e h.1) s
 spells_item (CutText text_length) m bytes front back e s (text, one, two, split, is_text, is) =
     let all : back ≡ text = alone back one two split is.1 ∙ is_text.0 in
     let count : text_length ≡ length text = sym is_text.1 ∙ ap length is_text.0 in
     rw is.0 (record {
       head = front;
       whole = e ∙ ap (λ (ys : List ℕ). front ++ ys) all;
-      head_is = record { size = s.size; message_type = s.message_type; length_is = s.length_is ∙ count };
+      head_is = record {
+        size = s.size;
+        message_type = s.message_type;
+        length_is = s.length_is ∙ count;
+      };
     })
 
-spells_fault : (head : ClientHead) (f : ClientFault) (bytes front back : List ℕ) → bytes ≡ front ++ back → SpellsClientHead head front → (behind_says head).fault f back → FaultsClientMessage f bytes
-spells_fault (FormatHead pixel_format) f bytes front back e s h = told (first_fault pixel_format) refl h.0
+spells_fault : (head : ClientHead) (f : ClientFault) (bytes front back : List ℕ) →
+    bytes ≡ front ++ back → SpellsClientHead head front → (behind_says head).fault f back →
+    FaultsClientMessage f bytes
+spells_fault (FormatHead pixel_format) f bytes front back e s h =
+    told (first_fault pixel_format) refl h.0
   where
-    told : (fault : Option FormatFault) → first_fault pixel_format ≡ fault → format_fault fault ≡ Some f → FaultsClientMessage f bytes
+    told : (fault : Option FormatFault) → first_fault pixel_format ≡ fault →
+        format_fault fault ≡ Some f → FaultsClientMessage f bytes
     told None is e' = cc
-    told (Some fault) is e' = let same : BadFormat fault ≡ f = cc in rw (sym same, alone bytes front back e h.1) (pixel_format, s, is)
+    told (Some fault) is e' = let same : BadFormat fault ≡ f =
+        cc in rw (sym same, alone bytes front back e h.1) (pixel_format, s, is)
 spells_fault (EncodingsHead count) f bytes front back e s (inl h) = absurd h.6
 spells_fault (EncodingsHead count) f bytes front back e s (inr h) = absurd h.5
 spells_fault (Request incremental rect) f bytes front back e s h = absurd h
@@ -162,19 +227,48 @@ spells_fault (Pointer buttons x y) f bytes front back e s h = absurd h
 spells_fault (CutText text_length) f bytes front back e s (inl h) = absurd h
 spells_fault (CutText text_length) f bytes front back e s (inr h) = absurd h.5
 
-item_back : (m : ClientMessage) (bytes : List ℕ) → SpellsClientMessage m bytes → parts_say.item m bytes
+item_back : (m : ClientMessage) (bytes : List ℕ) → SpellsClientMessage m bytes →
+    parts_say.item m bytes
 item_back (SetPixelFormat format) bytes s =
-    let size : length s.pixel_format ≡ 16 = ap length (sym s.head.pixel_format_is) ∙ length-drop 4 bytes ∙ omega (arith, s.head.size) in
-    let same : format ≡ format_of s.pixel_format = spells-same format (format_of s.pixel_format) s.pixel_format s.spelled (format_spelled s.pixel_format size s.passes) in
-    (FormatHead s.pixel_format, bytes, [], sym (append-nil bytes), s.head, (ap format_fault s.passes, ap (λ (f : PixelFormat). SetPixelFormat f) same, refl))
-item_back (SetEncodings numbers) bytes s = (EncodingsHead (length numbers), s.head, s.list, s.whole, s.head_is, (numbers, s.list, [], sym (append-nil s.list), (refl, s.listed), (refl, refl)))
-item_back (FramebufferUpdateRequest incremental rect) bytes s = (Request incremental rect, bytes, [], sym (append-nil bytes), s, (refl, refl))
-item_back (KeyEvent down key) bytes s = (Key down key, bytes, [], sym (append-nil bytes), s, (refl, refl))
-item_back (PointerEvent buttons x y) bytes s = (Pointer buttons x y, bytes, [], sym (append-nil bytes), s, (refl, refl))
-item_back (ClientCutText text) bytes s = (CutText (length text), s.head, text, s.whole, s.head_is, (text, text, [], sym (append-nil text), (refl, refl), (refl, refl)))
+    let size : length s.pixel_format ≡ 16 =
+    ap length (sym s.head.pixel_format_is) ∙ length-drop 4 bytes ∙ omega (arith, s.head.size) in
+    let same : format ≡ format_of s.pixel_format =
+    spells-same format (format_of s.pixel_format) s.pixel_format s.spelled
+    (format_spelled s.pixel_format size s.passes) in (
+      FormatHead s.pixel_format,
+      bytes,
+      [],
+      sym (append-nil bytes),
+      s.head,
+      (ap format_fault s.passes, ap (λ (f : PixelFormat). SetPixelFormat f) same, refl),
+    )
+item_back (SetEncodings numbers) bytes s = (
+  EncodingsHead (length numbers),
+  s.head,
+  s.list,
+  s.whole,
+  s.head_is,
+  (numbers, s.list, [], sym (append-nil s.list), (refl, s.listed), (refl, refl)),
+)
+item_back (FramebufferUpdateRequest incremental rect) bytes s =
+    (Request incremental rect, bytes, [], sym (append-nil bytes), s, (refl, refl))
+item_back (KeyEvent down key) bytes s =
+    (Key down key, bytes, [], sym (append-nil bytes), s, (refl, refl))
+item_back (PointerEvent buttons x y) bytes s =
+    (Pointer buttons x y, bytes, [], sym (append-nil bytes), s, (refl, refl))
+item_back (ClientCutText text) bytes s = (
+  CutText (length text),
+  s.head,
+  text,
+  s.whole,
+  s.head_is,
+  (text, text, [], sym (append-nil text), (refl, refl), (refl, refl)),
+)
 
-fault_back : (f : ClientFault) (bytes : List ℕ) → FaultsClientMessage f bytes → parts_say.fault f bytes
-fault_back (BadFormat fault) bytes (pixel_format, s, bad) = inr (FormatHead pixel_format, bytes, [], sym (append-nil bytes), s, (ap format_fault bad, refl))
+fault_back : (f : ClientFault) (bytes : List ℕ) → FaultsClientMessage f bytes →
+    parts_say.fault f bytes
+fault_back (BadFormat fault) bytes (pixel_format, s, bad) =
+    inr (FormatHead pixel_format, bytes, [], sym (append-nil bytes), s, (ap format_fault bad, refl))
 fault_back (UnknownType message_type) bytes h = inl (message_type, refl, h.0, h.1)
 
 client_same : Same parts_say client_says
@@ -185,7 +279,8 @@ client_same = record {
   fault_back = fault_back;
 }
   where
-    fault : (f : ClientFault) (bytes : List ℕ) → parts_say.fault f bytes → FaultsClientMessage f bytes
+    fault : (f : ClientFault) (bytes : List ℕ) → parts_say.fault f bytes →
+        FaultsClientMessage f bytes
     fault f bytes (inl (first, e, all, none)) = rw e (all, none)
     fault f bytes (inr (head, front, back, e, s, h)) = spells_fault head f bytes front back e s h
 
@@ -193,30 +288,38 @@ client_same = record {
 pub client_message_reads : Reads client_message client_says
 unfolding client_message
 client_message_reads =
-    same_reads (and_then (headed client_head_size (λ first. UnknownType first) client_head_of) behind_head) parts_say client_says client_same
-    (then_reads (headed client_head_size (λ first. UnknownType first) client_head_of) behind_head (headed_says SpellsClientHead (λ first. UnknownType first)) behind_says (headed_reads SpellsClientHead client_head_size (λ first. UnknownType first) client_head_of client_headed) behind_reads)
+    same_reads (and_then (headed client_head_size (λ first. UnknownType first) client_head_of)
+    behind_head) parts_say client_says client_same
+    (then_reads (headed client_head_size (λ first. UnknownType first) client_head_of) behind_head
+    (headed_says SpellsClientHead (λ first. UnknownType first)) behind_says
+    (headed_reads SpellsClientHead client_head_size (λ first. UnknownType first)
+    client_head_of client_headed) behind_reads)
 
 -- ---- the stream
 
 -- the list of SetEncodings has four bytes a number
-length-numbers : (numbers : List ℤ) (bytes : List ℕ) → Listed SpellsNumber numbers bytes → length bytes ≡ length numbers * 4
+length-numbers : (numbers : List ℤ) (bytes : List ℕ) → Listed SpellsNumber numbers bytes →
+    length bytes ≡ length numbers * 4
 length-numbers [] bytes h = rw h refl
 length-numbers (n ∷ numbers) bytes (front, back, e, s, more) =
     let others = length-numbers numbers back more in
     let all : length bytes ≡ length front + length back = ap length e ∙ length-append front back in
     omega (arith, s.size, others, all)
 
-message_sized : (m : ClientMessage) (bytes : List ℕ) → SpellsClientMessage m bytes → (length bytes ≡ client_message_size m) × (0 < length bytes)
+message_sized : (m : ClientMessage) (bytes : List ℕ) → SpellsClientMessage m bytes →
+    (length bytes ≡ client_message_size m) × (0 < length bytes)
 message_sized (SetPixelFormat format) bytes s = (s.head.size, omega (arith, s.head.size))
 message_sized (SetEncodings numbers) bytes s =
     let list = length-numbers numbers s.list s.listed in
-    let all : length bytes ≡ length s.head + length s.list = ap length s.whole ∙ length-append s.head s.list in
+    let all : length bytes ≡ length s.head + length s.list =
+    ap length s.whole ∙ length-append s.head s.list in
     (omega (arith, s.head_is.size, list, all), omega (arith, s.head_is.size, all))
 message_sized (FramebufferUpdateRequest incremental rect) bytes s = (s.size, omega (arith, s.size))
 message_sized (KeyEvent down key) bytes s = (s.size, omega (arith, s.size))
 message_sized (PointerEvent buttons x y) bytes s = (s.size, omega (arith, s.size))
 message_sized (ClientCutText text) bytes s =
-    let all : length bytes ≡ length s.head + length text = ap length s.whole ∙ length-append s.head text in
+    let all : length bytes ≡ length s.head + length text =
+    ap length s.whole ∙ length-append s.head text in
     (omega (arith, s.head_is.size, all), omega (arith, s.head_is.size, all))
 
 fault_some : (f : ClientFault) (bytes : List ℕ) → FaultsClientMessage f bytes → 0 < length bytes

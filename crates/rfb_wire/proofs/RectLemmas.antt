@@ -12,7 +12,9 @@ use Rattle.rfb_wire.specs.RectHead.{SpellsRectHead}
 use Rattle.rfb_wire.proofs.FieldLemmas.{number-take, rect-take}
 
 -- twelve bytes that begin with a rectangle and have the number of an encoding are a head
-pub rect-spelled : (rect : Rect) (encoding : Encoding) (bytes : List ℕ) → 12 ≤ length bytes → IsRectAt 0 rect bytes → s32_at 8 bytes ≡ number_of encoding → SpellsRectHead (record { rect = rect; encoding = encoding }) (take 12 bytes)
+pub rect-spelled : (rect : Rect) (encoding : Encoding) (bytes : List ℕ) → 12 ≤ length bytes →
+    IsRectAt 0 rect bytes → s32_at 8 bytes ≡ number_of encoding →
+    SpellsRectHead (record { rect = rect; encoding = encoding }) (take 12 bytes)
 rect-spelled rect encoding bytes whole is number = record {
   size = length-take-le 12 bytes whole;
   rect_is = rect-take 12 rect bytes (omega arith) is;
@@ -28,13 +30,15 @@ same_encoding Hextile Hextile e = refl
 same_encoding _ _ e = cc
 
 -- bytes that go on behind a head spell no other, and do not go on
-pub rect-apart : (head other : RectHead) (front rest : List ℕ) → SpellsRectHead head front → SpellsRectHead other (front ++ rest) → (other ≡ head) × (rest ≡ [])
+pub rect-apart : (head other : RectHead) (front rest : List ℕ) → SpellsRectHead head front →
+    SpellsRectHead other (front ++ rest) → (other ≡ head) × (rest ≡ [])
 rect-apart head other front rest a b =
     let none : rest ≡ [] = nil_from_length rest (omega (arith, length-append front rest)) in
     let whole : front ++ rest ≡ front = ap (λ (xs : List ℕ). front ++ xs) none ∙ append-nil front in
     (rect-same other head front (subst (SpellsRectHead other) whole b) a, none)
   where
-    rect-same : (p q : RectHead) (bytes : List ℕ) → SpellsRectHead p bytes → SpellsRectHead q bytes → p ≡ q
+    rect-same : (p q : RectHead) (bytes : List ℕ) → SpellsRectHead p bytes →
+        SpellsRectHead q bytes → p ≡ q
     rect-same p q bytes s t =
         let x = sym s.rect_is.x_position ∙ t.rect_is.x_position in
         let y = sym s.rect_is.y_position ∙ t.rect_is.y_position in

@@ -13,13 +13,27 @@ use Rattle.rfb_wire.proofs.stream_laws.HeadLemmas.{SizesSpell}
 pub server-sizes : SizesSpell SpellsServerHead server_head_size
 server-sizes bytes h =
     elim (cases_eq (slice_index bytes 0) 0) [
-      | inl is ↦ (Update (u16_at 2 bytes), record { size = grind (arith, nat_tests); message_type = is; number_is = refl })
+      | inl is ↦ (
+        Update (u16_at 2 bytes),
+        record { size = grind (arith, nat_tests); message_type = is; number_is = refl },
+      )
       | inr not_0 ↦ elim (cases_eq (slice_index bytes 0) 1) [
-        | inl is ↦ (ColourMap (u16_at 2 bytes) (u16_at 4 bytes), record { size = grind (arith, nat_tests); message_type = is; first_is = refl; number_is = refl })
+        | inl is ↦ (
+          ColourMap (u16_at 2 bytes) (u16_at 4 bytes),
+          record {
+            size = grind (arith, nat_tests);
+            message_type = is;
+            first_is = refl;
+            number_is = refl;
+          },
+        )
         | inr not_1 ↦ elim (cases_eq (slice_index bytes 0) 2) [
           | inl is ↦ (Bell, record { size = grind (arith, nat_tests); message_type = is })
           | inr not_2 ↦ elim (cases_eq (slice_index bytes 0) 3) [
-            | inl is ↦ (CutText (u32_at 4 bytes), record { size = grind (arith, nat_tests); message_type = is; length_is = refl })
+            | inl is ↦ (
+              CutText (u32_at 4 bytes),
+              record { size = grind (arith, nat_tests); message_type = is; length_is = refl },
+            )
             | inr not_3 ↦ absurd (grind (arith, nat_tests))
           ]
         ]
@@ -27,8 +41,13 @@ server-sizes bytes h =
     ]
 
 -- bytes spell no other head than their own, have its size, and are not none
-pub server-spelled : (head : ServerHead) (bytes : List ℕ) → SpellsServerHead head bytes → (head ≡ server_head_of bytes) × (server_head_size (slice_index bytes 0) ≡ Some (length bytes)) × (0 < length bytes)
-server-spelled (Update count) bytes s = (grind (arith, nat_tests), grind (arith, nat_tests), omega arith)
-server-spelled (ColourMap first count) bytes s = (grind (arith, nat_tests), grind (arith, nat_tests), omega arith)
+pub server-spelled : (head : ServerHead) (bytes : List ℕ) → SpellsServerHead head bytes →
+    (head ≡ server_head_of bytes) × (server_head_size (slice_index bytes 0) ≡ Some (length bytes))
+    × (0 < length bytes)
+server-spelled (Update count) bytes s =
+    (grind (arith, nat_tests), grind (arith, nat_tests), omega arith)
+server-spelled (ColourMap first count) bytes s =
+    (grind (arith, nat_tests), grind (arith, nat_tests), omega arith)
 server-spelled Bell bytes s = (grind (arith, nat_tests), grind (arith, nat_tests), omega arith)
-server-spelled (CutText text_length) bytes s = (grind (arith, nat_tests), grind (arith, nat_tests), omega arith)
+server-spelled (CutText text_length) bytes s =
+    (grind (arith, nat_tests), grind (arith, nat_tests), omega arith)

@@ -1,4 +1,5 @@
--- The reading of server messages is what RFC 6143 section 7.6 says of their bytes, in both directions.
+-- The reading of server messages is what RFC 6143 section 7.6 says of their
+-- bytes, in both directions.
 use Rattle.std.proofs.Common.{◌≡◌, ℕ, ◌+◌, ◌*◌, ◌<◌, inl, inr, List, [], ◌∷◌, ◌++◌, Some, length, refl, sym, subst, ◌∙◌, ap, append-nil, length-append, arith}
 use Rattle.std.proofs.lemmas.Bool.Decides.{nat_tests}
 use Rattle.rfb_wire.specs.declared.server_head.ServerHead.{ServerHead}
@@ -20,10 +21,14 @@ server_head_some first n e = grind (arith, nat_tests)
 
 pub server_headed : IsHeaded SpellsServerHead server_head_size server_head_of
 server_headed = record {
-  made = λ bytes e. let head = server-sizes bytes e in let same : head.0 ≡ server_head_of bytes = (server-spelled head.0 bytes head.1).0 in subst (λ (h : ServerHead). SpellsServerHead h bytes) same head.1;
+  made = λ bytes e. let head = server-sizes bytes e in let same : head.0 ≡ server_head_of bytes =
+      (server-spelled head.0 bytes head.1).0 in
+      subst (λ (h : ServerHead). SpellsServerHead h bytes) same head.1;
   only = λ head bytes s. server-spelled head bytes s;
   some = server_head_some;
-  begins = λ first n e none. begins_some SpellsServerHead server_head_size server-sizes first n (server_head_some first n e) e none;
+  begins = λ first n e none.
+      begins_some SpellsServerHead server_head_size server-sizes first n
+      (server_head_some first n e) e none;
 }
 
 -- ---- what stands behind a head
@@ -33,35 +38,60 @@ abbrev color_says : Says Color ServerFault
 color_says = record { item = SpellsColor; fault = λ _ _. ⊥ }
 
 color_reads : Reads {F = ServerFault} (valued 6 color_of) color_says
-color_reads = same_reads (valued 6 color_of) (valued_says 6 color_of) color_says same (valued_reads 6 color_of)
+color_reads =
+    same_reads (valued 6 color_of) (valued_says 6 color_of) color_says same
+    (valued_reads 6 color_of)
   where
     same : Same (valued_says 6 color_of) color_says
     same = record {
-      item = λ color bytes h. record { size = h.0; red_is = sym (ap (λ (c : Color). c.red) h.1); green_is = sym (ap (λ (c : Color). c.green) h.1); blue_is = sym (ap (λ (c : Color). c.blue) h.1) };
+      item = λ color bytes h. record {
+        size = h.0;
+        red_is = sym (ap (λ (c : Color). c.red) h.1);
+        green_is = sym (ap (λ (c : Color). c.green) h.1);
+        blue_is = sym (ap (λ (c : Color). c.blue) h.1);
+      };
       fault = λ f bytes h. h;
-      item_back = λ color bytes h. (h.size, λ k. record { red = sym h.red_is k; green = sym h.green_is k; blue = sym h.blue_is k });
+      item_back = λ color bytes h. (
+        h.size,
+        λ k. record {
+          red = sym h.red_is k;
+          green = sym h.green_is k;
+          blue = sym h.blue_is k;
+        },
+      );
       fault_back = λ f bytes h. h;
     }
 
 -- what the bytes behind a head say
 abbrev behind_says : ServerHead → Says ServerMessage ServerFault
 behind_says (Update count) = done_says (FramebufferUpdate count)
-behind_says (ColourMap first count) = then_says (many_says count color_says) (λ colors. done_says (SetColorMapEntries first colors))
+behind_says (ColourMap first count) =
+    then_says (many_says count color_says) (λ colors. done_says (SetColorMapEntries first colors))
 behind_says BellHead = done_says Bell
-behind_says (CutText text_length) = then_says (piece_says text_length) (λ text. done_says (ServerCutText text))
+behind_says (CutText text_length) =
+    then_says (piece_says text_length) (λ text. done_says (ServerCutText text))
 
 behind_reads : (head : ServerHead) → Reads (behind_head head) (behind_says head)
 behind_reads (Update count) = done_reads (FramebufferUpdate count)
-behind_reads (ColourMap first count) = then_reads (many count (valued 6 color_of)) (λ colors. done (SetColorMapEntries first colors)) (many_says count color_says) (λ colors. done_says (SetColorMapEntries first colors)) (many_reads count (valued 6 color_of) color_says color_reads) (λ colors. done_reads (SetColorMapEntries first colors))
+behind_reads (ColourMap first count) =
+    then_reads (many count (valued 6 color_of)) (λ colors. done (SetColorMapEntries first colors))
+    (many_says count color_says) (λ colors. done_says (SetColorMapEntries first colors))
+    (many_reads count (valued 6 color_of) color_says color_reads)
+    (λ colors. done_reads (SetColorMapEntries first colors))
 behind_reads BellHead = done_reads Bell
-behind_reads (CutText text_length) = then_reads (piece text_length) (λ text. done (ServerCutText text)) (piece_says text_length) (λ text. done_says (ServerCutText text)) (piece_reads text_length) (λ text. done_reads (ServerCutText text))
+behind_reads (CutText text_length) =
+    then_reads (piece text_length) (λ text. done (ServerCutText text)) (piece_says text_length)
+    (λ text. done_says (ServerCutText text)) (piece_reads text_length)
+    (λ text. done_reads (ServerCutText text))
 
 -- ---- whole messages
 
 abbrev parts_say : Says ServerMessage ServerFault
 parts_say = then_says (headed_says SpellsServerHead (λ first. UnknownType first)) behind_says
 
-spells_item : (head : ServerHead) (m : ServerMessage) (bytes front back : List ℕ) → bytes ≡ front ++ back → SpellsServerHead head front → (behind_says head).item m back → SpellsServerMessage m bytes
+spells_item : (head : ServerHead) (m : ServerMessage) (bytes front back : List ℕ) →
+    bytes ≡ front ++ back → SpellsServerHead head front → (behind_says head).item m back →
+    SpellsServerMessage m bytes
 spells_item (Update count) m bytes front back e s h = rw (h.0, alone bytes front back e h.1) s
 spells_item (ColourMap first count) m bytes front back e s (colors, one, two, split, many, is) =
     let all : back ≡ one = alone back one two split is.1 in
@@ -69,7 +99,12 @@ spells_item (ColourMap first count) m bytes front back e s (colors, one, two, sp
       head = front;
       list = back;
       whole = e;
-      head_is = record { size = s.size; message_type = s.message_type; first_is = s.first_is; number_is = s.number_is ∙ sym many.0 };
+      head_is = record {
+        size = s.size;
+        message_type = s.message_type;
+        first_is = s.first_is;
+        number_is = s.number_is ∙ sym many.0;
+      };
       listed = rw all many.1;
     })
 spells_item BellHead m bytes front back e s h = rw (h.0, alone bytes front back e h.1) s
@@ -79,10 +114,15 @@ spells_item (CutText text_length) m bytes front back e s (text, one, two, split,
     rw is.0 (record {
       head = front;
       whole = e ∙ ap (λ (ys : List ℕ). front ++ ys) all;
-      head_is = record { size = s.size; message_type = s.message_type; length_is = s.length_is ∙ count };
+      head_is = record {
+        size = s.size;
+        message_type = s.message_type;
+        length_is = s.length_is ∙ count;
+      };
     })
 
-spells_fault : (head : ServerHead) (f : ServerFault) (back : List ℕ) → (behind_says head).fault f back → ⊥
+spells_fault : (head : ServerHead) (f : ServerFault) (back : List ℕ) →
+    (behind_says head).fault f back → ⊥
 spells_fault (Update count) f back h = h
 spells_fault (ColourMap first count) f back (inl h) = h.6
 spells_fault (ColourMap first count) f back (inr h) = h.5
@@ -90,11 +130,27 @@ spells_fault BellHead f back h = h
 spells_fault (CutText text_length) f back (inl h) = h
 spells_fault (CutText text_length) f back (inr h) = h.5
 
-item_back : (m : ServerMessage) (bytes : List ℕ) → SpellsServerMessage m bytes → parts_say.item m bytes
-item_back (FramebufferUpdate count) bytes s = (Update count, bytes, [], sym (append-nil bytes), s, (refl, refl))
-item_back (SetColorMapEntries first colors) bytes s = (ColourMap first (length colors), s.head, s.list, s.whole, s.head_is, (colors, s.list, [], sym (append-nil s.list), (refl, s.listed), (refl, refl)))
+item_back : (m : ServerMessage) (bytes : List ℕ) → SpellsServerMessage m bytes →
+    parts_say.item m bytes
+item_back (FramebufferUpdate count) bytes s =
+    (Update count, bytes, [], sym (append-nil bytes), s, (refl, refl))
+item_back (SetColorMapEntries first colors) bytes s = (
+  ColourMap first (length colors),
+  s.head,
+  s.list,
+  s.whole,
+  s.head_is,
+  (colors, s.list, [], sym (append-nil s.list), (refl, s.listed), (refl, refl)),
+)
 item_back Bell bytes s = (BellHead, bytes, [], sym (append-nil bytes), s, (refl, refl))
-item_back (ServerCutText text) bytes s = (CutText (length text), s.head, text, s.whole, s.head_is, (text, text, [], sym (append-nil text), (refl, refl), (refl, refl)))
+item_back (ServerCutText text) bytes s = (
+  CutText (length text),
+  s.head,
+  text,
+  s.whole,
+  s.head_is,
+  (text, text, [], sym (append-nil text), (refl, refl), (refl, refl)),
+)
 
 server_same : Same parts_say server_says
 server_same = record {
@@ -104,23 +160,30 @@ server_same = record {
   fault_back = fault_back;
 }
   where
-    fault : (f : ServerFault) (bytes : List ℕ) → parts_say.fault f bytes → FaultsServerMessage f bytes
+    fault : (f : ServerFault) (bytes : List ℕ) → parts_say.fault f bytes →
+        FaultsServerMessage f bytes
     fault f bytes (inl (first, e, all, none)) = rw e (all, none)
     fault f bytes (inr (head, front, back, e, s, h)) = absurd (spells_fault head f back h)
 
-    fault_back : (f : ServerFault) (bytes : List ℕ) → FaultsServerMessage f bytes → parts_say.fault f bytes
+    fault_back : (f : ServerFault) (bytes : List ℕ) → FaultsServerMessage f bytes →
+        parts_say.fault f bytes
     fault_back (UnknownType message_type) bytes h = inl (message_type, refl, h.0, h.1)
 
 -- the reading gives exactly the messages and the faults that the bytes of a server say
 pub server_message_reads : Reads server_message server_says
 unfolding server_message
 server_message_reads =
-    same_reads (and_then (headed server_head_size (λ first. UnknownType first) server_head_of) behind_head) parts_say server_says server_same
-    (then_reads (headed server_head_size (λ first. UnknownType first) server_head_of) behind_head (headed_says SpellsServerHead (λ first. UnknownType first)) behind_says (headed_reads SpellsServerHead server_head_size (λ first. UnknownType first) server_head_of server_headed) behind_reads)
+    same_reads (and_then (headed server_head_size (λ first. UnknownType first) server_head_of)
+    behind_head) parts_say server_says server_same
+    (then_reads (headed server_head_size (λ first. UnknownType first) server_head_of) behind_head
+    (headed_says SpellsServerHead (λ first. UnknownType first)) behind_says
+    (headed_reads SpellsServerHead server_head_size (λ first. UnknownType first)
+    server_head_of server_headed) behind_reads)
 
 -- ---- sizes
 
-length-colors : (colors : List Color) (bytes : List ℕ) → Listed SpellsColor colors bytes → length bytes ≡ length colors * 6
+length-colors : (colors : List Color) (bytes : List ℕ) → Listed SpellsColor colors bytes →
+    length bytes ≡ length colors * 6
 length-colors [] bytes h = rw h refl
 length-colors (c ∷ colors) bytes (front, back, e, s, more) =
     let others = length-colors colors back more in
@@ -128,17 +191,21 @@ length-colors (c ∷ colors) bytes (front, back, e, s, more) =
     omega (arith, s.size, others, all)
 
 -- a message has its size, and a byte at least
-pub server_message_sized : (m : ServerMessage) (bytes : List ℕ) → SpellsServerMessage m bytes → (length bytes ≡ server_message_size m) × (0 < length bytes)
+pub server_message_sized : (m : ServerMessage) (bytes : List ℕ) → SpellsServerMessage m bytes →
+    (length bytes ≡ server_message_size m) × (0 < length bytes)
 server_message_sized (FramebufferUpdate count) bytes s = (s.size, omega (arith, s.size))
 server_message_sized (SetColorMapEntries first colors) bytes s =
     let list = length-colors colors s.list s.listed in
-    let all : length bytes ≡ length s.head + length s.list = ap length s.whole ∙ length-append s.head s.list in
+    let all : length bytes ≡ length s.head + length s.list =
+    ap length s.whole ∙ length-append s.head s.list in
     (omega (arith, s.head_is.size, list, all), omega (arith, s.head_is.size, all))
 server_message_sized Bell bytes s = (s.size, omega (arith, s.size))
 server_message_sized (ServerCutText text) bytes s =
-    let all : length bytes ≡ length s.head + length text = ap length s.whole ∙ length-append s.head text in
+    let all : length bytes ≡ length s.head + length text =
+    ap length s.whole ∙ length-append s.head text in
     (omega (arith, s.head_is.size, all), omega (arith, s.head_is.size, all))
 
 -- a fault has a byte at least
-pub server_fault_some : (f : ServerFault) (bytes : List ℕ) → FaultsServerMessage f bytes → 0 < length bytes
+pub server_fault_some : (f : ServerFault) (bytes : List ℕ) → FaultsServerMessage f bytes →
+    0 < length bytes
 server_fault_some (UnknownType message_type) bytes h = rw h.0 (omega arith)

@@ -1,4 +1,5 @@
--- Sessions of a client's bytes, computed: a key, and then a type that no message has, cut in two ways.
+-- Sessions of a client's bytes, computed: a key, and then a type that no
+-- message has, cut in two ways.
 use Rattle.std.proofs.Common.{◌≡◌, ℕ, List, [], ◌∷◌, ◌++◌, Some, None, true, refl, arith}
 use Rattle.std.specs.Prelude.{⊤}
 use Rattle.rfb_wire.specs.ClientMessage.{ClientMessage, KeyEvent, PointerEvent, ClientFault, UnknownType}
@@ -22,7 +23,14 @@ at_once = record { bytes = key; event = Some (KeyEvent true 97) } ∷ []
 
 key_taken : Takes teller tt [] key (Some (KeyEvent true 97)) tt []
 unfolding client_message
-key_taken = record { items = KeyEvent true 97 ∷ []; reads = ([], refl, refl); state = refl; ends = refl; partial = refl; whole = refl }
+key_taken = record {
+  items = KeyEvent true 97 ∷ [];
+  reads = ([], refl, refl);
+  state = refl;
+  ends = refl;
+  partial = refl;
+  whole = refl;
+}
 
 type_refused : Refuses teller tt [] (1 ∷ []) (UnknownType 1)
 unfolding client_message
@@ -34,22 +42,39 @@ told_at_once = (tt, [], (tt, [], key_taken, (refl, refl)), type_refused)
 -- ---- the key's first three bytes, its others, and the fault with a byte behind it
 
 abbrev in_parts : List (Call ClientMessage)
-in_parts = record { bytes = 4 ∷ 1 ∷ 0 ∷ []; event = None } ∷ record { bytes = 0 ∷ 0 ∷ 0 ∷ 0 ∷ 97 ∷ []; event = Some (KeyEvent true 97) } ∷ []
+in_parts = record {
+  bytes = 4 ∷ 1 ∷ 0 ∷ [];
+  event = None;
+} ∷ record {
+  bytes = 0 ∷ 0 ∷ 0 ∷ 0 ∷ 97 ∷ [];
+  event = Some (KeyEvent true 97);
+} ∷ []
 
 part_taken : Takes teller tt [] (4 ∷ 1 ∷ 0 ∷ []) None tt (4 ∷ 1 ∷ 0 ∷ [])
 unfolding client_message
-part_taken = record { items = []; reads = refl; state = refl; ends = refl; partial = refl; whole = tt }
+part_taken =
+    record { items = []; reads = refl; state = refl; ends = refl; partial = refl; whole = tt }
 
-others_taken : Takes teller tt (4 ∷ 1 ∷ 0 ∷ []) (0 ∷ 0 ∷ 0 ∷ 0 ∷ 97 ∷ []) (Some (KeyEvent true 97)) tt []
+others_taken : Takes teller tt (4 ∷ 1 ∷ 0 ∷ []) (0 ∷ 0 ∷ 0 ∷ 0 ∷ 97 ∷ []) (Some (KeyEvent true 97))
+    tt []
 unfolding client_message
-others_taken = record { items = KeyEvent true 97 ∷ []; reads = ([], refl, refl); state = refl; ends = refl; partial = refl; whole = refl }
+others_taken =
+    record {
+      items = KeyEvent true 97 ∷ [];
+      reads = ([], refl, refl);
+      state = refl;
+      ends = refl;
+      partial = refl;
+      whole = refl;
+    }
 
 more_refused : Refuses teller tt [] (1 ∷ 7 ∷ []) (UnknownType 1)
 unfolding client_message
 more_refused = record { items = []; rest = 1 ∷ 7 ∷ []; reads = refl; quiet = refl; bad = refl }
 
 told_in_parts : IsSession teller tt [] in_parts (1 ∷ 7 ∷ []) (Some (UnknownType 1))
-told_in_parts = (tt, [], (tt, 4 ∷ 1 ∷ 0 ∷ [], part_taken, (tt, [], others_taken, (refl, refl))), more_refused)
+told_in_parts =
+    (tt, [], (tt, 4 ∷ 1 ∷ 0 ∷ [], part_taken, (tt, [], others_taken, (refl, refl))), more_refused)
 
 -- the bytes are the same but for the one behind the fault, and so are the events
 same_bytes : (bytes_of at_once ++ 1 ∷ []) ++ 7 ∷ [] ≡ bytes_of in_parts ++ 1 ∷ 7 ∷ []
@@ -60,7 +85,8 @@ same_events = refl
 
 -- ---- a queue of a key and the pointer, of which the key and a byte of the pointer are delivered
 
-parts_delivered : DeliversAll teller tt [] (KeyEvent true 97 ∷ PointerEvent 1 258 3 ∷ []) (key ++ 5 ∷ []) (1 ∷ 1 ∷ 2 ∷ 0 ∷ 3 ∷ []) (KeyEvent true 97 ∷ []) tt (5 ∷ [])
+parts_delivered : DeliversAll teller tt [] (KeyEvent true 97 ∷ PointerEvent 1 258 3 ∷ [])
+    (key ++ 5 ∷ []) (1 ∷ 1 ∷ 2 ∷ 0 ∷ 3 ∷ []) (KeyEvent true 97 ∷ []) tt (5 ∷ [])
 unfolding client_message
 parts_delivered = record {
   done = KeyEvent true 97 ∷ [];

@@ -1,5 +1,5 @@
--- Bytes that are too few for a message or for a rectangle's head wait for more: what an end that gathers
--- them needs where none is whole yet.
+-- Bytes that are too few for a message or for a rectangle's head wait for more: what an end that
+-- gathers them needs where none is whole yet.
 use Rattle.std.proofs.Common.{◌≡◌, ℕ, ◌*◌, ◌<◌, List, [], ◌∷◌, ◌++◌, length, refl}
 use Rattle.rfb_wire.specs.declared.client_head.ClientHead.{ClientHead}
 use Rattle.rfb_wire.specs.declared.client_head.ClientHead.TheVariants.{SetEncodings as EncodingsHead, CutText}
@@ -24,56 +24,90 @@ use Rattle.rfb_wire.proofs.ServerMessageLaws.{server_headed, server_message_read
 -- ---- from client to server
 
 -- a head that is not whole
-pub client_head_waits : (n : ℕ) (bytes : List ℕ) → Misses SpellsClientHead n bytes → client_message bytes ≡ More
+pub client_head_waits : (n : ℕ) (bytes : List ℕ) → Misses SpellsClientHead n bytes →
+    client_message bytes ≡ More
 unfolding client_message
 client_head_waits n bytes misses =
-    first_waits (headed client_head_size (λ first. UnknownType first) client_head_of) behind_head bytes (headed_waits SpellsClientHead client_head_size (λ first. UnknownType first) client_head_of client_headed n bytes misses)
+    first_waits (headed client_head_size (λ first. UnknownType first) client_head_of) behind_head
+    bytes (headed_waits SpellsClientHead client_head_size (λ first. UnknownType first)
+    client_head_of client_headed n bytes misses)
 
 -- a whole head, and what follows is not
-pub client_waits : (head : ClientHead) (front rest : List ℕ) → SpellsClientHead head front → behind_head head rest ≡ More → client_message (front ++ rest) ≡ More
+pub client_waits : (head : ClientHead) (front rest : List ℕ) → SpellsClientHead head front →
+    behind_head head rest ≡ More → client_message (front ++ rest) ≡ More
 unfolding client_message
 client_waits head front rest s more =
-    behind_waits (headed client_head_size (λ first. UnknownType first) client_head_of) behind_head head (front ++ rest) rest ((headed_reads SpellsClientHead client_head_size (λ first. UnknownType first) client_head_of client_headed).only head front rest s) more
+    behind_waits (headed client_head_size (λ first. UnknownType first) client_head_of) behind_head
+    head (front ++ rest) rest
+    ((headed_reads SpellsClientHead client_head_size (λ first. UnknownType first)
+    client_head_of client_headed).only head front rest s) more
 
 -- SetEncodings with fewer numbers than its head tells
-pub encodings_wait : (count : ℕ) (front rest : List ℕ) → SpellsSetEncodings count front → length rest < count * 4 → client_message (front ++ rest) ≡ More
+pub encodings_wait : (count : ℕ) (front rest : List ℕ) → SpellsSetEncodings count front →
+    length rest < count * 4 → client_message (front ++ rest) ≡ More
 encodings_wait count front rest s less =
-    client_waits (EncodingsHead count) front rest s (first_waits (many count (valued 4 (λ bytes. s32_at 0 bytes))) (λ numbers. done (SetEncodings numbers)) rest (pieces_wait count 4 (λ bytes. s32_at 0 bytes) [] rest less))
+    client_waits (EncodingsHead count) front rest s
+    (first_waits (many count (valued 4 (λ bytes. s32_at 0 bytes)))
+    (λ numbers. done (SetEncodings numbers)) rest
+    (pieces_wait count 4 (λ bytes. s32_at 0 bytes) [] rest less))
 
 -- ClientCutText with less text than its head tells
-pub client_text_waits : (text_length : ℕ) (front rest : List ℕ) → SpellsClientCutText text_length front → length rest < text_length → client_message (front ++ rest) ≡ More
+pub client_text_waits : (text_length : ℕ) (front rest : List ℕ) →
+    SpellsClientCutText text_length front → length rest < text_length →
+    client_message (front ++ rest) ≡ More
 client_text_waits text_length front rest s less =
-    client_waits (CutText text_length) front rest s (first_waits (piece text_length) (λ text. done (ClientCutText text)) rest (piece_short text_length rest less))
+    client_waits (CutText text_length) front rest s
+    (first_waits (piece text_length) (λ text. done (ClientCutText text)) rest
+    (piece_short text_length rest less))
 
 -- a type that no message has does not wait
-pub client_type_faults : (first : ℕ) (rest : List ℕ) → BeginsNone SpellsClientHead first → client_message (first ∷ rest) ≡ Bad (UnknownType first)
-client_type_faults first rest none = client_message_reads.blames (UnknownType first) (first ∷ []) rest (refl, none)
+pub client_type_faults : (first : ℕ) (rest : List ℕ) → BeginsNone SpellsClientHead first →
+    client_message (first ∷ rest) ≡ Bad (UnknownType first)
+client_type_faults first rest none =
+    client_message_reads.blames (UnknownType first) (first ∷ []) rest (refl, none)
 
 -- ---- from server to client
 
-pub server_head_waits : (n : ℕ) (bytes : List ℕ) → Misses SpellsServerHead n bytes → server_message bytes ≡ More
+pub server_head_waits : (n : ℕ) (bytes : List ℕ) → Misses SpellsServerHead n bytes →
+    server_message bytes ≡ More
 unfolding server_message
 server_head_waits n bytes misses =
-    first_waits (headed server_head_size (λ first. UnknownServerType first) server_head_of) behind_server_head bytes (headed_waits SpellsServerHead server_head_size (λ first. UnknownServerType first) server_head_of server_headed n bytes misses)
+    first_waits (headed server_head_size (λ first. UnknownServerType first) server_head_of)
+    behind_server_head bytes
+    (headed_waits SpellsServerHead server_head_size (λ first. UnknownServerType first)
+    server_head_of server_headed n bytes misses)
 
-pub server_waits : (head : ServerHead) (front rest : List ℕ) → SpellsServerHead head front → behind_server_head head rest ≡ More → server_message (front ++ rest) ≡ More
+pub server_waits : (head : ServerHead) (front rest : List ℕ) → SpellsServerHead head front →
+    behind_server_head head rest ≡ More → server_message (front ++ rest) ≡ More
 unfolding server_message
 server_waits head front rest s more =
-    behind_waits (headed server_head_size (λ first. UnknownServerType first) server_head_of) behind_server_head head (front ++ rest) rest ((headed_reads SpellsServerHead server_head_size (λ first. UnknownServerType first) server_head_of server_headed).only head front rest s) more
+    behind_waits (headed server_head_size (λ first. UnknownServerType first) server_head_of)
+    behind_server_head head (front ++ rest) rest
+    ((headed_reads SpellsServerHead server_head_size (λ first. UnknownServerType first)
+    server_head_of server_headed).only head front rest s) more
 
 -- SetColorMapEntries with fewer colors than its head tells
-pub colors_wait : (first count : ℕ) (front rest : List ℕ) → SpellsColourMap first count front → length rest < count * 6 → server_message (front ++ rest) ≡ More
+pub colors_wait : (first count : ℕ) (front rest : List ℕ) → SpellsColourMap first count front →
+    length rest < count * 6 → server_message (front ++ rest) ≡ More
 colors_wait first count front rest s less =
-    server_waits (ColourMap first count) front rest s (rw (pieces_wait {F = ServerFault} count 6 color_of [] rest less) refl)
+    server_waits (ColourMap first count) front rest s
+    (rw (pieces_wait {F = ServerFault} count 6 color_of [] rest less) refl)
 
 -- ServerCutText with less text than its head tells
-pub server_text_waits : (text_length : ℕ) (front rest : List ℕ) → SpellsServerCutText text_length front → length rest < text_length → server_message (front ++ rest) ≡ More
-server_text_waits text_length front rest s less = server_waits (ServerText text_length) front rest s (rw (piece_short {F = ServerFault} text_length rest less) refl)
+pub server_text_waits : (text_length : ℕ) (front rest : List ℕ) →
+    SpellsServerCutText text_length front → length rest < text_length →
+    server_message (front ++ rest) ≡ More
+server_text_waits text_length front rest s less =
+    server_waits (ServerText text_length) front rest s
+    (rw (piece_short {F = ServerFault} text_length rest less) refl)
 
-pub server_type_faults : (first : ℕ) (rest : List ℕ) → BeginsNone SpellsServerHead first → server_message (first ∷ rest) ≡ Bad (UnknownServerType first)
-server_type_faults first rest none = server_message_reads.blames (UnknownServerType first) (first ∷ []) rest (refl, none)
+pub server_type_faults : (first : ℕ) (rest : List ℕ) → BeginsNone SpellsServerHead first →
+    server_message (first ∷ rest) ≡ Bad (UnknownServerType first)
+server_type_faults first rest none =
+    server_message_reads.blames (UnknownServerType first) (first ∷ []) rest (refl, none)
 
 -- the head of a rectangle with less than its twelve bytes
-pub rect_waits : (width height : ℕ) (bytes : List ℕ) → length bytes < 12 → rect_head width height bytes ≡ More
+pub rect_waits : (width height : ℕ) (bytes : List ℕ) → length bytes < 12 →
+    rect_head width height bytes ≡ More
 unfolding rect_head
 rect_waits width height bytes less = rw (piece_short 12 bytes less) refl

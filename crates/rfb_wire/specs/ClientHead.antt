@@ -1,5 +1,5 @@
--- The heads of the messages from client to server, RFC 6143 section 7.5, field by field as its tables
--- stand. A head is what comes before a list or a text that a message ends with.
+-- The heads of the messages from client to server, RFC 6143 section 7.5, field by field as its
+-- tables stand. A head is what comes before a list or a text that a message ends with.
 use Rattle.std.specs.Prelude.{◌≡◌, ℕ, Bool, List, ◌∷◌, ◌++◌, length, drop, Option, Some, None, if◌then◌else◌, ◌==◌}
 use Rattle.byteorder.specs.Endian.{big_bytes}
 use Rattle.rfb_picture.specs.declared.rect.Rect.{Rect}
@@ -56,7 +56,8 @@ SpellsClientHead (Key down key) bytes = SpellsKey down key bytes
 SpellsClientHead (Pointer buttons x y) bytes = SpellsPointer buttons x y bytes
 SpellsClientHead (CutText text_length) bytes = SpellsClientCutText text_length bytes
 
--- the bytes that a head is written as: of its spellings the one with padding of zeros and flags of 0 or 1
+-- the bytes that a head is written as: of its spellings the one with padding of
+-- zeros and flags of 0 or 1
 abbrev pub client_head_bytes : ClientHead → List ℕ
 client_head_bytes (SetPixelFormat format) = 0 ∷ 0 ∷ 0 ∷ 0 ∷ format
 client_head_bytes (SetEncodings count) = 2 ∷ 0 ∷ big_bytes 2 count

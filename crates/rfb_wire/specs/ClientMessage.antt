@@ -54,15 +54,19 @@ pub record SpellsTextMessage (text bytes : List ℕ) : Type 0 where
 abbrev pub SpellsClientMessage : ClientMessage → List ℕ → Type 0
 SpellsClientMessage (SetPixelFormat format) bytes = SpellsFormatMessage format bytes
 SpellsClientMessage (SetEncodings encodings) bytes = SpellsEncodingsMessage encodings bytes
-SpellsClientMessage (FramebufferUpdateRequest incremental rect) bytes = SpellsRequest incremental rect bytes
+SpellsClientMessage (FramebufferUpdateRequest incremental rect) bytes =
+    SpellsRequest incremental rect bytes
 SpellsClientMessage (KeyEvent down_flag key) bytes = SpellsKey down_flag key bytes
 SpellsClientMessage (PointerEvent button_mask x y) bytes = SpellsPointer button_mask x y bytes
 SpellsClientMessage (ClientCutText text) bytes = SpellsTextMessage text bytes
 
 -- the bytes end in this fault: a format is judged at its last byte, a type at its own
 abbrev pub FaultsClientMessage : ClientFault → List ℕ → Type 0
-FaultsClientMessage (BadFormat fault) bytes = (pixel_format : List ℕ) × SpellsSetPixelFormat pixel_format bytes × (first_fault pixel_format ≡ Some fault)
-FaultsClientMessage (UnknownType message_type) bytes = (bytes ≡ message_type ∷ []) × BeginsNone SpellsClientHead message_type
+FaultsClientMessage (BadFormat fault) bytes =
+    (pixel_format : List ℕ) × SpellsSetPixelFormat pixel_format bytes
+    × (first_fault pixel_format ≡ Some fault)
+FaultsClientMessage (UnknownType message_type) bytes =
+    (bytes ≡ message_type ∷ []) × BeginsNone SpellsClientHead message_type
 
 -- what the bytes of a client say, between two messages
 abbrev pub client_says : Says ClientMessage ClientFault

@@ -18,9 +18,17 @@ client_head_of bytes =
     let message_type = u8_at 0 bytes in
     if message_type == 0 then FormatHead (drop 4 bytes) else
     if message_type == 2 then EncodingsHead (u16_at 2 bytes) else
-    if message_type == 3 then Request (flag_at 1 bytes) (record { x = u16_at 2 bytes; y = u16_at 4 bytes; w = u16_at 6 bytes; h = u16_at 8 bytes }) else
+    if message_type == 3
+    then Request (flag_at 1 bytes)
+    (record {
+      x = u16_at 2 bytes;
+      y = u16_at 4 bytes;
+      w = u16_at 6 bytes;
+      h = u16_at 8 bytes;
+    }) else
     if message_type == 4 then Key (flag_at 1 bytes) (u32_at 4 bytes) else
-    if message_type == 5 then Pointer (u8_at 1 bytes) (u16_at 2 bytes) (u16_at 4 bytes) else CutText (u32_at 4 bytes)
+    if message_type == 5 then Pointer (u8_at 1 bytes) (u16_at 2 bytes) (u16_at 4 bytes)
+    else CutText (u32_at 4 bytes)
 
 -- the format that sixteen bytes are
 abbrev pub format_of : List ℕ → PixelFormat
@@ -40,8 +48,11 @@ format_fault (Some fault) = Some (BadFormat fault)
 
 -- what is read behind a head
 abbrev pub behind_head : ClientHead → Reading ClientMessage ClientFault
-behind_head (FormatHead bytes) = judged (format_fault (first_fault bytes)) (SetPixelFormat (format_of bytes))
-behind_head (EncodingsHead count) = and_then (many count (valued 4 (λ bytes. s32_at 0 bytes))) (λ numbers. done (SetEncodings numbers))
+behind_head (FormatHead bytes) =
+    judged (format_fault (first_fault bytes)) (SetPixelFormat (format_of bytes))
+behind_head (EncodingsHead count) =
+    and_then (many count (valued 4 (λ bytes. s32_at 0 bytes)))
+    (λ numbers. done (SetEncodings numbers))
 behind_head (Request incremental rect) = done (FramebufferUpdateRequest incremental rect)
 behind_head (Key down key) = done (KeyEvent down key)
 behind_head (Pointer buttons x y) = done (PointerEvent buttons x y)
@@ -49,8 +60,10 @@ behind_head (CutText text_length) = and_then (piece text_length) (λ text. done 
 
 -- a message
 unfoldable pub client_message : Reading ClientMessage ClientFault
-client_message = and_then (headed client_head_size (λ first. UnknownType first) client_head_of) behind_head
+client_message =
+    and_then (headed client_head_size (λ first. UnknownType first) client_head_of) behind_head
 
 -- the stream has one point, between two messages
 abbrev pub client_stream : Grammar ⊤ ClientMessage ClientFault
-client_stream = record { next = λ _. client_message; past = λ point _. point; size = client_message_size }
+client_stream =
+    record { next = λ _. client_message; past = λ point _. point; size = client_message_size }

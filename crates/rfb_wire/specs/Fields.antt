@@ -38,4 +38,5 @@ flag_byte flag = if flag then 1 else 0
 
 -- the bytes that a rectangle is written as
 abbrev pub rect_bytes : Rect → List ℕ
-rect_bytes rect = big_bytes 2 rect.x ++ big_bytes 2 rect.y ++ big_bytes 2 rect.w ++ big_bytes 2 rect.h
+rect_bytes rect =
+    big_bytes 2 rect.x ++ big_bytes 2 rect.y ++ big_bytes 2 rect.w ++ big_bytes 2 rect.h

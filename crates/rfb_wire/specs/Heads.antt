@@ -28,6 +28,7 @@ module _ {V : Type 0} where
 
   -- the fault is the first byte, with which no head begins; a message's head has no other
   abbrev pub IsUnknown : (V → List ℕ → Type 0) → WireFault → List ℕ → Type 0
-  IsUnknown Spells (UnknownMessage first) bytes = (rest : List ℕ) × (bytes ≡ first ∷ rest) × BeginsNone Spells first
+  IsUnknown Spells (UnknownMessage first) bytes =
+      (rest : List ℕ) × (bytes ≡ first ∷ rest) × BeginsNone Spells first
   IsUnknown Spells (UnknownEncoding number) bytes = ⊥
   IsUnknown Spells RectOutside bytes = ⊥

@@ -1,5 +1,5 @@
--- The pieces of messages, RFC 6143 sections 7.5 and 7.6, whose bytes are pending until their last is there:
--- the head with its type byte, and behind it each number of SetEncodings, each color of
+-- The pieces of messages, RFC 6143 sections 7.5 and 7.6, whose bytes are pending until their last
+-- is there: the head with its type byte, and behind it each number of SetEncodings, each color of
 -- SetColorMapEntries and each byte of a text.
 use Rattle.std.specs.Prelude.{ℕ, ◌==◌, List, if◌then◌else◌}
 use Rattle.rfb_wire.specs.stream.Pending.{behind_piece, message_pending}
@@ -14,7 +14,8 @@ client_piece_size message_type = if message_type == 2 then 4 else 1
 abbrev pub client_pending : List ℕ → ℕ
 client_pending bytes = message_pending client_head_size client_piece_size bytes
 
--- behind a server's head: colors of SetColorMapEntries, or bytes of a text; other messages are all head
+-- behind a server's head: colors of SetColorMapEntries, or bytes of a text;
+-- other messages are all head
 abbrev pub server_piece_size : ℕ → ℕ
 server_piece_size message_type = if message_type == 1 then 6 else 1
 
@@ -22,6 +23,7 @@ server_piece_size message_type = if message_type == 1 then 6 else 1
 abbrev pub server_pending : List ℕ → ℕ
 server_pending bytes = message_pending server_head_size server_piece_size bytes
 
--- how many bytes of a rectangle are pending: its head is a piece, and its data have pieces of their own
+-- how many bytes of a rectangle are pending: its head is a piece, and its data
+-- have pieces of their own
 abbrev pub rect_pending : (List ℕ → ℕ) → List ℕ → ℕ
 rect_pending data_pending bytes = behind_piece 12 data_pending bytes

@@ -9,7 +9,8 @@ use Rattle.rfb_wire.specs.declared.rect_head.RectHead.{RectHead}
 use Rattle.rfb_wire.specs.Fields.{s32_at, IsRectAt, rect_bytes}
 use Rattle.rfb_wire.specs.Encoding.{number_of, IsNoEncoding}
 
--- the bytes are this head on the wire: x-position, y-position, width and height, and S32 encoding-type
+-- the bytes are this head on the wire: x-position, y-position, width and
+-- height, and S32 encoding-type
 pub record SpellsRectHead (head : RectHead) (bytes : List ℕ) : Type 0 where
   pub size : length bytes ≡ 12
   pub rect_is : IsRectAt 0 head.rect bytes
@@ -28,9 +29,11 @@ pub record BeginsOutside (width height : ℕ) (bytes : List ℕ) : Type 0 where
 -- the fault of a rectangle's head, once its 12 bytes are there
 abbrev pub IsRectFault : ℕ → ℕ → WireFault → List ℕ → Type 0
 IsRectFault width height (UnknownMessage first) bytes = ⊥
-IsRectFault width height (UnknownEncoding number) bytes = (12 ≤ length bytes) × (s32_at 8 bytes ≡ number) × IsNoEncoding number
+IsRectFault width height (UnknownEncoding number) bytes =
+    (12 ≤ length bytes) × (s32_at 8 bytes ≡ number) × IsNoEncoding number
 IsRectFault width height RectOutside bytes = BeginsOutside width height bytes
 
 -- the bytes that a head is written as
 abbrev pub rect_head_bytes : RectHead → List ℕ
-rect_head_bytes head = rect_bytes head.rect ++ big_bytes 4 (cast_unsigned w32 (number_of head.encoding))
+rect_head_bytes head =
+    rect_bytes head.rect ++ big_bytes 4 (cast_unsigned w32 (number_of head.encoding))

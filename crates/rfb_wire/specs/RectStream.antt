@@ -1,5 +1,5 @@
--- The head of a rectangle in a stream, RFC 6143 section 7.6.1: what bytes begin with where one stands
--- next, on a screen of that size.
+-- The head of a rectangle in a stream, RFC 6143 section 7.6.1: what bytes begin with where one
+-- stands next, on a screen of that size.
 use Rattle.std.specs.Prelude.{◌≡◌, ℕ, zero, suc, ℤ, pos, negsuc, ◌+◌, ◌&&◌, Bool, List, length, Option, Some, None, nat_le, if◌then◌else◌}
 use Rattle.rfb_picture.specs.declared.rect.Rect.{Rect}
 use Rattle.rfb_wire.specs.declared.encoding.Encoding.{Encoding}
@@ -36,7 +36,8 @@ encoding_of (negsuc n) = None
 
 -- the rectangle that bytes begin with
 abbrev pub rect_of : List ℕ → Rect
-rect_of bytes = record { x = u16_at 0 bytes; y = u16_at 2 bytes; w = u16_at 4 bytes; h = u16_at 6 bytes }
+rect_of bytes =
+    record { x = u16_at 0 bytes; y = u16_at 2 bytes; w = u16_at 4 bytes; h = u16_at 6 bytes }
 
 -- no edge of the rectangle passes the screen's
 abbrev pub is_on_screen : ℕ → ℕ → Rect → Bool
@@ -58,8 +59,12 @@ or_raw (Some encoding) = encoding
 
 -- the head that twelve bytes are
 abbrev pub rect_head_of : List ℕ → RectHead
-rect_head_of bytes = record { rect = rect_of bytes; encoding = or_raw (encoding_of (s32_at 8 bytes)) }
+rect_head_of bytes =
+    record { rect = rect_of bytes; encoding = or_raw (encoding_of (s32_at 8 bytes)) }
 
 -- a head
 unfoldable pub rect_head : ℕ → ℕ → Reading RectHead WireFault
-rect_head width height = checked 12 (λ bytes. head_fault width height (s32_at 8 bytes) (encoding_of (s32_at 8 bytes)) (rect_of bytes)) rect_head_of
+rect_head width height =
+    checked 12 (λ bytes.
+    head_fault width height (s32_at 8 bytes) (encoding_of (s32_at 8 bytes)) (rect_of bytes))
+    rect_head_of

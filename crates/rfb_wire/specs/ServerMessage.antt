@@ -1,4 +1,5 @@
--- The messages from server to client, RFC 6143 section 7.6, whole but for the rectangles of an update.
+-- The messages from server to client, RFC 6143 section 7.6, whole but for the
+-- rectangles of an update.
 use Rattle.std.specs.Prelude.{◌≡◌, ℕ, ◌+◌, ◌*◌, ◌==◌, List, [], ◌∷◌, ◌++◌, length, if◌then◌else◌}
 use Rattle.rfb_wire.specs.declared.server_head.ServerHead.{ServerHead}
 use Rattle.rfb_wire.specs.declared.server_head.ServerHead.TheVariants.{Update, ColourMap, Bell as BellHead, CutText}
@@ -14,8 +15,8 @@ pub record Color : Type 0 where
   pub green : ℕ
   pub blue : ℕ
 
--- a message: an update and how many rectangles follow, a colour map from its first color on, a bell,
--- or a text
+-- a message: an update and how many rectangles follow, a colour map from its first
+-- color on, a bell, or a text
 pub data ServerMessage : Type 0 where
   FramebufferUpdate : (rectangles : ℕ) → ServerMessage
   SetColorMapEntries : (first : ℕ) → (colors : List Color) → ServerMessage
@@ -56,7 +57,8 @@ SpellsServerMessage (ServerCutText text) bytes = SpellsServerTextMessage text by
 
 -- the bytes end in this fault: a type is judged at its byte
 abbrev pub FaultsServerMessage : ServerFault → List ℕ → Type 0
-FaultsServerMessage (UnknownType message_type) bytes = (bytes ≡ message_type ∷ []) × BeginsNone SpellsServerHead message_type
+FaultsServerMessage (UnknownType message_type) bytes =
+    (bytes ≡ message_type ∷ []) × BeginsNone SpellsServerHead message_type
 
 -- what the bytes of a server say, between two messages
 abbrev pub server_says : Says ServerMessage ServerFault
@@ -84,10 +86,12 @@ color_of bytes = record { red = u16_at 0 bytes; green = u16_at 2 bytes; blue = u
 -- what is read behind a head
 abbrev pub behind_head : ServerHead → Reading ServerMessage ServerFault
 behind_head (Update count) = done (FramebufferUpdate count)
-behind_head (ColourMap first count) = and_then (many count (valued 6 color_of)) (λ colors. done (SetColorMapEntries first colors))
+behind_head (ColourMap first count) =
+    and_then (many count (valued 6 color_of)) (λ colors. done (SetColorMapEntries first colors))
 behind_head BellHead = done Bell
 behind_head (CutText text_length) = and_then (piece text_length) (λ text. done (ServerCutText text))
 
 -- a message, or the head of an update
 unfoldable pub server_message : Reading ServerMessage ServerFault
-server_message = and_then (headed server_head_size (λ first. UnknownType first) server_head_of) behind_head
+server_message =
+    and_then (headed server_head_size (λ first. UnknownType first) server_head_of) behind_head

@@ -1,5 +1,6 @@
--- Streams of bytes, whatever their items are: what bytes begin with, the grammar of a stream, an end that
--- is fed one in slices, and two grammars one behind the other. Nothing here knows a message.
+-- Streams of bytes, whatever their items are: what bytes begin with, the grammar of a
+-- stream, an end that is fed one in slices, and two grammars one behind the other.
+-- Nothing here knows a message.
 pub mod Reading
 pub mod Parts
 pub mod Heads

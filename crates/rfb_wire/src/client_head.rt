@@ -1,6 +1,7 @@
 //! The heads of the messages from client to server, RFC 6143 section 7.5.
 
-ghost use Rattle.std.specs.Prelude.{◌≡◌, ℕ, ◌<◌, ◌≤◌, List, [], ◌∷◌, ◌++◌, length, take, slice_index, Some};
+ghost use Rattle.std.specs.Prelude.{◌≡◌, ℕ, ◌<◌, ◌≤◌, List, [], ◌∷◌, ◌++◌, length, take};
+ghost use Rattle.std.specs.Prelude.{slice_index, Some};
 ghost use Rattle.rfb_wire.specs.stream.Heads.{BeginsNone, Misses};
 ghost use Rattle.rfb_wire.specs.Heads.{IfMore, IfGot, IfBad, IsUnknown};
 ghost use Rattle.rfb_wire.specs.ClientHead.{SpellsClientHead, client_head_bytes, client_head_size};
@@ -36,7 +37,8 @@ pub enum ClientHead {
     Request { incremental: bool, rect: Rect },
     /// KeyEvent, section 7.5.4: a keysym that was pressed or released.
     Key { down: bool, key: u32 },
-    /// PointerEvent, section 7.5.5: the buttons that are down, a bit each, and where the pointer is.
+    /// PointerEvent, section 7.5.5: the buttons that are down, a bit each,
+    /// and where the pointer is.
     Pointer { buttons: u8, x: u16, y: u16 },
     /// ClientCutText, section 7.5.6: how many bytes of text follow.
     CutText(u32),
@@ -47,8 +49,8 @@ impl ClientHead {
     ghost use Rattle.rfb_wire.specs.declared.fault.WireFault.TheVariants.{UnknownMessage};
     ghost use Rattle.rfb_wire.specs.declared.read.Read.TheVariants.{More, Got, Bad};
 
-    /// The head that the bytes begin with. A type that no client message has is told at its byte; no
-    /// other byte is ever wrong. Flags are true where they are not zero, padding is ignored.
+    /// The head that the bytes begin with. A type that no client message has is told at its byte;
+    /// no other byte is ever wrong. Flags are true where they are not zero, padding is ignored.
     pub fn read(bytes: &[u8]) -> Read<ClientHead>
         // What it tells is so.
         ensures got { IfGot result (λ head used. (used ≤ length bytes.now) ×
@@ -56,8 +58,8 @@ impl ClientHead {
         ensures more { IfMore result (λ n. Misses SpellsClientHead n bytes.now) }
         ensures bad { IfBad result (λ fault. IsUnknown SpellsClientHead fault bytes.now) }
 
-        // And it is told wherever it is so: of bytes that begin with a head, of none, of a front of a
-        // head, and of a type byte that no head has.
+        // And it is told wherever it is so: of bytes that begin with a head, of none, of a front of
+        // a head, and of a type byte that no head has.
         ensures head { (head : ClientHead) (front rest : List ℕ) → bytes.now ≡ front ++ rest →
             SpellsClientHead head front → result ≡ Got head (length front) }
         ensures empty { bytes.now ≡ [] → result ≡ More 1 }
@@ -110,8 +112,8 @@ impl ClientHead {
         }
     }
 
-    /// The bytes of this head, with padding of zeros and flags of 1 or 0. `read` gives the head back,
-    /// whatever follows them.
+    /// The bytes of this head, with padding of zeros and flags of 1 or 0. `read` gives the head
+    /// back, whatever follows them.
     pub fn spell(&self) -> ArrayVec<u8, 20>
         ensures spells { SpellsClientHead self.now result.items }
         ensures value { result.items ≡ client_head_bytes self.now }
@@ -158,8 +160,8 @@ impl ClientHead {
             (other ≡ head) × (rest ≡ []) }
     {}
 
-    /// A law about `SpellsClientHead`, with nothing to run: a head has as many bytes as its type byte asks
-    /// for, and as many bytes as their first asks for are always a head.
+    /// A law about `SpellsClientHead`, with nothing to run: a head has as many bytes as its type
+    /// byte asks for, and as many bytes as their first asks for are always a head.
     pub fn type_tells_the_size()
         ensures size { (head : ClientHead) (bytes : List ℕ) →
             SpellsClientHead head bytes →

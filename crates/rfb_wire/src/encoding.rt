@@ -3,8 +3,8 @@
 ghost use Rattle.std.specs.Prelude.{◌≡◌, MatchOption};
 ghost use Rattle.rfb_wire.specs.Encoding.{number_of, IsNoEncoding};
 
-/// An encoding of this project's, of those that RFC 6143 has. The default is Raw, which every viewer
-/// has to take.
+/// An encoding of this project's, of those that RFC 6143 has. The default is Raw, which
+/// every viewer has to take.
 #[derive(Clone, Copy, Debug, Default, PartialEq, Eq)]
 pub enum Encoding {
     /// Pixels row by row, section 7.7.1.

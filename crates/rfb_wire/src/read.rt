@@ -2,7 +2,8 @@
 
 use crate::fault::WireFault;
 
-/// The answer of a reading. What it says of a front of the bytes, more bytes behind it do not change.
+/// The answer of a reading. What it says of a front of the bytes, more bytes
+/// behind it do not change.
 #[derive(Clone, Copy, Debug, PartialEq, Eq)]
 pub enum Read<T> {
     /// The bytes are a front of a head, of which so many bytes are missing, one at least. For a

@@ -1,6 +1,7 @@
 //! The head of a rectangle of an update, RFC 6143 section 7.6.1.
 
-ghost use Rattle.std.specs.Prelude.{◌≡◌, ℕ, ◌+◌, ◌<◌, ◌≤◌, ◌↔◌, List, [], ◌++◌, length, take, IsTrue};
+ghost use Rattle.std.specs.Prelude.{◌≡◌, ℕ, ◌+◌, ◌<◌, ◌≤◌, ◌↔◌, List, [], ◌++◌, length, take};
+ghost use Rattle.std.specs.Prelude.{IsTrue};
 ghost use Rattle.rfb_wire.specs.Heads.{IfMore, IfGot, IfBad};
 ghost use Rattle.rfb_wire.specs.Encoding.{IsNoEncoding};
 ghost use Rattle.rfb_wire.specs.Fields.{s32_at};
@@ -26,7 +27,8 @@ pub struct RectHead {
 
 impl RectHead {
     ghost use Rattle.rfb_wire.specs.declared.rect_head.RectHead.{RectHead};
-    ghost use Rattle.rfb_wire.specs.declared.fault.WireFault.TheVariants.{UnknownEncoding, RectOutside};
+    ghost use Rattle.rfb_wire.specs.declared.fault.WireFault.TheVariants.{UnknownEncoding};
+    ghost use Rattle.rfb_wire.specs.declared.fault.WireFault.TheVariants.{RectOutside};
     ghost use Rattle.rfb_wire.specs.declared.read.Read.TheVariants.{More, Got, Bad};
 
     /// The head that the bytes begin with, of a rectangle on a screen of `width` by `height`. It is
@@ -76,8 +78,8 @@ impl RectHead {
         bytes
     }
 
-    /// A law about `SpellsRectHead`, with nothing to run: bytes spell one head at most, and no head's
-    /// bytes go on as another's.
+    /// A law about `SpellsRectHead`, with nothing to run: bytes spell one head at most, and no
+    /// head's bytes go on as another's.
     pub fn spellings_are_apart()
         ensures { (head other : RectHead) (front rest : List ℕ) →
             SpellsRectHead head front → SpellsRectHead other (front ++ rest) →

@@ -1,6 +1,7 @@
 //! The heads of the messages from server to client, RFC 6143 section 7.6.
 
-ghost use Rattle.std.specs.Prelude.{◌≡◌, ℕ, ◌<◌, ◌≤◌, List, [], ◌∷◌, ◌++◌, length, take, slice_index, Some};
+ghost use Rattle.std.specs.Prelude.{◌≡◌, ℕ, ◌<◌, ◌≤◌, List, [], ◌∷◌, ◌++◌, length, take};
+ghost use Rattle.std.specs.Prelude.{slice_index, Some};
 ghost use Rattle.rfb_wire.specs.stream.Heads.{BeginsNone, Misses};
 ghost use Rattle.rfb_wire.specs.Heads.{IfMore, IfGot, IfBad, IsUnknown};
 ghost use Rattle.rfb_wire.specs.ServerHead.{SpellsServerHead, server_head_bytes, server_head_size};
@@ -39,8 +40,8 @@ impl ServerHead {
     ghost use Rattle.rfb_wire.specs.declared.fault.WireFault.TheVariants.{UnknownMessage};
     ghost use Rattle.rfb_wire.specs.declared.read.Read.TheVariants.{More, Got, Bad};
 
-    /// The head that the bytes begin with. A type that no server message has is told at its byte; no
-    /// other byte is ever wrong. Padding is ignored.
+    /// The head that the bytes begin with. A type that no server message has is told at its byte;
+    /// no other byte is ever wrong. Padding is ignored.
     pub fn read(bytes: &[u8]) -> Read<ServerHead>
         // What it tells is so.
         ensures got { IfGot result (λ head used. (used ≤ length bytes.now) ×
@@ -48,8 +49,8 @@ impl ServerHead {
         ensures more { IfMore result (λ n. Misses SpellsServerHead n bytes.now) }
         ensures bad { IfBad result (λ fault. IsUnknown SpellsServerHead fault bytes.now) }
 
-        // And it is told wherever it is so: of bytes that begin with a head, of none, of a front of a
-        // head, and of a type byte that no head has.
+        // And it is told wherever it is so: of bytes that begin with a head, of none, of a front of
+        // a head, and of a type byte that no head has.
         ensures head { (head : ServerHead) (front rest : List ℕ) → bytes.now ≡ front ++ rest →
             SpellsServerHead head front → result ≡ Got head (length front) }
         ensures empty { bytes.now ≡ [] → result ≡ More 1 }
@@ -123,8 +124,8 @@ impl ServerHead {
             (other ≡ head) × (rest ≡ []) }
     {}
 
-    /// A law about `SpellsServerHead`, with nothing to run: a head has as many bytes as its type byte asks
-    /// for, and as many bytes as their first asks for are always a head.
+    /// A law about `SpellsServerHead`, with nothing to run: a head has as many bytes as its type
+    /// byte asks for, and as many bytes as their first asks for are always a head.
     pub fn type_tells_the_size()
         ensures size { (head : ServerHead) (bytes : List ℕ) →
             SpellsServerHead head bytes →

@@ -98,8 +98,8 @@ fn assert_bounds<R: Abort>(rt: &R, area: &Area, plain: &Plain, numbers: &mut Num
     }
 }
 
-// Under cells that became whole, and under those of a set that was cleared, marks of earlier additions
-// stay behind.
+// Under cells that became whole, and under those of a set that was cleared, marks of
+// earlier additions stay behind.
 #[test]
 fn marks_of_earlier_additions_never_show(rt: HostRuntime) -> Result<(), Fail> {
     let mut numbers = Numbers { state: 11 };

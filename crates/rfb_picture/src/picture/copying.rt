@@ -1,7 +1,7 @@
 //! Copies of rows within one list of places, which may lie over one another.
 
-ghost use Rattle.std.specs.Prelude.{◌≡◌, ℕ, ◌+◌, ◌-◌, ◌*◌, ◌<◌, ◌≤◌, ◌&&◌, nat_le, nat_lt, length, slice_index_or, if◌then◌else◌};
-ghost use Rattle.rfb_picture.specs.Rect.{contains};
+ghost use Rattle.std.specs.Prelude.{◌+◌, ◌*◌, ◌≤◌, length};
+ghost use Rattle.rfb_picture.specs.Runs.{RowsCopied, RunCopied};
 
 use crate::rect::Rect;
 
@@ -13,11 +13,12 @@ pub(super) fn copy_rows<T: Copy>(places: &mut [T], width: usize, dst: Rect, sx: 
     requires rows { (dst.y + dst.h) * width ≤ length places.old }
     requires source_columns { sx + dst.w ≤ width }
     requires source_rows { (sy + dst.h) * width ≤ length places.old }
-    ensures { (x y : ℕ) (d : T) → x < width → slice_index_or places.new (y * width + x) d ≡ (if contains dst x y then slice_index_or places.old ((sy + (y - dst.y)) * width + (sx + (x - dst.x))) d else slice_index_or places.old (y * width + x) d) }
+    ensures { RowsCopied width dst sx sy places.old places.new }
 {
     let rows = usize::from(dst.h);
     for done in 0..rows {
-        // Downwards where the source lies no higher, else upwards: so a row is read before it is written.
+        // Downwards where the source lies no higher, else upwards: so a row is read before it is
+        // written.
         let row = if dst.y <= sy { done } else { rows - 1 - done };
         prove!(row < rows);
         let from = (usize::from(sy) + row) * width + usize::from(sx);
@@ -30,7 +31,7 @@ pub(super) fn copy_rows<T: Copy>(places: &mut [T], width: usize, dst: Rect, sx: 
 fn copy_places<T: Copy>(places: &mut [T], from: usize, to: usize, count: usize)
     requires source { from + count ≤ length places.old }
     requires target { to + count ≤ length places.old }
-    ensures { (i : ℕ) (d : T) → slice_index_or places.new i d ≡ (if nat_le to i && nat_lt i (to + count) then slice_index_or places.old (from + (i - to)) d else slice_index_or places.old i d) }
+    ensures { RunCopied from to count places.old places.new }
 {
     // Where they lie apart they are moved as whole pieces of memory, else one after the other.
     if from + count <= to {

@@ -51,8 +51,8 @@ fn copies_as_from_a_second_picture(rt: HostRuntime) -> Result<(), Fail> {
     Ok(())
 }
 
-// Whether `copy` leaves at each place what a second picture, which nothing was written to, has there
-// or at its source.
+// Whether `copy` leaves at each place what a second picture, which nothing was written to,
+// has there or at its source.
 fn is_copied(alloc: Global, dst: Rect, sx: u16, sy: u16) -> Result<bool, AllocError>
     requires target { (dst.x + dst.w ≤ 4) × (dst.y + dst.h ≤ 4) }
     requires source { (sx + dst.w ≤ 4) × (sy + dst.h ≤ 4) }

@@ -11,7 +11,8 @@ use crate::edges::{Edges, joined};
 use crate::rect::Rect;
 
 impl Layers {
-    /// The edges of the set's places in the zone, which lies in the picture; `None` where it has none.
+    /// The edges of the set's places in the zone, which lies in the picture;
+    /// `None` where it has none.
     pub(super) fn edges_in(&self, zone: Rect) -> Option<Edges>
         requires sound { IsLayers self.now }
         requires room { Holds self.now.places zone }

@@ -1,7 +1,8 @@
 //! Rectangles by cells: which a rectangle has whole, what lies about them, which it touches.
 
 ghost use Rattle.std.specs.Prelude.{◌≡◌, ◌↔◌, IsTrue, ℕ, ◌+◌, ◌*◌, ◌/◌, ◌<◌, ◌≤◌};
-ghost use Rattle.rfb_picture.specs.Cells.{in_span, is_whole, touched, in_column, in_row, IsOfCells, IsParts};
+ghost use Rattle.rfb_picture.specs.Cells.{in_span, is_whole, touched, in_column, in_row};
+ghost use Rattle.rfb_picture.specs.Cells.{IsOfCells, IsParts};
 
 use crate::rect::Rect;
 
@@ -15,8 +16,8 @@ pub(super) struct Parts {
     pub right: Rect,
 }
 
-/// The parts of the rectangle in a set of `width` by `height` places. The cells at the set's right and
-/// lower edge may be smaller than others.
+/// The parts of the rectangle in a set of `width` by `height` places. The cells at the set's right
+/// and lower edge may be smaller than others.
 pub(super) fn parts_of(rect: Rect, width: u16, height: u16) -> Parts
     requires columns { rect.x + rect.w ≤ width }
     requires rows { rect.y + rect.h ≤ height }
@@ -63,11 +64,13 @@ struct Span {
     count: u16,
 }
 
-// Of `count` places from `from` on, in a row of `size`, those whose cell has all its places among them.
+// Of `count` places from `from` on, in a row of `size`, those whose cell has
+// all its places among them.
 fn span_within(from: u16, count: u16, size: u16) -> Span
     requires { from + count ≤ size }
     ensures within { (from ≤ result.first) × (result.first + result.count ≤ from + count) }
-    ensures whole { (x : ℕ) → x < size → in_span result.first result.count x ≡ is_whole from (from + count) size (x / 64) }
+    ensures whole { (x : ℕ) → x < size →
+        in_span result.first result.count x ≡ is_whole from (from + count) size (x / 64) }
     ensures cells { IsOfCells result.first result.count size }
 {
     let to = from + count;

@@ -9,7 +9,8 @@ use super::parts::{in_column, in_row};
 use crate::rect::Rect;
 
 impl Layers {
-    /// Takes away the places of `other`, a set of the same size, in the cells that it has not whole.
+    /// Takes away the places of `other`, a set of the same size, in the
+    /// cells that it has not whole.
     pub(super) fn take_parts(&mut self, other: &Layers)
         requires sound { IsLayers self.old }
         requires sound_other { IsLayers other.now }

@@ -1,5 +1,5 @@
--- What an end of a stream of two grammars takes, refuses and wants memory for, from what the ends of its
--- parts do.
+-- What an end of a stream of two grammars takes, refuses and wants memory for, from what
+-- the ends of its parts do.
 use Rattle.std.proofs.Common.{◌≡◌, ℕ, List, [], ◌∷◌, ◌++◌, inl, inr, Option, Some, None, map, refl, sym, subst, ◌∙◌, ap}
 use Rattle.std.specs.Prelude.{IsTrue}
 use Rattle.std.specs.Option.{IfSome}
@@ -12,7 +12,8 @@ use Rattle.rfb_wire.specs.stream.Both.{event_as, first_point, end_at, DoesAs, Co
 use Rattle.rfb_wire.proofs.stream_laws.EndLaws.{quiet_first}
 
 -- nothing is left over behind an event of the whole, since it is one of the part
-whole_as : {D E : Type 0} (event : D → Option E) (told : Option D) (rest : List ℕ) → IfSome told (λ _. rest ≡ []) → IfSome (event_as event told) (λ _. rest ≡ [])
+whole_as : {D E : Type 0} (event : D → Option E) (told : Option D) (rest : List ℕ) →
+    IfSome told (λ _. rest ≡ []) → IfSome (event_as event told) (λ _. rest ≡ [])
 whole_as event None rest whole = tt
 whole_as {E = E} event (Some d) rest whole = some (event d)
   where
@@ -23,145 +24,273 @@ whole_as {E = E} event (Some d) rest whole = some (event d)
 module _ {S R K H E A P I F D : Type 0} where
   -- ---- items of the other, as the end's own
 
-  pub items_read : (m : Machine S R K H E) (a : Machine A P I F D) (shows : S → Option A) (item : I → K) (fault : F → H) (event : D → Option E) → IsMachine m → IsMachine a → DoesAs m a shows item fault event → (s : S) (u : A) (bytes : List ℕ) (items : List I) (rest : List ℕ) (told : Option D) → shows s ≡ Some u → EndsWith a u items told → ReadsAll a.grammar (a.point u) bytes items rest → ReadsAll m.grammar (m.point s) bytes (map item items) rest
-  items_read m a shows item fault event is other does s u bytes [] rest told shown ends reads = reads
-  items_read m a shows item fault event is other does s u bytes (i ∷ []) rest told shown ends reads =
-      (reads.0, does.reads s u bytes shown ∙ ap (λ (n : Next I F). named item fault n) reads.1, reads.2)
-  items_read m a shows item fault event is other does s u bytes (i ∷ j ∷ items) rest told shown ends reads =
-      let behind : ReadsAll a.grammar (a.point (a.act u i)) reads.0 (j ∷ items) rest = subst (λ (p : P). ReadsAll a.grammar p reads.0 (j ∷ items) rest) (sym (other.past u i)) reads.2 in
-      let more = items_read m a shows item fault event is other does (m.act s (item i)) (a.act u i) reads.0 (j ∷ items) rest told (does.goes_on s u i shown ends.0) ends.1 behind in
-      (reads.0, does.reads s u bytes shown ∙ ap (λ (n : Next I F). named item fault n) reads.1, subst (λ (p : R). ReadsAll m.grammar p reads.0 (map item (j ∷ items)) rest) (is.past s (item i)) more)
+  pub items_read : (m : Machine S R K H E) (a : Machine A P I F D) (shows : S → Option A)
+      (item : I → K) (fault : F → H) (event : D → Option E) → IsMachine m → IsMachine a →
+      DoesAs m a shows item fault event →
+      (s : S) (u : A) (bytes : List ℕ) (items : List I) (rest : List ℕ) (told : Option D) →
+      shows s ≡ Some u → EndsWith a u items told →
+      ReadsAll a.grammar (a.point u) bytes items rest →
+      ReadsAll m.grammar (m.point s) bytes (map item items) rest
+  items_read m a shows item fault event is other does s u bytes [] rest told shown ends reads =
+      reads
+  items_read m a shows item fault event is other does s u bytes (i ∷ []) rest told shown ends
+      reads = (
+        reads.0,
+        does.reads s u bytes shown ∙ ap (λ (n : Next I F). named item fault n) reads.1,
+        reads.2,
+      )
+  items_read m a shows item fault event is other does s u bytes (i ∷ j ∷ items) rest told shown ends
+      reads =
+      let behind : ReadsAll a.grammar (a.point (a.act u i)) reads.0 (j ∷ items) rest =
+      subst (λ (p : P). ReadsAll a.grammar p reads.0 (j ∷ items) rest) (sym (other.past u i))
+      reads.2 in
+      let more = items_read m a shows item fault event is other does (m.act s (item i)) (a.act u i)
+      reads.0 (j ∷ items) rest told (does.goes_on s u i shown ends.0) ends.1 behind in (
+        reads.0,
+        does.reads s u bytes shown ∙ ap (λ (n : Next I F). named item fault n) reads.1,
+        subst (λ (p : R). ReadsAll m.grammar p reads.0 (map item (j ∷ items)) rest)
+            (is.past s (item i)) more,
+      )
 
-  pub items_end : (m : Machine S R K H E) (a : Machine A P I F D) (shows : S → Option A) (item : I → K) (fault : F → H) (event : D → Option E) → DoesAs m a shows item fault event → (s : S) (u : A) (items : List I) (told : Option D) → shows s ≡ Some u → EndsWith a u items told → EndsWith m s (map item items) (event_as event told)
-  items_end m a shows item fault event does s u [] told shown ends = ap (λ (e : Option D). event_as event e) ends
-  items_end m a shows item fault event does s u (i ∷ []) told shown ends = does.tells s u i shown ∙ ap (λ (e : Option D). event_as event e) ends
+  pub items_end : (m : Machine S R K H E) (a : Machine A P I F D) (shows : S → Option A)
+      (item : I → K) (fault : F → H) (event : D → Option E) → DoesAs m a shows item fault event →
+      (s : S) (u : A) (items : List I) (told : Option D) → shows s ≡ Some u →
+      EndsWith a u items told → EndsWith m s (map item items) (event_as event told)
+  items_end m a shows item fault event does s u [] told shown ends =
+      ap (λ (e : Option D). event_as event e) ends
+  items_end m a shows item fault event does s u (i ∷ []) told shown ends =
+      does.tells s u i shown ∙ ap (λ (e : Option D). event_as event e) ends
   items_end m a shows item fault event does s u (i ∷ j ∷ items) told shown ends = (
     does.tells s u i shown ∙ ap (λ (e : Option D). event_as event e) ends.0,
-    items_end m a shows item fault event does (m.act s (item i)) (a.act u i) (j ∷ items) told (does.goes_on s u i shown ends.0) ends.1,
+    items_end m a shows item fault event does (m.act s (item i)) (a.act u i) (j ∷ items) told
+        (does.goes_on s u i shown ends.0) ends.1,
   )
 
   -- where items without an event leave the end
-  pub items_quiet : (m : Machine S R K H E) (a : Machine A P I F D) (shows : S → Option A) (item : I → K) (fault : F → H) (event : D → Option E) → DoesAs m a shows item fault event → (s : S) (u : A) (items : List I) → shows s ≡ Some u → EndsWith a u items None → shows (acts m s (map item items)) ≡ Some (acts a u items)
+  pub items_quiet : (m : Machine S R K H E) (a : Machine A P I F D) (shows : S → Option A)
+      (item : I → K) (fault : F → H) (event : D → Option E) → DoesAs m a shows item fault event →
+      (s : S) (u : A) (items : List I) → shows s ≡ Some u → EndsWith a u items None →
+      shows (acts m s (map item items)) ≡ Some (acts a u items)
   items_quiet m a shows item fault event does s u [] shown ends = shown
   items_quiet m a shows item fault event does s u (i ∷ items) shown ends =
       let first = quiet_first a u i items ends in
-      items_quiet m a shows item fault event does (m.act s (item i)) (a.act u i) items (does.goes_on s u i shown first.0) first.1
+      items_quiet m a shows item fault event does (m.act s (item i)) (a.act u i) items
+      (does.goes_on s u i shown first.0) first.1
 
   -- and where items leave it
-  pub items_come : (m : Machine S R K H E) (a : Machine A P I F D) (shows : S → Option A) (item : I → K) (fault : F → H) (event : D → Option E) → DoesAs m a shows item fault event → (s : S) (u : A) (items : List I) (told : Option D) → shows s ≡ Some u → EndsWith a u items told → ComesTo m a shows item told (acts m s (map item items)) (acts a u items)
-  items_come m a shows item fault event does s u items None shown ends = items_quiet m a shows item fault event does s u items shown ends
+  pub items_come : (m : Machine S R K H E) (a : Machine A P I F D) (shows : S → Option A)
+      (item : I → K) (fault : F → H) (event : D → Option E) → DoesAs m a shows item fault event →
+      (s : S) (u : A) (items : List I) (told : Option D) → shows s ≡ Some u →
+      EndsWith a u items told →
+      ComesTo m a shows item told (acts m s (map item items)) (acts a u items)
+  items_come m a shows item fault event does s u items None shown ends =
+      items_quiet m a shows item fault event does s u items shown ends
   items_come m a shows item fault event does s u [] (Some d) shown ends = absurd cc
-  items_come m a shows item fault event does s u (i ∷ []) (Some d) shown ends = (s, u, i, shown, ends, refl, refl)
+  items_come m a shows item fault event does s u (i ∷ []) (Some d) shown ends =
+      (s, u, i, shown, ends, refl, refl)
   items_come m a shows item fault event does s u (i ∷ j ∷ items) (Some d) shown ends =
-      items_come m a shows item fault event does (m.act s (item i)) (a.act u i) (j ∷ items) (Some d) (does.goes_on s u i shown ends.0) ends.1
+      items_come m a shows item fault event does (m.act s (item i)) (a.act u i) (j ∷ items) (Some d)
+      (does.goes_on s u i shown ends.0) ends.1
 
   -- ---- calls of the other, as the end's own
 
   -- what waits for the other waits for the end
-  pub waits_as : (m : Machine S R K H E) (a : Machine A P I F D) (shows : S → Option A) (item : I → K) (fault : F → H) (event : D → Option E) → DoesAs m a shows item fault event → (s : S) (u : A) (rest : List ℕ) → shows s ≡ Some u → a.grammar.next (a.point u) rest ≡ More → m.grammar.next (m.point s) rest ≡ More
-  waits_as m a shows item fault event does s u rest shown more = does.reads s u rest shown ∙ ap (λ (n : Next I F). named item fault n) more
+  pub waits_as : (m : Machine S R K H E) (a : Machine A P I F D) (shows : S → Option A)
+      (item : I → K) (fault : F → H) (event : D → Option E) → DoesAs m a shows item fault event →
+      (s : S) (u : A) (rest : List ℕ) → shows s ≡ Some u →
+      a.grammar.next (a.point u) rest ≡ More → m.grammar.next (m.point s) rest ≡ More
+  waits_as m a shows item fault event does s u rest shown more =
+      does.reads s u rest shown ∙ ap (λ (n : Next I F). named item fault n) more
 
-  partial_as : (m : Machine S R K H E) (a : Machine A P I F D) (shows : S → Option A) (item : I → K) (fault : F → H) (event : D → Option E) → IsMachine m → DoesAs m a shows item fault event → (t : S) (v : A) (rest : List ℕ) (told : Option D) → ComesTo m a shows item told t v → a.grammar.next (a.point v) rest ≡ More → IfSome told (λ _. rest ≡ []) → m.grammar.next (m.point t) rest ≡ More
-  partial_as m a shows item fault event is does t v rest None comes more whole = waits_as m a shows item fault event does t v rest comes more
-  partial_as m a shows item fault event is does t v rest (Some d) comes more whole = subst (λ (zs : List ℕ). m.grammar.next (m.point t) zs ≡ More) (sym whole) (is.laws.empty (m.point t))
+  partial_as : (m : Machine S R K H E) (a : Machine A P I F D) (shows : S → Option A) (item : I → K)
+      (fault : F → H) (event : D → Option E) → IsMachine m → DoesAs m a shows item fault event →
+      (t : S) (v : A) (rest : List ℕ) (told : Option D) → ComesTo m a shows item told t v →
+      a.grammar.next (a.point v) rest ≡ More → IfSome told (λ _. rest ≡ []) →
+      m.grammar.next (m.point t) rest ≡ More
+  partial_as m a shows item fault event is does t v rest None comes more whole =
+      waits_as m a shows item fault event does t v rest comes more
+  partial_as m a shows item fault event is does t v rest (Some d) comes more whole =
+      subst (λ (zs : List ℕ). m.grammar.next (m.point t) zs ≡ More) (sym whole)
+      (is.laws.empty (m.point t))
 
   -- what the other takes, the end takes
-  pub takes_as : (m : Machine S R K H E) (a : Machine A P I F D) (shows : S → Option A) (item : I → K) (fault : F → H) (event : D → Option E) → IsMachine m → IsMachine a → DoesAs m a shows item fault event → (s : S) (u v : A) (prefix bytes rest : List ℕ) (told : Option D) → shows s ≡ Some u → Takes a u prefix bytes told v rest → (t : S) × Takes m s prefix bytes (event_as event told) t rest × ComesTo m a shows item told t v
+  pub takes_as : (m : Machine S R K H E) (a : Machine A P I F D) (shows : S → Option A)
+      (item : I → K) (fault : F → H) (event : D → Option E) → IsMachine m → IsMachine a →
+      DoesAs m a shows item fault event →
+      (s : S) (u v : A) (prefix bytes rest : List ℕ) (told : Option D) → shows s ≡ Some u →
+      Takes a u prefix bytes told v rest →
+      (t : S) × Takes m s prefix bytes (event_as event told) t rest
+      × ComesTo m a shows item told t v
   takes_as m a shows item fault event is other does s u v prefix bytes rest told shown takes =
       let t : S = acts m s (map item takes.items) in
-      let comes : ComesTo m a shows item told t v = subst (λ (w : A). ComesTo m a shows item told t w) (sym takes.state) (items_come m a shows item fault event does s u takes.items told shown takes.ends) in (
+      let comes : ComesTo m a shows item told t v =
+      subst (λ (w : A). ComesTo m a shows item told t w) (sym takes.state)
+      (items_come m a shows item fault event does s u takes.items told shown takes.ends) in (
         t,
         record {
           items = map item takes.items;
-          reads = items_read m a shows item fault event is other does s u (prefix ++ bytes) takes.items rest told shown takes.ends takes.reads;
+          reads = items_read m a shows item fault event is other does s u (prefix ++ bytes)
+              takes.items rest told shown takes.ends takes.reads;
           state = refl;
           ends = items_end m a shows item fault event does s u takes.items told shown takes.ends;
-          partial = partial_as m a shows item fault event is does t v rest told comes takes.partial takes.whole;
+          partial = partial_as m a shows item fault event is does t v rest told comes takes.partial
+              takes.whole;
           whole = whole_as event told rest takes.whole;
         },
         comes,
       )
 
   -- what it refuses, the end refuses by the fault's name
-  pub refuses_as : (m : Machine S R K H E) (a : Machine A P I F D) (shows : S → Option A) (item : I → K) (fault : F → H) (event : D → Option E) → IsMachine m → IsMachine a → DoesAs m a shows item fault event → (s : S) (u : A) (prefix bytes : List ℕ) (f : F) → shows s ≡ Some u → Refuses a u prefix bytes f → Refuses m s prefix bytes (fault f)
+  pub refuses_as : (m : Machine S R K H E) (a : Machine A P I F D) (shows : S → Option A)
+      (item : I → K) (fault : F → H) (event : D → Option E) → IsMachine m → IsMachine a →
+      DoesAs m a shows item fault event → (s : S) (u : A) (prefix bytes : List ℕ) (f : F) →
+      shows s ≡ Some u → Refuses a u prefix bytes f → Refuses m s prefix bytes (fault f)
   refuses_as m a shows item fault event is other does s u prefix bytes f shown refuses =
-      let quiet = items_quiet m a shows item fault event does s u refuses.items shown refuses.quiet in
+      let quiet = items_quiet m a shows item fault event does s u refuses.items shown
+      refuses.quiet in
       record {
         items = map item refuses.items;
         rest = refuses.rest;
-        reads = items_read m a shows item fault event is other does s u (prefix ++ bytes) refuses.items refuses.rest None shown refuses.quiet refuses.reads;
-        quiet = items_end m a shows item fault event does s u refuses.items None shown refuses.quiet;
-        bad = does.reads (acts m s (map item refuses.items)) (acts a u refuses.items) refuses.rest quiet ∙ ap (λ (n : Next I F). named item fault n) refuses.bad;
+        reads = items_read m a shows item fault event is other does s u (prefix ++ bytes)
+            refuses.items refuses.rest None shown refuses.quiet refuses.reads;
+        quiet = items_end m a shows item fault event does s u refuses.items None shown
+            refuses.quiet;
+        bad = does.reads (acts m s (map item refuses.items)) (acts a u refuses.items) refuses.rest
+            quiet ∙ ap (λ (n : Next I F). named item fault n) refuses.bad;
       }
 
   -- where it wants memory, the end does
-  pub runs_out_as : (m : Machine S R K H E) (a : Machine A P I F D) (shows : S → Option A) (item : I → K) (fault : F → H) (event : D → Option E) → IsMachine m → IsMachine a → DoesAs m a shows item fault event → (asks : S → List ℕ → Type 0) (wants : A → List ℕ → Type 0) → ((s : S) (u : A) (front : List ℕ) → shows s ≡ Some u → wants u front → asks s front) → (s : S) (u : A) (prefix bytes : List ℕ) → shows s ≡ Some u → RunsOut a wants u prefix bytes → RunsOut m asks s prefix bytes
+  pub runs_out_as : (m : Machine S R K H E) (a : Machine A P I F D) (shows : S → Option A)
+      (item : I → K) (fault : F → H) (event : D → Option E) → IsMachine m → IsMachine a →
+      DoesAs m a shows item fault event →
+      (asks : S → List ℕ → Type 0) (wants : A → List ℕ → Type 0) →
+      ((s : S) (u : A) (front : List ℕ) → shows s ≡ Some u → wants u front →
+      asks s front) → (s : S) (u : A) (prefix bytes : List ℕ) → shows s ≡ Some u →
+      RunsOut a wants u prefix bytes → RunsOut m asks s prefix bytes
   runs_out_as m a shows item fault event is other does asks wants asked s u prefix bytes shown out =
       let quiet = items_quiet m a shows item fault event does s u out.items shown out.quiet in
       record {
         items = map item out.items;
         front = out.front;
         later = out.later;
-        reads = items_read m a shows item fault event is other does s u (prefix ++ bytes) out.items (out.front ++ out.later) None shown out.quiet out.reads;
+        reads = items_read m a shows item fault event is other does s u (prefix ++ bytes) out.items
+            (out.front ++ out.later) None shown out.quiet out.reads;
         quiet = items_end m a shows item fault event does s u out.items None shown out.quiet;
-        asked = asked (acts m s (map item out.items)) (acts a u out.items) out.front quiet out.asked;
+        asked = asked (acts m s (map item out.items)) (acts a u out.items) out.front quiet
+            out.asked;
       }
 
   -- by a test of the other's state
-  pub starves_as : (m : Machine S R K H E) (a : Machine A P I F D) (shows : S → Option A) (item : I → K) (fault : F → H) (event : D → Option E) → IsMachine m → IsMachine a → DoesAs m a shows item fault event → StarvesAs m a shows
+  pub starves_as : (m : Machine S R K H E) (a : Machine A P I F D) (shows : S → Option A)
+      (item : I → K) (fault : F → H) (event : D → Option E) → IsMachine m → IsMachine a →
+      DoesAs m a shows item fault event → StarvesAs m a shows
   starves_as m a shows item fault event is other does wants s u prefix bytes shown out =
-      runs_out_as m a shows item fault event is other does (λ t front. (v : A) × (shows t ≡ Some v) × IsTrue (wants v front)) (λ v front. IsTrue (wants v front)) (λ t v front now test. (v, now, test)) s u prefix bytes shown out
+      runs_out_as m a shows item fault event is other does
+      (λ t front. (v : A) × (shows t ≡ Some v) × IsTrue (wants v front))
+      (λ v front. IsTrue (wants v front)) (λ t v front now test. (v, now, test)) s u prefix
+      bytes shown out
 
   -- ---- an end that is fed, where the other is
 
-  -- what the other is fed, the end is: what it stands for shows what the other stands for, and so does
-  -- what it comes to
-  pub fed_as : {V W : Type 0} (m : Machine S R K H E) (a : Machine A P I F D) (shows : S → Option A) (item : I → K) (fault : F → H) (event : D → Option E) → IsMachine m → IsMachine a → DoesAs m a shows item fault event → (stands : V → S → List ℕ → Type 0) (inner : W → A → List ℕ → Type 0) (old new : V) (before after : W) (bytes : List ℕ) (told : Option D) → ((s : S) (prefix : List ℕ) → stands old s prefix → (u : A) × (shows s ≡ Some u) × inner before u prefix) → ((t : S) (v : A) (rest : List ℕ) → ComesTo m a shows item told t v → inner after v rest → stands new t rest) → FedBy a inner before bytes told after → FedBy m stands old bytes (event_as event told) new
-  fed_as m a shows item fault event is other does stands inner old new before after bytes told opens closes fed = λ s prefix now.
+  -- what the other is fed, the end is: what it stands for shows what the other stands for, and
+  -- so does what it comes to
+  pub fed_as : {V W : Type 0} (m : Machine S R K H E) (a : Machine A P I F D) (shows : S → Option A)
+      (item : I → K) (fault : F → H) (event : D → Option E) → IsMachine m → IsMachine a →
+      DoesAs m a shows item fault event →
+      (stands : V → S → List ℕ → Type 0) (inner : W → A → List ℕ → Type 0) (old new : V)
+      (before after : W) (bytes : List ℕ) (told : Option D) →
+      ((s : S) (prefix : List ℕ) → stands old s prefix →
+      (u : A) × (shows s ≡ Some u) × inner before u prefix) →
+      ((t : S) (v : A) (rest : List ℕ) → ComesTo m a shows item told t v →
+      inner after v rest → stands new t rest) →
+      FedBy a inner before bytes told after →
+      FedBy m stands old bytes (event_as event told) new
+  fed_as m a shows item fault event is other does stands inner old new before after bytes told opens
+      closes fed = λ s prefix now.
       let one = opens s prefix now in
       let two = fed one.0 prefix one.2 in
-      let takes = takes_as m a shows item fault event is other does s one.0 two.0 prefix bytes two.1 told one.1 two.3 in
+      let takes = takes_as m a shows item fault event is other does s one.0 two.0 prefix bytes two.1
+      told one.1 two.3 in
       (takes.0, two.1, closes takes.0 two.0 two.1 takes.2 two.2, takes.1)
 
   -- what the other refuses, the end does
-  pub refused_as : {V W : Type 0} (m : Machine S R K H E) (a : Machine A P I F D) (shows : S → Option A) (item : I → K) (fault : F → H) (event : D → Option E) → IsMachine m → IsMachine a → DoesAs m a shows item fault event → (stands : V → S → List ℕ → Type 0) (inner : W → A → List ℕ → Type 0) (old : V) (before : W) (bytes : List ℕ) (f : F) → ((s : S) (prefix : List ℕ) → stands old s prefix → (u : A) × (shows s ≡ Some u) × inner before u prefix) → RefusedBy a inner before bytes f → RefusedBy m stands old bytes (fault f)
-  refused_as m a shows item fault event is other does stands inner old before bytes f opens refused = λ s prefix now.
+  pub refused_as : {V W : Type 0} (m : Machine S R K H E) (a : Machine A P I F D)
+      (shows : S → Option A) (item : I → K) (fault : F → H) (event : D → Option E) → IsMachine m →
+      IsMachine a → DoesAs m a shows item fault event →
+      (stands : V → S → List ℕ → Type 0) (inner : W → A → List ℕ → Type 0) (old : V)
+      (before : W) (bytes : List ℕ) (f : F) →
+      ((s : S) (prefix : List ℕ) → stands old s prefix →
+      (u : A) × (shows s ≡ Some u) × inner before u prefix) →
+      RefusedBy a inner before bytes f →
+      RefusedBy m stands old bytes (fault f)
+  refused_as m a shows item fault event is other does stands inner old before bytes f opens
+      refused = λ s prefix now.
       let one = opens s prefix now in
-      refuses_as m a shows item fault event is other does s one.0 prefix bytes f one.1 (refused one.0 prefix one.2)
+      refuses_as m a shows item fault event is other does s one.0 prefix bytes f one.1
+      (refused one.0 prefix one.2)
 
   -- where the other wants memory, the end does
-  pub wants_as : {V W : Type 0} (m : Machine S R K H E) (a : Machine A P I F D) (shows : S → Option A) (item : I → K) (fault : F → H) (event : D → Option E) → IsMachine m → IsMachine a → DoesAs m a shows item fault event → (asks : S → List ℕ → Type 0) (wants : A → List ℕ → Type 0) → ((s : S) (u : A) (front : List ℕ) → shows s ≡ Some u → wants u front → asks s front) → (stands : V → S → List ℕ → Type 0) (inner : W → A → List ℕ → Type 0) (old : V) (before : W) (bytes : List ℕ) → ((s : S) (prefix : List ℕ) → stands old s prefix → (u : A) × (shows s ≡ Some u) × inner before u prefix) → RunsOutBy a wants inner before bytes → RunsOutBy m asks stands old bytes
-  wants_as m a shows item fault event is other does asks wants asked stands inner old before bytes opens out = λ s prefix now.
+  pub wants_as : {V W : Type 0} (m : Machine S R K H E) (a : Machine A P I F D)
+      (shows : S → Option A) (item : I → K) (fault : F → H) (event : D → Option E) → IsMachine m →
+      IsMachine a → DoesAs m a shows item fault event →
+      (asks : S → List ℕ → Type 0) (wants : A → List ℕ → Type 0) →
+      ((s : S) (u : A) (front : List ℕ) → shows s ≡ Some u → wants u front →
+      asks s front) →
+      (stands : V → S → List ℕ → Type 0) (inner : W → A → List ℕ → Type 0)
+      (old : V) (before : W) (bytes : List ℕ) →
+      ((s : S) (prefix : List ℕ) → stands old s prefix →
+      (u : A) × (shows s ≡ Some u) × inner before u prefix) →
+      RunsOutBy a wants inner before bytes →
+      RunsOutBy m asks stands old bytes
+  wants_as m a shows item fault event is other does asks wants asked stands inner old before bytes
+      opens out = λ s prefix now.
       let one = opens s prefix now in
-      runs_out_as m a shows item fault event is other does asks wants asked s one.0 prefix bytes one.1 (out one.0 prefix one.2)
+      runs_out_as m a shows item fault event is other does asks wants asked s one.0 prefix bytes
+      one.1 (out one.0 prefix one.2)
 
 module _ {P I F Q J G H : Type 0} where
   -- what stands next in a stream of both, where the grammar is named
-  next_first : (two : Two P I F Q J G H) (g : Grammar (Stage P Q) (Stage I J) H) (h : Grammar P I F) (r : Stage P Q) (p : P) (bytes : List ℕ) → g ≡ sequel two → h ≡ two.first → r ≡ First p → g.next r bytes ≡ named (λ i. First i) two.first_fault (h.next p bytes)
+  next_first : (two : Two P I F Q J G H) (g : Grammar (Stage P Q) (Stage I J) H) (h : Grammar P I F)
+      (r : Stage P Q) (p : P) (bytes : List ℕ) → g ≡ sequel two → h ≡ two.first → r ≡ First p →
+      g.next r bytes ≡ named (λ i. First i) two.first_fault (h.next p bytes)
   next_first two g h r p bytes both grammar point = rw (both, grammar, point) refl
 
-  next_second : (two : Two P I F Q J G H) (g : Grammar (Stage P Q) (Stage I J) H) (h : Grammar Q J G) (r : Stage P Q) (q : Q) (bytes : List ℕ) → g ≡ sequel two → h ≡ two.second → r ≡ Second q → g.next r bytes ≡ named (λ j. Second j) two.second_fault (h.next q bytes)
+  next_second : (two : Two P I F Q J G H) (g : Grammar (Stage P Q) (Stage I J) H)
+      (h : Grammar Q J G) (r : Stage P Q) (q : Q) (bytes : List ℕ) → g ≡ sequel two →
+      h ≡ two.second → r ≡ Second q →
+      g.next r bytes ≡ named (λ j. Second j) two.second_fault (h.next q bytes)
   next_second two g h r q bytes both grammar point = rw (both, grammar, point) refl
 
   -- the point behind an item of the first
-  past_item : (two : Two P I F Q J G H) (g : Grammar (Stage P Q) (Stage I J) H) (r : Stage P Q) (p : P) (i : I) → g ≡ sequel two → r ≡ First p → g.past r (First i) ≡ turn (two.leads p i) (two.first.past p i)
+  past_item : (two : Two P I F Q J G H) (g : Grammar (Stage P Q) (Stage I J) H) (r : Stage P Q)
+      (p : P) (i : I) → g ≡ sequel two → r ≡ First p →
+      g.past r (First i) ≡ turn (two.leads p i) (two.first.past p i)
   past_item two g r p i both point = rw (both, point) refl
 
 module _ {S A P I F Q J G H D E : Type 0} where
   -- an end of both does as the first's
-  pub first_does : (two : Two P I F Q J G H) (m : Machine S (Stage P Q) (Stage I J) H E) (a : Machine A P I F D) (shows : S → Option A) (event : D → Option E) → GoesAsFirst two m a shows event → DoesAs m a shows (λ i. First i) two.first_fault event
+  pub first_does : (two : Two P I F Q J G H) (m : Machine S (Stage P Q) (Stage I J) H E)
+      (a : Machine A P I F D) (shows : S → Option A) (event : D → Option E) →
+      GoesAsFirst two m a shows event → DoesAs m a shows (λ i. First i) two.first_fault event
   first_does two m a shows event goes = record {
-    reads = λ s u bytes shown. next_first two m.grammar a.grammar (m.point s) (a.point u) bytes goes.both goes.grammar (goes.point s u shown);
+    reads = λ s u bytes shown.
+        next_first two m.grammar a.grammar (m.point s) (a.point u) bytes goes.both goes.grammar
+        (goes.point s u shown);
     tells = goes.tells;
     goes_on = λ s u i shown quiet. goes.stays s u i shown (goes.told_over u i quiet);
   }
 
   -- behind an item of the first the end shows what that comes to, or stands at the second
-  lands_behind : (two : Two P I F Q J G H) (m : Machine S (Stage P Q) (Stage I J) H E) (a : Machine A P I F D) (shows : S → Option A) (event : D → Option E) → IsMachine m → GoesAsFirst two m a shows event → (s t : S) (u v : A) (i : I) → shows s ≡ Some u → t ≡ m.act s (First i) → v ≡ a.act u i → LandsAs two m a shows t v
-  lands_behind two m a shows event is goes s t u v i shown state left = by (two.leads (a.point u) i) refl
+  lands_behind : (two : Two P I F Q J G H) (m : Machine S (Stage P Q) (Stage I J) H E)
+      (a : Machine A P I F D) (shows : S → Option A) (event : D → Option E) → IsMachine m →
+      GoesAsFirst two m a shows event → (s t : S) (u v : A) (i : I) → shows s ≡ Some u →
+      t ≡ m.act s (First i) → v ≡ a.act u i → LandsAs two m a shows t v
+  lands_behind two m a shows event is goes s t u v i shown state left =
+      by (two.leads (a.point u) i) refl
     where
       by : (over : Option Q) → two.leads (a.point u) i ≡ over → LandsAs two m a shows t v
-      by None e = inl (ap shows state ∙ goes.stays s u i shown e ∙ ap (λ (w : A). Some w) (sym left))
+      by None e = inl
+          (ap shows state ∙ goes.stays s u i shown e ∙ ap (λ (w : A). Some w) (sym left))
       by (Some q) e = inr (record {
         before = s;
         shown = u;
@@ -171,25 +300,40 @@ module _ {S A P I F Q J G H D E : Type 0} where
         leads = e;
         state = state;
         left = left;
-        point = ap m.point state ∙ is.past s (First i) ∙ past_item two m.grammar (m.point s) (a.point u) i goes.both (goes.point s u shown) ∙ ap (λ (over : Option Q). turn over (two.first.past (a.point u) i)) e;
+        point = ap m.point state ∙ is.past s (First i)
+            ∙ past_item two m.grammar (m.point s) (a.point u) i goes.both (goes.point s u shown)
+            ∙ ap (λ (over : Option Q). turn over (two.first.past (a.point u) i)) e;
       })
 
-  pub lands : (two : Two P I F Q J G H) (m : Machine S (Stage P Q) (Stage I J) H E) (a : Machine A P I F D) (shows : S → Option A) (event : D → Option E) → IsMachine m → GoesAsFirst two m a shows event → (told : Option D) (t : S) (v : A) → ComesTo m a shows (λ i. First i) told t v → LandsAs two m a shows t v
+  pub lands : (two : Two P I F Q J G H) (m : Machine S (Stage P Q) (Stage I J) H E)
+      (a : Machine A P I F D) (shows : S → Option A) (event : D → Option E) → IsMachine m →
+      GoesAsFirst two m a shows event → (told : Option D) (t : S) (v : A) →
+      ComesTo m a shows (λ i. First i) told t v → LandsAs two m a shows t v
   lands two m a shows event is goes None t v comes = inl comes
-  lands two m a shows event is goes (Some d) t v comes = lands_behind two m a shows event is goes comes.0 t comes.1 v comes.2 comes.3 comes.5 comes.6
+  lands two m a shows event is goes (Some d) t v comes =
+      lands_behind two m a shows event is goes comes.0 t comes.1 v comes.2 comes.3 comes.5 comes.6
 
 module _ {S B P I F Q J G H C E : Type 0} where
   -- an end of both does as the second's, behind each item of it
-  pub second_does : (two : Two P I F Q J G H) (m : Machine S (Stage P Q) (Stage I J) H E) (b : Machine B Q J G C) (shows : S → Option B) (event : C → Option E) → GoesAsSecond two m b shows event → DoesAs m b shows (λ j. Second j) two.second_fault event
+  pub second_does : (two : Two P I F Q J G H) (m : Machine S (Stage P Q) (Stage I J) H E)
+      (b : Machine B Q J G C) (shows : S → Option B) (event : C → Option E) →
+      GoesAsSecond two m b shows event → DoesAs m b shows (λ j. Second j) two.second_fault event
   second_does two m b shows event goes = record {
-    reads = λ s u bytes shown. next_second two m.grammar b.grammar (m.point s) (b.point u) bytes goes.both goes.grammar (goes.point s u shown);
+    reads = λ s u bytes shown.
+        next_second two m.grammar b.grammar (m.point s) (b.point u) bytes goes.both goes.grammar
+        (goes.point s u shown);
     tells = goes.tells;
     goes_on = λ s u j shown quiet. goes.stays s u j shown;
   }
 
-  pub second_stays : (two : Two P I F Q J G H) (m : Machine S (Stage P Q) (Stage I J) H E) (b : Machine B Q J G C) (shows : S → Option B) (event : C → Option E) → GoesAsSecond two m b shows event → (told : Option C) (t : S) (v : B) → ComesTo m b shows (λ j. Second j) told t v → shows t ≡ Some v
+  pub second_stays : (two : Two P I F Q J G H) (m : Machine S (Stage P Q) (Stage I J) H E)
+      (b : Machine B Q J G C) (shows : S → Option B) (event : C → Option E) →
+      GoesAsSecond two m b shows event → (told : Option C) (t : S) (v : B) →
+      ComesTo m b shows (λ j. Second j) told t v → shows t ≡ Some v
   second_stays two m b shows event goes None t v comes = comes
-  second_stays two m b shows event goes (Some d) t v comes = ap shows comes.5 ∙ goes.stays comes.0 comes.1 comes.2 comes.3 ∙ ap (λ (w : B). Some w) (sym comes.6)
+  second_stays two m b shows event goes (Some d) t v comes =
+      ap shows comes.5 ∙ goes.stays comes.0 comes.1 comes.2 comes.3
+      ∙ ap (λ (w : B). Some w) (sym comes.6)
 
 -- a point that is one of the first
 first_is : {P Q : Type 0} (r : Stage P Q) (p : P) → first_point r ≡ Some p → r ≡ First p
@@ -197,16 +341,26 @@ first_is {P = P} (First q) p e = let same : q ≡ p = cc in ap (λ (k : P). Firs
 first_is (Second q) p e = absurd cc
 
 module _ {S P I F Q J G H D E : Type 0} where
-  -- where the first's end is but a point, an end of both does as it does while it stands at one of the
-  -- first, if it tells of each item what is named of what that tells, and that tells of each which leads over
-  pub at_first : (two : Two P I F Q J G H) (m : Machine S (Stage P Q) (Stage I J) H E) (tells : P → I → Option D) (event : D → Option E) → IsMachine m → m.grammar ≡ sequel two → ((s : S) (p : P) (i : I) → m.point s ≡ First p → m.tells s (First i) ≡ event_as event (tells p i)) → ((p : P) (i : I) → tells p i ≡ None → two.leads p i ≡ None) → GoesAsFirst two m (end_at two.first tells) (λ s. first_point (m.point s)) event
+  -- where the first's end is but a point, an end of both does as it does while it stands at
+  -- one of the first, if it tells of each item what is named of what that tells, and that
+  -- tells of each which leads over
+  pub at_first : (two : Two P I F Q J G H) (m : Machine S (Stage P Q) (Stage I J) H E)
+      (tells : P → I → Option D) (event : D → Option E) → IsMachine m → m.grammar ≡ sequel two →
+      ((s : S) (p : P) (i : I) → m.point s ≡ First p →
+      m.tells s (First i) ≡ event_as event (tells p i)) →
+      ((p : P) (i : I) → tells p i ≡ None → two.leads p i ≡ None) →
+      GoesAsFirst two m (end_at two.first tells) (λ s. first_point (m.point s))
+      event
   at_first two m tells event is both told told_over = record {
     both = both;
     grammar = refl;
     point = λ s u shown. first_is (m.point s) u shown;
     tells = λ s u i shown. told s u i (first_is (m.point s) u shown);
     stays = λ s u i shown stays.
-        let behind : m.point (m.act s (First i)) ≡ First (two.first.past u i) = is.past s (First i) ∙ past_item two m.grammar (m.point s) u i both (first_is (m.point s) u shown) ∙ ap (λ (over : Option Q). turn over (two.first.past u i)) stays in
+        let behind : m.point (m.act s (First i)) ≡ First (two.first.past u i) =
+        is.past s (First i)
+        ∙ past_item two m.grammar (m.point s) u i both (first_is (m.point s) u shown)
+        ∙ ap (λ (over : Option Q). turn over (two.first.past u i)) stays in
         ap (λ (r : Stage P Q). first_point r) behind;
     told_over = told_over;
   }

@@ -6,10 +6,12 @@ use Rattle.rfb_wire.specs.stream.Heads.{BeginsNone, Misses}
 module _ {V : Type 0} (Spells : V → List ℕ → Type 0) (size : ℕ → Option ℕ) where
   -- bytes of the size that their first asks for are a head
   abbrev pub SizesSpell : Type 0
-  SizesSpell = (bytes : List ℕ) → size (slice_index bytes 0) ≡ Some (length bytes) → (v : V) × Spells v bytes
+  SizesSpell =
+      (bytes : List ℕ) → size (slice_index bytes 0) ≡ Some (length bytes) → (v : V) × Spells v bytes
 
   -- bytes that are fewer than their first asks for miss the others
-  pub misses_rest : SizesSpell → (bytes : List ℕ) (n : ℕ) → 0 < length bytes → length bytes < n → size (slice_index bytes 0) ≡ Some n → Misses Spells (n - length bytes) bytes
+  pub misses_rest : SizesSpell → (bytes : List ℕ) (n : ℕ) → 0 < length bytes → length bytes < n →
+      size (slice_index bytes 0) ≡ Some n → Misses Spells (n - length bytes) bytes
   misses_rest made [] n some short h = absurd (omega arith)
   misses_rest made (first ∷ rest) n some short h = (
     omega arith,
@@ -19,7 +21,8 @@ module _ {V : Type 0} (Spells : V → List ℕ → Type 0) (size : ℕ → Optio
   )
 
   -- a byte that asks for a size begins a head
-  pub begins_some : SizesSpell → (first n : ℕ) → 0 < n → size first ≡ Some n → BeginsNone Spells first → ⊥
+  pub begins_some : SizesSpell → (first n : ℕ) → 0 < n → size first ≡ Some n →
+      BeginsNone Spells first → ⊥
   begins_some made first n some h none =
       let rest = replicate (n - 1) 0 in
       let whole : n ≡ length (first ∷ rest) = simp length-replicate (omega arith) in

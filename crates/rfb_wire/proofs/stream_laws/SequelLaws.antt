@@ -8,82 +8,146 @@ use Rattle.rfb_wire.specs.stream.Sequel.{Stage, First, Second, turn, Two, next_i
 use Rattle.rfb_wire.proofs.stream_laws.GrammarLaws.{all_append}
 
 module _ {P I F Q J G H : Type 0} where
-  first_same : (two : Two P I F Q J G H) (one : P → Says I F) (other : Q → Says J G) (p : P) → Same (renamed_says (λ i. First i) two.first_fault (one p)) (sequel_says two one other (First p))
-  first_same two one other p = record { item = there; fault = λ h bytes w. w; item_back = back; fault_back = λ h bytes w. w }
+  first_same : (two : Two P I F Q J G H) (one : P → Says I F) (other : Q → Says J G) (p : P) →
+      Same (renamed_says (λ i. First i) two.first_fault (one p))
+      (sequel_says two one other (First p))
+  first_same two one other p =
+      record { item = there; fault = λ h bytes w. w; item_back = back; fault_back = λ h bytes w. w }
     where
-      there : (s : Stage I J) (bytes : List ℕ) → (i : I) × (s ≡ First i) × (one p).item i bytes → ItemIn two one other (First p) s bytes
+      there : (s : Stage I J) (bytes : List ℕ) → (i : I) × (s ≡ First i) × (one p).item i bytes →
+          ItemIn two one other (First p) s bytes
       there (First i) bytes (k, e, h) = let same : i ≡ k = cc in rw same h
       there (Second j) bytes (k, e, h) = cc
 
-      back : (s : Stage I J) (bytes : List ℕ) → ItemIn two one other (First p) s bytes → (i : I) × (s ≡ First i) × (one p).item i bytes
+      back : (s : Stage I J) (bytes : List ℕ) → ItemIn two one other (First p) s bytes →
+          (i : I) × (s ≡ First i) × (one p).item i bytes
       back (First i) bytes h = (i, refl, h)
       back (Second j) bytes h = absurd h
 
-  second_same : (two : Two P I F Q J G H) (one : P → Says I F) (other : Q → Says J G) (q : Q) → Same (renamed_says (λ j. Second j) two.second_fault (other q)) (sequel_says two one other (Second q))
-  second_same two one other q = record { item = there; fault = λ h bytes w. w; item_back = back; fault_back = λ h bytes w. w }
+  second_same : (two : Two P I F Q J G H) (one : P → Says I F) (other : Q → Says J G) (q : Q) →
+      Same (renamed_says (λ j. Second j) two.second_fault (other q))
+      (sequel_says two one other (Second q))
+  second_same two one other q =
+      record { item = there; fault = λ h bytes w. w; item_back = back; fault_back = λ h bytes w. w }
     where
-      there : (s : Stage I J) (bytes : List ℕ) → (j : J) × (s ≡ Second j) × (other q).item j bytes → ItemIn two one other (Second q) s bytes
+      there : (s : Stage I J) (bytes : List ℕ) → (j : J) × (s ≡ Second j) × (other q).item j bytes →
+          ItemIn two one other (Second q) s bytes
       there (First i) bytes (k, e, h) = cc
       there (Second j) bytes (k, e, h) = let same : j ≡ k = cc in rw same h
 
-      back : (s : Stage I J) (bytes : List ℕ) → ItemIn two one other (Second q) s bytes → (j : J) × (s ≡ Second j) × (other q).item j bytes
+      back : (s : Stage I J) (bytes : List ℕ) → ItemIn two one other (Second q) s bytes →
+          (j : J) × (s ≡ Second j) × (other q).item j bytes
       back (First i) bytes h = absurd h
       back (Second j) bytes h = (j, refl, h)
 
-  reads_in : (two : Two P I F Q J G H) (one : P → Says I F) (other : Q → Says J G) → IsSpelled two.first one → IsSpelled two.second other → (s : Stage P Q) → Reads (next_in two s) (sequel_says two one other s)
-  reads_in two one other a b (First p) = same_reads (next_in two (First p)) (renamed_says (λ i. First i) two.first_fault (one p)) (sequel_says two one other (First p)) (first_same two one other p) (renamed_reads (λ i. First i) two.first_fault (two.first.next p) (one p) (a.reads p))
-  reads_in two one other a b (Second q) = same_reads (next_in two (Second q)) (renamed_says (λ j. Second j) two.second_fault (other q)) (sequel_says two one other (Second q)) (second_same two one other q) (renamed_reads (λ j. Second j) two.second_fault (two.second.next q) (other q) (b.reads q))
+  reads_in : (two : Two P I F Q J G H) (one : P → Says I F) (other : Q → Says J G) →
+      IsSpelled two.first one → IsSpelled two.second other → (s : Stage P Q) →
+      Reads (next_in two s) (sequel_says two one other s)
+  reads_in two one other a b (First p) =
+      same_reads (next_in two (First p)) (renamed_says (λ i. First i) two.first_fault (one p))
+      (sequel_says two one other (First p)) (first_same two one other p)
+      (renamed_reads (λ i. First i) two.first_fault (two.first.next p) (one p) (a.reads p))
+  reads_in two one other a b (Second q) =
+      same_reads (next_in two (Second q)) (renamed_says (λ j. Second j) two.second_fault (other q))
+      (sequel_says two one other (Second q)) (second_same two one other q)
+      (renamed_reads (λ j. Second j) two.second_fault (two.second.next q) (other q)
+      (b.reads q))
 
   -- both are spelled, so the stream of both is
-  pub sequel_spelled : (two : Two P I F Q J G H) (one : P → Says I F) (other : Q → Says J G) → IsSpelled two.first one → IsSpelled two.second other → IsSpelled (sequel two) (sequel_says two one other)
-  sequel_spelled two one other a b = record { reads = reads_in two one other a b; sized = sized; some = some; some_fault = some_fault }
+  pub sequel_spelled : (two : Two P I F Q J G H) (one : P → Says I F) (other : Q → Says J G) →
+      IsSpelled two.first one → IsSpelled two.second other →
+      IsSpelled (sequel two) (sequel_says two one other)
+  sequel_spelled two one other a b =
+      record {
+        reads = reads_in two one other a b;
+        sized = sized;
+        some = some;
+        some_fault = some_fault;
+      }
     where
-      sized : (s : Stage P Q) (i : Stage I J) (bytes : List ℕ) → ItemIn two one other s i bytes → length bytes ≡ (sequel two).size i
+      sized : (s : Stage P Q) (i : Stage I J) (bytes : List ℕ) → ItemIn two one other s i bytes →
+          length bytes ≡ (sequel two).size i
       sized (First p) (First i) bytes h = a.sized p i bytes h
       sized (First p) (Second j) bytes h = absurd h
       sized (Second q) (First i) bytes h = absurd h
       sized (Second q) (Second j) bytes h = b.sized q j bytes h
 
-      some : (s : Stage P Q) (i : Stage I J) (bytes : List ℕ) → ItemIn two one other s i bytes → 0 < length bytes
+      some : (s : Stage P Q) (i : Stage I J) (bytes : List ℕ) → ItemIn two one other s i bytes →
+          0 < length bytes
       some (First p) (First i) bytes h = a.some p i bytes h
       some (First p) (Second j) bytes h = absurd h
       some (Second q) (First i) bytes h = absurd h
       some (Second q) (Second j) bytes h = b.some q j bytes h
 
-      some_fault : (s : Stage P Q) (h : H) (bytes : List ℕ) → FaultIn two one other s h bytes → 0 < length bytes
+      some_fault : (s : Stage P Q) (h : H) (bytes : List ℕ) → FaultIn two one other s h bytes →
+          0 < length bytes
       some_fault (First p) h bytes w = a.some_fault p w.0 bytes w.2
       some_fault (Second q) h bytes w = b.some_fault q w.0 bytes w.2
 
   -- items of the second, once a point of it is reached, are read as it reads them
-  pub all_second : (two : Two P I F Q J G H) (q : Q) (bytes : List ℕ) (items : List J) (rest : List ℕ) → ReadsAll two.second q bytes items rest → ReadsAll (sequel two) (Second q) bytes (map (λ j. Second j) items) rest
+  pub all_second : (two : Two P I F Q J G H) (q : Q) (bytes : List ℕ) (items : List J)
+      (rest : List ℕ) → ReadsAll two.second q bytes items rest →
+      ReadsAll (sequel two) (Second q) bytes (map (λ j. Second j) items) rest
   all_second two q bytes [] rest h = h
-  all_second two q bytes (j ∷ items) rest h = (h.0, rw h.1 refl, all_second two (two.second.past q j) h.0 items rest h.2)
+  all_second two q bytes (j ∷ items) rest h =
+      (h.0, rw h.1 refl, all_second two (two.second.past q j) h.0 items rest h.2)
 
   -- items of the first, of which none but the last leads over, are read as it reads them
-  pub all_first : (two : Two P I F Q J G H) (p : P) (bytes : List ℕ) (items : List I) (rest : List ℕ) → StaysFirst two p items → ReadsAll two.first p bytes items rest → ReadsAll (sequel two) (First p) bytes (map (λ i. First i) items) rest
+  pub all_first : (two : Two P I F Q J G H) (p : P) (bytes : List ℕ) (items : List I)
+      (rest : List ℕ) → StaysFirst two p items → ReadsAll two.first p bytes items rest →
+      ReadsAll (sequel two) (First p) bytes (map (λ i. First i) items) rest
   all_first two p bytes [] rest stays h = h
   all_first two p bytes (i ∷ []) rest stays h = (h.0, rw h.1 refl, h.2)
-  all_first two p bytes (i ∷ j ∷ items) rest stays h = (h.0, rw h.1 refl, rw stays.0 (all_first two (two.first.past p i) h.0 (j ∷ items) rest stays.1 h.2))
+  all_first two p bytes (i ∷ j ∷ items) rest stays h = (
+    h.0,
+    rw h.1 refl,
+    rw stays.0 (all_first two (two.first.past p i) h.0 (j ∷ items) rest stays.1 h.2),
+  )
 
   -- behind an item that does not lead over the first goes on
-  behind_one : {to : Stage P Q} (two : Two P I F Q J G H) (p : P) (i : I) (items : List I) → two.leads p i ≡ None → past_all (sequel two) (First (two.first.past p i)) (map (λ k. First k) items) ≡ to → past_all (sequel two) (First p) (map (λ k. First k) (i ∷ items)) ≡ to
+  behind_one : {to : Stage P Q} (two : Two P I F Q J G H) (p : P) (i : I) (items : List I) →
+      two.leads p i ≡ None →
+      past_all (sequel two) (First (two.first.past p i)) (map (λ k. First k) items) ≡ to →
+      past_all (sequel two) (First p) (map (λ k. First k) (i ∷ items)) ≡ to
   behind_one {to = to} two p i items stays h =
-      subst (λ (at : Stage P Q). past_all (sequel two) at (map (λ k. First k) items) ≡ to) (sym (ap (λ (over : Option Q). turn over (two.first.past p i)) stays)) h
+      subst (λ (at : Stage P Q). past_all (sequel two) at (map (λ k. First k) items) ≡ to)
+      (sym (ap (λ (over : Option Q). turn over (two.first.past p i)) stays)) h
 
   -- the point behind items of the first: one of the second, if the last leads there
-  pub past_first : (two : Two P I F Q J G H) (p : P) (items : List I) (last : I) → StaysFirst two p (items ++ last ∷ []) → past_all (sequel two) (First p) (map (λ i. First i) (items ++ last ∷ [])) ≡ turn (two.leads (past_all two.first p items) last) (two.first.past (past_all two.first p items) last)
+  pub past_first : (two : Two P I F Q J G H) (p : P) (items : List I) (last : I) →
+      StaysFirst two p (items ++ last ∷ []) →
+      past_all (sequel two) (First p) (map (λ i. First i) (items ++ last ∷ []))
+      ≡ turn (two.leads (past_all two.first p items) last)
+      (two.first.past (past_all two.first p items) last)
   past_first two p [] last stays = refl
-  past_first two p (i ∷ []) last stays = behind_one two p i (last ∷ []) stays.0 (past_first two (two.first.past p i) [] last tt)
-  past_first two p (i ∷ j ∷ items) last stays = behind_one two p i ((j ∷ items) ++ last ∷ []) stays.0 (past_first two (two.first.past p i) (j ∷ items) last stays.1)
+  past_first two p (i ∷ []) last stays =
+      behind_one two p i (last ∷ []) stays.0 (past_first two (two.first.past p i) [] last tt)
+  past_first two p (i ∷ j ∷ items) last stays =
+      behind_one two p i ((j ∷ items) ++ last ∷ []) stays.0
+      (past_first two (two.first.past p i) (j ∷ items) last stays.1)
 
   -- the point behind items of the second
-  pub past_second : (two : Two P I F Q J G H) (q : Q) (items : List J) → past_all (sequel two) (Second q) (map (λ j. Second j) items) ≡ Second (past_all two.second q items)
+  pub past_second : (two : Two P I F Q J G H) (q : Q) (items : List J) →
+      past_all (sequel two) (Second q) (map (λ j. Second j) items)
+      ≡ Second (past_all two.second q items)
   past_second two q [] = refl
   past_second two q (j ∷ items) = past_second two (two.second.past q j) items
 
   -- items of the first, whose last leads over, and behind them items of the second
-  pub all_both : (two : Two P I F Q J G H) (p : P) (q : Q) (bytes mid rest : List ℕ) (items : List I) (last : I) (others : List J) → StaysFirst two p (items ++ last ∷ []) → two.leads (past_all two.first p items) last ≡ Some q → ReadsAll two.first p bytes (items ++ last ∷ []) mid → ReadsAll two.second q mid others rest → ReadsAll (sequel two) (First p) bytes (in_both items last others) rest
+  pub all_both : (two : Two P I F Q J G H) (p : P) (q : Q) (bytes mid rest : List ℕ)
+      (items : List I) (last : I) (others : List J) → StaysFirst two p (items ++ last ∷ []) →
+      two.leads (past_all two.first p items) last ≡ Some q →
+      ReadsAll two.first p bytes (items ++ last ∷ []) mid →
+      ReadsAll two.second q mid others rest →
+      ReadsAll (sequel two) (First p) bytes (in_both items last others) rest
   all_both two p q bytes mid rest items last others stays leads a b =
-      let there : past_all (sequel two) (First p) (map (λ i. First i) (items ++ last ∷ [])) ≡ Second q = past_first two p items last stays ∙ ap (λ (to : Option Q). turn to (two.first.past (past_all two.first p items) last)) leads in
-      all_append (sequel two) (First p) bytes (map (λ i. First i) (items ++ last ∷ [])) (map (λ j. Second j) others) mid rest (all_first two p bytes (items ++ last ∷ []) mid stays a)
-      (subst (λ (at : Stage P Q). ReadsAll (sequel two) at mid (map (λ j. Second j) others) rest) (sym there) (all_second two q mid others rest b))
+      let there : past_all (sequel two) (First p) (map (λ i. First i) (items ++ last ∷ []))
+      ≡ Second q =
+      past_first two p items last stays
+      ∙ ap (λ (to : Option Q).
+      turn to (two.first.past (past_all two.first p items) last)) leads in
+      all_append (sequel two) (First p) bytes (map (λ i. First i) (items ++ last ∷ []))
+      (map (λ j. Second j) others) mid rest
+      (all_first two p bytes (items ++ last ∷ []) mid stays a)
+      (subst (λ (at : Stage P Q). ReadsAll (sequel two) at mid (map (λ j. Second j) others) rest)
+      (sym there) (all_second two q mid others rest b))

@@ -1,4 +1,5 @@
--- Sessions over the same bytes agree, however calls cut these; and calls of a delivery are one delivery.
+-- Sessions over the same bytes agree, however calls cut these; and calls of a
+-- delivery are one delivery.
 use Rattle.std.proofs.Common.{◌≡◌, ℕ, List, [], ◌++◌, Option, Some, None, sym, subst, ◌∙◌, ap, append_assoc, append-nil, length-append, arith}
 use Rattle.std.specs.Prelude.{⊤}
 use Rattle.rfb_wire.specs.stream.Reading.{More, Bad}
@@ -11,8 +12,10 @@ use Rattle.rfb_wire.proofs.stream_laws.EndLaws.{acts_append, point_acts, reads_t
 module _ {S P I F E : Type 0} where
   -- ---- sessions
 
-  -- what bytes behind a prefix are: items, with these events, and then a fault or too few for another
-  record Makes (m : Machine S P I F E) (s : S) (prefix bytes : List ℕ) (events : List E) (fault : Option F) : Type 0 where
+  -- what bytes behind a prefix are: items, with these events, and then a
+  -- fault or too few for another
+  record Makes (m : Machine S P I F E) (s : S) (prefix bytes : List ℕ) (events : List E)
+      (fault : Option F) : Type 0 where
     items : List I
     rest : List ℕ
     reads : ReadsAll m.grammar (m.point s) (prefix ++ bytes) items rest
@@ -20,97 +23,172 @@ module _ {S P I F E : Type 0} where
     ends : EndsIn fault (m.grammar.next (past_all m.grammar (m.point s) items) rest)
 
   -- a run makes its items
-  run_makes : (m : Machine S P I F E) → IsMachine m → (s t : S) (prefix bytes rest : List ℕ) (events : List E) → Runs m s prefix bytes events t rest → Makes m s prefix bytes events None
+  run_makes : (m : Machine S P I F E) → IsMachine m →
+      (s t : S) (prefix bytes rest : List ℕ) (events : List E) →
+      Runs m s prefix bytes events t rest → Makes m s prefix bytes events None
   run_makes m is s t prefix bytes rest events run = record {
     items = run.items;
     rest = rest;
     reads = run.reads;
     told_is = run.told_is;
-    ends = subst (λ (p : P). m.grammar.next p rest ≡ More) (ap m.point run.state ∙ point_acts m is s run.items) run.partial;
+    ends = subst (λ (p : P). m.grammar.next p rest ≡ More)
+        (ap m.point run.state ∙ point_acts m is s run.items) run.partial;
   }
 
   -- items without an event behind a run tell nothing more
-  quiet_told : (m : Machine S P I F E) (s t : S) (prefix bytes rest : List ℕ) (events : List E) (run : Runs m s prefix bytes events t rest) (items : List I) → told m t items ≡ [] → events ≡ told m s (run.items ++ items)
+  quiet_told : (m : Machine S P I F E) (s t : S) (prefix bytes rest : List ℕ) (events : List E)
+      (run : Runs m s prefix bytes events t rest) (items : List I) → told m t items ≡ [] →
+      events ≡ told m s (run.items ++ items)
   quiet_told m s t prefix bytes rest events run items quiet =
-      let none : told m (acts m s run.items) items ≡ [] = subst (λ (v : S). told m v items ≡ []) run.state quiet in
-      run.told_is ∙ sym (append-nil (told m s run.items)) ∙ ap (λ (es : List E). told m s run.items ++ es) (sym none) ∙ sym (told_append m s run.items items)
+      let none : told m (acts m s run.items) items ≡ [] =
+      subst (λ (v : S). told m v items ≡ []) run.state quiet in
+      run.told_is ∙ sym (append-nil (told m s run.items))
+      ∙ ap (λ (es : List E). told m s run.items ++ es) (sym none)
+      ∙ sym (told_append m s run.items items)
 
-  session_makes : (m : Machine S P I F E) → IsMachine m → (s : S) (prefix slice : List ℕ) (calls : List (Call E)) (fault : Option F) → Waits m s prefix → IsSession m s prefix calls slice fault → Makes m s prefix (bytes_of calls ++ slice) (events_of calls) fault
+  session_makes : (m : Machine S P I F E) → IsMachine m →
+      (s : S) (prefix slice : List ℕ) (calls : List (Call E)) (fault : Option F) →
+      Waits m s prefix → IsSession m s prefix calls slice fault →
+      Makes m s prefix (bytes_of calls ++ slice) (events_of calls) fault
   session_makes m is s prefix slice calls None waits (none, new, rest, goes) =
-      rw (none, append-nil (bytes_of calls)) (run_makes m is s new prefix (bytes_of calls) rest (events_of calls) (calls_run m is s new prefix rest calls waits goes))
+      rw (none, append-nil (bytes_of calls))
+      (run_makes m is s new prefix (bytes_of calls) rest (events_of calls)
+      (calls_run m is s new prefix rest calls waits goes))
   session_makes m is s prefix slice calls (Some f) waits (new, rest, goes, refused) =
       let run = calls_run m is s new prefix rest calls waits goes in
-      let point : m.point (acts m new refused.items) ≡ past_all m.grammar (m.point s) (run.items ++ refused.items) =
-      ap (λ (v : S). m.point (acts m v refused.items)) run.state ∙ ap m.point (sym (acts_append m s run.items refused.items)) ∙ point_acts m is s (run.items ++ refused.items) in
+      let point : m.point (acts m new refused.items)
+      ≡ past_all m.grammar (m.point s) (run.items ++ refused.items) =
+      ap (λ (v : S). m.point (acts m v refused.items)) run.state
+      ∙ ap m.point (sym (acts_append m s run.items refused.items))
+      ∙ point_acts m is s (run.items ++ refused.items) in
       record {
         items = run.items ++ refused.items;
         rest = refused.rest;
-        reads = reads_then m is s new prefix rest (bytes_of calls) slice refused.rest run.items refused.items run.state run.reads refused.reads;
-        told_is = quiet_told m s new prefix (bytes_of calls) rest (events_of calls) run refused.items (told_ends m new refused.items None refused.quiet);
+        reads = reads_then m is s new prefix rest (bytes_of calls) slice refused.rest run.items
+            refused.items run.state run.reads refused.reads;
+        told_is = quiet_told m s new prefix (bytes_of calls) rest (events_of calls) run
+            refused.items (told_ends m new refused.items None refused.quiet);
         ends = subst (λ (p : P). m.grammar.next p refused.rest ≡ Bad f) point refused.bad;
       }
 
   -- a fault stays one
-  makes_more : (m : Machine S P I F E) → IsMachine m → (s : S) (prefix bytes more : List ℕ) (events : List E) (f : F) → Makes m s prefix bytes events (Some f) → Makes m s prefix (bytes ++ more) events (Some f)
+  makes_more : (m : Machine S P I F E) → IsMachine m →
+      (s : S) (prefix bytes more : List ℕ) (events : List E) (f : F) →
+      Makes m s prefix bytes events (Some f) → Makes m s prefix (bytes ++ more) events (Some f)
   makes_more m is s prefix bytes more events f one = record {
     items = one.items;
     rest = one.rest ++ more;
-    reads = subst (λ (zs : List ℕ). ReadsAll m.grammar (m.point s) zs one.items (one.rest ++ more)) (append_assoc prefix bytes more) (all_more m.grammar is.laws (m.point s) (prefix ++ bytes) more one.items one.rest one.reads);
+    reads = subst (λ (zs : List ℕ). ReadsAll m.grammar (m.point s) zs one.items (one.rest ++ more))
+        (append_assoc prefix bytes more)
+        (all_more m.grammar is.laws (m.point s) (prefix ++ bytes) more one.items one.rest
+        one.reads);
     told_is = one.told_is;
     ends = is.laws.bad (past_all m.grammar (m.point s) one.items) one.rest more f one.ends;
   }
 
-  makes_one : (m : Machine S P I F E) (s : S) (prefix bytes : List ℕ) (one two : List E) (v w : Option F) → Makes m s prefix bytes one v → Makes m s prefix bytes two w → (one ≡ two) × (v ≡ w)
+  makes_one : (m : Machine S P I F E) (s : S) (prefix bytes : List ℕ) (one two : List E)
+      (v w : Option F) → Makes m s prefix bytes one v → Makes m s prefix bytes two w →
+      (one ≡ two) × (v ≡ w)
   makes_one m s prefix bytes one two v w a b =
-      let same = all_one m.grammar (m.point s) (prefix ++ bytes) a.items b.items a.rest b.rest v w a.reads a.ends b.reads b.ends in
+      let same = all_one m.grammar (m.point s) (prefix ++ bytes) a.items b.items a.rest b.rest v w
+      a.reads a.ends b.reads b.ends in
       (a.told_is ∙ ap (λ (items : List I). told m s items) same.0 ∙ sym b.told_is, same.2)
 
   -- items of a front are the first, and so are their events
-  makes_front : (m : Machine S P I F E) → IsMachine m → (s : S) (prefix bytes more rest : List ℕ) (items : List I) (one two : List E) (w : Option F) → ReadsAll m.grammar (m.point s) (prefix ++ bytes) items rest → one ≡ told m s items → Makes m s prefix (bytes ++ more) two w → (later : List E) × (two ≡ one ++ later)
+  makes_front : (m : Machine S P I F E) → IsMachine m →
+      (s : S) (prefix bytes more rest : List ℕ) (items : List I) (one two : List E) (w : Option F) →
+      ReadsAll m.grammar (m.point s) (prefix ++ bytes) items rest → one ≡ told m s items →
+      Makes m s prefix (bytes ++ more) two w → (later : List E) × (two ≡ one ++ later)
   makes_front m is s prefix bytes more rest items one two w reads told_is b =
-      let there : ReadsAll m.grammar (m.point s) (prefix ++ (bytes ++ more)) items (rest ++ more) = subst (λ (zs : List ℕ). ReadsAll m.grammar (m.point s) zs items (rest ++ more)) (append_assoc prefix bytes more) (all_more m.grammar is.laws (m.point s) (prefix ++ bytes) more items rest reads) in
-      let first = all_front m.grammar (m.point s) (prefix ++ (bytes ++ more)) b.items items b.rest (rest ++ more) w b.reads b.ends there in
-      let later : List E = told m (acts m s items) first.0 in
-      (later, b.told_is ∙ ap (λ (xs : List I). told m s xs) first.1 ∙ told_append m s items first.0 ∙ ap (λ (es : List E). es ++ later) (sym told_is))
+      let there : ReadsAll m.grammar (m.point s) (prefix ++ (bytes ++ more)) items (rest ++ more) =
+      subst (λ (zs : List ℕ). ReadsAll m.grammar (m.point s) zs items (rest ++ more))
+      (append_assoc prefix bytes more)
+      (all_more m.grammar is.laws (m.point s) (prefix ++ bytes) more items rest
+      reads) in
+      let first = all_front m.grammar (m.point s) (prefix ++ (bytes ++ more)) b.items items b.rest
+      (rest ++ more) w b.reads b.ends there in
+      let later : List E = told m (acts m s items) first.0 in (
+        later,
+        b.told_is ∙ ap (λ (xs : List I). told m s xs) first.1 ∙ told_append m s items first.0
+            ∙ ap (λ (es : List E). es ++ later) (sym told_is),
+      )
 
-  -- sessions over the same bytes, however these are cut, tell the same events and then the same fault
-  pub sessions_agree : (m : Machine S P I F E) → IsMachine m → (s : S) (prefix xs ys : List ℕ) (one two : List (Call E)) (v w : Option F) → Waits m s prefix → bytes_of one ++ xs ≡ bytes_of two ++ ys → IsSession m s prefix one xs v → IsSession m s prefix two ys w → (events_of one ≡ events_of two) × (v ≡ w)
+  -- sessions over the same bytes, however these are cut, tell the same
+  -- events and then the same fault
+  pub sessions_agree : (m : Machine S P I F E) → IsMachine m →
+      (s : S) (prefix xs ys : List ℕ) (one two : List (Call E)) (v w : Option F) →
+      Waits m s prefix → bytes_of one ++ xs ≡ bytes_of two ++ ys →
+      IsSession m s prefix one xs v → IsSession m s prefix two ys w →
+      (events_of one ≡ events_of two) × (v ≡ w)
   sessions_agree m is s prefix xs ys one two v w waits same a b =
       let first = session_makes m is s prefix xs one v waits a in
       let second = session_makes m is s prefix ys two w waits b in
-      makes_one m s prefix (bytes_of two ++ ys) (events_of one) (events_of two) v w (subst (λ (zs : List ℕ). Makes m s prefix zs (events_of one) v) same first) second
+      makes_one m s prefix (bytes_of two ++ ys) (events_of one) (events_of two) v w
+      (subst (λ (zs : List ℕ). Makes m s prefix zs (events_of one) v) same first) second
 
   -- once all bytes of a fault are there, so it is with more of them
-  pub faults_stay : (m : Machine S P I F E) → IsMachine m → (s : S) (prefix xs ys more : List ℕ) (one two : List (Call E)) (f : F) (w : Option F) → Waits m s prefix → (bytes_of one ++ xs) ++ more ≡ bytes_of two ++ ys → IsSession m s prefix one xs (Some f) → IsSession m s prefix two ys w → (events_of one ≡ events_of two) × (Some f ≡ w)
+  pub faults_stay : (m : Machine S P I F E) → IsMachine m →
+      (s : S) (prefix xs ys more : List ℕ) (one two : List (Call E)) (f : F) (w : Option F) →
+      Waits m s prefix → (bytes_of one ++ xs) ++ more ≡ bytes_of two ++ ys →
+      IsSession m s prefix one xs (Some f) → IsSession m s prefix two ys w →
+      (events_of one ≡ events_of two) × (Some f ≡ w)
   faults_stay m is s prefix xs ys more one two f w waits same a b =
-      let first = makes_more m is s prefix (bytes_of one ++ xs) more (events_of one) f (session_makes m is s prefix xs one (Some f) waits a) in
+      let first = makes_more m is s prefix (bytes_of one ++ xs) more (events_of one) f
+      (session_makes m is s prefix xs one (Some f) waits a) in
       let second = session_makes m is s prefix ys two w waits b in
-      makes_one m s prefix (bytes_of two ++ ys) (events_of one) (events_of two) (Some f) w (subst (λ (zs : List ℕ). Makes m s prefix zs (events_of one) (Some f)) same first) second
+      makes_one m s prefix (bytes_of two ++ ys) (events_of one) (events_of two) (Some f) w
+      (subst (λ (zs : List ℕ). Makes m s prefix zs (events_of one) (Some f)) same first) second
 
   -- fewer bytes tell the first of the events
-  pub fronts_tell_first : (m : Machine S P I F E) → IsMachine m → (s t : S) (prefix ys more rest : List ℕ) (one two : List (Call E)) (w : Option F) → Waits m s prefix → bytes_of one ++ more ≡ bytes_of two ++ ys → CallsTo m s prefix one t rest → IsSession m s prefix two ys w → (later : List E) × (events_of two ≡ events_of one ++ later)
+  pub fronts_tell_first : (m : Machine S P I F E) → IsMachine m →
+      (s t : S) (prefix ys more rest : List ℕ) (one two : List (Call E)) (w : Option F) →
+      Waits m s prefix → bytes_of one ++ more ≡ bytes_of two ++ ys →
+      CallsTo m s prefix one t rest → IsSession m s prefix two ys w →
+      (later : List E) × (events_of two ≡ events_of one ++ later)
   fronts_tell_first m is s t prefix ys more rest one two w waits same a b =
       let run = calls_run m is s t prefix rest one waits a in
       let second = session_makes m is s prefix ys two w waits b in
-      makes_front m is s prefix (bytes_of one) more rest run.items (events_of one) (events_of two) w run.reads run.told_is (subst (λ (zs : List ℕ). Makes m s prefix zs (events_of two) w) (sym same) second)
+      makes_front m is s prefix (bytes_of one) more rest run.items (events_of one) (events_of two) w
+      run.reads run.told_is
+      (subst (λ (zs : List ℕ). Makes m s prefix zs (events_of two) w) (sym same) second)
 
   -- whatever is asked for
-  pub runs_out_any : (m : Machine S P I F E) (asks : S → List ℕ → Type 0) (s : S) (prefix bytes : List ℕ) → RunsOut m asks s prefix bytes → RunsOut m (λ _ _. ⊤) s prefix bytes
-  runs_out_any m asks s prefix bytes out = record { items = out.items; front = out.front; later = out.later; reads = out.reads; quiet = out.quiet; asked = tt }
+  pub runs_out_any : (m : Machine S P I F E) (asks : S → List ℕ → Type 0) (s : S)
+      (prefix bytes : List ℕ) → RunsOut m asks s prefix bytes → RunsOut m (λ _ _. ⊤) s prefix bytes
+  runs_out_any m asks s prefix bytes out =
+      record {
+        items = out.items;
+        front = out.front;
+        later = out.later;
+        reads = out.reads;
+        quiet = out.quiet;
+        asked = tt;
+      }
 
   -- and so does a session that wants memory
-  pub starved_tell_first : (m : Machine S P I F E) → IsMachine m → (s : S) (prefix xs ys more : List ℕ) (one two : List (Call E)) (w : Option F) → Waits m s prefix → (bytes_of one ++ xs) ++ more ≡ bytes_of two ++ ys → IsStarved m s prefix one xs → IsSession m s prefix two ys w → (later : List E) × (events_of two ≡ events_of one ++ later)
+  pub starved_tell_first : (m : Machine S P I F E) → IsMachine m →
+      (s : S) (prefix xs ys more : List ℕ) (one two : List (Call E)) (w : Option F) →
+      Waits m s prefix → (bytes_of one ++ xs) ++ more ≡ bytes_of two ++ ys →
+      IsStarved m s prefix one xs → IsSession m s prefix two ys w →
+      (later : List E) × (events_of two ≡ events_of one ++ later)
   starved_tell_first m is s prefix xs ys more one two w waits same (new, rest, goes, out) b =
       let run = calls_run m is s new prefix rest one waits goes in
-      let reads = reads_then m is s new prefix rest (bytes_of one) xs (out.front ++ out.later) run.items out.items run.state run.reads out.reads in
-      let told_is = quiet_told m s new prefix (bytes_of one) rest (events_of one) run out.items (told_ends m new out.items None out.quiet) in
+      let reads = reads_then m is s new prefix rest (bytes_of one) xs (out.front ++ out.later)
+      run.items out.items run.state run.reads out.reads in
+      let told_is =
+      quiet_told m s new prefix (bytes_of one) rest (events_of one) run out.items
+      (told_ends m new out.items None out.quiet) in
       let second = session_makes m is s prefix ys two w waits b in
-      makes_front m is s prefix (bytes_of one ++ xs) more (out.front ++ out.later) (run.items ++ out.items) (events_of one) (events_of two) w reads told_is (subst (λ (zs : List ℕ). Makes m s prefix zs (events_of two) w) (sym same) second)
+      makes_front m is s prefix (bytes_of one ++ xs) more (out.front ++ out.later)
+      (run.items ++ out.items) (events_of one) (events_of two) w reads told_is
+      (subst (λ (zs : List ℕ). Makes m s prefix zs (events_of two) w) (sym same) second)
 
   -- ---- deliveries
 
   -- a delivery by one call is a delivery
-  pub delivers_all : (m : Machine S P I F E) (s t : S) (prefix bytes later rest : List ℕ) (queue : List I) (event : Option E) → Delivers m s prefix queue bytes later event t rest → DeliversAll m s prefix queue bytes later (with_event event []) t rest
+  pub delivers_all : (m : Machine S P I F E) (s t : S) (prefix bytes later rest : List ℕ)
+      (queue : List I) (event : Option E) → Delivers m s prefix queue bytes later event t rest →
+      DeliversAll m s prefix queue bytes later (with_event event []) t rest
   delivers_all m s t prefix bytes later rest queue event one = record {
     done = one.done;
     left = one.left;
@@ -123,9 +201,14 @@ module _ {S P I F E : Type 0} where
   }
 
   -- a delivery behind a delivery is one
-  pub deliveries_join : (m : Machine S P I F E) (s t u : S) (prefix xs ys later mid rest : List ℕ) (queue : List I) (es fs : List E) (one : DeliversAll m s prefix queue xs (ys ++ later) es t mid) → DeliversAll m t mid one.left ys later fs u rest → DeliversAll m s prefix queue (xs ++ ys) later (es ++ fs) u rest
+  pub deliveries_join : (m : Machine S P I F E) (s t u : S) (prefix xs ys later mid rest : List ℕ)
+      (queue : List I) (es fs : List E)
+      (one : DeliversAll m s prefix queue xs (ys ++ later) es t mid) →
+      DeliversAll m t mid one.left ys later fs u rest →
+      DeliversAll m s prefix queue (xs ++ ys) later (es ++ fs) u rest
   deliveries_join m s t u prefix xs ys later mid rest queue es fs one two =
-      let told_later : fs ≡ told m (acts m s one.done) two.done = two.told_is ∙ ap (λ (v : S). told m v two.done) one.state in
+      let told_later : fs ≡ told m (acts m s one.done) two.done =
+      two.told_is ∙ ap (λ (v : S). told m v two.done) one.state in
       let bytes = length-append xs ys in
       let items = sizes_append m.grammar one.done two.done in
       let first = one.count in
@@ -133,21 +216,33 @@ module _ {S P I F E : Type 0} where
       record {
         done = one.done ++ two.done;
         left = two.left;
-        queue_is = one.queue_is ∙ ap (λ (items : List I). one.done ++ items) two.queue_is ∙ sym (append_assoc one.done two.done two.left);
-        state = two.state ∙ ap (λ (v : S). acts m v two.done) one.state ∙ sym (acts_append m s one.done two.done);
-        told_is = ap (λ (events : List E). events ++ fs) one.told_is ∙ ap (λ (events : List E). told m s one.done ++ events) told_later ∙ sym (told_append m s one.done two.done);
+        queue_is = one.queue_is ∙ ap (λ (items : List I). one.done ++ items) two.queue_is
+            ∙ sym (append_assoc one.done two.done two.left);
+        state = two.state ∙ ap (λ (v : S). acts m v two.done) one.state
+            ∙ sym (acts_append m s one.done two.done);
+        told_is = ap (λ (events : List E). events ++ fs) one.told_is
+            ∙ ap (λ (events : List E). told m s one.done ++ events) told_later
+            ∙ sym (told_append m s one.done two.done);
         reads = two.reads;
         count = omega (arith, bytes, items, first, second);
         within = two.within;
       }
 
   -- what a run was given of a queue's bytes is delivered
-  run_delivers : (m : Machine S P I F E) → IsMachine m → (s t : S) (prefix bytes later rest : List ℕ) (queue : List I) (events : List E) → Runs m s prefix bytes events t rest → ReadsAll m.grammar (m.point s) ((prefix ++ bytes) ++ later) queue [] → DeliversAll m s prefix queue bytes later events t rest
+  run_delivers : (m : Machine S P I F E) → IsMachine m →
+      (s t : S) (prefix bytes later rest : List ℕ) (queue : List I) (events : List E) →
+      Runs m s prefix bytes events t rest →
+      ReadsAll m.grammar (m.point s) ((prefix ++ bytes) ++ later) queue [] →
+      DeliversAll m s prefix queue bytes later events t rest
   run_delivers m is s t prefix bytes later rest queue events run flight =
-      let left = all_rest m.grammar is.laws (m.point s) (prefix ++ bytes) later run.items queue rest run.reads flight in
-      let point : past_all m.grammar (m.point s) run.items ≡ m.point t = sym (point_acts m is s run.items) ∙ ap m.point (sym run.state) in
-      let reads : ReadsAll m.grammar (m.point t) (rest ++ later) left.0 [] = subst (λ (p : P). ReadsAll m.grammar p (rest ++ later) left.0 []) point left.2 in
-      let size = all_length m.grammar is.laws (m.point s) (prefix ++ bytes) run.items rest run.reads in
+      let left = all_rest m.grammar is.laws (m.point s) (prefix ++ bytes) later run.items queue rest
+      run.reads flight in
+      let point : past_all m.grammar (m.point s) run.items ≡ m.point t =
+      sym (point_acts m is s run.items) ∙ ap m.point (sym run.state) in
+      let reads : ReadsAll m.grammar (m.point t) (rest ++ later) left.0 [] =
+      subst (λ (p : P). ReadsAll m.grammar p (rest ++ later) left.0 []) point left.2 in
+      let size = all_length m.grammar is.laws (m.point s) (prefix ++ bytes) run.items rest
+      run.reads in
       record {
         done = run.items;
         left = left.0;
@@ -160,13 +255,29 @@ module _ {S P I F E : Type 0} where
       }
 
   -- several calls over what was delivered are one delivery
-  pub calls_deliver : (m : Machine S P I F E) → IsMachine m → (s t : S) (prefix later rest : List ℕ) (queue : List I) (calls : List (Call E)) → Waits m s prefix → CallsTo m s prefix calls t rest → ReadsAll m.grammar (m.point s) ((prefix ++ bytes_of calls) ++ later) queue [] → DeliversAll m s prefix queue (bytes_of calls) later (events_of calls) t rest
-  calls_deliver m is s t prefix later rest queue calls waits goes flight = run_delivers m is s t prefix (bytes_of calls) later rest queue (events_of calls) (calls_run m is s t prefix rest calls waits goes) flight
+  pub calls_deliver : (m : Machine S P I F E) → IsMachine m →
+      (s t : S) (prefix later rest : List ℕ) (queue : List I) (calls : List (Call E)) →
+      Waits m s prefix → CallsTo m s prefix calls t rest →
+      ReadsAll m.grammar (m.point s) ((prefix ++ bytes_of calls) ++ later) queue [] →
+      DeliversAll m s prefix queue (bytes_of calls) later (events_of calls) t rest
+  calls_deliver m is s t prefix later rest queue calls waits goes flight =
+      run_delivers m is s t prefix (bytes_of calls) later rest queue (events_of calls)
+      (calls_run m is s t prefix rest calls waits goes) flight
 
   -- and none of them is refused
-  pub calls_not_refused : (m : Machine S P I F E) → IsMachine m → (s : S) (prefix slice later : List ℕ) (queue : List I) (calls : List (Call E)) (fault : F) → Waits m s prefix → ReadsAll m.grammar (m.point s) ((prefix ++ (bytes_of calls ++ slice)) ++ later) queue [] → IsSession m s prefix calls slice (Some fault) → ⊥
-  calls_not_refused m is s prefix slice later queue calls fault waits flight (new, rest, goes, refused) =
-      let all : (prefix ++ (bytes_of calls ++ slice)) ++ later ≡ (prefix ++ bytes_of calls) ++ (slice ++ later) =
-      ap (λ (ys : List ℕ). ys ++ later) (sym (append_assoc prefix (bytes_of calls) slice)) ∙ append_assoc (prefix ++ bytes_of calls) slice later in
-      let one = calls_deliver m is s new prefix (slice ++ later) rest queue calls waits goes (subst (λ (zs : List ℕ). ReadsAll m.grammar (m.point s) zs queue []) all flight) in
-      not_refused m is new rest slice later one.left fault (subst (λ (zs : List ℕ). ReadsAll m.grammar (m.point new) zs one.left []) (sym (append_assoc rest slice later)) one.reads) refused
+  pub calls_not_refused : (m : Machine S P I F E) → IsMachine m →
+      (s : S) (prefix slice later : List ℕ) (queue : List I) (calls : List (Call E)) (fault : F) →
+      Waits m s prefix →
+      ReadsAll m.grammar (m.point s) ((prefix ++ (bytes_of calls ++ slice)) ++ later) queue
+      [] → IsSession m s prefix calls slice (Some fault) → ⊥
+  calls_not_refused m is s prefix slice later queue calls fault waits flight
+      (new, rest, goes, refused) =
+      let all : (prefix ++ (bytes_of calls ++ slice)) ++ later
+      ≡ (prefix ++ bytes_of calls) ++ (slice ++ later) =
+      ap (λ (ys : List ℕ). ys ++ later) (sym (append_assoc prefix (bytes_of calls) slice))
+      ∙ append_assoc (prefix ++ bytes_of calls) slice later in
+      let one = calls_deliver m is s new prefix (slice ++ later) rest queue calls waits goes
+      (subst (λ (zs : List ℕ). ReadsAll m.grammar (m.point s) zs queue []) all flight) in
+      not_refused m is new rest slice later one.left fault
+      (subst (λ (zs : List ℕ). ReadsAll m.grammar (m.point new) zs one.left [])
+      (sym (append_assoc rest slice later)) one.reads) refused

@@ -1,5 +1,5 @@
--- An end of a stream of two grammars, and the ends of its two parts: what it does of the bytes of the
--- first and of the second, once it is known what those ends do of them.
+-- An end of a stream of two grammars, and the ends of its two parts: what it does of the bytes of
+-- the first and of the second, once it is known what those ends do of them.
 use Rattle.std.specs.Prelude.{ℕ, Bool, IsTrue, List, ◌≡◌, ◌⊎◌, Option, Some, None}
 use Rattle.rfb_wire.specs.stream.Parts.{named}
 use Rattle.rfb_wire.specs.stream.Grammar.{Grammar}
@@ -22,42 +22,53 @@ end_at g tells = record { grammar = g; point = λ p. p; act = g.past; tells = te
 
 module _ {S R K H E A P I F D : Type 0} where
   -- an end does what another does, as long as its state shows one of the other's: it reads the same
-  -- items and faults under other names, tells of an item what is named of what the other tells, and goes
-  -- on showing the other's state behind an item of which that tells nothing
-  pub record DoesAs (m : Machine S R K H E) (a : Machine A P I F D) (shows : S → Option A) (item : I → K) (fault : F → H) (event : D → Option E) : Type 0 where
-    pub reads : (s : S) (u : A) (bytes : List ℕ) → shows s ≡ Some u → m.grammar.next (m.point s) bytes ≡ named item fault (a.grammar.next (a.point u) bytes)
-    pub tells : (s : S) (u : A) (i : I) → shows s ≡ Some u → m.tells s (item i) ≡ event_as event (a.tells u i)
-    pub goes_on : (s : S) (u : A) (i : I) → shows s ≡ Some u → a.tells u i ≡ None → shows (m.act s (item i)) ≡ Some (a.act u i)
+  -- items and faults under other names, tells of an item what is named of what the other tells, and
+  -- goes on showing the other's state behind an item of which that tells nothing
+  pub record DoesAs (m : Machine S R K H E) (a : Machine A P I F D) (shows : S → Option A)
+      (item : I → K) (fault : F → H) (event : D → Option E) : Type 0 where
+    pub reads : (s : S) (u : A) (bytes : List ℕ) → shows s ≡ Some u →
+        m.grammar.next (m.point s) bytes ≡ named item fault (a.grammar.next (a.point u) bytes)
+    pub tells : (s : S) (u : A) (i : I) → shows s ≡ Some u →
+        m.tells s (item i) ≡ event_as event (a.tells u i)
+    pub goes_on : (s : S) (u : A) (i : I) → shows s ≡ Some u → a.tells u i ≡ None →
+        shows (m.act s (item i)) ≡ Some (a.act u i)
 
-  -- where a call of the other leaves the end: it shows the state that the other is left in, if no event
-  -- was told; else it showed the state before the last item, of which that was told
-  abbrev pub ComesTo : Machine S R K H E → Machine A P I F D → (S → Option A) → (I → K) → Option D → S → A → Type 0
+  -- where a call of the other leaves the end: it shows the state that the other is left in, if no
+  -- event was told; else it showed the state before the last item, of which that was told
+  abbrev pub ComesTo : Machine S R K H E → Machine A P I F D → (S → Option A) → (I → K) → Option D →
+      S → A → Type 0
   ComesTo m a shows item None t v = shows t ≡ Some v
   ComesTo m a shows item (Some told) t v =
-      (s : S) × (u : A) × (i : I) × (shows s ≡ Some u) × (a.tells u i ≡ Some told) × (t ≡ m.act s (item i)) × (v ≡ a.act u i)
+      (s : S) × (u : A) × (i : I) × (shows s ≡ Some u) × (a.tells u i ≡ Some told)
+      × (t ≡ m.act s (item i)) × (v ≡ a.act u i)
 
-  -- where the other wants memory, by any test of its state and of the bytes that came, the end does: it
-  -- shows the state that wants some
+  -- where the other wants memory, by any test of its state and of the bytes that came, the end
+  -- does: it shows the state that wants some
   abbrev pub StarvesAs : Machine S R K H E → Machine A P I F D → (S → Option A) → Type 0
   StarvesAs m a shows =
-      (wants : A → List ℕ → Bool) (s : S) (u : A) (prefix bytes : List ℕ) → shows s ≡ Some u → RunsOut a (λ v front. IsTrue (wants v front)) u prefix bytes →
+      (wants : A → List ℕ → Bool) (s : S) (u : A) (prefix bytes : List ℕ) → shows s ≡ Some u →
+      RunsOut a (λ v front. IsTrue (wants v front)) u prefix bytes →
       RunsOut m (λ t front. (v : A) × (shows t ≡ Some v) × IsTrue (wants v front)) s prefix bytes
 
 module _ {S A P I F Q J G H D E : Type 0} where
-  -- an end of both is an end of the first as long as its state shows one of that: it stands at the same
-  -- point, tells what is named of what that tells, and shows the next state behind an item that does
-  -- not lead over; of one that leads over the first's end tells something
-  pub record GoesAsFirst (two : Two P I F Q J G H) (m : Machine S (Stage P Q) (Stage I J) H E) (a : Machine A P I F D) (shows : S → Option A) (event : D → Option E) : Type 0 where
+  -- an end of both is an end of the first as long as its state shows one of that: it stands at the
+  -- same point, tells what is named of what that tells, and shows the next state behind an item
+  -- that does not lead over; of one that leads over the first's end tells something
+  pub record GoesAsFirst (two : Two P I F Q J G H) (m : Machine S (Stage P Q) (Stage I J) H E)
+      (a : Machine A P I F D) (shows : S → Option A) (event : D → Option E) : Type 0 where
     pub both : m.grammar ≡ sequel two
     pub grammar : a.grammar ≡ two.first
     pub point : (s : S) (u : A) → shows s ≡ Some u → m.point s ≡ First (a.point u)
-    pub tells : (s : S) (u : A) (i : I) → shows s ≡ Some u → m.tells s (First i) ≡ event_as event (a.tells u i)
-    pub stays : (s : S) (u : A) (i : I) → shows s ≡ Some u → two.leads (a.point u) i ≡ None → shows (m.act s (First i)) ≡ Some (a.act u i)
+    pub tells : (s : S) (u : A) (i : I) → shows s ≡ Some u →
+        m.tells s (First i) ≡ event_as event (a.tells u i)
+    pub stays : (s : S) (u : A) (i : I) → shows s ≡ Some u → two.leads (a.point u) i ≡ None →
+        shows (m.act s (First i)) ≡ Some (a.act u i)
     pub told_over : (u : A) (i : I) → a.tells u i ≡ None → two.leads (a.point u) i ≡ None
 
-  -- an item led over: the state before it showed one of the first's end, and the one behind it stands at
-  -- the point of the second that the item leads to
-  pub record LedOver (two : Two P I F Q J G H) (m : Machine S (Stage P Q) (Stage I J) H E) (a : Machine A P I F D) (shows : S → Option A) (t : S) (v : A) : Type 0 where
+  -- an item led over: the state before it showed one of the first's end, and the one behind it
+  -- stands at the point of the second that the item leads to
+  pub record LedOver (two : Two P I F Q J G H) (m : Machine S (Stage P Q) (Stage I J) H E)
+      (a : Machine A P I F D) (shows : S → Option A) (t : S) (v : A) : Type 0 where
     pub before : S
     pub shown : A
     pub item : I
@@ -68,39 +79,53 @@ module _ {S A P I F Q J G H D E : Type 0} where
     pub left : v ≡ a.act shown item
     pub point : m.point t ≡ Second to
 
-  -- behind a call of the first's end: the end of both shows the state that this left, or was led over
-  abbrev pub LandsAs : Two P I F Q J G H → Machine S (Stage P Q) (Stage I J) H E → Machine A P I F D → (S → Option A) → S → A → Type 0
+  -- behind a call of the first's end: the end of both shows the state that
+  -- this left, or was led over
+  abbrev pub LandsAs : Two P I F Q J G H → Machine S (Stage P Q) (Stage I J) H E →
+      Machine A P I F D → (S → Option A) → S → A → Type 0
   LandsAs two m a shows t v = (shows t ≡ Some v) ⊎ LedOver two m a shows t v
 
   -- what the first's end takes, the end of both takes, with the event that this is of the whole
-  abbrev pub TakesAsFirst : Two P I F Q J G H → Machine S (Stage P Q) (Stage I J) H E → Machine A P I F D → (S → Option A) → (D → Option E) → Type 0
+  abbrev pub TakesAsFirst : Two P I F Q J G H → Machine S (Stage P Q) (Stage I J) H E →
+      Machine A P I F D → (S → Option A) → (D → Option E) → Type 0
   TakesAsFirst two m a shows event =
-      (s : S) (u v : A) (prefix bytes rest : List ℕ) (told : Option D) → shows s ≡ Some u → Takes a u prefix bytes told v rest →
+      (s : S) (u v : A) (prefix bytes rest : List ℕ) (told : Option D) → shows s ≡ Some u →
+      Takes a u prefix bytes told v rest →
       (t : S) × Takes m s prefix bytes (event_as event told) t rest × LandsAs two m a shows t v
 
   -- what it refuses, the end of both refuses, by the fault that this is of the whole
-  abbrev pub RefusesAsFirst : Two P I F Q J G H → Machine S (Stage P Q) (Stage I J) H E → Machine A P I F D → (S → Option A) → Type 0
+  abbrev pub RefusesAsFirst : Two P I F Q J G H → Machine S (Stage P Q) (Stage I J) H E →
+      Machine A P I F D → (S → Option A) → Type 0
   RefusesAsFirst two m a shows =
-      (s : S) (u : A) (prefix bytes : List ℕ) (fault : F) → shows s ≡ Some u → Refuses a u prefix bytes fault → Refuses m s prefix bytes (two.first_fault fault)
+      (s : S) (u : A) (prefix bytes : List ℕ) (fault : F) → shows s ≡ Some u →
+      Refuses a u prefix bytes fault → Refuses m s prefix bytes (two.first_fault fault)
 
 module _ {S B P I F Q J G H C E : Type 0} where
-  -- an end of both is an end of the second as long as its state shows one of that; no item leads out
-  pub record GoesAsSecond (two : Two P I F Q J G H) (m : Machine S (Stage P Q) (Stage I J) H E) (b : Machine B Q J G C) (shows : S → Option B) (event : C → Option E) : Type 0 where
+  -- an end of both is an end of the second as long as its state shows one
+  -- of that; no item leads out
+  pub record GoesAsSecond (two : Two P I F Q J G H) (m : Machine S (Stage P Q) (Stage I J) H E)
+      (b : Machine B Q J G C) (shows : S → Option B) (event : C → Option E) : Type 0 where
     pub both : m.grammar ≡ sequel two
     pub grammar : b.grammar ≡ two.second
     pub point : (s : S) (u : B) → shows s ≡ Some u → m.point s ≡ Second (b.point u)
-    pub tells : (s : S) (u : B) (j : J) → shows s ≡ Some u → m.tells s (Second j) ≡ event_as event (b.tells u j)
-    pub stays : (s : S) (u : B) (j : J) → shows s ≡ Some u → shows (m.act s (Second j)) ≡ Some (b.act u j)
+    pub tells : (s : S) (u : B) (j : J) → shows s ≡ Some u →
+        m.tells s (Second j) ≡ event_as event (b.tells u j)
+    pub stays : (s : S) (u : B) (j : J) → shows s ≡ Some u →
+        shows (m.act s (Second j)) ≡ Some (b.act u j)
 
 module _ {S B P I Q J G H C E : Type 0} where
   -- what the second's end takes, the end of both takes, and goes on showing where that stands
-  abbrev pub TakesAsSecond : Machine S (Stage P Q) (Stage I J) H E → Machine B Q J G C → (S → Option B) → (C → Option E) → Type 0
+  abbrev pub TakesAsSecond : Machine S (Stage P Q) (Stage I J) H E → Machine B Q J G C →
+      (S → Option B) → (C → Option E) → Type 0
   TakesAsSecond m b shows event =
-      (s : S) (u v : B) (prefix bytes rest : List ℕ) (told : Option C) → shows s ≡ Some u → Takes b u prefix bytes told v rest →
+      (s : S) (u v : B) (prefix bytes rest : List ℕ) (told : Option C) → shows s ≡ Some u →
+      Takes b u prefix bytes told v rest →
       (t : S) × Takes m s prefix bytes (event_as event told) t rest × (shows t ≡ Some v)
 
 module _ {S B P I F Q J G H C E : Type 0} where
   -- what it refuses, the end of both refuses, by the fault that this is of the whole
-  abbrev pub RefusesAsSecond : Two P I F Q J G H → Machine S (Stage P Q) (Stage I J) H E → Machine B Q J G C → (S → Option B) → Type 0
+  abbrev pub RefusesAsSecond : Two P I F Q J G H → Machine S (Stage P Q) (Stage I J) H E →
+      Machine B Q J G C → (S → Option B) → Type 0
   RefusesAsSecond two m b shows =
-      (s : S) (u : B) (prefix bytes : List ℕ) (fault : G) → shows s ≡ Some u → Refuses b u prefix bytes fault → Refuses m s prefix bytes (two.second_fault fault)
+      (s : S) (u : B) (prefix bytes : List ℕ) (fault : G) → shows s ≡ Some u →
+      Refuses b u prefix bytes fault → Refuses m s prefix bytes (two.second_fault fault)

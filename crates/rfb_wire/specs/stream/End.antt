@@ -45,16 +45,19 @@ module _ {S P I F E : Type 0} where
   abbrev pub EndsWith : Machine S P I F E → S → List I → Option E → Type 0
   EndsWith m s [] event = event ≡ None
   EndsWith m s (i ∷ []) event = m.tells s i ≡ event
-  EndsWith m s (i ∷ j ∷ items) event = (m.tells s i ≡ None) × EndsWith m (m.act s i) (j ∷ items) event
+  EndsWith m s (i ∷ j ∷ items) event =
+      (m.tells s i ≡ None) × EndsWith m (m.act s i) (j ∷ items) event
 
   -- the events that items make
   abbrev pub told : Machine S P I F E → S → List I → List E
   told m s [] = []
   told m s (i ∷ items) = with_event (m.tells s i) (told m (m.act s i) items)
 
-  -- what it takes of the bytes that follow a prefix: whole items up to the first that makes an event,
-  -- or as far as the bytes go, and then what is too few for another; nothing is left over behind an event
-  pub record Takes (m : Machine S P I F E) (old : S) (prefix bytes : List ℕ) (event : Option E) (new : S) (rest : List ℕ) : Type 0 where
+  -- what it takes of the bytes that follow a prefix: whole items up to the first that makes
+  -- an event, or as far as the bytes go, and then what is too few for another; nothing is
+  -- left over behind an event
+  pub record Takes (m : Machine S P I F E) (old : S) (prefix bytes : List ℕ) (event : Option E)
+      (new : S) (rest : List ℕ) : Type 0 where
     pub items : List I
     pub reads : ReadsAll m.grammar (m.point old) (prefix ++ bytes) items rest
     pub state : new ≡ acts m old items
@@ -63,16 +66,18 @@ module _ {S P I F E : Type 0} where
     pub whole : IfSome event (λ _. rest ≡ [])
 
   -- it refuses them: whole items without an event, and then a fault
-  pub record Refuses (m : Machine S P I F E) (old : S) (prefix bytes : List ℕ) (fault : F) : Type 0 where
+  pub record Refuses (m : Machine S P I F E) (old : S) (prefix bytes : List ℕ) (fault : F) : Type
+      0 where
     pub items : List I
     pub rest : List ℕ
     pub reads : ReadsAll m.grammar (m.point old) (prefix ++ bytes) items rest
     pub quiet : EndsWith m old items None
     pub bad : m.grammar.next (m.point (acts m old items)) rest ≡ Bad fault
 
-  -- it wants memory that there is not: whole items without an event, and then bytes at which it asks
-  -- for some, whatever follows these
-  pub record RunsOut (m : Machine S P I F E) (asks : S → List ℕ → Type 0) (old : S) (prefix bytes : List ℕ) : Type 0 where
+  -- it wants memory that there is not: whole items without an event, and then bytes at which it
+  -- asks for some, whatever follows these
+  pub record RunsOut (m : Machine S P I F E) (asks : S → List ℕ → Type 0) (old : S)
+      (prefix bytes : List ℕ) : Type 0 where
     pub items : List I
     pub front : List ℕ
     pub later : List ℕ
@@ -82,7 +87,8 @@ module _ {S P I F E : Type 0} where
 
   -- what it made of the bytes that follow a prefix, over any number of calls: whole items, their
   -- events, and what is too few for another
-  pub record Runs (m : Machine S P I F E) (old : S) (prefix bytes : List ℕ) (events : List E) (new : S) (rest : List ℕ) : Type 0 where
+  pub record Runs (m : Machine S P I F E) (old : S) (prefix bytes : List ℕ) (events : List E)
+      (new : S) (rest : List ℕ) : Type 0 where
     pub items : List I
     pub reads : ReadsAll m.grammar (m.point old) (prefix ++ bytes) items rest
     pub state : new ≡ acts m old items
@@ -93,11 +99,13 @@ module _ {S P I F E : Type 0} where
   abbrev pub CallsTo : Machine S P I F E → S → List ℕ → List (Call E) → S → List ℕ → Type 0
   CallsTo m old prefix [] new rest = (new ≡ old) × (rest ≡ prefix)
   CallsTo m old prefix (call ∷ calls) new rest =
-      (mid : S) × (left : List ℕ) × Takes m old prefix call.bytes call.event mid left × CallsTo m mid left calls new rest
+      (mid : S) × (left : List ℕ) × Takes m old prefix call.bytes call.event mid left
+      × CallsTo m mid left calls new rest
 
-  -- bytes that were delivered of those in flight to it, where all in flight are the items of a queue:
-  -- so many items are done, and what is left of the queue is what is left of the bytes
-  pub record Delivers (m : Machine S P I F E) (old : S) (prefix : List ℕ) (queue : List I) (bytes later : List ℕ) (event : Option E) (new : S) (rest : List ℕ) : Type 0 where
+  -- bytes that were delivered of those in flight to it, where all in flight are the items of a
+  -- queue: so many items are done, and what is left of the queue is what is left of the bytes
+  pub record Delivers (m : Machine S P I F E) (old : S) (prefix : List ℕ) (queue : List I)
+      (bytes later : List ℕ) (event : Option E) (new : S) (rest : List ℕ) : Type 0 where
     pub done : List I
     pub left : List I
     pub queue_is : queue ≡ done ++ left
@@ -110,34 +118,46 @@ module _ {S P I F E : Type 0} where
 module _ {S P I F E V : Type 0} where
   -- what a call leaves: an end that stood for a state and a prefix takes the bytes from there, and
   -- stands for the state and the prefix that this leaves
-  abbrev pub FedBy : Machine S P I F E → (V → S → List ℕ → Type 0) → V → List ℕ → Option E → V → Type 0
+  abbrev pub FedBy : Machine S P I F E → (V → S → List ℕ → Type 0) → V → List ℕ → Option E → V →
+      Type 0
   FedBy m stands old bytes event new =
-      (s : S) (prefix : List ℕ) → stands old s prefix → (t : S) × (rest : List ℕ) × stands new t rest × Takes m s prefix bytes event t rest
+      (s : S) (prefix : List ℕ) → stands old s prefix →
+      (t : S) × (rest : List ℕ) × stands new t rest × Takes m s prefix bytes event t rest
 
-  -- what a fault says: from each state and prefix that the end stood for, the bytes are refused by it
+  -- what a fault says: from each state and prefix that the end stood for,
+  -- the bytes are refused by it
   abbrev pub RefusedBy : Machine S P I F E → (V → S → List ℕ → Type 0) → V → List ℕ → F → Type 0
-  RefusedBy m stands old bytes fault = (s : S) (prefix : List ℕ) → stands old s prefix → Refuses m s prefix bytes fault
+  RefusedBy m stands old bytes fault =
+      (s : S) (prefix : List ℕ) → stands old s prefix → Refuses m s prefix bytes fault
 
-  -- what want of memory says: from each state and prefix that the end stood for, the bytes lead to where
-  -- it asks for some
-  abbrev pub RunsOutBy : Machine S P I F E → (S → List ℕ → Type 0) → (V → S → List ℕ → Type 0) → V → List ℕ → Type 0
-  RunsOutBy m asks stands old bytes = (s : S) (prefix : List ℕ) → stands old s prefix → RunsOut m asks s prefix bytes
+  -- what want of memory says: from each state and prefix that the end stood for, the bytes lead
+  -- to where it asks for some
+  abbrev pub RunsOutBy : Machine S P I F E → (S → List ℕ → Type 0) → (V → S → List ℕ → Type 0) → V →
+      List ℕ → Type 0
+  RunsOutBy m asks stands old bytes =
+      (s : S) (prefix : List ℕ) → stands old s prefix → RunsOut m asks s prefix bytes
 
-  -- what one step answers to a unit of bytes, a byte or a run of them, of one item: `next` is what the
-  -- prefix with the unit behind it begins with
-  abbrev pub Steps : Machine S P I F E → (V → S → List ℕ → Type 0) → V → S → List ℕ → Next I F → Result (Option E) F → Type 0
+  -- what one step answers to a unit of bytes, a byte or a run of them, of one item: `next` is what
+  -- the prefix with the unit behind it begins with
+  abbrev pub Steps : Machine S P I F E → (V → S → List ℕ → Type 0) → V → S → List ℕ → Next I F →
+      Result (Option E) F → Type 0
   Steps m stands new s bytes More (Ok event) = (event ≡ None) × stands new s bytes
-  Steps m stands new s bytes (Got i rest) (Ok event) = (rest ≡ []) × (m.tells s i ≡ event) × stands new (m.act s i) []
+  Steps m stands new s bytes (Got i rest) (Ok event) =
+      (rest ≡ []) × (m.tells s i ≡ event) × stands new (m.act s i) []
   Steps m stands new s bytes (Bad f) (Err fault) = fault ≡ f
   Steps m stands new s bytes More (Err fault) = ⊥
   Steps m stands new s bytes (Got i rest) (Err fault) = ⊥
   Steps m stands new s bytes (Bad f) (Ok event) = ⊥
 
   -- an end steps by a unit: whatever it stood for, its answer is what the grammar says
-  abbrev pub StepsBy : Machine S P I F E → (V → S → List ℕ → Type 0) → V → List ℕ → Result (Option E) F → V → Type 0
+  abbrev pub StepsBy : Machine S P I F E → (V → S → List ℕ → Type 0) → V → List ℕ →
+      Result (Option E) F → V → Type 0
   StepsBy m stands old bytes result new =
-      (s : S) (prefix : List ℕ) → stands old s prefix → Steps m stands new s (prefix ++ bytes) (m.grammar.next (m.point s) (prefix ++ bytes)) result
+      (s : S) (prefix : List ℕ) → stands old s prefix →
+      Steps m stands new s (prefix ++ bytes) (m.grammar.next (m.point s) (prefix ++ bytes))
+      result
 
 -- an end that has failed answers its fault again, and stays as it is
 abbrev pub StaysFailed : {V A F : Type 0} → Option F → V → Result A F → V → Type 0
-StaysFailed {F = F} failed old result new = (f : F) → failed ≡ Some f → (result ≡ Err f) × (new ≡ old)
+StaysFailed {F = F} failed old result new =
+    (f : F) → failed ≡ Some f → (result ≡ Err f) × (new ≡ old)

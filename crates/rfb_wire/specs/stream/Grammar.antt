@@ -27,18 +27,23 @@ module _ {P I F : Type 0} where
     pub some : (p : P) (i : I) (bytes : List ℕ) → (says p).item i bytes → 0 < length bytes
     pub some_fault : (p : P) (f : F) (bytes : List ℕ) → (says p).fault f bytes → 0 < length bytes
 
-  -- the laws of a grammar: further bytes change no answer, an item is its own bytes and no others, and
-  -- no bytes are too few
+  -- the laws of a grammar: further bytes change no answer, an item is its own bytes and no others,
+  -- and no bytes are too few
   pub record IsGrammar (g : Grammar P I F) : Type 0 where
-    pub got : (p : P) (bytes tail : List ℕ) (i : I) (rest : List ℕ) → g.next p bytes ≡ Got i rest → g.next p (bytes ++ tail) ≡ Got i (rest ++ tail)
-    pub bad : (p : P) (bytes tail : List ℕ) (f : F) → g.next p bytes ≡ Bad f → g.next p (bytes ++ tail) ≡ Bad f
-    pub cut : (p : P) (bytes : List ℕ) (i : I) (rest : List ℕ) → g.next p bytes ≡ Got i rest → (front : List ℕ) × (bytes ≡ front ++ rest) × (g.next p front ≡ Got i []) × (length front ≡ g.size i)
+    pub got : (p : P) (bytes tail : List ℕ) (i : I) (rest : List ℕ) → g.next p bytes ≡ Got i rest →
+        g.next p (bytes ++ tail) ≡ Got i (rest ++ tail)
+    pub bad : (p : P) (bytes tail : List ℕ) (f : F) → g.next p bytes ≡ Bad f →
+        g.next p (bytes ++ tail) ≡ Bad f
+    pub cut : (p : P) (bytes : List ℕ) (i : I) (rest : List ℕ) → g.next p bytes ≡ Got i rest →
+        (front : List ℕ) × (bytes ≡ front ++ rest) × (g.next p front ≡ Got i [])
+        × (length front ≡ g.size i)
     pub empty : (p : P) → g.next p [] ≡ More
 
   -- bytes at a point are these items, and behind them the rest
   abbrev pub ReadsAll : Grammar P I F → P → List ℕ → List I → List ℕ → Type 0
   ReadsAll g p bytes [] rest = bytes ≡ rest
-  ReadsAll g p bytes (i ∷ items) rest = (mid : List ℕ) × (g.next p bytes ≡ Got i mid) × ReadsAll g (g.past p i) mid items rest
+  ReadsAll g p bytes (i ∷ items) rest =
+      (mid : List ℕ) × (g.next p bytes ≡ Got i mid) × ReadsAll g (g.past p i) mid items rest
 
   -- the point behind items
   abbrev pub past_all : Grammar P I F → P → List I → P
@@ -57,12 +62,14 @@ module _ {P I F : Type 0} where
 
   -- the verdict of bytes at a point: the items that they begin with, and then a fault, or too few
   -- bytes for another
-  pub record HasVerdict (g : Grammar P I F) (p : P) (bytes : List ℕ) (items : List I) (fault : Option F) : Type 0 where
+  pub record HasVerdict (g : Grammar P I F) (p : P) (bytes : List ℕ) (items : List I)
+      (fault : Option F) : Type 0 where
     pub rest : List ℕ
     pub reads : ReadsAll g p bytes items rest
     pub ends : EndsIn fault (g.next (past_all g p items) rest)
 
-  -- the verdict of slices that are read one after another, each behind what was left of those before it
+  -- the verdict of slices that are read one after another, each behind what
+  -- was left of those before it
   abbrev pub CutVerdict : Grammar P I F → P → List ℕ → List (List ℕ) → List I → Option F → Type 0
   CutVerdict g p front [] items fault = (items ≡ []) × (fault ≡ None) × (g.next p front ≡ More)
   CutVerdict g p front (slice ∷ slices) items fault =

@@ -1,5 +1,5 @@
--- Heads, of which the first byte decides the rest: what bytes that are no whole head are, by the relation
--- between heads and their bytes.
+-- Heads, of which the first byte decides the rest: what bytes that are no whole head are, by the
+-- relation between heads and their bytes.
 use Rattle.std.specs.Prelude.{◌≡◌, ℕ, ◌<◌, List, [], ◌∷◌, ◌++◌, length}
 
 module _ {V : Type 0} where
@@ -12,4 +12,5 @@ module _ {V : Type 0} where
   abbrev pub Misses : (V → List ℕ → Type 0) → ℕ → List ℕ → Type 0
   Misses Spells n [] = n ≡ 1
   Misses Spells n (first ∷ rest) =
-      (0 < n) × ((missing : List ℕ) → length missing ≡ n → (v : V) × Spells v (first ∷ rest ++ missing))
+      (0 < n) × ((missing : List ℕ) → length missing ≡ n →
+      (v : V) × Spells v (first ∷ rest ++ missing))

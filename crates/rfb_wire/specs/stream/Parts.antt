@@ -62,7 +62,8 @@ module _ {A F : Type 0} where
   -- so many parts, each named by the items before it, of which the list's come first
   abbrev pub each : ℕ → (List A → Reading A F) → List A → Reading (List A) F
   each zero p before = done []
-  each (suc n) p before = and_then (p before) (λ a. and_then (each n p (before ++ a ∷ [])) (λ more. done (a ∷ more)))
+  each (suc n) p before =
+      and_then (p before) (λ a. and_then (each n p (before ++ a ∷ [])) (λ more. done (a ∷ more)))
 
   -- one part so many times
   abbrev pub many : ℕ → Reading A F → Reading (List A) F
@@ -72,11 +73,14 @@ module _ {A F : Type 0} where
   -- the rest of a head of so many bytes, or none where there is no such head
   abbrev pub rest_of_head : (ℕ → F) → (List ℕ → A) → ℕ → Option ℕ → Reading A F
   rest_of_head unknown head_in first None = refused (unknown first)
-  rest_of_head unknown head_in first (Some size) = valued (size - 1) (λ rest. head_in (first ∷ rest))
+  rest_of_head unknown head_in first (Some size) =
+      valued (size - 1) (λ rest. head_in (first ∷ rest))
 
   -- a head whose first byte decides how many bytes it has
   abbrev pub headed : (ℕ → Option ℕ) → (ℕ → F) → (List ℕ → A) → Reading A F
-  headed size unknown head_in = and_then (valued 1 (λ bytes. slice_index bytes 0)) (λ first. rest_of_head unknown head_in first (size first))
+  headed size unknown head_in =
+      and_then (valued 1 (λ bytes. slice_index bytes 0))
+      (λ first. rest_of_head unknown head_in first (size first))
 
 module _ {A B F H : Type 0} where
   -- what was read, its item and its fault named otherwise

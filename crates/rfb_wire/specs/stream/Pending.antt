@@ -1,5 +1,5 @@
--- Pending bytes: those of an item under way that stand behind its last whole piece. A piece is what is
--- judged at once, when its last byte is there.
+-- Pending bytes: those of an item under way that stand behind its last whole piece. A piece is what
+-- is judged at once, when its last byte is there.
 use Rattle.std.specs.Prelude.{ℕ, ◌%◌, List, [], ◌∷◌, Option, Some, None, nat_lt, length, drop, if◌then◌else◌}
 use Rattle.rfb_wire.specs.stream.Sequel.{Stage, First, Second}
 
@@ -7,10 +7,11 @@ use Rattle.rfb_wire.specs.stream.Sequel.{Stage, First, Second}
 abbrev pub in_pieces : ℕ → List ℕ → ℕ
 in_pieces size bytes = length bytes % size
 
--- how many are pending where a piece of so many bytes comes first: all until it is whole, and then what
--- is pending behind it
+-- how many are pending where a piece of so many bytes comes first: all until it is whole, and then
+-- what is pending behind it
 abbrev pub behind_piece : ℕ → (List ℕ → ℕ) → List ℕ → ℕ
-behind_piece size pending bytes = if nat_lt (length bytes) size then length bytes else pending (drop size bytes)
+behind_piece size pending bytes =
+    if nat_lt (length bytes) size then length bytes else pending (drop size bytes)
 
 -- how many are pending where pieces of one size stand behind a head
 abbrev pub behind_pieces : ℕ → ℕ → List ℕ → ℕ
@@ -21,13 +22,14 @@ abbrev pub behind_head : Option ℕ → ℕ → List ℕ → ℕ
 behind_head None size bytes = 0
 behind_head (Some head) size bytes = behind_pieces head size bytes
 
--- how many are pending of a message, by the size of its head and of the pieces behind that, which its
--- first byte decides
+-- how many are pending of a message, by the size of its head and of the pieces behind that,
+-- which its first byte decides
 abbrev pub message_pending : (ℕ → Option ℕ) → (ℕ → ℕ) → List ℕ → ℕ
 message_pending head size [] = 0
 message_pending head size (first ∷ rest) = behind_head (head first) (size first) (first ∷ rest)
 
 -- how many are pending at a point of a stream of two grammars: as many as in the one it belongs to
-abbrev pub pending_in : {P Q : Type 0} → (P → List ℕ → ℕ) → (Q → List ℕ → ℕ) → Stage P Q → List ℕ → ℕ
+abbrev pub pending_in : {P Q : Type 0} → (P → List ℕ → ℕ) → (Q → List ℕ → ℕ) → Stage P Q → List ℕ →
+    ℕ
 pending_in one other (First p) bytes = one p bytes
 pending_in one other (Second q) bytes = other q bytes

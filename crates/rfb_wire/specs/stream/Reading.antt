@@ -19,9 +19,11 @@ pub record Says (A F : Type 0) : Type 1 where
 module _ {A F : Type 0} where
   -- the reading gives exactly the items and the faults that bytes say, whatever stands behind them
   pub record Reads (p : Reading A F) (s : Says A F) : Type 0 where
-    pub found : (bytes : List ℕ) (a : A) (rest : List ℕ) → p bytes ≡ Got a rest → (front : List ℕ) × (bytes ≡ front ++ rest) × s.item a front
+    pub found : (bytes : List ℕ) (a : A) (rest : List ℕ) → p bytes ≡ Got a rest →
+        (front : List ℕ) × (bytes ≡ front ++ rest) × s.item a front
     pub only : (a : A) (front rest : List ℕ) → s.item a front → p (front ++ rest) ≡ Got a rest
-    pub blamed : (bytes : List ℕ) (f : F) → p bytes ≡ Bad f → (front rest : List ℕ) × (bytes ≡ front ++ rest) × s.fault f front
+    pub blamed : (bytes : List ℕ) (f : F) → p bytes ≡ Bad f →
+        (front rest : List ℕ) × (bytes ≡ front ++ rest) × s.fault f front
     pub blames : (f : F) (front rest : List ℕ) → s.fault f front → p (front ++ rest) ≡ Bad f
 
   -- both say the same of each list of bytes
@@ -35,12 +37,15 @@ module _ {A : Type 0} where
   -- bytes are one item's behind another's
   abbrev pub Listed : (A → List ℕ → Type 0) → List A → List ℕ → Type 0
   Listed R [] bytes = bytes ≡ []
-  Listed R (a ∷ more) bytes = (front back : List ℕ) × (bytes ≡ front ++ back) × R a front × Listed R more back
+  Listed R (a ∷ more) bytes =
+      (front back : List ℕ) × (bytes ≡ front ++ back) × R a front × Listed R more back
 
   -- bytes are one item's behind another's, where each may depend on the items before it
   abbrev pub ListedAfter : (List A → A → List ℕ → Type 0) → List A → List A → List ℕ → Type 0
   ListedAfter R before [] bytes = bytes ≡ []
-  ListedAfter R before (a ∷ more) bytes = (front back : List ℕ) × (bytes ≡ front ++ back) × R before a front × ListedAfter R (before ++ a ∷ []) more back
+  ListedAfter R before (a ∷ more) bytes =
+      (front back : List ℕ) × (bytes ≡ front ++ back) × R before a front
+      × ListedAfter R (before ++ a ∷ []) more back
 
   -- an item that is there or not
   abbrev pub Optionally : Bool → (A → List ℕ → Type 0) → Option A → List ℕ → Type 0

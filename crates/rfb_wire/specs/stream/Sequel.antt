@@ -23,7 +23,8 @@ size_in one two (Second j) = two j
 abbrev pub in_both : {I J : Type 0} → List I → I → List J → List (Stage I J)
 in_both items last others = map (λ i. First i) (items ++ last ∷ []) ++ map (λ j. Second j) others
 
--- two grammars, the point of the second that an item of the first leads to, and what their faults are
+-- two grammars, the point of the second that an item of the first leads to,
+-- and what their faults are
 pub record Two (P I F Q J G H : Type 0) : Type 0 where
   pub first : Grammar P I F
   pub leads : P → I → Option Q
@@ -46,24 +47,36 @@ module _ {P I F Q J G H : Type 0} where
 
   -- the grammar of both
   abbrev pub sequel : Two P I F Q J G H → Grammar (Stage P Q) (Stage I J) H
-  sequel two = record { next = next_in two; past = past_in two; size = size_in two.first.size two.second.size }
+  sequel two =
+      record {
+        next = next_in two;
+        past = past_in two;
+        size = size_in two.first.size two.second.size;
+      }
 
   -- what bytes say at a point of either
-  abbrev pub ItemIn : Two P I F Q J G H → (P → Says I F) → (Q → Says J G) → Stage P Q → Stage I J → List ℕ → Type 0
+  abbrev pub ItemIn : Two P I F Q J G H → (P → Says I F) → (Q → Says J G) → Stage P Q → Stage I J →
+      List ℕ → Type 0
   ItemIn two one other (First p) (First i) bytes = (one p).item i bytes
   ItemIn two one other (First p) (Second j) bytes = ⊥
   ItemIn two one other (Second q) (First i) bytes = ⊥
   ItemIn two one other (Second q) (Second j) bytes = (other q).item j bytes
 
-  abbrev pub FaultIn : Two P I F Q J G H → (P → Says I F) → (Q → Says J G) → Stage P Q → H → List ℕ → Type 0
-  FaultIn two one other (First p) h bytes = (f : F) × (h ≡ two.first_fault f) × (one p).fault f bytes
-  FaultIn two one other (Second q) h bytes = (f : G) × (h ≡ two.second_fault f) × (other q).fault f bytes
+  abbrev pub FaultIn : Two P I F Q J G H → (P → Says I F) → (Q → Says J G) → Stage P Q → H →
+      List ℕ → Type 0
+  FaultIn two one other (First p) h bytes =
+      (f : F) × (h ≡ two.first_fault f) × (one p).fault f bytes
+  FaultIn two one other (Second q) h bytes =
+      (f : G) × (h ≡ two.second_fault f) × (other q).fault f bytes
 
-  abbrev pub sequel_says : Two P I F Q J G H → (P → Says I F) → (Q → Says J G) → Stage P Q → Says (Stage I J) H
-  sequel_says two one other s = record { item = ItemIn two one other s; fault = FaultIn two one other s }
+  abbrev pub sequel_says : Two P I F Q J G H → (P → Says I F) → (Q → Says J G) → Stage P Q →
+      Says (Stage I J) H
+  sequel_says two one other s =
+      record { item = ItemIn two one other s; fault = FaultIn two one other s }
 
   -- none of these items but the last leads over to the second
   abbrev pub StaysFirst : Two P I F Q J G H → P → List I → Type 0
   StaysFirst two p [] = ⊤
   StaysFirst two p (i ∷ []) = ⊤
-  StaysFirst two p (i ∷ j ∷ items) = (two.leads p i ≡ None) × StaysFirst two (two.first.past p i) (j ∷ items)
+  StaysFirst two p (i ∷ j ∷ items) =
+      (two.leads p i ≡ None) × StaysFirst two (two.first.past p i) (j ∷ items)

@@ -11,17 +11,23 @@ module _ {S P I F E : Type 0} where
 
   -- calls, and then a slice that is refused by a fault; or none
   abbrev pub IsSession : Machine S P I F E → S → List ℕ → List (Call E) → List ℕ → Option F → Type 0
-  IsSession m old prefix calls slice None = (slice ≡ []) × (new : S) × (rest : List ℕ) × CallsTo m old prefix calls new rest
-  IsSession m old prefix calls slice (Some fault) = (new : S) × (rest : List ℕ) × CallsTo m old prefix calls new rest × Refuses m new rest slice fault
+  IsSession m old prefix calls slice None =
+      (slice ≡ []) × (new : S) × (rest : List ℕ) × CallsTo m old prefix calls new rest
+  IsSession m old prefix calls slice (Some fault) =
+      (new : S) × (rest : List ℕ) × CallsTo m old prefix calls new rest
+      × Refuses m new rest slice fault
 
   -- calls, and then a slice at which memory is wanted that there is not, wherever it is asked for
   abbrev pub IsStarved : Machine S P I F E → S → List ℕ → List (Call E) → List ℕ → Type 0
-  IsStarved m old prefix calls slice = (new : S) × (rest : List ℕ) × CallsTo m old prefix calls new rest × RunsOut m (λ _ _. ⊤) new rest slice
+  IsStarved m old prefix calls slice =
+      (new : S) × (rest : List ℕ) × CallsTo m old prefix calls new rest
+      × RunsOut m (λ _ _. ⊤) new rest slice
 
-  -- bytes that were delivered of those in flight by any number of calls, where all in flight are the
-  -- items of a queue: so many items are done, with these events, and what is left of the queue is what
-  -- is left of the bytes
-  pub record DeliversAll (m : Machine S P I F E) (old : S) (prefix : List ℕ) (queue : List I) (bytes later : List ℕ) (events : List E) (new : S) (rest : List ℕ) : Type 0 where
+  -- bytes that were delivered of those in flight by any number of calls, where all in flight are
+  -- the items of a queue: so many items are done, with these events, and what is left of the queue
+  -- is what is left of the bytes
+  pub record DeliversAll (m : Machine S P I F E) (old : S) (prefix : List ℕ) (queue : List I)
+      (bytes later : List ℕ) (events : List E) (new : S) (rest : List ℕ) : Type 0 where
     pub done : List I
     pub left : List I
     pub queue_is : queue ≡ done ++ left

@@ -13,7 +13,10 @@ loop-row-preserved c =
       each = λ y i p l h.
           elim (cases_eq y row) [
             | inl same ↦ rw has_bit-or (or_right (has_bit bits i) (has_bit word i) (rw same at h))
-            | inr other ↦ rw has_bit-or (or_left (has_bit bits i) (has_bit word i) (c.loop-row.invariant.each y i p (omega arith) h))
+            | inr other ↦
+                rw has_bit-or
+                (or_left (has_bit bits i) (has_bit word i)
+                (c.loop-row.invariant.each y i p (omega arith) h))
           ];
       some = λ i h.
           elim (or_cases (has_bit bits i) (has_bit word i) (rw has_bit-or at h)) [
@@ -23,4 +26,5 @@ loop-row-preserved c =
     }
 
 pub returns-clause-some : goal.returns-clause-some
-returns-clause-some c = λ i h. let (y, p, l, m) = c.loop-row.invariant.some i h in (y, p, omega arith, m)
+returns-clause-some c = λ i h. let (y, p, l, m) =
+    c.loop-row.invariant.some i h in (y, p, omega arith, m)

@@ -5,6 +5,8 @@ use Rattle.rfb_picture.proofs.edges.all_bits.Given as goal
 -- the bits are those of the rows so far
 abbrev pub invariant-loop-row : goal.invariant-loop-row
 invariant-loop-row l = record {
-  each : (y i : ℕ) → l.fn.top ≤ y → y < l.row → has_at l.words l.across y l.column i ≡ true → has_bit l.bits i ≡ true;
-  some : (i : ℕ) → has_bit l.bits i ≡ true → (y : ℕ) × (l.fn.top ≤ y) × (y < l.row) × (has_at l.words l.across y l.column i ≡ true);
+  each : (y i : ℕ) → l.fn.top ≤ y → y < l.row → has_at l.words l.across y l.column i ≡ true →
+      has_bit l.bits i ≡ true;
+  some : (i : ℕ) → has_bit l.bits i ≡ true → (y : ℕ) × (l.fn.top ≤ y) × (y < l.row)
+      × (has_at l.words l.across y l.column i ≡ true);
 }

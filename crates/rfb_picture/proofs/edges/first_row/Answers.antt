@@ -11,13 +11,18 @@ returns-then-words-row-ne0 c =
       above = omega arith;
       below = omega arith;
       none = c.loop-row.invariant;
-      here = some_masked c.args.words.now c.args.across c.args.column c.args.mask c.loop-row.row c.if-words-row-ne0.true (and_lt 64 (slice_index_or c.args.words.now index 0) c.args.mask (omega (arith, c.type_inv.words index)) (omega (arith, c.ranges.mask.fits)));
+      here = some_masked c.args.words.now c.args.across c.args.column c.args.mask c.loop-row.row
+          c.if-words-row-ne0.true
+          (and_lt 64 (slice_index_or c.args.words.now index 0) c.args.mask
+          (omega (arith, c.type_inv.words index)) (omega (arith, c.ranges.mask.fits)));
     }
 
 pub loop-row-preserved : goal.loop-row-preserved
 loop-row-preserved c =
     λ y i p l m.
     elim (cases_eq y c.loop-row.row) [
-      | inl same ↦ rw same (none_masked c.args.words.now c.args.across c.args.column c.args.mask c.loop-row.row i c.if-words-row-ne0.false)
+      | inl same ↦
+          rw same (none_masked c.args.words.now c.args.across c.args.column c.args.mask
+          c.loop-row.row i c.if-words-row-ne0.false)
       | inr other ↦ c.loop-row.invariant y i p (omega arith) m
     ]

@@ -13,11 +13,14 @@ returns-in-Some c =
     let column = c.args.column in
     let mask = c.args.mask in
     let bits = c.all_bits.result in
-    gathered (has_masked words across column mask) c.args.top c.args.bottom c.in-Some.first c.last_row-last.result (bit_and bits mask) c.in-Some.ensures c.last_row-last.ensures
+    gathered (has_masked words across column mask) c.args.top c.args.bottom c.in-Some.first
+    c.last_row-last.result (bit_and bits mask) c.in-Some.ensures c.last_row-last.ensures
     (and_lt 64 bits mask (omega arith) (omega (arith, c.ranges.mask.fits)))
     (λ y i p l h.
     let (marked, masked) = and_parts (has_at words across y column i) (has_bit mask i) h in
-    rw has_bit-and (and_from (has_bit bits i) (has_bit mask i) (c.all_bits.ensures.each y i p l marked) masked))
+    rw has_bit-and
+    (and_from (has_bit bits i) (has_bit mask i) (c.all_bits.ensures.each y i p l marked)
+    masked))
     (λ i h.
     let (set, masked) = and_parts (has_bit bits i) (has_bit mask i) (rw has_bit-and at h) in
     let (y, p, l, marked) = c.all_bits.ensures.some i set in

@@ -11,7 +11,9 @@ loop-last-preserved c =
       omega arith,
       λ y i p l m.
           elim (cases_eq y last) [
-            | inl same ↦ rw same (none_masked c.args.words.now c.args.across c.args.column c.args.mask last i c.if-words-last-eq0.true)
+            | inl same ↦
+                rw same (none_masked c.args.words.now c.args.across c.args.column c.args.mask last i
+                c.if-words-last-eq0.true)
             | inr other ↦ c.loop-last.invariant.2 y i (omega arith) l m
           ],
     )
@@ -23,5 +25,8 @@ returns-else-words-last-eq0 c =
       above = c.loop-last.invariant.0;
       below = c.loop-last.invariant.1;
       none = c.loop-last.invariant.2;
-      here = some_masked c.args.words.now c.args.across c.args.column c.args.mask c.loop-last.last c.if-words-last-eq0.false (and_lt 64 (slice_index_or c.args.words.now index 0) c.args.mask (omega (arith, c.type_inv.words index)) (omega (arith, c.ranges.mask.fits)));
+      here = some_masked c.args.words.now c.args.across c.args.column c.args.mask c.loop-last.last
+          c.if-words-last-eq0.false
+          (and_lt 64 (slice_index_or c.args.words.now index 0) c.args.mask
+          (omega (arith, c.type_inv.words index)) (omega (arith, c.ranges.mask.fits)));
     }

@@ -6,7 +6,8 @@ use Rattle.rfb_picture.proofs.edges.last_row.Given as goal
 -- the rows below have no mark
 abbrev pub invariant-loop-last : goal.invariant-loop-last
 invariant-loop-last l =
-    (l.top ≤ l.last) × (l.last < l.fn.bottom) × NoMarks (has_masked l.words l.across l.column l.mask) (l.last + 1) l.fn.bottom
+    (l.top ≤ l.last) × (l.last < l.fn.bottom)
+    × NoMarks (has_masked l.words l.across l.column l.mask) (l.last + 1) l.fn.bottom
 
 abbrev pub decreases-loop-last : goal.decreases-loop-last
 decreases-loop-last l = l.last

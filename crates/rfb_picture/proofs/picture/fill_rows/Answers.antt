@@ -5,5 +5,11 @@ use Rattle.rfb_picture.proofs.picture.fill_rows.Goals as goal
 pub loop-row-preserved : goal.loop-row-preserved
 loop-row-preserved g c =
     λ x y d p.
-    let written = rw (c.from.ensures, c.from-in-loop-row.ensures, c.from-in-loop-row-2.ensures) at (c.fill_places.ensures (y * c.args.width + x) d) in
-    filled_more c.args.rect c.loop-row.row x y c.args.width _ _ _ _ c.requires.columns p (c.loop-row.invariant x y d p) written
+    let written =
+    rw (
+      c.from.ensures,
+      c.from-in-loop-row.ensures,
+      c.from-in-loop-row-2.ensures,
+    ) at (c.fill_places.ensures (y * c.args.width + x) d) in
+    filled_more c.args.rect c.loop-row.row x y c.args.width _ _ _ _ c.requires.columns p
+    (c.loop-row.invariant x y d p) written

@@ -7,4 +7,6 @@ abbrev pub invariant-loop-row : goal.invariant-loop-row
 invariant-loop-row g l =
     (x y : ℕ) (d : g.row.T.Denot) →
     x < l.width →
-    slice_index_or l.places (y * l.width + x) d ≡ (if contains (record l.rect { h = l.row }) x y then l.value else slice_index_or l.initial.places (y * l.width + x) d)
+    slice_index_or l.places (y * l.width + x) d
+    ≡ (if contains (record l.rect { h = l.row }) x y then l.value
+    else slice_index_or l.initial.places (y * l.width + x) d)

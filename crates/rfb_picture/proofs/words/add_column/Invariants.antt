@@ -7,4 +7,6 @@ abbrev pub invariant-loop-row : goal.invariant-loop-row
 invariant-loop-row l =
     (k y i : ℕ) →
     k < l.across →
-    has_at l.words l.across y k i ≡ (has_at l.initial.words l.across y k i || ((nat_eq k l.column && (nat_le l.top y && nat_lt y l.row)) && has_bit l.mask i))
+    has_at l.words l.across y k i
+    ≡ (has_at l.initial.words l.across y k i
+    || ((nat_eq k l.column && (nat_le l.top y && nat_lt y l.row)) && has_bit l.mask i))

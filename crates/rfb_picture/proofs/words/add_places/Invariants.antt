@@ -9,4 +9,6 @@ invariant-loop-column l =
     (k y i : ℕ) →
     k < l.across →
     i < 64 →
-    has_at l.words l.across y k i ≡ (has_at l.initial.words l.across y k i || (nat_lt k l.column && contains l.fn.rect (k * 64 + i) y))
+    has_at l.words l.across y k i
+    ≡ (has_at l.initial.words l.across y k i
+    || (nat_lt k l.column && contains l.fn.rect (k * 64 + i) y))

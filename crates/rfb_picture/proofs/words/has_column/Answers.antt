@@ -10,7 +10,8 @@ returns-then-words-row c =
       λ none. absurd (false≢true none),
       λ all.
           absurd (c.if-words-row.true
-          (covers word c.args.mask (omega (arith, c.type_inv.words index)) (omega (arith, c.ranges.mask.fits))
+          (covers word c.args.mask (omega (arith, c.type_inv.words index))
+          (omega (arith, c.ranges.mask.fits))
           (λ i l set. all c.loop-row.row i (omega arith) (omega arith) l set))),
     )
 

@@ -8,7 +8,10 @@ returns-then-not-has_column c =
     let mask = rw (c.from-from.ensures, c.from.ensures) at c.columns_between-mask.ensures in
     let has = rw (c.from-top.ensures, c.from-2.ensures) at c.has_column.ensures in (
       λ none. absurd (false≢true none),
-      λ all. let yes = has.1 (masked_of_places c.args.words.now c.args.across c.loop-column.column c.columns_between-mask.result c.args.rect mask all) in rw c.if-not-has_column.true at yes,
+      λ all. let yes =
+          has.1 (masked_of_places c.args.words.now c.args.across c.loop-column.column
+          c.columns_between-mask.result c.args.rect mask all) in
+          rw c.if-not-has_column.true at yes,
     )
 
 pub loop-column-preserved : goal.loop-column-preserved
@@ -18,5 +21,8 @@ loop-column-preserved c =
     λ x y l inside.
     elim (cases_lt x (c.loop-column.column * 64)) [
       | inl left ↦ c.loop-column.invariant x y left inside
-      | inr right ↦ place_of_masked c.args.words.now c.args.across c.loop-column.column c.columns_between-mask.result c.args.rect x y mask (has.0 (search rules)) right (omega arith) inside
+      | inr right ↦
+          place_of_masked c.args.words.now c.args.across c.loop-column.column
+          c.columns_between-mask.result c.args.rect x y mask (has.0 (search rules)) right
+          (omega arith) inside
     ]

@@ -7,9 +7,13 @@ pub loop-row-preserved : goal.loop-row-preserved
 loop-row-preserved c =
     λ k y i p l.
     let room : c.args.bottom * c.args.across ≤ length c.loop-row.words = omega arith in
-    let within = word_of_row c.loop-row.row c.args.bottom c.args.column c.args.across (length c.loop-row.words) c.loop-row-test.true c.requires.column room in
+    let within =
+    word_of_row c.loop-row.row c.args.bottom c.args.column c.args.across
+    (length c.loop-row.words) c.loop-row-test.true c.requires.column room in
     let small = c.type_inv.other (c.loop-row.row * c.args.across + c.args.column) in
-    one_row_taken c.loop-row.words c.args.words.now c.args.other.now c.args.across c.args.column c.args.top c.loop-row.row k y i c.requires.column p l within (omega (arith, small)) c.loop-row.auto.row (c.loop-row.invariant k y i p l)
+    one_row_taken c.loop-row.words c.args.words.now c.args.other.now c.args.across c.args.column
+    c.args.top c.loop-row.row k y i c.requires.column p l within (omega (arith, small))
+    c.loop-row.auto.row (c.loop-row.invariant k y i p l)
 
 pub returns : goal.returns
 returns c =

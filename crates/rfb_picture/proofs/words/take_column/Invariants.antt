@@ -8,4 +8,7 @@ invariant-loop-row l =
     (k y i : ℕ) →
     k < l.across →
     i < 64 →
-    has_at l.words l.across y k i ≡ (has_at l.initial.words l.across y k i && not ((nat_eq k l.column && (nat_le l.top y && nat_lt y l.row)) && has_at l.other l.across y k i))
+    has_at l.words l.across y k i
+    ≡ (has_at l.initial.words l.across y k i
+    && not ((nat_eq k l.column && (nat_le l.top y && nat_lt y l.row))
+    && has_at l.other l.across y k i))

@@ -7,7 +7,9 @@ use Rattle.rfb_picture.proofs.words.take_places.Goals as goal
 pub loop-column-preserved : goal.loop-column-preserved
 loop-column-preserved c =
     λ k y i p q l.
-    one_column_taken c.args.rows c.loop-column.column k y _ _ (has_at c.args.words.now c.args.across y k i) (has_at c.args.other.now c.args.across y k i) q (c.loop-column.invariant k y i p q l) (c.take_column.ensures k y i p l)
+    one_column_taken c.args.rows c.loop-column.column k y _ _
+    (has_at c.args.words.now c.args.across y k i) (has_at c.args.other.now c.args.across y k i)
+    q (c.loop-column.invariant k y i p q l) (c.take_column.ensures k y i p l)
 
 pub returns : goal.returns
 returns c =

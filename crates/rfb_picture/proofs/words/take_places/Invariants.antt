@@ -9,4 +9,6 @@ invariant-loop-column l =
     k < l.across →
     y < l.rows →
     i < 64 →
-    has_at l.words l.across y k i ≡ (has_at l.initial.words l.across y k i && not (nat_lt k l.column && has_at l.other l.across y k i))
+    has_at l.words l.across y k i
+    ≡ (has_at l.initial.words l.across y k i
+    && not (nat_lt k l.column && has_at l.other l.across y k i))

@@ -15,4 +15,6 @@ pub returns-clause-laws : goal.returns-clause-laws
 returns-clause-laws c = spelled_grammar client_stream (λ _. client_says) client_spelled
 
 pub returns-clause-apart : goal.returns-clause-apart
-returns-clause-apart c = λ m other front rest one two. reads_one client_message client_says client_message_reads m other front rest one two
+returns-clause-apart c =
+    λ m other front rest one two.
+    reads_one client_message client_says client_message_reads m other front rest one two

@@ -5,4 +5,6 @@ use Rattle.rfb_wire.proofs.ClientStreamLaws.{client_spelled}
 use Rattle.rfb_wire.proofs.law.client_verdict_is_of_the_bytes.Goals as goal
 
 pub returns : goal.returns
-returns c = λ one two items others fault other same a b. cuts_agree client_stream (spelled_grammar client_stream (λ _. client_says) client_spelled) tt one two items others fault other same a b
+returns c = λ one two items others fault other same a b.
+    cuts_agree client_stream (spelled_grammar client_stream (λ _. client_says) client_spelled) tt
+    one two items others fault other same a b

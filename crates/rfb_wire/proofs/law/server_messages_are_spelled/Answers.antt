@@ -7,4 +7,6 @@ pub returns-clause-reads : goal.returns-clause-reads
 returns-clause-reads c = server_message_reads
 
 pub returns-clause-apart : goal.returns-clause-apart
-returns-clause-apart c = λ m other front rest one two. reads_one server_message server_says server_message_reads m other front rest one two
+returns-clause-apart c =
+    λ m other front rest one two.
+    reads_one server_message server_says server_message_reads m other front rest one two

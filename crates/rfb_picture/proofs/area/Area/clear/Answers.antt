@@ -3,5 +3,10 @@ use Rattle.rfb_picture.proofs.area.Area.clear.Goals as goal
 
 pub invariant_of-self : goal.invariant_of-self
 invariant_of-self c =
-    rw (c.clear.ensures.value, c.clear-2.ensures.value, c.self.invariant.wide, c.self.invariant.high)
+    rw (
+      c.clear.ensures.value,
+      c.clear-2.ensures.value,
+      c.self.invariant.wide,
+      c.self.invariant.high,
+    )
     (area-no_places c.self.inside.asked.width c.self.inside.asked.height)

@@ -9,11 +9,14 @@ use Rattle.rfb_picture.proofs.picture.Picture.copy.Goals as goal
 pub returns-clause-value : goal.returns-clause-value
 returns-clause-value g c =
     let len : length c.copy_rows.new.places ≡ c.self.inside.places.len = omega arith in
-    let same : length c.copy_rows.new.places ≡ length c.self.inside.places.items = c.copy_rows.auto.places ∙ ap length c.deref_mut.ensures.value in
+    let same : length c.copy_rows.new.places ≡ length c.self.inside.places.items =
+    c.copy_rows.auto.places ∙ ap length c.deref_mut.ensures.value in
     let held = rw (← c.self.view_is) at c.requires.source in
     rw (with_items_is c.self.inside.places c.copy_rows.new.places len, ← c.self.view_is)
     (changed_is
-    (λ x y old. if contains c.args.dst x y then at_or (grid c.self.inside.width c.self.inside.height c.self.inside.places.items) (c.args.sx + (x - c.args.dst.x)) (c.args.sy + (y - c.args.dst.y)) old else old)
+    (λ x y old. if contains c.args.dst x y
+    then at_or (grid c.self.inside.width c.self.inside.height c.self.inside.places.items)
+    (c.args.sx + (x - c.args.dst.x)) (c.args.sy + (y - c.args.dst.y)) old else old)
     (grid c.self.inside.width c.self.inside.height c.self.inside.places.items)
     c.copy_rows.new.places
     c.self.invariant

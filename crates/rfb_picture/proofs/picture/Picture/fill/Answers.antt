@@ -8,7 +8,8 @@ use Rattle.rfb_picture.proofs.picture.Picture.fill.Goals as goal
 pub returns-clause-value : goal.returns-clause-value
 returns-clause-value g c =
     let len : length c.fill_rows.new.places ≡ c.self.inside.places.len = omega arith in
-    let same : length c.fill_rows.new.places ≡ length c.self.inside.places.items = c.fill_rows.auto.places ∙ ap length c.deref_mut.ensures.value in
+    let same : length c.fill_rows.new.places ≡ length c.self.inside.places.items =
+    c.fill_rows.auto.places ∙ ap length c.deref_mut.ensures.value in
     rw (with_items_is c.self.inside.places c.fill_rows.new.places len, ← c.self.view_is)
     (changed_is
     (λ x y old. if contains c.args.rect x y then c.args.value else old)

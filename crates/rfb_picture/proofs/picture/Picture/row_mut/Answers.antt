@@ -10,7 +10,8 @@ returns g c = (
         let columns = rw (← c.self.view_is) at c.requires.columns in
         let row = rw (← c.self.view_is) at c.requires.row in
         rw (c.from.ensures, c.from-2.ensures, c.from-3.ensures, ← c.self.view_is)
-        (run_left c.self.inside.places c.args.x c.args.y c.self.inside.width c.self.inside.height run c.self.invariant (omega arith) row),
+        (run_left c.self.inside.places c.args.x c.args.y c.self.inside.width c.self.inside.height
+        run c.self.invariant (omega arith) row),
   ),
   record { writes_back = tt; value = search rules; len = search rules; whole = search rules },
 )

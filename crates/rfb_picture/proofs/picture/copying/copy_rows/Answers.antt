@@ -7,11 +7,20 @@ use Rattle.rfb_picture.proofs.picture.copying.copy_rows.Goals as goal
 pub loop-done-preserved : goal.loop-done-preserved
 loop-done-preserved g c =
     λ x y d p.
-    let row_is : c.if-dst-sy.row ≡ row_after c.args.dst c.args.sy c.loop-done.done = elim c.if-dst-sy.branch [
+    let row_is : c.if-dst-sy.row ≡ row_after c.args.dst c.args.sy c.loop-done.done =
+    elim c.if-dst-sy.branch [
       | then-dst-sy w ↦ grind (arith, nat_tests)
       | else-dst-sy w ↦ grind (arith, nat_tests)
     ] in
-    let written = rw (c.from.ensures, c.from-in-loop-done.ensures, c.from-in-loop-done-2.ensures, c.from-in-loop-done-3.ensures, c.from-in-loop-done-4.ensures) at (c.copy_places.ensures (y * c.args.width + x) d) in
+    let written =
+    rw (
+      c.from.ensures,
+      c.from-in-loop-done.ensures,
+      c.from-in-loop-done-2.ensures,
+      c.from-in-loop-done-3.ensures,
+      c.from-in-loop-done-4.ensures,
+    ) at (c.copy_places.ensures (y * c.args.width + x)
+    d) in
     copied_more c.args.dst c.args.sx c.args.sy c.loop-done.done c.if-dst-sy.row x y c.args.width _
     (λ (i : ℕ). slice_index_or c.loop-done.places i d)
     (λ (i : ℕ). slice_index_or c.args.places.now i d)
@@ -23,4 +32,5 @@ pub returns : goal.returns
 returns g c =
     λ x y d p.
     let end : c.loop-done.done ≡ c.args.dst.h = omega arith in
-    rw (← rows_all_done c.args.dst c.args.sy c.loop-done.done x y end) (c.loop-done.invariant x y d p)
+    rw (← rows_all_done c.args.dst c.args.sy c.loop-done.done x y end)
+    (c.loop-done.invariant x y d p)

@@ -8,4 +8,8 @@ abbrev pub invariant-loop-done : goal.invariant-loop-done
 invariant-loop-done g l =
     (x y : ℕ) (d : g.row.T.Denot) →
     x < l.width →
-    slice_index_or l.places (y * l.width + x) d ≡ (if contains (rows_done l.dst l.sy l.done) x y then slice_index_or l.initial.places ((l.sy + (y - l.dst.y)) * l.width + (l.sx + (x - l.dst.x))) d else slice_index_or l.initial.places (y * l.width + x) d)
+    slice_index_or l.places (y * l.width + x) d
+    ≡ (if contains (rows_done l.dst l.sy l.done) x y
+    then slice_index_or l.initial.places
+    ((l.sy + (y - l.dst.y)) * l.width + (l.sx + (x - l.dst.x))) d
+    else slice_index_or l.initial.places (y * l.width + x) d)

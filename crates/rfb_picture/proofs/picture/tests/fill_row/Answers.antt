@@ -9,6 +9,9 @@ returns-clause-value g c =
     let len : length c.fill_places.new.places ≡ c.args.w = omega arith in
     let filled : c.fill_places.new.places ≡ replicate c.args.w c.args.value =
     same_lists c.fill_places.new.places (replicate c.args.w c.args.value) (rw length-replicate len)
-    (λ k d l. rw (get_or-replicate c.args.w k c.args.value d (omega arith)) (let written = rw c.from.ensures at (c.fill_places.ensures k d) in grind (arith, nat_tests, written))) in
+    (λ k d l. rw (get_or-replicate c.args.w k c.args.value d (omega arith))
+    (let written = rw c.from.ensures at (c.fill_places.ensures k d) in
+    grind (arith, nat_tests, written))) in
     rw filled
-    (run_in_row c.args.x c.args.y (replicate c.args.w c.args.value) c.args.picture.now c.row_mut-row.ensures.whole (rw length-replicate c.requires.columns))
+    (run_in_row c.args.x c.args.y (replicate c.args.w c.args.value) c.args.picture.now
+    c.row_mut-row.ensures.whole (rw length-replicate c.requires.columns))

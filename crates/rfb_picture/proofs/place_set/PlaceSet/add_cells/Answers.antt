@@ -8,16 +8,22 @@ use Rattle.rfb_picture.proofs.place_set.PlaceSet.add_cells.Goals as goal
 pub invariant_of-self : goal.invariant_of-self
 invariant_of-self c =
     let l = c.self.inside.layers in
-    same_sizes l _ c.self.invariant refl refl c.add.ensures.width c.add.ensures.height refl refl c.self.invariant.all_places (rw c.add.ensures.value (whole-changed _ l.full c.self.invariant.all_full)) c.self.invariant.all_used
+    same_sizes l _ c.self.invariant refl refl c.add.ensures.width c.add.ensures.height refl refl
+    c.self.invariant.all_places
+    (rw c.add.ensures.value (whole-changed _ l.full c.self.invariant.all_full))
+    c.self.invariant.all_used
 
 pub returns-then-inner-gt0-2-clause-value : goal.returns-then-inner-gt0-2-clause-value
 returns-then-inner-gt0-2-clause-value c =
     let columns = rw (← c.self.view_is) at c.requires.columns in
     let rows = rw (← c.self.view_is) at c.requires.rows in
     rw (c.add.ensures.value, c.cells_of.ensures, ← c.self.view_is)
-    (layered-full c.self.inside.layers c.args.inner c.self.invariant c.if-inner-gt0.true c.if-inner-gt0-2.true columns rows)
+    (layered-full c.self.inside.layers c.args.inner c.self.invariant c.if-inner-gt0.true
+    c.if-inner-gt0-2.true columns rows)
 
 pub returns-else-inner-gt0-clause-value : goal.returns-else-inner-gt0-clause-value
 returns-else-inner-gt0-clause-value c =
-    let whole : IsGrid c.args.self.now = rw (← c.self.view_is) (whole-layered c.self.inside.layers) in
-    filled-none c.args.self.now c.args.inner whole (λ x y. no_place c.args.inner x y c.else-inner-gt0.either)
+    let whole : IsGrid c.args.self.now =
+    rw (← c.self.view_is) (whole-layered c.self.inside.layers) in
+    filled-none c.args.self.now c.args.inner whole
+    (λ x y. no_place c.args.inner x y c.else-inner-gt0.either)

@@ -9,7 +9,9 @@ pub invariant_of-self : goal.invariant_of-self
 invariant_of-self c =
     let l = c.open_cells.new.self in
     let opened = c.open_cells.ensures in
-    same_sizes l _ opened.sound c.add.ensures.width c.add.ensures.height refl refl refl refl (rw c.add.ensures.value (whole-changed _ l.places opened.sound.all_places)) opened.sound.all_full opened.sound.all_used
+    same_sizes l _ opened.sound c.add.ensures.width c.add.ensures.height refl refl refl refl
+    (rw c.add.ensures.value (whole-changed _ l.places opened.sound.all_places))
+    opened.sound.all_full opened.sound.all_used
 
 pub returns-then-part-gt0-2-clause-value : goal.returns-then-part-gt0-2-clause-value
 returns-then-part-gt0-2-clause-value c =
@@ -19,5 +21,7 @@ returns-then-part-gt0-2-clause-value c =
 
 pub returns-else-part-gt0-clause-value : goal.returns-else-part-gt0-clause-value
 returns-else-part-gt0-clause-value c =
-    let whole : IsGrid c.args.self.now = rw (← c.self.view_is) (whole-layered c.self.inside.layers) in
-    filled-none c.args.self.now c.args.part whole (λ x y. no_place c.args.part x y c.else-part-gt0.either)
+    let whole : IsGrid c.args.self.now =
+    rw (← c.self.view_is) (whole-layered c.self.inside.layers) in
+    filled-none c.args.self.now c.args.part whole
+    (λ x y. no_place c.args.part x y c.else-part-gt0.either)

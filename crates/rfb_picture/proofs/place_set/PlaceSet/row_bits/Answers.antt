@@ -10,19 +10,32 @@ returns-then-has c =
     λ i l.
     let row = rw (← c.self.view_is) at c.requires.row in
     let m = c.self.inside.layers in
-    let full : is_in m.full (c.args.x / 64) (c.args.y / 64) ≡ true = sym c.has.ensures ∙ c.if-has.true in
-    let mask = rw (c.from.ensures, c.from-then-has.ensures, c.from-width.ensures, c.width.ensures.value) at (c.columns_between.ensures i l) in
-    let all = bits-layered m c.args.x c.args.y i true c.requires.start l row (λ p. rw (cell_of_row c.args.x i c.requires.start l, full) refl) in
-    rw (← c.self.view_is) (row_of_cell m.places.width c.args.x i c.columns_between.result c.requires.start mask ∙ sym (all ∙ and_true (nat_lt (c.args.x + i) m.places.width)))
+    let full : is_in m.full (c.args.x / 64) (c.args.y / 64) ≡ true =
+    sym c.has.ensures ∙ c.if-has.true in
+    let mask = rw (
+      c.from.ensures,
+      c.from-then-has.ensures,
+      c.from-width.ensures,
+      c.width.ensures.value,
+    ) at (c.columns_between.ensures i l) in
+    let all = bits-layered m c.args.x c.args.y i true c.requires.start l row
+    (λ p. rw (cell_of_row c.args.x i c.requires.start l, full) refl) in
+    rw (← c.self.view_is)
+    (row_of_cell m.places.width c.args.x i c.columns_between.result c.requires.start mask
+    ∙ sym (all ∙ and_true (nat_lt (c.args.x + i) m.places.width)))
 
 pub returns-then-has-2 : goal.returns-then-has-2
 returns-then-has-2 c =
     λ i l.
     let row = rw (← c.self.view_is) at c.requires.row in
     let m = c.self.inside.layers in
-    let full : is_in m.full (c.args.x / 64) (c.args.y / 64) ≡ false = sym c.has.ensures ∙ c.if-has.false in
-    let used : is_in m.used (c.args.x / 64) (c.args.y / 64) ≡ true = sym c.has-else-has.ensures ∙ c.if-has-2.true in
-    let marked = bits-layered m c.args.x c.args.y i (is_in m.places (c.args.x + i) c.args.y) c.requires.start l row (λ p. rw (cell_of_row c.args.x i c.requires.start l, full, used) refl) in
+    let full : is_in m.full (c.args.x / 64) (c.args.y / 64) ≡ false =
+    sym c.has.ensures ∙ c.if-has.false in
+    let used : is_in m.used (c.args.x / 64) (c.args.y / 64) ≡ true =
+    sym c.has-else-has.ensures ∙ c.if-has-2.true in
+    let marked =
+    bits-layered m c.args.x c.args.y i (is_in m.places (c.args.x + i) c.args.y) c.requires.start
+    l row (λ p. rw (cell_of_row c.args.x i c.requires.start l, full, used) refl) in
     rw (← c.self.view_is) (c.row_bits.ensures i l ∙ sym marked)
 
 pub returns-else-has-2 : goal.returns-else-has-2
@@ -30,9 +43,12 @@ returns-else-has-2 c =
     λ i l.
     let row = rw (← c.self.view_is) at c.requires.row in
     let m = c.self.inside.layers in
-    let full : is_in m.full (c.args.x / 64) (c.args.y / 64) ≡ false = sym c.has.ensures ∙ c.if-has.false in
-    let used : is_in m.used (c.args.x / 64) (c.args.y / 64) ≡ false = sym c.has-else-has.ensures ∙ c.if-has-2.false in
-    let none = bits-layered m c.args.x c.args.y i false c.requires.start l row (λ p. rw (cell_of_row c.args.x i c.requires.start l, full, used) refl) in
+    let full : is_in m.full (c.args.x / 64) (c.args.y / 64) ≡ false =
+    sym c.has.ensures ∙ c.if-has.false in
+    let used : is_in m.used (c.args.x / 64) (c.args.y / 64) ≡ false =
+    sym c.has-else-has.ensures ∙ c.if-has-2.false in
+    let none = bits-layered m c.args.x c.args.y i false c.requires.start l row
+    (λ p. rw (cell_of_row c.args.x i c.requires.start l, full, used) refl) in
     rw (← c.self.view_is, none, bit_at-zero i) (no_bit (nat_lt (c.args.x + i) m.places.width))
   where
     no_bit : (b : _) → false ≡ (b && false)

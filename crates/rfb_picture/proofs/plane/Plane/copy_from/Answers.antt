@@ -5,18 +5,36 @@ use Rattle.rfb_picture.proofs.plane.Plane.copy_from.Goals as goal
 
 pub copy_from_slice-requires : goal.copy_from_slice-requires
 copy_from_slice-requires c =
-    let wide : c.self.inside.width ≡ c.other.inside.width = rw (← c.self.view_is, ← c.other.view_is) at c.requires.width in
-    let high : c.self.inside.height ≡ c.other.inside.height = rw (← c.self.view_is, ← c.other.view_is) at c.requires.height in
-    let across = same_across c.self.inside.width c.self.inside.height c.self.inside.across c.self.inside.words.items.items c.other.inside.height c.other.inside.across c.other.inside.words.items.items c.self.invariant (rw wide c.other.invariant) in
+    let wide : c.self.inside.width ≡ c.other.inside.width =
+    rw (← c.self.view_is, ← c.other.view_is) at c.requires.width in
+    let high : c.self.inside.height ≡ c.other.inside.height =
+    rw (← c.self.view_is, ← c.other.view_is) at c.requires.height in
+    let across =
+    same_across c.self.inside.width c.self.inside.height c.self.inside.across
+    c.self.inside.words.items.items c.other.inside.height c.other.inside.across
+    c.other.inside.words.items.items c.self.invariant (rw wide c.other.invariant) in
     let size = c.self.invariant.size in
     let size_too = c.other.invariant.size in
-    let product : c.self.inside.height * c.self.inside.across ≡ c.other.inside.height * c.other.inside.across = rw (high, across) refl in
+    let product : c.self.inside.height * c.self.inside.across
+    ≡ c.other.inside.height * c.other.inside.across = rw (high, across) refl in
     omega arith
 
 pub returns : goal.returns
 returns c =
-    let wide : c.self.inside.width ≡ c.other.inside.width = rw (← c.self.view_is, ← c.other.view_is) at c.requires.width in
-    let high : c.self.inside.height ≡ c.other.inside.height = rw (← c.self.view_is, ← c.other.view_is) at c.requires.height in
-    let across = same_across c.self.inside.width c.self.inside.height c.self.inside.across c.self.inside.words.items.items c.other.inside.height c.other.inside.across c.other.inside.words.items.items c.self.invariant (rw wide c.other.invariant) in
+    let wide : c.self.inside.width ≡ c.other.inside.width =
+    rw (← c.self.view_is, ← c.other.view_is) at c.requires.width in
+    let high : c.self.inside.height ≡ c.other.inside.height =
+    rw (← c.self.view_is, ← c.other.view_is) at c.requires.height in
+    let across =
+    same_across c.self.inside.width c.self.inside.height c.self.inside.across
+    c.self.inside.words.items.items c.other.inside.height c.other.inside.across
+    c.other.inside.words.items.items c.self.invariant (rw wide c.other.invariant) in
     let len : length c.copy_from_slice.new.self ≡ c.self.inside.words.items.len = omega arith in
-    rw (with_items_is c.self.inside.words.items c.copy_from_slice.new.self len, c.copy_from_slice.ensures.after, c.deref.ensures.value, wide, high, across) c.other.view_is
+    rw (
+      with_items_is c.self.inside.words.items c.copy_from_slice.new.self len,
+      c.copy_from_slice.ensures.after,
+      c.deref.ensures.value,
+      wide,
+      high,
+      across,
+    ) c.other.view_is

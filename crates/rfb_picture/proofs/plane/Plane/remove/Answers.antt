@@ -8,9 +8,12 @@ pub returns-clause-value : goal.returns-clause-value
 returns-clause-value c =
     let column = rw (← c.self.view_is) at c.requires.column in
     let row = rw (← c.self.view_is) at c.requires.row in
-    let within = place_word_below _ _ c.self.inside.across _ c.args.x c.args.y c.self.invariant column row in
+    let within =
+    place_word_below _ _ c.self.inside.across _ c.args.x c.args.y c.self.invariant column row in
     let index = c.args.y * c.self.inside.across + c.args.x / 64 in
     let is = rw (c.from.ensures, c.from-2.ensures) at c.index_mut.ensures.value in
-    let read : c.index_mut.result.now ≡ slice_index_or c.self.inside.words.items.items index 0 = get_or_read c.self.inside.words.items.items index c.index_mut.result.now within is 0 in
+    let read : c.index_mut.result.now ≡ slice_index_or c.self.inside.words.items.items index 0 =
+    get_or_read c.self.inside.words.items.items index c.index_mut.result.now within is 0 in
     rw (c.from.ensures, c.from-2.ensures, read, ← c.self.view_is)
-    (plane-removed c.self.inside.width c.self.inside.height c.self.inside.across c.self.inside.words.items.items c.args.x c.args.y c.self.invariant column row)
+    (plane-removed c.self.inside.width c.self.inside.height c.self.inside.across
+    c.self.inside.words.items.items c.args.x c.args.y c.self.invariant column row)

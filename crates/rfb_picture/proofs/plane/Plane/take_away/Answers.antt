@@ -5,9 +5,22 @@ use Rattle.rfb_picture.proofs.plane.Plane.take_away.Goals as goal
 
 pub returns-clause-value : goal.returns-clause-value
 returns-clause-value c =
-    let wide : c.self.inside.width ≡ c.other.inside.width = rw (← c.self.view_is, ← c.other.view_is) at c.requires.width in
-    let high : c.self.inside.height ≡ c.other.inside.height = rw (← c.self.view_is, ← c.other.view_is) at c.requires.height in
+    let wide : c.self.inside.width ≡ c.other.inside.width =
+    rw (← c.self.view_is, ← c.other.view_is) at c.requires.width in
+    let high : c.self.inside.height ≡ c.other.inside.height =
+    rw (← c.self.view_is, ← c.other.view_is) at c.requires.height in
     let len : length c.take_places.new.words ≡ c.self.inside.words.items.len = omega arith in
-    rw (with_items_is c.self.inside.words.items c.take_places.new.words len, ← c.self.view_is, ← c.other.view_is)
-    (plane-taken c.self.inside.width c.self.inside.height c.self.inside.across c.other.inside.width c.other.inside.height c.other.inside.across c.self.inside.words.items.items c.take_places.new.words c.other.inside.words.items.items c.self.invariant c.other.invariant wide high
-    (rw (c.from.ensures, c.deref_mut.ensures.value, c.deref.ensures.value) at c.take_places.ensures))
+    rw (
+      with_items_is c.self.inside.words.items c.take_places.new.words len,
+      ← c.self.view_is,
+      ← c.other.view_is,
+    )
+    (plane-taken c.self.inside.width c.self.inside.height c.self.inside.across c.other.inside.width
+    c.other.inside.height c.other.inside.across c.self.inside.words.items.items
+    c.take_places.new.words c.other.inside.words.items.items c.self.invariant
+    c.other.invariant wide high
+    (rw (
+      c.from.ensures,
+      c.deref_mut.ensures.value,
+      c.deref.ensures.value,
+    ) at c.take_places.ensures))

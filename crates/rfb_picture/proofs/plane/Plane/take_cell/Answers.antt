@@ -5,10 +5,24 @@ use Rattle.rfb_picture.proofs.plane.Plane.take_cell.Goals as goal
 
 pub returns-clause-value : goal.returns-clause-value
 returns-clause-value c =
-    let wide : c.self.inside.width ≡ c.other.inside.width = rw (← c.self.view_is, ← c.other.view_is) at c.requires.width in
-    let high : c.self.inside.height ≡ c.other.inside.height = rw (← c.self.view_is, ← c.other.view_is) at c.requires.height in
+    let wide : c.self.inside.width ≡ c.other.inside.width =
+    rw (← c.self.view_is, ← c.other.view_is) at c.requires.width in
+    let high : c.self.inside.height ≡ c.other.inside.height =
+    rw (← c.self.view_is, ← c.other.view_is) at c.requires.height in
     let len : length c.take_column.new.words ≡ c.self.inside.words.items.len = omega arith in
-    rw (with_items_is c.self.inside.words.items c.take_column.new.words len, ← c.self.view_is, ← c.other.view_is)
-    (plane-cell_taken c.self.inside.width c.self.inside.height c.self.inside.across c.other.inside.width c.other.inside.height c.other.inside.across c.args.column c.args.row c.min-bottom.result c.self.inside.words.items.items c.take_column.new.words c.other.inside.words.items.items c.self.invariant c.other.invariant wide high
+    rw (
+      with_items_is c.self.inside.words.items c.take_column.new.words len,
+      ← c.self.view_is,
+      ← c.other.view_is,
+    )
+    (plane-cell_taken c.self.inside.width c.self.inside.height c.self.inside.across
+    c.other.inside.width c.other.inside.height c.other.inside.across c.args.column c.args.row
+    c.min-bottom.result c.self.inside.words.items.items c.take_column.new.words
+    c.other.inside.words.items.items c.self.invariant c.other.invariant wide high
     (rw (c.from-top.ensures, c.from.ensures) at c.min-bottom.ensures)
-    (rw (c.from-top.ensures, c.from-2.ensures, c.deref_mut.ensures.value, c.deref.ensures.value) at c.take_column.ensures))
+    (rw (
+      c.from-top.ensures,
+      c.from-2.ensures,
+      c.deref_mut.ensures.value,
+      c.deref.ensures.value,
+    ) at c.take_column.ensures))

@@ -8,26 +8,30 @@ pub returns-clause-fields : goal.returns-clause-fields
 returns-clause-fields c =
     let ok : IsFormat c.args.self.now = rw (← c.self.view_is) c.self.invariant in
     let small : IsColour c.args.colour = (omega arith, omega arith, omega arith) in
-    let e : bit_or (bit_or c.place.result c.place-2.result) c.place-3.result ≡ pixel_of c.args.self.now c.args.colour = rw (← c.self.view_is) (cc) in
+    let e : bit_or (bit_or c.place.result c.place-2.result) c.place-3.result
+    ≡ pixel_of c.args.self.now c.args.colour = rw (← c.self.view_is) (cc) in
     rw e (pixel_of-fields c.args.self.now c.args.colour ok small)
 
 pub returns-clause-outside : goal.returns-clause-outside
 returns-clause-outside c =
     let ok : IsFormat c.args.self.now = rw (← c.self.view_is) c.self.invariant in
     let small : IsColour c.args.colour = (omega arith, omega arith, omega arith) in
-    let e : bit_or (bit_or c.place.result c.place-2.result) c.place-3.result ≡ pixel_of c.args.self.now c.args.colour = rw (← c.self.view_is) (cc) in
+    let e : bit_or (bit_or c.place.result c.place-2.result) c.place-3.result
+    ≡ pixel_of c.args.self.now c.args.colour = rw (← c.self.view_is) (cc) in
     rw e (pixel_of-outside c.args.self.now c.args.colour ok small)
 
 pub returns-clause-exact : goal.returns-clause-exact
 returns-clause-exact c = λ fine.
     let ok : IsFormat c.args.self.now = rw (← c.self.view_is) c.self.invariant in
     let small : IsColour c.args.colour = (omega arith, omega arith, omega arith) in
-    let e : bit_or (bit_or c.place.result c.place-2.result) c.place-3.result ≡ pixel_of c.args.self.now c.args.colour = rw (← c.self.view_is) (cc) in
+    let e : bit_or (bit_or c.place.result c.place-2.result) c.place-3.result
+    ≡ pixel_of c.args.self.now c.args.colour = rw (← c.self.view_is) (cc) in
     rw e (seen_through-exact c.args.self.now c.args.colour ok fine small)
 
 pub returns-clause-bound : goal.returns-clause-bound
 returns-clause-bound c =
     let ok : IsFormat c.args.self.now = rw (← c.self.view_is) c.self.invariant in
     let small : IsColour c.args.colour = (omega arith, omega arith, omega arith) in
-    let e : bit_or (bit_or c.place.result c.place-2.result) c.place-3.result ≡ pixel_of c.args.self.now c.args.colour = rw (← c.self.view_is) (cc) in
+    let e : bit_or (bit_or c.place.result c.place-2.result) c.place-3.result
+    ≡ pixel_of c.args.self.now c.args.colour = rw (← c.self.view_is) (cc) in
     rw e (pixel_of-lt c.args.self.now c.args.colour ok small)

@@ -10,18 +10,25 @@ loop-i-preserved c =
     let packed = map (pixel_of c.args.self.now) c.args.colours.now in
     let within : i < length c.loop-i.pixels = omega arith in
     let here : c.pack.result ≡ slice_index packed i =
-    c.pack.ensures.value ∙ sym (get_or-map (pixel_of c.args.self.now) c.args.colours.now i _ 0 (omega arith)) in
+    c.pack.ensures.value
+    ∙ sym (get_or-map (pixel_of c.args.self.now) c.args.colours.now i _ 0 (omega arith)) in
     record {
-      packed = below_more (λ k. slice_index (slice_set c.loop-i.pixels i c.pack.result) k ≡ slice_index packed k) i
-          (λ k h. let other : k ≢ i = omega arith in rw get_or-set_other (c.loop-i.invariant.packed k h))
+      packed = below_more
+          (λ k. slice_index (slice_set c.loop-i.pixels i c.pack.result) k ≡ slice_index packed k) i
+          (λ k h. let other : k ≢ i = omega arith in
+          rw get_or-set_other (c.loop-i.invariant.packed k h))
           (rw get_or-set_same here);
-      bound = below_more (λ k. slice_index (slice_set c.loop-i.pixels i c.pack.result) k < 2 ^ (8 * size_of c.args.self.now)) i
-          (λ k h. let other : k ≢ i = omega arith in rw get_or-set_other (c.loop-i.invariant.bound k h))
+      bound = below_more
+          (λ k. slice_index (slice_set c.loop-i.pixels i c.pack.result) k
+          < 2 ^ (8 * size_of c.args.self.now)) i
+          (λ k h. let other : k ≢ i = omega arith in
+          rw get_or-set_other (c.loop-i.invariant.bound k h))
           (rw get_or-set_same c.pack.ensures.bound);
     }
 
 pub returns-clause-value : goal.returns-clause-value
 returns-clause-value c =
     let packed = map (pixel_of c.args.self.now) c.args.colours.now in
-    same_number_lists c.loop-i.pixels packed (omega (arith, length-map c.args.colours.now (pixel_of c.args.self.now)))
+    same_number_lists c.loop-i.pixels packed
+    (omega (arith, length-map c.args.colours.now (pixel_of c.args.self.now)))
     (λ k h. c.loop-i.invariant.packed k (omega arith))

@@ -4,6 +4,7 @@ use Rattle.rfb_pixel.proofs.format.Format.pack_row.Given as goal
 
 abbrev pub invariant-loop-i : goal.invariant-loop-i
 invariant-loop-i l = record {
-  packed : (k : ℕ) → k < l.i → slice_index l.pixels k ≡ slice_index (map (pixel_of l.self) l.colours) k;
+  packed : (k : ℕ) → k < l.i →
+      slice_index l.pixels k ≡ slice_index (map (pixel_of l.self) l.colours) k;
   bound : (k : ℕ) → k < l.i → slice_index l.pixels k < 2 ^ (8 * size_of l.self);
 }

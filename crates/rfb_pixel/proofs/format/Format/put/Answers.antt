@@ -5,7 +5,8 @@ use Rattle.rfb_pixel.proofs.FormatLemmas.{one_byte, low_bits}
 use Rattle.rfb_pixel.proofs.format.Format.put.Goals as goal
 
 pub returns-in-8-default-clause-value : goal.returns-in-8-default-clause-value
-returns-in-8-default-clause-value c = one_byte c.args.self.now _ _ (rw (← c.self.view_is) c.in-8-default.is-0) c.requires
+returns-in-8-default-clause-value c =
+    one_byte c.args.self.now _ _ (rw (← c.self.view_is) c.in-8-default.is-0) c.requires
 
 pub returns-in-8-default-clause-low_bits : goal.returns-in-8-default-clause-low_bits
 returns-in-8-default-clause-low_bits c =
@@ -14,10 +15,12 @@ returns-in-8-default-clause-low_bits c =
 
 pub returns-in-16-true-clause-low_bits : goal.returns-in-16-true-clause-low_bits
 returns-in-16-true-clause-low_bits c =
-    let value : c.write_u16.new.buf ≡ pixel_bytes c.args.self.now c.args.pixel = grind (arith, common_steps) in
+    let value : c.write_u16.new.buf ≡ pixel_bytes c.args.self.now c.args.pixel =
+    grind (arith, common_steps) in
     low_bits c.args.self.now c.args.pixel _ value
 
 pub returns-in-16-false-clause-low_bits : goal.returns-in-16-false-clause-low_bits
 returns-in-16-false-clause-low_bits c =
-    let value : c.write_u16-in-16-false.new.buf ≡ pixel_bytes c.args.self.now c.args.pixel = grind (arith, common_steps) in
+    let value : c.write_u16-in-16-false.new.buf ≡ pixel_bytes c.args.self.now c.args.pixel =
+    grind (arith, common_steps) in
     low_bits c.args.self.now c.args.pixel _ value

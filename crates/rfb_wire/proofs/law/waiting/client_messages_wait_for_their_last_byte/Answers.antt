@@ -8,7 +8,8 @@ pub returns-clause-numbers : goal.returns-clause-numbers
 returns-clause-numbers c = λ count head rest s less. encodings_wait count head rest s less
 
 pub returns-clause-text : goal.returns-clause-text
-returns-clause-text c = λ text_length head rest s less. client_text_waits text_length head rest s less
+returns-clause-text c =
+    λ text_length head rest s less. client_text_waits text_length head rest s less
 
 pub returns-clause-unknown : goal.returns-clause-unknown
 returns-clause-unknown c = λ first rest none. client_type_faults first rest none

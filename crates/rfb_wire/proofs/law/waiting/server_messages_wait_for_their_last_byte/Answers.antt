@@ -8,7 +8,8 @@ pub returns-clause-colors : goal.returns-clause-colors
 returns-clause-colors c = λ first count head rest s less. colors_wait first count head rest s less
 
 pub returns-clause-text : goal.returns-clause-text
-returns-clause-text c = λ text_length head rest s less. server_text_waits text_length head rest s less
+returns-clause-text c =
+    λ text_length head rest s less. server_text_waits text_length head rest s less
 
 pub returns-clause-unknown : goal.returns-clause-unknown
 returns-clause-unknown c = λ first rest none. server_type_faults first rest none

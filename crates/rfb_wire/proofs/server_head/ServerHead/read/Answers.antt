@@ -7,11 +7,14 @@ use Rattle.rfb_wire.proofs.server_head.ServerHead.read.Goals as goal
 -- the rest of a head is missing, as any bytes in their place make a head
 pub returns-then-bytes-size-clause-more : goal.returns-then-bytes-size-clause-more
 returns-then-bytes-size-clause-more c =
-    let size : server_head_size (slice_index c.args.bytes.now 0) ≡ Some c.in-Some-head_size.size = grind arith in
-    misses_rest SpellsServerHead server_head_size server-sizes c.args.bytes.now c.in-Some-head_size.size (grind arith) c.if-bytes-size.true size
+    let size : server_head_size (slice_index c.args.bytes.now 0) ≡ Some c.in-Some-head_size.size =
+    grind arith in
+    misses_rest SpellsServerHead server_head_size server-sizes c.args.bytes.now
+    c.in-Some-head_size.size (grind arith) c.if-bytes-size.true size
 
 -- a type that asks for a size begins a head
 pub returns-then-bytes-size-clause-unknown : goal.returns-then-bytes-size-clause-unknown
 returns-then-bytes-size-clause-unknown c = λ first rest e none.
     let size : server_head_size first ≡ Some c.in-Some-head_size.size = grind arith in
-    absurd (begins_some SpellsServerHead server_head_size server-sizes first c.in-Some-head_size.size (omega arith) size none)
+    absurd (begins_some SpellsServerHead server_head_size server-sizes first
+    c.in-Some-head_size.size (omega arith) size none)

@@ -5,4 +5,6 @@ pub returns-clause-some : goal.returns-clause-some
 returns-clause-some g c = λ grammar p bytes laws. verdict_some grammar laws p bytes
 
 pub returns-clause-one : goal.returns-clause-one
-returns-clause-one g c = λ grammar p bytes items others fault other a b. verdict_one grammar p bytes items others fault other a b
+returns-clause-one g c =
+    λ grammar p bytes items others fault other a b.
+    verdict_one grammar p bytes items others fault other a b

@@ -8,7 +8,8 @@ use Rattle.rfb_picture.proofs.place_set.layers.Layers.edges_in_cell.Goals as goa
 pub returns-then-has : goal.returns-then-has
 returns-then-has c =
     let l = c.args.self.now in
-    let full : is_in l.full (c.args.zone.x / 64) (c.args.zone.y / 64) ≡ true = sym c.has.ensures ∙ c.if-has.true in
+    let full : is_in l.full (c.args.zone.x / 64) (c.args.zone.y / 64) ≡ true =
+    sym c.has.ensures ∙ c.if-has.true in
     rw c.of.ensures
     (full_edges (in_set l) c.args.zone (omega arith) (omega arith)
     (λ x y inside.
@@ -18,8 +19,10 @@ returns-then-has c =
 pub returns-then-has-2 : goal.returns-then-has-2
 returns-then-has-2 c =
     let l = c.args.self.now in
-    let full : is_in l.full (c.args.zone.x / 64) (c.args.zone.y / 64) ≡ false = sym c.has.ensures ∙ c.if-has.false in
-    let used : is_in l.used (c.args.zone.x / 64) (c.args.zone.y / 64) ≡ true = sym c.has-2.ensures ∙ c.if-has-2.true in
+    let full : is_in l.full (c.args.zone.x / 64) (c.args.zone.y / 64) ≡ false =
+    sym c.has.ensures ∙ c.if-has.false in
+    let used : is_in l.used (c.args.zone.x / 64) (c.args.zone.y / 64) ≡ true =
+    sym c.has-2.ensures ∙ c.if-has-2.true in
     same_edges (is_in l.places) (in_set l) c.args.zone c.edges_in.result
     (λ x y inside.
     let cell = same_cell c.args.zone x y c.requires.column c.requires.row inside in

@@ -4,4 +4,5 @@ use Rattle.rfb_picture.proofs.CellLemmas.{rows_done}
 use Rattle.rfb_picture.proofs.place_set.layers.Layers.edges_in_column.Goals as goal
 
 pub returns : goal.returns
-returns c = rows_done (in_set c.args.self.now) c.args.zone c.loop-row.row c.loop-row.found (omega arith) c.loop-row.invariant
+returns c = rows_done (in_set c.args.self.now) c.args.zone c.loop-row.row c.loop-row.found
+    (omega arith) c.loop-row.invariant

@@ -9,14 +9,22 @@ returns-then-not-has_all_in_column c =
     let has = rw c.in_column.ensures at c.has_all_in_column.ensures in (
       λ none. absurd (false≢true none),
       λ all.
-          let yes = has.1 (λ x y inside. all x y (column_inside c.args.zone c.loop-column.column x y c.loop-column.auto.column inside)) in
+          let yes = has.1
+          (λ x y inside.
+          all x y (column_inside c.args.zone c.loop-column.column x y
+          c.loop-column.auto.column inside)) in
           rw c.if-not-has_all_in_column.true at yes,
     )
 
 pub loop-column-preserved : goal.loop-column-preserved
 loop-column-preserved c =
     let has = rw c.in_column.ensures at c.has_all_in_column.ensures in
-    all_columns_more (in_set c.args.self.now) c.args.zone c.loop-column.column c.loop-column.auto.column c.loop-column.invariant (has.0 (search rules))
+    all_columns_more (in_set c.args.self.now) c.args.zone c.loop-column.column
+    c.loop-column.auto.column c.loop-column.invariant (has.0 (search rules))
 
 pub returns : goal.returns
-returns c = (λ yes. all_columns_done (in_set c.args.self.now) c.args.zone c.loop-column.column (omega arith) c.loop-column.invariant, λ all. refl)
+returns c = (
+  λ yes. all_columns_done (in_set c.args.self.now) c.args.zone c.loop-column.column
+      (omega arith) c.loop-column.invariant,
+  λ all. refl,
+)

@@ -5,4 +5,5 @@ use Rattle.rfb_picture.proofs.place_set.layers.Layers.open_cells.Given as goal
 -- the rows so far are open
 abbrev pub invariant-loop-row : goal.invariant-loop-row
 invariant-loop-row l =
-    IsOpened (record { x = l.cells.x; y = l.cells.y; w = l.cells.w; h = l.row - l.cells.y }) l.initial.self l.self
+    IsOpened (record { x = l.cells.x; y = l.cells.y; w = l.cells.w; h = l.row - l.cells.y })
+    l.initial.self l.self
