@@ -1,0 +1,5 @@
+pub mod QueueLemmas
+pub mod PhaseLemmas
+pub mod HoldsLemmas
+pub mod CallLemmas
+pub mod NetworkLemmas

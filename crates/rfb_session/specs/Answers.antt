@@ -1,0 +1,69 @@
+-- What each end answers to the other's items, as items of its own: in the handshake what RFC 6143
+-- sections 7.1 and 7.3 and Appendix A ask next, and behind it nothing.
+use Rattle.std.specs.Prelude.{ℕ, zero, suc, List, [], ◌∷◌, ◌++◌, map}
+use Rattle.rfb_wire.specs.Encoding.{number_of}
+use Rattle.rfb_wire.specs.ClientMessage.{SetPixelFormat, SetEncodings}
+use Rattle.rfb_wire.specs.stream.Sequel.{First, Second}
+use Rattle.rfb_hello.specs.Version.{lower}
+use Rattle.rfb_hello.specs.ClientHandshake.{ClientPoint, AwaitsVersion as AwaitsClientVersion, AwaitsChoice, AwaitsInit as AwaitsClientInit, ClientItem, ProtocolVersion as ClientVersion, SecurityType, ClientInit}
+use Rattle.rfb_hello.specs.ServerHandshake.{ServerPoint, AwaitsVersion, AwaitsSecurity, AwaitsResult, AwaitsInit, AwaitsName, ServerItem, ProtocolVersion, SecurityNone, SecurityTypes, SecurityResult, ServerInit, Name}
+use Rattle.rfb_hello.specs.ServerAnswers.{types_asked, result_asked, init_asked}
+use Rattle.rfb_hello.specs.ViewerAnswers.{choice_asked}
+use Rattle.rfb_server.specs.ClientBytes.{ClientAt, FromClient}
+use Rattle.rfb_server.specs.Server.{Serving, ServerState, serves}
+use Rattle.rfb_viewer.specs.ServerBytes.{ServerAt, FromServer}
+use Rattle.rfb_viewer.specs.Viewer.{Viewing, ViewerState, shows}
+
+-- ---- the viewer's
+
+-- the messages that end the handshake: its format, and its encodings
+abbrev pub ready_messages : Viewing → List FromClient
+ready_messages viewing =
+    Second (SetPixelFormat viewing.form)
+    ∷ Second (SetEncodings (map (λ encoding. number_of encoding) viewing.encodings)) ∷ []
+
+-- to a step of the handshake
+abbrev pub answers_to_step : Viewing → ServerPoint → ServerItem → List FromClient
+answers_to_step viewing AwaitsVersion (ProtocolVersion version) = First (ClientVersion (lower viewing.hello.limit version)) ∷ []
+answers_to_step viewing (AwaitsSecurity version) SecurityNone = First (ClientInit viewing.hello.shared) ∷ []
+answers_to_step viewing (AwaitsSecurity version) (SecurityTypes types) = map (λ step. First step) (choice_asked version viewing.hello.shared)
+answers_to_step viewing (AwaitsResult version) SecurityResult = First (ClientInit viewing.hello.shared) ∷ []
+answers_to_step viewing (AwaitsInit version) (ServerInit width height zero) = ready_messages viewing
+answers_to_step viewing (AwaitsInit version) (ServerInit width height (suc n)) = []
+answers_to_step viewing (AwaitsName version width height name_length) (Name text) = ready_messages viewing
+answers_to_step viewing point step = []
+
+-- to an item where the server's bytes stand at a point
+abbrev pub viewer_answers : Viewing → ServerAt → FromServer → List FromClient
+viewer_answers viewing (First point) (First step) = answers_to_step viewing point step
+viewer_answers viewing (First point) (Second item) = []
+viewer_answers viewing (Second p) (First step) = []
+viewer_answers viewing (Second p) (Second item) = []
+
+-- to items one behind another
+abbrev pub viewer_replies : Viewing → ViewerState → List FromServer → List FromClient
+viewer_replies viewing s [] = []
+viewer_replies viewing s (item ∷ items) =
+    viewer_answers viewing s.point item ++ viewer_replies viewing (shows viewing s item) items
+
+-- ---- the server's
+
+-- to a step of the handshake
+abbrev pub answers_to_client : Serving → ClientPoint → ClientItem → List FromServer
+answers_to_client serving AwaitsClientVersion (ClientVersion version) = map (λ step. First step) (types_asked version)
+answers_to_client serving (AwaitsChoice version) SecurityType = map (λ step. First step) (result_asked version)
+answers_to_client serving (AwaitsClientInit version) (ClientInit shared) = map (λ step. First step) (init_asked serving.hello)
+answers_to_client serving point step = []
+
+-- to an item where the client's bytes stand at a point
+abbrev pub server_answers : Serving → ClientAt → FromClient → List FromServer
+server_answers serving (First point) (First step) = answers_to_client serving point step
+server_answers serving (First point) (Second message) = []
+server_answers serving (Second between) (First step) = []
+server_answers serving (Second between) (Second message) = []
+
+-- to items one behind another
+abbrev pub server_replies : Serving → ServerState → List FromClient → List FromServer
+server_replies serving s [] = []
+server_replies serving s (item ∷ items) =
+    server_answers serving s.point item ++ server_replies serving (serves serving s item) items

@@ -1,0 +1,5 @@
+pub mod Link
+pub mod Answers
+pub mod LinkSteps
+pub mod Headline
+pub mod Network

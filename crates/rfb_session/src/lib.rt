@@ -1,0 +1,11 @@
+//! Both ends of a connection in one process: a server, its viewer, and what is in flight between
+//! them.
+//!
+//! `law` says in contracts alone what holds of the two ends together, whatever is drawn, asked,
+//! composed and delivered.
+#![tactic(auto)]
+
+mod event;
+pub mod law;
+
+pub use event::Event;
