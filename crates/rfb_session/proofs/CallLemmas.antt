@@ -64,7 +64,7 @@ phase_mere e c message (Sent p m s) mere open_now =
 -- ---- a request
 
 -- where it is taken, nobody has another
-phase_request : (e : Ends) (c : Core) (incremental : Bool) (rect : Rect) → Phase e c → request_refusal c.viewer rect ≡ None → (c.to_viewer ≡ []) × Phase e (sent c (requested c.viewer) (FramebufferUpdateRequest incremental rect))
+pub phase_request : (e : Ends) (c : Core) (incremental : Bool) (rect : Rect) → Phase e c → request_refusal c.viewer rect ≡ None → (c.to_viewer ≡ []) × Phase e (sent c (requested c.viewer) (FramebufferUpdateRequest incremental rect))
 phase_request e c incremental rect phase open_now = by phase
   where
     early : (vp : ServerPoint) → c.viewer.point ≡ First vp → ⊥
@@ -93,7 +93,7 @@ phase_request e c incremental rect phase open_now = by phase
 
 -- ---- a format
 
-phase_format : (e : Ends) (c : Core) (form : PixelFormat) (prefix : List ℕ) → Phase e c → format_refusal c.viewer prefix ≡ None → (c.to_viewer ≡ []) × Phase e (sent c (formatted form c.viewer) (SetPixelFormat form))
+pub phase_format : (e : Ends) (c : Core) (form : PixelFormat) (prefix : List ℕ) → Phase e c → format_refusal c.viewer prefix ≡ None → (c.to_viewer ≡ []) × Phase e (sent c (formatted form c.viewer) (SetPixelFormat form))
 phase_format e c form prefix phase open_now = by phase
   where
     early : (vp : ServerPoint) → c.viewer.point ≡ First vp → ⊥

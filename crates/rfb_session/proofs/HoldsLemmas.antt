@@ -46,7 +46,7 @@ unknown_shows form known (Some picture) unknown = λ x y pixel d p q e. let none
 
 -- ---- an item reaches the viewer
 
-holds_shown : (e : Ends) (screen : Grid Colour) (c : Core) (item : FromServer) (rest : List FromServer) → Holds e screen c → c.to_viewer ≡ item ∷ rest → Holds e screen (shown e c item rest)
+pub holds_shown : (e : Ends) (screen : Grid Colour) (c : Core) (item : FromServer) (rest : List FromServer) → Holds e screen c → c.to_viewer ≡ item ∷ rest → Holds e screen (shown e c item rest)
 holds_shown e screen c item rest h queue =
     let same : due e c ≡ due e (shown e c item rest) = ap (λ (q : List FromServer). (acts (viewer e.viewing) c.viewer q).picture) queue in
     record {
@@ -121,7 +121,7 @@ early_or_ready e c (Asking p m s) = inr m.session_at
 early_or_ready e c (Held p m s) = inr m.session_at
 early_or_ready e c (Sent p m s) = inr m.session_at
 
-holds_served : (e : Ends) (screen : Grid Colour) (c : Core) (item : FromClient) (rest : List FromClient) → Holds e screen c → c.to_server ≡ item ∷ rest → Holds e screen (served e screen c item rest)
+pub holds_served : (e : Ends) (screen : Grid Colour) (c : Core) (item : FromClient) (rest : List FromClient) → Holds e screen c → c.to_server ≡ item ∷ rest → Holds e screen (served e screen c item rest)
 holds_served e screen c item rest h queue = by (early_or_ready e c h.phase)
   where
     by : (IsUnknown c.session.known × (c.latest ≡ None)) ⊎ (c.session.point ≡ Second tt) → Holds e screen (served e screen c item rest)
@@ -202,12 +202,12 @@ not_due screen s unasked d =
     cc
 
 -- the server has a request
-record IsHeld (e : Ends) (c : Core) : Type 0 where
-  p : UpdatePoint
-  meets : Meets e c p
-  awaits : Awaits c p
+pub record IsHeld (e : Ends) (c : Core) : Type 0 where
+  pub p : UpdatePoint
+  pub meets : Meets e c p
+  pub awaits : Awaits c p
 
-due_held : (e : Ends) (screen : Grid Colour) (c : Core) → Phase e c → IsDue (server_of screen c.session) → IsHeld e c
+pub due_held : (e : Ends) (screen : Grid Colour) (c : Core) → Phase e c → IsDue (server_of screen c.session) → IsHeld e c
 due_held e screen c (Greeting s) d = absurd (not_due screen c.session s.unasked d)
 due_held e screen c (Versioned v s) d = absurd (not_due screen c.session s.unasked d)
 due_held e screen c (Typed v s) d = absurd (not_due screen c.session s.unasked d)
@@ -222,7 +222,7 @@ due_held e screen c (Asking p m s) d = absurd (not_due screen c.session s.unaske
 due_held e screen c (Held p m s) d = record { p = p; meets = m; awaits = s }
 due_held e screen c (Sent p m s) d = absurd (not_due screen c.session s.unasked d)
 
-point_is : (p : UpdatePoint) (w h : ℕ) (f : PixelFormat) → p.width ≡ w → p.height ≡ h → p.form ≡ f → p.left ≡ 0 → p ≡ record { width = w; height = h; form = f; left = 0 }
+pub point_is : (p : UpdatePoint) (w h : ℕ) (f : PixelFormat) → p.width ≡ w → p.height ≡ h → p.form ≡ f → p.left ≡ 0 → p ≡ record { width = w; height = h; form = f; left = 0 }
 point_is p w h f wide high formed none =
     let at : (a b : ℕ) (g : PixelFormat) (n : ℕ) → UpdatePoint = λ a b g n. record { width = a; height = b; form = g; left = n } in
     let e1 : at p.width p.height p.form p.left ≡ at w p.height p.form p.left = ap (λ (a : ℕ). at a p.height p.form p.left) wide in

@@ -3,3 +3,7 @@ pub mod PhaseLemmas
 pub mod HoldsLemmas
 pub mod CallLemmas
 pub mod NetworkLemmas
+pub mod ReadyLemmas
+pub mod AnswerLemmas
+pub mod FlightLemmas
+pub mod MoveLemmas

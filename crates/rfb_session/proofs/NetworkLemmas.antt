@@ -5,6 +5,10 @@ use Rattle.rfb_picture.specs.Grid.{Grid, changed}
 use Rattle.rfb_picture.proofs.GridLemmas.{width-changed, height-changed, width-uniform, height-uniform}
 use Rattle.rfb_wire.specs.ClientMessage.{SetEncodings as EncodingsMessage, KeyEvent, PointerEvent, ClientCutText}
 use Rattle.rfb_wire.specs.Encoding.{number_of}
+use Rattle.rfb_wire.specs.stream.Sequel.{First, Second}
+use Rattle.rfb_codec.specs.UpdateStream.{UpdatePoint}
+use Rattle.rfb_hello.specs.ServerHandshake.{ServerPoint}
+use Rattle.rfb_viewer.specs.ServerBytes.{ServerAt}
 use Rattle.rfb_session.specs.declared.event.Event.{Event}
 use Rattle.rfb_session.specs.declared.event.Event.TheVariants.{Fill, Put, Copy, Hint, Request, SetFormat, SetEncodings, Key, Pointer, CutText, Compose, ToServer, ToViewer}
 use Rattle.rfb_session.specs.Link.{Ends, Link, first_link}
@@ -12,7 +16,7 @@ use Rattle.rfb_session.specs.LinkSteps.{LinkEvent, Request as OfRequest, SetForm
 use Rattle.rfb_session.specs.Headline.{IsHeadline}
 use Rattle.rfb_session.specs.Network.{Network, Draws, OnLink, Steps, StepsAll, IsFirst, IsReached}
 use Rattle.rfb_session.proofs.QueueLemmas.{uniform_at, none_unasked}
-use Rattle.rfb_session.proofs.PhaseLemmas.{Core, core, Greeting}
+use Rattle.rfb_session.proofs.PhaseLemmas.{Core, core, Phase, Greeting, Versioned, Typed, Choosing37, Choosing38, Chosen, Sharing, Begun, Named, Idling, Asking, Held, Sent}
 use Rattle.rfb_session.proofs.HoldsLemmas.{Holds, holds_composed, holds_to_viewer, holds_to_server}
 use Rattle.rfb_session.proofs.CallLemmas.{holds_mere, holds_request, holds_format}
 
@@ -90,5 +94,37 @@ reached_holds e n r =
     let fresh : NetworkHolds e r.first = subst (λ (l : Link). Holds e r.first.screen (core l)) (sym first.link) (first_holds e r.first.screen first.width first.height) in
     steps_hold e r.first n r.events fresh r.steps
 
+apart : (vp : ServerPoint) (p : UpdatePoint) (at : ServerAt) → at ≡ First vp → at ≡ Second p → ⊥
+apart vp p at one two = cc
+
+one_point : (p q : UpdatePoint) (at : ServerAt) → at ≡ Second p → at ≡ Second q → p.form ≡ q.form
+one_point p q at one two = let same : p ≡ q = cc in ap (λ (r : UpdatePoint). r.form) same
+
+-- while an update is in flight both ends have one format
+agreed_now : (e : Ends) (c : Core) (p : UpdatePoint) → Phase e c → c.viewer.point ≡ Second p → (c.to_viewer ≡ [] → ⊥) → p.form ≡ c.session.form
+agreed_now e c p phase at some = by phase
+  where
+    early : (vp : ServerPoint) → c.viewer.point ≡ First vp → p.form ≡ c.session.form
+    early vp here = absurd (apart vp p c.viewer.point here at)
+
+    by : Phase e c → p.form ≡ c.session.form
+    by (Greeting s) = early _ s.viewer_at
+    by (Versioned v s) = early _ s.viewer_at
+    by (Typed v s) = early _ s.viewer_at
+    by (Choosing37 s) = early _ s.viewer_at
+    by (Choosing38 s) = early _ s.viewer_at
+    by (Chosen s) = early _ s.viewer_at
+    by (Sharing v s) = early _ s.viewer_at
+    by (Begun v s) = early _ s.viewer_at
+    by (Named v n text s h) = early _ s.viewer_at
+    by (Idling q m s) = absurd (some s.none)
+    by (Asking q m s) = absurd (some s.none)
+    by (Held q m s) = absurd (some s.none)
+    by (Sent q m s) = one_point p q c.viewer.point at m.viewer_at ∙ sym s.formed
+
 pub headline_holds : (e : Ends) (n : Network) → IsReached e n → IsHeadline e n.link
-headline_holds e n r = let h = reached_holds e n r in record { known = h.known; latest = h.latest }
+headline_holds e n r = let h = reached_holds e n r in record { known = h.known; latest = h.latest; agreed = λ p at some. agreed_now e (core n.link) p h.phase at some }
+
+-- a fresh world is reached, whatever was drawn on its screen
+pub first_reached : (e : Ends) (screen : Grid Colour) → screen.width ≡ e.serving.hello.width → screen.height ≡ e.serving.hello.height → IsReached e (record { screen = screen; link = first_link e })
+first_reached e screen wide high = record { first = record { screen = screen; link = first_link e }; is_first = record { width = wide; height = high; link = refl }; events = []; steps = refl }

@@ -24,13 +24,18 @@ ready_messages viewing =
 
 -- to a step of the handshake
 abbrev pub answers_to_step : Viewing → ServerPoint → ServerItem → List FromClient
-answers_to_step viewing AwaitsVersion (ProtocolVersion version) = First (ClientVersion (lower viewing.hello.limit version)) ∷ []
-answers_to_step viewing (AwaitsSecurity version) SecurityNone = First (ClientInit viewing.hello.shared) ∷ []
-answers_to_step viewing (AwaitsSecurity version) (SecurityTypes types) = map (λ step. First step) (choice_asked version viewing.hello.shared)
-answers_to_step viewing (AwaitsResult version) SecurityResult = First (ClientInit viewing.hello.shared) ∷ []
+answers_to_step viewing AwaitsVersion (ProtocolVersion version) =
+    First (ClientVersion (lower viewing.hello.limit version)) ∷ []
+answers_to_step viewing (AwaitsSecurity version) SecurityNone =
+    First (ClientInit viewing.hello.shared) ∷ []
+answers_to_step viewing (AwaitsSecurity version) (SecurityTypes types) =
+    map (λ step. First step) (choice_asked version viewing.hello.shared)
+answers_to_step viewing (AwaitsResult version) SecurityResult =
+    First (ClientInit viewing.hello.shared) ∷ []
 answers_to_step viewing (AwaitsInit version) (ServerInit width height zero) = ready_messages viewing
 answers_to_step viewing (AwaitsInit version) (ServerInit width height (suc n)) = []
-answers_to_step viewing (AwaitsName version width height name_length) (Name text) = ready_messages viewing
+answers_to_step viewing (AwaitsName version width height name_length) (Name text) =
+    ready_messages viewing
 answers_to_step viewing point step = []
 
 -- to an item where the server's bytes stand at a point
@@ -50,9 +55,12 @@ viewer_replies viewing s (item ∷ items) =
 
 -- to a step of the handshake
 abbrev pub answers_to_client : Serving → ClientPoint → ClientItem → List FromServer
-answers_to_client serving AwaitsClientVersion (ClientVersion version) = map (λ step. First step) (types_asked version)
-answers_to_client serving (AwaitsChoice version) SecurityType = map (λ step. First step) (result_asked version)
-answers_to_client serving (AwaitsClientInit version) (ClientInit shared) = map (λ step. First step) (init_asked serving.hello)
+answers_to_client serving AwaitsClientVersion (ClientVersion version) =
+    map (λ step. First step) (types_asked version)
+answers_to_client serving (AwaitsChoice version) SecurityType =
+    map (λ step. First step) (result_asked version)
+answers_to_client serving (AwaitsClientInit version) (ClientInit shared) =
+    map (λ step. First step) (init_asked serving.hello)
 answers_to_client serving point step = []
 
 -- to an item where the client's bytes stand at a point

@@ -3,3 +3,4 @@ pub mod Answers
 pub mod LinkSteps
 pub mod Headline
 pub mod Network
+pub mod InFlight

@@ -1,22 +1,33 @@
--- A link: a server's session and its viewer, and the items in flight between them. The screen is not
--- the link's own: the session is lent it at each step.
+-- A link: a server's session and its viewer, and the items in flight between them. The screen is
+-- not the link's own: the session is lent it at each step.
 use Rattle.std.specs.Prelude.{ℕ, List, [], ◌∷◌, Option, None}
 use Rattle.rfb_pixel.specs.declared.colour.Colour.{Colour}
 use Rattle.rfb_pixel.specs.Format.{PixelFormat}
 use Rattle.rfb_picture.specs.Grid.{Grid}
 use Rattle.rfb_picture.specs.Area.{Places}
 use Rattle.rfb_wire.specs.declared.encoding.Encoding.{Encoding}
+use Rattle.rfb_wire.specs.stream.Grammar.{Grammar}
 use Rattle.rfb_wire.specs.stream.Sequel.{First}
 use Rattle.rfb_hello.specs.ServerHandshake.{ProtocolVersion}
-use Rattle.rfb_server.specs.ClientBytes.{ClientAt, FromClient}
+use Rattle.rfb_server.specs.declared.fault.ServerFault.{ServerFault}
+use Rattle.rfb_server.specs.ClientBytes.{ClientAt, FromClient, client_bytes}
 use Rattle.rfb_server.specs.Server.{Serving, ServerState, first_server}
-use Rattle.rfb_viewer.specs.ServerBytes.{FromServer}
+use Rattle.rfb_viewer.specs.declared.fault.ViewerFault.{ViewerFault}
+use Rattle.rfb_viewer.specs.ServerBytes.{ServerAt, FromServer, server_bytes}
 use Rattle.rfb_viewer.specs.Viewer.{Viewing, ViewerState, first_viewer}
 
 -- what the two ends were made with
 pub record Ends : Type 0 where
   pub serving : Serving
   pub viewing : Viewing
+
+-- all that is sent to the server
+abbrev pub server_stream : Ends → Grammar ClientAt FromClient ServerFault
+server_stream e = client_bytes e.serving.hello.offer
+
+-- and to the viewer
+abbrev pub viewer_stream : Ends → Grammar ServerAt FromServer ViewerFault
+viewer_stream e = server_bytes e.viewing.form e.viewing.hello
 
 -- ---- a server without its screen
 

@@ -1,5 +1,5 @@
--- The steps of a link, over the screen that its session is lent: calls of the viewer, composings, and
--- deliveries of any number of bytes either way.
+-- The steps of a link, over the screen that its session is lent: calls of the viewer, composings,
+-- and deliveries of any number of bytes either way.
 use Rattle.std.specs.Prelude.{◌≡◌, ℕ, zero, suc, ◌+◌, min, Bool, List, [], ◌∷◌, ◌++◌, map, Option, Some, None, ◌⊎◌, ⊤, ◌-◌}
 use Rattle.rfb_pixel.specs.declared.colour.Colour.{Colour}
 use Rattle.rfb_pixel.specs.Format.{PixelFormat}
@@ -14,14 +14,14 @@ use Rattle.rfb_wire.specs.stream.Sequel.{First, Second}
 use Rattle.rfb_wire.specs.stream.End.{acts}
 use Rattle.rfb_codec.specs.UpdateStream.{Message}
 use Rattle.rfb_codec.specs.WholeUpdate.{update_of}
-use Rattle.rfb_server.specs.ClientBytes.{FromClient, client_bytes}
+use Rattle.rfb_server.specs.ClientBytes.{FromClient}
 use Rattle.rfb_server.specs.Server.{server}
 use Rattle.rfb_server.specs.Composing.{Part, sent_as, Composes, IsDue}
 use Rattle.rfb_viewer.specs.declared.fault.CallFault.{CallFault}
-use Rattle.rfb_viewer.specs.ServerBytes.{FromServer, server_bytes}
+use Rattle.rfb_viewer.specs.ServerBytes.{FromServer}
 use Rattle.rfb_viewer.specs.Viewer.{ViewerState, viewer}
 use Rattle.rfb_viewer.specs.Calls.{call_refusal, request_refusal, format_refusal, requested, formatted}
-use Rattle.rfb_session.specs.Link.{Ends, SessionState, server_of, session_of, Composing, Link}
+use Rattle.rfb_session.specs.Link.{Ends, server_stream, viewer_stream, SessionState, server_of, session_of, Composing, Link}
 use Rattle.rfb_session.specs.Answers.{viewer_replies, server_replies}
 
 -- what happens on a link: the viewer's calls, a composing, and deliveries of at most so many bytes
@@ -38,8 +38,8 @@ pub data LinkEvent : Type 0 where
 
 -- ---- calls of the viewer
 
--- the first byte of the item under way, where this many bytes of it came: 0 of an update, another of
--- any other item
+-- the first byte of the item under way, where this many bytes of it came: 0 of an update, another
+-- of any other item
 abbrev pub begun : ℕ → List FromServer → List ℕ
 begun zero queue = []
 begun (suc n) [] = []
@@ -47,13 +47,23 @@ begun (suc n) (First step ∷ queue) = 1 ∷ []
 begun (suc n) (Second (Message (FramebufferUpdate rectangles)) ∷ queue) = 0 ∷ []
 begun (suc n) (Second item ∷ queue) = 1 ∷ []
 
--- a call that is refused changes nothing; any other changes the viewer, and its message joins those in
--- flight to the server
+-- a call that is refused changes nothing; any other changes the viewer, and its message joins those
+-- in flight to the server
 abbrev pub calls : Option CallFault → Link → ViewerState → ClientMessage → Link
 calls (Some fault) l viewer message = l
-calls None l viewer message = record l { viewer = viewer; to_server = l.to_server ++ Second message ∷ [] }
+calls None l viewer message =
+    record l { viewer = viewer; to_server = l.to_server ++ Second message ∷ [] }
+
+-- a message that waits for the end of the handshake alone, and changes nothing of the viewer
+abbrev pub sends : Link → ClientMessage → Link
+sends l message = calls (call_refusal l.viewer) l l.viewer message
 
 -- ---- composing
+
+-- the items of an update with these rectangles
+abbrev pub update_items : List Part → List Part → List FromServer
+update_items copies blocks =
+    map (λ item. Second item) (update_of (map sent_as (copies ++ blocks)))
 
 -- an update is due: it joins the items in flight to the viewer, and is noted as the latest
 pub record ComposesOn (screen : Grid Colour) (old new : Link) : Type 0 where
@@ -62,10 +72,11 @@ pub record ComposesOn (screen : Grid Colour) (old new : Link) : Type 0 where
   pub bytes : List ℕ
   pub copies : List Part
   pub blocks : List Part
-  pub composed : Composes (server_of screen old.session) (server_of screen session) bytes copies blocks
+  pub composed :
+      Composes (server_of screen old.session) (server_of screen session) bytes copies blocks
   pub result : new ≡ record old {
     session = session;
-    to_viewer = old.to_viewer ++ map (λ item. Second item) (update_of (map sent_as (copies ++ blocks)));
+    to_viewer = old.to_viewer ++ update_items copies blocks;
     latest = Some (record { screen = screen; area = old.session.area; form = old.session.form });
   }
 
@@ -73,21 +84,21 @@ pub record ComposesOn (screen : Grid Colour) (old new : Link) : Type 0 where
 
 -- how many bytes are in flight to the viewer: those of the items but for what has been moved
 abbrev pub flight_to_viewer : Ends → Link → ℕ
-flight_to_viewer e l = sizes (server_bytes e.viewing.form e.viewing.hello) l.to_viewer - l.at_viewer
+flight_to_viewer e l = sizes (viewer_stream e) l.to_viewer - l.at_viewer
 
 -- and to the server
 abbrev pub flight_to_server : Ends → Link → ℕ
-flight_to_server e l = sizes (client_bytes e.serving.hello.offer) l.to_server - l.at_server
+flight_to_server e l = sizes (server_stream e) l.to_server - l.at_server
 
--- so many bytes reach the viewer: the items that are whole act, one behind another, and their answers
--- join those in flight to the server; the rest is a part of the next item
+-- so many bytes reach the viewer: the items that are whole act, one behind another, and their
+-- answers join those in flight to the server; the rest is a part of the next item
 pub record MovesToViewer (e : Ends) (old : Link) (n : ℕ) (new : Link) : Type 0 where
   pub done : List FromServer
   pub left : List FromServer
   pub at : ℕ
   pub queue : old.to_viewer ≡ done ++ left
-  pub count : old.at_viewer + n ≡ sizes (server_bytes e.viewing.form e.viewing.hello) done + at
-  pub within : IsWithinFirst (server_bytes e.viewing.form e.viewing.hello) at left
+  pub count : old.at_viewer + n ≡ sizes (viewer_stream e) done + at
+  pub within : IsWithinFirst (viewer_stream e) at left
   pub result : new ≡ record old {
     viewer = acts (viewer e.viewing) old.viewer done;
     to_viewer = left;
@@ -96,13 +107,14 @@ pub record MovesToViewer (e : Ends) (old : Link) (n : ℕ) (new : Link) : Type 0
   }
 
 -- so many bytes reach the server
-pub record MovesToServer (e : Ends) (screen : Grid Colour) (old : Link) (n : ℕ) (new : Link) : Type 0 where
+pub record MovesToServer (e : Ends) (screen : Grid Colour) (old : Link) (n : ℕ) (new : Link)
+    : Type 0 where
   pub done : List FromClient
   pub left : List FromClient
   pub at : ℕ
   pub queue : old.to_server ≡ done ++ left
-  pub count : old.at_server + n ≡ sizes (client_bytes e.serving.hello.offer) done + at
-  pub within : IsWithinFirst (client_bytes e.serving.hello.offer) at left
+  pub count : old.at_server + n ≡ sizes (server_stream e) done + at
+  pub within : IsWithinFirst (server_stream e) at left
   pub result : new ≡ record old {
     session = session_of (acts (server e.serving) (server_of screen old.session) done);
     to_server = left;
@@ -114,15 +126,19 @@ pub record MovesToServer (e : Ends) (screen : Grid Colour) (old : Link) (n : ℕ
 
 abbrev pub LinkSteps : Ends → Grid Colour → Link → LinkEvent → Link → Type 0
 LinkSteps e screen old (Request incremental rect) new =
-    new ≡ calls (request_refusal old.viewer rect) old (requested old.viewer) (FramebufferUpdateRequest incremental rect)
+    new ≡ calls (request_refusal old.viewer rect) old (requested old.viewer)
+    (FramebufferUpdateRequest incremental rect)
 LinkSteps e screen old (SetFormat form) new =
-    new ≡ calls (format_refusal old.viewer (begun old.at_viewer old.to_viewer)) old (formatted form old.viewer) (SetPixelFormat form)
+    new ≡ calls (format_refusal old.viewer (begun old.at_viewer old.to_viewer)) old
+    (formatted form old.viewer) (SetPixelFormat form)
 LinkSteps e screen old (SetEncodings encodings) new =
-    new ≡ calls (call_refusal old.viewer) old old.viewer (EncodingsMessage (map (λ encoding. number_of encoding) encodings))
-LinkSteps e screen old (Key down key) new = new ≡ calls (call_refusal old.viewer) old old.viewer (KeyEvent down key)
-LinkSteps e screen old (Pointer buttons x y) new = new ≡ calls (call_refusal old.viewer) old old.viewer (PointerEvent buttons x y)
-LinkSteps e screen old (CutText text) new = new ≡ calls (call_refusal old.viewer) old old.viewer (ClientCutText text)
+    new ≡ sends old (EncodingsMessage (map (λ encoding. number_of encoding) encodings))
+LinkSteps e screen old (Key down key) new = new ≡ sends old (KeyEvent down key)
+LinkSteps e screen old (Pointer buttons x y) new = new ≡ sends old (PointerEvent buttons x y)
+LinkSteps e screen old (CutText text) new = new ≡ sends old (ClientCutText text)
 LinkSteps e screen old Compose new =
     ComposesOn screen old new ⊎ ((IsDue (server_of screen old.session) → ⊥) × (new ≡ old))
-LinkSteps e screen old (ToServer count) new = MovesToServer e screen old (min count (flight_to_server e old)) new
-LinkSteps e screen old (ToViewer count) new = MovesToViewer e old (min count (flight_to_viewer e old)) new
+LinkSteps e screen old (ToServer count) new =
+    MovesToServer e screen old (min count (flight_to_server e old)) new
+LinkSteps e screen old (ToViewer count) new =
+    MovesToViewer e old (min count (flight_to_viewer e old)) new

@@ -25,9 +25,13 @@ OnLink e event old new = (new.screen ≡ old.screen) × LinkSteps e old.screen o
 
 -- a hint changes nothing: what is made of it is a composing's choice
 abbrev pub Steps : Ends → Network → Event → Network → Type 0
-Steps e old (Fill rect colour) new = Draws (Holds old.screen rect) (filled rect colour old.screen) old new
-Steps e old (Put x y row) new = Draws (Holds old.screen (row_from x y (length row.items))) (with_row x y row.items old.screen) old new
-Steps e old (Copy rect sx sy) new = Draws (HoldsBoth old.screen rect sx sy) (copied rect sx sy old.screen) old new
+Steps e old (Fill rect colour) new =
+    Draws (Holds old.screen rect) (filled rect colour old.screen) old new
+Steps e old (Put x y row) new =
+    Draws (Holds old.screen (row_from x y (length row.items)))
+    (with_row x y row.items old.screen) old new
+Steps e old (Copy rect sx sy) new =
+    Draws (HoldsBoth old.screen rect sx sy) (copied rect sx sy old.screen) old new
 Steps e old (Hint rect sx sy) new = new ≡ old
 Steps e old (Request incremental rect) new = OnLink e (OfRequest incremental rect) old new
 Steps e old (SetFormat form) new = OnLink e (OfFormat form) old new
@@ -44,9 +48,11 @@ Steps e old (ToViewer count) new = OnLink e (OfViewer count) old new
 -- the steps of events one after another
 abbrev pub StepsAll : Ends → Network → List Event → Network → Type 0
 StepsAll e old [] new = new ≡ old
-StepsAll e old (event ∷ events) new = (mid : Network) × Steps e old event mid × StepsAll e mid events new
+StepsAll e old (event ∷ events) new =
+    (mid : Network) × Steps e old event mid × StepsAll e mid events new
 
--- a fresh world: a screen of the size that the server tells, whatever was drawn on it, and a fresh link
+-- a fresh world: a screen of the size that the server tells, whatever was drawn on it, and a fresh
+-- link
 pub record IsFirst (e : Ends) (n : Network) : Type 0 where
   pub width : n.screen.width ≡ e.serving.hello.width
   pub height : n.screen.height ≡ e.serving.hello.height
