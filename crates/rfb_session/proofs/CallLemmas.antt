@@ -32,13 +32,19 @@ some_none x e = cc
 -- ---- a message that is neither a request nor a format
 
 -- a viewer in the handshake takes no call
-not_ready : (c : Core) (vp : ServerPoint) → c.viewer.point ≡ First vp → call_refusal c.viewer ≡ None → ⊥
+not_ready : (c : Core) (vp : ServerPoint) → c.viewer.point ≡ First vp → call_refusal c.viewer
+    ≡ None → ⊥
 not_ready c vp at e = some_none NotReady (sym (ap (λ (p : ServerAt). call_refused p) at) ∙ e)
 
-later_form : (form : PixelFormat) (items : List FromClient) (message : ClientMessage) → IsMere (Second message) → form_behind form (items ++ Second message ∷ []) ≡ form_behind form items
-later_form form items message mere = form_append form items (Second message) ∙ mere_form (form_behind form items) (Second message) mere
+later_form : (form : PixelFormat) (items : List FromClient) (message : ClientMessage) →
+    IsMere (Second message) → form_behind form (items ++ Second message ∷ [])
+    ≡ form_behind form items
+later_form form items message mere =
+    form_append form items (Second message)
+    ∙ mere_form (form_behind form items) (Second message) mere
 
-phase_mere : (e : Ends) (c : Core) (message : ClientMessage) → Phase e c → IsMere (Second message) → call_refusal c.viewer ≡ None → Phase e (sent c c.viewer message)
+phase_mere : (e : Ends) (c : Core) (message : ClientMessage) → Phase e c → IsMere (Second message) →
+    call_refusal c.viewer ≡ None → Phase e (sent c c.viewer message)
 phase_mere e c message (Greeting s) mere open_now = absurd (not_ready c _ s.viewer_at open_now)
 phase_mere e c message (Versioned v s) mere open_now = absurd (not_ready c _ s.viewer_at open_now)
 phase_mere e c message (Typed v s) mere open_now = absurd (not_ready c _ s.viewer_at open_now)
@@ -47,34 +53,72 @@ phase_mere e c message (Choosing38 s) mere open_now = absurd (not_ready c _ s.vi
 phase_mere e c message (Chosen s) mere open_now = absurd (not_ready c _ s.viewer_at open_now)
 phase_mere e c message (Sharing v s) mere open_now = absurd (not_ready c _ s.viewer_at open_now)
 phase_mere e c message (Begun v s) mere open_now = absurd (not_ready c _ s.viewer_at open_now)
-phase_mere e c message (Named v n text s h) mere open_now = absurd (not_ready c _ s.viewer_at open_now)
+phase_mere e c message (Named v n text s h) mere open_now =
+    absurd (not_ready c _ s.viewer_at open_now)
 phase_mere e c message (Idling p m s) mere open_now =
     Idling p (meets_as e c (sent c c.viewer message) p p m m.session_at m.viewer_at refl refl refl)
-    (record { quiet = s.quiet; none = s.none; between = s.between; unasked = s.unasked; later = later_more c.to_server (Second message) s.later (mere_later (Second message) mere); formed = later_form c.session.form c.to_server message mere ∙ s.formed })
+    (record {
+      quiet =
+          s.quiet;
+      none = s.none;
+      between = s.between;
+      unasked = s.unasked;
+      later = later_more c.to_server (Second message) s.later (mere_later (Second message) mere);
+      formed = later_form c.session.form c.to_server message mere ∙ s.formed;
+    })
 phase_mere e c message (Asking p m s) mere open_now =
     Asking p (meets_as e c (sent c c.viewer message) p p m m.session_at m.viewer_at refl refl refl)
-    (record { busy = s.busy; none = s.none; between = s.between; unasked = s.unasked; once = ask_more c.to_server (Second message) s.once mere; formed = later_form c.session.form c.to_server message mere ∙ s.formed })
+    (record {
+      busy =
+          s.busy;
+      none = s.none;
+      between = s.between;
+      unasked = s.unasked;
+      once = ask_more c.to_server (Second message) s.once mere;
+      formed = later_form c.session.form c.to_server message mere ∙ s.formed;
+    })
 phase_mere e c message (Held p m s) mere open_now =
     Held p (meets_as e c (sent c c.viewer message) p p m m.session_at m.viewer_at refl refl refl)
-    (record { busy = s.busy; none = s.none; between = s.between; mere = mere_more c.to_server (Second message) s.mere mere; formed = s.formed })
+    (record {
+      busy =
+          s.busy;
+      none = s.none;
+      between = s.between;
+      mere = mere_more c.to_server (Second message) s.mere mere;
+      formed = s.formed;
+    })
 phase_mere e c message (Sent p m s) mere open_now =
     Sent p (meets_as e c (sent c c.viewer message) p p m m.session_at m.viewer_at refl refl refl)
-    (record { busy = s.busy; unasked = s.unasked; mere = mere_more c.to_server (Second message) s.mere mere; formed = s.formed; rest = s.rest })
+    (record {
+      busy =
+          s.busy;
+      unasked = s.unasked;
+      mere = mere_more c.to_server (Second message) s.mere mere;
+      formed = s.formed;
+      rest = s.rest;
+    })
 
 -- ---- a request
 
 -- where it is taken, nobody has another
-pub phase_request : (e : Ends) (c : Core) (incremental : Bool) (rect : Rect) → Phase e c → request_refusal c.viewer rect ≡ None → (c.to_viewer ≡ []) × Phase e (sent c (requested c.viewer) (FramebufferUpdateRequest incremental rect))
+pub phase_request : (e : Ends) (c : Core) (incremental : Bool) (rect : Rect) → Phase e c →
+    request_refusal c.viewer rect ≡ None → (c.to_viewer ≡ [])
+    × Phase e (sent c (requested c.viewer) (FramebufferUpdateRequest incremental rect))
 phase_request e c incremental rect phase open_now = by phase
   where
     early : (vp : ServerPoint) → c.viewer.point ≡ First vp → ⊥
-    early vp at = some_none NotReady (sym (ap (λ (p : ServerAt). request_refused p c.viewer.outstanding rect) at) ∙ open_now)
+    early vp at =
+        some_none NotReady
+        (sym (ap (λ (p : ServerAt). request_refused p c.viewer.outstanding rect) at) ∙ open_now)
 
     busy_now : (p : UpdatePoint) → c.viewer.point ≡ Second p → c.viewer.outstanding ≡ true → ⊥
     busy_now p at busy =
-        some_none Busy (sym (ap (λ (q : ServerAt). request_refused q c.viewer.outstanding rect) at ∙ ap (λ (b : Bool). request_refused (Second p) b rect) busy) ∙ open_now)
+        some_none Busy
+        (sym (ap (λ (q : ServerAt). request_refused q c.viewer.outstanding rect) at
+        ∙ ap (λ (b : Bool). request_refused (Second p) b rect) busy) ∙ open_now)
 
-    by : Phase e c → (c.to_viewer ≡ []) × Phase e (sent c (requested c.viewer) (FramebufferUpdateRequest incremental rect))
+    by : Phase e c → (c.to_viewer ≡ [])
+        × Phase e (sent c (requested c.viewer) (FramebufferUpdateRequest incremental rect))
     by (Greeting s) = absurd (early _ s.viewer_at)
     by (Versioned v s) = absurd (early _ s.viewer_at)
     by (Typed v s) = absurd (early _ s.viewer_at)
@@ -84,26 +128,47 @@ phase_request e c incremental rect phase open_now = by phase
     by (Sharing v s) = absurd (early _ s.viewer_at)
     by (Begun v s) = absurd (early _ s.viewer_at)
     by (Named v n text s h) = absurd (early _ s.viewer_at)
-    by (Idling p m s) = (s.none,
-        Asking p (meets_as e c (sent c (requested c.viewer) (FramebufferUpdateRequest incremental rect)) p p m m.session_at m.viewer_at refl refl refl)
-        (record { busy = refl; none = s.none; between = s.between; unasked = s.unasked; once = asks_now c.to_server incremental rect s.later; formed = form_append c.session.form c.to_server (Second (FramebufferUpdateRequest incremental rect)) ∙ s.formed }))
+    by (Idling p m s) = (
+      s.none,
+      Asking p (meets_as e c
+          (sent c (requested c.viewer)
+          (FramebufferUpdateRequest incremental rect))
+          p p m m.session_at m.viewer_at refl refl refl)
+          (record {
+            busy =
+                refl;
+            none = s.none;
+            between = s.between;
+            unasked = s.unasked;
+            once = asks_now c.to_server incremental rect s.later;
+            formed = form_append c.session.form c.to_server
+                (Second (FramebufferUpdateRequest incremental rect)) ∙ s.formed;
+          }),
+    )
     by (Asking p m s) = absurd (busy_now p m.viewer_at s.busy)
     by (Held p m s) = absurd (busy_now p m.viewer_at s.busy)
     by (Sent p m s) = absurd (busy_now p m.viewer_at s.busy)
 
 -- ---- a format
 
-pub phase_format : (e : Ends) (c : Core) (form : PixelFormat) (prefix : List ℕ) → Phase e c → format_refusal c.viewer prefix ≡ None → (c.to_viewer ≡ []) × Phase e (sent c (formatted form c.viewer) (SetPixelFormat form))
+pub phase_format : (e : Ends) (c : Core) (form : PixelFormat) (prefix : List ℕ) → Phase e c →
+    format_refusal c.viewer prefix ≡ None → (c.to_viewer ≡ [])
+    × Phase e (sent c (formatted form c.viewer) (SetPixelFormat form))
 phase_format e c form prefix phase open_now = by phase
   where
     early : (vp : ServerPoint) → c.viewer.point ≡ First vp → ⊥
-    early vp at = some_none NotReady (sym (ap (λ (p : ServerAt). format_refused p c.viewer.outstanding prefix) at) ∙ open_now)
+    early vp at =
+        some_none NotReady
+        (sym (ap (λ (p : ServerAt). format_refused p c.viewer.outstanding prefix) at) ∙ open_now)
 
     busy_now : (p : UpdatePoint) → c.viewer.point ≡ Second p → c.viewer.outstanding ≡ true → ⊥
     busy_now p at busy =
-        some_none Busy (sym (ap (λ (q : ServerAt). format_refused q c.viewer.outstanding prefix) at ∙ ap (λ (b : Bool). format_refused (Second p) b prefix) busy) ∙ open_now)
+        some_none Busy
+        (sym (ap (λ (q : ServerAt). format_refused q c.viewer.outstanding prefix) at
+        ∙ ap (λ (b : Bool). format_refused (Second p) b prefix) busy) ∙ open_now)
 
-    by : Phase e c → (c.to_viewer ≡ []) × Phase e (sent c (formatted form c.viewer) (SetPixelFormat form))
+    by : Phase e c → (c.to_viewer ≡ [])
+        × Phase e (sent c (formatted form c.viewer) (SetPixelFormat form))
     by (Greeting s) = absurd (early _ s.viewer_at)
     by (Versioned v s) = absurd (early _ s.viewer_at)
     by (Typed v s) = absurd (early _ s.viewer_at)
@@ -113,9 +178,22 @@ phase_format e c form prefix phase open_now = by phase
     by (Sharing v s) = absurd (early _ s.viewer_at)
     by (Begun v s) = absurd (early _ s.viewer_at)
     by (Named v n text s h) = absurd (early _ s.viewer_at)
-    by (Idling p m s) = (s.none,
-        Idling (record p { form = form }) (meets_as e c (sent c (formatted form c.viewer) (SetPixelFormat form)) p (record p { form = form }) m m.session_at (ap (λ (q : ServerAt). with_format form q) m.viewer_at) refl refl refl)
-        (record { quiet = s.quiet; none = s.none; between = s.between; unasked = s.unasked; later = later_more c.to_server (Second (SetPixelFormat form)) s.later tt; formed = form_append c.session.form c.to_server (Second (SetPixelFormat form)) }))
+    by (Idling p m s) = (
+      s.none,
+      Idling (record p { form = form })
+          (meets_as e c (sent c (formatted form c.viewer) (SetPixelFormat form)) p
+          (record p { form = form }) m m.session_at
+          (ap (λ (q : ServerAt). with_format form q) m.viewer_at) refl refl refl)
+          (record {
+            quiet =
+                s.quiet;
+            none = s.none;
+            between = s.between;
+            unasked = s.unasked;
+            later = later_more c.to_server (Second (SetPixelFormat form)) s.later tt;
+            formed = form_append c.session.form c.to_server (Second (SetPixelFormat form));
+          }),
+    )
     by (Asking p m s) = absurd (busy_now p m.viewer_at s.busy)
     by (Held p m s) = absurd (busy_now p m.viewer_at s.busy)
     by (Sent p m s) = absurd (busy_now p m.viewer_at s.busy)
@@ -124,39 +202,63 @@ phase_format e c form prefix phase open_now = by phase
 
 -- with nothing in flight to it the viewer shows its picture
 nothing_due : (e : Ends) (c : Core) → c.to_viewer ≡ [] → due e c ≡ c.viewer.picture
-nothing_due e c none = ap (λ (q : List FromServer). (acts (viewer e.viewing) c.viewer q).picture) none
+nothing_due e c none =
+    ap (λ (q : List FromServer). (acts (viewer e.viewing) c.viewer q).picture) none
 
-holds_sent : (e : Ends) (screen : Grid Colour) (c : Core) (v : ViewerState) (message : ClientMessage) → Holds e screen c → Phase e (sent c v message) → due e c ≡ due e (sent c v message) → Holds e screen (sent c v message)
+holds_sent : (e : Ends) (screen : Grid Colour) (c : Core) (v : ViewerState)
+    (message : ClientMessage) → Holds e screen c → Phase e (sent c v message) → due e c
+    ≡ due e (sent c v message) → Holds e screen (sent c v message)
 holds_sent e screen c v message h phase same = record {
   wide = h.wide;
   high = h.high;
   known_wide = h.known_wide;
   known_high = h.known_high;
   phase = phase;
-  known = subst (λ (d : Option (Grid Colour)). ShowsKnown c.session.form c.session.known d) same h.known;
+  known = subst
+      (λ (d : Option (Grid Colour)). ShowsKnown c.session.form c.session.known d) same h.known;
   latest = subst (λ (d : Option (Grid Colour)). ShowsLatest c.latest d) same h.latest;
 }
 
-called : (e : Ends) (screen : Grid Colour) (l : Link) (v : ViewerState) (message : ClientMessage) (refusal : Option CallFault) → Holds e screen (core l) → (refusal ≡ None → Holds e screen (sent (core l) v message)) → Holds e screen (core (calls refusal l v message))
+called : (e : Ends) (screen : Grid Colour) (l : Link) (v : ViewerState) (message : ClientMessage)
+    (refusal : Option CallFault) → Holds e screen (core l) →
+    (refusal ≡ None → Holds e screen (sent (core l) v message)) →
+    Holds e screen (core (calls refusal l v message))
 called e screen l v message (Some fault) h goes = h
 called e screen l v message None h goes = goes refl
 
-pub holds_mere : (e : Ends) (screen : Grid Colour) (l : Link) (message : ClientMessage) → IsMere (Second message) → Holds e screen (core l) → Holds e screen (core (calls (call_refusal l.viewer) l l.viewer message))
+pub holds_mere : (e : Ends) (screen : Grid Colour) (l : Link) (message : ClientMessage) →
+    IsMere (Second message) → Holds e screen (core l) →
+    Holds e screen (core (calls (call_refusal l.viewer) l l.viewer message))
 holds_mere e screen l message mere h =
-    called e screen l l.viewer message (call_refusal l.viewer) h (λ open_now. holds_sent e screen (core l) l.viewer message h (phase_mere e (core l) message h.phase mere open_now) refl)
+    called e screen l l.viewer message (call_refusal l.viewer) h
+    (λ open_now. holds_sent e screen (core l) l.viewer message h
+    (phase_mere e (core l) message h.phase mere open_now) refl)
 
-pub holds_request : (e : Ends) (screen : Grid Colour) (l : Link) (incremental : Bool) (rect : Rect) → Holds e screen (core l) → Holds e screen (core (calls (request_refusal l.viewer rect) l (requested l.viewer) (FramebufferUpdateRequest incremental rect)))
+pub holds_request : (e : Ends) (screen : Grid Colour) (l : Link) (incremental : Bool)
+    (rect : Rect) → Holds e screen (core l) →
+    Holds e screen
+    (core (calls (request_refusal l.viewer rect) l (requested l.viewer)
+    (FramebufferUpdateRequest incremental rect)))
 holds_request e screen l incremental rect h =
-    called e screen l (requested l.viewer) (FramebufferUpdateRequest incremental rect) (request_refusal l.viewer rect) h
+    called e screen l (requested l.viewer) (FramebufferUpdateRequest incremental rect)
+    (request_refusal l.viewer rect) h
     (λ open_now.
     let one = phase_request e (core l) incremental rect h.phase open_now in
     let now = sent (core l) (requested l.viewer) (FramebufferUpdateRequest incremental rect) in
-    holds_sent e screen (core l) (requested l.viewer) (FramebufferUpdateRequest incremental rect) h one.1 (nothing_due e (core l) one.0 ∙ sym (nothing_due e now one.0)))
+    holds_sent e screen (core l) (requested l.viewer)
+    (FramebufferUpdateRequest incremental rect) h one.1
+    (nothing_due e (core l) one.0 ∙ sym (nothing_due e now one.0)))
 
-pub holds_format : (e : Ends) (screen : Grid Colour) (l : Link) (form : PixelFormat) (prefix : List ℕ) → Holds e screen (core l) → Holds e screen (core (calls (format_refusal l.viewer prefix) l (formatted form l.viewer) (SetPixelFormat form)))
+pub holds_format : (e : Ends) (screen : Grid Colour) (l : Link) (form : PixelFormat)
+    (prefix : List ℕ) → Holds e screen (core l) →
+    Holds e screen
+    (core (calls (format_refusal l.viewer prefix) l (formatted form l.viewer)
+    (SetPixelFormat form)))
 holds_format e screen l form prefix h =
-    called e screen l (formatted form l.viewer) (SetPixelFormat form) (format_refusal l.viewer prefix) h
+    called e screen l (formatted form l.viewer) (SetPixelFormat form)
+    (format_refusal l.viewer prefix) h
     (λ open_now.
     let one = phase_format e (core l) form prefix h.phase open_now in
     let now = sent (core l) (formatted form l.viewer) (SetPixelFormat form) in
-    holds_sent e screen (core l) (formatted form l.viewer) (SetPixelFormat form) h one.1 (nothing_due e (core l) one.0 ∙ sym (nothing_due e now one.0)))
+    holds_sent e screen (core l) (formatted form l.viewer) (SetPixelFormat form) h one.1
+    (nothing_due e (core l) one.0 ∙ sym (nothing_due e now one.0)))

@@ -1,4 +1,4 @@
--- What each step makes of the bytes in flight: they stay those of the items in flight.
+-- What reaches an end leaves the bytes in flight those of the items in flight.
 use Rattle.std.proofs.Common.{◌≡◌, ℕ, zero, suc, ◌+◌, Bool, true, false, ◌||◌, List, [], ◌∷◌, ◌++◌, map, length, Option, Some, None, refl, sym, ap, ◌∙◌, subst, append-nil, append_assoc, arith}
 use Rattle.rfb_pixel.specs.declared.colour.Colour.{Colour}
 use Rattle.rfb_picture.specs.Grid.{Grid}
@@ -32,28 +32,37 @@ use Rattle.rfb_session.specs.Link.{Ends, SessionState, server_of, session_of, Li
 use Rattle.rfb_session.specs.Answers.{viewer_answers, viewer_replies, server_answers, server_replies}
 use Rattle.rfb_session.specs.LinkSteps.{begun, calls, ComposesOn, MovesToViewer, MovesToServer}
 use Rattle.rfb_session.specs.InFlight.{AreMade, Flight, Flies, first_flight, viewer_reply, server_reply, ReachesViewer, ReachesServer}
-use Rattle.rfb_session.proofs.PhaseLemmas.{Core, core, Phase, Greeting, Versioned, Typed, Choosing37, Choosing38, Chosen, Sharing, Begun, Named, Idling, Asking, Held, Sent, shown, served}
+use Rattle.rfb_session.proofs.PhaseLemmas.{Core, core, Phase, Greeting, Versioned, Typed, Choosing37, Choosing38, Chosen, Sharing, Begun, Named, Idling, Asking, Held, Sent, shown}
+use Rattle.rfb_session.proofs.ServedLemmas.{served}
 use Rattle.rfb_session.proofs.HoldsLemmas.{Holds, holds_shown, holds_served, kept_screen, IsHeld, due_held, point_is}
 use Rattle.rfb_session.proofs.ReadyLemmas.{one_read}
 use Rattle.rfb_session.proofs.AnswerLemmas.{to_server_stream, to_viewer_stream, AnswersBehind, answers_read, RepliesBehind, replies_read}
 
 module _ {P I F : Type 0} where
   -- no bytes are no items
-  reads_none : (g : Grammar P I F) → IsGrammar g → (p : P) (items : List I) (rest : List ℕ) → ReadsAll g p [] items rest → items ≡ []
+  reads_none : (g : Grammar P I F) → IsGrammar g → (p : P) (items : List I) (rest : List ℕ) →
+      ReadsAll g p [] items rest → items ≡ []
   reads_none g laws p [] rest reads = refl
   reads_none g laws p (i ∷ items) rest reads = absurd (some_byte g laws p i reads.0 reads.1)
 
   -- bytes that are read behind those in flight join them
-  joins : (g : Grammar P I F) → IsGrammar g → (p : P) (has gets more : List ℕ) (xs ys : List I) → ReadsAll g p (has ++ gets) xs [] → ReadsAll g (past_all g p xs) more ys [] → ReadsAll g p (has ++ (gets ++ more)) (xs ++ ys) []
+  pub joins : (g : Grammar P I F) → IsGrammar g →
+      (p : P) (has gets more : List ℕ) (xs ys : List I) →
+      ReadsAll g p (has ++ gets) xs [] → ReadsAll g (past_all g p xs) more ys [] →
+      ReadsAll g p (has ++ (gets ++ more)) (xs ++ ys) []
   joins g laws p has gets more xs ys first second =
       let one = all_more g laws p (has ++ gets) more xs [] first in
-      subst (λ (bytes : List ℕ). ReadsAll g p bytes (xs ++ ys) []) (append_assoc has gets more) (all_append g p ((has ++ gets) ++ more) xs ys more [] one second)
+      subst (λ (bytes : List ℕ). ReadsAll g p bytes (xs ++ ys) []) (append_assoc has gets more)
+      (all_append g p ((has ++ gets) ++ more) xs ys more [] one second)
 
 -- ---- a fresh link
 
 pub first_flies : (e : Ends) → Flies e (first_link e) (first_flight e)
 first_flies e = record {
-  to_viewer = all_first (server_two e.viewing.form e.viewing.hello) AwaitsVersion (version_text e.serving.hello.offer) (ProtocolVersion e.serving.hello.offer ∷ []) [] tt (greeting_read e.serving.hello.offer e.viewing.hello.limit e.viewing.hello.max_places);
+  to_viewer =
+      all_first (server_two e.viewing.form e.viewing.hello) AwaitsVersion
+      (version_text e.serving.hello.offer) (ProtocolVersion e.serving.hello.offer ∷ []) [] tt
+      (greeting_read e.serving.hello.offer e.viewing.hello.limit e.viewing.hello.max_places);
   at_viewer = refl;
   viewer_within = omega arith;
   to_server = refl;
@@ -63,33 +72,60 @@ first_flies e = record {
 
 -- ---- bytes reach the viewer
 
-abbrev p_server : Ends → Core → ClientAt
+abbrev pub p_server : Ends → Core → ClientAt
 p_server e c = past_all (to_server_stream e) c.session.point c.to_server
 
-abbrev p_viewer : Ends → Core → ServerAt
+abbrev pub p_viewer : Ends → Core → ServerAt
 p_viewer e c = past_all (to_viewer_stream e) c.viewer.point c.to_viewer
 
 -- the answers of all that is done, of which the last alone can have some
-all_answers : (e : Ends) (screen : Grid Colour) (c : Core) (done left : List FromServer) (event : Option ViewerTold) → AreMade e → Holds e screen c → c.to_viewer ≡ done ++ left → EndsWith (viewer e.viewing) c.viewer done event → ReadsAll (to_server_stream e) (p_server e c) (viewer_reply event) (viewer_replies e.viewing c.viewer done) []
-all_answers e screen c [] left event made h queue ends = ap (λ (o : Option ViewerTold). viewer_reply o) ends
+all_answers : (e : Ends) (screen : Grid Colour) (c : Core) (done left : List FromServer)
+    (event : Option ViewerTold) → AreMade e → Holds e screen c → c.to_viewer ≡ done ++ left →
+    EndsWith (viewer e.viewing) c.viewer done event →
+    ReadsAll (to_server_stream e) (p_server e c) (viewer_reply event)
+    (viewer_replies e.viewing c.viewer done) []
+all_answers e screen c [] left event made h queue ends =
+    ap (λ (o : Option ViewerTold). viewer_reply o) ends
 all_answers e screen c (item ∷ []) left event made h queue ends =
     let one : AnswersBehind e c item = answers_read e c item left made h.phase queue in
-    subst (λ (o : Option ViewerTold). ReadsAll (to_server_stream e) (p_server e c) (viewer_reply o) (viewer_replies e.viewing c.viewer (item ∷ [])) []) ends
-    (subst (λ (q : List FromClient). ReadsAll (to_server_stream e) (p_server e c) (viewer_reply ((viewer e.viewing).tells c.viewer item)) q []) (sym (append-nil (viewer_answers e.viewing c.viewer.point item))) one)
+    subst (λ (o : Option ViewerTold). ReadsAll (to_server_stream e) (p_server e c) (viewer_reply o)
+    (viewer_replies e.viewing c.viewer (item ∷ [])) []) ends
+    (subst (λ (q : List FromClient). ReadsAll (to_server_stream e) (p_server e c)
+    (viewer_reply ((viewer e.viewing).tells c.viewer item)) q [])
+    (sym (append-nil (viewer_answers e.viewing c.viewer.point item))) one)
 all_answers e screen c (item ∷ next ∷ done) left event made h queue (quiet, ends) =
-    let one : AnswersBehind e c item = answers_read e c item ((next ∷ done) ++ left) made h.phase queue in
+    let one : AnswersBehind e c item =
+    answers_read e c item ((next ∷ done) ++ left) made h.phase queue in
     let answers = viewer_answers e.viewing c.viewer.point item in
     let more = viewer_replies e.viewing (shows e.viewing c.viewer item) (next ∷ done) in
-    let silent : ReadsAll (to_server_stream e) (p_server e c) [] answers [] = subst (λ (o : Option ViewerTold). ReadsAll (to_server_stream e) (p_server e c) (viewer_reply o) answers []) quiet one in
-    let none : answers ≡ [] = reads_none (to_server_stream e) (client_bytes_laws e.serving.hello.offer) (p_server e c) answers [] silent in
-    let others = all_answers e screen (shown e c item ((next ∷ done) ++ left)) (next ∷ done) left event made (holds_shown e screen c item ((next ∷ done) ++ left) h queue) refl ends in
-    subst (λ (q : List FromClient). ReadsAll (to_server_stream e) (p_server e c) (viewer_reply event) (q ++ more) []) (sym none)
-    (subst (λ (q : List FromClient). ReadsAll (to_server_stream e) (past_all (to_server_stream e) c.session.point q) (viewer_reply event) more []) (ap (λ (q : List FromClient). c.to_server ++ q) none ∙ append-nil c.to_server) others)
+    let silent : ReadsAll (to_server_stream e) (p_server e c) [] answers [] =
+    subst (λ (o : Option ViewerTold). ReadsAll (to_server_stream e) (p_server e c)
+    (viewer_reply o) answers []) quiet one in
+    let none : answers ≡ [] =
+    reads_none (to_server_stream e) (client_bytes_laws e.serving.hello.offer)
+    (p_server e c) answers [] silent in
+    let others =
+    all_answers e screen (shown e c item ((next ∷ done) ++ left)) (next ∷ done) left event made
+    (holds_shown e screen c item ((next ∷ done) ++ left) h queue) refl ends in
+    subst (λ (q : List FromClient). ReadsAll (to_server_stream e) (p_server e c)
+    (viewer_reply event) (q ++ more) []) (sym none)
+    (subst (λ (q : List FromClient). ReadsAll (to_server_stream e)
+    (past_all (to_server_stream e) c.session.point q) (viewer_reply event) more [])
+    (ap (λ (q : List FromClient). c.to_server ++ q) none ∙ append-nil c.to_server) others)
 
-pub viewer_moved : (e : Ends) (screen : Grid Colour) (l : Link) (f : Flight) (bytes later rest : List ℕ) (event : Option ViewerTold) (t : ViewerState) → AreMade e → Holds e screen (core l) → Flies e l f → f.viewer_gets ≡ bytes ++ later → Takes (viewer e.viewing) l.viewer f.viewer_has bytes event t rest → ReachesViewer e l f bytes later event t rest
+pub viewer_moved : (e : Ends) (screen : Grid Colour) (l : Link) (f : Flight)
+    (bytes later rest : List ℕ) (event : Option ViewerTold) (t : ViewerState) → AreMade e →
+    Holds e screen (core l) → Flies e l f → f.viewer_gets ≡ bytes ++ later →
+    Takes (viewer e.viewing) l.viewer f.viewer_has bytes event t rest →
+    ReachesViewer e l f bytes later event t rest
 viewer_moved e screen l f bytes later rest event t made h flies gets takes =
-    let all : f.viewer_has ++ f.viewer_gets ≡ (f.viewer_has ++ bytes) ++ later = ap (λ (ys : List ℕ). f.viewer_has ++ ys) gets ∙ sym (append_assoc f.viewer_has bytes later) in
-    let d = delivered (viewer e.viewing) (viewer_machine e.viewing) l.viewer t f.viewer_has bytes later rest l.to_viewer event takes (subst (λ (ys : List ℕ). ReadsAll (to_viewer_stream e) l.viewer.point ys l.to_viewer []) all flies.to_viewer) in
+    let all : f.viewer_has ++ f.viewer_gets ≡ (f.viewer_has ++ bytes) ++ later =
+    ap (λ (ys : List ℕ). f.viewer_has ++ ys) gets
+    ∙ sym (append_assoc f.viewer_has bytes later) in
+    let d = delivered (viewer e.viewing)
+    (viewer_machine e.viewing) l.viewer t f.viewer_has bytes later rest l.to_viewer event takes
+    (subst (λ (ys : List ℕ). ReadsAll
+    (to_viewer_stream e) l.viewer.point ys l.to_viewer []) all flies.to_viewer) in
     let answers = all_answers e screen (core l) d.done d.left event made h d.queue_is d.ends in
     record {
       new = record l {
@@ -98,54 +134,120 @@ viewer_moved e screen l f bytes later rest event t made h flies gets takes =
         at_viewer = length rest;
         to_server = l.to_server ++ viewer_replies e.viewing l.viewer d.done;
       };
-      moves = record { done = d.done; left = d.left; at = length rest; queue = d.queue_is; count = ap (λ (n : ℕ). n + length bytes) (sym flies.at_viewer) ∙ d.count; within = d.within; result = refl };
+      moves = record {
+        done =
+            d.done;
+        left = d.left;
+        at = length rest;
+        queue = d.queue_is;
+        count = ap (λ (n : ℕ). n + length bytes) (sym flies.at_viewer) ∙ d.count;
+        within = d.within;
+        result = refl;
+      };
       viewer_is = sym d.state;
       flies = record {
-        to_viewer = subst (λ (v : ViewerState). ReadsAll (to_viewer_stream e) v.point (rest ++ later) d.left []) d.state d.reads;
+        to_viewer =
+            subst (λ (v : ViewerState). ReadsAll (to_viewer_stream e) v.point
+            (rest ++ later) d.left []) d.state d.reads;
         at_viewer = refl;
         viewer_within = d.within;
-        to_server = joins (to_server_stream e) (client_bytes_laws e.serving.hello.offer) l.session.point f.server_has f.server_gets (viewer_reply event) l.to_server (viewer_replies e.viewing l.viewer d.done) flies.to_server answers;
+        to_server =
+            joins (to_server_stream e)
+            (client_bytes_laws e.serving.hello.offer) l.session.point f.server_has f.server_gets
+            (viewer_reply event) l.to_server
+            (viewer_replies e.viewing l.viewer d.done) flies.to_server answers;
         at_server = flies.at_server;
-        server_within = within_append (to_server_stream e) (client_bytes_laws e.serving.hello.offer) l.at_server (p_server e (core l)) (viewer_reply event) l.to_server (viewer_replies e.viewing l.viewer d.done) [] flies.server_within answers;
+        server_within =
+            within_append (to_server_stream e) (client_bytes_laws e.serving.hello.offer) l.at_server
+            (p_server e (core l)) (viewer_reply event) l.to_server
+            (viewer_replies e.viewing l.viewer d.done) [] flies.server_within answers;
       };
     }
 
 -- none of them is refused
-pub viewer_good : (e : Ends) (l : Link) (f : Flight) (bytes later : List ℕ) (fault : ViewerFault) → Flies e l f → f.viewer_gets ≡ bytes ++ later → Refuses (viewer e.viewing) l.viewer f.viewer_has bytes fault → ⊥
+pub viewer_good : (e : Ends) (l : Link) (f : Flight) (bytes later : List ℕ) (fault : ViewerFault) →
+    Flies e l f → f.viewer_gets ≡ bytes ++ later →
+    Refuses (viewer e.viewing) l.viewer f.viewer_has bytes fault → ⊥
 viewer_good e l f bytes later fault flies gets refuses =
-    let all : f.viewer_has ++ f.viewer_gets ≡ (f.viewer_has ++ bytes) ++ later = ap (λ (ys : List ℕ). f.viewer_has ++ ys) gets ∙ sym (append_assoc f.viewer_has bytes later) in
-    not_refused (viewer e.viewing) (viewer_machine e.viewing) l.viewer f.viewer_has bytes later l.to_viewer fault (subst (λ (ys : List ℕ). ReadsAll (to_viewer_stream e) l.viewer.point ys l.to_viewer []) all flies.to_viewer) refuses
+    let all : f.viewer_has ++ f.viewer_gets ≡ (f.viewer_has ++ bytes) ++ later =
+    ap (λ (ys : List ℕ). f.viewer_has ++ ys) gets
+    ∙ sym (append_assoc f.viewer_has bytes later) in
+    not_refused (viewer e.viewing)
+    (viewer_machine e.viewing) l.viewer f.viewer_has bytes later l.to_viewer fault
+    (subst (λ (ys : List ℕ). ReadsAll
+    (to_viewer_stream e) l.viewer.point ys l.to_viewer []) all flies.to_viewer) refuses
 
 -- ---- bytes reach the server
 
-all_replies : (e : Ends) (screen : Grid Colour) (c : Core) (done left : List FromClient) (event : Option ServerTold) → AreMade e → Holds e screen c → c.to_server ≡ done ++ left → EndsWith (server e.serving) (server_of screen c.session) done event → ReadsAll (to_viewer_stream e) (p_viewer e c) (server_reply event) (server_replies e.serving (server_of screen c.session) done) []
-all_replies e screen c [] left event made h queue ends = ap (λ (o : Option ServerTold). server_reply o) ends
+all_replies : (e : Ends) (screen : Grid Colour) (c : Core) (done left : List FromClient)
+    (event : Option ServerTold) → AreMade e → Holds e screen c → c.to_server ≡ done ++ left →
+    EndsWith (server e.serving) (server_of screen c.session) done event →
+    ReadsAll (to_viewer_stream e) (p_viewer e c) (server_reply event)
+    (server_replies e.serving (server_of screen c.session) done) []
+all_replies e screen c [] left event made h queue ends =
+    ap (λ (o : Option ServerTold). server_reply o) ends
 all_replies e screen c (item ∷ []) left event made h queue ends =
     let one : RepliesBehind e c item = replies_read e c item left made h.phase queue in
-    subst (λ (o : Option ServerTold). ReadsAll (to_viewer_stream e) (p_viewer e c) (server_reply o) (server_replies e.serving (server_of screen c.session) (item ∷ [])) []) ends
-    (subst (λ (q : List FromServer). ReadsAll (to_viewer_stream e) (p_viewer e c) (server_reply ((server e.serving).tells (server_of screen c.session) item)) q []) (sym (append-nil (server_answers e.serving c.session.point item))) one)
+    subst (λ (o : Option ServerTold). ReadsAll (to_viewer_stream e) (p_viewer e c) (server_reply o)
+    (server_replies e.serving (server_of screen c.session) (item ∷ [])) []) ends
+    (subst (λ (q : List FromServer). ReadsAll (to_viewer_stream e) (p_viewer e c)
+    (server_reply ((server e.serving).tells (server_of screen c.session) item)) q [])
+    (sym (append-nil (server_answers e.serving c.session.point item))) one)
 all_replies e screen c (item ∷ next ∷ done) left event made h queue (quiet, ends) =
-    let one : RepliesBehind e c item = replies_read e c item ((next ∷ done) ++ left) made h.phase queue in
+    let one : RepliesBehind e c item =
+    replies_read e c item ((next ∷ done) ++ left) made h.phase queue in
     let replies = server_answers e.serving c.session.point item in
     let kept = kept_screen e.serving screen c.session item in
-    let more = server_replies e.serving (serves e.serving (server_of screen c.session) item) (next ∷ done) in
-    let silent : ReadsAll (to_viewer_stream e) (p_viewer e c) [] replies [] = subst (λ (o : Option ServerTold). ReadsAll (to_viewer_stream e) (p_viewer e c) (server_reply o) replies []) quiet one in
-    let none : replies ≡ [] = reads_none (to_viewer_stream e) (server_bytes_laws e.viewing.form e.viewing.hello) (p_viewer e c) replies [] silent in
-    let others = all_replies e screen (served e screen c item ((next ∷ done) ++ left)) (next ∷ done) left event made (holds_served e screen c item ((next ∷ done) ++ left) h queue) refl (subst (λ (s : ServerState). EndsWith (server e.serving) s (next ∷ done) event) (sym kept) ends) in
-    let there : ReadsAll (to_viewer_stream e) (past_all (to_viewer_stream e) c.viewer.point (c.to_viewer ++ replies)) (server_reply event) more [] =
-    subst (λ (s : ServerState). ReadsAll (to_viewer_stream e) (past_all (to_viewer_stream e) c.viewer.point (c.to_viewer ++ replies)) (server_reply event) (server_replies e.serving s (next ∷ done)) []) kept others in
-    subst (λ (q : List FromServer). ReadsAll (to_viewer_stream e) (p_viewer e c) (server_reply event) (q ++ more) []) (sym none)
-    (subst (λ (q : List FromServer). ReadsAll (to_viewer_stream e) (past_all (to_viewer_stream e) c.viewer.point q) (server_reply event) more []) (ap (λ (q : List FromServer). c.to_viewer ++ q) none ∙ append-nil c.to_viewer) there)
+    let more =
+    server_replies e.serving (serves e.serving (server_of screen c.session) item)
+    (next ∷ done) in
+    let silent : ReadsAll (to_viewer_stream e) (p_viewer e c) [] replies [] =
+    subst (λ (o : Option ServerTold). ReadsAll (to_viewer_stream e) (p_viewer e c)
+    (server_reply o) replies []) quiet one in
+    let none : replies ≡ [] =
+    reads_none (to_viewer_stream e) (server_bytes_laws e.viewing.form e.viewing.hello)
+    (p_viewer e c) replies [] silent in
+    let others =
+    all_replies e screen (served e screen c item ((next ∷ done) ++ left))
+    (next ∷ done) left event made
+    (holds_served e screen c item ((next ∷ done) ++ left) h queue) refl
+    (subst (λ (s : ServerState). EndsWith (server e.serving) s (next ∷ done) event)
+    (sym kept) ends) in
+    let there : ReadsAll (to_viewer_stream e)
+    (past_all (to_viewer_stream e) c.viewer.point (c.to_viewer ++ replies))
+    (server_reply event) more [] =
+    subst (λ (s : ServerState). ReadsAll (to_viewer_stream e)
+    (past_all (to_viewer_stream e) c.viewer.point (c.to_viewer ++ replies)) (server_reply event)
+    (server_replies e.serving s (next ∷ done)) []) kept others in
+    subst (λ (q : List FromServer). ReadsAll (to_viewer_stream e) (p_viewer e c)
+    (server_reply event) (q ++ more) []) (sym none)
+    (subst (λ (q : List FromServer). ReadsAll (to_viewer_stream e)
+    (past_all (to_viewer_stream e) c.viewer.point q) (server_reply event) more [])
+    (ap (λ (q : List FromServer). c.to_viewer ++ q) none ∙ append-nil c.to_viewer) there)
 
-pub all_kept : (serving : Serving) (screen : Grid Colour) (s : SessionState) (items : List FromClient) → server_of screen (session_of (acts (server serving) (server_of screen s) items)) ≡ acts (server serving) (server_of screen s) items
+pub all_kept : (serving : Serving) (screen : Grid Colour) (s : SessionState)
+    (items : List FromClient) → server_of screen
+    (session_of (acts (server serving) (server_of screen s) items))
+    ≡ acts (server serving) (server_of screen s) items
 all_kept serving screen s [] = refl
 all_kept serving screen s (item ∷ items) =
-    subst (λ (u : ServerState). server_of screen (session_of (acts (server serving) u items)) ≡ acts (server serving) u items) (kept_screen serving screen s item) (all_kept serving screen (session_of (serves serving (server_of screen s) item)) items)
+    subst (λ (u : ServerState). server_of screen (session_of (acts (server serving) u items))
+    ≡ acts (server serving) u items) (kept_screen serving screen s item)
+    (all_kept serving screen (session_of (serves serving (server_of screen s) item)) items)
 
-pub server_moved : (e : Ends) (screen : Grid Colour) (l : Link) (f : Flight) (bytes later rest : List ℕ) (event : Option ServerTold) (t : ServerState) → AreMade e → Holds e screen (core l) → Flies e l f → f.server_gets ≡ bytes ++ later → Takes (server e.serving) (server_of screen l.session) f.server_has bytes event t rest → ReachesServer e screen l f bytes later event t rest
+pub server_moved : (e : Ends) (screen : Grid Colour) (l : Link) (f : Flight)
+    (bytes later rest : List ℕ) (event : Option ServerTold) (t : ServerState) → AreMade e →
+    Holds e screen (core l) → Flies e l f → f.server_gets ≡ bytes ++ later →
+    Takes (server e.serving) (server_of screen l.session) f.server_has bytes event t rest →
+    ReachesServer e screen l f bytes later event t rest
 server_moved e screen l f bytes later rest event t made h flies gets takes =
-    let all : f.server_has ++ f.server_gets ≡ (f.server_has ++ bytes) ++ later = ap (λ (ys : List ℕ). f.server_has ++ ys) gets ∙ sym (append_assoc f.server_has bytes later) in
-    let d = delivered (server e.serving) (server_machine e.serving) (server_of screen l.session) t f.server_has bytes later rest l.to_server event takes (subst (λ (ys : List ℕ). ReadsAll (to_server_stream e) l.session.point ys l.to_server []) all flies.to_server) in
+    let all : f.server_has ++ f.server_gets ≡ (f.server_has ++ bytes) ++ later =
+    ap (λ (ys : List ℕ). f.server_has ++ ys) gets
+    ∙ sym (append_assoc f.server_has bytes later) in
+    let d = delivered (server e.serving) (server_machine e.serving)
+    (server_of screen l.session) t f.server_has bytes later rest l.to_server event takes
+    (subst (λ (ys : List ℕ). ReadsAll
+    (to_server_stream e) l.session.point ys l.to_server []) all flies.to_server) in
     let replies = all_replies e screen (core l) d.done d.left event made h d.queue_is d.ends in
     record {
       new = record l {
@@ -154,132 +256,46 @@ server_moved e screen l f bytes later rest event t made h flies gets takes =
         at_server = length rest;
         to_viewer = l.to_viewer ++ server_replies e.serving (server_of screen l.session) d.done;
       };
-      moves = record { done = d.done; left = d.left; at = length rest; queue = d.queue_is; count = ap (λ (n : ℕ). n + length bytes) (sym flies.at_server) ∙ d.count; within = d.within; result = refl };
+      moves = record {
+        done =
+            d.done;
+        left = d.left;
+        at = length rest;
+        queue = d.queue_is;
+        count = ap (λ (n : ℕ). n + length bytes) (sym flies.at_server) ∙ d.count;
+        within = d.within;
+        result = refl;
+      };
       server_is = all_kept e.serving screen l.session d.done ∙ sym d.state;
       flies = record {
-        to_viewer = joins (to_viewer_stream e) (server_bytes_laws e.viewing.form e.viewing.hello) l.viewer.point f.viewer_has f.viewer_gets (server_reply event) l.to_viewer (server_replies e.serving (server_of screen l.session) d.done) flies.to_viewer replies;
+        to_viewer =
+            joins (to_viewer_stream e)
+            (server_bytes_laws e.viewing.form e.viewing.hello) l.viewer.point
+            f.viewer_has f.viewer_gets (server_reply event) l.to_viewer
+            (server_replies e.serving (server_of screen l.session) d.done) flies.to_viewer replies;
         at_viewer = flies.at_viewer;
-        viewer_within = within_append (to_viewer_stream e) (server_bytes_laws e.viewing.form e.viewing.hello) l.at_viewer (p_viewer e (core l)) (server_reply event) l.to_viewer (server_replies e.serving (server_of screen l.session) d.done) [] flies.viewer_within replies;
-        to_server = subst (λ (s : ServerState). ReadsAll (to_server_stream e) s.point (rest ++ later) d.left []) d.state d.reads;
+        viewer_within =
+            within_append (to_viewer_stream e)
+            (server_bytes_laws e.viewing.form e.viewing.hello) l.at_viewer (p_viewer e (core l))
+            (server_reply event) l.to_viewer
+            (server_replies e.serving
+            (server_of screen l.session) d.done) [] flies.viewer_within replies;
+        to_server =
+            subst (λ (s : ServerState). ReadsAll (to_server_stream e) s.point
+            (rest ++ later) d.left []) d.state d.reads;
         at_server = refl;
         server_within = d.within;
       };
     }
 
-pub server_good : (e : Ends) (screen : Grid Colour) (l : Link) (f : Flight) (bytes later : List ℕ) (fault : ServerFault) → Flies e l f → f.server_gets ≡ bytes ++ later → Refuses (server e.serving) (server_of screen l.session) f.server_has bytes fault → ⊥
+pub server_good : (e : Ends) (screen : Grid Colour) (l : Link) (f : Flight) (bytes later : List ℕ)
+    (fault : ServerFault) → Flies e l f → f.server_gets ≡ bytes ++ later →
+    Refuses (server e.serving) (server_of screen l.session) f.server_has bytes fault → ⊥
 server_good e screen l f bytes later fault flies gets refuses =
-    let all : f.server_has ++ f.server_gets ≡ (f.server_has ++ bytes) ++ later = ap (λ (ys : List ℕ). f.server_has ++ ys) gets ∙ sym (append_assoc f.server_has bytes later) in
-    not_refused (server e.serving) (server_machine e.serving) (server_of screen l.session) f.server_has bytes later l.to_server fault (subst (λ (ys : List ℕ). ReadsAll (to_server_stream e) l.session.point ys l.to_server []) all flies.to_server) refuses
-
--- ---- a composing
-
-pub composed_flies : (e : Ends) (screen : Grid Colour) (old new : Link) (f : Flight) → Holds e screen (core old) → Flies e old f → (c : ComposesOn screen old new) → Flies e new (record f { viewer_gets = f.viewer_gets ++ c.bytes })
-composed_flies e screen old new f h flies c =
-    let held = due_held e screen (core old) h.phase c.due in
-    let m = held.meets in
-    let a = held.awaits in
-    let point : held.p ≡ between (server_of screen old.session) = point_is held.p screen.width screen.height old.session.form (m.wide ∙ sym h.wide) (m.high ∙ sym h.high) (sym a.formed) a.between in
-    let at : p_viewer e (core old) ≡ Second (between (server_of screen old.session)) = ap (λ (q : List FromServer). past_all (to_viewer_stream e) old.viewer.point q) a.none ∙ m.viewer_at ∙ ap (λ (q : UpdatePoint). Second q) point in
-    let items = update_of (map sent_as (c.copies ++ c.blocks)) in
-    let read : ReadsAll (to_viewer_stream e) (p_viewer e (core old)) c.bytes (map (λ item. Second item) items) [] =
-    subst (λ (p : ServerAt). ReadsAll (to_viewer_stream e) p c.bytes (map (λ item. Second item) items) []) (sym at) (all_second (server_two e.viewing.form e.viewing.hello) (between (server_of screen old.session)) c.bytes items [] c.composed.is_update) in
-    subst (λ (l : Link). Flies e l (record f { viewer_gets = f.viewer_gets ++ c.bytes })) (sym c.result)
-    (record {
-      to_viewer = joins (to_viewer_stream e) (server_bytes_laws e.viewing.form e.viewing.hello) old.viewer.point f.viewer_has f.viewer_gets c.bytes old.to_viewer (map (λ item. Second item) items) flies.to_viewer read;
-      at_viewer = flies.at_viewer;
-      viewer_within = within_append (to_viewer_stream e) (server_bytes_laws e.viewing.form e.viewing.hello) old.at_viewer (p_viewer e (core old)) c.bytes old.to_viewer (map (λ item. Second item) items) [] flies.viewer_within read;
-      to_server = subst (λ (p : ClientAt). ReadsAll (to_server_stream e) p (f.server_has ++ f.server_gets) old.to_server []) (sym c.composed.same_point) flies.to_server;
-      at_server = flies.at_server;
-      server_within = flies.server_within;
-    })
-
--- ---- calls of the viewer
-
--- at the messages a client's bytes stay there
-past_messages : (e : Ends) (items : List FromClient) → past_all (to_server_stream e) (Second tt) items ≡ Second tt
-past_messages e [] = refl
-past_messages e (First step ∷ items) = past_messages e items
-past_messages e (Second message ∷ items) = past_messages e items
-
-apart : (vp : ServerPoint) (p : UpdatePoint) (at : ServerAt) → at ≡ First vp → at ≡ Second p → ⊥
-apart vp p at one two = cc
-
--- where the viewer is ready, all that is in flight to the server leads to its messages
-ready_behind : (e : Ends) (c : Core) (p : UpdatePoint) → Phase e c → c.viewer.point ≡ Second p → p_server e c ≡ Second tt
-ready_behind e c p phase at = by phase
-  where
-    messages : c.session.point ≡ Second tt → p_server e c ≡ Second tt
-    messages here = ap (λ (q : ClientAt). past_all (to_server_stream e) q c.to_server) here ∙ past_messages e c.to_server
-
-    by : Phase e c → p_server e c ≡ Second tt
-    by (Greeting s) = absurd (apart _ p c.viewer.point s.viewer_at at)
-    by (Versioned v s) = absurd (apart _ p c.viewer.point s.viewer_at at)
-    by (Typed v s) = absurd (apart _ p c.viewer.point s.viewer_at at)
-    by (Choosing37 s) = absurd (apart _ p c.viewer.point s.viewer_at at)
-    by (Choosing38 s) = absurd (apart _ p c.viewer.point s.viewer_at at)
-    by (Chosen s) = absurd (apart _ p c.viewer.point s.viewer_at at)
-    by (Sharing v s) = absurd (apart _ p c.viewer.point s.viewer_at at)
-    by (Begun v s) = absurd (apart _ p c.viewer.point s.viewer_at at)
-    by (Named v n text s h) = absurd (apart _ p c.viewer.point s.viewer_at at)
-    by (Idling q m s) = messages m.session_at
-    by (Asking q m s) = messages m.session_at
-    by (Held q m s) = messages m.session_at
-    by (Sent q m s) = messages m.session_at
-
--- a message of a ready viewer joins the bytes in flight
-pub called_flies : (e : Ends) (l : Link) (f : Flight) (p : UpdatePoint) (v : ViewerState) (message : ClientMessage) (bytes : List ℕ) → Phase e (core l) → l.viewer.point ≡ Second p → Flies e l f → ReadsAll (to_viewer_stream e) v.point (f.viewer_has ++ f.viewer_gets) l.to_viewer [] → SpellsClientMessage message bytes → Flies e (calls None l v message) (record f { server_gets = f.server_gets ++ bytes })
-called_flies e l f p v message bytes phase ready flies reads spelled =
-    let at = ready_behind e (core l) p phase ready in
-    let read : ReadsAll (to_server_stream e) (p_server e (core l)) bytes (Second message ∷ []) [] =
-    subst (λ (q : ClientAt). ReadsAll (to_server_stream e) q bytes (Second message ∷ []) []) (sym at) (all_second (client_two e.serving.hello.offer) tt bytes (message ∷ []) [] (one_read message bytes spelled)) in
-    record {
-      to_viewer = reads;
-      at_viewer = flies.at_viewer;
-      viewer_within = flies.viewer_within;
-      to_server = joins (to_server_stream e) (client_bytes_laws e.serving.hello.offer) l.session.point f.server_has f.server_gets bytes l.to_server (Second message ∷ []) flies.to_server read;
-      at_server = flies.at_server;
-      server_within = within_append (to_server_stream e) (client_bytes_laws e.serving.hello.offer) l.at_server (p_server e (core l)) bytes l.to_server (Second message ∷ []) [] flies.server_within read;
-    }
-
--- where nothing is in flight to the viewer, it may stand at any point
-pub none_flies : (e : Ends) (l : Link) (f : Flight) (at : ServerAt) → l.to_viewer ≡ [] → Flies e l f → ReadsAll (to_viewer_stream e) at (f.viewer_has ++ f.viewer_gets) l.to_viewer []
-none_flies e l f at none flies =
-    let empty : f.viewer_has ++ f.viewer_gets ≡ [] = subst (λ (q : List FromServer). ReadsAll (to_viewer_stream e) l.viewer.point (f.viewer_has ++ f.viewer_gets) q []) none flies.to_viewer in
-    subst (λ (q : List FromServer). ReadsAll (to_viewer_stream e) at (f.viewer_has ++ f.viewer_gets) q []) (sym none) empty
-
-front_none : (xs ys : List ℕ) → xs ++ ys ≡ [] → xs ≡ []
-front_none [] ys e = refl
-front_none (x ∷ xs) ys e = absurd cc
-
--- a format is refused by the bytes that came of an item as by the item
-pub refusal_same : (e : Ends) (l : Link) (f : Flight) → Phase e (core l) → Flies e l f → format_refusal l.viewer f.viewer_has ≡ format_refusal l.viewer (begun l.at_viewer l.to_viewer)
-refusal_same e l f phase flies = by phase
-  where
-    early : (vp : ServerPoint) → l.viewer.point ≡ First vp → (one other : List ℕ) → format_refusal l.viewer one ≡ format_refusal l.viewer other
-    early vp at one other = ap (λ (q : ServerAt). format_refused q l.viewer.outstanding one) at ∙ sym (ap (λ (q : ServerAt). format_refused q l.viewer.outstanding other) at)
-
-    refused : (p : UpdatePoint) → l.viewer.point ≡ Second p → l.viewer.outstanding ≡ true → (one : List ℕ) → format_refusal l.viewer one ≡ Some Busy
-    refused p at busy one = ap (λ (q : ServerAt). format_refused q l.viewer.outstanding one) at ∙ ap (λ (b : Bool). format_refused (Second p) b one) busy
-
-    idle : l.to_viewer ≡ [] → format_refusal l.viewer f.viewer_has ≡ format_refusal l.viewer (begun l.at_viewer l.to_viewer)
-    idle none =
-        let empty : f.viewer_has ++ f.viewer_gets ≡ [] = subst (λ (q : List FromServer). ReadsAll (to_viewer_stream e) l.viewer.point (f.viewer_has ++ f.viewer_gets) q []) none flies.to_viewer in
-        let has : f.viewer_has ≡ [] = front_none f.viewer_has f.viewer_gets empty in
-        let at : l.at_viewer ≡ 0 = sym flies.at_viewer ∙ ap (λ (xs : List ℕ). length xs) has in
-        let nothing : begun l.at_viewer l.to_viewer ≡ [] = ap (λ (n : ℕ). begun n l.to_viewer) at in
-        ap (λ (xs : List ℕ). format_refusal l.viewer xs) (has ∙ sym nothing)
-
-    by : Phase e (core l) → format_refusal l.viewer f.viewer_has ≡ format_refusal l.viewer (begun l.at_viewer l.to_viewer)
-    by (Greeting s) = early _ s.viewer_at f.viewer_has (begun l.at_viewer l.to_viewer)
-    by (Versioned v s) = early _ s.viewer_at f.viewer_has (begun l.at_viewer l.to_viewer)
-    by (Typed v s) = early _ s.viewer_at f.viewer_has (begun l.at_viewer l.to_viewer)
-    by (Choosing37 s) = early _ s.viewer_at f.viewer_has (begun l.at_viewer l.to_viewer)
-    by (Choosing38 s) = early _ s.viewer_at f.viewer_has (begun l.at_viewer l.to_viewer)
-    by (Chosen s) = early _ s.viewer_at f.viewer_has (begun l.at_viewer l.to_viewer)
-    by (Sharing v s) = early _ s.viewer_at f.viewer_has (begun l.at_viewer l.to_viewer)
-    by (Begun v s) = early _ s.viewer_at f.viewer_has (begun l.at_viewer l.to_viewer)
-    by (Named v n text s h) = early _ s.viewer_at f.viewer_has (begun l.at_viewer l.to_viewer)
-    by (Idling p m s) = idle s.none
-    by (Asking p m s) = idle s.none
-    by (Held p m s) = idle s.none
-    by (Sent p m s) = refused p m.viewer_at s.busy f.viewer_has ∙ sym (refused p m.viewer_at s.busy (begun l.at_viewer l.to_viewer))
+    let all : f.server_has ++ f.server_gets ≡ (f.server_has ++ bytes) ++ later =
+    ap (λ (ys : List ℕ). f.server_has ++ ys) gets
+    ∙ sym (append_assoc f.server_has bytes later) in
+    not_refused (server e.serving) (server_machine e.serving)
+    (server_of screen l.session) f.server_has bytes later l.to_server fault
+    (subst (λ (ys : List ℕ). ReadsAll
+    (to_server_stream e) l.session.point ys l.to_server []) all flies.to_server) refuses

@@ -24,7 +24,8 @@ use Rattle.rfb_session.specs.Answers.{viewer_answers, viewer_replies, server_ans
 use Rattle.rfb_session.specs.Headline.{IsUnknown, ShowsKnown, ShowsLatest}
 use Rattle.rfb_session.specs.LinkSteps.{ComposesOn, MovesToViewer, MovesToServer}
 use Rattle.rfb_session.proofs.QueueLemmas.{IsRest, update_rest, forgotten_unknown, IsUnasked, none_unasked}
-use Rattle.rfb_session.proofs.PhaseLemmas.{Core, core, HasPicture, Stands, Meets, Idles, Asks, Awaits, Sends, Phase, Greeting, Versioned, Typed, Choosing37, Choosing38, Chosen, Sharing, Begun, Named, Idling, Asking, Held, Sent, shown, phase_shown, served, phase_served, no_answer, meets_as}
+use Rattle.rfb_session.proofs.PhaseLemmas.{Core, core, HasPicture, Stands, Meets, Idles, Asks, Awaits, Sends, Phase, Greeting, Versioned, Typed, Choosing37, Choosing38, Chosen, Sharing, Begun, Named, Idling, Asking, Held, Sent, shown, phase_shown, meets_as}
+use Rattle.rfb_session.proofs.ServedLemmas.{served, phase_served, no_answer}
 
 -- what the viewer shows once all that is in flight has reached it
 abbrev pub due : Ends → Core → Option (Grid Colour)
@@ -40,22 +41,28 @@ pub record Holds (e : Ends) (screen : Grid Colour) (c : Core) : Type 0 where
   pub latest : ShowsLatest c.latest (due e c)
 
 -- where nothing is known every picture shows it
-pub unknown_shows : (form : PixelFormat) (known : Grid (Option ℕ)) (picture : Option (Grid Colour)) → IsUnknown known → ShowsKnown form known picture
+pub unknown_shows : (form : PixelFormat) (known : Grid (Option ℕ))
+    (picture : Option (Grid Colour)) → IsUnknown known → ShowsKnown form known picture
 unknown_shows form known None unknown = unknown
-unknown_shows form known (Some picture) unknown = λ x y pixel d p q e. let none : at_or known x y None ≡ None = unknown x y in absurd cc
+unknown_shows form known (Some picture) unknown =
+    λ x y pixel d p q e. let none : at_or known x y None ≡ None = unknown x y in absurd cc
 
 -- ---- an item reaches the viewer
 
-pub holds_shown : (e : Ends) (screen : Grid Colour) (c : Core) (item : FromServer) (rest : List FromServer) → Holds e screen c → c.to_viewer ≡ item ∷ rest → Holds e screen (shown e c item rest)
+pub holds_shown : (e : Ends) (screen : Grid Colour) (c : Core) (item : FromServer)
+    (rest : List FromServer) → Holds e screen c → c.to_viewer ≡ item ∷ rest →
+    Holds e screen (shown e c item rest)
 holds_shown e screen c item rest h queue =
-    let same : due e c ≡ due e (shown e c item rest) = ap (λ (q : List FromServer). (acts (viewer e.viewing) c.viewer q).picture) queue in
+    let same : due e c ≡ due e (shown e c item rest) =
+    ap (λ (q : List FromServer). (acts (viewer e.viewing) c.viewer q).picture) queue in
     record {
       wide = h.wide;
       high = h.high;
       known_wide = h.known_wide;
       known_high = h.known_high;
       phase = phase_shown e c item rest h.phase queue;
-      known = subst (λ (d : Option (Grid Colour)). ShowsKnown c.session.form c.session.known d) same h.known;
+      known = subst
+          (λ (d : Option (Grid Colour)). ShowsKnown c.session.form c.session.known d) same h.known;
       latest = subst (λ (d : Option (Grid Colour)). ShowsLatest c.latest d) same h.latest;
     }
 
@@ -66,28 +73,42 @@ all_shown e c done left = record c {
   to_server = c.to_server ++ viewer_replies e.viewing c.viewer done;
 }
 
-pub holds_all_shown : (e : Ends) (screen : Grid Colour) (c : Core) (done left : List FromServer) → Holds e screen c → c.to_viewer ≡ done ++ left → Holds e screen (all_shown e c done left)
+pub holds_all_shown : (e : Ends) (screen : Grid Colour) (c : Core) (done left : List FromServer) →
+    Holds e screen c → c.to_viewer ≡ done ++ left → Holds e screen (all_shown e c done left)
 holds_all_shown e screen c [] left h queue =
-    subst (λ (q : List FromServer). Holds e screen (record c { to_viewer = q; to_server = c.to_server ++ [] })) queue
-    (subst (λ (q : List FromClient). Holds e screen (record c { to_server = q })) (sym (append-nil c.to_server)) h)
+    subst (λ (q : List FromServer). Holds e screen
+    (record c { to_viewer = q; to_server = c.to_server ++ [] })) queue
+    (subst (λ (q : List FromClient). Holds e screen (record c { to_server = q }))
+    (sym (append-nil c.to_server)) h)
 holds_all_shown e screen c (item ∷ done) left h queue =
     let one = holds_shown e screen c item (done ++ left) h queue in
     let others = holds_all_shown e screen (shown e c item (done ++ left)) done left one refl in
-    subst (λ (q : List FromClient). Holds e screen (record c { viewer = acts (viewer e.viewing) c.viewer (item ∷ done); to_viewer = left; to_server = q }))
-    (append_assoc c.to_server (viewer_answers e.viewing c.viewer.point item) (viewer_replies e.viewing (shows e.viewing c.viewer item) done)) others
+    subst (λ (q : List FromClient). Holds e screen
+    (record c {
+      viewer = acts (viewer e.viewing) c.viewer (item ∷ done);
+      to_viewer = left;
+      to_server = q;
+    }))
+    (append_assoc c.to_server (viewer_answers e.viewing c.viewer.point item)
+    (viewer_replies e.viewing (shows e.viewing c.viewer item) done)) others
 
 -- ---- an item reaches the server
 
-known_served : (screen : Grid Colour) (s : SessionState) (item : FromClient) (d : Option (Grid Colour)) → ShowsKnown s.form s.known d → ShowsKnown (item_acts (server_of screen s) item).form (item_acts (server_of screen s) item).known d
+known_served : (screen : Grid Colour) (s : SessionState) (item : FromClient)
+    (d : Option (Grid Colour)) → ShowsKnown s.form s.known d →
+    ShowsKnown (item_acts (server_of screen s) item).form
+    (item_acts (server_of screen s) item).known d
 known_served screen s (First step) d shows = shows
-known_served screen s (Second (SetPixelFormat form)) d shows = unknown_shows form _ d (forgotten_unknown s.known)
+known_served screen s (Second (SetPixelFormat form)) d shows =
+    unknown_shows form _ d (forgotten_unknown s.known)
 known_served screen s (Second (SetEncodings numbers)) d shows = shows
 known_served screen s (Second (FramebufferUpdateRequest incremental rect)) d shows = shows
 known_served screen s (Second (KeyEvent down key)) d shows = shows
 known_served screen s (Second (PointerEvent buttons x y)) d shows = shows
 known_served screen s (Second (ClientCutText text)) d shows = shows
 
-unknown_served : (screen : Grid Colour) (s : SessionState) (item : FromClient) → IsUnknown s.known → IsUnknown (item_acts (server_of screen s) item).known
+unknown_served : (screen : Grid Colour) (s : SessionState) (item : FromClient) → IsUnknown s.known →
+    IsUnknown (item_acts (server_of screen s) item).known
 unknown_served screen s (First step) unknown = unknown
 unknown_served screen s (Second (SetPixelFormat form)) unknown = forgotten_unknown s.known
 unknown_served screen s (Second (SetEncodings numbers)) unknown = unknown
@@ -96,9 +117,14 @@ unknown_served screen s (Second (KeyEvent down key)) unknown = unknown
 unknown_served screen s (Second (PointerEvent buttons x y)) unknown = unknown
 unknown_served screen s (Second (ClientCutText text)) unknown = unknown
 
-size_served : (screen : Grid Colour) (s : SessionState) (item : FromClient) → ((item_acts (server_of screen s) item).known.width ≡ s.known.width) × ((item_acts (server_of screen s) item).known.height ≡ s.known.height)
+size_served : (screen : Grid Colour) (s : SessionState) (item : FromClient) →
+    ((item_acts (server_of screen s) item).known.width ≡ s.known.width)
+    × ((item_acts (server_of screen s) item).known.height ≡ s.known.height)
 size_served screen s (First step) = (refl, refl)
-size_served screen s (Second (SetPixelFormat form)) = (width-uniform s.known.width s.known.height None, height-uniform s.known.width s.known.height None)
+size_served screen s (Second (SetPixelFormat form)) = (
+  width-uniform s.known.width s.known.height None,
+  height-uniform s.known.width s.known.height None,
+)
 size_served screen s (Second (SetEncodings numbers)) = (refl, refl)
 size_served screen s (Second (FramebufferUpdateRequest incremental rect)) = (refl, refl)
 size_served screen s (Second (KeyEvent down key)) = (refl, refl)
@@ -106,7 +132,8 @@ size_served screen s (Second (PointerEvent buttons x y)) = (refl, refl)
 size_served screen s (Second (ClientCutText text)) = (refl, refl)
 
 -- nothing is known and composed yet, or the server is ready
-early_or_ready : (e : Ends) (c : Core) → Phase e c → (IsUnknown c.session.known × (c.latest ≡ None)) ⊎ (c.session.point ≡ Second tt)
+early_or_ready : (e : Ends) (c : Core) → Phase e c →
+    (IsUnknown c.session.known × (c.latest ≡ None)) ⊎ (c.session.point ≡ Second tt)
 early_or_ready e c (Greeting s) = inl (s.unknown, s.none_yet)
 early_or_ready e c (Versioned v s) = inl (s.unknown, s.none_yet)
 early_or_ready e c (Typed v s) = inl (s.unknown, s.none_yet)
@@ -121,10 +148,13 @@ early_or_ready e c (Asking p m s) = inr m.session_at
 early_or_ready e c (Held p m s) = inr m.session_at
 early_or_ready e c (Sent p m s) = inr m.session_at
 
-pub holds_served : (e : Ends) (screen : Grid Colour) (c : Core) (item : FromClient) (rest : List FromClient) → Holds e screen c → c.to_server ≡ item ∷ rest → Holds e screen (served e screen c item rest)
+pub holds_served : (e : Ends) (screen : Grid Colour) (c : Core) (item : FromClient)
+    (rest : List FromClient) → Holds e screen c → c.to_server ≡ item ∷ rest →
+    Holds e screen (served e screen c item rest)
 holds_served e screen c item rest h queue = by (early_or_ready e c h.phase)
   where
-    by : (IsUnknown c.session.known × (c.latest ≡ None)) ⊎ (c.session.point ≡ Second tt) → Holds e screen (served e screen c item rest)
+    by : (IsUnknown c.session.known × (c.latest ≡ None)) ⊎ (c.session.point ≡ Second tt) →
+        Holds e screen (served e screen c item rest)
     by (inl (unknown, none_yet)) =
         let sizes = size_served screen c.session item in
         record {
@@ -133,24 +163,34 @@ holds_served e screen c item rest h queue = by (early_or_ready e c h.phase)
           known_wide = sizes.0 ∙ h.known_wide;
           known_high = sizes.1 ∙ h.known_high;
           phase = phase_served e screen c item rest h.phase queue;
-          known = unknown_shows (item_acts (server_of screen c.session) item).form (item_acts (server_of screen c.session) item).known (due e (served e screen c item rest)) (unknown_served screen c.session item unknown);
-          latest = subst (λ (o : Option Composing). ShowsLatest o (due e (served e screen c item rest))) (sym none_yet) tt;
+          known = unknown_shows (item_acts (server_of screen c.session) item).form
+              (item_acts (server_of screen c.session) item).known
+              (due e (served e screen c item rest)) (unknown_served screen c.session item unknown);
+          latest = subst
+              (λ (o : Option Composing). ShowsLatest o (due e (served e screen c item rest)))
+              (sym none_yet) tt;
         }
     by (inr at) =
         let sizes = size_served screen c.session item in
-        let same : due e c ≡ due e (served e screen c item rest) = ap (λ (q : List FromServer). (acts (viewer e.viewing) c.viewer q).picture) (sym (no_answer e c item at)) in
+        let same : due e c ≡ due e (served e screen c item rest) =
+        ap (λ (q : List FromServer). (acts (viewer e.viewing) c.viewer q).picture)
+        (sym (no_answer e c item at)) in
         record {
           wide = h.wide;
           high = h.high;
           known_wide = sizes.0 ∙ h.known_wide;
           known_high = sizes.1 ∙ h.known_high;
           phase = phase_served e screen c item rest h.phase queue;
-          known = known_served screen c.session item (due e (served e screen c item rest)) (subst (λ (d : Option (Grid Colour)). ShowsKnown c.session.form c.session.known d) same h.known);
+          known = known_served screen c.session item (due e (served e screen c item rest))
+              (subst (λ (d : Option
+              (Grid Colour)). ShowsKnown c.session.form c.session.known d) same h.known);
           latest = subst (λ (d : Option (Grid Colour)). ShowsLatest c.latest d) same h.latest;
         }
 
 -- the screen stays what it was
-pub kept_screen : (serving : Serving) (screen : Grid Colour) (s : SessionState) (item : FromClient) → server_of screen (session_of (serves serving (server_of screen s) item)) ≡ serves serving (server_of screen s) item
+pub kept_screen : (serving : Serving) (screen : Grid Colour) (s : SessionState)
+    (item : FromClient) → server_of screen (session_of (serves serving (server_of screen s) item))
+    ≡ serves serving (server_of screen s) item
 kept_screen serving screen s (First step) = refl
 kept_screen serving screen s (Second (SetPixelFormat form)) = refl
 kept_screen serving screen s (Second (SetEncodings numbers)) = refl
@@ -159,43 +199,71 @@ kept_screen serving screen s (Second (KeyEvent down key)) = refl
 kept_screen serving screen s (Second (PointerEvent buttons x y)) = refl
 kept_screen serving screen s (Second (ClientCutText text)) = refl
 
-abbrev all_served : Ends → Core → ServerState → List FromClient → List FromServer → List FromClient → Core
+abbrev all_served : Ends → Core → ServerState → List FromClient → List FromServer →
+    List FromClient → Core
 all_served e c s done before left = record c {
   session = session_of (acts (server e.serving) s done);
   to_server = left;
   to_viewer = before ++ server_replies e.serving s done;
 }
 
-pub holds_all_served : (e : Ends) (screen : Grid Colour) (c : Core) (done left : List FromClient) → Holds e screen c → c.to_server ≡ done ++ left → Holds e screen (all_served e c (server_of screen c.session) done c.to_viewer left)
+pub holds_all_served : (e : Ends) (screen : Grid Colour) (c : Core) (done left : List FromClient) →
+    Holds e screen c → c.to_server ≡ done ++ left →
+    Holds e screen (all_served e c (server_of screen c.session) done c.to_viewer left)
 holds_all_served e screen c [] left h queue =
-    subst (λ (q : List FromClient). Holds e screen (record c { to_server = q; to_viewer = c.to_viewer ++ [] })) queue
-    (subst (λ (q : List FromServer). Holds e screen (record c { to_viewer = q })) (sym (append-nil c.to_viewer)) h)
+    subst (λ (q : List FromClient). Holds e screen
+    (record c { to_server = q; to_viewer = c.to_viewer ++ [] })) queue
+    (subst (λ (q : List FromServer). Holds e screen (record c { to_viewer = q }))
+    (sym (append-nil c.to_viewer)) h)
 holds_all_served e screen c (item ∷ done) left h queue =
     let one = holds_served e screen c item (done ++ left) h queue in
-    let others = holds_all_served e screen (served e screen c item (done ++ left)) done left one refl in
+    let others =
+    holds_all_served e screen (served e screen c item (done ++ left)) done left one refl in
     let same = kept_screen e.serving screen c.session item in
-    let there : Holds e screen (all_served e c (serves e.serving (server_of screen c.session) item) done (c.to_viewer ++ server_answers e.serving c.session.point item) left) =
-    subst (λ (s : ServerState). Holds e screen (all_served e c s done (c.to_viewer ++ server_answers e.serving c.session.point item) left)) same others in
-    subst (λ (q : List FromServer). Holds e screen (record c { session = session_of (acts (server e.serving) (server_of screen c.session) (item ∷ done)); to_server = left; to_viewer = q }))
-    (append_assoc c.to_viewer (server_answers e.serving c.session.point item) (server_replies e.serving (serves e.serving (server_of screen c.session) item) done)) there
+    let there : Holds e screen
+    (all_served e c (serves e.serving (server_of screen c.session) item) done
+    (c.to_viewer ++ server_answers e.serving c.session.point item) left) =
+    subst (λ (s : ServerState). Holds e screen
+    (all_served e c s done
+    (c.to_viewer ++ server_answers e.serving c.session.point item) left)) same others in
+    subst (λ (q : List FromServer). Holds e screen
+    (record c {
+      session = session_of
+          (acts (server e.serving) (server_of screen c.session) (item ∷ done));
+      to_server = left;
+      to_viewer = q;
+    }))
+    (append_assoc c.to_viewer (server_answers e.serving c.session.point item)
+    (server_replies e.serving (serves e.serving (server_of screen c.session) item) done)) there
 
 -- ---- composing
 
-past_effects : (p : UpdatePoint) (item : UpdateItem) (items : List UpdateItem) (picture : Grid Colour) → effects (update_stream.past p item) items picture ≡ effects p items picture
+past_effects : (p : UpdatePoint) (item : UpdateItem) (items : List UpdateItem)
+    (picture : Grid Colour) → effects (update_stream.past p item) items picture
+    ≡ effects p items picture
 unfolding update_stream
 past_effects p item items picture = effects_left p (left_behind p.left item) items picture
 
 -- items behind the handshake have their effects on the picture
-acts_effects : (e : Ends) (v : ViewerState) (p : UpdatePoint) (items : List UpdateItem) (picture : Grid Colour) → v.point ≡ Second p → v.picture ≡ Some picture → (acts (viewer e.viewing) v (map (λ item. Second item) items)).picture ≡ Some (effects p items picture)
+acts_effects : (e : Ends) (v : ViewerState) (p : UpdatePoint) (items : List UpdateItem)
+    (picture : Grid Colour) → v.point ≡ Second p → v.picture ≡ Some picture →
+    (acts (viewer e.viewing) v (map (λ item. Second item) items)).picture
+    ≡ Some (effects p items picture)
 acts_effects e v p [] picture at is = is
 acts_effects e v p (item ∷ items) picture at is =
-    let point = ap (λ (q : ServerAt). past_in (server_two e.viewing.form e.viewing.hello) q (Second item)) at in
-    let now = ap (λ (q : ServerAt). picture_behind q (Second item) v.picture) at ∙ ap (λ (o : Option (Grid Colour)). effect_on p item o) is in
-    acts_effects e (shows e.viewing v (Second item)) (update_stream.past p item) items (effect p item picture) point now
+    let point =
+    ap (λ (q : ServerAt). past_in (server_two e.viewing.form e.viewing.hello) q
+    (Second item)) at in
+    let now =
+    ap (λ (q : ServerAt). picture_behind q (Second item) v.picture) at
+    ∙ ap (λ (o : Option (Grid Colour)). effect_on p item o) is in
+    acts_effects e (shows e.viewing v (Second item)) (update_stream.past p item) items
+    (effect p item picture) point now
     ∙ ap (λ (g : Grid Colour). Some g) (past_effects p item items (effect p item picture))
 
 -- where nothing is asked no update is due
-not_due : (screen : Grid Colour) (s : SessionState) → IsUnasked s.area → IsDue (server_of screen s) → ⊥
+not_due : (screen : Grid Colour) (s : SessionState) → IsUnasked s.area →
+    IsDue (server_of screen s) → ⊥
 not_due screen s unasked d =
     let none : needs_sending (server_of screen s) d.x d.y ≡ false = rw (unasked d.x d.y) refl in
     let some = d.needs in
@@ -207,7 +275,8 @@ pub record IsHeld (e : Ends) (c : Core) : Type 0 where
   pub meets : Meets e c p
   pub awaits : Awaits c p
 
-pub due_held : (e : Ends) (screen : Grid Colour) (c : Core) → Phase e c → IsDue (server_of screen c.session) → IsHeld e c
+pub due_held : (e : Ends) (screen : Grid Colour) (c : Core) → Phase e c →
+    IsDue (server_of screen c.session) → IsHeld e c
 due_held e screen c (Greeting s) d = absurd (not_due screen c.session s.unasked d)
 due_held e screen c (Versioned v s) d = absurd (not_due screen c.session s.unasked d)
 due_held e screen c (Typed v s) d = absurd (not_due screen c.session s.unasked d)
@@ -222,12 +291,17 @@ due_held e screen c (Asking p m s) d = absurd (not_due screen c.session s.unaske
 due_held e screen c (Held p m s) d = record { p = p; meets = m; awaits = s }
 due_held e screen c (Sent p m s) d = absurd (not_due screen c.session s.unasked d)
 
-pub point_is : (p : UpdatePoint) (w h : ℕ) (f : PixelFormat) → p.width ≡ w → p.height ≡ h → p.form ≡ f → p.left ≡ 0 → p ≡ record { width = w; height = h; form = f; left = 0 }
+pub point_is : (p : UpdatePoint) (w h : ℕ) (f : PixelFormat) → p.width ≡ w → p.height ≡ h → p.form
+    ≡ f → p.left ≡ 0 → p ≡ record { width = w; height = h; form = f; left = 0 }
 point_is p w h f wide high formed none =
-    let at : (a b : ℕ) (g : PixelFormat) (n : ℕ) → UpdatePoint = λ a b g n. record { width = a; height = b; form = g; left = n } in
-    let e1 : at p.width p.height p.form p.left ≡ at w p.height p.form p.left = ap (λ (a : ℕ). at a p.height p.form p.left) wide in
-    let e2 : at w p.height p.form p.left ≡ at w h p.form p.left = ap (λ (b : ℕ). at w b p.form p.left) high in
-    let e3 : at w h p.form p.left ≡ at w h f p.left = ap (λ (g : PixelFormat). at w h g p.left) formed in
+    let at : (a b : ℕ) (g : PixelFormat) (n : ℕ) → UpdatePoint =
+    λ a b g n. record { width = a; height = b; form = g; left = n } in
+    let e1 : at p.width p.height p.form p.left ≡ at w p.height p.form p.left =
+    ap (λ (a : ℕ). at a p.height p.form p.left) wide in
+    let e2 : at w p.height p.form p.left ≡ at w h p.form p.left =
+    ap (λ (b : ℕ). at w b p.form p.left) high in
+    let e3 : at w h p.form p.left ≡ at w h f p.left =
+    ap (λ (g : PixelFormat). at w h g p.left) formed in
     let e4 : at w h f p.left ≡ at w h f 0 = ap (λ (n : ℕ). at w h f n) none in
     e1 ∙ e2 ∙ e3 ∙ e4
 
@@ -238,55 +312,90 @@ composed_core screen c to parts = record c {
   latest = Some (record { screen = screen; area = c.session.area; form = c.session.form });
 }
 
-holds_composed_at : (e : Ends) (screen : Grid Colour) (c : Core) (to : SessionState) (bytes : List ℕ) (copies blocks : List Part) → Holds e screen c → IsHeld e c → Composes (server_of screen c.session) (server_of screen to) bytes copies blocks → Holds e screen (composed_core screen c to (copies ++ blocks))
+holds_composed_at : (e : Ends) (screen : Grid Colour) (c : Core) (to : SessionState)
+    (bytes : List ℕ) (copies blocks : List Part) → Holds e screen c → IsHeld e c →
+    Composes (server_of screen c.session) (server_of screen to) bytes copies blocks →
+    Holds e screen (composed_core screen c to (copies ++ blocks))
 holds_composed_at e screen c to bytes copies blocks h held composed =
     let p = held.p in
     let m = held.meets in
     let a = held.awaits in
     let picture = m.picture in
     let items = update_of (map sent_as (copies ++ blocks)) in
-    let queue : c.to_viewer ++ map (λ item. Second item) items ≡ map (λ item. Second item) items = ap (λ (q : List FromServer). q ++ map (λ item. Second item) items) a.none in
-    let point : p ≡ between (server_of screen c.session) = point_is p screen.width screen.height c.session.form (m.wide ∙ sym h.wide) (m.high ∙ sym h.high) (sym a.formed) a.between in
-    let before : due e c ≡ Some picture.picture = ap (λ (q : List FromServer). (acts (viewer e.viewing) c.viewer q).picture) a.none ∙ picture.picture_is in
-    let agrees : Agrees c.session.form picture.picture c.session.known = subst (λ (d : Option (Grid Colour)). ShowsKnown c.session.form c.session.known d) before h.known in
-    let alike : IsAlike picture.picture c.session.known = record { columns = picture.wide ∙ sym h.known_wide; rows = picture.high ∙ sym h.known_high } in
-    let sized : IsAlike screen c.session.known = record { columns = h.wide ∙ sym h.known_wide; rows = h.high ∙ sym h.known_high } in
-    let behind : due e (composed_core screen c to (copies ++ blocks)) ≡ Some (effects (between (server_of screen c.session)) items picture.picture) =
+    let queue : c.to_viewer ++ map (λ item. Second item) items ≡ map (λ item. Second item) items =
+    ap (λ (q : List FromServer). q ++ map (λ item. Second item) items) a.none in
+    let point : p ≡ between (server_of screen c.session) =
+    point_is p screen.width screen.height c.session.form (m.wide ∙ sym h.wide)
+    (m.high ∙ sym h.high) (sym a.formed) a.between in
+    let before : due e c ≡ Some picture.picture =
+    ap (λ (q : List FromServer). (acts (viewer e.viewing) c.viewer q).picture) a.none
+    ∙ picture.picture_is in
+    let agrees : Agrees c.session.form picture.picture c.session.known =
+    subst (λ (d : Option
+    (Grid Colour)). ShowsKnown c.session.form c.session.known d) before h.known in
+    let alike : IsAlike picture.picture c.session.known =
+    record {
+      columns = picture.wide ∙ sym h.known_wide;
+      rows = picture.high
+          ∙ sym h.known_high;
+    } in
+    let sized : IsAlike screen c.session.known =
+    record { columns = h.wide ∙ sym h.known_wide; rows = h.high ∙ sym h.known_high } in
+    let behind : due e (composed_core screen c to (copies ++ blocks))
+    ≡ Some (effects (between (server_of screen c.session)) items picture.picture) =
     ap (λ (q : List FromServer). (acts (viewer e.viewing) c.viewer q).picture) queue
     ∙ acts_effects e c.viewer p items picture.picture m.viewer_at picture.picture_is
     ∙ ap (λ (q : UpdatePoint). Some (effects q items picture.picture)) point in
-    let known : Agrees to.form (effects (between (server_of screen c.session)) items picture.picture) to.known =
-    subst (λ (f : PixelFormat). Agrees f (effects (between (server_of screen c.session)) items picture.picture) to.known) (sym composed.same_format) (composed.agrees picture.picture picture.whole alike agrees) in
+    let known : Agrees to.form
+    (effects (between (server_of screen c.session)) items picture.picture) to.known =
+    subst (λ (f : PixelFormat). Agrees f
+    (effects (between (server_of screen c.session)) items picture.picture) to.known)
+    (sym composed.same_format) (composed.agrees picture.picture picture.whole alike agrees) in
     record {
       wide = h.wide;
       high = h.high;
       known_wide = composed.same_size.columns ∙ h.known_wide;
       known_high = composed.same_size.rows ∙ h.known_high;
       phase = Sent p
-      (meets_as e c (composed_core screen c to (copies ++ blocks)) p p m (composed.same_point ∙ m.session_at) m.viewer_at refl refl refl)
-      (record {
-        busy = a.busy;
-        unasked = subst (λ (area : Places). IsUnasked area) (sym composed.emptied) (none_unasked _ _);
-        mere = a.mere;
-        formed = composed.same_format ∙ a.formed;
-        rest = subst (λ (q : List FromServer). IsRest p q) (sym queue) (update_rest p (map sent_as (copies ++ blocks)));
-      });
-      known = subst (λ (d : Option (Grid Colour)). ShowsKnown to.form to.known d) (sym behind) known;
-      latest = subst (λ (d : Option (Grid Colour)). ShowsLatest (Some (record { screen = screen; area = c.session.area; form = c.session.form })) d) (sym behind)
-      (λ x y d wide high asked. shows_screen (server_of screen c.session) (server_of screen to) bytes copies blocks picture.picture x y d composed sized picture.whole alike agrees (wide, high) asked);
+          (meets_as e c (composed_core screen c to (copies ++ blocks)) p p m
+          (composed.same_point ∙ m.session_at) m.viewer_at refl refl refl)
+          (record {
+            busy = a.busy;
+            unasked =
+                subst (λ (area : Places). IsUnasked area) (sym composed.emptied) (none_unasked _ _);
+            mere = a.mere;
+            formed = composed.same_format ∙ a.formed;
+            rest = subst (λ (q : List FromServer). IsRest p q) (sym queue)
+                (update_rest p (map sent_as (copies ++ blocks)));
+          });
+      known = subst (λ (d : Option (Grid Colour)). ShowsKnown to.form to.known d)
+          (sym behind) known;
+      latest = subst
+          (λ (d : Option (Grid Colour)). ShowsLatest
+          (Some (record { screen = screen; area = c.session.area; form = c.session.form })) d)
+          (sym behind)
+          (λ x y d wide high asked. shows_screen (server_of screen c.session)
+          (server_of screen to) bytes copies blocks picture.picture x y d
+          composed sized picture.whole alike agrees (wide, high) asked);
     }
 
-pub holds_composed : (e : Ends) (screen : Grid Colour) (old new : Link) → Holds e screen (core old) → ComposesOn screen old new → Holds e screen (core new)
+pub holds_composed : (e : Ends) (screen : Grid Colour) (old new : Link) →
+    Holds e screen (core old) → ComposesOn screen old new → Holds e screen (core new)
 holds_composed e screen old new h c =
     subst (λ (l : Link). Holds e screen (core l)) (sym c.result)
-    (holds_composed_at e screen (core old) c.session c.bytes c.copies c.blocks h (due_held e screen (core old) h.phase c.due) c.composed)
+    (holds_composed_at e screen (core old) c.session c.bytes c.copies c.blocks h
+    (due_held e screen (core old) h.phase c.due) c.composed)
 
 -- ---- deliveries
 
-pub holds_to_viewer : (e : Ends) (screen : Grid Colour) (old new : Link) (n : ℕ) → Holds e screen (core old) → MovesToViewer e old n new → Holds e screen (core new)
+pub holds_to_viewer : (e : Ends) (screen : Grid Colour) (old new : Link) (n : ℕ) →
+    Holds e screen (core old) → MovesToViewer e old n new → Holds e screen (core new)
 holds_to_viewer e screen old new n h m =
-    subst (λ (l : Link). Holds e screen (core l)) (sym m.result) (holds_all_shown e screen (core old) m.done m.left h m.queue)
+    subst (λ (l : Link). Holds e screen (core l)) (sym m.result)
+    (holds_all_shown e screen (core old) m.done m.left h m.queue)
 
-pub holds_to_server : (e : Ends) (screen : Grid Colour) (old new : Link) (n : ℕ) → Holds e screen (core old) → MovesToServer e screen old n new → Holds e screen (core new)
+pub holds_to_server : (e : Ends) (screen : Grid Colour) (old new : Link) (n : ℕ) →
+    Holds e screen (core old) → MovesToServer e screen old n new → Holds e screen (core new)
 holds_to_server e screen old new n h m =
-    subst (λ (l : Link). Holds e screen (core l)) (sym m.result) (holds_all_served e screen (core old) m.done m.left h m.queue)
+    subst (λ (l : Link). Holds e screen (core l)) (sym m.result)
+    (holds_all_served e screen (core old) m.done m.left h m.queue)

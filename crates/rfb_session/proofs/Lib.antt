@@ -1,9 +1,11 @@
 pub mod QueueLemmas
 pub mod PhaseLemmas
+pub mod ServedLemmas
 pub mod HoldsLemmas
 pub mod CallLemmas
 pub mod NetworkLemmas
 pub mod ReadyLemmas
 pub mod AnswerLemmas
 pub mod FlightLemmas
+pub mod SentLemmas
 pub mod MoveLemmas

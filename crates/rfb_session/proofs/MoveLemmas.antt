@@ -1,4 +1,5 @@
--- Deliveries of some bytes and of some more are one of all of them; and so many bytes are in flight.
+-- Deliveries of some bytes and of some more are one of all of them; and how many bytes are in
+-- flight.
 use Rattle.std.proofs.Common.{◌≡◌, ℕ, ◌+◌, ◌-◌, Bool, List, [], ◌∷◌, ◌++◌, length, Option, Some, None, refl, sym, ap, ◌∙◌, subst, append_assoc, length-append, arith}
 use Rattle.rfb_pixel.specs.declared.colour.Colour.{Colour}
 use Rattle.rfb_pixel.specs.Format.{PixelFormat}
@@ -26,120 +27,223 @@ use Rattle.rfb_session.specs.InFlight.{Flight, Flies}
 use Rattle.rfb_session.proofs.PhaseLemmas.{core, Phase}
 use Rattle.rfb_session.proofs.CallLemmas.{phase_format}
 use Rattle.rfb_session.proofs.AnswerLemmas.{to_server_stream, to_viewer_stream}
-use Rattle.rfb_session.proofs.FlightLemmas.{all_kept, called_flies, none_flies}
+use Rattle.rfb_session.proofs.FlightLemmas.{all_kept}
+use Rattle.rfb_session.proofs.SentLemmas.{called_flies, none_flies}
 
 -- ---- how many bytes are in flight
 
 left_of : (has gets size at : ℕ) → has + gets ≡ size → has ≡ at → gets ≡ size - at
 left_of has gets size at all is = omega (arith, all, is)
 
-pub viewer_flight : (e : Ends) (l : Link) (f : Flight) → Flies e l f → length f.viewer_gets ≡ flight_to_viewer e l
+pub viewer_flight : (e : Ends) (l : Link) (f : Flight) → Flies e l f → length f.viewer_gets
+    ≡ flight_to_viewer e l
 viewer_flight e l f flies =
-    let all = all_length (to_viewer_stream e) (server_bytes_laws e.viewing.form e.viewing.hello) l.viewer.point (f.viewer_has ++ f.viewer_gets) l.to_viewer [] flies.to_viewer in
+    let all =
+    all_length (to_viewer_stream e)
+    (server_bytes_laws e.viewing.form e.viewing.hello) l.viewer.point
+    (f.viewer_has ++ f.viewer_gets) l.to_viewer [] flies.to_viewer in
     let both = length-append f.viewer_has f.viewer_gets in
-    left_of (length f.viewer_has) (length f.viewer_gets) (sizes (to_viewer_stream e) l.to_viewer) l.at_viewer (omega (arith, all, both)) flies.at_viewer
+    left_of (length f.viewer_has) (length f.viewer_gets)
+    (sizes (to_viewer_stream e) l.to_viewer) l.at_viewer
+    (omega (arith, all, both)) flies.at_viewer
 
-pub server_flight : (e : Ends) (l : Link) (f : Flight) → Flies e l f → length f.server_gets ≡ flight_to_server e l
+pub server_flight : (e : Ends) (l : Link) (f : Flight) → Flies e l f → length f.server_gets
+    ≡ flight_to_server e l
 server_flight e l f flies =
-    let all = all_length (to_server_stream e) (client_bytes_laws e.serving.hello.offer) l.session.point (f.server_has ++ f.server_gets) l.to_server [] flies.to_server in
+    let all =
+    all_length (to_server_stream e) (client_bytes_laws e.serving.hello.offer) l.session.point
+    (f.server_has ++ f.server_gets) l.to_server [] flies.to_server in
     let both = length-append f.server_has f.server_gets in
-    left_of (length f.server_has) (length f.server_gets) (sizes (to_server_stream e) l.to_server) l.at_server (omega (arith, all, both)) flies.at_server
+    left_of (length f.server_has) (length f.server_gets)
+    (sizes (to_server_stream e) l.to_server) l.at_server
+    (omega (arith, all, both)) flies.at_server
 
 -- ---- deliveries behind deliveries
 
-viewer_replies_append : (viewing : Viewing) (s : ViewerState) (xs ys : List FromServer) → viewer_replies viewing s (xs ++ ys) ≡ viewer_replies viewing s xs ++ viewer_replies viewing (acts (viewer viewing) s xs) ys
+viewer_replies_append : (viewing : Viewing) (s : ViewerState) (xs ys : List FromServer) →
+    viewer_replies viewing s (xs ++ ys)
+    ≡ viewer_replies viewing s xs ++ viewer_replies viewing (acts (viewer viewing) s xs) ys
 viewer_replies_append viewing s [] ys = refl
 viewer_replies_append viewing s (item ∷ xs) ys =
-    ap (λ (more : List FromClient). viewer_answers viewing s.point item ++ more) (viewer_replies_append viewing (shows viewing s item) xs ys)
-    ∙ sym (append_assoc (viewer_answers viewing s.point item) (viewer_replies viewing (shows viewing s item) xs) (viewer_replies viewing (acts (viewer viewing) (shows viewing s item) xs) ys))
+    ap (λ (more : List FromClient). viewer_answers viewing s.point item ++ more)
+    (viewer_replies_append viewing (shows viewing s item) xs ys)
+    ∙ sym (append_assoc (viewer_answers viewing s.point item)
+    (viewer_replies viewing (shows viewing s item) xs)
+    (viewer_replies viewing (acts (viewer viewing) (shows viewing s item) xs) ys))
 
-server_replies_append : (serving : Serving) (s : ServerState) (xs ys : List FromClient) → server_replies serving s (xs ++ ys) ≡ server_replies serving s xs ++ server_replies serving (acts (server serving) s xs) ys
+server_replies_append : (serving : Serving) (s : ServerState) (xs ys : List FromClient) →
+    server_replies serving s (xs ++ ys)
+    ≡ server_replies serving s xs ++ server_replies serving (acts (server serving) s xs) ys
 server_replies_append serving s [] ys = refl
 server_replies_append serving s (item ∷ xs) ys =
-    ap (λ (more : List FromServer). server_answers serving s.point item ++ more) (server_replies_append serving (serves serving s item) xs ys)
-    ∙ sym (append_assoc (server_answers serving s.point item) (server_replies serving (serves serving s item) xs) (server_replies serving (acts (server serving) (serves serving s item) xs) ys))
+    ap (λ (more : List FromServer). server_answers serving s.point item ++ more)
+    (server_replies_append serving (serves serving s item) xs ys)
+    ∙ sym (append_assoc (server_answers serving s.point item)
+    (server_replies serving (serves serving s item) xs)
+    (server_replies serving (acts (server serving) (serves serving s item) xs) ys))
 
-counted : (at n m one mid two to all : ℕ) → at + n ≡ one + mid → mid + m ≡ two + to → all ≡ one + two → at + (n + m) ≡ all + to
+counted : (at n m one mid two to all : ℕ) → at + n ≡ one + mid → mid + m ≡ two + to → all
+    ≡ one + two → at + (n + m) ≡ all + to
 counted at n m one mid two to all a b c = omega (arith, a, b, c)
 
 abbrev to_viewer_of : Link → ViewerState → List FromServer → ℕ → List FromClient → Link
-to_viewer_of l v left at ts = record l { viewer = v; to_viewer = left; at_viewer = at; to_server = ts }
+to_viewer_of l v left at ts =
+    record l { viewer = v; to_viewer = left; at_viewer = at; to_server = ts }
 
 abbrev to_server_of : Link → ServerState → List FromClient → ℕ → List FromServer → Link
-to_server_of l s left at tv = record l { session = session_of s; to_server = left; at_server = at; to_viewer = tv }
+to_server_of l s left at tv =
+    record l { session = session_of s; to_server = left; at_server = at; to_viewer = tv }
 
-pub viewer_moves_join : (e : Ends) (a b c : Link) (n m : ℕ) → MovesToViewer e a n b → MovesToViewer e b m c → MovesToViewer e a (n + m) c
+pub viewer_moves_join : (e : Ends) (a b c : Link) (n m : ℕ) → MovesToViewer e a n b →
+    MovesToViewer e b m c → MovesToViewer e a (n + m) c
 viewer_moves_join e a b c n m one two = by b one.result two
   where
-    queue_is : (mid : Link) (next : MovesToViewer e mid m c) → mid.to_viewer ≡ one.left → a.to_viewer ≡ (one.done ++ next.done) ++ next.left
-    queue_is mid next at = one.queue ∙ ap (λ (q : List FromServer). one.done ++ q) (sym at ∙ next.queue) ∙ sym (append_assoc one.done next.done next.left)
+    queue_is : (mid : Link) (next : MovesToViewer e mid m c) → mid.to_viewer ≡ one.left →
+        a.to_viewer ≡ (one.done ++ next.done) ++ next.left
+    queue_is mid next at =
+        one.queue ∙ ap (λ (q : List FromServer). one.done ++ q) (sym at ∙ next.queue)
+        ∙ sym (append_assoc one.done next.done next.left)
 
-    by : (mid : Link) → mid ≡ record a { viewer = acts (viewer e.viewing) a.viewer one.done; to_viewer = one.left; at_viewer = one.at; to_server = a.to_server ++ viewer_replies e.viewing a.viewer one.done } → MovesToViewer e mid m c → MovesToViewer e a (n + m) c
+    by : (mid : Link) → mid
+        ≡ record a {
+          viewer = acts (viewer e.viewing) a.viewer one.done;
+          to_viewer = one.left;
+          at_viewer = one.at;
+          to_server =
+              a.to_server ++ viewer_replies e.viewing a.viewer one.done;
+        } → MovesToViewer e mid m c →
+        MovesToViewer e a (n + m) c
     by mid is next =
-        let state : acts (viewer e.viewing) mid.viewer next.done ≡ acts (viewer e.viewing) a.viewer (one.done ++ next.done) =
-        ap (λ (l : Link). acts (viewer e.viewing) l.viewer next.done) is ∙ sym (acts_append (viewer e.viewing) a.viewer one.done next.done) in
-        let answers : mid.to_server ++ viewer_replies e.viewing mid.viewer next.done ≡ a.to_server ++ viewer_replies e.viewing a.viewer (one.done ++ next.done) =
+        let state : acts (viewer e.viewing) mid.viewer next.done
+        ≡ acts (viewer e.viewing) a.viewer (one.done ++ next.done) =
+        ap (λ (l : Link). acts (viewer e.viewing) l.viewer next.done) is
+        ∙ sym (acts_append (viewer e.viewing) a.viewer one.done next.done) in
+        let answers : mid.to_server ++ viewer_replies e.viewing mid.viewer next.done
+        ≡ a.to_server ++ viewer_replies e.viewing a.viewer (one.done ++ next.done) =
         ap (λ (l : Link). l.to_server ++ viewer_replies e.viewing l.viewer next.done) is
-        ∙ append_assoc a.to_server (viewer_replies e.viewing a.viewer one.done) (viewer_replies e.viewing (acts (viewer e.viewing) a.viewer one.done) next.done)
-        ∙ ap (λ (q : List FromClient). a.to_server ++ q) (sym (viewer_replies_append e.viewing a.viewer one.done next.done)) in
-        let rest : to_viewer_of mid (acts (viewer e.viewing) mid.viewer next.done) next.left next.at (mid.to_server ++ viewer_replies e.viewing mid.viewer next.done)
-            ≡ to_viewer_of a (acts (viewer e.viewing) mid.viewer next.done) next.left next.at (mid.to_server ++ viewer_replies e.viewing mid.viewer next.done) =
-        ap (λ (l : Link). to_viewer_of l (acts (viewer e.viewing) mid.viewer next.done) next.left next.at (mid.to_server ++ viewer_replies e.viewing mid.viewer next.done)) is in
+        ∙ append_assoc a.to_server (viewer_replies e.viewing a.viewer one.done)
+        (viewer_replies e.viewing (acts (viewer e.viewing) a.viewer one.done) next.done)
+        ∙ ap (λ (q : List FromClient). a.to_server ++ q)
+        (sym (viewer_replies_append e.viewing a.viewer one.done next.done)) in
+        let rest : to_viewer_of mid (acts (viewer e.viewing) mid.viewer next.done) next.left next.at
+        (mid.to_server ++ viewer_replies e.viewing mid.viewer next.done)
+        ≡ to_viewer_of a (acts (viewer e.viewing) mid.viewer next.done) next.left next.at
+        (mid.to_server ++ viewer_replies e.viewing mid.viewer next.done) =
+        ap (λ (l : Link). to_viewer_of l
+        (acts (viewer e.viewing) mid.viewer next.done) next.left next.at
+        (mid.to_server ++ viewer_replies e.viewing mid.viewer next.done)) is in
         record {
           done = one.done ++ next.done;
           left = next.left;
           at = next.at;
           queue = queue_is mid next (ap (λ (l : Link). l.to_viewer) is);
-          count = counted a.at_viewer n m (sizes (to_viewer_stream e) one.done) one.at (sizes (to_viewer_stream e) next.done) next.at (sizes (to_viewer_stream e) (one.done ++ next.done)) one.count (ap (λ (l : Link). l.at_viewer + m) (sym is) ∙ next.count) (sizes_append (to_viewer_stream e) one.done next.done);
+          count = counted a.at_viewer n m (sizes (to_viewer_stream e) one.done) one.at
+              (sizes (to_viewer_stream e) next.done) next.at
+              (sizes (to_viewer_stream e) (one.done ++ next.done)) one.count
+              (ap (λ (l : Link). l.at_viewer + m) (sym is) ∙ next.count)
+              (sizes_append (to_viewer_stream e) one.done next.done);
           within = next.within;
           result = next.result ∙ rest
-          ∙ ap (λ (v : ViewerState). to_viewer_of a v next.left next.at (mid.to_server ++ viewer_replies e.viewing mid.viewer next.done)) state
-          ∙ ap (λ (q : List FromClient). to_viewer_of a (acts (viewer e.viewing) a.viewer (one.done ++ next.done)) next.left next.at q) answers;
+              ∙ ap (λ (v : ViewerState). to_viewer_of a v next.left next.at
+              (mid.to_server ++ viewer_replies e.viewing mid.viewer next.done)) state
+              ∙ ap (λ (q : List FromClient). to_viewer_of a
+              (acts (viewer e.viewing) a.viewer
+              (one.done ++ next.done)) next.left next.at q) answers;
         }
 
-pub server_moves_join : (e : Ends) (screen : Grid Colour) (a b c : Link) (n m : ℕ) → MovesToServer e screen a n b → MovesToServer e screen b m c → MovesToServer e screen a (n + m) c
+pub server_moves_join : (e : Ends) (screen : Grid Colour) (a b c : Link) (n m : ℕ) →
+    MovesToServer e screen a n b → MovesToServer e screen b m c → MovesToServer e screen a (n + m) c
 server_moves_join e screen a b c n m one two = by b one.result two
   where
-    queue_is : (mid : Link) (next : MovesToServer e screen mid m c) → mid.to_server ≡ one.left → a.to_server ≡ (one.done ++ next.done) ++ next.left
-    queue_is mid next at = one.queue ∙ ap (λ (q : List FromClient). one.done ++ q) (sym at ∙ next.queue) ∙ sym (append_assoc one.done next.done next.left)
+    queue_is : (mid : Link) (next : MovesToServer e screen mid m c) → mid.to_server ≡ one.left →
+        a.to_server ≡ (one.done ++ next.done) ++ next.left
+    queue_is mid next at =
+        one.queue ∙ ap (λ (q : List FromClient). one.done ++ q) (sym at ∙ next.queue)
+        ∙ sym (append_assoc one.done next.done next.left)
 
     first : ServerState
     first = acts (server e.serving) (server_of screen a.session) one.done
 
-    by : (mid : Link) → mid ≡ record a { session = session_of (acts (server e.serving) (server_of screen a.session) one.done); to_server = one.left; at_server = one.at; to_viewer = a.to_viewer ++ server_replies e.serving (server_of screen a.session) one.done } → MovesToServer e screen mid m c → MovesToServer e screen a (n + m) c
+    by : (mid : Link) → mid
+        ≡ record a {
+          session = session_of
+              (acts (server e.serving) (server_of screen a.session) one.done);
+          to_server = one.left;
+          at_server = one.at;
+          to_viewer = a.to_viewer ++ server_replies e.serving
+              (server_of screen a.session) one.done;
+        } → MovesToServer e screen mid m c →
+        MovesToServer e screen a (n + m) c
     by mid is next =
-        let here : server_of screen mid.session ≡ acts (server e.serving) (server_of screen a.session) one.done = ap (λ (l : Link). server_of screen l.session) is ∙ all_kept e.serving screen a.session one.done in
-        let state : acts (server e.serving) (server_of screen mid.session) next.done ≡ acts (server e.serving) (server_of screen a.session) (one.done ++ next.done) =
-        ap (λ (s : ServerState). acts (server e.serving) s next.done) here ∙ sym (acts_append (server e.serving) (server_of screen a.session) one.done next.done) in
-        let replies : mid.to_viewer ++ server_replies e.serving (server_of screen mid.session) next.done ≡ a.to_viewer ++ server_replies e.serving (server_of screen a.session) (one.done ++ next.done) =
-        ap (λ (l : Link). l.to_viewer ++ server_replies e.serving (server_of screen mid.session) next.done) is
-        ∙ ap (λ (s : ServerState). (a.to_viewer ++ server_replies e.serving (server_of screen a.session) one.done) ++ server_replies e.serving s next.done) here
-        ∙ append_assoc a.to_viewer (server_replies e.serving (server_of screen a.session) one.done) (server_replies e.serving (acts (server e.serving) (server_of screen a.session) one.done) next.done)
-        ∙ ap (λ (q : List FromServer). a.to_viewer ++ q) (sym (server_replies_append e.serving (server_of screen a.session) one.done next.done)) in
-        let rest : to_server_of mid (acts (server e.serving) (server_of screen mid.session) next.done) next.left next.at (mid.to_viewer ++ server_replies e.serving (server_of screen mid.session) next.done)
-            ≡ to_server_of a (acts (server e.serving) (server_of screen mid.session) next.done) next.left next.at (mid.to_viewer ++ server_replies e.serving (server_of screen mid.session) next.done) =
-        ap (λ (l : Link). to_server_of l (acts (server e.serving) (server_of screen mid.session) next.done) next.left next.at (mid.to_viewer ++ server_replies e.serving (server_of screen mid.session) next.done)) is in
+        let here : server_of screen mid.session
+        ≡ acts (server e.serving) (server_of screen a.session) one.done = ap
+        (λ (l : Link). server_of screen l.session) is
+        ∙ all_kept e.serving screen a.session one.done in
+        let state : acts (server e.serving) (server_of screen mid.session) next.done
+        ≡ acts (server e.serving) (server_of screen a.session) (one.done ++ next.done) =
+        ap (λ (s : ServerState). acts (server e.serving) s next.done) here
+        ∙ sym (acts_append (server e.serving)
+        (server_of screen a.session) one.done next.done) in
+        let replies : mid.to_viewer ++ server_replies e.serving
+        (server_of screen mid.session) next.done
+        ≡ a.to_viewer ++ server_replies e.serving (server_of screen a.session)
+        (one.done ++ next.done) =
+        ap (λ (l : Link). l.to_viewer ++ server_replies e.serving
+        (server_of screen mid.session) next.done) is
+        ∙ ap (λ (s : ServerState). (a.to_viewer ++ server_replies e.serving
+        (server_of screen a.session) one.done) ++ server_replies e.serving s next.done) here
+        ∙ append_assoc a.to_viewer (server_replies e.serving (server_of screen a.session) one.done)
+        (server_replies e.serving
+        (acts (server e.serving) (server_of screen a.session) one.done) next.done)
+        ∙ ap (λ (q : List FromServer). a.to_viewer ++ q)
+        (sym (server_replies_append e.serving
+        (server_of screen a.session) one.done next.done)) in
+        let rest : to_server_of mid
+        (acts (server e.serving) (server_of screen mid.session) next.done) next.left next.at
+        (mid.to_viewer ++ server_replies e.serving (server_of screen mid.session) next.done)
+        ≡ to_server_of a
+        (acts (server e.serving) (server_of screen mid.session) next.done) next.left next.at
+        (mid.to_viewer ++ server_replies e.serving (server_of screen mid.session) next.done) =
+        ap (λ (l : Link). to_server_of l
+        (acts (server e.serving) (server_of screen mid.session) next.done) next.left next.at
+        (mid.to_viewer ++ server_replies e.serving
+        (server_of screen mid.session) next.done)) is in
         record {
           done = one.done ++ next.done;
           left = next.left;
           at = next.at;
           queue = queue_is mid next (ap (λ (l : Link). l.to_server) is);
-          count = counted a.at_server n m (sizes (to_server_stream e) one.done) one.at (sizes (to_server_stream e) next.done) next.at (sizes (to_server_stream e) (one.done ++ next.done)) one.count (ap (λ (l : Link). l.at_server + m) (sym is) ∙ next.count) (sizes_append (to_server_stream e) one.done next.done);
+          count = counted a.at_server n m (sizes (to_server_stream e) one.done) one.at
+              (sizes (to_server_stream e) next.done) next.at
+              (sizes (to_server_stream e) (one.done ++ next.done)) one.count
+              (ap (λ (l : Link). l.at_server + m) (sym is) ∙ next.count)
+              (sizes_append (to_server_stream e) one.done next.done);
           within = next.within;
           result = next.result ∙ rest
-          ∙ ap (λ (s : ServerState). to_server_of a s next.left next.at (mid.to_viewer ++ server_replies e.serving (server_of screen mid.session) next.done)) state
-          ∙ ap (λ (q : List FromServer). to_server_of a (acts (server e.serving) (server_of screen a.session) (one.done ++ next.done)) next.left next.at q) replies;
+              ∙ ap (λ (s : ServerState). to_server_of a s next.left next.at
+              (mid.to_viewer ++ server_replies e.serving
+              (server_of screen mid.session) next.done)) state
+              ∙ ap (λ (q : List FromServer). to_server_of a
+              (acts (server e.serving) (server_of screen a.session)
+              (one.done ++ next.done)) next.left next.at q) replies;
         }
 
 -- ---- an accepted format
 
 -- the viewer that takes it is ready
-format_ready : (at : ServerAt) (outstanding : Bool) (prefix : List ℕ) → format_refused at outstanding prefix ≡ None → (p : UpdatePoint) × (at ≡ Second p)
+format_ready : (at : ServerAt) (outstanding : Bool) (prefix : List ℕ) →
+    format_refused at outstanding prefix ≡ None → (p : UpdatePoint) × (at ≡ Second p)
 format_ready (First point) outstanding prefix e = absurd cc
 format_ready (Second p) outstanding prefix e = (p, refl)
 
-pub format_flies : (e : Ends) (l : Link) (f : Flight) (form : PixelFormat) (bytes : List ℕ) → Phase e (core l) → Flies e l f → format_refusal l.viewer f.viewer_has ≡ None → SpellsClientMessage (SetPixelFormat form) bytes → Flies e (calls None l (formatted form l.viewer) (SetPixelFormat form)) (record f { server_gets = f.server_gets ++ bytes })
+pub format_flies : (e : Ends) (l : Link) (f : Flight) (form : PixelFormat) (bytes : List ℕ) →
+    Phase e (core l) → Flies e l f → format_refusal l.viewer f.viewer_has ≡ None →
+    SpellsClientMessage (SetPixelFormat form) bytes →
+    Flies e (calls None l (formatted form l.viewer) (SetPixelFormat form))
+    (record f { server_gets = f.server_gets ++ bytes })
 format_flies e l f form bytes phase flies taken spelled =
     let ready = format_ready l.viewer.point l.viewer.outstanding f.viewer_has taken in
     let one = phase_format e (core l) form f.viewer_has phase taken in
-    called_flies e l f ready.0 (formatted form l.viewer) (SetPixelFormat form) bytes phase ready.1 flies (none_flies e l f (with_format form l.viewer.point) one.0 flies) spelled
+    called_flies e l f ready.0 (formatted form l.viewer)
+    (SetPixelFormat form) bytes phase ready.1 flies
+    (none_flies e l f (with_format form l.viewer.point) one.0 flies) spelled

@@ -21,20 +21,37 @@ use Rattle.rfb_session.proofs.HoldsLemmas.{Holds, holds_composed, holds_to_viewe
 use Rattle.rfb_session.proofs.CallLemmas.{holds_mere, holds_request, holds_format}
 
 -- each step of a link
-pub link_holds : (e : Ends) (screen : Grid Colour) (old new : Link) (event : LinkEvent) → Holds e screen (core old) → LinkSteps e screen old event new → Holds e screen (core new)
-link_holds e screen old new (OfRequest incremental rect) h step = subst (λ (l : Link). Holds e screen (core l)) (sym step) (holds_request e screen old incremental rect h)
-link_holds e screen old new (OfFormat form) h step = subst (λ (l : Link). Holds e screen (core l)) (sym step) (holds_format e screen old form (begun old.at_viewer old.to_viewer) h)
-link_holds e screen old new (OfEncodings encodings) h step = subst (λ (l : Link). Holds e screen (core l)) (sym step) (holds_mere e screen old (EncodingsMessage (map (λ encoding. number_of encoding) encodings)) tt h)
-link_holds e screen old new (OfKey down key) h step = subst (λ (l : Link). Holds e screen (core l)) (sym step) (holds_mere e screen old (KeyEvent down key) tt h)
-link_holds e screen old new (OfPointer buttons x y) h step = subst (λ (l : Link). Holds e screen (core l)) (sym step) (holds_mere e screen old (PointerEvent buttons x y) tt h)
-link_holds e screen old new (OfText text) h step = subst (λ (l : Link). Holds e screen (core l)) (sym step) (holds_mere e screen old (ClientCutText text) tt h)
-link_holds e screen old new OfComposing h (inl composed) = holds_composed e screen old new h composed
-link_holds e screen old new OfComposing h (inr idle) = subst (λ (l : Link). Holds e screen (core l)) (sym idle.1) h
+pub link_holds : (e : Ends) (screen : Grid Colour) (old new : Link) (event : LinkEvent) →
+    Holds e screen (core old) → LinkSteps e screen old event new → Holds e screen (core new)
+link_holds e screen old new (OfRequest incremental rect) h step =
+    subst (λ (l : Link). Holds e screen (core l)) (sym step)
+    (holds_request e screen old incremental rect h)
+link_holds e screen old new (OfFormat form) h step =
+    subst (λ (l : Link). Holds e screen (core l)) (sym step)
+    (holds_format e screen old form (begun old.at_viewer old.to_viewer) h)
+link_holds e screen old new (OfEncodings encodings) h step =
+    subst (λ (l : Link). Holds e screen (core l)) (sym step)
+    (holds_mere e screen old
+    (EncodingsMessage (map (λ encoding. number_of encoding) encodings)) tt h)
+link_holds e screen old new (OfKey down key) h step =
+    subst (λ (l : Link). Holds e screen (core l)) (sym step)
+    (holds_mere e screen old (KeyEvent down key) tt h)
+link_holds e screen old new (OfPointer buttons x y) h step =
+    subst (λ (l : Link). Holds e screen (core l)) (sym step)
+    (holds_mere e screen old (PointerEvent buttons x y) tt h)
+link_holds e screen old new (OfText text) h step =
+    subst (λ (l : Link). Holds e screen (core l)) (sym step)
+    (holds_mere e screen old (ClientCutText text) tt h)
+link_holds e screen old new OfComposing h (inl composed) =
+    holds_composed e screen old new h composed
+link_holds e screen old new OfComposing h (inr idle) =
+    subst (λ (l : Link). Holds e screen (core l)) (sym idle.1) h
 link_holds e screen old new (OfServer count) h moves = holds_to_server e screen old new _ h moves
 link_holds e screen old new (OfViewer count) h moves = holds_to_viewer e screen old new _ h moves
 
 -- of a fresh link
-pub first_holds : (e : Ends) (screen : Grid Colour) → screen.width ≡ e.serving.hello.width → screen.height ≡ e.serving.hello.height → Holds e screen (core (first_link e))
+pub first_holds : (e : Ends) (screen : Grid Colour) → screen.width ≡ e.serving.hello.width →
+    screen.height ≡ e.serving.hello.height → Holds e screen (core (first_link e))
 first_holds e screen wide high = record {
   wide = wide;
   high = high;
@@ -55,28 +72,49 @@ first_holds e screen wide high = record {
 }
 
 -- a screen of the same size may look as it likes
-pub drawn_holds : (e : Ends) (old new : Grid Colour) (c : Core) → new.width ≡ old.width → new.height ≡ old.height → Holds e old c → Holds e new c
-drawn_holds e old new c wide high h = record { wide = wide ∙ h.wide; high = high ∙ h.high; known_wide = h.known_wide; known_high = h.known_high; phase = h.phase; known = h.known; latest = h.latest }
+pub drawn_holds : (e : Ends) (old new : Grid Colour) (c : Core) → new.width ≡ old.width → new.height
+    ≡ old.height → Holds e old c → Holds e new c
+drawn_holds e old new c wide high h =
+    record {
+      wide = wide ∙ h.wide;
+      high = high ∙ h.high;
+      known_wide = h.known_wide;
+      known_high = h.known_high;
+      phase = h.phase;
+      known = h.known;
+      latest = h.latest;
+    }
 
 abbrev NetworkHolds : Ends → Network → Type 0
 NetworkHolds e n = Holds e n.screen (core n.link)
 
-draws_holds : (e : Ends) (Inside : Type 0) (f : ℕ → ℕ → Colour → Colour) (old new : Network) → NetworkHolds e old → Draws Inside (changed f old.screen) old new → NetworkHolds e new
+draws_holds : (e : Ends) (Inside : Type 0) (f : ℕ → ℕ → Colour → Colour) (old new : Network) →
+    NetworkHolds e old → Draws Inside (changed f old.screen) old new → NetworkHolds e new
 draws_holds e Inside f old new h (inl (inside, is)) =
-    subst (λ (n : Network). NetworkHolds e n) (sym is) (drawn_holds e old.screen (changed f old.screen) (core old.link) (width-changed f old.screen) (height-changed f old.screen) h)
-draws_holds e Inside f old new h (inr (outside, is)) = subst (λ (n : Network). NetworkHolds e n) (sym is) h
+    subst (λ (n : Network). NetworkHolds e n) (sym is)
+    (drawn_holds e old.screen (changed f old.screen) (core old.link)
+    (width-changed f old.screen) (height-changed f old.screen) h)
+draws_holds e Inside f old new h (inr (outside, is)) =
+    subst (λ (n : Network). NetworkHolds e n) (sym is) h
 
-on_link : (e : Ends) (event : LinkEvent) (old new : Network) → NetworkHolds e old → OnLink e event old new → NetworkHolds e new
-on_link e event old new h (same, step) = subst (λ (screen : Grid Colour). Holds e screen (core new.link)) (sym same) (link_holds e old.screen old.link new.link event h step)
+on_link : (e : Ends) (event : LinkEvent) (old new : Network) → NetworkHolds e old →
+    OnLink e event old new → NetworkHolds e new
+on_link e event old new h (same, step) =
+    subst (λ (screen : Grid Colour). Holds e screen (core new.link)) (sym same)
+    (link_holds e old.screen old.link new.link event h step)
 
-step_holds : (e : Ends) (old new : Network) (event : Event) → NetworkHolds e old → Steps e old event new → NetworkHolds e new
+step_holds : (e : Ends) (old new : Network) (event : Event) → NetworkHolds e old →
+    Steps e old event new → NetworkHolds e new
 step_holds e old new (Fill rect colour) h step = draws_holds e _ _ old new h step
 step_holds e old new (Put x y row) h step = draws_holds e _ _ old new h step
 step_holds e old new (Copy rect sx sy) h step = draws_holds e _ _ old new h step
-step_holds e old new (Hint rect sx sy) h step = subst (λ (n : Network). NetworkHolds e n) (sym step) h
-step_holds e old new (Request incremental rect) h step = on_link e (OfRequest incremental rect) old new h step
+step_holds e old new (Hint rect sx sy) h step =
+    subst (λ (n : Network). NetworkHolds e n) (sym step) h
+step_holds e old new (Request incremental rect) h step =
+    on_link e (OfRequest incremental rect) old new h step
 step_holds e old new (SetFormat form) h step = on_link e (OfFormat form) old new h step
-step_holds e old new (SetEncodings encodings) h step = on_link e (OfEncodings encodings.items) old new h step
+step_holds e old new (SetEncodings encodings) h step =
+    on_link e (OfEncodings encodings.items) old new h step
 step_holds e old new (Key down key) h step = on_link e (OfKey down key) old new h step
 step_holds e old new (Pointer buttons x y) h step = on_link e (OfPointer buttons x y) old new h step
 step_holds e old new (CutText text) h step = on_link e (OfText text.items) old new h step
@@ -84,14 +122,18 @@ step_holds e old new Compose h step = on_link e OfComposing old new h step
 step_holds e old new (ToServer count) h step = on_link e (OfServer count) old new h step
 step_holds e old new (ToViewer count) h step = on_link e (OfViewer count) old new h step
 
-steps_hold : (e : Ends) (old new : Network) (events : List Event) → NetworkHolds e old → StepsAll e old events new → NetworkHolds e new
+steps_hold : (e : Ends) (old new : Network) (events : List Event) → NetworkHolds e old →
+    StepsAll e old events new → NetworkHolds e new
 steps_hold e old new [] h is = subst (λ (n : Network). NetworkHolds e n) (sym is) h
-steps_hold e old new (event ∷ events) h (mid, step, steps) = steps_hold e mid new events (step_holds e old mid event h step) steps
+steps_hold e old new (event ∷ events) h (mid, step, steps) =
+    steps_hold e mid new events (step_holds e old mid event h step) steps
 
 pub reached_holds : (e : Ends) (n : Network) → IsReached e n → Holds e n.screen (core n.link)
 reached_holds e n r =
     let first = r.is_first in
-    let fresh : NetworkHolds e r.first = subst (λ (l : Link). Holds e r.first.screen (core l)) (sym first.link) (first_holds e r.first.screen first.width first.height) in
+    let fresh : NetworkHolds e r.first =
+    subst (λ (l : Link). Holds e r.first.screen (core l)) (sym first.link)
+    (first_holds e r.first.screen first.width first.height) in
     steps_hold e r.first n r.events fresh r.steps
 
 apart : (vp : ServerPoint) (p : UpdatePoint) (at : ServerAt) → at ≡ First vp → at ≡ Second p → ⊥
@@ -101,7 +143,8 @@ one_point : (p q : UpdatePoint) (at : ServerAt) → at ≡ Second p → at ≡ S
 one_point p q at one two = let same : p ≡ q = cc in ap (λ (r : UpdatePoint). r.form) same
 
 -- while an update is in flight both ends have one format
-agreed_now : (e : Ends) (c : Core) (p : UpdatePoint) → Phase e c → c.viewer.point ≡ Second p → (c.to_viewer ≡ [] → ⊥) → p.form ≡ c.session.form
+agreed_now : (e : Ends) (c : Core) (p : UpdatePoint) → Phase e c → c.viewer.point ≡ Second p →
+    (c.to_viewer ≡ [] → ⊥) → p.form ≡ c.session.form
 agreed_now e c p phase at some = by phase
   where
     early : (vp : ServerPoint) → c.viewer.point ≡ First vp → p.form ≡ c.session.form
@@ -123,8 +166,21 @@ agreed_now e c p phase at some = by phase
     by (Sent q m s) = one_point p q c.viewer.point at m.viewer_at ∙ sym s.formed
 
 pub headline_holds : (e : Ends) (n : Network) → IsReached e n → IsHeadline e n.link
-headline_holds e n r = let h = reached_holds e n r in record { known = h.known; latest = h.latest; agreed = λ p at some. agreed_now e (core n.link) p h.phase at some }
+headline_holds e n r =
+    let h = reached_holds e n r in record {
+      known = h.known;
+      latest = h.latest;
+      agreed = λ p at some. agreed_now e (core n.link) p h.phase at some;
+    }
 
 -- a fresh world is reached, whatever was drawn on its screen
-pub first_reached : (e : Ends) (screen : Grid Colour) → screen.width ≡ e.serving.hello.width → screen.height ≡ e.serving.hello.height → IsReached e (record { screen = screen; link = first_link e })
-first_reached e screen wide high = record { first = record { screen = screen; link = first_link e }; is_first = record { width = wide; height = high; link = refl }; events = []; steps = refl }
+pub first_reached : (e : Ends) (screen : Grid Colour) → screen.width ≡ e.serving.hello.width →
+    screen.height ≡ e.serving.hello.height →
+    IsReached e (record { screen = screen; link = first_link e })
+first_reached e screen wide high =
+    record {
+      first = record { screen = screen; link = first_link e };
+      is_first = record { width = wide; height = high; link = refl };
+      events = [];
+      steps = refl;
+    }

@@ -71,7 +71,8 @@ abbrev pub form_behind : PixelFormat → List FromClient → PixelFormat
 form_behind form [] = form
 form_behind form (item ∷ items) = form_behind (form_past form item) items
 
-pub form_append : (form : PixelFormat) (items : List FromClient) (last : FromClient) → form_behind form (items ++ last ∷ []) ≡ form_past (form_behind form items) last
+pub form_append : (form : PixelFormat) (items : List FromClient) (last : FromClient) →
+    form_behind form (items ++ last ∷ []) ≡ form_past (form_behind form items) last
 form_append form [] last = refl
 form_append form (item ∷ items) last = form_append (form_past form item) items last
 
@@ -84,9 +85,12 @@ mere_form form (Second (KeyEvent down key)) mere = refl
 mere_form form (Second (PointerEvent buttons x y)) mere = refl
 mere_form form (Second (ClientCutText text)) mere = refl
 
-pub mere_forms : (form : PixelFormat) (items : List FromClient) → AreMere items → form_behind form items ≡ form
+pub mere_forms : (form : PixelFormat) (items : List FromClient) → AreMere items →
+    form_behind form items ≡ form
 mere_forms form [] mere = refl
-mere_forms form (item ∷ items) mere = ap (λ (f : PixelFormat). form_behind f items) (mere_form form item mere.0) ∙ mere_forms form items mere.1
+mere_forms form (item ∷ items) mere =
+    ap (λ (f : PixelFormat). form_behind f items) (mere_form form item mere.0)
+    ∙ mere_forms form items mere.1
 
 pub mere_later : (item : FromClient) → IsMere item → IsLater item
 mere_later (First step) mere = mere
@@ -101,34 +105,44 @@ pub all_later : (items : List FromClient) → AreMere items → AreLater items
 all_later [] mere = tt
 all_later (item ∷ items) mere = (mere_later item mere.0, all_later items mere.1)
 
-pub mere_more : (items : List FromClient) (last : FromClient) → AreMere items → IsMere last → AreMere (items ++ last ∷ [])
+pub mere_more : (items : List FromClient) (last : FromClient) → AreMere items → IsMere last →
+    AreMere (items ++ last ∷ [])
 mere_more [] last mere one = (one, tt)
 mere_more (item ∷ items) last mere one = (mere.0, mere_more items last mere.1 one)
 
-pub later_more : (items : List FromClient) (last : FromClient) → AreLater items → IsLater last → AreLater (items ++ last ∷ [])
+pub later_more : (items : List FromClient) (last : FromClient) → AreLater items → IsLater last →
+    AreLater (items ++ last ∷ [])
 later_more [] last later one = (one, tt)
 later_more (item ∷ items) last later one = (later.0, later_more items last later.1 one)
 
-pub ask_more : (items : List FromClient) (last : FromClient) → AskOnce items → IsMere last → AskOnce (items ++ last ∷ [])
+pub ask_more : (items : List FromClient) (last : FromClient) → AskOnce items → IsMere last →
+    AskOnce (items ++ last ∷ [])
 ask_more [] last once one = absurd once
 ask_more (First step ∷ items) last once one = absurd once
 ask_more (Second (SetPixelFormat form) ∷ items) last once one = ask_more items last once one
 ask_more (Second (SetEncodings numbers) ∷ items) last once one = ask_more items last once one
-ask_more (Second (FramebufferUpdateRequest incremental rect) ∷ items) last once one = mere_more items last once one
+ask_more (Second (FramebufferUpdateRequest incremental rect) ∷ items) last once one =
+    mere_more items last once one
 ask_more (Second (KeyEvent down key) ∷ items) last once one = ask_more items last once one
 ask_more (Second (PointerEvent buttons x y) ∷ items) last once one = ask_more items last once one
 ask_more (Second (ClientCutText text) ∷ items) last once one = ask_more items last once one
 
 -- a request behind messages that are none
-pub asks_now : (items : List FromClient) (incremental : Bool) (rect : Rect) → AreLater items → AskOnce (items ++ Second (FramebufferUpdateRequest incremental rect) ∷ [])
+pub asks_now : (items : List FromClient) (incremental : Bool) (rect : Rect) → AreLater items →
+    AskOnce (items ++ Second (FramebufferUpdateRequest incremental rect) ∷ [])
 asks_now [] incremental rect later = tt
 asks_now (First step ∷ items) incremental rect later = absurd later.0
-asks_now (Second (SetPixelFormat form) ∷ items) incremental rect later = asks_now items incremental rect later.1
-asks_now (Second (SetEncodings numbers) ∷ items) incremental rect later = asks_now items incremental rect later.1
+asks_now (Second (SetPixelFormat form) ∷ items) incremental rect later =
+    asks_now items incremental rect later.1
+asks_now (Second (SetEncodings numbers) ∷ items) incremental rect later =
+    asks_now items incremental rect later.1
 asks_now (Second (FramebufferUpdateRequest i r) ∷ items) incremental rect later = absurd later.0
-asks_now (Second (KeyEvent down key) ∷ items) incremental rect later = asks_now items incremental rect later.1
-asks_now (Second (PointerEvent buttons x y) ∷ items) incremental rect later = asks_now items incremental rect later.1
-asks_now (Second (ClientCutText text) ∷ items) incremental rect later = asks_now items incremental rect later.1
+asks_now (Second (KeyEvent down key) ∷ items) incremental rect later =
+    asks_now items incremental rect later.1
+asks_now (Second (PointerEvent buttons x y) ∷ items) incremental rect later =
+    asks_now items incremental rect later.1
+asks_now (Second (ClientCutText text) ∷ items) incremental rect later =
+    asks_now items incremental rect later.1
 
 -- ---- items of an update to a viewer
 
@@ -137,7 +151,8 @@ abbrev pub IsRest : UpdatePoint → List FromServer → Type 0
 IsRest p [] = ⊥
 IsRest p (First step ∷ items) = ⊥
 IsRest p (Second item ∷ []) = is_last p item ≡ true
-IsRest p (Second item ∷ next ∷ items) = (is_last p item ≡ false) × IsRest (update_stream.past p item) (next ∷ items)
+IsRest p (Second item ∷ next ∷ items) =
+    (is_last p item ≡ false) × IsRest (update_stream.past p item) (next ∷ items)
 
 -- where no item changes the format and the size
 pub form_kept : (p : UpdatePoint) (item : UpdateItem) → (update_stream.past p item).form ≡ p.form
@@ -148,7 +163,8 @@ pub width_kept : (p : UpdatePoint) (item : UpdateItem) → (update_stream.past p
 unfolding update_stream
 width_kept p item = refl
 
-pub height_kept : (p : UpdatePoint) (item : UpdateItem) → (update_stream.past p item).height ≡ p.height
+pub height_kept : (p : UpdatePoint) (item : UpdateItem) → (update_stream.past p item).height
+    ≡ p.height
 unfolding update_stream
 height_kept p item = refl
 
@@ -159,7 +175,8 @@ none_test : (n : ℕ) → (n == 0) ≡ true → n ≡ 0
 none_test n e = grind (arith, nat_tests)
 
 -- behind the last item of an update no rectangle is left
-pub last_leaves_none : (p : UpdatePoint) (item : UpdateItem) → is_last p item ≡ true → (update_stream.past p item).left ≡ 0
+pub last_leaves_none : (p : UpdatePoint) (item : UpdateItem) → is_last p item ≡ true →
+    (update_stream.past p item).left ≡ 0
 unfolding update_stream
 last_leaves_none p (Message (FramebufferUpdate rectangles)) e = none_test rectangles e
 last_leaves_none p (Message (SetColorMapEntries first colors)) e = absurd cc
@@ -174,15 +191,24 @@ some_test : (n : ℕ) → (suc n == 0) ≡ false
 some_test n = grind (arith, nat_tests)
 
 -- as many rectangles as are left are what is left of an update
-rectangles_rest : (width height : ℕ) (form : PixelFormat) (s : SentRect) (sent : List SentRect) → IsRest (record { width = width; height = height; form = form; left = suc (length sent) }) (map (λ item. Second item) (map item_of (s ∷ sent)))
+rectangles_rest : (width height : ℕ) (form : PixelFormat) (s : SentRect) (sent : List SentRect) →
+    IsRest (record { width = width; height = height; form = form; left = suc (length sent) })
+    (map (λ item. Second item) (map item_of (s ∷ sent)))
 unfolding update_stream
 rectangles_rest width height form s [] = refl
 rectangles_rest width height form s (t ∷ sent) =
-    let less : suc (suc (length sent)) - 1 ≡ suc (length sent) = omega arith in
-    (more_test (length sent), subst (λ (left : ℕ). IsRest (record { width = width; height = height; form = form; left = left }) (map (λ item. Second item) (map item_of (t ∷ sent)))) (sym less) (rectangles_rest width height form t sent))
+    let less : suc (suc (length sent)) - 1 ≡ suc (length sent) = omega arith in (
+      more_test (length sent),
+      subst
+          (λ (left : ℕ). IsRest
+          (record { width = width; height = height; form = form; left = left })
+          (map (λ item. Second item) (map item_of (t ∷ sent)))) (sym less)
+          (rectangles_rest width height form t sent),
+    )
 
 -- a whole update is
-pub update_rest : (p : UpdatePoint) (sent : List SentRect) → IsRest p (map (λ item. Second item) (update_of sent))
+pub update_rest : (p : UpdatePoint) (sent : List SentRect) →
+    IsRest p (map (λ item. Second item) (update_of sent))
 unfolding update_stream
 update_rest p [] = refl
 update_rest p (s ∷ sent) = (some_test (length sent), rectangles_rest p.width p.height p.form s sent)

@@ -66,8 +66,8 @@ server_reply (Some (Key down key)) = []
 server_reply (Some (Pointer buttons x y)) = []
 server_reply (Some (ClientText kept text_length)) = []
 
--- bytes reached the viewer: the link moves by as many, the viewer is in the state that they lead to,
--- what is left is still in flight, and what it answers is in flight to the server
+-- bytes reached the viewer: the link moves by as many, the viewer is in the state that they lead
+-- to, what is left is still in flight, and what it answers is in flight to the server
 pub record ReachesViewer (e : Ends) (l : Link) (f : Flight) (bytes later : List ℕ)
     (event : Option ViewerTold) (t : ViewerState) (rest : List ℕ) : Type 0 where
   pub new : Link

@@ -11,4 +11,5 @@ pub returns-clause-viewer_joins : goal.returns-clause-viewer_joins
 returns-clause-viewer_joins c = viewer_moves_join
 
 pub returns-clause-server_joins : goal.returns-clause-server_joins
-returns-clause-server_joins c = λ e network b c' n m one two. server_moves_join e network.screen network.link b c' n m one two
+returns-clause-server_joins c =
+    λ e network b c' n m one two. server_moves_join e network.screen network.link b c' n m one two
