@@ -1,5 +1,5 @@
 -- A tile that is drawn over a background, or Raw, is sent as this project's rules have it.
-use Rattle.std.proofs.Common.{◌≡◌, ℕ, ◌+◌, ◌*◌, ◌/◌, ◌%◌, ◌<◌, ◌⊎◌, inl, inr, List, [], ◌∷◌, ◌++◌, true, false, Option, Some, None, length, slice_index, refl, sym, subst, ◌∙◌, ap, arith, length-append}
+use Rattle.std.proofs.Common.{◌≡◌, ℕ, ◌+◌, ◌*◌, ◌/◌, ◌%◌, ◌<◌, ◌≤◌, ◌⊎◌, inl, inr, List, [], ◌∷◌, ◌++◌, true, false, Option, Some, None, length, slice_index, refl, sym, subst, ◌∙◌, ap, arith, length-append}
 use Rattle.std.proofs.lemmas.Bool.{cases_lt}
 use Rattle.std.proofs.lemmas.List.{get_or_default, get_or_past}
 use Rattle.std.proofs.lemmas.Nat.{div-add-mod', mod_below, div_below, pow_pos}
@@ -41,6 +41,19 @@ tile_parts f w h pixels background (s ∷ subs) small parts = (
     high = parts.0.high;
   },
   tile_parts f w h pixels background subs small parts.1,
+)
+
+-- those of a smaller tile are some of a whole one
+pub small_parts : (f : PixelFormat) (w h : ℕ) (subs : List Subrect) → w ≤ 16 → h ≤ 16 → AreTileParts f w h subs → AreTileParts f 16 16 subs
+small_parts f w h [] narrow low parts = tt
+small_parts f w h (s ∷ subs) narrow low parts = (
+  record {
+    pixel = parts.0.pixel;
+    inside = (omega (arith, parts.0.inside.0), omega (arith, parts.0.inside.1));
+    wide = parts.0.wide;
+    high = parts.0.high;
+  },
+  small_parts f w h subs narrow low parts.1,
 )
 
 -- of two pixels each subrectangle has the one that is not the background

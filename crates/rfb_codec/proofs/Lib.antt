@@ -21,7 +21,7 @@ pub mod MaskFaultLaws
 pub mod TileLaws
 pub mod HextileLaws
 pub mod CoverLemmas
-pub mod ColoursLemmas
+pub mod PaletteLemmas
 pub mod PlacesLemmas
 pub mod TallyLemmas
 pub mod CountLemmas

@@ -12,7 +12,7 @@ use Rattle.rfb_codec.specs.UpdateStream.{UpdatePoint, UpdateItem, Message, Recta
 
 -- ---- the effect
 
--- what bytes that are read as data make of a picture: data and nothing behind them are painted
+-- what bytes that are read as data make of a picture: data and nothing after them are painted
 abbrev pub painted_by : PixelFormat → Rect → Next RectData PaintFault → Grid Colour → Grid Colour
 painted_by f rect More picture = picture
 painted_by f rect (Got contents []) picture = painted f rect contents picture
@@ -25,7 +25,7 @@ effect p (Message message) picture = picture
 effect p (Rectangle head body) picture =
     painted_by p.form head.rect (rect_data p.form p.width p.height head.rect head.encoding body) picture
 
--- what items make of it, one behind another. Where in the stream they stand does not matter, but
+-- what items make of it, one after another. Where in the stream they stand does not matter, but
 -- for the screen's size and the format, which no item changes
 abbrev pub effects : UpdatePoint → List UpdateItem → Grid Colour → Grid Colour
 effects p [] picture = picture

@@ -46,7 +46,7 @@ tile_part width height n =
 
 -- ---- the data
 
--- a tile behind those before it in the rectangle
+-- a tile after those before it in the rectangle
 abbrev pub SpellsNextTile : PixelFormat → ℕ → ℕ → List Tile → Tile → List ℕ → Type 0
 SpellsNextTile f width height before tile bytes =
     let n = length before in
@@ -73,7 +73,7 @@ FaultsTile f width height before fault bytes =
     FaultsMask before fault bytes ⊎
     ((fault ≡ SubrectOutside) × LeavesTile f width height before bytes)
 
--- the bytes end in a tile's fault, behind good tiles
+-- the bytes end in a tile's fault, after good tiles
 pub record FaultsHextile (f : PixelFormat) (width height : ℕ) (fault : PaintFault) (bytes : List ℕ)
     : Type 0 where
   pub tiles : List Tile
@@ -87,7 +87,7 @@ pub record FaultsHextile (f : PixelFormat) (width height : ℕ) (fault : PaintFa
 
 -- ---- this project's rule for senders
 
--- the tiles behind the last one that specifies a colour; all, where none does
+-- the tiles after the last one that specifies a colour; all, where none does
 abbrev pub behind_last : (Tile → Option ℕ) → List Tile → List Tile
 behind_last colour [] = []
 behind_last colour (t ∷ tiles) =
@@ -116,7 +116,7 @@ abbrev pub NoneIs : (Tile → Bool) → List Tile → Type 0
 NoneIs test [] = Unit {0}
 NoneIs test (t ∷ tiles) = (test t ≡ false) × NoneIs test tiles
 
--- a tile behind others: where it is not raw and names no background, no raw one stands behind the
+-- a tile after others: where it is not raw and names no background, no raw one stands after the
 -- tile that specified it; where it uses a foreground and names none, no raw or coloured one does
 pub record KeepsRule (before : List Tile) (t : Tile) : Type 0 where
   pub background : is_raw_tile t ≡ false → background_of t ≡ None →
@@ -124,7 +124,7 @@ pub record KeepsRule (before : List Tile) (t : Tile) : Type 0 where
   pub foreground : uses_foreground t ≡ true → foreground_of t ≡ None →
       NoneIs is_raw_or_colored (behind_last foreground_of before)
 
--- each of the tiles keeps the rule behind those before it
+-- each of the tiles keeps the rule after those before it
 abbrev pub CarriesColours : List Tile → List Tile → Type 0
 CarriesColours before [] = Unit {0}
 CarriesColours before (t ∷ tiles) = KeepsRule before t × CarriesColours (before ++ t ∷ []) tiles
@@ -143,7 +143,7 @@ hextile f width height =
     (tile_height width height (length before)) before) [])
     (λ tiles. done (drawn width height (pixel_of_tiles f width tiles)))
 
--- a tile behind those before it in a rectangle of that size
+-- a tile after those before it in a rectangle of that size
 abbrev pub next_tile : PixelFormat → ℕ → ℕ → List Tile → Reading Tile PaintFault
 next_tile f width height before =
     tile_behind f (tile_width width (length before))

@@ -54,7 +54,7 @@ pub record LacksForeground (before : List Tile) (mask : ℕ) : Type 0 where
   pub unnamed : IsClear foreground_bit mask
   pub none : NoneSpecifies foreground_of before
 
--- the mask has this fault behind these tiles; a background that is missing comes before the others,
+-- the mask has this fault after these tiles; a background that is missing comes before the others,
 -- which never come together
 abbrev pub IsMaskFault : List Tile → ℕ → PaintFault → Type 0
 IsMaskFault before mask NoBackground = LacksBackground before mask

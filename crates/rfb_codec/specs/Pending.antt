@@ -1,4 +1,4 @@
--- Pending bytes of all that a server sends: those of an item under way that stand behind its last
+-- Pending bytes of all that a server sends: those of an item under way that stand after its last
 -- whole piece. Of a rectangle's data, RFC 6143 section 7.7, a piece is a pixel of Raw; the source
 -- of CopyRect; of RRE the count with the background, and a subrectangle; of Hextile a pixel of a
 -- raw tile, and any other tile with its mask.
@@ -27,13 +27,13 @@ tile_pending f [] = 0
 tile_pending f (mask ∷ rest) =
     if is_raw mask then in_pieces (size_of f) rest else length (mask ∷ rest)
 
--- how many are pending behind what was read of tiles: nothing of whole ones, and nothing of a fault
+-- how many are pending after what was read of tiles: nothing of whole ones, and nothing of a fault
 abbrev pub behind_tile : ℕ → (Tile → List ℕ → ℕ) → Next Tile PaintFault → ℕ
 behind_tile waiting later More = waiting
 behind_tile waiting later (Got tile rest) = later tile rest
 behind_tile waiting later (Bad fault) = 0
 
--- of so many tiles behind those before them: of the first that is not whole
+-- of so many tiles after those before them: of the first that is not whole
 abbrev pub tiles_pending : PixelFormat → ℕ → ℕ → ℕ → List Tile → List ℕ → ℕ
 tiles_pending f width height zero before bytes = 0
 tiles_pending f width height (suc left) before bytes =
@@ -51,7 +51,7 @@ data_pending f rect Rre bytes = behind_pieces (4 + size_of f) (size_of f + 8) by
 data_pending f rect Hextile bytes =
     tiles_pending f rect.w rect.h (tile_count rect.w rect.h) [] bytes
 
--- how many of these bytes are pending behind a head
+-- how many of these bytes are pending after a head
 abbrev pub pending_behind : PixelFormat → RectHead → List ℕ → ℕ
 pending_behind f head bytes = data_pending f head.rect head.encoding bytes
 

@@ -11,7 +11,7 @@ use Rattle.rfb_codec.specs.Pixels.{Shows, drawn}
 abbrev pub raw_length : PixelFormat → ℕ → ℕ → ℕ
 raw_length f width height = height * width * size_of f
 
--- the pixel of a place, behind those of the rows above and of the places to the left
+-- the pixel of a place, after those of the rows above and of the places to the left
 abbrev pub raw_pixel : PixelFormat → ℕ → List ℕ → ℕ → ℕ → ℕ
 raw_pixel f width bytes x y = pixel_number f (drop ((y * width + x) * size_of f) bytes)
 

@@ -67,7 +67,7 @@ FaultsData f width height rect Rre fault bytes =
     (fault ≡ SubrectOutside) × LeavesAtEnd f rect.w rect.h bytes
 FaultsData f width height rect Hextile fault bytes = FaultsHextile f rect.w rect.h fault bytes
 
--- what the bytes behind a head say
+-- what the bytes after a head say
 abbrev pub data_says : PixelFormat → ℕ → ℕ → Rect → Encoding → Says RectData PaintFault
 data_says f width height rect encoding =
     record {

@@ -1,4 +1,4 @@
--- A tile of Hextile, RFC 6143 section 7.7.4: its mask, what stands behind it, and the faults of
+-- A tile of Hextile, RFC 6143 section 7.7.4: its mask, what stands after it, and the faults of
 -- both. Colours that are carried from tile to tile past a raw or a coloured one are this project's
 -- choice.
 use Rattle.std.specs.Prelude.{◌≡◌, ℕ, ◌+◌, ◌-◌, ◌*◌, ◌/◌, ◌%◌, ◌≤◌, ◌<◌, ◌==◌, ◌&&◌, not, Bool, true, false, List, [], ◌∷◌, ◌++◌, length, drop, map, Option, Some, None, bit_and, if◌then◌else◌}
@@ -89,7 +89,7 @@ abbrev pub is_missing : Option ℕ → Bool
 is_missing None = true
 is_missing (Some colour) = false
 
--- the fault of a mask behind these tiles, if it has one: no background to draw over; both bits that
+-- the fault of a mask after these tiles, if it has one: no background to draw over; both bits that
 -- say where the subrectangles' pixels are; no foreground for subrectangles that have none of their
 -- own
 abbrev pub mask_fault : List Tile → ℕ → Option PaintFault
@@ -146,7 +146,7 @@ pub record SpellsColored (f : PixelFormat) (s : Subrect) (bytes : List ℕ) : Ty
   pub place_is : SpellsPlace s.rect (drop (size_of f) bytes)
 
 module _ {A : Type 0} where
-  -- so many items behind a byte that counts them
+  -- so many items after a byte that counts them
   pub record Counted (R : A → List ℕ → Type 0) (items : List A) (bytes : List ℕ) : Type 0 where
     pub head : List ℕ
     pub list : List ℕ
@@ -160,7 +160,7 @@ module _ {A : Type 0} where
   CountedIf false R items bytes = (items ≡ []) × (bytes ≡ [])
   CountedIf true R items bytes = Counted R items bytes
 
--- behind a mask without SubrectsColored: the background and the foreground where specified, and
+-- after a mask without SubrectsColored: the background and the foreground where specified, and
 -- places
 pub record SpellsPlain (f : PixelFormat) (mask : ℕ) (background foreground : Option ℕ)
     (places : List Rect) (bytes : List ℕ) : Type 0 where
@@ -172,7 +172,7 @@ pub record SpellsPlain (f : PixelFormat) (mask : ℕ) (background foreground : O
   pub foreground_is : Optionally (foreground_specified mask) (SpellsPixel f) foreground second
   pub places_are : CountedIf (any_subrects mask) SpellsPlace places third
 
--- behind one with it: the background where specified, and subrectangles with their pixels
+-- after one with it: the background where specified, and subrectangles with their pixels
 pub record SpellsColoredTile (f : PixelFormat) (mask : ℕ) (background : Option ℕ)
     (subs : List Subrect) (bytes : List ℕ) : Type 0 where
   pub first : List ℕ
@@ -181,7 +181,7 @@ pub record SpellsColoredTile (f : PixelFormat) (mask : ℕ) (background : Option
   pub background_is : Optionally (background_specified mask) (SpellsPixel f) background first
   pub subs_are : CountedIf (any_subrects mask) (SpellsColored f) subs second
 
--- the bytes behind the mask of a tile of that size
+-- the bytes after the mask of a tile of that size
 abbrev pub SpellsBehind : PixelFormat → ℕ → ℕ → ℕ → Tile → List ℕ → Type 0
 SpellsBehind f width height mask (RawTile pixels) bytes =
     (is_raw mask ≡ true) × (bytes ≡ pixels) × (length bytes ≡ raw_length f width height)
@@ -192,7 +192,7 @@ SpellsBehind f width height mask (ColoredTile background subs) bytes =
     (is_raw mask ≡ false) × (subrects_colored mask ≡ true) ×
     SpellsColoredTile f mask background subs bytes
 
--- a tile of that size behind others: its mask, which is good there, and what follows it
+-- a tile of that size after others: its mask, which is good there, and what follows it
 pub record SpellsTile (f : PixelFormat) (width height : ℕ) (before : List Tile) (tile : Tile)
     (bytes : List ℕ) : Type 0 where
   pub head : List ℕ
@@ -234,7 +234,7 @@ abbrev pub colored_of : PixelFormat → List ℕ → Subrect
 colored_of f bytes =
     record { pixel = pixel_number f bytes; rect = place_of (drop (size_of f) bytes) }
 
--- so many parts behind a byte that counts them, or none
+-- so many parts after a byte that counts them, or none
 abbrev pub counted : {A : Type 0} → Bool → Reading A PaintFault → Reading (List A) PaintFault
 counted false p = done []
 counted true p = and_then (valued 1 (u8_at 0)) (λ count. many count p)

@@ -1,4 +1,4 @@
--- All that a server sends behind the handshake, RFC 6143 section 7.6: messages, and behind the head
+-- All that a server sends after the handshake, RFC 6143 section 7.6: messages, and after the head
 -- of an update its rectangles with their data.
 use Rattle.std.specs.Prelude.{◌≡◌, ℕ, zero, suc, ◌+◌, ◌-◌, List, ◌++◌, length}
 use Rattle.rfb_pixel.specs.Format.{PixelFormat}
@@ -93,7 +93,7 @@ abbrev pub next_item : UpdatePoint → ℕ → Reading UpdateItem UpdateFault
 next_item p zero = renamed (λ message. Message message) (λ fault. InMessage fault) server_message
 next_item p (suc left) = rectangle p
 
--- how many rectangles are left behind an item
+-- how many rectangles are left after an item
 abbrev pub left_behind : ℕ → UpdateItem → ℕ
 left_behind left (Message (FramebufferUpdate rectangles)) = rectangles
 left_behind left (Message (SetColorMapEntries first colors)) = left

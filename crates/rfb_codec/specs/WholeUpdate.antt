@@ -18,7 +18,7 @@ pub record SentRect : Type 0 where
 abbrev pub item_of : SentRect → UpdateItem
 item_of sent = Rectangle sent.head sent.body
 
--- the bytes are these rectangles one behind another, all on the screen and with data of their heads
+-- the bytes are these rectangles one after another, all on the screen and with data of their heads
 abbrev pub SpellsRectangles : UpdatePoint → List SentRect → List ℕ → Type 0
 SpellsRectangles p sent bytes =
     Listed (λ (s : SentRect). SpellsRectangle p s.head s.body) sent bytes
@@ -36,7 +36,7 @@ pub record SpellsWholeUpdate (p : UpdatePoint) (sent : List SentRect) (bytes : L
 abbrev pub update_of : List SentRect → List UpdateItem
 update_of sent = Message (FramebufferUpdate (length sent)) ∷ map item_of sent
 
--- what is known once these rectangles were sent one behind another, each with what its data say
+-- what is known once these rectangles were sent one after another, each with what its data say
 abbrev pub AreNoted : UpdatePoint → List SentRect → Grid (Option ℕ) → Grid (Option ℕ) → Type 0
 AreNoted p [] known now = now ≡ known
 AreNoted p (s ∷ sent) known now =

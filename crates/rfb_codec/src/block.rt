@@ -26,7 +26,7 @@ pub const PLACES: usize = SIDE * SIDE;
 pub struct Block {
     width: u16,
     height: u16,
-    // Those of its places, and behind them what was left of other blocks.
+    // Those of its places, and after them what was left of other blocks.
     pixels: [u32; PLACES],
 }
 

@@ -32,7 +32,7 @@ pub fn data_are_spelled()
         (contents ≡ other) × (rest ≡ []) }
 {}
 
-/// Reading all that a server sends behind the handshake gives exactly the messages and the
+/// Reading all that a server sends after the handshake gives exactly the messages and the
 /// rectangles that its bytes spell, and exactly the faults that they end in, whatever follows.
 pub fn updates_are_spelled()
     ensures stream { IsSpelled update_stream update_says }

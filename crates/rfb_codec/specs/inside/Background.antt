@@ -4,7 +4,7 @@ use Rattle.std.specs.Prelude.{◌≡◌, ◌≢◌, ℕ, ◌*◌, ◌/◌, ◌%�
 use Rattle.rfb_codec.specs.declared.choice.background.Stop.{Stop}
 use Rattle.rfb_codec.specs.declared.choice.background.Stop.TheVariants.{Pixels, Room}
 use Rattle.rfb_codec.specs.inside.Cover.{IsPixelOf}
-use Rattle.rfb_codec.specs.inside.Colours.{places_of}
+use Rattle.rfb_codec.specs.inside.Palette.{places_of}
 
 -- it is the pixel that the most places have, and the least of those that as many have
 pub record IsBackground (pixels : List ℕ) (pixel : ℕ) : Type 0 where

@@ -10,7 +10,7 @@ use Rattle.rfb_codec.specs.inside.TileSpelling.{tile_of, tile_bytes}
 use Rattle.rfb_codec.specs.Hextile.{behind_last, is_raw_tile, is_raw_or_colored, NoneIs, KeepsRule}
 
 -- the last of the tiles that specify that colour specified this one, and none that stops it stands
--- behind
+-- after
 pub record IsCarried (colour : Tile → Option ℕ) (stops : Tile → Bool) (before : List Tile)
     (value : ℕ) : Type 0 where
   pub in_force : last_of colour before ≡ Some value
@@ -31,7 +31,7 @@ abbrev pub IsNamed : Option ℕ → Option ℕ → ℕ → Type 0
 IsNamed None held value = held ≡ Some value
 IsNamed (Some named) held value = named ≡ value
 
--- the bytes are a tile behind those before, which keeps the rule, shows the pixels, and leaves
+-- the bytes are a tile after those before, which keeps the rule, shows the pixels, and leaves
 -- colours
 pub record IsSent (f : PixelFormat) (w h : ℕ) (before : List Tile) (tile : Tile)
     (bytes pixels : List ℕ) (leaves : Carried) : Type 0 where
@@ -42,7 +42,7 @@ pub record IsSent (f : PixelFormat) (w h : ℕ) (before : List Tile) (tile : Til
       tile_pixel f w (before ++ tile ∷ []) tile x y ≡ slice_index pixels (y * w + x)
   pub left : Remembers (before ++ tile ∷ []) leaves
 
--- a tile of that size that is sent so is one, behind whichever tiles leave those colours to it
+-- a tile of that size that is sent so is one, after whichever tiles leave those colours to it
 abbrev pub Sends : PixelFormat → ℕ → ℕ → TileLayout → List ℕ → List Subrect → Carried → Carried →
     Type 0
 Sends f w h layout pixels subs carried leaves =

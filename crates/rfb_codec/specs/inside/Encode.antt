@@ -7,7 +7,7 @@ use Rattle.rfb_picture.specs.Grid.{Grid, at_or}
 use Rattle.rfb_wire.specs.Fields.{rect_bytes}
 use Rattle.rfb_codec.specs.declared.subrect.Subrect.{Subrect}
 
--- of the first rows of a rectangle of a picture, one behind another, each place has its colour's
+-- of the first rows of a rectangle of a picture, one after another, each place has its colour's
 -- pixel
 abbrev pub PacksRows : PixelFormat → Grid Colour → Rect → ℕ → List ℕ → Type 0
 PacksRows f picture rect rows pixels = (x y : ℕ) (d : Colour) → x < rect.w → y < rows →

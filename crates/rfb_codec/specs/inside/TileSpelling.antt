@@ -48,7 +48,7 @@ colour_bytes f (Some colour) = pixel_bytes f colour
 abbrev pub place_bytes : Subrect → List ℕ
 place_bytes s = (s.rect.x * 16 + s.rect.y) ∷ ((s.rect.w - 1) * 16 + (s.rect.h - 1)) ∷ []
 
--- the same behind its pixel
+-- the same after its pixel
 abbrev pub colored_bytes : PixelFormat → Subrect → List ℕ
 colored_bytes f s = pixel_bytes f s.pixel ++ place_bytes s
 

@@ -4,6 +4,11 @@ use super::*;
 use std::alloc::AllocError;
 use std::result::Result;
 
+// Whether it has that size and those pixels.
+fn has(block: &Block, width: u16, height: u16, pixels: &[u32]) -> bool {
+    block.width() == width && block.height() == height && block.pixels() == pixels
+}
+
 #[test]
 fn a_block_has_the_size_and_the_pixels_that_it_was_made_with(rt: HostRuntime) {
     let mut pixels = ArrayVec::new();
@@ -12,8 +17,7 @@ fn a_block_has_the_size_and_the_pixels_that_it_was_made_with(rt: HostRuntime) {
     }
     if pixels.len() == 6 {
         let block = Block::new(3, 2, pixels);
-        assert_eq!(rt; (block.width(), block.height()), (3, 2));
-        assert_eq!(rt; block.pixels(), [7, 8, 9, 10, 11, 12].as_slice());
+        assert!(rt; has(&block, 3, 2, &[7, 8, 9, 10, 11, 12]));
     }
 }
 
@@ -35,15 +39,14 @@ fn a_block_is_packed_again_and_again(rt: HostRuntime) -> Result<(), AllocError> 
     if picture.holds(all) && picture.holds(part) {
         picture.put_row(2, 1, &[Colour { r: 4, g: 5, b: 6 }]);
         let mut block = Block::single(7);
-        assert_eq!(rt; (block.width(), block.height(), block.at(0, 0)), (1, 1, 7));
+        assert!(rt; has(&block, 1, 1, &[7]));
         block.pack(&Format::rgb888(), &picture, all);
-        assert_eq!(rt; (block.width(), block.height()), (3, 2));
-        assert_eq!(rt; block.row(0), [0x01_0203; 3].as_slice());
-        assert_eq!(rt; block.row(1), [0x01_0203, 0x01_0203, 0x04_0506].as_slice());
+        let (old, new) = (0x01_0203, 0x04_0506);
+        assert!(rt; has(&block, 3, 2, &[old, old, old, old, old, new]));
+        assert!(rt; block.row(1) == [old, old, new].as_slice());
         block.pack(&Format::rgb888(), &picture, part);
-        assert_eq!(rt; (block.width(), block.height()), (2, 1));
-        assert_eq!(rt; block.row(0), [0x01_0203, 0x04_0506].as_slice());
-        assert_eq!(rt; block.at(1, 0), 0x04_0506);
+        assert!(rt; has(&block, 2, 1, &[old, new]));
+        assert!(rt; block.at(1, 0) == new);
     }
     Ok(())
 }

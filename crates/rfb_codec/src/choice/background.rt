@@ -118,8 +118,8 @@ fn put_aside<const ROOM: usize>(aside: &mut ArrayVec<u32, ROOM>, pixel: u32, cou
     true
 }
 
-// Whether a pixel that `count` places have comes before `better`, which `most` have.
-fn leads(count: usize, pixel: u32, most: usize, better: u32) -> bool
+/// Whether a pixel that `count` places have comes before `better`, which `most` have.
+pub fn leads(count: usize, pixel: u32, most: usize, better: u32) -> bool
     ensures yes { OnTrue result (Leads count pixel most better) }
     ensures no { OnFalse result ((count ≤ most) × (count ≡ most → better ≤ pixel)) }
 {

@@ -143,7 +143,7 @@ fn run_end(pixels: &[u32], until: &[usize], width: usize, x: usize, y: usize) ->
     width
 }
 
-// The row behind the last that has the pixel of (x, y) from column x up to `right`, from row y on.
+// The row after the last that has the pixel of (x, y) from column x up to `right`, from row y on.
 fn lower_end(pixels: &[u32], width: usize, height: usize, x: usize, right: usize, y: usize) -> usize
     requires whole { length pixels.now ≡ height * width }
     requires run { (x < right) × (right ≤ width) }

@@ -76,6 +76,32 @@ pub(crate) fn encoded<C: Codec>(
     Ok((done, out))
 }
 
+/// The most frequent pixel, the least of those.
+pub(crate) fn most_frequent(pixels: &[u32]) -> u32 {
+    let mut best = 0;
+    let mut most = 0;
+    for pixel in pixels {
+        let count = pixels.iter().filter(|other| **other == *pixel).count();
+        if most < count || (most == count && *pixel < best) {
+            best = *pixel;
+            most = count;
+        }
+    }
+    best
+}
+
+/// The next list of pixels below `values`, if this was not the last.
+pub(crate) fn count_up(pixels: &mut [u32], values: u32) -> bool {
+    for pixel in pixels.iter_mut() {
+        if pixel.wrapping_add(1) < values {
+            *pixel = pixel.wrapping_add(1);
+            return true;
+        }
+        *pixel = 0;
+    }
+    false
+}
+
 #[test]
 fn each_codec_has_its_number(rt: HostRuntime) {
     assert_eq!(rt; crate::Raw::NUMBER, 0);

@@ -10,8 +10,8 @@ ghost use Rattle.rfb_codec.specs.Codec.{Appends, raw_of};
 
 mod carried;
 mod choosing;
-mod colours;
 mod cutting;
+mod palette;
 mod pieces;
 mod spelling;
 
@@ -85,7 +85,7 @@ fn spell(block: &Block, format: &Format, out: &mut Vec<u8>) -> bool
             return false;
         }
         bytes.clear();
-        append(format, layout, part, width, height, &subs, &mut bytes);
+        append(format, layout, part, &subs, &mut bytes);
         append_within(out, bytes.as_slice());
     }
     true

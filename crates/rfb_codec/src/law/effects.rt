@@ -23,7 +23,7 @@ pub fn an_item_has_the_effect_of_its_data()
         effect p (Message message) picture ≡ picture }
 {}
 
-/// The effect of items is that of one behind another, wherever in an update they stand.
+/// The effect of items is that of one after another, wherever in an update they stand.
 pub fn effects_follow_one_another()
     ensures none { (p : UpdatePoint) (picture : Grid Colour) → effects p [] picture ≡ picture }
     ensures one { (p : UpdatePoint) (item : UpdateItem) (picture : Grid Colour) →

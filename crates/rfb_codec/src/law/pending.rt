@@ -1,4 +1,4 @@
-//! Laws of pending bytes in all that a server sends: those of an item under way that stand behind
+//! Laws of pending bytes in all that a server sends: those of an item under way that stand after
 //! its last whole piece.
 
 ghost use Rattle.std.specs.Prelude.{◌≡◌, ℕ, ◌+◌, ◌*◌, ◌<◌, ◌≤◌, List, [], ◌∷◌, ◌++◌, length, true, false};
@@ -57,7 +57,7 @@ pub fn a_tile_is_pending_by_its_mask()
 {}
 
 /// Where no rectangle is left of an update a message is pending; else a rectangle's head, and
-/// behind it what is of its data. At most 1,535 bytes are pending, and no more than came.
+/// after it what is of its data. At most 1,535 bytes are pending, and no more than came.
 pub fn update_pending_follows_the_last_piece()
     ensures message { (p : UpdatePoint) (bytes : List ℕ) →
         p.left ≡ 0 → update_pending p bytes ≡ server_pending bytes }

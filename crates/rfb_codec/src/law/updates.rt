@@ -15,7 +15,7 @@ ghost use Rattle.rfb_codec.specs.WholeUpdate.{SentRect, item_of, SpellsWholeUpda
 ghost use Rattle.rfb_codec.specs.Painter.{data_of, painting_of, AwaitsData};
 
 /// The bytes of an update are read as its head and its rectangles, and bytes that are read so are
-/// such bytes. Behind an update none of its rectangles is left.
+/// such bytes. After an update none of its rectangles is left.
 pub fn an_update_is_its_rectangles()
     ensures read { (p : UpdatePoint) (sent : List SentRect) (bytes : List ℕ) →
         p.left ≡ 0 → SpellsWholeUpdate p sent bytes →
@@ -26,8 +26,8 @@ pub fn an_update_is_its_rectangles()
         past_all update_stream p (update_of sent) ≡ record p { left = 0 } }
 {}
 
-/// A picture that agrees with what is known agrees behind an update's rectangles with what these
-/// make known, one behind another.
+/// A picture that agrees with what is known agrees after an update's rectangles with what these
+/// make known, one after another.
 pub fn agreement_is_kept_by_an_update()
     ensures { (p : UpdatePoint) (sent : List SentRect) (picture : Grid Colour)
         (known now : Grid (Option ℕ)) →
@@ -37,7 +37,7 @@ pub fn agreement_is_kept_by_an_update()
         Agrees p.form (effects p (map item_of sent) picture) now }
 {}
 
-/// The point behind a head, and behind a rectangle.
+/// The point after a head, and after a rectangle.
 pub fn rectangles_are_counted_down()
     ensures head { (p : UpdatePoint) (rectangles : ℕ) →
         update_stream.past p (Message (FramebufferUpdate rectangles)) ≡
@@ -57,7 +57,7 @@ pub fn messages_stand_between_updates()
         server_message bytes ≡ Bad fault → update_stream.next p bytes ≡ Bad (InMessage fault) }
 {}
 
-/// Behind a rectangle's head, what a painter tells of its data is what the stream says: the
+/// After a rectangle's head, what a painter tells of its data is what the stream says: the
 /// rectangle and its effect where they are all there, nothing where they wait, and their fault.
 pub fn a_rectangle_is_decided_by_its_data()
     ensures short { (p : UpdatePoint) (bytes : List ℕ) →

@@ -48,6 +48,21 @@ fn fed(
     Painter::new(rect, encoding, format).feed(bytes, picture)
 }
 
+// Whether data at bgr233 end after so many of the bytes.
+fn ends_after(
+    picture: &mut Picture<Colour>,
+    rect: Rect,
+    encoding: Encoding,
+    bytes: &[u8],
+    used: usize,
+) -> bool
+    requires { Holds picture.old rect }
+    ensures width { picture.new.width ≡ picture.old.width }
+    ensures height { picture.new.height ≡ picture.old.height }
+{
+    fed(picture, rect, encoding, Format::bgr233(), bytes) == done(used)
+}
+
 // CopyRect to the last three of four places, from the first on.
 const COPY: [u8; 4] = [0, 0, 0, 0];
 
@@ -129,19 +144,13 @@ fn an_empty_rectangle_paints_nothing(rt: HostRuntime) -> Result<(), Fail> {
         let rect = Rect { x, y: 1, w, h: 0 };
         let mut picture = Picture::new(rt.alloc(), 2, 1, GREEN)?;
         assert!(rt; picture.holds(rect));
-        let format = Format::bgr233();
-        let answer = fed(&mut picture, rect, Encoding::Raw, format, &[]);
-        assert_eq!(rt; answer, done(0));
+        assert!(rt; ends_after(&mut picture, rect, Encoding::Raw, &[], 0));
         let source = [0, 0, 0, 1, 0xFF];
-        let answer = fed(&mut picture, rect, Encoding::CopyRect, format, &source);
-        assert_eq!(rt; answer, done(4));
+        assert!(rt; ends_after(&mut picture, rect, Encoding::CopyRect, &source, 4));
         let head = [0, 0, 0, 0, 0x07, 0xFF];
-        let answer = fed(&mut picture, rect, Encoding::Rre, format, &head);
-        assert_eq!(rt; answer, done(5));
-        let answer = fed(&mut picture, rect, Encoding::Hextile, format, &[]);
-        assert_eq!(rt; answer, done(0));
-        let answer = fed(&mut picture, rect, Encoding::Hextile, format, &[0xFF]);
-        assert_eq!(rt; answer, done(0));
+        assert!(rt; ends_after(&mut picture, rect, Encoding::Rre, &head, 5));
+        assert!(rt; ends_after(&mut picture, rect, Encoding::Hextile, &[], 0));
+        assert!(rt; ends_after(&mut picture, rect, Encoding::Hextile, &[0xFF], 0));
         assert_eq!(rt; picture.row(0, 0, 2), [GREEN, GREEN].as_slice());
     }
     Ok(())

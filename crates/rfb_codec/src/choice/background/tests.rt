@@ -1,18 +1,25 @@
 //! The rule's ties and its counts, in both tables.
 
+ghost use Rattle.std.specs.Prelude.{◌<◌, ◌≤◌, length};
+
 use super::*;
+
+// Whether that is the background, however many pixels differ.
+fn is_background(pixels: &[u32], wanted: u32) -> bool
+    requires some { 0 < length pixels.now }
+    requires few { length pixels.now ≤ PLACES }
+{
+    background_of(pixels, PLACES) == Some(wanted)
+}
 
 #[test]
 fn the_least_of_the_most_frequent_pixels_is_chosen(rt: HostRuntime) {
-    assert_eq!(rt; background_of(&[5, 3], 4096), Some(3));
-    assert_eq!(rt; background_of(&[3, 5], 4096), Some(3));
-    assert_eq!(rt; background_of(&[9], 4096), Some(9));
-    assert_eq!(rt; background_of(&[1, 2, 2, 1, 2], 4096), Some(2));
-    assert_eq!(rt; background_of(&[2, 2, 1, 1, 3], 4096), Some(1));
-    assert_eq!(rt;
-        background_of(&[4, 4, 1, 4, 1, 1, 0xFFFF_FFFF], 4096),
-        Some(1)
-    );
+    assert!(rt; is_background(&[5, 3], 3));
+    assert!(rt; is_background(&[3, 5], 3));
+    assert!(rt; is_background(&[9], 9));
+    assert!(rt; is_background(&[1, 2, 2, 1, 2], 2));
+    assert!(rt; is_background(&[2, 2, 1, 1, 3], 1));
+    assert!(rt; is_background(&[4, 4, 1, 4, 1, 1, 0xFFFF_FFFF], 1));
 }
 
 #[test]
@@ -21,26 +28,28 @@ fn runs_far_apart_count_as_one_pixel(rt: HostRuntime) {
     for i in 0..2048 {
         pixels[2 * i] = 0x0100_0000 + i as u32;
     }
-    assert_eq!(rt; background_of(&pixels, 4096), Some(7));
+    assert!(rt; is_background(&pixels, 7));
     pixels[1] = 0;
     pixels[2] = 0;
-    assert_eq!(rt; background_of(&pixels, 4096), Some(7));
+    assert!(rt; is_background(&pixels, 7));
 }
 
-// Pixels from 5000 on down.
-fn falling<const N: usize>() -> [u32; N] {
-    let mut pixels = [0; N];
+// Gives the places pixels from 5000 on down.
+fn fall(pixels: &mut [u32]) {
     let mut next = 5000u32;
-    for pixel in pixels.iter_mut() {
+    for pixel in pixels {
         *pixel = next;
         next = next.saturating_sub(1);
     }
-    pixels
 }
 
 #[test]
 fn pixels_that_all_differ_have_the_least_as_background(rt: HostRuntime) {
-    assert_eq!(rt; background_of(&falling::<256>(), 4096), Some(4745));
-    assert_eq!(rt; background_of(&falling::<257>(), 4096), Some(4744));
-    assert_eq!(rt; background_of(&falling::<4096>(), 4096), Some(905));
+    let (mut few, mut more, mut all) = ([0; 256], [0; 257], [0; 4096]);
+    fall(&mut few);
+    fall(&mut more);
+    fall(&mut all);
+    assert!(rt; is_background(&few, 4745));
+    assert!(rt; is_background(&more, 4744));
+    assert!(rt; is_background(&all, 905));
 }

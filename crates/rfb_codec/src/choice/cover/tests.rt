@@ -1,5 +1,7 @@
 //! The rule at small blocks, worked out by hand.
 
+ghost use Rattle.std.specs.Prelude.{◌≤◌};
+
 use super::*;
 
 const A: u32 = 0;
@@ -14,35 +16,35 @@ fn dark(x: u16, y: u16, w: u16, h: u16) -> Subrect {
     }
 }
 
+// Whether two rows of four places over pixel B are covered by those alone.
+fn is_covered_by(pixels: &[u32; 8], wanted: &[Subrect]) -> bool {
+    let mut subs: ArrayVec<Subrect, 8> = ArrayVec::new();
+    cover(pixels, 4, 2, B, 8, &mut subs) && subs.as_slice() == wanted
+}
+
 #[test]
 fn two_columns_of_unlike_height_are_two_subrectangles(rt: HostRuntime) {
-    let pixels = [A, B, B, A, A, B, B, B];
-    let mut subs: ArrayVec<Subrect, 8> = ArrayVec::new();
-    assert!(rt; cover(&pixels, 4, 2, B, 8, &mut subs));
-    assert_eq!(rt;
-        subs.as_slice(),
-        [dark(0, 0, 1, 2), dark(3, 0, 1, 1)].as_slice()
-    );
+    let wanted = [dark(0, 0, 1, 2), dark(3, 0, 1, 1)];
+    assert!(rt; is_covered_by(&[A, B, B, A, A, B, B, B], &wanted));
 }
 
 #[test]
 fn a_run_goes_down_as_far_as_all_of_it_does(rt: HostRuntime) {
-    let pixels = [B, A, A, A, B, B, A, A, B, B, B, A, A, A, A];
+    let wanted = [dark(1, 0, 3, 1), dark(1, 1, 2, 1)];
+    assert!(rt; is_covered_by(&[B, A, A, A, B, A, A, B], &wanted));
+}
+
+// Whether a row of five places, of which every second one has pixel A, is covered.
+fn is_row_covered(background: u32, limit: usize) -> bool
+    requires { limit ≤ 8 }
+{
     let mut subs: ArrayVec<Subrect, 8> = ArrayVec::new();
-    assert!(rt; cover(&pixels, 5, 3, B, 8, &mut subs));
-    assert_eq!(rt;
-        subs.as_slice(),
-        [dark(1, 0, 3, 1), dark(1, 1, 2, 2), dark(3, 2, 2, 1)].as_slice()
-    );
+    cover(&[A, B, A, B, A], 5, 1, background, limit, &mut subs)
 }
 
 #[test]
 fn it_gives_up_beyond_the_limit(rt: HostRuntime) {
-    let pixels = [A, B, A, B, A];
-    let mut subs: ArrayVec<Subrect, 8> = ArrayVec::new();
-    assert!(rt; !cover(&pixels, 5, 1, B, 2, &mut subs));
-    let mut subs: ArrayVec<Subrect, 8> = ArrayVec::new();
-    assert!(rt; cover(&pixels, 5, 1, B, 3, &mut subs));
-    let mut subs: ArrayVec<Subrect, 8> = ArrayVec::new();
-    assert!(rt; !cover(&pixels, 5, 1, 7, 4, &mut subs));
+    assert!(rt; !is_row_covered(B, 2));
+    assert!(rt; is_row_covered(B, 3));
+    assert!(rt; !is_row_covered(7, 4));
 }

@@ -6,7 +6,7 @@ ghost use Rattle.rfb_codec.specs.inside.TileSpelling.{AreTileParts};
 ghost use Rattle.rfb_codec.specs.inside.Carried.{Sends};
 
 use super::carried::{Carried, named};
-use super::colours::{Colours, colours_of};
+use super::palette::{Palette, palette_of};
 use super::spelling::spelled_length;
 use crate::choice::background::background_of;
 use crate::choice::cover::cover;
@@ -47,7 +47,7 @@ pub fn choose(
     requires pixels { (i : ℕ) → IsPixel format.now (slice_index pixels.now i) }
     ensures sends { Sends format.now width height result
         pixels.now subs.new.items carried.old carried.new }
-    ensures parts { AreTileParts format.now width height subs.new.items }
+    ensures parts { AreTileParts format.now 16 16 subs.new.items }
 {
     let raw = 1 + pixels.len() * format.size();
     if let Some(choice) = over_background(format, pixels, width, height, *carried, subs) {
@@ -82,12 +82,12 @@ fn over_background(
     requires pixels { (i : ℕ) → IsPixel format.now (slice_index pixels.now i) }
     ensures sends { IfSome result (λ choice. Sends format.now width height choice.layout
         pixels.now subs.new.items carried choice.leaves) }
-    ensures parts { IfSome result (λ choice. AreTileParts format.now width height subs.new.items) }
+    ensures parts { IfSome result (λ choice. AreTileParts format.now 16 16 subs.new.items) }
 {
     subs.clear();
     let room = pixels.len() * format.size();
-    match colours_of(pixels) {
-        Colours::One(background) => Some(Choice {
+    match palette_of(pixels) {
+        Palette::One(background) => Some(Choice {
             layout: TileLayout::Plain {
                 background: named(carried.background, background),
                 foreground: None,
@@ -97,7 +97,7 @@ fn over_background(
                 foreground: carried.foreground,
             },
         }),
-        Colours::Two {
+        Palette::Two {
             background,
             foreground,
         } => {
@@ -122,7 +122,7 @@ fn over_background(
                 },
             })
         }
-        Colours::More => {
+        Palette::More => {
             let limit = MAX_SUBRECTS.min(room / (format.size() + 2));
             let background = background_of(pixels, limit + 1)?;
             if !cover(pixels, width, height, background, limit, subs) {

@@ -75,50 +75,32 @@ pub fn append_count(subs: &TileSubrects, tile: &mut TileBytes)
 }
 
 /// Appends the places of subrectangles.
-pub fn append_places(
-    format: &Format,
-    subs: &TileSubrects,
-    width: usize,
-    height: usize,
-    tile: &mut TileBytes,
-)
-    requires parts { AreTileParts format.now width height subs.now.items }
-    requires columns { width ≤ 16 }
-    requires rows { height ≤ 16 }
+pub fn append_places(format: &Format, subs: &TileSubrects, tile: &mut TileBytes)
+    requires parts { AreTileParts format.now 16 16 subs.now.items }
     requires room { array_vec_len tile.old + length subs.now.items * 2 ≤ MAX_TILE_BYTES }
     ensures { tile.new.items ≡ tile.old.items ++ flat_map place_bytes subs.now.items }
 {
     for sub in subs.as_slice() {
-        append_place(format, *sub, width, height, tile);
+        append_place(format, *sub, tile);
     }
 }
 
 /// Appends subrectangles with their pixels.
-pub fn append_colored(
-    format: &Format,
-    subs: &TileSubrects,
-    width: usize,
-    height: usize,
-    tile: &mut TileBytes,
-)
-    requires parts { AreTileParts format.now width height subs.now.items }
-    requires columns { width ≤ 16 }
-    requires rows { height ≤ 16 }
+pub fn append_colored(format: &Format, subs: &TileSubrects, tile: &mut TileBytes)
+    requires parts { AreTileParts format.now 16 16 subs.now.items }
     requires room { array_vec_len tile.old
         + length subs.now.items * (size_of format.now + 2) ≤ MAX_TILE_BYTES }
     ensures { tile.new.items ≡ tile.old.items ++ flat_map (colored_bytes format.now) subs.now.items }
 {
     for sub in subs.as_slice() {
         append_pixel(format, sub.pixel, tile);
-        append_place(format, *sub, width, height, tile);
+        append_place(format, *sub, tile);
     }
 }
 
 // Appends a place: x and y in a byte, and width and height less one in another.
-fn append_place(format: &Format, sub: Subrect, width: usize, height: usize, tile: &mut TileBytes)
-    requires part { IsTilePart format.now width height sub }
-    requires columns { width ≤ 16 }
-    requires rows { height ≤ 16 }
+fn append_place(format: &Format, sub: Subrect, tile: &mut TileBytes)
+    requires part { IsTilePart format.now 16 16 sub }
     requires room { array_vec_len tile.old + 2 ≤ MAX_TILE_BYTES }
     ensures items { tile.new.items ≡ tile.old.items ++ place_bytes sub }
     ensures len { array_vec_len tile.new ≡ array_vec_len tile.old + 2 }

@@ -73,14 +73,10 @@ pub fn append(
     format: &Format,
     layout: TileLayout,
     pixels: &[u32],
-    width: usize,
-    height: usize,
     subs: &TileSubrects,
     tile: &mut TileBytes,
 )
-    requires parts { AreTileParts format.now width height subs.now.items }
-    requires columns { width ≤ 16 }
-    requires rows { height ≤ 16 }
+    requires parts { AreTileParts format.now 16 16 subs.now.items }
     requires few { length pixels.now ≤ 256 }
     requires room { array_vec_len tile.old
         + length (tile_bytes format.now layout pixels.now subs.now.items) ≤ MAX_TILE_BYTES }
@@ -96,12 +92,12 @@ pub fn append(
             append_colour(format, background, tile);
             append_colour(format, foreground, tile);
             append_count(subs, tile);
-            append_places(format, subs, width, height, tile);
+            append_places(format, subs, tile);
         }
         TileLayout::Colored { background } => {
             append_colour(format, background, tile);
             append_count(subs, tile);
-            append_colored(format, subs, width, height, tile);
+            append_colored(format, subs, tile);
         }
     }
 }

@@ -15,23 +15,23 @@ const A: u32 = 0x10;
 
 const B: u32 = 0x20;
 
-// The bytes of a block that Hextile takes.
-fn spelled(
+// A block of that width and height is sent as these bytes.
+fn sends(
     rt: &impl Abort,
     alloc: Global,
     format: &Format,
-    width: u16,
-    height: u16,
+    size: (u16, u16),
     pixels: &[u32],
-) -> Result<Vec<u8>, Fail> {
-    match block_of(width, height, pixels) {
-        Some(block) => {
-            let (done, out) = encoded::<Hextile>(alloc, &block, format, &[])?;
-            assert!(rt; done);
-            Ok(out)
-        }
-        None => Ok(Vec::new(alloc)),
+    wanted: &[u8],
+) -> Result<(), Fail> {
+    if let Some(block) = block_of(size.0, size.1, pixels) {
+        let (done, out) = encoded::<Hextile>(alloc, &block, format, &[])?;
+        assert!(rt; done);
+        assert_eq!(rt; out.as_slice(), wanted);
+    } else {
+        assert!(rt; false, "no block");
     }
+    Ok(())
 }
 
 #[test]
@@ -41,14 +41,19 @@ fn tiles_of_two_colours_and_of_three_name_what_is_not_carried(rt: HostRuntime) -
     pixels[15] = 0x30;
     pixels[31] = B;
     pixels[47] = B;
-    let out = spelled(&rt, rt.alloc(), &Format::bgr233(), 48, 1, &pixels)?;
     let wanted = [
         0x1A, 0x10, 2, 0x20, 0xE0, 0, 0x30, 0xF0, 0, // three pixels: no foreground is carried
         0x0C, 0x20, 1, 0xF0, 0, // a foreground is named
         8, 1, 0xF0, 0, // both are carried
     ];
-    assert_eq!(rt; out.as_slice(), wanted.as_slice());
-    Ok(())
+    sends(
+        &rt,
+        rt.alloc(),
+        &Format::bgr233(),
+        (48, 1),
+        &pixels,
+        &wanted,
+    )
 }
 
 #[test]
@@ -56,27 +61,31 @@ fn a_tile_of_one_colour_leaves_the_foreground_that_is_carried(rt: HostRuntime) -
     let mut pixels = [A; 48];
     pixels[15] = B;
     pixels[47] = B;
-    let out = spelled(&rt, rt.alloc(), &Format::bgr233(), 48, 1, &pixels)?;
+    let format = Format::bgr233();
     let wanted = [0x0E, 0x10, 0x20, 1, 0xF0, 0, 0, 8, 1, 0xF0, 0];
-    assert_eq!(rt; out.as_slice(), wanted.as_slice());
+    sends(&rt, rt.alloc(), &format, (48, 1), &pixels, &wanted)?;
     for i in 16..32 {
         pixels[i] = 0x30;
     }
-    let out = spelled(&rt, rt.alloc(), &Format::bgr233(), 48, 1, &pixels)?;
     let wanted = [
         0x0E, 0x10, 0x20, 1, 0xF0, 0, 2, 0x30, 0x0A, 0x10, 1, 0xF0, 0,
     ];
-    assert_eq!(rt; out.as_slice(), wanted.as_slice());
-    Ok(())
+    sends(&rt, rt.alloc(), &format, (48, 1), &pixels, &wanted)
 }
 
 #[test]
 fn tiles_of_one_colour_name_it_once(rt: HostRuntime) -> Result<(), Fail> {
     // Red 255, green 128 and blue 1, low byte first.
     let pixels = [0x00FF_8001; 17];
-    let out = spelled(&rt, rt.alloc(), &Format::rgb888(), 17, 1, &pixels)?;
-    assert_eq!(rt; out.as_slice(), [2, 1, 0x80, 0xFF, 0, 0].as_slice());
-    Ok(())
+    let wanted = [2, 1, 0x80, 0xFF, 0, 0];
+    sends(
+        &rt,
+        rt.alloc(),
+        &Format::rgb888(),
+        (17, 1),
+        &pixels,
+        &wanted,
+    )
 }
 
 #[test]
@@ -90,9 +99,14 @@ fn a_raw_tile_leaves_no_background(rt: HostRuntime) -> Result<(), Fail> {
         pixels[16 + i] = i as u32 + 1;
         wanted[6 + 4 * i] = i as u8 + 1;
     }
-    let out = spelled(&rt, rt.alloc(), &Format::rgb888(), 48, 1, &pixels)?;
-    assert_eq!(rt; out.as_slice(), wanted.as_slice());
-    Ok(())
+    sends(
+        &rt,
+        rt.alloc(),
+        &Format::rgb888(),
+        (48, 1),
+        &pixels,
+        &wanted,
+    )
 }
 
 #[test]
@@ -103,12 +117,15 @@ fn a_place_has_x_and_width_in_the_high_digits(rt: HostRuntime) -> Result<(), Fai
         pixels[5 * 16 + 3 + i] = B;
         pixels[6 * 16 + 3 + i] = B;
     }
-    let out = spelled(&rt, rt.alloc(), &Format::bgr233(), 16, 16, &pixels)?;
-    assert_eq!(rt;
-        out.as_slice(),
-        [0x0E, 0x10, 0x20, 1, 0x35, 0x31].as_slice()
-    );
-    Ok(())
+    let wanted = [0x0E, 0x10, 0x20, 1, 0x35, 0x31];
+    sends(
+        &rt,
+        rt.alloc(),
+        &Format::bgr233(),
+        (16, 16),
+        &pixels,
+        &wanted,
+    )
 }
 
 #[test]
@@ -116,8 +133,15 @@ fn a_tile_that_is_no_shorter_than_its_pixels_is_raw(rt: HostRuntime) -> Result<(
     // One place: mask and pixel either way.
     let mut pixels = [A; 17];
     pixels[16] = B;
-    let out = spelled(&rt, rt.alloc(), &Format::bgr233(), 17, 1, &pixels)?;
-    assert_eq!(rt; out.as_slice(), [2, 0x10, 1, 0x20].as_slice());
+    let format = Format::bgr233();
+    sends(
+        &rt,
+        rt.alloc(),
+        &format,
+        (17, 1),
+        &pixels,
+        &[2, 0x10, 1, 0x20],
+    )?;
     // Mask, count and three bytes for each other pixel: 14 for four of them, 17 for five, as raw.
     let mut pixels = [A; 32];
     let four = [
@@ -126,15 +150,12 @@ fn a_tile_that_is_no_shorter_than_its_pixels_is_raw(rt: HostRuntime) -> Result<(
     for i in 0..4 {
         pixels[16 + 2 * i] = i as u32 + 1;
     }
-    let out = spelled(&rt, rt.alloc(), &Format::bgr233(), 32, 1, &pixels)?;
-    assert_eq!(rt; out.as_slice(), four.as_slice());
+    sends(&rt, rt.alloc(), &format, (32, 1), &pixels, &four)?;
     let five = [
         2, 0x10, 1, 1, 0x10, 2, 0x10, 3, 0x10, 4, 0x10, 5, 0x10, 0x10, 0x10, 0x10, 0x10, 0x10, 0x10,
     ];
     pixels[24] = 5;
-    let out = spelled(&rt, rt.alloc(), &Format::bgr233(), 32, 1, &pixels)?;
-    assert_eq!(rt; out.as_slice(), five.as_slice());
-    Ok(())
+    sends(&rt, rt.alloc(), &format, (32, 1), &pixels, &five)
 }
 
 #[test]
@@ -144,10 +165,9 @@ fn a_big_endian_format_has_the_high_byte_first(rt: HostRuntime) -> Result<(), Fa
         0x10, 0x10, 1, 1, 0, 0x1F, 0, 0x3F, 0, 0x1F, 11, 5, 0, 0, 0, 0,
     ];
     if let Ok(format) = Format::read(&narrow) {
-        let out = spelled(&rt, rt.alloc(), &format, 17, 1, &[0x1234; 17])?;
-        assert_eq!(rt; out.as_slice(), [2, 0x12, 0x34, 0].as_slice());
-    } else {
-        assert!(rt; false, "no format");
+        let wanted = [2, 0x12, 0x34, 0];
+        return sends(&rt, rt.alloc(), &format, (17, 1), &[0x1234; 17], &wanted);
     }
+    assert!(rt; false, "no format");
     Ok(())
 }

@@ -56,9 +56,9 @@ fn row_after(alloc: Global, scene: Scene<'_>, bytes: usize) -> Result<Vec<Colour
 }
 
 // The bytes after the last piece that is whole.
-fn pending_after(scene: Scene<'_>, bytes: usize) -> usize {
-    let mut last = 0usize;
-    for piece in scene.pieces.iter() {
+fn pending_after(pieces: &[Piece], bytes: usize) -> usize {
+    let mut last = 0;
+    for piece in pieces {
         if piece.end <= bytes {
             last = piece.end;
         }
@@ -93,10 +93,10 @@ fn in_slices(
             used: end - at,
             done: ended,
         };
-        assert_eq!(rt; answer, Ok(want), "after {end}");
-        assert_eq!(rt; painter.pending(), pending_after(scene, end), "after {end}");
         let shown = row_after(alloc, scene, end)?;
-        assert_eq!(rt; picture.row(0, 0, width), shown.as_slice(), "after {end}");
+        let kept = painter.pending() == pending_after(scene.pieces, end);
+        let good = answer == Ok(want) && kept && picture.row(0, 0, width) == shown.as_slice();
+        assert!(rt; good, "after {end}");
         if ended {
             return Ok(());
         }

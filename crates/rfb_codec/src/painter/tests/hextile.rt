@@ -37,6 +37,15 @@ pub fn painted(
     Ok((answer, row))
 }
 
+// So many places of each colour in turn.
+fn row_of(alloc: Global, runs: &[(u16, Colour)]) -> Result<Vec<Colour>, Fail> {
+    let mut row = Vec::new(alloc);
+    for (places, colour) in runs {
+        row.resize(row.len().saturating_add(usize::from(*places)), *colour)?;
+    }
+    Ok(row)
+}
+
 // All of the data are taken, and the row shows so many places of each colour in turn.
 fn shows(
     rt: &impl Abort,
@@ -45,14 +54,8 @@ fn shows(
     data: &[u8],
     runs: &[(u16, Colour)],
 ) -> Result<(), Fail> {
-    let mut want = Vec::new(alloc);
-    let mut width = 0u16;
-    for (places, colour) in runs.iter() {
-        for _ in 0..*places {
-            want.push(*colour)?;
-            width = width.saturating_add(1);
-        }
-    }
+    let want = row_of(alloc, runs)?;
+    let width = u16::try_from(want.len()).unwrap_or(0);
     let (answer, row) = painted(alloc, width, format, data)?;
     assert_eq!(rt; answer, done(data.len()));
     assert_eq!(rt; row, want);

@@ -59,11 +59,19 @@ fn a_subrectangle_that_leaves_its_tile_is_refused_at_the_last_byte(
     refused_at_the_end(&rt, rt.alloc(), &[0x1A, 0x10, 1, 0x20, 0xF0, 0x10])
 }
 
+// Whether all that the data begin with is waited with.
+fn waits(rt: &impl Abort, alloc: Global, width: u16, data: &[u8]) -> Result<bool, Fail> {
+    for n in 0..data.len() {
+        if answered(rt, alloc, width, &data[..n])? != more(n) {
+            return Ok(false);
+        }
+    }
+    Ok(true)
+}
+
 // Data of seventeen places by one are waited with up to their last byte, and refused there.
 fn refused_at_the_end(rt: &impl Abort, alloc: Global, data: &[u8]) -> Result<(), Fail> {
-    for n in 0..data.len() {
-        assert_eq!(rt; answered(rt, alloc, 17, &data[..n])?, more(n));
-    }
+    assert!(rt; waits(rt, alloc, 17, data)?);
     let answer = answered(rt, alloc, 17, data)?;
     assert_eq!(rt; answer, Err(PaintFault::SubrectOutside));
     Ok(())
@@ -151,7 +159,30 @@ fn push_rest(data: &mut Vec<u8>, mask: u8) -> Result<(), Fail> {
     Ok(())
 }
 
-// The tile is refused at its mask; or waited with up to its last byte, and what follows is left.
+// Whether the tile is refused at its mask; or waited with up to its last byte, and what follows is left.
+fn is_judged(
+    rt: &impl Abort,
+    alloc: Global,
+    front: &[u8],
+    known: Known,
+    mask: u8,
+) -> Result<bool, Fail> {
+    let width = if front.is_empty() { 2 } else { 18 };
+    let mut data = Vec::new(alloc);
+    data.extend_from_slice(front)?;
+    data.push(mask)?;
+    if let Some(fault) = fault(mask, known) {
+        return Ok(answered(rt, alloc, width, &data)? == Err(fault));
+    }
+    push_rest(&mut data, mask)?;
+    let length = data.len();
+    let waited = waits(rt, alloc, width, &data)?;
+    data.push(0xFF)?;
+    let (answer, row) = painted(alloc, width, Format::bgr233(), &data)?;
+    let [first, second] = pixels_behind(mask);
+    Ok(waited && answer == done(length) && ends_with(&row, first, second))
+}
+
 fn judged(
     rt: &impl Abort,
     alloc: Global,
@@ -159,35 +190,8 @@ fn judged(
     known: Known,
     mask: u8,
 ) -> Result<(), Fail> {
-    let width = if front.is_empty() { 2 } else { 18 };
-    let mut data = Vec::new(alloc);
-    data.extend_from_slice(front)?;
-    data.push(mask)?;
-    match fault(mask, known) {
-        Some(fault) => {
-            assert_eq!(rt;
-                answered(rt, alloc, width, &data)?,
-                Err(fault),
-                "mask {mask}"
-            );
-        }
-        None => {
-            push_rest(&mut data, mask)?;
-            for n in 0..data.len() {
-                assert_eq!(rt;
-                    answered(rt, alloc, width, &data[..n])?,
-                    more(n),
-                    "mask {mask}"
-                );
-            }
-            let length = data.len();
-            data.push(0xFF)?;
-            let (answer, row) = painted(alloc, width, Format::bgr233(), &data)?;
-            assert_eq!(rt; answer, done(length), "mask {mask}");
-            let [first, second] = pixels_behind(mask);
-            assert!(rt; ends_with(&row, first, second), "mask {mask}");
-        }
-    }
+    let good = is_judged(rt, alloc, front, known, mask)?;
+    assert!(rt; good, "mask {mask}");
     Ok(())
 }
 

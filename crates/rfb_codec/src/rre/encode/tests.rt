@@ -4,7 +4,7 @@ mod cells;
 mod plain;
 
 use super::*;
-use crate::codec::tests::{block_of, encoded};
+use crate::codec::tests::{block_of, count_up, encoded};
 use plain::{Plain, decoded};
 use std::alloc::Global;
 use std::process::Abort;
@@ -95,7 +95,30 @@ fn only_fewer_bytes_than_raw_are_taken(rt: HostRuntime) -> Result<(), Fail> {
     Ok(())
 }
 
-// That the encoder does what the rule's plain form does.
+// Whether the encoder does what the rule's plain form does, and what it appends is read back.
+fn keeps_the_rule(
+    alloc: Global,
+    format: &Format,
+    size: (u16, u16),
+    pixels: &[u32],
+) -> Result<bool, Fail> {
+    let Some(block) = block_of(size.0, size.1, pixels) else {
+        return Ok(false);
+    };
+    let width = usize::from(size.0);
+    let plain = Plain::of(alloc, pixels, width, usize::from(size.1))?;
+    let length = plain.length(format.size());
+    let (done, out) = encoded::<Rre>(alloc, &block, format, &[])?;
+    if done != (length < pixels.len() * format.size()) {
+        return Ok(false);
+    }
+    if !done {
+        return Ok(out.is_empty());
+    }
+    let shown = decoded(alloc, format, &out, width, pixels.len())?;
+    Ok(out.len() == length && shown.as_slice() == pixels)
+}
+
 pub(crate) fn agrees(
     rt: &impl Abort,
     alloc: Global,
@@ -104,20 +127,8 @@ pub(crate) fn agrees(
     height: u16,
     pixels: &[u32],
 ) -> Result<(), Fail> {
-    if let Some(block) = block_of(width, height, pixels) {
-        let plain = Plain::of(alloc, pixels, usize::from(width), usize::from(height))?;
-        let (done, out) = encoded::<Rre>(alloc, &block, format, &[])?;
-        let size = format.size();
-        let taken = plain.length(size) < pixels.len() * size;
-        assert_eq!(rt; done, taken, "{width} by {height}: {pixels:?}");
-        if done {
-            assert_eq!(rt; out.len(), plain.length(size));
-            let shown = decoded(alloc, format, &out, usize::from(width), pixels.len())?;
-            assert_eq!(rt; shown.as_slice(), pixels);
-        } else {
-            assert_eq!(rt; out.len(), 0);
-        }
-    }
+    let kept = keeps_the_rule(alloc, format, (width, height), pixels)?;
+    assert!(rt; kept, "{width} by {height}: {pixels:?}");
     Ok(())
 }
 
@@ -140,18 +151,6 @@ fn agrees_at_all(rt: &impl Abort, alloc: Global, most: u16, values: u32) -> Resu
         }
     }
     Ok(())
-}
-
-// The next list of pixels below `values`, if this was not the last.
-fn count_up(pixels: &mut [u32], values: u32) -> bool {
-    for pixel in pixels.iter_mut() {
-        if pixel.wrapping_add(1) < values {
-            *pixel = pixel.wrapping_add(1);
-            return true;
-        }
-        *pixel = 0;
-    }
-    false
 }
 
 #[test]

@@ -2,7 +2,7 @@
 
 use super::plain::decoded;
 use super::rule;
-use crate::codec::tests::{block_of, encoded};
+use crate::codec::tests::{block_of, count_up, encoded};
 use crate::hextile::Hextile;
 use rfb_pixel::Format;
 use std::alloc::Global;
@@ -13,8 +13,50 @@ const A: u32 = 0x10;
 
 const B: u32 = 0x20;
 
-// That the encoder does what the rule's plain form does, behind bytes that stood there, and that a
-// reading shows the pixels: with colours carried as leniently and as strictly as can be.
+// Whether a reading of the data shows the pixels, with colours carried as leniently and as strictly as
+// can be.
+fn is_read_back(
+    alloc: Global,
+    format: &Format,
+    data: &[u8],
+    size: (u16, u16),
+    pixels: &[u32],
+) -> Result<bool, Fail> {
+    let (columns, rows) = (usize::from(size.0), usize::from(size.1));
+    for strict in [false, true] {
+        match decoded(alloc, format, data, columns, rows, strict)? {
+            Some(shown) if shown.as_slice() == pixels => {}
+            _ => return Ok(false),
+        }
+    }
+    Ok(true)
+}
+
+// Whether the encoder does what the rule's plain form does, after bytes that stood there, and what it
+// appends is read back.
+fn keeps_the_rule(
+    alloc: Global,
+    format: &Format,
+    size: (u16, u16),
+    pixels: &[u32],
+) -> Result<bool, Fail> {
+    let Some(block) = block_of(size.0, size.1, pixels) else {
+        return Ok(false);
+    };
+    let tiles = rule::spelled(alloc, format, pixels, size)?;
+    let taken = tiles.len() < pixels.len() * format.size();
+    let mut wanted = Vec::new(alloc);
+    wanted.extend_from_slice(&[9, 8])?;
+    if taken {
+        wanted.extend_from_slice(&tiles)?;
+    }
+    let (done, out) = encoded::<Hextile>(alloc, &block, format, &[9, 8])?;
+    if done != taken || out != wanted {
+        return Ok(false);
+    }
+    Ok(!done || is_read_back(alloc, format, &tiles, size, pixels)?)
+}
+
 fn agrees(
     rt: &impl Abort,
     alloc: Global,
@@ -23,33 +65,8 @@ fn agrees(
     height: u16,
     pixels: &[u32],
 ) -> Result<(), Fail> {
-    if let Some(block) = block_of(width, height, pixels) {
-        let wanted = rule::spelled(alloc, format, pixels, (width, height))?;
-        let (done, out) = encoded::<Hextile>(alloc, &block, format, &[9, 8])?;
-        let taken = wanted.len() < pixels.len() * format.size();
-        assert_eq!(rt; done, taken, "{width} by {height}: {pixels:?}");
-        if !done {
-            assert_eq!(rt; out.as_slice(), [9, 8].as_slice());
-            return Ok(());
-        }
-        assert_eq!(rt; out.get(..2), Some([9, 8].as_slice()));
-        assert_eq!(rt;
-            out.get(2..),
-            Some(wanted.as_slice()),
-            "{width} by {height}: {pixels:?}"
-        );
-        let (columns, rows) = (usize::from(width), usize::from(height));
-        for strict in [false, true] {
-            let shown = decoded(alloc, format, &wanted, columns, rows, strict)?;
-            assert_eq!(rt;
-                shown.as_ref().map(|s| s.as_slice()),
-                Some(pixels),
-                "{width} by {height}"
-            );
-        }
-    } else {
-        assert!(rt; false, "no block of {width} by {height}");
-    }
+    let kept = keeps_the_rule(alloc, format, (width, height), pixels)?;
+    assert!(rt; kept, "{width} by {height}: {pixels:?}");
     Ok(())
 }
 
@@ -104,18 +121,6 @@ fn agrees_at_kinds(
         }
     }
     Ok(())
-}
-
-// The next list of numbers below `values`, if this was not the last.
-fn count_up(numbers: &mut [u32], values: u32) -> bool {
-    for number in numbers.iter_mut() {
-        if number.wrapping_add(1) < values {
-            *number = number.wrapping_add(1);
-            return true;
-        }
-        *number = 0;
-    }
-    false
 }
 
 #[test]

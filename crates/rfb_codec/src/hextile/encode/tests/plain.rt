@@ -141,7 +141,7 @@ fn read_tile(
     Some(())
 }
 
-// Each tile, and nothing behind the last.
+// Each tile, and nothing after the last.
 fn read_tiles(
     format: &Format,
     bytes: &[u8],

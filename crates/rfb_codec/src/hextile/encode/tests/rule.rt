@@ -1,5 +1,6 @@
 //! The rule for tiles in its plain form.
 
+use crate::codec::tests::most_frequent;
 use crate::subrect::Subrect;
 use rfb_picture::Rect;
 use rfb_pixel::Format;
@@ -39,7 +40,7 @@ fn push_pixel(format: &Format, bytes: &mut Vec<u8>, pixel: u32) -> Result<(), Al
     bytes.extend_from_slice(&field[..size])
 }
 
-// Appends the subrectangles, each with its pixel or without, behind how many there are.
+// Appends the subrectangles, each with its pixel or without, after how many there are.
 fn push_subs(
     format: &Format,
     bytes: &mut Vec<u8>,
@@ -91,20 +92,6 @@ impl Tile {
         usize::from(y)
             .wrapping_mul(usize::from(self.width))
             .wrapping_add(usize::from(x))
-    }
-
-    // The most frequent pixel, the least of those.
-    fn background(&self) -> u32 {
-        let mut best = 0;
-        let mut most = 0;
-        for pixel in &self.pixels {
-            let count = self.pixels.iter().filter(|other| **other == *pixel).count();
-            if most < count || (most == count && *pixel < best) {
-                best = *pixel;
-                most = count;
-            }
-        }
-        best
     }
 
     // How many places from (x, y) to the right have the pixel.
@@ -173,7 +160,7 @@ impl Tile {
         format: &Format,
         held: &mut Held,
     ) -> Result<Vec<u8>, AllocError> {
-        let background = self.background();
+        let background = most_frequent(&self.pixels);
         let foreground = self.pixels.iter().copied().find(|p| *p != background);
         let colored = self
             .pixels

@@ -1,5 +1,6 @@
 //! The rule in its plain form, with a mark for each place, and a plain reading of RRE.
 
+use crate::codec::tests::most_frequent;
 use crate::subrect::Subrect;
 use byteorder::{BigEndian, ByteOrder};
 use rfb_picture::Rect;
@@ -21,20 +22,6 @@ fn place(width: usize, x: usize, y: usize) -> usize {
 // Whether a place has the pixel and no mark.
 fn is_open(pixels: &[u32], marks: &[bool], at: usize, pixel: u32) -> bool {
     pixels.get(at) == Some(&pixel) && marks.get(at) == Some(&false)
-}
-
-// The most frequent pixel, the least of those.
-fn most_frequent(pixels: &[u32]) -> u32 {
-    let mut best = 0;
-    let mut most = 0;
-    for pixel in pixels {
-        let count = pixels.iter().filter(|other| **other == *pixel).count();
-        if most < count || (most == count && *pixel < best) {
-            best = *pixel;
-            most = count;
-        }
-    }
-    best
 }
 
 // How many open places of the pixel stand to the right, from (x, y) on.

@@ -1,4 +1,4 @@
-use Rattle.rfb_codec.proofs.DrawLemmas.{pixel_small, tile_parts, sends_one, sends_two, sends_more}
+use Rattle.rfb_codec.proofs.DrawLemmas.{pixel_small, tile_parts, small_parts, sends_one, sends_two, sends_more}
 use Rattle.rfb_codec.proofs.hextile.encode.choosing.over_background.Goals as goal
 
 pub returns-in-One-clause-sends : goal.returns-in-One-clause-sends
@@ -16,7 +16,8 @@ returns-else-not-cover-clause-sends c =
 
 pub returns-else-not-cover-clause-parts : goal.returns-else-not-cover-clause-parts
 returns-else-not-cover-clause-parts c =
-    tile_parts c.args.format.now c.args.width c.args.height c.args.pixels.now c.in-Two.background c.cover.new.subs.items c.requires.pixels c.if-not-cover.ensures.cover.parts
+    small_parts c.args.format.now c.args.width c.args.height _ c.requires.columns c.requires.rows
+    (tile_parts c.args.format.now c.args.width c.args.height c.args.pixels.now c.in-Two.background c.cover.new.subs.items c.requires.pixels c.if-not-cover.ensures.cover.parts)
 
 pub returns-else-not-cover-2-clause-sends : goal.returns-else-not-cover-2-clause-sends
 returns-else-not-cover-2-clause-sends c =
@@ -27,4 +28,5 @@ returns-else-not-cover-2-clause-sends c =
 
 pub returns-else-not-cover-2-clause-parts : goal.returns-else-not-cover-2-clause-parts
 returns-else-not-cover-2-clause-parts c =
-    tile_parts c.args.format.now c.args.width c.args.height c.args.pixels.now c.in_ok-background-in-More.background c.cover-in-More.new.subs.items c.requires.pixels c.if-not-cover-2.ensures.cover.parts
+    small_parts c.args.format.now c.args.width c.args.height _ c.requires.columns c.requires.rows
+    (tile_parts c.args.format.now c.args.width c.args.height c.args.pixels.now c.in_ok-background-in-More.background c.cover-in-More.new.subs.items c.requires.pixels c.if-not-cover-2.ensures.cover.parts)

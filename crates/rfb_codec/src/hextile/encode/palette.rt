@@ -1,12 +1,13 @@
 //! Whether a tile has one pixel, two, or more.
 
 ghost use Rattle.std.specs.Prelude.{◌≡◌, ◌≢◌, ℕ, ◌<◌, ◌≤◌, ◌⊎◌, length, slice_index};
-ghost use Rattle.rfb_codec.specs.inside.Colours.{HasColours, places_of};
-ghost use Rattle.std.specs.Bool.{OnTrue, OnFalse};
+ghost use Rattle.rfb_codec.specs.inside.Palette.{HasPalette, places_of};
+
+use crate::choice::background::leads;
 
 /// The pixels that a tile has.
 #[derive(Clone, Copy, Debug, PartialEq, Eq)]
-pub enum Colours {
+pub enum Palette {
     One(u32),
     /// Two, of which more places have the background, or as many and it is the lesser value.
     Two { background: u32, foreground: u32 },
@@ -14,15 +15,15 @@ pub enum Colours {
 }
 
 /// The pixels of a tile.
-pub fn colours_of(pixels: &[u32]) -> Colours
+pub fn palette_of(pixels: &[u32]) -> Palette
     requires some { 0 < length pixels.now }
     requires few { length pixels.now ≤ 256 }
-    ensures { HasColours result pixels.now }
+    ensures { HasPalette result pixels.now }
 {
     let first = pixels[0];
     let start = end_of_run(pixels, first);
     if start == pixels.len() {
-        return Colours::One(first);
+        return Palette::One(first);
     }
     let second = pixels[start];
     let mut others = 0u32;
@@ -32,16 +33,16 @@ pub fn colours_of(pixels: &[u32]) -> Colours
         }
     }
     if others > 0 {
-        return Colours::More;
+        return Palette::More;
     }
     let seconds = places_of(pixels, second);
-    if is_more(pixels.len() - seconds, seconds, first, second) {
-        Colours::Two {
+    if leads(pixels.len() - seconds, first, seconds, second) {
+        Palette::Two {
             background: first,
             foreground: second,
         }
     } else {
-        Colours::Two {
+        Palette::Two {
             background: second,
             foreground: first,
         }
@@ -61,23 +62,6 @@ fn places_of(pixels: &[u32], pixel: u32) -> usize
         }
     }
     count as usize
-}
-
-// Whether the first of two pixels has more places, or as many and is the lesser.
-fn is_more(firsts: usize, seconds: usize, first: u32, second: u32) -> bool
-    ensures more { OnTrue result ((seconds < firsts) ⊎ ((firsts ≡ seconds) × (first < second))) }
-    ensures less { OnFalse result ((firsts ≤ seconds) × (firsts ≡ seconds → second ≤ first)) }
-{
-    if firsts > seconds {
-        return true;
-    }
-    if firsts < seconds {
-        return false;
-    }
-    if first < second {
-        return true;
-    }
-    false
 }
 
 // How many places from the first on have the pixel.

@@ -1,8 +1,8 @@
 -- Which pixels a tile has.
 -- No public clause reads these words.
 use Rattle.std.specs.Prelude.{◌≡◌, ◌≢◌, ℕ, ◌<◌, ◌⊎◌, List, length, slice_index, nat_eq, count_by}
-use Rattle.rfb_codec.specs.declared.hextile.encode.colours.Colours.{Colours}
-use Rattle.rfb_codec.specs.declared.hextile.encode.colours.Colours.TheVariants.{One, Two, More}
+use Rattle.rfb_codec.specs.declared.hextile.encode.palette.Palette.{Palette}
+use Rattle.rfb_codec.specs.declared.hextile.encode.palette.Palette.TheVariants.{One, Two, More}
 use Rattle.rfb_codec.specs.inside.Cover.{IsPixelOf}
 
 -- some place has neither of the two pixels, which differ and are there
@@ -29,10 +29,10 @@ IsMoreFrequent background other pixels =
 
 -- each place has the one pixel, or one of the two, both of which are there, or there are three at
 -- least
-abbrev pub HasColours : Colours → List ℕ → Type 0
-HasColours (One pixel) pixels = (i : ℕ) → i < length pixels → slice_index pixels i ≡ pixel
-HasColours (Two background foreground) pixels =
+abbrev pub HasPalette : Palette → List ℕ → Type 0
+HasPalette (One pixel) pixels = (i : ℕ) → i < length pixels → slice_index pixels i ≡ pixel
+HasPalette (Two background foreground) pixels =
     IsPixelOf pixels background × IsPixelOf pixels foreground ×
     ((i : ℕ) → i < length pixels → (slice_index pixels i ≡ background) ⊎
     (slice_index pixels i ≡ foreground)) × IsMoreFrequent background foreground pixels
-HasColours More pixels = HasThird pixels
+HasPalette More pixels = HasThird pixels

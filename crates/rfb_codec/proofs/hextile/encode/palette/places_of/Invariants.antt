@@ -1,6 +1,6 @@
 use Rattle.std.proofs.Common.{◌≡◌, ◌≤◌, take}
-use Rattle.rfb_codec.specs.inside.Colours.{places_of}
-use Rattle.rfb_codec.proofs.hextile.encode.colours.places_of.Given as goal
+use Rattle.rfb_codec.specs.inside.Palette.{places_of}
+use Rattle.rfb_codec.proofs.hextile.encode.palette.places_of.Given as goal
 
 abbrev pub invariant-loop-other : goal.invariant-loop-other
 invariant-loop-other l = record {

@@ -4,7 +4,8 @@ use Rattle.std.proofs.lemmas.List.Sums.{count_by_more_yes, count_by_more_no}
 use Rattle.std.proofs.lemmas.List.{take_all}
 use Rattle.std.proofs.lemmas.Bool.{cases_lt}
 use Rattle.std.proofs.lemmas.Bool.Decides.{nat_tests}
-use Rattle.rfb_codec.specs.inside.Colours.{places_of, IsMoreFrequent}
+use Rattle.rfb_codec.specs.inside.Background.{Leads}
+use Rattle.rfb_codec.specs.inside.Palette.{places_of, IsMoreFrequent}
 
 -- where each place has one of two, the places of both are all: first of so many
 counted_up_to : (a b n : ℕ) (pixels : List ℕ) → a ≢ b → ((i : ℕ) → i < length pixels → (slice_index pixels i ≡ a) ⊎ (slice_index pixels i ≡ b)) → n ≤ length pixels → places_of a (take n pixels) + places_of b (take n pixels) ≡ n
@@ -35,7 +36,7 @@ two_counted a b pixels differ each =
 
 -- the first is the background
 pub first_is_more : (first second firsts seconds : ℕ) (pixels : List ℕ) → first ≢ second → ((i : ℕ) → i < length pixels → (slice_index pixels i ≡ first) ⊎ (slice_index pixels i ≡ second)) →
-    seconds ≡ places_of second pixels → firsts + seconds ≡ length pixels → (seconds < firsts) ⊎ ((firsts ≡ seconds) × (first < second)) → IsMoreFrequent first second pixels
+    seconds ≡ places_of second pixels → firsts + seconds ≡ length pixels → Leads firsts first seconds second → IsMoreFrequent first second pixels
 first_is_more first second firsts seconds pixels differ each counted both more =
     let all = two_counted first second pixels differ each in
     elim more [

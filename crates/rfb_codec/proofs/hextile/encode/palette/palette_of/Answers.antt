@@ -1,6 +1,6 @@
 use Rattle.std.proofs.Common.{◌≡◌, ◌<◌, ◌+◌, ◌-◌, ◌⊎◌, inl, inr, ℕ, arith, length, refl, sym, slice_index}
-use Rattle.rfb_codec.proofs.ColoursLemmas.{first_is_more, second_is_more}
-use Rattle.rfb_codec.proofs.hextile.encode.colours.colours_of.Goals as goal
+use Rattle.rfb_codec.proofs.PaletteLemmas.{first_is_more, second_is_more}
+use Rattle.rfb_codec.proofs.hextile.encode.palette.palette_of.Goals as goal
 
 swapped : {A B : Type 0} → A ⊎ B → B ⊎ A
 swapped (inl a) = inr a
@@ -25,8 +25,8 @@ returns-then-others-gt0 c =
       not_second = other.3;
     }
 
-pub returns-then-is_more : goal.returns-then-is_more
-returns-then-is_more c =
+pub returns-then-leads : goal.returns-then-leads
+returns-then-leads c =
     let pixels = c.args.pixels.now in
     let start = c.end_of_run-start.result in
     let first = slice_index pixels 0 in
@@ -36,11 +36,11 @@ returns-then-is_more c =
     let each : (i : ℕ) → i < length pixels → (slice_index pixels i ≡ first) ⊎ (slice_index pixels i ≡ second) = λ i below. c.loop-pixel.invariant.two none i (omega (arith, below, c.loop-pixel-test.false)) in
     let seconds = c.places_of-seconds.result in
     let both : (length pixels - seconds) + seconds ≡ length pixels = omega (arith, c.places_of-seconds.ensures.few) in
-    let more = first_is_more first second (length pixels - seconds) seconds pixels (λ same. c.end_of_run-start.ensures.other within (sym same)) each c.places_of-seconds.ensures.value both c.if-is_more.ensures.more in
+    let more = first_is_more first second (length pixels - seconds) seconds pixels (λ same. c.end_of_run-start.ensures.other within (sym same)) each c.places_of-seconds.ensures.value both c.if-leads.ensures.yes in
     ((0, c.requires.some, refl), (start, within, refl), each, more)
 
-pub returns-else-is_more : goal.returns-else-is_more
-returns-else-is_more c =
+pub returns-else-leads : goal.returns-else-leads
+returns-else-leads c =
     let pixels = c.args.pixels.now in
     let start = c.end_of_run-start.result in
     let first = slice_index pixels 0 in
@@ -50,6 +50,6 @@ returns-else-is_more c =
     let each : (i : ℕ) → i < length pixels → (slice_index pixels i ≡ first) ⊎ (slice_index pixels i ≡ second) = λ i below. c.loop-pixel.invariant.two none i (omega (arith, below, c.loop-pixel-test.false)) in
     let seconds = c.places_of-seconds.result in
     let both : (length pixels - seconds) + seconds ≡ length pixels = omega (arith, c.places_of-seconds.ensures.few) in
-    let less = c.if-is_more.ensures.less in
+    let less = c.if-leads.ensures.no in
     let more = second_is_more first second (length pixels - seconds) seconds pixels (λ same. c.end_of_run-start.ensures.other within (sym same)) each c.places_of-seconds.ensures.value both less.0 less.1 in
     ((start, within, refl), (0, c.requires.some, refl), λ i below. swapped (each i below), more)
