@@ -6,3 +6,12 @@ pub mod GreetLemmas
 pub mod AskingLemmas
 pub mod EncodingLemmas
 pub mod SendingLemmas
+pub mod CellLemmas
+pub mod NeedingLemmas
+pub mod SendsLemmas
+pub mod ComposesLemmas
+pub mod RoomLemmas
+pub mod SentLemmas
+pub mod SentCells
+pub mod UpdateLemmas
+pub mod UpdatingLemmas

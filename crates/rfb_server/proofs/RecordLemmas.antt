@@ -10,7 +10,8 @@ use Rattle.rfb_codec.specs.RectData.{moved_to}
 use Rattle.rfb_picture.specs.Box.{is_in}
 use Rattle.rfb_picture.proofs.GridLemmas.{at-changed, width-changed, height-changed, whole-changed, at-uniform, width-uniform, height-uniform, whole-uniform, same_grid, place_below, contains_more, contains_true, at-with_row, at-filled, slice_index_or-row_of}
 use Rattle.rfb_codec.specs.Effect.{IsRecorded}
-use Rattle.rfb_server.specs.Record.{AreKnown, forgotten, record_of}
+use Rattle.rfb_picture.specs.Area.{Places}
+use Rattle.rfb_server.specs.Record.{AreKnown, ShowsKnown, TellsKnown, is_known, forgotten, record_of}
 
 -- the size of a record is that of its pixels
 pub width-record_of : (pixels : Grid ℕ) (known : Grid Bool) → (record_of pixels known).width ≡ pixels.width
@@ -32,6 +33,26 @@ pub at-record_of : (pixels : Grid ℕ) (known : Grid Bool) (x y : ℕ) (d : Opti
 unfolding record_of
 at-record_of pixels known x y d p q =
     at-changed _ (forgotten pixels) x y d (whole-uniform pixels.width pixels.height None) (rw width-uniform p) (rw height-uniform q)
+
+some_is : (known : Bool) (value pixel : ℕ) → (if known then Some value else None) ≡ Some pixel → value ≡ pixel
+some_is true value pixel e = cc
+some_is false value pixel e = absurd cc
+
+-- its pixels are those that are known
+pub pixels_shown : (pixels : Grid ℕ) (known : Grid Bool) → ShowsKnown (record_of pixels known) pixels
+pixels_shown pixels known = λ x y pixel p q e.
+    some_is (is_in known x y) (at_or pixels x y 0) pixel
+    (sym (at-record_of pixels known x y None (rw width-record_of at p) (rw height-record_of at q)) ∙ e)
+
+known_is : (known : Bool) (value : ℕ) → known ≡ is_known (if known then Some value else None)
+known_is true value = refl
+known_is false value = refl
+
+-- and its set is that of the known places
+pub known_told : (pixels : Grid ℕ) (area : Places) → TellsKnown (record_of pixels area.asked) area
+known_told pixels area = λ x y p q.
+    rw (at-record_of pixels area.asked x y None (rw width-record_of at p) (rw height-record_of at q))
+    (known_is (is_in area.asked x y) (at_or pixels x y 0))
 
 -- with no known place nothing is known
 pub record-none : (pixels : Grid ℕ) (w h : ℕ) →

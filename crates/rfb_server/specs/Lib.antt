@@ -11,3 +11,8 @@ pub mod Progress
 pub mod Standing
 pub mod Sessions
 pub mod Sending
+pub mod Cells
+pub mod Needing
+pub mod Sends
+pub mod Composed
+pub mod Updating

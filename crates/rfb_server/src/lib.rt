@@ -5,6 +5,7 @@
 //! `law` says in contracts alone what the client's stream and the server's states rest on.
 #![tactic(auto)]
 
+mod cells;
 mod encodings;
 mod event;
 mod fault;

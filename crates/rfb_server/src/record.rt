@@ -34,7 +34,7 @@ impl Model for Record {
 
 impl Record {
     ghost use Rattle.rfb_picture.specs.Grid.{IsGrid, at_or, uniform};
-    ghost use Rattle.rfb_server.specs.Record.{forgotten};
+    ghost use Rattle.rfb_server.specs.Record.{forgotten, ShowsKnown, TellsKnown};
 
     /// A record of a screen of `width` by `height` places, of which none is known. It asks for room
     /// for all its places, in seven pieces; where there is none it gives the error, and nothing is
@@ -78,6 +78,22 @@ impl Record {
         } else {
             None
         }
+    }
+
+    /// Lends a picture that has each known pixel at its place; elsewhere it says nothing.
+    #[inline]
+    pub(crate) fn pixels(&self) -> &Picture<u32>
+        ensures { ShowsKnown self.now result.now }
+    {
+        &self.pixels
+    }
+
+    /// Lends the set of the known places, as asked ones.
+    #[inline]
+    pub(crate) fn known(&self) -> &Area
+        ensures { TellsKnown self.now result.now }
+    {
+        &self.known
     }
 
     /// No place is known any more.

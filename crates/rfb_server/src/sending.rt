@@ -87,8 +87,8 @@ fn append_coded<C: Codec>(
     false
 }
 
-// Appends bytes for which there is room, so the vector keeps its memory.
-fn append_within(out: &mut Vec<u8>, bytes: &[u8])
+/// Appends bytes for which there is room, so the vector keeps its memory.
+pub(crate) fn append_within(out: &mut Vec<u8>, bytes: &[u8])
     requires { vec_len out.old + length bytes.now ≤ vec_capacity out.old }
     ensures items { out.new.items ≡ out.old.items ++ bytes.now }
     ensures len { vec_len out.new ≡ vec_len out.old + length bytes.now }

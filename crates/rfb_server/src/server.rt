@@ -1,6 +1,6 @@
 //! A server: a screen and a session.
 
-ghost use Rattle.std.specs.Prelude.{◌≡◌, ◌≤◌, ◌↔◌, ℕ, List, [], length, IfOk, OnOk, OnErr, IsErr};
+ghost use Rattle.std.specs.Prelude.{◌≡◌, ◌≢◌, ◌≤◌, ◌↔◌, ℕ, List, [], length, true, false, None, Ok, IfOk, OnOk, OnErr, IsErr};
 ghost use Rattle.rfb_picture.specs.Grid.{IsGrid};
 ghost use Rattle.rfb_codec.specs.Effect.{IsAlike};
 ghost use Rattle.rfb_server.specs.Marks.{IsCaughtUp};
@@ -31,7 +31,9 @@ impl Server {
     ghost use Rattle.rfb_picture.specs.Grid.{Holds, filled, copied, with_row};
     ghost use Rattle.rfb_server.specs.Server.{Serving, ServerState, first_server};
     ghost use Rattle.rfb_hello.specs.Version.{version_text};
-    ghost use Rattle.rfb_server.specs.Standing.{StandsFor, serving_with, screen_of, row_from, HoldsBoth, Draws, Keeps};
+    ghost use Rattle.rfb_server.specs.Standing.{StandsFor, serving_with, screen_of, row_from, fault_of, HoldsBoth, Draws, Keeps};
+    ghost use Rattle.rfb_server.specs.Updating.{Updates, StaysUnsent};
+    ghost use Rattle.rfb_server.specs.Record.{ShowsKnown, TellsKnown};
 
     /// A server that was fed nothing, with a black screen of `width` by `height` places: nothing
     /// was sent, and nothing is asked. It offers versions up to `offer`, names the screen, and
@@ -145,6 +147,24 @@ impl Server {
         Ok(())
     }
 
+    /// Appends to `out` one FramebufferUpdate, RFC 6143 section 7.6.1, of what the viewer asked for
+    /// and does not have, and tells whether it did: exactly where the handshake is done, the server
+    /// has not failed, and such a place is there. Behind an update nothing is asked any more. `out`
+    /// stays the caller's; what was in it stays in front. Room is asked for once, before anything
+    /// changes: at most 260 bytes, and 12 and its pixels' bytes for each cell of 64 by 64 places that
+    /// holds an asked place. Where there is none it gives the error, and nothing changes.
+    pub fn compose(&mut self, out: &mut Vec<u8>) -> Result<bool, AllocError>
+        ensures composed { IfOk result (λ did. did ≡ true →
+            Updates self.old self.new out.old.items out.new.items) }
+        ensures idle { IfOk result (λ did. did ≡ false →
+            StaysUnsent self.old self.new out.old.items out.new.items) }
+        ensures kept { OnErr result (out.new.items ≡ out.old.items) }
+        ensures same { OnErr result (Keeps self.old self.new) }
+        ensures failed { fault_of self.old ≢ None → result ≡ Ok false }
+    {
+        self.session.compose(&self.screen, out)
+    }
+
     /// The ProtocolVersion that is sent before all else, RFC 6143 section 7.1.1.
     pub fn greeting(&self) -> [u8; 12]
         ensures { (serving : Serving) (s : ServerState) (prefix : List ℕ)
@@ -166,6 +186,23 @@ impl Server {
             → StandsFor serving self.now s prefix → result.now ≡ s.area }
     {
         self.session.asked()
+    }
+
+    /// Lends what is recorded of the viewer: at each place that `known` has as asked the pixel that
+    /// the viewer has or will have, in the format of the session. Elsewhere it says nothing.
+    pub fn recorded(&self) -> &Picture<u32>
+        ensures { (serving : Serving) (s : ServerState) (prefix : List ℕ)
+            → StandsFor serving self.now s prefix → ShowsKnown s.known result.now }
+    {
+        self.session.recorded()
+    }
+
+    /// Lends the places of which it is known what the viewer has, as asked ones.
+    pub fn known(&self) -> &Area
+        ensures { (serving : Serving) (s : ServerState) (prefix : List ℕ)
+            → StandsFor serving self.now s prefix → TellsKnown s.known result.now }
+    {
+        self.session.known()
     }
 
     /// The format that updates are sent in.

@@ -5,7 +5,9 @@ ghost use Rattle.rfb_picture.specs.Grid.{Holds, filled};
 ghost use Rattle.rfb_server.specs.Marks.{AreAlike};
 
 mod asking;
+mod composing;
 mod greeting;
+mod needing;
 mod progress;
 mod telling;
 
@@ -14,8 +16,9 @@ use crate::hint::{Hint, MAX_HINTS};
 use crate::record::Record;
 use crate::session::progress::Progress;
 use circular_buffer::HeapCircularBuffer;
+use rfb_codec::Block;
 use rfb_hello::{ServerHello, Version};
-use rfb_picture::{Area, PlaceSet, Rect};
+use rfb_picture::{Area, Picture, PlaceSet, Rect};
 use rfb_pixel::Format;
 use std::alloc::{AllocError, Global};
 
@@ -33,6 +36,8 @@ pub struct Session {
     area: Area,
     marks: PlaceSet,
     hints: HeapCircularBuffer<Hint>,
+    // The latest rectangle that was sent, kept for its room.
+    block: Block,
     ghost alike: { AreAlike known area marks },
     ghost sixteen: { hints.capacity ≡ 16 },
 }
@@ -46,6 +51,7 @@ impl Session {
     ghost use Rattle.rfb_hello.specs.Version.{version_text};
     ghost use Rattle.rfb_hello.specs.ServerStanding.{setup_of};
     ghost use Rattle.rfb_server.specs.Sessions.{IsUnseen, IsMarked, IsHinted};
+    ghost use Rattle.rfb_server.specs.Record.{ShowsKnown, TellsKnown};
 
     /// A session that was fed nothing, over a black screen of that size. It asks for all the memory
     /// that it will have but for texts; where there is none it gives the error, and nothing is
@@ -87,6 +93,7 @@ impl Session {
             area,
             marks,
             hints,
+            block: Block::single(0),
         })
     }
 
@@ -117,6 +124,20 @@ impl Session {
         ensures { result.now ≡ self.now.area }
     {
         &self.area
+    }
+
+    /// Lends the pixels that are known of the viewer, each at its place.
+    pub(crate) fn recorded(&self) -> &Picture<u32>
+        ensures { ShowsKnown self.now.known result.now }
+    {
+        self.known.pixels()
+    }
+
+    /// Lends the set of the places of which they are known, as asked ones.
+    pub(crate) fn known(&self) -> &Area
+        ensures { TellsKnown self.now.known result.now }
+    {
+        self.known.known()
     }
 
     /// The format that updates are sent in.

@@ -33,6 +33,7 @@ impl Record {
         ensures sized { IsSized rect.w rect.h block.new }
         ensures packed { PacksRect format.now screen.now rect block.new }
         ensures fits { HasPixels format.now block.new }
+        ensures whole { IsGrid self.new }
         ensures width { self.new.width ≡ self.old.width }
         ensures height { self.new.height ≡ self.old.height }
         ensures recorded { IsRecorded rect block.new self.old self.new }

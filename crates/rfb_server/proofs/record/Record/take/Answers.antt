@@ -1,6 +1,6 @@
 use Rattle.std.proofs.Common.{false, ap, sym, ◌∙◌}
 use Rattle.rfb_picture.proofs.AreaLemmas.{area-added}
-use Rattle.rfb_server.proofs.RecordLemmas.{width-record_of, height-record_of, recorded_of}
+use Rattle.rfb_server.proofs.RecordLemmas.{width-record_of, height-record_of, whole-record_of, recorded_of}
 use Rattle.rfb_server.proofs.record.Record.take.Goals as goal
 
 pub pack-requires-clause-held : goal.pack-requires-clause-held
@@ -44,3 +44,6 @@ returns-clause-recorded c =
     rw (c.add.ensures.value, ← c.self.view_is)
     (recorded_of c.self.inside.pixels c.put_block.new.pixels c.pack.new.self c.self.inside.known.asked c.args.rect c.self.invariant.area.asks c.self.invariant.wide c.self.invariant.high
     c.put_block.ensures.width c.put_block.ensures.height c.put_block.ensures.each)
+
+pub returns-clause-whole : goal.returns-clause-whole
+returns-clause-whole c = whole-record_of _ _

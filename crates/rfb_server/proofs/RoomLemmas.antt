@@ -1,0 +1,127 @@
+-- Room for the rectangles of an update, cell by cell.
+use Rattle.std.proofs.Common.{◌≡◌, ℕ, zero, suc, ◌+◌, ◌-◌, ◌*◌, ◌<◌, ◌≤◌, Bool, true, nat_eq, if◌then◌else◌, refl, ap, subst, ◌∙◌, arith, inl, inr, add-one}
+use Rattle.std.specs.Int.{div_ceil}
+use Rattle.std.proofs.lemmas.Bool.{cases_eq, both_ways}
+use Rattle.std.proofs.lemmas.Bool.Decides.{nat_tests}
+use Rattle.std.proofs.Math.Nat.{mul-le-mul_right, mul-le-mul_left}
+use Rattle.rfb_pixel.specs.Format.{PixelFormat, size_of}
+use Rattle.rfb_picture.specs.declared.rect.Rect.{Rect}
+use Rattle.rfb_picture.specs.Rect.{contains}
+use Rattle.rfb_picture.specs.Grid.{Grid}
+use Rattle.rfb_picture.specs.Box.{is_in, IsClear, IsTight, IsBox}
+use Rattle.rfb_picture.proofs.GridLemmas.{contains_true, contains_row}
+use Rattle.rfb_server.specs.Cells.{IsCell}
+use Rattle.rfb_server.specs.Sends.{sum_below, IsCost, AreCosts}
+
+-- ---- sums
+
+pub sum_same : (f g : ℕ → ℕ) (n : ℕ) → ((i : ℕ) → i < n → f i ≡ g i) → sum_below f n ≡ sum_below g n
+sum_same f g zero same = refl
+sum_same f g (suc n) same = rw (sum_same f g n (λ i l. same i (omega arith)), same n (omega arith)) refl
+
+pub sum_more : (cost : ℕ → ℕ) (n : ℕ) → sum_below cost (n + 1) ≡ sum_below cost n + cost n
+sum_more cost n = ap (sum_below cost) (add-one n)
+
+-- a sum of more is no less
+pub sum_order : (cost : ℕ → ℕ) (n m : ℕ) → n ≤ m → sum_below cost n ≤ sum_below cost m
+sum_order cost n zero l = let e : n ≡ 0 = omega arith in rw e (omega arith)
+sum_order cost n (suc m) l =
+    elim (cases_eq n (suc m)) [
+      | inl e ↦ rw e (omega arith)
+      | inr other ↦ omega (arith, sum_order cost n m (omega arith))
+    ]
+
+-- ---- costs
+
+-- the cost of one cell more
+abbrev pub with_cost : ℕ → ℕ → (ℕ → ℕ) → ℕ → ℕ
+with_cost n c cost i = if nat_eq i n then c else cost i
+
+with_here : (n c : ℕ) (cost : ℕ → ℕ) → with_cost n c cost n ≡ c
+with_here n c cost = grind (arith, nat_tests)
+
+with_other : (n c : ℕ) (cost : ℕ → ℕ) (i : ℕ) → i < n → with_cost n c cost i ≡ cost i
+with_other n c cost i l = grind (arith, nat_tests)
+
+pub sum_with : (n c : ℕ) (cost : ℕ → ℕ) → sum_below (with_cost n c cost) (n + 1) ≡ sum_below cost n + c
+sum_with n c cost =
+    sum_more (with_cost n c cost) n
+    ∙ (rw (sum_same (with_cost n c cost) cost n (with_other n c cost), with_here n c cost) refl)
+
+module _ (width height across : ℕ) (marks : Grid Bool) (form : PixelFormat) where
+  pub costs_none : (cost : ℕ → ℕ) → AreCosts width height across marks form 0 cost
+  costs_none cost = λ i cell l is. absurd (omega arith)
+
+  pub costs_more : (n c : ℕ) (cost : ℕ → ℕ) → AreCosts width height across marks form n cost →
+      ((cell : Rect) → IsCell width height across n cell → IsCost marks form cell c) →
+      AreCosts width height across marks form (n + 1) (with_cost n c cost)
+  costs_more n c cost before here = λ i cell l is.
+      elim (cases_eq i n) [
+        | inl e ↦
+            let is' : IsCell width height across n cell = subst (λ (k : ℕ). IsCell width height across k cell) e is in
+            let same : with_cost n c cost i ≡ c = rw e (with_here n c cost) in
+            rw same (here cell is')
+        | inr other ↦
+            let same : with_cost n c cost i ≡ cost i = with_other n c cost i (omega arith) in
+            rw same (before i cell (omega arith) is)
+      ]
+
+  -- an edge of a rectangle in a cell is a marked place of the cell
+  edge : (n : ℕ) (cell other r : Rect) (x y : ℕ) → IsCell width height across n cell → IsCell width height across n other →
+      cell.x ≤ r.x → r.x + r.w ≤ cell.x + cell.w → cell.y ≤ r.y → r.y + r.h ≤ cell.y + cell.h →
+      contains r x y ≡ true → contains other x y ≡ true
+  edge n cell other r x y is that a b d e c =
+      let (x0, x1, y0, y1) = contains_true r x y c in
+      let there : contains cell x y ≡ true = contains_row cell x y (omega arith) (omega arith) (omega arith) (omega arith) in
+      let (f, g, h, i) = contains_true cell x y there in
+      that.all x y (omega (arith, is.held)) (omega (arith, is.held)) (is.inside x y there)
+
+  -- nothing marked costs nothing
+  pub cost_clear : (n : ℕ) (other cell : Rect) → IsCell width height across n other → IsCell width height across n cell →
+      IsClear (is_in marks) other.x (other.x + other.w) other.y (other.y + other.h) → IsCost marks form cell 0
+  cost_clear n other cell that is clear = λ r tight a b c d.
+      let (j, inside, m) = tight.left in
+      let (f, g, h, i) = contains_true other r.x j (edge n cell other r r.x j is that a b c d inside) in
+      absurd (both_ways (is_in marks r.x j) (clear r.x j f g h i) m)
+
+  -- a rectangle whose edges are marked lies in the marked zone of the cell
+  pub in_zone : (n : ℕ) (other cell zone r : Rect) → IsCell width height across n other → IsCell width height across n cell →
+      IsBox (is_in marks) other zone → IsTight (is_in marks) r →
+      cell.x ≤ r.x → r.x + r.w ≤ cell.x + cell.w → cell.y ≤ r.y → r.y + r.h ≤ cell.y + cell.h →
+      (r.w ≤ zone.w) × (r.h ≤ zone.h)
+  in_zone n other cell zone r that is box tight a b c d =
+      let (j0, c0, m0) = tight.left in
+      let (j1, c1, m1) = tight.right in
+      let (i2, c2, m2) = tight.top in
+      let (i3, c3, m3) = tight.bottom in
+      let l = contains_true zone r.x j0 (box.holds r.x j0 (edge n cell other r r.x j0 is that a b c d c0) m0) in
+      let g = contains_true zone (r.x + r.w - 1) j1 (box.holds (r.x + r.w - 1) j1 (edge n cell other r (r.x + r.w - 1) j1 is that a b c d c1) m1) in
+      let t = contains_true zone i2 r.y (box.holds i2 r.y (edge n cell other r i2 r.y is that a b c d c2) m2) in
+      let u = contains_true zone i3 (r.y + r.h - 1) (box.holds i3 (r.y + r.h - 1) (edge n cell other r i3 (r.y + r.h - 1) is that a b c d c3) m3) in
+      (omega (arith, l, g), omega (arith, t, u))
+
+  pub cost_zone : (n : ℕ) (other cell zone : Rect) → IsCell width height across n other → IsCell width height across n cell →
+      IsBox (is_in marks) other zone → IsCost marks form cell (12 + zone.h * zone.w * size_of form)
+  cost_zone n other cell zone that is box = λ r tight a b c d.
+      let (w, h) = in_zone n other cell zone r that is box tight a b c d in
+      let rows : r.h * r.w ≤ zone.h * r.w = mul-le-mul_right r.w h in
+      let columns : zone.h * r.w ≤ zone.h * zone.w = mul-le-mul_left zone.h w in
+      let all : r.h * r.w ≤ zone.h * zone.w = omega arith in
+      let bytes : r.h * r.w * size_of form ≤ zone.h * zone.w * size_of form = mul-le-mul_right (size_of form) all in
+      omega arith
+
+-- so few columns and rows have so few places
+pub few_places : (w h size : ℕ) → w ≤ 64 → h ≤ 64 → size ≤ 4 → h * w * size ≤ 16384
+few_places w h size a b c =
+    let rows : h * w ≤ 64 * w = mul-le-mul_right w b in
+    let all : h * w ≤ 4096 = omega arith in
+    let bytes : h * w * size ≤ 4096 * size = mul-le-mul_right size all in
+    omega arith
+
+-- and a screen so few cells
+pub few_cells : (w h : ℕ) → w ≤ 4096 → h ≤ 4096 → div_ceil w 64 * div_ceil h 64 ≤ 4096
+few_cells w h a b =
+    let across : div_ceil w 64 ≤ 64 = omega arith in
+    let down : div_ceil h 64 ≤ 64 = omega arith in
+    let some : div_ceil w 64 * div_ceil h 64 ≤ 64 * div_ceil h 64 = mul-le-mul_right (div_ceil h 64) across in
+    omega arith

@@ -1,0 +1,300 @@
+-- A cell more in a composing: one that has nothing to send, and one of which a rectangle is sent.
+use Rattle.std.proofs.Common.{◌≡◌, ℕ, ◌+◌, ◌-◌, ◌<◌, ◌&&◌, ◌||◌, Bool, true, false, not, List, [], ◌∷◌, ◌++◌, map, Option, Some, None, if◌then◌else◌, refl, sym, ap, ◌∙◌, arith, inl, inr, ◌⊎◌, append_assoc, append-nil, length-append, ◌==◌}
+use Rattle.std.proofs.lemmas.Bool.{cases_eq, both_ways, or_left, or_right}
+use Rattle.std.proofs.lemmas.Bool.Decides.{nat_tests}
+use Rattle.rfb_pixel.specs.declared.colour.Colour.{Colour}
+use Rattle.rfb_pixel.specs.Format.{PixelFormat}
+use Rattle.rfb_picture.specs.declared.rect.Rect.{Rect}
+use Rattle.rfb_picture.specs.Rect.{contains}
+use Rattle.rfb_picture.specs.Grid.{Grid, IsGrid, at_or}
+use Rattle.rfb_picture.specs.Area.{IsArea}
+use Rattle.rfb_picture.specs.Box.{IsClear, IsBox}
+use Rattle.rfb_picture.proofs.GridLemmas.{contains_true, contains_row}
+use Rattle.rfb_codec.specs.Codec.{PacksRect}
+use Rattle.rfb_codec.specs.RectData.{Pixels}
+use Rattle.rfb_codec.specs.UpdateStream.{Rectangle}
+use Rattle.rfb_codec.specs.Effect.{effect, effects, IsAlike, Agrees, IsRecorded}
+use Rattle.rfb_codec.specs.WholeUpdate.{item_of, SpellsRectangles}
+use Rattle.rfb_codec.proofs.EffectLaws.{effect_painted, effects_picture, agrees_placed}
+use Rattle.rfb_server.specs.Server.{ServerState, black}
+use Rattle.rfb_server.specs.Request.{wanted_at, wanted, recorded, is_asked, is_whole, differs, needs_at, needs_sending}
+use Rattle.rfb_server.specs.Cells.{cell_of, IsCell}
+use Rattle.rfb_server.specs.Composing.{Part, sent_as, between, IsPlace, HasItsData, HaveTheirData, IsBlockOf, AreBlocksOf, is_in_some}
+use Rattle.rfb_server.specs.Sends.{SendsPixels, Sends}
+
+-- ---- what needs no sending
+
+same_number : (a b : ℕ) → not (a == b) ≡ false → a ≡ b
+same_number a b e = grind (arith, nat_tests)
+
+not_differs : (pixel : ℕ) (old : Option ℕ) → differs pixel old ≡ false → old ≡ Some pixel
+not_differs pixel None e = absurd cc
+not_differs pixel (Some old) e = ap (λ (k : ℕ). Some k) (same_number old pixel e)
+
+-- an asked place that needs no sending is recorded with the wanted pixel, and is not whole
+pub quiet_place : (asked whole : Bool) (pixel : ℕ) (old : Option ℕ) → (asked && (whole || differs pixel old)) ≡ false →
+    asked ≡ true → (old ≡ Some pixel) × (whole ≡ false)
+quiet_place true true pixel old e a = absurd cc
+quiet_place true false pixel old e a = (not_differs pixel old e, refl)
+quiet_place false whole pixel old e a = absurd cc
+
+-- ---- lists that get one more
+
+module _ (s : ServerState) where
+  pub effects_push : (parts : List Part) (part : Part) (picture : Grid Colour) →
+      effects (between s) (map item_of (map sent_as (parts ++ part ∷ []))) picture
+      ≡ effect (between s) (Rectangle part.head part.body) (effects (between s) (map item_of (map sent_as parts)) picture)
+  effects_push [] part picture = refl
+  effects_push (first ∷ parts) part picture = effects_push parts part (effect (between s) (Rectangle first.head first.body) picture)
+
+  pub spelled_push : (parts : List Part) (part : Part) (bytes more : List ℕ) → SpellsRectangles (between s) (map sent_as parts) bytes →
+      SpellsRectangles (between s) (sent_as part ∷ []) more →
+      SpellsRectangles (between s) (map sent_as (parts ++ part ∷ [])) (bytes ++ more)
+  spelled_push [] part bytes more none one = rw none one
+  spelled_push (first ∷ parts) part bytes more (front, back, whole, here, rest) one =
+      (front, back ++ more, rw whole (append_assoc front back more), here, spelled_push parts part back more rest one)
+
+  pub data_push : (parts : List Part) (part : Part) → HaveTheirData s parts → HasItsData s part → HaveTheirData s (parts ++ part ∷ [])
+  data_push [] part all one = (one, tt)
+  data_push (first ∷ parts) part (here, rest) one = (here, data_push parts part rest one)
+
+  pub blocks_push : (parts : List Part) (part : Part) → AreBlocksOf s parts → IsBlockOf s part → AreBlocksOf s (parts ++ part ∷ [])
+  blocks_push [] part all one = (one, tt)
+  blocks_push (first ∷ parts) part (here, rest) one = (here, blocks_push parts part rest one)
+
+pub in_push : (parts : List Part) (part : Part) (x y : ℕ) → is_in_some (parts ++ part ∷ []) x y ≡ (is_in_some parts x y || contains part.head.rect x y)
+in_push [] part x y = or_none (contains part.head.rect x y)
+  where
+    or_none : (b : Bool) → (b || false) ≡ (false || b)
+    or_none true = refl
+    or_none false = refl
+in_push (first ∷ parts) part x y = rw (in_push parts part x y) (or_swing (contains first.head.rect x y) (is_in_some parts x y) (contains part.head.rect x y))
+  where
+    or_swing : (a b c : Bool) → (a || (b || c)) ≡ ((a || b) || c)
+    or_swing true b c = refl
+    or_swing false b c = refl
+
+-- ---- a rectangle
+
+-- what is recorded behind it
+pub noted_at : (screen : Grid Colour) (form : PixelFormat) (rect : Rect) (block : Grid ℕ) (known now : Grid (Option ℕ)) (x y : ℕ) →
+    PacksRect form screen rect block → IsRecorded rect block known now → x < now.width → y < now.height →
+    at_or now x y None ≡ (if contains rect x y then Some (wanted_at screen form x y) else at_or known x y None)
+noted_at screen form rect block known now x y packed noted p q = noted x y p q ∙ by (contains rect x y) refl
+  where
+    by : (here : Bool) → contains rect x y ≡ here →
+        (if here then Some (at_or block (x - rect.x) (y - rect.y) 0) else at_or known x y None)
+        ≡ (if here then Some (wanted_at screen form x y) else at_or known x y None)
+    by true e =
+        let (a, b, c, d) = contains_true rect x y e in
+        let column : rect.x + (x - rect.x) ≡ x = omega arith in
+        let row : rect.y + (y - rect.y) ≡ y = omega arith in
+        let pixel = packed (x - rect.x) (y - rect.y) black 0 (omega arith) (omega arith) in
+        ap (λ (k : ℕ). Some k) (rw (column, row) at pixel)
+    by false e = refl
+
+-- it as a part of an update
+abbrev pub part_of : (rect : Rect) (screen : Grid Colour) (s : ServerState) (known now : Grid (Option ℕ)) (bytes : List ℕ) → SendsPixels screen s.form s.encodings rect known now bytes → Part
+part_of rect screen s known now bytes sent = record {
+  head = record { rect = rect; encoding = sent.encoding };
+  contents = Pixels sent.block;
+  body = sent.coded.body;
+}
+
+-- ---- the relation
+
+module _ (across : ℕ) (s : ServerState) where
+  pub sends_start : IsGrid s.known → Sends across 0 s s.known [] []
+  sends_start whole = record {
+    whole = whole;
+    alike = record { columns = refl; rows = refl };
+    few = omega arith;
+    idle = λ _. refl;
+    spelled = refl;
+    data_are = tt;
+    blocks_are = tt;
+    agrees = λ picture sound size agrees. agrees;
+    answered = λ x y p l a. absurd (omega arith);
+    others = λ x y p. inl refl;
+    later = λ x y p l. refl;
+    renewed = λ x y p l w. absurd (omega arith);
+  }
+
+  -- a cell of which nothing needs sending
+  pub sends_none : (n : ℕ) (known : Grid (Option ℕ)) (parts : List Part) (bytes : List ℕ) (cell : Rect) → IsArea s.area →
+      s.area.asked.width ≡ s.screen.width → s.area.asked.height ≡ s.screen.height →
+      IsCell s.screen.width s.screen.height across n cell →
+      IsClear (needs_at s.screen known s.area s.form) cell.x (cell.x + cell.w) cell.y (cell.y + cell.h) →
+      Sends across n s known parts bytes → Sends across (n + 1) s known parts bytes
+  sends_none n known parts bytes cell area wide high is clear sends = record {
+    whole = sends.whole;
+    alike = sends.alike;
+    few = omega (arith, sends.few);
+    idle = sends.idle;
+    spelled = sends.spelled;
+    data_are = sends.data_are;
+    blocks_are = sends.blocks_are;
+    agrees = sends.agrees;
+    answered = λ x y p l a.
+        elim (cases_eq (cell_of across x y) n) [
+          | inl here ↦ (quiet x y p here a).0
+          | inr other ↦ sends.answered x y p (omega arith) a
+        ];
+    others = sends.others;
+    later = λ x y p l. sends.later x y p (omega arith);
+    renewed = λ x y p l w.
+        elim (cases_eq (cell_of across x y) n) [
+          | inl here ↦ absurd (both_ways (is_whole s x y) (quiet x y p here (area.inside x y (rw wide p.0) (rw high p.1) w)).1 w)
+          | inr other ↦ sends.renewed x y p (omega arith) w
+        ];
+  }
+    where
+      quiet : (x y : ℕ) → IsPlace s x y → cell_of across x y ≡ n → is_asked s x y ≡ true →
+          (at_or known x y None ≡ Some (wanted s x y)) × (is_whole s x y ≡ false)
+      quiet x y p here a =
+          let (f, g, h, i) = contains_true cell x y (is.all x y p.0 p.1 here) in
+          quiet_place (is_asked s x y) (is_whole s x y) (wanted s x y) (at_or known x y None) (clear x y f g h i) a
+
+  -- a cell of which a rectangle is sent
+  pub sends_some : (n : ℕ) (known now : Grid (Option ℕ)) (parts : List Part) (bytes more : List ℕ) (cell rect : Rect) →
+      IsAlike s.screen s.known → IsArea s.area →
+      s.area.asked.width ≡ s.screen.width → s.area.asked.height ≡ s.screen.height →
+      IsCell s.screen.width s.screen.height across n cell →
+      IsBox (needs_at s.screen known s.area s.form) cell rect →
+      (sent : SendsPixels s.screen s.form s.encodings rect known now more) →
+      Sends across n s known parts bytes →
+      Sends across (n + 1) s now (parts ++ part_of rect s.screen s known now more sent ∷ []) (bytes ++ more)
+  sends_some n known now parts bytes more cell rect size area wide high is box sent sends = record {
+    whole = sent.whole;
+    alike = record { columns = sends.alike.columns ∙ sent.alike.columns; rows = sends.alike.rows ∙ sent.alike.rows };
+    few = rw (length-append parts (part ∷ [])) (omega (arith, sends.few));
+    idle = λ e. absurd (not_empty parts part e);
+    spelled = spelled_push s parts part bytes more sends.spelled spelled;
+    data_are = data_push s parts part sends.data_are data_are;
+    blocks_are = blocks_push s parts part sends.blocks_are block_is;
+    agrees = agrees;
+    answered = answered;
+    others = others;
+    later = λ x y p l. step x y p ∙ (rw (outside x y p (omega arith)) (sends.later x y p (omega arith)));
+    renewed = renewed;
+  }
+    where
+      part : Part
+      part = record { head = record { rect = rect; encoding = sent.encoding }; contents = Pixels sent.block; body = sent.coded.body }
+
+      not_empty : (parts : List Part) (last : Part) → parts ++ last ∷ [] ≡ [] → ⊥
+      not_empty [] last e = cc
+      not_empty (first ∷ parts) last e = cc
+
+      in_now : (x y : ℕ) → IsPlace s x y → (x < now.width) × (y < now.height)
+      in_now x y p = (rw (← sent.alike.columns, ← sends.alike.columns, ← size.columns) p.0, rw (← sent.alike.rows, ← sends.alike.rows, ← size.rows) p.1)
+
+      -- what is known behind it
+      step : (x y : ℕ) → IsPlace s x y → at_or now x y None ≡ (if contains rect x y then Some (wanted s x y) else at_or known x y None)
+      step x y p = let (a, b) = in_now x y p in noted_at s.screen s.form rect sent.block known now x y sent.packed sent.noted a b
+
+      -- a place of the rectangle is of the cell
+      in_cell : (x y : ℕ) → contains rect x y ≡ true → (contains cell x y ≡ true) × (IsPlace s x y) × (cell_of across x y ≡ n)
+      in_cell x y c =
+          let (a, b, d, e) = contains_true rect x y c in
+          let there : contains cell x y ≡ true = contains_row cell x y (omega (arith, box.within)) (omega (arith, box.within)) (omega (arith, box.within)) (omega (arith, box.within)) in
+          let (f, g, h, i) = contains_true cell x y there in
+          (there, (omega (arith, is.held), omega (arith, is.held)), is.inside x y there)
+
+      outside_by : (x y : ℕ) (here : Bool) → contains rect x y ≡ here → (cell_of across x y ≡ n → ⊥) → here ≡ false
+      outside_by x y true e other = absurd (other (in_cell x y e).2)
+      outside_by x y false e other = refl
+
+      outside : (x y : ℕ) → IsPlace s x y → (cell_of across x y ≡ n → ⊥) → contains rect x y ≡ false
+      outside x y p other = outside_by x y (contains rect x y) refl other
+
+      spelled : SpellsRectangles (between s) (sent_as part ∷ []) more
+      spelled = (
+        more,
+        [],
+        sym (append-nil more),
+        record {
+          front = sent.coded.head;
+          whole = sent.coded.whole;
+          head_is = sent.coded.head_is;
+          on_screen = (omega (arith, box.within, is.held), omega (arith, box.within, is.held));
+          body_is = (Pixels sent.block, sent.coded.body_is s.screen.width s.screen.height);
+        },
+        refl,
+      )
+
+      data_are : HasItsData s part
+      data_are = sent.coded.body_is s.screen.width s.screen.height
+
+      -- the places that need sending have not changed in this cell
+      same_need : (x y : ℕ) → contains rect x y ≡ true → needs_at s.screen known s.area s.form x y ≡ true → needs_sending s x y ≡ true
+      same_need x y c e =
+          let (there, p, here) = in_cell x y c in
+          rw (sends.later x y p (omega arith)) at e
+
+      block_is : IsBlockOf s part
+      block_is = record {
+        block = sent.block;
+        contents_are = refl;
+        may_be_sent = sent.may_be_sent;
+        tight = record {
+          some = box.tight.some;
+          left = let (j, c, e) = box.tight.left in (j, c, same_need rect.x j c e);
+          right = let (j, c, e) = box.tight.right in (j, c, same_need (rect.x + rect.w - 1) j c e);
+          top = let (i, c, e) = box.tight.top in (i, c, same_need i rect.y c e);
+          bottom = let (i, c, e) = box.tight.bottom in (i, c, same_need i (rect.y + rect.h - 1) c e);
+        };
+      }
+
+      agrees : (picture : Grid Colour) → IsGrid picture → IsAlike picture s.known → Agrees s.form picture s.known →
+          Agrees s.form (effects (between s) (map item_of (map sent_as (parts ++ part ∷ []))) picture) now
+      agrees picture whole alike before =
+          let shown : Grid Colour = effects (between s) (map item_of (map sent_as parts)) picture in
+          let kept = effects_picture (between s) (map item_of (map sent_as parts)) picture in
+          let fits : IsAlike shown known = record { columns = kept.columns ∙ (alike.columns ∙ sends.alike.columns); rows = kept.rows ∙ (alike.rows ∙ sends.alike.rows) } in
+          rw (effects_push s parts part picture, effect_painted (between s) part.head part.contents part.body shown data_are)
+          (agrees_placed s.form rect shown known sent.block now (kept.whole whole) fits sent.alike (sends.agrees picture whole alike before) sent.noted)
+
+      by_inside : (x y : ℕ) → IsPlace s x y → (here : Bool) → contains rect x y ≡ here → (here ≡ false → at_or known x y None ≡ Some (wanted s x y)) →
+          at_or now x y None ≡ Some (wanted s x y)
+      by_inside x y p true e old = step x y p ∙ (rw e refl)
+      by_inside x y p false e old = step x y p ∙ (rw e (old refl))
+
+      not_needed_by : (x y : ℕ) (need : Bool) → needs_at s.screen known s.area s.form x y ≡ need → contains cell x y ≡ true → contains rect x y ≡ false → need ≡ false
+      not_needed_by x y true e c out = absurd (both_ways (contains rect x y) out (box.holds x y c e))
+      not_needed_by x y false e c out = refl
+
+      not_needed : (x y : ℕ) → IsPlace s x y → cell_of across x y ≡ n → contains rect x y ≡ false → needs_at s.screen known s.area s.form x y ≡ false
+      not_needed x y p here out = not_needed_by x y (needs_at s.screen known s.area s.form x y) refl (is.all x y p.0 p.1 here) out
+
+      answered : (x y : ℕ) → IsPlace s x y → cell_of across x y < n + 1 → is_asked s x y ≡ true → at_or now x y None ≡ Some (wanted s x y)
+      answered x y p l a =
+          by_inside x y p (contains rect x y) refl
+          (λ out. elim (cases_eq (cell_of across x y) n) [
+            | inl here ↦ (quiet_place (is_asked s x y) (is_whole s x y) (wanted s x y) (at_or known x y None) (not_needed x y p here out) a).0
+            | inr other ↦ sends.answered x y p (omega arith) a
+          ])
+
+      others_by : (x y : ℕ) (here : Bool) → (at_or known x y None ≡ recorded s x y) ⊎ (at_or known x y None ≡ Some (wanted s x y)) →
+          at_or now x y None ≡ (if here then Some (wanted s x y) else at_or known x y None) →
+          (at_or now x y None ≡ recorded s x y) ⊎ (at_or now x y None ≡ Some (wanted s x y))
+      others_by x y true old e = inr e
+      others_by x y false (inl same) e = inl (e ∙ same)
+      others_by x y false (inr right) e = inr (e ∙ right)
+
+      others : (x y : ℕ) → IsPlace s x y → (at_or now x y None ≡ recorded s x y) ⊎ (at_or now x y None ≡ Some (wanted s x y))
+      others x y p = others_by x y (contains rect x y) (sends.others x y p) (step x y p)
+
+      renewed_by : (x y : ℕ) (here : Bool) → IsPlace s x y → contains rect x y ≡ here → cell_of across x y < n + 1 → is_whole s x y ≡ true →
+          (is_in_some parts x y || here) ≡ true
+      renewed_by x y true p e l w = or_right (is_in_some parts x y) true refl
+      renewed_by x y false p e l w =
+          elim (cases_eq (cell_of across x y) n) [
+            | inl here ↦
+                let a : is_asked s x y ≡ true = area.inside x y (rw wide p.0) (rw high p.1) w in
+                absurd (both_ways (is_whole s x y) (quiet_place (is_asked s x y) (is_whole s x y) (wanted s x y) (at_or known x y None) (not_needed x y p here e) a).1 w)
+            | inr other ↦ or_left (is_in_some parts x y) false (sends.renewed x y p (omega arith) w)
+          ]
+
+      renewed : (x y : ℕ) → IsPlace s x y → cell_of across x y < n + 1 → is_whole s x y ≡ true → is_in_some (parts ++ part ∷ []) x y ≡ true
+      renewed x y p l w = rw (in_push parts part x y) (renewed_by x y (contains rect x y) p refl l w)

@@ -1,0 +1,96 @@
+-- A rectangle that is sent, for the session that sends it.
+use Rattle.std.proofs.Common.{◌≡◌, ℕ, ◌+◌, ◌-◌, ◌*◌, ◌<◌, ◌≤◌, Bool, true, false, List, ◌++◌, length, Option, Some, None, if◌then◌else◌, refl, ◌∙◌, arith, inl, inr, length-append}
+use Rattle.rfb_pixel.specs.declared.colour.Colour.{Colour}
+use Rattle.rfb_pixel.specs.Format.{PixelFormat, size_of}
+use Rattle.rfb_picture.specs.declared.rect.Rect.{Rect}
+use Rattle.rfb_picture.specs.Rect.{contains}
+use Rattle.rfb_picture.specs.Grid.{Grid, IsGrid, Holds, at_or}
+use Rattle.rfb_picture.specs.Box.{is_in, IsTight, IsBox}
+use Rattle.rfb_picture.specs.Area.{Places}
+use Rattle.rfb_picture.proofs.GridLemmas.{contains_true}
+use Rattle.rfb_wire.specs.declared.encoding.Encoding.{Encoding}
+use Rattle.rfb_wire.specs.declared.encoding.Encoding.TheVariants.{Raw}
+use Rattle.rfb_codec.specs.Codec.{PacksRect}
+use Rattle.rfb_codec.specs.Pixels.{IsSized}
+use Rattle.rfb_codec.specs.Raw.{raw_length}
+use Rattle.rfb_codec.specs.Effect.{IsAlike, IsRecorded}
+use Rattle.rfb_server.specs.declared.session.Session.{Session}
+use Rattle.rfb_server.specs.Request.{wanted_at}
+use Rattle.rfb_server.specs.Marks.{AreAlike, IsCaughtUp}
+use Rattle.rfb_server.specs.Needing.{IsAbout, needs_of}
+use Rattle.rfb_server.specs.Composing.{may_send}
+use Rattle.rfb_server.specs.Sending.{SendsRect}
+use Rattle.rfb_server.specs.Sends.{SendsPixels, AppendsPixels}
+use Rattle.rfb_server.proofs.NeedingLemmas.{needed_marked}
+use Rattle.rfb_server.proofs.SendsLemmas.{noted_at}
+
+-- a record that has taken the pixels of the screen has caught up as much as before
+pub caught_sent : (screen : Grid Colour) (known now : Grid (Option ℕ)) (area : Places) (form : PixelFormat) (marks : Grid Bool) (rect : Rect) (block : Grid ℕ) →
+    AreAlike known area marks → IsAlike known now → PacksRect form screen rect block → IsRecorded rect block known now →
+    IsCaughtUp screen known area form marks → IsCaughtUp screen now area form marks
+caught_sent screen known now area form marks rect block alike size packed noted caught = record {
+  right = λ x y p q e.
+      let wide : x < now.width = rw (← size.columns, ← alike.marks_wide) p in
+      let high : y < now.height = rw (← size.rows, ← alike.marks_high) q in
+      noted_at screen form rect block known now x y packed noted wide high ∙ by (contains rect x y) x y (caught.right x y p q e);
+  not_whole = caught.not_whole;
+}
+  where
+    by : (here : Bool) (x y : ℕ) → at_or known x y None ≡ Some (wanted_at screen form x y) →
+        (if here then Some (wanted_at screen form x y) else at_or known x y None) ≡ Some (wanted_at screen form x y)
+    by true x y old = refl
+    by false x y old = old
+
+-- the places of one screen
+pub alike_sent : (known now : Grid (Option ℕ)) (area : Places) (marks : Grid Bool) → IsGrid now → IsAlike known now →
+    AreAlike known area marks → AreAlike now area marks
+alike_sent known now area marks whole size alike = record {
+  known_whole = whole;
+  area_is = alike.area_is;
+  marks_whole = alike.marks_whole;
+  area_wide = alike.area_wide ∙ size.columns;
+  area_high = alike.area_high ∙ size.rows;
+  marks_wide = alike.marks_wide ∙ size.columns;
+  marks_high = alike.marks_high ∙ size.rows;
+  columns = rw (← size.columns) alike.columns;
+  rows = rw (← size.rows) alike.rows;
+}
+
+-- what was appended, in the encoding or in Raw
+pub appends_pixels : (screen : Grid Colour) (form : PixelFormat) (encodings : List Encoding) (rect : Rect) (encoding : Encoding) (block : Grid ℕ) (known now : Grid (Option ℕ)) (before after : List ℕ) →
+    may_send encodings encoding ≡ true → IsSized rect.w rect.h block → PacksRect form screen rect block → IsRecorded rect block known now → IsGrid now → IsAlike known now →
+    SendsRect form rect encoding block before after →
+    (bytes : List ℕ) × (after ≡ before ++ bytes) × SendsPixels screen form encodings rect known now bytes
+appends_pixels screen form encodings rect encoding block known now before after may sized packed noted whole alike (inl a) =
+    (a.bytes, a.appended, record { block = block; encoding = encoding; sized = sized; packed = packed; coded = a.coded; may_be_sent = may; noted = noted; whole = whole; alike = alike })
+appends_pixels screen form encodings rect encoding block known now before after may sized packed noted whole alike (inr a) =
+    (a.bytes, a.appended, record { block = block; encoding = Raw; sized = sized; packed = packed; coded = a.coded; may_be_sent = refl; noted = noted; whole = whole; alike = alike })
+
+-- how long it is
+pub length_sent : (screen : Grid Colour) (rect : Rect) (old new : Session) (before after : List ℕ) → AppendsPixels screen rect old new before after →
+    length after ≤ length before + 12 + raw_length old.format rect.w rect.h
+length_sent screen rect old new before after a =
+    let sized = a.sent.sized in
+    let short : length a.bytes ≤ 12 + rect.h * rect.w * size_of old.format = rw (← sized.width_is, ← sized.height_is) a.sent.coded.short in
+    rw (a.appended, length-append before a.bytes) (omega (arith, short))
+
+-- the edges of a rectangle of places that need sending are marked
+pub tight_marked : (screen : Grid Colour) (session : Session) (cell rect : Rect) → IsAbout screen session → Holds session.known cell →
+    IsBox (needs_of screen session) cell rect → IsTight (is_in session.marks) rect
+tight_marked screen session cell rect about held box =
+    let (j0, c0, m0) = box.tight.left in
+    let (j1, c1, m1) = box.tight.right in
+    let (i2, c2, m2) = box.tight.top in
+    let (i3, c3, m3) = box.tight.bottom in
+    record {
+      some = box.tight.some;
+      left = (j0, c0, marked rect.x j0 c0 m0);
+      right = (j1, c1, marked (rect.x + rect.w - 1) j1 c1 m1);
+      top = (i2, c2, marked i2 rect.y c2 m2);
+      bottom = (i3, c3, marked i3 (rect.y + rect.h - 1) c3 m3);
+    }
+  where
+    marked : (x y : ℕ) → contains rect x y ≡ true → needs_of screen session x y ≡ true → is_in session.marks x y ≡ true
+    marked x y c m =
+        let (a, b, d, e) = contains_true rect x y c in
+        needed_marked screen session x y about (omega (arith, box.within, held)) (omega (arith, box.within, held)) m

@@ -1,0 +1,209 @@
+-- An update that is composed: its head, what it leaves, and where there is none.
+use Rattle.std.proofs.Common.{◌≡◌, ℕ, ◌+◌, ◌-◌, ◌*◌, ◌<◌, ◌&&◌, ◌||◌, not, Bool, true, false, List, [], ◌∷◌, ◌++◌, length, get_or, set, Option, Some, None, refl, sym, subst, ◌∙◌, arith, append_assoc}
+use Rattle.std.specs.Int.{div_ceil}
+use Rattle.std.proofs.lemmas.List.{set-append_right}
+use Rattle.std.proofs.lemmas.Bool.{both_ways}
+use Rattle.rfb_pixel.specs.declared.colour.Colour.{Colour}
+use Rattle.rfb_pixel.specs.Format.{PixelFormat}
+use Rattle.rfb_picture.specs.Grid.{Grid, at_or}
+use Rattle.rfb_picture.specs.Box.{is_in}
+use Rattle.rfb_picture.specs.Area.{Places, nothing}
+use Rattle.rfb_picture.specs.Places.{without}
+use Rattle.rfb_picture.proofs.GridLemmas.{at-changed, width-changed, height-changed, whole-changed, width-uniform, height-uniform, contains_true}
+use Rattle.rfb_picture.proofs.AreaLemmas.{whole_at-no_places, area-no_places}
+use Rattle.rfb_wire.specs.ServerHead.{SpellsUpdate}
+use Rattle.rfb_wire.specs.stream.Sequel.{Second}
+use Rattle.rfb_server.specs.declared.session.Session.{Session}
+use Rattle.rfb_server.specs.Server.{ServerState}
+use Rattle.rfb_server.specs.Request.{wanted, wanted_at, recorded, is_asked, is_whole, differs}
+use Rattle.rfb_server.specs.Marks.{AreAlike, IsCaughtUp}
+use Rattle.rfb_server.specs.Needing.{IsAbout}
+use Rattle.rfb_server.specs.Composing.{Part, IsDue, Composes}
+use Rattle.rfb_server.specs.Sends.{IsKept, Sends, state_of, AppendsCells}
+use Rattle.rfb_server.specs.Composed.{is_ready, HasComposed, StaysIdle, IsSettled, IsCounted}
+use Rattle.rfb_server.proofs.NeedingLemmas.{differs_not}
+use Rattle.rfb_server.proofs.ComposesLemmas.{all_cells, composes}
+
+-- ---- the head
+
+-- the last two of four bytes, written over those behind a front
+pub counted : (before bytes head : List ℕ) (at : ℕ) → length before ≡ at → length head ≡ 4 → get_or head 0 0 ≡ 0 → get_or head 1 0 ≡ 0 →
+    set (set (before ++ (0 ∷ 0 ∷ 0 ∷ 0 ∷ bytes)) (at + 2) (get_or head 2 0)) (at + 3) (get_or head 3 0) ≡ before ++ (head ++ bytes)
+counted before bytes [] at long size first second = absurd (omega arith)
+counted before bytes (a ∷ []) at long size first second = absurd (omega arith)
+counted before bytes (a ∷ b ∷ []) at long size first second = absurd (omega arith)
+counted before bytes (a ∷ b ∷ c ∷ []) at long size first second = absurd (omega arith)
+counted before bytes (a ∷ b ∷ c ∷ d ∷ []) at long size first second =
+    let two : at + 2 - at ≡ 2 = omega arith in
+    let three : at + 3 - at ≡ 3 = omega arith in
+    let one = set-append_right before (0 ∷ 0 ∷ 0 ∷ 0 ∷ bytes) at (at + 2) c long (omega arith) in
+    let other = set-append_right before (0 ∷ 0 ∷ c ∷ 0 ∷ bytes) at (at + 3) d long (omega arith) in
+    rw (one, two) (rw (other, three) (rw (first, second) refl))
+counted before bytes (a ∷ b ∷ c ∷ d ∷ e ∷ more) at long size first second = absurd (omega arith)
+
+-- ---- whether an update is due
+
+-- a rectangle has a place that needs sending
+pub sent_due : (across n : ℕ) (s : ServerState) (known : Grid (Option ℕ)) (parts : List Part) (bytes : List ℕ) → s.point ≡ Second tt →
+    (length parts ≡ 0 → ⊥) → Sends across n s known parts bytes → IsDue s
+sent_due across n s known [] bytes ready some sends = absurd (some refl)
+sent_due across n s known (part ∷ parts) bytes ready some sends =
+    let rect = part.head.rect in
+    let (j, c, need) = sends.blocks_are.0.tight.left in
+    let (front, back, whole, here, rest) = sends.spelled in
+    let (a, b, d, e) = contains_true rect rect.x j c in
+    record { ready = ready; x = rect.x; y = j; is_place = (omega (arith, here.on_screen), omega (arith, here.on_screen)); needs = need }
+
+needed : (asked whole differing : Bool) → (asked && (whole || differing)) ≡ true → (asked ≡ true → differing ≡ false) → (whole ≡ true → ⊥) → ⊥
+needed true true differing e right renewed = renewed refl
+needed true false true e right renewed = absurd (both_ways true (right refl) refl)
+needed true false false e right renewed = cc
+needed false whole differing e right renewed = cc
+
+-- where there is none, none needs
+pub idle_not_due : (s : ServerState) (known : Grid (Option ℕ)) (bytes : List ℕ) →
+    Sends (div_ceil s.screen.width 64) (div_ceil s.screen.width 64 * div_ceil s.screen.height 64) s known [] bytes → IsDue s → ⊥
+idle_not_due s known bytes sends due =
+    let cell = all_cells s.screen.width s.screen.height due.x due.y due.is_place.0 due.is_place.1 in
+    let same : known ≡ s.known = sends.idle refl in
+    needed (is_asked s due.x due.y) (is_whole s due.x due.y) (differs (wanted s due.x due.y) (recorded s due.x due.y)) due.needs
+    (λ asked.
+    let right : recorded s due.x due.y ≡ Some (wanted s due.x due.y) = subst (λ (k : Grid (Option ℕ)). at_or k due.x due.y None ≡ Some (wanted s due.x due.y)) same (sends.answered due.x due.y due.is_place cell asked) in
+    rw right (differs_not (wanted s due.x due.y)))
+    (λ whole. let none : false ≡ true = sends.renewed due.x due.y due.is_place cell whole in cc)
+
+-- ---- what is left
+
+-- where a place is not marked it was not, or was asked
+lost : (mark asked : Bool) → (mark && not asked) ≡ false → (mark ≡ true) → asked ≡ true
+lost true true e m = refl
+lost true false e m = cc
+lost false asked e m = cc
+
+pub caught_settled : (screen : Grid Colour) (known : Grid (Option ℕ)) (area : Places) (form : PixelFormat) (marks : Grid Bool) →
+    AreAlike known area marks → IsCaughtUp screen known area form marks →
+    ((x y : ℕ) → x < known.width → y < known.height → is_in area.asked x y ≡ true → at_or known x y None ≡ Some (wanted_at screen form x y)) →
+    IsCaughtUp screen known (nothing area) form (without area.asked marks)
+caught_settled screen known area form marks alike caught answered = record {
+  right = λ x y p q e.
+      let p' : x < marks.width = rw (← width-changed (λ i j (old : Bool). old && not (is_in area.asked i j)) marks) p in
+      let q' : y < marks.height = rw (← height-changed (λ i j (old : Bool). old && not (is_in area.asked i j)) marks) q in
+      let here = sym (at-changed (λ i j (old : Bool). old && not (is_in area.asked i j)) marks x y false alike.marks_whole p' q') ∙ e in
+      by x y p' q' (is_in marks x y) refl here;
+  not_whole = λ x y p q e.
+      let p' : x < marks.width = rw (← width-changed (λ i j (old : Bool). old && not (is_in area.asked i j)) marks) p in
+      let q' : y < marks.height = rw (← height-changed (λ i j (old : Bool). old && not (is_in area.asked i j)) marks) q in
+      whole_at-no_places area.asked.width area.asked.height x y (rw (alike.area_wide, ← alike.marks_wide) p') (rw (alike.area_high, ← alike.marks_high) q');
+}
+  where
+    by : (x y : ℕ) → x < marks.width → y < marks.height → (mark : Bool) → is_in marks x y ≡ mark → (mark && not (is_in area.asked x y)) ≡ false →
+        at_or known x y None ≡ Some (wanted_at screen form x y)
+    by x y p q true m e = answered x y (rw (← alike.marks_wide) p) (rw (← alike.marks_high) q) (lost true (is_in area.asked x y) e refl)
+    by x y p q false m e = caught.right x y p q m
+
+-- what is asked of one screen still is, once it is answered
+pub alike_settled : (known : Grid (Option ℕ)) (area : Places) (marks : Grid Bool) → AreAlike known area marks →
+    AreAlike known (nothing area) (without area.asked marks)
+alike_settled known area marks alike = record {
+  known_whole = alike.known_whole;
+  area_is = area-no_places area.asked.width area.asked.height;
+  marks_whole = whole-changed _ marks alike.marks_whole;
+  area_wide = width-uniform area.asked.width area.asked.height false ∙ alike.area_wide;
+  area_high = height-uniform area.asked.width area.asked.height false ∙ alike.area_high;
+  marks_wide = width-changed _ marks ∙ alike.marks_wide;
+  marks_high = height-changed _ marks ∙ alike.marks_high;
+  columns = alike.columns;
+  rows = alike.rows;
+}
+
+-- ---- a session
+
+-- its state behind an update
+state_settled : (screen : Grid Colour) (old mid new : Session) → IsKept old mid → IsSettled mid new →
+    state_of screen new ≡ record (state_of screen old) { known = mid.known; area = nothing old.area }
+state_settled screen old mid new kept settled =
+    rw (settled.known, settled.area, settled.format, settled.encodings, kept.area, kept.format, kept.encodings) refl
+
+-- the size of what is known is that of the screen
+sends_here : (screen : Grid Colour) (old mid : Session) (parts : List Part) (bytes : List ℕ) → IsAbout screen old →
+    Sends (div_ceil old.known.width 64) (div_ceil old.known.width 64 * div_ceil old.known.height 64) (state_of screen old) mid.known parts bytes →
+    Sends (div_ceil screen.width 64) (div_ceil screen.width 64 * div_ceil screen.height 64) (state_of screen old) mid.known parts bytes
+sends_here screen old mid parts bytes about sends =
+    subst (λ (h : ℕ). Sends (div_ceil screen.width 64) (div_ceil screen.width 64 * div_ceil h 64) (state_of screen old) mid.known parts bytes) (sym about.alike.rows)
+    (subst (λ (w : ℕ). Sends (div_ceil w 64) (div_ceil w 64 * div_ceil old.known.height 64) (state_of screen old) mid.known parts bytes) (sym about.alike.columns) sends)
+
+-- where rectangles were sent the update is done
+pub updated : (screen : Grid Colour) (old mid new : Session) (before after last : List ℕ) (count : ℕ) →
+    IsAbout screen old → IsKept old mid →
+    AppendsCells (div_ceil old.known.width 64) (div_ceil old.known.width 64 * div_ceil old.known.height 64) screen old mid (before ++ (0 ∷ 0 ∷ 0 ∷ 0 ∷ [])) after count →
+    (count ≡ 0 → ⊥) → IsCounted (length before) count after last → IsSettled mid new → is_ready old.progress ≡ true →
+    HasComposed screen old new before last
+updated screen old mid new before after last count about kept cells some counts settled ready =
+    let s : ServerState = state_of screen old in
+    let N : ℕ = div_ceil screen.width 64 * div_ceil screen.height 64 in
+    let sends : Sends (div_ceil screen.width 64) (div_ceil screen.width 64 * div_ceil screen.height 64) s mid.known cells.parts cells.bytes = sends_here screen old mid cells.parts cells.bytes about cells.sent in
+    let whole : after ≡ before ++ (0 ∷ 0 ∷ 0 ∷ 0 ∷ cells.bytes) = cells.appended ∙ append_assoc before (0 ∷ 0 ∷ 0 ∷ 0 ∷ []) cells.bytes in
+    let (head, spelled, is) = counts before cells.bytes refl whole in
+    let head_is : SpellsUpdate (length cells.parts) head = subst (λ (n : ℕ). SpellsUpdate n head) cells.count_is spelled in
+    record {
+      ready = ready;
+      due = sent_due (div_ceil screen.width 64) N s mid.known cells.parts cells.bytes refl (λ none. some (cells.count_is ∙ none)) sends;
+      bytes = head ++ cells.bytes;
+      copies = [];
+      blocks = cells.parts;
+      appended = is;
+      composes = subst (λ (t : ServerState). Composes s t (head ++ cells.bytes) [] cells.parts) (sym (state_settled screen old mid new kept settled))
+          (composes s mid.known cells.parts head cells.bytes old.alike.area_is (old.alike.area_wide ∙ sym about.alike.columns) (old.alike.area_high ∙ sym about.alike.rows) sends head_is);
+      hello = settled.hello ∙ kept.hello;
+      progress = settled.progress ∙ kept.progress;
+      text_limit = settled.text_limit ∙ kept.text_limit;
+    }
+
+-- and the session has caught up
+pub about_updated : (screen : Grid Colour) (old mid new : Session) (before after : List ℕ) (count : ℕ) →
+    IsAbout screen old → IsAbout screen mid → IsKept old mid →
+    AppendsCells (div_ceil old.known.width 64) (div_ceil old.known.width 64 * div_ceil old.known.height 64) screen old mid before after count →
+    IsSettled mid new → IsAbout screen new
+about_updated screen old mid new before after count about behind kept cells settled = record {
+  whole = behind.whole;
+  alike = rw (settled.known) behind.alike;
+  caught_up = rw (settled.known, settled.area, settled.format, settled.marks)
+      (caught_settled screen mid.known mid.area mid.format mid.marks mid.alike behind.caught_up
+      (λ x y p q asked.
+      let p' : x < screen.width = rw (behind.alike.columns) p in
+      let q' : y < screen.height = rw (behind.alike.rows) q in
+      let p'' : x < old.known.width = rw (← about.alike.columns) p' in
+      let q'' : y < old.known.height = rw (← about.alike.rows) q' in
+      let asked' : is_in old.area.asked x y ≡ true = rw (kept.area) at asked in
+      rw (kept.format) (cells.sent.answered x y (p', q') (all_cells old.known.width old.known.height x y p'' q'') asked')));
+}
+
+no_parts : (parts : List Part) → length parts ≡ 0 → parts ≡ []
+no_parts [] e = refl
+no_parts (part ∷ parts) e = absurd (omega arith)
+
+-- where none was sent nothing has changed
+pub stayed : (screen : Grid Colour) (old mid : Session) (before start after last : List ℕ) (count : ℕ) →
+    IsAbout screen old → IsKept old mid →
+    AppendsCells (div_ceil old.known.width 64) (div_ceil old.known.width 64 * div_ceil old.known.height 64) screen old mid start after count →
+    count ≡ 0 → last ≡ before →
+    StaysIdle screen old mid before last
+stayed screen old mid before start after last count about kept cells none same =
+    let s : ServerState = state_of screen old in
+    let empty : cells.parts ≡ [] = no_parts cells.parts (sym cells.count_is ∙ none) in
+    let sends : Sends (div_ceil screen.width 64) (div_ceil screen.width 64 * div_ceil screen.height 64) s mid.known cells.parts cells.bytes = sends_here screen old mid cells.parts cells.bytes about cells.sent in
+    let sends' : Sends (div_ceil screen.width 64) (div_ceil screen.width 64 * div_ceil screen.height 64) s mid.known [] cells.bytes =
+    subst (λ (parts : List Part). Sends (div_ceil screen.width 64) (div_ceil screen.width 64 * div_ceil screen.height 64) s mid.known parts cells.bytes) empty sends in
+    record {
+      not_due = λ ready. idle_not_due s mid.known cells.bytes sends';
+      appended = same;
+      same = record {
+        hello = kept.hello;
+        progress = kept.progress;
+        text_limit = kept.text_limit;
+        format = kept.format;
+        encodings = kept.encodings;
+        known = sends'.idle refl;
+        area = kept.area;
+      };
+    }

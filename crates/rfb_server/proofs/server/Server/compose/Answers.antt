@@ -1,0 +1,19 @@
+use Rattle.std.proofs.Common.{◌≡◌, refl}
+use Rattle.std.proofs.lemmas.Result.{IfOk-weaker, IfErr-weaker}
+use Rattle.rfb_server.proofs.UpdatingLemmas.{updates, stays, keeps, failed_unready}
+use Rattle.rfb_server.proofs.server.Server.compose.Goals as goal
+
+pub returns-clause-composed : goal.returns-clause-composed
+returns-clause-composed c =
+    IfOk-weaker c.compose.result _ _ (λ did h e. updates c.args.self.now _ c.args.out.now.items c.compose.new.out.items refl (h e)) c.compose.ensures.composed
+
+pub returns-clause-idle : goal.returns-clause-idle
+returns-clause-idle c =
+    IfOk-weaker c.compose.result _ _ (λ did h e. stays c.args.self.now _ c.args.out.now.items c.compose.new.out.items refl (h e)) c.compose.ensures.idle
+
+pub returns-clause-same : goal.returns-clause-same
+returns-clause-same c =
+    IfErr-weaker c.compose.result (λ _. c.compose.new.self ≡ c.args.self.now.session) _ (λ _ same. keeps c.args.self.now _ refl same) c.compose.ensures.same
+
+pub returns-clause-failed : goal.returns-clause-failed
+returns-clause-failed c = λ some. c.compose.ensures.unready (failed_unready c.args.self.now.session.progress some)

@@ -1,0 +1,6 @@
+use Rattle.rfb_server.specs.Needing.{HasBox, needs_of, rows_above}
+use Rattle.rfb_server.proofs.session.Session.needed_in_zone.Given as goal
+
+-- the rows so far
+abbrev pub invariant-loop-y : goal.invariant-loop-y
+invariant-loop-y l = HasBox (needs_of l.screen l.self) (rows_above l.zone l.y) l.found

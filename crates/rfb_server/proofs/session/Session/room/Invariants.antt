@@ -1,0 +1,11 @@
+use Rattle.std.proofs.Common.{◌≤◌, ◌*◌}
+use Rattle.std.specs.Int.{div_ceil}
+use Rattle.rfb_server.specs.Sends.{IsEnough}
+use Rattle.rfb_server.proofs.session.Session.room.Given as goal
+
+-- the room is enough for the cells so far
+abbrev pub invariant-loop-index : goal.invariant-loop-index
+invariant-loop-index l = record {
+  enough : IsEnough l.self (div_ceil l.self.known.width 64) l.index l.room;
+  bound : l.room ≤ l.index * 16396;
+}

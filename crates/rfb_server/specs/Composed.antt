@@ -1,0 +1,57 @@
+-- What a call to compose makes of a session and of the bytes that are to be sent.
+use Rattle.std.specs.Prelude.{◌≡◌, ℕ, Bool, true, false, List, [], ◌∷◌, ◌++◌, length}
+use Rattle.rfb_pixel.specs.declared.colour.Colour.{Colour}
+use Rattle.rfb_picture.specs.Grid.{Grid}
+use Rattle.rfb_picture.specs.Area.{nothing}
+use Rattle.rfb_picture.specs.Places.{without}
+use Rattle.rfb_wire.specs.ServerHead.{SpellsUpdate}
+use Rattle.rfb_server.specs.declared.session.Session.{Session}
+use Rattle.rfb_server.specs.declared.session.progress.Progress.{Progress}
+use Rattle.rfb_server.specs.declared.session.progress.Progress.TheVariants.{Handshake, Head, Encodings, CutText, Failed}
+use Rattle.rfb_server.specs.Composing.{Part, Composes, IsDue}
+use Rattle.rfb_server.specs.Sessions.{IsSame}
+use Rattle.rfb_server.specs.Sends.{state_of}
+
+-- the handshake is done, and no fault has come
+abbrev pub is_ready : Progress → Bool
+is_ready Handshake = false
+is_ready (Head bytes) = true
+is_ready (Encodings left number list) = true
+is_ready (CutText text_length left kept) = true
+is_ready (Failed fault) = false
+
+-- an update was due and was appended, and the rest of the session is as it was
+pub record HasComposed (screen : Grid Colour) (old new : Session) (before after : List ℕ) : Type 0 where
+  pub ready : is_ready old.progress ≡ true
+  pub due : IsDue (state_of screen old)
+  pub bytes : List ℕ
+  pub copies : List Part
+  pub blocks : List Part
+  pub appended : after ≡ before ++ bytes
+  pub composes : Composes (state_of screen old) (state_of screen new) bytes copies blocks
+  pub hello : new.hello ≡ old.hello
+  pub progress : new.progress ≡ old.progress
+  pub text_limit : new.text_limit ≡ old.text_limit
+
+-- no update was due, and nothing was appended
+pub record StaysIdle (screen : Grid Colour) (old new : Session) (before after : List ℕ) : Type 0 where
+  pub not_due : is_ready old.progress ≡ true → IsDue (state_of screen old) → ⊥
+  pub appended : after ≡ before
+  pub same : IsSame old new
+
+-- nothing is asked any more, what was is not marked, and no hint is kept
+pub record IsSettled (old new : Session) : Type 0 where
+  pub hello : new.hello ≡ old.hello
+  pub progress : new.progress ≡ old.progress
+  pub text_limit : new.text_limit ≡ old.text_limit
+  pub format : new.format ≡ old.format
+  pub encodings : new.encodings ≡ old.encodings
+  pub known : new.known ≡ old.known
+  pub area : new.area ≡ nothing old.area
+  pub marks : new.marks ≡ without old.area.asked old.marks
+  pub hints : new.hints.items ≡ []
+
+-- the head of an update without rectangles, which stands there, has become that of an update with so many
+abbrev pub IsCounted : ℕ → ℕ → List ℕ → List ℕ → Type 0
+IsCounted at count old new = (before bytes : List ℕ) → length before ≡ at → old ≡ before ++ (0 ∷ 0 ∷ 0 ∷ 0 ∷ bytes) →
+    (head : List ℕ) × SpellsUpdate count head × (new ≡ before ++ (head ++ bytes))

@@ -1,0 +1,35 @@
+//! The cells of a screen, in which it is looked over.
+
+ghost use Rattle.std.specs.Prelude.{◌≡◌, ◌*◌, ◌≤◌, ◌<◌};
+ghost use Rattle.std.specs.Int.{div_ceil};
+ghost use Rattle.rfb_server.specs.Cells.{IsCell};
+
+use rfb_picture::Rect;
+
+/// How many columns and how many rows of places a cell has, but at the screen's edges.
+const SIDE: u16 = 64;
+
+/// How many cells a screen of `width` by `height` places has.
+pub(crate) fn cell_count(width: u16, height: u16) -> usize
+    ensures { result ≡ div_ceil width 64 * div_ceil height 64 }
+{
+    usize::from(width.div_ceil(SIDE)) * usize::from(height.div_ceil(SIDE))
+}
+
+/// The cell of that number, row by row from the top left. It lies on the screen.
+pub(crate) fn cell_at(width: u16, height: u16, index: usize) -> Rect
+    requires columns { width ≤ 4096 }
+    requires rows { height ≤ 4096 }
+    requires index { index < div_ceil width 64 * div_ceil height 64 }
+    ensures { IsCell width height (div_ceil width 64) index result }
+{
+    let across = usize::from(width.div_ceil(SIDE));
+    let x = (index % across) as u16 * SIDE;
+    let y = (index / across) as u16 * SIDE;
+    Rect {
+        x,
+        y,
+        w: (width - x).min(SIDE),
+        h: (height - y).min(SIDE),
+    }
+}

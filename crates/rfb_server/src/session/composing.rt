@@ -1,0 +1,208 @@
+//! The update of what a viewer asked for and does not have.
+
+ghost use Rattle.std.specs.Prelude.{◌≡◌, ℕ, ◌+◌, ◌*◌, ◌≤◌, true, false, vec_len, Ok, IfOk, OnErr};
+ghost use Rattle.std.specs.Bool.{OnTrue, OnFalse};
+ghost use Rattle.std.specs.Int.{div_ceil};
+ghost use Rattle.std.specs.Vec.{vec_capacity};
+ghost use Rattle.rfb_picture.specs.Grid.{Holds};
+ghost use Rattle.rfb_codec.specs.Raw.{raw_length};
+ghost use Rattle.rfb_server.specs.Needing.{IsAbout};
+ghost use Rattle.rfb_server.specs.Cells.{IsCell};
+ghost use Rattle.rfb_server.specs.Sends.{IsKept, AppendsPixels, SendsCell, AppendsCells, IsCost, IsEnough};
+ghost use Rattle.rfb_server.specs.Composed.{is_ready, HasComposed, StaysIdle, IsSettled, IsCounted};
+
+use crate::cells::{cell_at, cell_count};
+use crate::sending::{RECT_HEAD_SIZE, append_rect, append_within};
+use crate::session::Session;
+use crate::session::progress::Progress;
+use rfb_picture::{Picture, Rect};
+use rfb_pixel::Colour;
+use rfb_wire::ServerHead;
+use std::alloc::AllocError;
+
+/// How many bytes the head of an update has, RFC 6143 section 7.6.1.
+const UPDATE_HEAD_SIZE: usize = 4;
+
+impl Session {
+    /// Appends to `out` one update of what the viewer asked for and does not have, if there is such
+    /// a place, and tells whether it did. The screen is lent; `out` stays the caller's. It asks for
+    /// room once, before anything changes: where there is none it gives the error, and nothing
+    /// changes. Before the handshake is done, and once the session has failed, there is no update.
+    pub(crate) fn compose(
+        &mut self,
+        screen: &Picture<Colour>,
+        out: &mut Vec<u8>,
+    ) -> Result<bool, AllocError>
+        requires about { IsAbout screen.now self.old }
+        ensures about { IsAbout screen.now self.new }
+        ensures composed { IfOk result (λ did. did ≡ true →
+            HasComposed screen.now self.old self.new out.old.items out.new.items) }
+        ensures idle { IfOk result (λ did. did ≡ false →
+            StaysIdle screen.now self.old self.new out.old.items out.new.items) }
+        ensures kept { OnErr result (out.new.items ≡ out.old.items) }
+        ensures same { OnErr result (self.new ≡ self.old) }
+        ensures unready { is_ready self.old.progress ≡ false → result ≡ Ok false }
+    {
+        if !self.is_ready() {
+            return Ok(false);
+        }
+        out.reserve(UPDATE_HEAD_SIZE + self.room())?;
+        Ok(self.update(screen, out))
+    }
+
+    // Whether the handshake is done, and the session has not failed.
+    fn is_ready(&self) -> bool
+        ensures { result ≡ is_ready self.now.progress }
+    {
+        match &self.progress {
+            Progress::Handshake | Progress::Failed(_) => false,
+            Progress::Head(_) | Progress::Encodings { .. } | Progress::CutText { .. } => true,
+        }
+    }
+
+    // Appends the update, if there is one. There is room for it.
+    fn update(&mut self, screen: &Picture<Colour>, out: &mut Vec<u8>) -> bool
+        requires about { IsAbout screen.now self.old }
+        requires ready { is_ready self.old.progress ≡ true }
+        requires room { (room : ℕ) × IsEnough self.old (div_ceil self.old.known.width 64)
+            (div_ceil self.old.known.width 64 * div_ceil self.old.known.height 64) room
+            × (vec_len out.old + 4 + room ≤ vec_capacity out.old) }
+        ensures about { IsAbout screen.now self.new }
+        ensures composed { OnTrue result
+            (HasComposed screen.now self.old self.new out.old.items out.new.items) }
+        ensures idle { OnFalse result
+            (StaysIdle screen.now self.old self.new out.old.items out.new.items) }
+    {
+        let start = out.len();
+        append_within(out, ServerHead::Update(0).spell().as_slice());
+        let count = self.send_cells(screen, out);
+        if count == 0 {
+            out.truncate(start);
+            return false;
+        }
+        put_count(out, start, count);
+        self.settle();
+        true
+    }
+
+    // Behind an update: what was asked is answered, and is marked no more.
+    fn settle(&mut self)
+        ensures { IsSettled self.old self.new }
+    {
+        self.marks.take_away(self.area.asked());
+        self.area.clear();
+        self.hints.clear();
+    }
+
+    // How many bytes the rectangles of an update take at most, by what is marked.
+    fn room(&self) -> usize
+        ensures enough { IsEnough self.now (div_ceil self.now.known.width 64)
+            (div_ceil self.now.known.width 64 * div_ceil self.now.known.height 64) result }
+        ensures bound { result ≤ 4096 * 16396 }
+    {
+        let width = self.known.width();
+        let height = self.known.height();
+        let mut room = 0;
+        for index in 0..cell_count(width, height) {
+            room += self.cost_of(cell_at(width, height, index));
+        }
+        room
+    }
+
+    // How many bytes a rectangle in the cell takes at most.
+    fn cost_of(&self, cell: Rect) -> usize
+        requires held { Holds self.now.known cell }
+        requires sides { (cell.w ≤ 64) × (cell.h ≤ 64) }
+        ensures enough { (across n : ℕ) (other : Rect)
+            → IsCell self.now.known.width self.now.known.height across n cell
+            → IsCell self.now.known.width self.now.known.height across n other
+            → IsCost self.now.marks self.now.format other result }
+        ensures bound { result ≤ 16396 }
+    {
+        match self.marks.bounds_in(cell) {
+            None => 0,
+            Some(zone) => {
+                let places = usize::from(zone.h) * usize::from(zone.w);
+                RECT_HEAD_SIZE + places * self.format.size()
+            }
+        }
+    }
+
+    // Sends what of each cell needs sending, and tells how many rectangles that makes. There is
+    // room for it.
+    fn send_cells(&mut self, screen: &Picture<Colour>, out: &mut Vec<u8>) -> u16
+        requires about { IsAbout screen.now self.old }
+        requires room { (room : ℕ) × IsEnough self.old (div_ceil self.old.known.width 64)
+            (div_ceil self.old.known.width 64 * div_ceil self.old.known.height 64) room
+            × (vec_len out.old + room ≤ vec_capacity out.old) }
+        ensures kept { IsKept self.old self.new }
+        ensures about { IsAbout screen.now self.new }
+        ensures sent { AppendsCells (div_ceil self.old.known.width 64)
+            (div_ceil self.old.known.width 64 * div_ceil self.old.known.height 64)
+            screen.now self.old self.new out.old.items out.new.items result }
+        ensures room { vec_capacity out.new ≡ vec_capacity out.old }
+    {
+        let width = self.known.width();
+        let height = self.known.height();
+        let mut count = 0;
+        for index in 0..cell_count(width, height) {
+            let sent = self.send_cell(screen, cell_at(width, height, index), out);
+            count += u16::from(sent);
+        }
+        count
+    }
+
+    // Sends what of the cell needs sending, if there is something. There is room for it.
+    fn send_cell(&mut self, screen: &Picture<Colour>, cell: Rect, out: &mut Vec<u8>) -> bool
+        requires about { IsAbout screen.now self.old }
+        requires held { Holds self.old.known cell }
+        requires sides { (cell.w ≤ 64) × (cell.h ≤ 64) }
+        requires room { (cost : ℕ) × IsCost self.old.marks self.old.format cell cost
+            × (vec_len out.old + cost ≤ vec_capacity out.old) }
+        ensures kept { IsKept self.old self.new }
+        ensures about { IsAbout screen.now self.new }
+        ensures sent { SendsCell result screen.now cell self.old self.new
+            out.old.items out.new.items }
+        ensures len { (cost : ℕ) → IsCost self.old.marks self.old.format cell cost
+            → vec_len out.new ≤ vec_len out.old + cost }
+        ensures room { vec_capacity out.new ≡ vec_capacity out.old }
+    {
+        match self.needed_in(screen, cell) {
+            None => return false,
+            Some(rect) => self.send(screen, rect, out),
+        }
+        true
+    }
+
+    // Sends the pixels of the rectangle, and records them.
+    fn send(&mut self, screen: &Picture<Colour>, rect: Rect, out: &mut Vec<u8>)
+        requires about { IsAbout screen.now self.old }
+        requires held { Holds self.old.known rect }
+        requires columns { (1 ≤ rect.w) × (rect.w ≤ 64) }
+        requires rows { (1 ≤ rect.h) × (rect.h ≤ 64) }
+        requires room { vec_len out.old + 12 + raw_length self.old.format rect.w rect.h
+            ≤ vec_capacity out.old }
+        ensures kept { IsKept self.old self.new }
+        ensures about { IsAbout screen.now self.new }
+        ensures sent { AppendsPixels screen.now rect self.old self.new
+            out.old.items out.new.items }
+        ensures len { vec_len out.new
+            ≤ vec_len out.old + 12 + raw_length self.old.format rect.w rect.h }
+        ensures room { vec_capacity out.new ≡ vec_capacity out.old }
+    {
+        let encoding = self.encodings.preferred();
+        self.known.take(screen, &self.format, rect, &mut self.block);
+        append_rect(encoding, rect, &self.block, &self.format, out);
+    }
+}
+
+// Writes into the head of an update, which stands at `at`, how many rectangles the update has.
+fn put_count(out: &mut Vec<u8>, at: usize, count: u16)
+    requires { at + 4 ≤ vec_len out.old }
+    ensures { IsCounted at count out.old.items out.new.items }
+{
+    let head = ServerHead::Update(count).spell();
+    let bytes = head.as_slice();
+    out[at + 2] = bytes[2];
+    out[at + 3] = bytes[3];
+}
