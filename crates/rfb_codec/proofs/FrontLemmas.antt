@@ -39,10 +39,14 @@ pixels_end f all count n pixels pending more body s few some size = record {
 }
 
 -- pixels painted after those before a place
-pub walked : (f : PixelFormat) (rect : Rect) (at next : Place) (n : ℕ) (pending more run rest : List ℕ) (old new before : Grid Colour) (body : List ℕ) → StandsPixels f rect at pending old before body → at.x + n ≤ rect.w → at.y < rect.h → 0 < size_of f → run ≡ pending ++ more → length run ≡ n * size_of f → rest ≡ [] → places_before rect.w next ≡ places_before rect.w at + n → PaintsRun f rect (places_before rect.w at) n run old new → StandsPixels f rect next rest new before (body ++ more)
-walked f rect at next n pending more run rest old new before body (pixels, s, shows) wide high some run_is size none count paints =
-    let few = run_within rect.w rect.h at.x at.y n wide high in
+pub walked_on : (f : PixelFormat) (rect : Rect) (at next : Place) (n : ℕ) (pending more run rest : List ℕ) (old new before : Grid Colour) (body : List ℕ) → StandsPixels f rect at pending old before body → places_before rect.w at + n ≤ rect.h * rect.w → 0 < size_of f → run ≡ pending ++ more → length run ≡ n * size_of f → rest ≡ [] → places_before rect.w next ≡ places_before rect.w at + n → PaintsRun f rect (places_before rect.w at) n run old new → StandsPixels f rect next rest new before (body ++ more)
+walked_on f rect at next n pending more run rest old new before body (pixels, s, shows) few some run_is size none count paints =
     rw (count, none) (pixels ++ run, rw run_is (pixels_end f (rect.h * rect.w) (places_before rect.w at) n pixels pending more body s few some (rw run_is at size)), paints pixels before s.size shows)
+
+-- those of one row
+pub walked : (f : PixelFormat) (rect : Rect) (at next : Place) (n : ℕ) (pending more run rest : List ℕ) (old new before : Grid Colour) (body : List ℕ) → StandsPixels f rect at pending old before body → at.x + n ≤ rect.w → at.y < rect.h → 0 < size_of f → run ≡ pending ++ more → length run ≡ n * size_of f → rest ≡ [] → places_before rect.w next ≡ places_before rect.w at + n → PaintsRun f rect (places_before rect.w at) n run old new → StandsPixels f rect next rest new before (body ++ more)
+walked f rect at next n pending more run rest old new before body stands wide high =
+    walked_on f rect at next n pending more run rest old new before body stands (run_within rect.w rect.h at.x at.y n wide high)
 
 -- or bytes of the next one
 pub walk_waits : (f : PixelFormat) (rect : Rect) (at : Place) (pending more rest : List ℕ) (now before : Grid Colour) (body : List ℕ) → StandsPixels f rect at pending now before body → at.x < rect.w → at.y < rect.h → rest ≡ pending ++ more → length rest < size_of f → StandsPixels f rect at rest now before (body ++ more)

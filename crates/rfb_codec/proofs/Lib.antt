@@ -41,6 +41,7 @@ pub mod TilesOverLemmas
 pub mod TilesLaws
 pub mod PaintHextileLemmas
 pub mod RunLemmas
+pub mod LineLemmas
 pub mod FrontLemmas
 pub mod ByteLemmas
 pub mod TakeTileLemmas

@@ -42,6 +42,10 @@ abbrev pub StandsPixels : PixelFormat → Rect → Place → List ℕ → Grid C
 StandsPixels f rect at pending now before body =
     (pixels : List ℕ) × SpellsPixels f (rect.h * rect.w) (places_before rect.w at) pixels pending body × (now ≡ pixels_over f rect (places_before rect.w at) pixels before)
 
+-- how many places stand before the first of a row
+abbrev pub first_of_row : ℕ → ℕ → ℕ
+first_of_row width row = row * width + 0
+
 -- the bytes are painted as the pixels after so many of the rectangle's
 abbrev pub PaintsRun : PixelFormat → Rect → ℕ → ℕ → List ℕ → Grid Colour → Grid Colour → Type 0
 PaintsRun f rect from count bytes old new =

@@ -7,7 +7,7 @@ ghost use Rattle.rfb_codec.specs.Raw.{raw_length, raw_pixel};
 ghost use Rattle.rfb_codec.specs.inside.Step.{IsPaintable};
 ghost use Rattle.rfb_codec.specs.Painter.{over};
 ghost use Rattle.rfb_codec.specs.Stage.{places_before};
-ghost use Rattle.rfb_codec.specs.inside.Step.{PaintsRun};
+ghost use Rattle.rfb_codec.specs.inside.Step.{PaintsRun, first_of_row};
 
 use crate::painter::stage::Place;
 use rfb_picture::{Picture, Rect};
@@ -29,8 +29,68 @@ pub fn paint_rows(format: Format, rect: Rect, bytes: &[u8], picture: &mut Pictur
     }
 }
 
+/// Paints so many whole rows of the rectangle, from a row on, whose pixels stand behind those of the rows
+/// above.
+pub fn paint_lines(
+    format: Format,
+    rect: Rect,
+    top: u16,
+    count: u16,
+    bytes: &[u8],
+    picture: &mut Picture<Colour>,
+)
+    requires place { IsPaintable picture.old rect }
+    requires rows { top + count ≤ rect.h }
+    requires whole { length bytes.now ≡ count * (rect.w * size_of format) }
+    ensures value { PaintsRun format rect (first_of_row rect.w top) (count * rect.w) bytes.now
+        picture.old picture.new }
+    ensures width { picture.new.width ≡ picture.old.width }
+    ensures height { picture.new.height ≡ picture.old.height }
+{
+    // The formats that this project announces are known before it runs, and their loops are far shorter.
+    if format == Format::rgb888() {
+        lines_in(Format::rgb888(), rect, top, count, bytes, picture);
+    } else if format == Format::rgb565() {
+        lines_in(Format::rgb565(), rect, top, count, bytes, picture);
+    } else if format == Format::bgr233() {
+        lines_in(Format::bgr233(), rect, top, count, bytes, picture);
+    } else {
+        lines_in(format, rect, top, count, bytes, picture);
+    }
+}
+
+// The same, by one loop for every format.
+#[inline(always)]
+fn lines_in(
+    format: Format,
+    rect: Rect,
+    top: u16,
+    count: u16,
+    bytes: &[u8],
+    picture: &mut Picture<Colour>,
+)
+    requires place { IsPaintable picture.old rect }
+    requires rows { top + count ≤ rect.h }
+    requires whole { length bytes.now ≡ count * (rect.w * size_of format) }
+    ensures value { PaintsRun format rect (first_of_row rect.w top) (count * rect.w) bytes.now
+        picture.old picture.new }
+    ensures width { picture.new.width ≡ picture.old.width }
+    ensures height { picture.new.height ≡ picture.old.height }
+{
+    let size = usize::from(rect.w) * format.size();
+    'lines: for row in 0..count {
+        // They tell that the picture has a colour at each place, and numbers these in 16 bits.
+        let (_width, _height) = (picture.width(), picture.height());
+        let at = Place { x: 0, y: top + row };
+        let start = usize::from(row) * size;
+        let line = &bytes[start..start + size];
+        paint_run(format, rect, at, rect.w, line, picture);
+    }
+}
+
 /// Paints so many pixels of one row of the rectangle, from a place on, which stand behind those of the
 /// places before it.
+#[inline(always)]
 pub fn paint_run(
     format: Format,
     rect: Rect,
@@ -52,20 +112,22 @@ pub fn paint_run(
 }
 
 // Writes the colour of each pixel of a row.
+#[inline(always)]
 fn unpack_row(format: Format, bytes: &[u8], row: &mut [Colour])
     requires { length bytes.now ≡ length row.old * size_of format }
     ensures { (k : ℕ) (d : Colour) → k < length row.new → slice_index_or row.new k d ≡ colour_of format (pixel_number format (drop (k * size_of format) bytes.now)) }
 {
-    // The format that this project announces is known before it runs, and its loop is far shorter.
     if format == Format::rgb888() {
         unpack_each(Format::rgb888(), bytes, row);
+    } else if format == Format::rgb565() {
+        unpack_each(Format::rgb565(), bytes, row);
     } else {
         unpack_each(format, bytes, row);
     }
 }
 
 // The same, by one loop for every format.
-#[inline]
+#[inline(always)]
 fn unpack_each(format: Format, bytes: &[u8], row: &mut [Colour])
     requires { length bytes.now ≡ length row.old * size_of format }
     ensures { (k : ℕ) (d : Colour) → k < length row.new → slice_index_or row.new k d ≡ colour_of format (pixel_number format (drop (k * size_of format) bytes.now)) }

@@ -10,14 +10,15 @@ ghost use Rattle.rfb_codec.specs.inside.Step.{IsPaintable};
 ghost use Rattle.rfb_codec.specs.Stage.{places_before, encoding_at, is_sound};
 ghost use Rattle.rfb_codec.specs.inside.Step.{StandsPixels, GoesOn};
 
-use super::paint::paint_run;
+use super::paint::{paint_lines, paint_run};
 use crate::painter::gather::{Pending, gather};
 use crate::painter::stage::{Place, Stage, Step};
 use rfb_picture::{Picture, Rect};
 use rfb_pixel::{Colour, Format};
 
-/// Paints pixels of a rectangle from a place on: the whole ones of its row that the bytes begin with,
-/// or the pending one at its last byte. Returns how many bytes it used, and the next place.
+/// Paints pixels of a rectangle from a place on: the whole rows that the bytes begin with, or the whole
+/// pixels of its row, or the pending one at its last byte. Returns how many bytes it used, and the next
+/// place.
 pub fn take_pixels(
     format: Format,
     rect: Rect,
@@ -43,9 +44,26 @@ pub fn take_pixels(
     ensures height { picture.new.height ≡ picture.old.height }
 {
     let size = format.size();
+    if pending.is_empty() && at.x == 0 {
+        let rows = whole_rows(rect.w, rect.h - at.y, size, bytes);
+        if rows > 0 {
+            let high = usize::from(rows);
+            let wide = usize::from(rect.w);
+            let used = high * (wide * size);
+            paint_lines(format, rect, at.y, rows, &bytes[..used], picture);
+            return (
+                used,
+                Place {
+                    x: 0,
+                    y: at.y + rows,
+                },
+            );
+        }
+    }
     if pending.is_empty() && bytes.len() >= size {
         let run = whole_pixels(rect.w - at.x, size, bytes);
-        let used = usize::from(run) * size;
+        let count = usize::from(run);
+        let used = count * size;
         paint_run(format, rect, at, run, &bytes[..used], picture);
         return (used, place_after(rect.w, at, run));
     }
@@ -85,6 +103,21 @@ pub fn take_run(
     Step {
         used,
         stage: Stage::InPixels { at },
+    }
+}
+
+// How many whole rows of so many pixels bytes begin with, at most so many.
+fn whole_rows(width: u16, most: u16, size: usize, bytes: &[u8]) -> u16
+    requires size { (0 < size) × (size ≤ 4) }
+    requires some { 0 < width }
+    ensures most { result ≤ most }
+    ensures whole { result * (width * size) ≤ length bytes.now }
+{
+    let row = usize::from(width) * size;
+    if usize::from(most) * row <= bytes.len() {
+        most
+    } else {
+        (bytes.len() / row) as u16
     }
 }
 

@@ -1,7 +1,7 @@
 //! RRE from the slices that it comes in: the background at the last byte of the head, and each
 //! subrectangle at its own.
 
-ghost use Rattle.std.specs.Prelude.{◌≡◌, ◌+◌, ◌<◌, ◌≤◌, length, take, true, IfOk, IfErr, OnOk, OnErr};
+ghost use Rattle.std.specs.Prelude.{◌≡◌, ◌+◌, ◌<◌, ◌≤◌, [], length, take, true, IfOk, IfErr, OnOk, OnErr};
 ghost use Rattle.arrayvec.specs.ArrayVec.{array_vec_len};
 ghost use Rattle.rfb_pixel.specs.Format.{size_of, colour_of};
 ghost use Rattle.rfb_picture.specs.Grid.{filled};
@@ -62,8 +62,8 @@ pub fn take_head(
     }
 }
 
-/// Takes a subrectangle that the bytes begin with, or bytes of one, which is painted at its last byte.
-/// `SubrectOutside` where it leaves the rectangle.
+/// Takes the whole subrectangles that the bytes begin with, or bytes of one, which is painted at its last
+/// byte. `SubrectOutside` where one leaves the rectangle.
 pub fn take_subrect(
     format: Format,
     rect: Rect,
@@ -92,11 +92,7 @@ pub fn take_subrect(
 {
     let size = format.size() + 8;
     if pending.is_empty() && bytes.len() >= size {
-        draw_subrect(format, rect, &bytes[..size], picture)?;
-        return Ok(Step {
-            used: size,
-            stage: Stage::InSubrects { left: left - 1 },
-        });
+        return take_whole(format, rect, left, bytes, picture);
     }
     let used = gather(pending, size, bytes);
     if pending.len() < size {
@@ -114,7 +110,80 @@ pub fn take_subrect(
     })
 }
 
+// Takes the whole subrectangles that the bytes begin with, at most so many. `SubrectOutside` at the first
+// that leaves the rectangle.
+fn take_whole(
+    format: Format,
+    rect: Rect,
+    left: u32,
+    bytes: &[u8],
+    picture: &mut Picture<Colour>,
+) -> Result<Step, PaintFault>
+    requires place { IsPaintable picture.old rect }
+    requires left { 0 < left }
+    requires one { size_of format + 8 ≤ length bytes.now }
+    ensures some { IfOk result (λ step. 0 < step.used) }
+    ensures used { IfOk result (λ step. step.used ≤ length bytes.now) }
+    ensures sound { IfOk result (λ step. is_sound format rect step.stage 0 ≡ true) }
+    ensures same { IfOk result (λ step. encoding_at step.stage ≡ encoding_at (InSubrects left)) }
+    ensures goes_on { IfOk result (λ step.
+        GoesOn format rect (InSubrects left) [] picture.old (take step.used bytes.now)
+        step.stage [] picture.new) }
+    ensures fault { IfErr result
+        (Stops format rect (InSubrects left) [] picture.old bytes.now picture.new) }
+    ensures width { picture.new.width ≡ picture.old.width }
+    ensures height { picture.new.height ≡ picture.old.height }
+{
+    // The format that this project announces is known before it runs, and its loop is far shorter.
+    if format == Format::rgb888() {
+        take_each(Format::rgb888(), rect, left, bytes, picture)
+    } else {
+        take_each(format, rect, left, bytes, picture)
+    }
+}
+
+// The same, by one loop for every format.
+#[inline(always)]
+fn take_each(
+    format: Format,
+    rect: Rect,
+    left: u32,
+    bytes: &[u8],
+    picture: &mut Picture<Colour>,
+) -> Result<Step, PaintFault>
+    requires place { IsPaintable picture.old rect }
+    requires left { 0 < left }
+    requires one { size_of format + 8 ≤ length bytes.now }
+    ensures some { IfOk result (λ step. 0 < step.used) }
+    ensures used { IfOk result (λ step. step.used ≤ length bytes.now) }
+    ensures sound { IfOk result (λ step. is_sound format rect step.stage 0 ≡ true) }
+    ensures same { IfOk result (λ step. encoding_at step.stage ≡ encoding_at (InSubrects left)) }
+    ensures goes_on { IfOk result (λ step.
+        GoesOn format rect (InSubrects left) [] picture.old (take step.used bytes.now)
+        step.stage [] picture.new) }
+    ensures fault { IfErr result
+        (Stops format rect (InSubrects left) [] picture.old bytes.now picture.new) }
+    ensures width { picture.new.width ≡ picture.old.width }
+    ensures height { picture.new.height ≡ picture.old.height }
+{
+    let length = format.size() + 8;
+    let mut rest = left;
+    let mut used = 0;
+    'parts: while rest > 0 && bytes.len() - used >= length {
+        // They tell that the picture has a colour at each place, and numbers these in 16 bits.
+        let (_width, _height) = (picture.width(), picture.height());
+        draw_subrect(format, rect, &bytes[used..used + length], picture)?;
+        used += length;
+        rest -= 1;
+    }
+    Ok(Step {
+        used,
+        stage: Stage::InSubrects { left: rest },
+    })
+}
+
 // Paints the subrectangle that bytes spell, if it lies in the rectangle.
+#[inline(always)]
 fn draw_subrect(
     format: Format,
     rect: Rect,

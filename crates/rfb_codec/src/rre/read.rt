@@ -10,6 +10,7 @@ use rfb_picture::Rect;
 use rfb_pixel::Format;
 
 /// The subrectangle that bytes spell.
+#[inline(always)]
 pub fn read(format: Format, bytes: &[u8]) -> Subrect
     requires { length bytes.now ≡ size_of format + 8 }
     ensures { result ≡ subrect_of format bytes.now }
