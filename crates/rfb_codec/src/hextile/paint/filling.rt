@@ -1,11 +1,10 @@
 //! One colour over a tile, and over a part of it.
 
-ghost use Rattle.std.specs.Prelude.{◌≡◌, ℕ, ◌<◌, length, slice_index_or};
-ghost use Rattle.rfb_pixel.specs.declared.colour.Colour.{Colour};
+ghost use Rattle.std.specs.Prelude.{◌≡◌};
 ghost use Rattle.rfb_picture.specs.Grid.{filled};
 ghost use Rattle.rfb_codec.specs.inside.Step.{IsPaintable};
 
-use crate::painter::fill::{fill, fill_row};
+use crate::painter::fill::{fill, fill_row, line_of, put_line};
 use rfb_picture::{Picture, Rect};
 use rfb_pixel::Colour;
 
@@ -36,26 +35,6 @@ fn fill_lines(rect: Rect, colour: Colour, picture: &mut Picture<Colour>)
     let line = line_of(colour);
     for row in 0..rect.h {
         put_line(picture.row_mut(rect.x, rect.y + row, 16), &line);
-    }
-}
-
-// Sixteen places of that colour. It is taken apart, so that they are put together in registers: copies of
-// it as a whole would be written to memory one by one.
-fn line_of(colour: Colour) -> [Colour; 16]
-    ensures { (k : ℕ) (d : Colour) → k < 16 → slice_index_or result k d ≡ colour }
-{
-    let Colour { r, g, b } = colour;
-    [Colour { r, g, b }; 16]
-}
-
-// Gives the places of a row the colours of a line.
-fn put_line(row: &mut [Colour], line: &[Colour; 16])
-    requires { length row.old ≡ 16 }
-    ensures { row.new ≡ line.now }
-{
-    match row.as_mut_array::<16>() {
-        Some(places) => *places = *line,
-        None => unreachable!(),
     }
 }
 
