@@ -2,11 +2,14 @@
 
 mod drawing;
 mod filling;
+mod next;
+mod pixels;
 mod reading;
 mod take;
 mod tile_read;
 
-pub use take::{take_raw, take_tile};
+pub use pixels::take_raw;
+pub use take::take_tile;
 pub use tile_read::Seen;
 
 /// The colours seen before the first tile.

@@ -1,27 +1,21 @@
-//! Hextile from the slices that it comes in: a tile that is not raw at its last byte, and each pixel of
-//! a raw one at its own.
+//! Tiles from the slices that they come in: one that is not raw at its last byte, and the mask of one that
+//! is.
 
-ghost use Rattle.std.specs.Prelude.{◌≡◌, ◌+◌, ◌^◌, ◌<◌, ◌≤◌, [], ◌∷◌, length, take, slice_index, true, false, IfOk, IfErr, IfSome, OnErr};
+ghost use Rattle.std.specs.Prelude.{◌≡◌, ◌+◌, ◌<◌, ◌≤◌, [], ◌∷◌, length, take, slice_index, true, false, IfOk, IfErr, OnErr};
 ghost use Rattle.arrayvec.specs.ArrayVec.{array_vec_len};
-ghost use Rattle.rfb_pixel.specs.Format.{size_of};
 ghost use Rattle.rfb_codec.specs.declared.painter.stage.Stage.TheVariants.{InTiles, InRawTile};
 ghost use Rattle.rfb_codec.specs.Tile.{is_raw};
-ghost use Rattle.rfb_codec.specs.inside.TileRead.{IsShort, tile_of_read};
-ghost use Rattle.rfb_codec.specs.Hextile.{tile_count, tile_width, tile_height};
+ghost use Rattle.rfb_codec.specs.Hextile.{tile_count};
 ghost use Rattle.rfb_codec.specs.inside.Step.{IsPaintable};
-ghost use Rattle.rfb_codec.specs.Front.{tile_places};
-ghost use Rattle.rfb_codec.specs.inside.Step.{GoesOn, Stops, IsGoodTile, TellsNext, DrawsTile};
+ghost use Rattle.rfb_codec.specs.inside.Step.{GoesOn, Stops};
 ghost use Rattle.rfb_codec.specs.Stage.{encoding_at, is_sound};
 
-use super::drawing::draw_tile;
-use super::reading::read_tile;
-use super::tile_read::{Seen, TileRead, seen_behind};
+use super::next::{draw_next, read_next};
+use super::tile_read::Seen;
 use crate::fault::PaintFault;
 use crate::hextile::mask::RAW;
-use crate::hextile::tiles::{tile_count, tile_rect};
 use crate::painter::gather::Pending;
 use crate::painter::stage::{Place, Stage, Step};
-use crate::raw::take_pixels;
 use rfb_picture::{Picture, Rect};
 use rfb_pixel::{Colour, Format};
 
@@ -159,113 +153,5 @@ fn take_byte(
             used: 1,
             stage: Stage::InTiles { tile, seen },
         }),
-    }
-}
-
-// The rectangle's tile with that number, if the bytes begin with all of it.
-fn read_next(
-    format: Format,
-    rect: Rect,
-    tile: usize,
-    seen: Seen,
-    bytes: &[u8],
-) -> Result<Option<TileRead>, PaintFault>
-    requires { tile < tile_count rect.w rect.h }
-    ensures told { TellsNext format rect tile seen bytes.now result }
-    ensures good { IfOk result (λ told. IfSome told (λ read.
-        IsGoodTile format rect tile read bytes.now)) }
-    ensures short { IsShort bytes.now result }
-    ensures columns { 0 < tile_width rect.w tile }
-    ensures rows { 0 < tile_height rect.w rect.h tile }
-{
-    let part = tile_rect(rect.w, rect.h, tile);
-    read_tile(format, seen, part.w, part.h, bytes)
-}
-
-// Paints the tile that was read from the bytes, and returns the colours seen after it.
-fn draw_next(
-    format: Format,
-    rect: Rect,
-    tile: usize,
-    seen: Seen,
-    read: TileRead,
-    bytes: &[u8],
-    picture: &mut Picture<Colour>,
-) -> Seen
-    requires place { IsPaintable picture.old rect }
-    requires below { tile < tile_count rect.w rect.h }
-    requires good { IsGoodTile format rect tile read bytes.now }
-    ensures value { DrawsTile format rect tile seen
-        (tile_of_read format (tile_width rect.w tile) (tile_height rect.w rect.h tile) read bytes.now)
-        picture.old result picture.new }
-    ensures width { picture.new.width ≡ picture.old.width }
-    ensures height { picture.new.height ≡ picture.old.height }
-{
-    let seen = seen_behind(seen, read.layout);
-    draw_tile(
-        format,
-        places_of_tile(rect, tile),
-        seen,
-        read,
-        bytes,
-        picture,
-    );
-    seen
-}
-
-/// Takes pixels of a raw tile, from a place of it on.
-pub fn take_raw(
-    format: Format,
-    rect: Rect,
-    tile: usize,
-    seen: Seen,
-    at: Place,
-    pending: &mut Pending,
-    bytes: &[u8],
-    picture: &mut Picture<Colour>,
-) -> Step
-    requires place { IsPaintable picture.old rect }
-    requires below { tile < tile_count rect.w rect.h }
-    requires column { at.x < tile_width rect.w tile }
-    requires row { at.y < tile_height rect.w rect.h tile }
-    requires short { array_vec_len pending.old < size_of format }
-    requires some { 0 < length bytes.now }
-    ensures some { 0 < result.used }
-    ensures used { result.used ≤ length bytes.now }
-    ensures sound { is_sound format rect result.stage (array_vec_len pending.new) ≡ true }
-    ensures same { encoding_at result.stage ≡ encoding_at (InRawTile tile seen at) }
-    ensures goes_on { GoesOn format rect (InRawTile tile seen at) pending.old.items picture.old
-        (take result.used bytes.now) result.stage pending.new.items picture.new }
-    ensures width { picture.new.width ≡ picture.old.width }
-    ensures height { picture.new.height ≡ picture.old.height }
-{
-    let places = places_of_tile(rect, tile);
-    let (used, at) = take_pixels(format, places, at, pending, bytes, picture);
-    let stage = if at.y < places.h {
-        Stage::InRawTile { tile, seen, at }
-    } else {
-        Stage::InTiles {
-            tile: tile + 1,
-            seen,
-        }
-    };
-    Step { used, stage }
-}
-
-// Where a tile lies in the picture.
-fn places_of_tile(rect: Rect, tile: usize) -> Rect
-    requires below { tile < tile_count rect.w rect.h }
-    requires columns { rect.x + rect.w < 2 ^ 16 }
-    requires rows { rect.y + rect.h < 2 ^ 16 }
-    ensures value { result ≡ tile_places rect tile }
-    ensures column { rect.x ≤ result.x × result.x + result.w ≤ rect.x + rect.w }
-    ensures row { rect.y ≤ result.y × result.y + result.h ≤ rect.y + rect.h }
-    ensures some { (0 < result.w) × (0 < result.h) }
-{
-    let part = tile_rect(rect.w, rect.h, tile);
-    Rect {
-        x: rect.x + part.x,
-        y: rect.y + part.y,
-        ..part
     }
 }

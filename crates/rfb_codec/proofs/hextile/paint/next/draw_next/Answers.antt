@@ -1,5 +1,5 @@
 use Rattle.rfb_codec.proofs.TakeTileLemmas.{draws_next}
-use Rattle.rfb_codec.proofs.hextile.paint.take.draw_next.Goals as goal
+use Rattle.rfb_codec.proofs.hextile.paint.next.draw_next.Goals as goal
 
 pub returns-clause-value : goal.returns-clause-value
 returns-clause-value c =

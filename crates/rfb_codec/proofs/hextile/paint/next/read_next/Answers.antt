@@ -1,6 +1,6 @@
 use Rattle.rfb_codec.specs.Tile.{tile_behind}
 use Rattle.rfb_codec.proofs.TakeTileLemmas.{good_tile, some_before, told_next}
-use Rattle.rfb_codec.proofs.hextile.paint.take.read_next.Goals as goal
+use Rattle.rfb_codec.proofs.hextile.paint.next.read_next.Goals as goal
 
 pub returns-clause-told : goal.returns-clause-told
 returns-clause-told c = λ tiles number sees.

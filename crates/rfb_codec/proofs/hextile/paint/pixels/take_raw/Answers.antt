@@ -1,6 +1,6 @@
 use Rattle.std.proofs.Common.{take}
 use Rattle.rfb_codec.proofs.RawTileLemmas.{raw_goes_on, raw_ends}
-use Rattle.rfb_codec.proofs.hextile.paint.take.take_raw.Goals as goal
+use Rattle.rfb_codec.proofs.hextile.paint.pixels.take_raw.Goals as goal
 
 pub returns-then-at-places-clause-goes_on : goal.returns-then-at-places-clause-goes_on
 returns-then-at-places-clause-goes_on c = λ before body stands.
