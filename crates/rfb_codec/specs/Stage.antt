@@ -37,18 +37,25 @@ pub record Sees (before : List Tile) (seen : Seen) : Type 0 where
   pub foreground : seen.foreground ≡ last_of foreground_of before
 
 -- stage, pending bytes and picture stand for the picture before the rectangle and for its data so far
-abbrev pub StandsAt : PixelFormat → Rect → Stage → List ℕ → Grid Colour → Grid Colour → List ℕ → Type 0
+abbrev pub StandsAt : PixelFormat → Rect → Stage → List ℕ → Grid Colour → Grid Colour → List ℕ →
+    Type 0
 StandsAt f rect BeforeSource pending now before body = Shows f rect NoSource pending now before body
-StandsAt f rect Copied pending now before body = (x y : ℕ) × Shows f rect (TheSource x y) pending now before body
-StandsAt f rect (InPixels at) pending now before body = (pixels : List ℕ) × Shows f rect (SomePixels (places_before rect.w at) pixels) pending now before body
+StandsAt f rect Copied pending now before body =
+    (x y : ℕ) × Shows f rect (TheSource x y) pending now before body
+StandsAt f rect (InPixels at) pending now before body =
+    (pixels : List ℕ)
+    × Shows f rect (SomePixels (places_before rect.w at) pixels) pending now before body
 StandsAt f rect BeforeHead pending now before body = Shows f rect NoHead pending now before body
 StandsAt f rect (InSubrects left) pending now before body =
-    (background : ℕ) × (subs : List Subrect) × Shows f rect (SomeParts (length subs + left) background subs) pending now before body
+    (background : ℕ) × (subs : List Subrect)
+    × Shows f rect (SomeParts (length subs + left) background subs) pending now before body
 StandsAt f rect (InTiles tile seen) pending now before body =
-    (tiles : List Tile) × (length tiles ≡ tile) × Sees tiles seen × Shows f rect (SomeTiles tiles) pending now before body
+    (tiles : List Tile) × (length tiles ≡ tile) × Sees tiles seen
+    × Shows f rect (SomeTiles tiles) pending now before body
 StandsAt f rect (InRawTile tile seen at) pending now before body =
     (tiles : List Tile) × (pixels : List ℕ) × (length tiles ≡ tile) × Sees tiles seen
-    × Shows f rect (SomeOfRaw tiles (places_before (tile_width rect.w tile) at) pixels) pending now before body
+    × Shows f rect (SomeOfRaw tiles (places_before (tile_width rect.w tile) at) pixels)
+    pending now before body
 
 -- the data have ended
 abbrev pub is_ended : Rect → Stage → Bool
@@ -68,19 +75,23 @@ is_inside width height at = nat_lt at.x width && nat_lt at.y height
 abbrev pub is_sound : PixelFormat → Rect → Stage → ℕ → Bool
 is_sound f rect BeforeSource pending = nat_lt pending 4
 is_sound f rect Copied pending = pending == 0
-is_sound f rect (InPixels at) pending = nat_lt pending (size_of f) && (rect.w == 0 || nat_lt at.x rect.w)
+is_sound f rect (InPixels at) pending =
+    nat_lt pending (size_of f) && (rect.w == 0 || nat_lt at.x rect.w)
 is_sound f rect BeforeHead pending = nat_lt pending (4 + size_of f)
 is_sound f rect (InSubrects left) pending = nat_lt pending (size_of f + 8)
 is_sound f rect (InTiles tile seen) pending = nat_lt pending 1536
 is_sound f rect (InRawTile tile seen at) pending =
-    nat_lt pending (size_of f) && nat_lt tile (tile_count rect.w rect.h) && is_inside (tile_width rect.w tile) (tile_height rect.w rect.h tile) at
+    nat_lt pending (size_of f) && nat_lt tile (tile_count rect.w rect.h)
+    && is_inside (tile_width rect.w tile) (tile_height rect.w rect.h tile) at
 
 -- ---- a fault
 
 -- the data show this fault with byte n of these, and the picture shows the pieces before it
-pub record IsRefused (f : PixelFormat) (rect : Rect) (encoding : Encoding) (before : Grid Colour) (body bytes : List ℕ) (fault : PaintFault) (now : Grid Colour) : Type 0 where
+pub record IsRefused (f : PixelFormat) (rect : Rect) (encoding : Encoding) (before : Grid Colour)
+    (body bytes : List ℕ) (fault : PaintFault) (now : Grid Colour) : Type 0 where
   pub n : ℕ
   pub pending : List ℕ
   pub within : n < length bytes
-  pub bad : rect_data f before.width before.height rect encoding (body ++ take (n + 1) bytes) ≡ Bad fault
+  pub bad : rect_data f before.width before.height rect encoding (body ++ take (n + 1) bytes)
+      ≡ Bad fault
   pub shows : ShowsFront f rect encoding before (body ++ take n bytes) pending now

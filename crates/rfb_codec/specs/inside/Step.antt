@@ -38,9 +38,12 @@ stage_of Rre = BeforeHead
 stage_of Hextile = InTiles 0 (record { background = None; foreground = None })
 
 -- the pixels before the place are painted
-abbrev pub StandsPixels : PixelFormat → Rect → Place → List ℕ → Grid Colour → Grid Colour → List ℕ → Type 0
+abbrev pub StandsPixels : PixelFormat → Rect → Place → List ℕ → Grid Colour → Grid Colour → List ℕ →
+    Type 0
 StandsPixels f rect at pending now before body =
-    (pixels : List ℕ) × SpellsPixels f (rect.h * rect.w) (places_before rect.w at) pixels pending body × (now ≡ pixels_over f rect (places_before rect.w at) pixels before)
+    (pixels : List ℕ)
+    × SpellsPixels f (rect.h * rect.w) (places_before rect.w at) pixels pending body
+    × (now ≡ pixels_over f rect (places_before rect.w at) pixels before)
 
 -- how many places stand before the first of a row
 abbrev pub first_of_row : ℕ → ℕ → ℕ
@@ -49,30 +52,42 @@ first_of_row width row = row * width + 0
 -- the bytes are painted as the pixels after so many of the rectangle's
 abbrev pub PaintsRun : PixelFormat → Rect → ℕ → ℕ → List ℕ → Grid Colour → Grid Colour → Type 0
 PaintsRun f rect from count bytes old new =
-    (pixels : List ℕ) (before : Grid Colour) → length pixels ≡ from * size_of f → old ≡ pixels_over f rect from pixels before
+    (pixels : List ℕ) (before : Grid Colour) → length pixels ≡ from * size_of f →
+    old ≡ pixels_over f rect from pixels before
     → new ≡ pixels_over f rect (from + count) (pixels ++ bytes) before
 
 -- the tile that was read lies in the bytes, and its subrectangles lie in it
-pub record IsGoodTile (f : PixelFormat) (rect : Rect) (n : ℕ) (read : TileRead) (bytes : List ℕ) : Type 0 where
+pub record IsGoodTile (f : PixelFormat) (rect : Rect) (n : ℕ) (read : TileRead) (bytes : List ℕ) :
+    Type 0 where
   pub lies : LiesIn f (tile_width rect.w n) (tile_height rect.w rect.h n) read bytes
-  pub inside : AreInside (tile_width rect.w n) (tile_height rect.w rect.h n) (places_of (tile_of_read f (tile_width rect.w n) (tile_height rect.w rect.h n) read bytes))
+  pub inside : AreInside (tile_width rect.w n) (tile_height rect.w rect.h n)
+      (places_of (tile_of_read f (tile_width rect.w n) (tile_height rect.w rect.h n) read bytes))
 
 -- what is told of the rectangle's next tile is what the reading gives
-abbrev pub TellsNext : PixelFormat → Rect → ℕ → Seen → List ℕ → Result (Option TileRead) PaintFault → Type 0
+abbrev pub TellsNext : PixelFormat → Rect → ℕ → Seen → List ℕ → Result (Option TileRead)
+    PaintFault → Type 0
 TellsNext f rect n seen bytes result =
-    (tiles : List Tile) → length tiles ≡ n → Sees tiles seen → TellsTile f (tile_width rect.w n) (tile_height rect.w rect.h n) bytes result (next_tile f rect.w rect.h tiles bytes)
+    (tiles : List Tile) → length tiles ≡ n → Sees tiles seen →
+    TellsTile f (tile_width rect.w n) (tile_height rect.w rect.h n) bytes result
+    (next_tile f rect.w rect.h tiles bytes)
 
 -- the picture of the tiles before has this one too, and these are the colours seen after it
-abbrev pub DrawsTile : PixelFormat → Rect → ℕ → Seen → Tile → Grid Colour → Seen → Grid Colour → Type 0
+abbrev pub DrawsTile : PixelFormat → Rect → ℕ → Seen → Tile → Grid Colour → Seen → Grid Colour →
+    Type 0
 DrawsTile f rect n seen tile old next new =
-    (tiles : List Tile) (before : Grid Colour) → length tiles ≡ n → Sees tiles seen → old ≡ tiles_over f rect n tiles before
+    (tiles : List Tile) (before : Grid Colour) → length tiles ≡ n → Sees tiles seen →
+    old ≡ tiles_over f rect n tiles before
     → Sees (tiles ++ tile ∷ []) next × (new ≡ tiles_over f rect (n + 1) (tiles ++ tile ∷ []) before)
 
 -- what stood for data stands for them with these bytes
-abbrev pub GoesOn : PixelFormat → Rect → Stage → List ℕ → Grid Colour → List ℕ → Stage → List ℕ → Grid Colour → Type 0
+abbrev pub GoesOn : PixelFormat → Rect → Stage → List ℕ → Grid Colour → List ℕ → Stage → List ℕ →
+    Grid Colour → Type 0
 GoesOn f rect stage pending picture bytes next rest now =
-    (before : Grid Colour) (body : List ℕ) → StandsAt f rect stage pending picture before body → StandsAt f rect next rest now before (body ++ bytes)
+    (before : Grid Colour) (body : List ℕ) → StandsAt f rect stage pending picture before body →
+    StandsAt f rect next rest now before (body ++ bytes)
 
-abbrev pub Stops : PixelFormat → Rect → Stage → List ℕ → Grid Colour → List ℕ → Grid Colour → PaintFault → Type 0
+abbrev pub Stops : PixelFormat → Rect → Stage → List ℕ → Grid Colour → List ℕ → Grid Colour →
+    PaintFault → Type 0
 Stops f rect stage pending picture bytes now fault =
-    (before : Grid Colour) (body : List ℕ) → StandsAt f rect stage pending picture before body → IsRefused f rect (encoding_at stage) before body bytes fault now
+    (before : Grid Colour) (body : List ℕ) → StandsAt f rect stage pending picture before body →
+    IsRefused f rect (encoding_at stage) before body bytes fault now

@@ -60,8 +60,10 @@ fn fill_long(row: &mut [Colour], colour: Colour)
 #[inline]
 fn fill_from(row: &mut [Colour], start: usize, colour: Colour)
     requires { start ≤ length row.old }
-    ensures behind { (k : ℕ) (d : Colour) → start ≤ k → k < length row.new → slice_index_or row.new k d ≡ colour }
-    ensures before { (k : ℕ) (d : Colour) → k < start → slice_index_or row.new k d ≡ slice_index_or row.old k d }
+    ensures behind { (k : ℕ) (d : Colour) → start ≤ k → k < length row.new →
+        slice_index_or row.new k d ≡ colour }
+    ensures before { (k : ℕ) (d : Colour) → k < start →
+        slice_index_or row.new k d ≡ slice_index_or row.old k d }
 {
     fill_each(&mut row[start..], colour);
 }
@@ -70,8 +72,10 @@ fn fill_from(row: &mut [Colour], start: usize, colour: Colour)
 #[inline]
 fn put_line_at(row: &mut [Colour], start: usize, line: &[Colour; 16])
     requires { start + 16 ≤ length row.old }
-    ensures here { (k : ℕ) (d : Colour) → start ≤ k → k < start + 16 → slice_index_or row.new k d ≡ slice_index_or line.now (k - start) d }
-    ensures before { (k : ℕ) (d : Colour) → k < start → slice_index_or row.new k d ≡ slice_index_or row.old k d }
+    ensures here { (k : ℕ) (d : Colour) → start ≤ k → k < start + 16 →
+        slice_index_or row.new k d ≡ slice_index_or line.now (k - start) d }
+    ensures before { (k : ℕ) (d : Colour) → k < start →
+        slice_index_or row.new k d ≡ slice_index_or row.old k d }
 {
     put_line(&mut row[start..start + 16], line);
 }

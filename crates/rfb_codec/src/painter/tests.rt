@@ -12,7 +12,6 @@ use std::test::Fail;
 mod cuts;
 mod hextile;
 mod hostile;
-mod many;
 mod masks;
 mod pixels;
 

@@ -17,7 +17,8 @@ use rfb_pixel::{Colour, Format};
 pub fn paint_rows(format: Format, rect: Rect, bytes: &[u8], picture: &mut Picture<Colour>)
     requires place { IsPaintable picture.old rect }
     requires whole { length bytes.now ≡ raw_length format rect.w rect.h }
-    ensures value { picture.new ≡ over rect (λ x y. colour_of format (raw_pixel format rect.w bytes.now x y)) picture.old }
+    ensures value { picture.new ≡
+        over rect (λ x y. colour_of format (raw_pixel format rect.w bytes.now x y)) picture.old }
     ensures width { picture.new.width ≡ picture.old.width }
     ensures height { picture.new.height ≡ picture.old.height }
 {
@@ -103,7 +104,8 @@ pub fn paint_run(
     requires row { at.y < rect.h }
     requires columns { at.x + count ≤ rect.w }
     requires whole { length bytes.now ≡ count * size_of format }
-    ensures value { PaintsRun format rect (places_before rect.w at) count bytes.now picture.old picture.new }
+    ensures value { PaintsRun format rect (places_before rect.w at) count bytes.now
+        picture.old picture.new }
     ensures width { picture.new.width ≡ picture.old.width }
     ensures height { picture.new.height ≡ picture.old.height }
 {
@@ -115,7 +117,8 @@ pub fn paint_run(
 #[inline(always)]
 fn unpack_row(format: Format, bytes: &[u8], row: &mut [Colour])
     requires { length bytes.now ≡ length row.old * size_of format }
-    ensures { (k : ℕ) (d : Colour) → k < length row.new → slice_index_or row.new k d ≡ colour_of format (pixel_number format (drop (k * size_of format) bytes.now)) }
+    ensures { (k : ℕ) (d : Colour) → k < length row.new → slice_index_or row.new k d ≡
+        colour_of format (pixel_number format (drop (k * size_of format) bytes.now)) }
 {
     if format == Format::rgb888() {
         unpack_each(Format::rgb888(), bytes, row);
@@ -130,7 +133,8 @@ fn unpack_row(format: Format, bytes: &[u8], row: &mut [Colour])
 #[inline(always)]
 fn unpack_each(format: Format, bytes: &[u8], row: &mut [Colour])
     requires { length bytes.now ≡ length row.old * size_of format }
-    ensures { (k : ℕ) (d : Colour) → k < length row.new → slice_index_or row.new k d ≡ colour_of format (pixel_number format (drop (k * size_of format) bytes.now)) }
+    ensures { (k : ℕ) (d : Colour) → k < length row.new → slice_index_or row.new k d ≡
+        colour_of format (pixel_number format (drop (k * size_of format) bytes.now)) }
 {
     let size = format.size();
     for (k, colour) in row.iter_mut().enumerate() {

@@ -38,7 +38,8 @@ pub fn take_head(
     ensures used { result.used ≤ length bytes.now }
     ensures sound { is_sound format rect result.stage (array_vec_len pending.new) ≡ true }
     ensures same { encoding_at result.stage ≡ encoding_at BeforeHead }
-    ensures goes_on { GoesOn format rect BeforeHead pending.old.items picture.old (take result.used bytes.now)
+    ensures goes_on { GoesOn format rect BeforeHead pending.old.items picture.old
+        (take result.used bytes.now)
         result.stage pending.new.items picture.new }
     ensures width { picture.new.width ≡ picture.old.width }
     ensures height { picture.new.height ≡ picture.old.height }

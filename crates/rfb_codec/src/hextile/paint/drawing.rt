@@ -29,8 +29,13 @@ pub fn draw_tile(
 )
     requires place { IsPaintable picture.old rect }
     requires lies { LiesIn format rect.w rect.h read bytes.now }
-    requires inside { AreInside rect.w rect.h (places_of (tile_of_read format rect.w rect.h read bytes.now)) }
-    ensures value { (before : List Tile) → Sees (before ++ tile_of_read format rect.w rect.h read bytes.now ∷ []) seen → picture.new ≡ over rect (λ x y. colour_of format (tile_pixel format rect.w (before ++ tile_of_read format rect.w rect.h read bytes.now ∷ []) (tile_of_read format rect.w rect.h read bytes.now) x y)) picture.old }
+    requires inside { AreInside rect.w rect.h
+        (places_of (tile_of_read format rect.w rect.h read bytes.now)) }
+    ensures value { (before : List Tile) →
+        Sees (before ++ tile_of_read format rect.w rect.h read bytes.now ∷ []) seen →
+        picture.new ≡ over rect (λ x y. colour_of format (tile_pixel format rect.w
+        (before ++ tile_of_read format rect.w rect.h read bytes.now ∷ [])
+        (tile_of_read format rect.w rect.h read bytes.now) x y)) picture.old }
     ensures width { picture.new.width ≡ picture.old.width }
     ensures height { picture.new.height ≡ picture.old.height }
 {
@@ -67,7 +72,8 @@ fn draw_subs(
 )
     requires place { IsPaintable picture.old rect }
     requires inside { AreSubsInside format rect.w rect.h foreground colored count list.now }
-    ensures value { picture.new ≡ over rect (λ x y. colour_of format (pixel_at background (subs_in format foreground colored count list.now) x y)) picture.old }
+    ensures value { picture.new ≡ over rect (λ x y. colour_of format
+        (pixel_at background (subs_in format foreground colored count list.now) x y)) picture.old }
     ensures width { picture.new.width ≡ picture.old.width }
     ensures height { picture.new.height ≡ picture.old.height }
 {

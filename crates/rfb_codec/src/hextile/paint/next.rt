@@ -49,7 +49,8 @@ pub fn draw_next(
     requires below { tile < tile_count rect.w rect.h }
     requires good { IsGoodTile format rect tile read bytes.now }
     ensures value { DrawsTile format rect tile seen
-        (tile_of_read format (tile_width rect.w tile) (tile_height rect.w rect.h tile) read bytes.now)
+        (tile_of_read format (tile_width rect.w tile) (tile_height rect.w rect.h tile) read
+        bytes.now)
         picture.old result picture.new }
     ensures width { picture.new.width ≡ picture.old.width }
     ensures height { picture.new.height ≡ picture.old.height }

@@ -28,7 +28,9 @@ pub fn read_tile(
     bytes: &[u8],
 ) -> Result<Option<TileRead>, PaintFault>
     requires { (width ≤ 16) × (height ≤ 16) }
-    ensures told { (before : List Tile) → Sees before seen → TellsTile format width height bytes.now result (tile_behind format width height before bytes.now) }
+    ensures told { (before : List Tile) → Sees before seen →
+        TellsTile format width height bytes.now result
+        (tile_behind format width height before bytes.now) }
     ensures short { IsShort bytes.now result }
 {
     if bytes.is_empty() {
@@ -77,7 +79,11 @@ fn find(format: Format, width: u16, height: u16, mask: u8, bytes: &[u8]) -> Opti
     requires size { (width ≤ 16) × (height ≤ 16) }
     requires mask { 1 ≤ length bytes.now }
     ensures short { result ≡ None → length bytes.now < 1536 }
-    ensures told { MatchOption result (behind_mask format width height mask (is_raw mask) (subrects_colored mask) (drop 1 bytes.now) ≡ More) (λ read. (behind_mask format width height mask (is_raw mask) (subrects_colored mask) (drop 1 bytes.now) ≡ Got (tile_of_read format width height read bytes.now) (drop read.used bytes.now)) × LiesIn format width height read bytes.now) }
+    ensures told { MatchOption result (behind_mask format width height mask (is_raw mask)
+        (subrects_colored mask) (drop 1 bytes.now) ≡ More)
+        (λ read. (behind_mask format width height mask (is_raw mask) (subrects_colored mask)
+        (drop 1 bytes.now) ≡ Got (tile_of_read format width height read bytes.now)
+        (drop read.used bytes.now)) × LiesIn format width height read bytes.now) }
 {
     let size = format.size();
     if mask & RAW != 0 {
@@ -108,7 +114,9 @@ fn whole(
     used: usize,
     bytes: &[u8],
 ) -> Option<TileRead>
-    ensures { MatchOption result (length bytes.now < used) (λ read. (read ≡ record { layout = layout; list = list; count = count; used = used }) × (used ≤ length bytes.now)) }
+    ensures { MatchOption result (length bytes.now < used)
+        (λ read. (read ≡ record { layout = layout; list = list; count = count; used = used })
+        × (used ≤ length bytes.now)) }
 {
     if bytes.len() < used {
         return None;
@@ -125,7 +133,10 @@ fn whole(
 fn find_colour(format: Format, named: bool, bytes: &[u8], at: usize) -> Option<(Option<u32>, usize)>
     requires place { at ≤ length bytes.now }
     requires low { at ≤ 8 }
-    ensures { MatchOption result (optional named (tile_colour format) (drop at bytes.now) ≡ More) (λ found. (optional named (tile_colour format) (drop at bytes.now) ≡ Got found.0 (drop found.1 bytes.now)) × (at ≤ found.1) × (found.1 ≤ at + 4) × (found.1 ≤ length bytes.now)) }
+    ensures { MatchOption result (optional named (tile_colour format) (drop at bytes.now) ≡ More)
+        (λ found. (optional named (tile_colour format) (drop at bytes.now) ≡ Got found.0
+        (drop found.1 bytes.now)) × (at ≤ found.1) × (found.1 ≤ at + 4)
+        × (found.1 ≤ length bytes.now)) }
 {
     if !named {
         return Some((None, at));
@@ -141,7 +152,9 @@ fn find_colour(format: Format, named: bool, bytes: &[u8], at: usize) -> Option<(
 fn find_count(any: bool, bytes: &[u8], at: usize) -> Option<(usize, usize)>
     requires place { at ≤ length bytes.now }
     requires low { at ≤ 12 }
-    ensures { MatchOption result ((any ≡ true) × (length bytes.now ≡ at)) (λ found. IsCount any at bytes.now found.0 found.1 × (found.0 ≤ 255) × (found.1 ≤ at + 1) × (at ≤ found.1)) }
+    ensures { MatchOption result ((any ≡ true) × (length bytes.now ≡ at))
+        (λ found. IsCount any at bytes.now found.0 found.1 × (found.0 ≤ 255) × (found.1 ≤ at + 1)
+        × (at ≤ found.1)) }
 {
     if !any {
         return Some((0, at));
@@ -155,7 +168,8 @@ fn find_count(any: bool, bytes: &[u8], at: usize) -> Option<(usize, usize)>
 // Whether all subrectangles of a tile lie in it.
 fn fits(format: Format, width: u16, height: u16, read: TileRead, bytes: &[u8]) -> bool
     requires { LiesIn format width height read bytes.now }
-    ensures { result ≡ are_inside width height (places_of (tile_of_read format width height read bytes.now)) }
+    ensures { result ≡ are_inside width height
+        (places_of (tile_of_read format width height read bytes.now)) }
 {
     match read.layout {
         TileLayout::Raw => true,
