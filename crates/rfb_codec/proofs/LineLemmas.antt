@@ -1,5 +1,5 @@
 -- Whole rows of pixels, painted one below another.
-use Rattle.std.proofs.Common.{◌≡◌, ℕ, ◌+◌, ◌-◌, ◌*◌, ◌/◌, ◌<◌, ◌≤◌, List, [], ◌++◌, length, take, drop, refl, sym, ◌∙◌, ap, subst, arith, append-nil, append_assoc, length-append}
+use Rattle.std.proofs.Common.{◌≡◌, ℕ, ◌+◌, ◌-◌, ◌*◌, List, ◌++◌, length, take, drop, sym, ◌∙◌, ap, arith, append-nil, append_assoc, length-append}
 use Rattle.rfb_pixel.specs.declared.colour.Colour.{Colour}
 use Rattle.rfb_pixel.specs.Format.{PixelFormat, size_of}
 use Rattle.rfb_picture.specs.declared.rect.Rect.{Rect}

@@ -1,4 +1,4 @@
-use Rattle.std.proofs.Common.{◌≡◌, ◌∙◌, ℕ, ◌+◌, ◌-◌, ◌*◌, ◌<◌, ◌≤◌, arith, inl, inr, slice_index_or}
+use Rattle.std.proofs.Common.{◌∙◌, ◌-◌, ◌*◌, arith, inl, inr}
 use Rattle.std.proofs.lemmas.Bool.{cases_lt}
 use Rattle.rfb_codec.proofs.painter.fill.fill_long.Goals as goal
 

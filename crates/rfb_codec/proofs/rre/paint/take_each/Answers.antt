@@ -1,4 +1,4 @@
-use Rattle.std.proofs.Common.{◌≡◌, ◌∙◌, ◌+◌, ◌-◌, ◌≤◌, ◌<◌, ◌++◌, [], ℕ, length, take, drop, refl, ap, arith, length-take-le, length-drop}
+use Rattle.std.proofs.Common.{◌≡◌, ◌∙◌, ◌+◌, ◌-◌, ◌++◌, [], ℕ, length, take, drop, refl, ap, arith, length-take-le, length-drop}
 use Rattle.std.proofs.lemmas.Result.{err_from_is_err_and}
 use Rattle.rfb_pixel.specs.Format.{size_of}
 use Rattle.rfb_codec.specs.declared.fault.PaintFault.TheVariants.{SubrectOutside}
