@@ -3,3 +3,4 @@ pub mod PairLemmas
 pub mod PixmapLemmas
 pub mod RunLemmas
 pub mod ScriptLemmas
+pub mod LinesLemmas

@@ -1,4 +1,5 @@
 pub mod CommandLine
+pub mod Fault
 pub mod Messages
 pub mod Number
 pub mod Pair

@@ -121,8 +121,8 @@ fn parse<'a, S: AsStr>(alloc: Global, words: &'a [S]) -> Result<ArgMatches<'a>, 
 
 // Prints a help text that the words asked for.
 fn show<W: Write>(answer: &clap::Error, output: &mut W) -> Result<(), Failure> {
-    write!(output, "{answer}").map_err(Fault::from)?;
-    output.flush().map_err(Fault::from)?;
+    write!(output, "{answer}")?;
+    output.flush()?;
     Ok(())
 }
 
@@ -135,11 +135,11 @@ fn script<R: Read, W: Write, E: Write>(
     errors: &mut E,
 ) -> Result<(), Failure> {
     let mut text = Vec::new(alloc);
-    input.read_to_end(&mut text).map_err(Fault::from)?;
+    input.read_to_end(&mut text)?;
     let script = read_script(alloc, &text)?;
     let pair = run(alloc, &script, errors)?;
     let picture = pair.picture().ok_or(Fault::NotReady)?;
-    write_pixmap(alloc, picture, output).map_err(Fault::from)?;
+    write_pixmap(alloc, picture, output)?;
     Ok(())
 }
 

@@ -1,8 +1,9 @@
 //! What can go wrong, told apart for a caller. Each prints as its number and its name.
 
-ghost use Rattle.std.specs.Prelude.{◌≡◌, ◌≢◌, ◌⊎◌};
-ghost use Rattle.std.specs.IoError.{error_kind};
-ghost use Rattle.std.specs.declared.io.ErrorKind.TheVariants.{OutOfMemory};
+ghost use Rattle.std.specs.Prelude.{◌≡◌};
+ghost use Rattle.rfb.specs.Fault.{IsFailureOf, IsFaultOf};
+ghost use Rattle.rfb.specs.declared.fault.Failure.TheVariants as Failure;
+ghost use Rattle.rfb.specs.declared.fault.Fault.TheVariants as Fault;
 
 use std::alloc::{AllocError, AllocFailed};
 use std::io;
@@ -55,29 +56,15 @@ pub enum Fault {
 }
 
 impl From<AllocError> for Fault {
-    ghost use Rattle.rfb.specs.declared.fault.Fault.TheVariants.{NoMemory};
-
-    ghost from_gives = { λ _ fault. fault ≡ NoMemory };
+    ghost from_gives = { λ _ fault. fault ≡ Fault.NoMemory };
 
     fn from(_error: AllocError) -> Fault {
         Fault::NoMemory
     }
 }
 
-impl<T: Drop> From<AllocFailed<T>> for Fault {
-    ghost use Rattle.rfb.specs.declared.fault.Fault.TheVariants.{NoMemory};
-
-    ghost from_gives = { λ _ fault. fault ≡ NoMemory };
-
-    fn from(_error: AllocFailed<T>) -> Fault {
-        Fault::NoMemory
-    }
-}
-
 impl From<io::Error> for Fault {
-    ghost use Rattle.rfb.specs.declared.fault.Fault.TheVariants.{Device, NoMemory};
-
-    ghost from_gives = { λ error fault. ((error_kind error ≡ OutOfMemory) × (fault ≡ NoMemory)) ⊎ ((error_kind error ≢ OutOfMemory) × (fault ≡ Device)) };
+    ghost from_gives = { IsFaultOf };
 
     fn from(error: io::Error) -> Fault {
         if error.kind() == ErrorKind::OutOfMemory {
@@ -96,5 +83,29 @@ pub enum Failure {
     BadLine(u64),
     /// Something that no script is to blame for.
     #[error("fault {0}")]
-    Fault(#[from] Fault),
+    Fault(Fault),
+}
+
+impl From<Fault> for Failure {
+    ghost from_gives = { λ fault failure. failure ≡ Failure.Fault fault };
+
+    fn from(fault: Fault) -> Failure {
+        Failure::Fault(fault)
+    }
+}
+
+impl<T: Drop> From<AllocFailed<T>> for Failure {
+    ghost from_gives = { λ _ failure. failure ≡ Failure.Fault Fault.NoMemory };
+
+    fn from(_error: AllocFailed<T>) -> Failure {
+        Failure::Fault(Fault::NoMemory)
+    }
+}
+
+impl From<io::Error> for Failure {
+    ghost from_gives = { IsFailureOf };
+
+    fn from(error: io::Error) -> Failure {
+        Failure::Fault(Fault::from(error))
+    }
 }

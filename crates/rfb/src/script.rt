@@ -14,14 +14,17 @@
 //! Numbers are decimal, of 1 to 10 digits, from 0 to 65,535; a colour has six hexadecimal digits.
 //! A script with any other line is bad. Whether a rectangle lies on the screen is not judged here.
 
+ghost use Rattle.std.specs.Prelude.{IfOk, IfErr};
+ghost use Rattle.rfb.specs.Script.{AreScript, StopsReading, lines_of};
+
 mod line;
 mod number;
 mod read;
 
-use crate::fault::{Failure, Fault};
+use crate::fault::Failure;
 use crate::pair::PairEvent;
-use crate::script::line::{Line, Screen};
-use crate::script::read::read_line;
+use crate::script::line::Screen;
+use crate::script::read::{read_event, read_screen};
 use std::alloc::Global;
 
 /// A script that was read to its end and has no bad line.
@@ -42,29 +45,36 @@ pub struct Numbered {
 
 /// Reads a whole script. It fails at the first bad line, or where memory is refused. A text with
 /// nothing but empty lines is bad at the line after them.
-pub fn read_script(alloc: Global, text: &[u8]) -> Result<Script, Failure> {
+pub fn read_script(alloc: Global, text: &[u8]) -> Result<Script, Failure>
+    ensures read { IfOk result (λ script.
+        AreScript (lines_of text.now) script.screen script.events.items) }
+    ensures stopped { IfErr result (StopsReading (lines_of text.now)) }
+{
     let mut screen = None;
     let mut events = Vec::new(alloc);
     let mut number = 0;
-    for line in text.split_inclusive(|byte| *byte == b'\n') {
+    for line in text.split(|byte| *byte == b'\n') {
         number += 1;
-        let line = line.strip_suffix(b"\n").unwrap_or(line);
         if line.is_empty() {
             continue;
         }
-        match (read_line(line), screen) {
-            (Some(Line::Screen(size)), None) => screen = Some(size),
-            (Some(Line::Event(event)), Some(_)) => events
-                .push(Numbered {
-                    line: number,
-                    event,
-                })
-                .map_err(Fault::from)?,
-            _ => return Err(Failure::BadLine(number)),
+        if screen.is_none() {
+            let Some(size) = read_screen(line) else {
+                return Err(Failure::BadLine(number));
+            };
+            screen = Some(size);
+            continue;
         }
+        let Some(event) = read_event(line) else {
+            return Err(Failure::BadLine(number));
+        };
+        events.push(Numbered {
+            line: number,
+            event,
+        })?;
     }
     match screen {
         Some(screen) => Ok(Script { screen, events }),
-        None => Err(Failure::BadLine(number + 1)),
+        None => Err(Failure::BadLine(number)),
     }
 }

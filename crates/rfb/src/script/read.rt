@@ -5,7 +5,7 @@ ghost use Rattle.std.specs.List.{AllPass};
 ghost use Rattle.std.specs.Str.Parse.{digits_value};
 ghost use Rattle.hex.specs.Hex.{decode_of, is_hex_digit};
 ghost use Rattle.rfb.specs.Number.{IsNumber};
-ghost use Rattle.rfb.specs.Script.{AreRect, Says, SaysNothing, texts, words_of};
+ghost use Rattle.rfb.specs.Script.{AreRect, AsksForEvent, GivesSize, Says, SaysEvent, SaysNothing, texts, words_of};
 
 use crate::pair::{MAX_SIDE, PairEvent};
 use crate::script::line::{Line, Screen};
@@ -31,9 +31,30 @@ const SETTLE: &[u8] = b"settle";
 // No line has more words.
 const WORDS_MAX: usize = 6;
 
-/// Reads a line without its newline. It is `None` where the line is bad wherever it stands, as it is
-/// with any character that is not ASCII.
-pub fn read_line(line: &[u8]) -> Option<Line>
+/// The screen's size, as a line without its newline gives it. It is `None` where the line gives none.
+pub fn read_screen(line: &[u8]) -> Option<Screen>
+    ensures { MatchOption result (¬ (GivesSize line.now))
+        (λ size. Says (words_of line.now) (Line.Screen size)) }
+{
+    match read_line(line)? {
+        Line::Screen(size) => Some(size),
+        Line::Event(_) => None,
+    }
+}
+
+/// The event that a line without its newline asks for. It is `None` where the line asks for none.
+pub fn read_event(line: &[u8]) -> Option<PairEvent>
+    ensures { MatchOption result (¬ (AsksForEvent line.now)) (SaysEvent (words_of line.now)) }
+{
+    match read_line(line)? {
+        Line::Screen(_) => None,
+        Line::Event(event) => Some(event),
+    }
+}
+
+// Reads a line without its newline. It is `None` where the line is bad wherever it stands, as it is with
+// any character that is not ASCII.
+fn read_line(line: &[u8]) -> Option<Line>
     ensures { MatchOption result (SaysNothing (words_of line.now)) (Says (words_of line.now)) }
 {
     let mut words: ArrayVec<&[u8], WORDS_MAX> = ArrayVec::new();
