@@ -1,6 +1,7 @@
 -- The messages that a viewer sends, RFC 6143 section 7.5, as the bytes that it writes: padding of
 -- zeros, flags of 0 or 1.
-use Rattle.std.specs.Prelude.{ℕ, Bool, List, [], ◌∷◌, ◌++◌, length}
+use Rattle.std.specs.Prelude.{ℕ, Bool, List, ◌++◌, length}
+use Rattle.std.specs.List.{flat_map}
 use Rattle.std.specs.Int.{cast_unsigned, w32}
 use Rattle.byteorder.specs.Endian.{big_bytes}
 use Rattle.rfb_pixel.specs.Format.{PixelFormat}
@@ -15,10 +16,13 @@ use Rattle.rfb_wire.specs.ClientHead.{client_head_bytes}
 abbrev pub format_message : PixelFormat → List ℕ
 format_message form = client_head_bytes (SetPixelFormat (format_bytes form))
 
--- the numbers of encodings, an S32 each
+-- the number of an encoding, an S32
+abbrev pub encoding_bytes : Encoding → List ℕ
+encoding_bytes encoding = big_bytes 4 (cast_unsigned w32 (number_of encoding))
+
+-- the numbers of encodings, one behind another
 abbrev pub number_bytes : List Encoding → List ℕ
-number_bytes [] = []
-number_bytes (encoding ∷ encodings) = big_bytes 4 (cast_unsigned w32 (number_of encoding)) ++ number_bytes encodings
+number_bytes encodings = flat_map encoding_bytes encodings
 
 -- SetEncodings, section 7.5.2, with its list in that order
 abbrev pub encodings_message : List Encoding → List ℕ

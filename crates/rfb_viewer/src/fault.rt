@@ -1,5 +1,11 @@
 //! Why a viewer ends, and why it refuses a call. Each fault prints as its number and its name.
 
+ghost use Rattle.std.specs.Prelude.{◌≡◌};
+ghost use Rattle.rfb_viewer.specs.Fault.{fault_of_hello, fault_of_wire, fault_of_paint};
+
+use rfb_codec::PaintFault;
+use rfb_hello::HelloFault;
+use rfb_wire::WireFault;
 use thiserror::Error;
 
 /// What a server did wrong, or refused, and want of memory.
@@ -54,6 +60,50 @@ pub enum ViewerFault {
     /// There is no memory for the screen or for a text.
     #[error("30 NoMemory")]
     NoMemory,
+}
+
+impl ViewerFault {
+    // The fault of a handshake. Of its faults two are a client's, and never come of a server's bytes.
+    pub(crate) fn of_hello(fault: HelloFault) -> ViewerFault
+        ensures { result ≡ fault_of_hello fault }
+    {
+        match fault {
+            HelloFault::BadVersion => ViewerFault::BadVersion,
+            HelloFault::VersionTooHigh => ViewerFault::BadVersion,
+            HelloFault::BadSecurityChoice => ViewerFault::BadVersion,
+            HelloFault::NoneNotOffered => ViewerFault::NoneNotOffered,
+            HelloFault::Refused(length) => ViewerFault::Refused(length),
+            HelloFault::BadSecurityWord => ViewerFault::BadSecurityWord,
+            HelloFault::SecurityFailed(length) => ViewerFault::SecurityFailed(length),
+            HelloFault::ScreenEmpty => ViewerFault::ScreenEmpty,
+            HelloFault::ScreenTooLarge => ViewerFault::ScreenTooLarge,
+            HelloFault::NoMemory => ViewerFault::NoMemory,
+        }
+    }
+
+    // The fault of a message's or a rectangle's head.
+    pub(crate) fn of_wire(fault: WireFault) -> ViewerFault
+        ensures { result ≡ fault_of_wire fault }
+    {
+        match fault {
+            WireFault::UnknownMessage(kind) => ViewerFault::UnknownMessage(kind),
+            WireFault::UnknownEncoding(number) => ViewerFault::UnknownEncoding(number),
+            WireFault::RectOutside => ViewerFault::RectOutside,
+        }
+    }
+
+    // The fault of a rectangle's data.
+    pub(crate) fn of_paint(fault: PaintFault) -> ViewerFault
+        ensures { result ≡ fault_of_paint fault }
+    {
+        match fault {
+            PaintFault::SubrectOutside => ViewerFault::SubrectOutside,
+            PaintFault::NoBackground => ViewerFault::NoBackground,
+            PaintFault::NoForeground => ViewerFault::NoForeground,
+            PaintFault::BothColourBits => ViewerFault::BothColourBits,
+            PaintFault::SourceOutside => ViewerFault::SourceOutside,
+        }
+    }
 }
 
 /// Why a call is refused. Nothing was changed, and nothing is to be sent.

@@ -8,7 +8,11 @@
 
 mod event;
 mod fault;
+mod gather;
 pub mod law;
+mod sending;
+mod viewer;
 
 pub use event::{MAX_ANSWER, MAX_READY, ViewerEvent};
 pub use fault::{CallFault, TextFault, ViewerFault};
+pub use viewer::Viewer;

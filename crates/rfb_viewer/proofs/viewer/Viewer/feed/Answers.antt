@@ -1,0 +1,73 @@
+use Rattle.std.proofs.Common.{◌≡◌, refl, ◌∙◌, ◌≤◌, sym, subst, ℕ, List, ◌-◌, ◌+◌, length, take, drop, length-drop, ap, Option, None, arith}
+use Rattle.std.proofs.lemmas.List.{take_rest}
+use Rattle.std.proofs.lemmas.Result.{err_from_is_err_and}
+use Rattle.rfb_wire.specs.stream.End.{RefusedBy, RunsOutBy}
+use Rattle.rfb_wire.proofs.stream_laws.FeedLaws.{fed_step, refused_later, runs_out_later}
+use Rattle.rfb_hello.proofs.ServerHelloLemmas.{none_told, some_told}
+use Rattle.rfb_viewer.specs.declared.event.ViewerEvent.{ViewerEvent}
+use Rattle.rfb_viewer.specs.Told.{seen}
+use Rattle.rfb_viewer.specs.Viewer.{viewer, AsksMemory}
+use Rattle.rfb_viewer.specs.Standing.{StandsFor}
+use Rattle.rfb_viewer.specs.Feeding.{StepsOn}
+use Rattle.rfb_viewer.proofs.ViewerLaws.{viewer_machine}
+use Rattle.rfb_viewer.proofs.FeedLemmas.{starts, not_failed}
+use Rattle.rfb_viewer.proofs.viewer.Viewer.feed.Goals as goal
+
+pub loop-used-init : goal.loop-used-init
+loop-used-init c =
+    let none = not_failed c.args.self.now.progress (λ fault e. c.in_default.not-Failed fault e) in
+    record { within = omega arith; began = none; going = none; fed = λ viewing. starts viewing c.args.self.now }
+
+pub returns-in_err-fed : goal.returns-in_err-fed
+returns-in_err-fed c =
+    let p = err_from_is_err_and c.from_residual.result c.from_residual.ensures.1 in
+    let began = c.loop-used.invariant.began in
+    let rest = take_rest c.args.bytes.now c.loop-used.used in
+    let fault = c.in_err-fed.field-0.0 in
+    rw (p.1, p.2) (record {
+      used = tt;
+      all = tt;
+      some = tt;
+      fed = tt;
+      fault = λ other viewing. refused_later (viewer viewing) (viewer_machine viewing) (StandsFor viewing) c.args.self.now c.loop-used.self c.loop-used.used c.args.bytes.now fault (c.loop-used.invariant.fed viewing)
+          (subst (λ (xs : List ℕ). RefusedBy (viewer viewing) (StandsFor viewing) c.loop-used.self xs fault) rest (c.in_err-fed.ensures.fault other viewing));
+      memory = λ wants viewing. runs_out_later (viewer viewing) (viewer_machine viewing) (AsksMemory viewing) (StandsFor viewing) c.args.self.now c.loop-used.self c.loop-used.used c.args.bytes.now (c.loop-used.invariant.fed viewing)
+          (subst (λ (xs : List ℕ). RunsOutBy (viewer viewing) (AsksMemory viewing) (StandsFor viewing) c.loop-used.self xs) rest (c.in_err-fed.ensures.memory wants viewing));
+      fails = c.in_err-fed.ensures.fails;
+      failed = λ f h. absurd cc;
+    })
+
+pub returns-then-is_some : goal.returns-then-is_some
+returns-then-is_some c =
+    let began = c.loop-used.invariant.began in
+    let rest = take_rest c.args.bytes.now c.loop-used.used in
+    let fed = c.in_ok-fed.fed in
+    let within : fed.used ≤ length (drop c.loop-used.used c.args.bytes.now) = rw rest at c.in_ok-fed.ensures.used.1 in
+    record {
+      used = omega (arith, length-drop c.loop-used.used c.args.bytes.now, within, c.loop-used.invariant.within);
+      all = λ none. absurd (some_told fed.event (sym c.is_some.ensures ∙ c.if-is_some.true) none);
+      some = λ any. omega (arith, c.in_ok-fed.ensures.used.0);
+      fed = λ viewing.
+          let steps = c.in_ok-fed.ensures.steps in
+          fed_step (viewer viewing) (viewer_machine viewing) (StandsFor viewing) c.args.self.now c.loop-used.self c.take.new.self c.loop-used.used fed.used c.args.bytes.now (seen fed.event) (c.loop-used.invariant.fed viewing)
+          ((subst (λ (xs : List ℕ). StepsOn c.loop-used.self (take fed.used xs) fed.event c.take.new.self) rest steps) viewing);
+      fault = tt;
+      memory = tt;
+      fails = tt;
+      failed = λ f h. absurd cc;
+    }
+
+pub loop-used-preserved : goal.loop-used-preserved
+loop-used-preserved c =
+    let rest = take_rest c.args.bytes.now c.loop-used.used in
+    let fed = c.in_ok-fed.fed in
+    let within : fed.used ≤ length (drop c.loop-used.used c.args.bytes.now) = rw rest at c.in_ok-fed.ensures.used.1 in
+    let none : fed.event ≡ None = none_told fed.event (sym c.is_some.ensures ∙ c.if-is_some.false) in
+    record {
+      within = omega (arith, length-drop c.loop-used.used c.args.bytes.now, within, c.loop-used.invariant.within);
+      began = c.loop-used.invariant.began;
+      going = c.in_ok-fed.ensures.going;
+      fed = λ viewing.
+          let steps = subst (λ (e : Option ViewerEvent). StepsOn c.loop-used.self (take fed.used (drop c.loop-used.used c.args.bytes.now)) e c.take.new.self) none (subst (λ (xs : List ℕ). StepsOn c.loop-used.self (take fed.used xs) fed.event c.take.new.self) rest c.in_ok-fed.ensures.steps) in
+          fed_step (viewer viewing) (viewer_machine viewing) (StandsFor viewing) c.args.self.now c.loop-used.self c.take.new.self c.loop-used.used fed.used c.args.bytes.now None (c.loop-used.invariant.fed viewing) (steps viewing);
+    }

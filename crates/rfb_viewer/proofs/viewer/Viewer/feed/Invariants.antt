@@ -1,0 +1,16 @@
+use Rattle.std.proofs.Common.{◌≡◌, ◌-◌, ◌≤◌, length, take, None}
+use Rattle.rfb_wire.specs.stream.End.{FedBy}
+use Rattle.rfb_viewer.specs.Viewer.{Viewing, viewer}
+use Rattle.rfb_viewer.specs.Standing.{StandsFor, fault_of}
+use Rattle.rfb_viewer.proofs.viewer.Viewer.feed.Given as goal
+
+abbrev pub invariant-loop-used : goal.invariant-loop-used
+invariant-loop-used l = record {
+  within : l.used ≤ length l.bytes;
+  began : fault_of l.fn.self ≡ None;
+  going : fault_of l.self ≡ None;
+  fed : (viewing : Viewing) → FedBy (viewer viewing) (StandsFor viewing) l.fn.self (take l.used l.bytes) None l.self;
+}
+
+abbrev pub decreases-loop-used : goal.decreases-loop-used
+decreases-loop-used l = length l.bytes - l.used

@@ -1,0 +1,31 @@
+-- What holds of each viewer, whatever it stands for.
+use Rattle.std.specs.Prelude.{◌&&◌, not, Bool, true, false, Option, Some, None}
+use Rattle.rfb_pixel.specs.declared.colour.Colour.{Colour}
+use Rattle.rfb_picture.specs.Grid.{Grid}
+use Rattle.rfb_wire.specs.RectStream.{is_on_screen}
+use Rattle.rfb_codec.specs.Stage.{is_ended}
+use Rattle.rfb_codec.specs.UnderWay.{UnderWay}
+use Rattle.rfb_hello.specs.declared.viewer_hello.ViewerHello.{ViewerHello}
+use Rattle.rfb_hello.specs.ViewerStanding.{is_open}
+use Rattle.rfb_viewer.specs.declared.viewer.progress.Progress.{Progress}
+use Rattle.rfb_viewer.specs.declared.viewer.progress.Progress.TheVariants.{Handshake, Head, RectHead as RectHeadPart, Data, Colours, CutText, Failed}
+
+-- there is a screen
+abbrev pub has_screen : Option (Grid Colour) → Bool
+has_screen None = false
+has_screen (Some picture) = true
+
+-- the rectangle that is painted lies on the screen, and its data have not ended
+abbrev pub holds_data : UnderWay → Option (Grid Colour) → Bool
+holds_data painter None = false
+holds_data painter (Some picture) = is_on_screen picture.width picture.height painter.rect && not (is_ended painter.rect painter.stage)
+
+-- the handshake goes on in its end, and behind it there is a screen
+abbrev pub is_sound : ViewerHello → Progress → Option (Grid Colour) → Bool
+is_sound hello Handshake picture = is_open hello
+is_sound hello (Head bytes) picture = has_screen picture
+is_sound hello (RectHeadPart more head) picture = has_screen picture
+is_sound hello (Data more painter) picture = holds_data painter picture
+is_sound hello (Colours more) picture = has_screen picture
+is_sound hello (CutText text_length more kept) picture = has_screen picture
+is_sound hello (Failed fault) picture = true

@@ -1,0 +1,46 @@
+-- What a `Viewer` stands for: a state, and the bytes that came of the server's next item, fewer than it
+-- has. Between two items what it stores is the picture; of a rectangle under way it shows the whole
+-- pieces that came.
+use Rattle.std.specs.Prelude.{◌≡◌, ℕ, Bool, true, false, List, Option}
+use Rattle.rfb_pixel.specs.declared.colour.Colour.{Colour}
+use Rattle.rfb_pixel.specs.Format.{PixelFormat}
+use Rattle.rfb_picture.specs.Grid.{Grid}
+use Rattle.rfb_wire.specs.declared.encoding.Encoding.{Encoding}
+use Rattle.rfb_hello.specs.declared.version.Version.{Version}
+use Rattle.rfb_hello.specs.ViewerStanding.{setup_of}
+use Rattle.rfb_viewer.specs.declared.fault.ViewerFault.{ViewerFault}
+use Rattle.rfb_viewer.specs.declared.viewer.Viewer.{Viewer}
+use Rattle.rfb_viewer.specs.declared.viewer.progress.Request.{Request}
+use Rattle.rfb_viewer.specs.declared.viewer.progress.Request.TheVariants.{Answered, Outstanding}
+use Rattle.rfb_viewer.specs.Viewer.{Viewing, ViewerState}
+use Rattle.rfb_viewer.specs.Progress.{ProgressStandsFor, fault_in}
+
+-- what a viewer is made with
+abbrev pub viewing_with : PixelFormat → List Encoding → Version → Bool → ℕ → ℕ → Viewing
+viewing_with form encodings limit shared max_places text_limit = record {
+  hello = record { limit = limit; shared = shared; max_places = max_places; text_limit = text_limit };
+  form = form;
+  encodings = encodings;
+}
+
+abbrev pub is_outstanding : Request → Bool
+is_outstanding Answered = false
+is_outstanding Outstanding = true
+
+-- a viewer stands for a state and a prefix
+pub record StandsFor (viewing : Viewing) (viewer : Viewer) (s : ViewerState) (prefix : List ℕ) : Type 0 where
+  pub setup_is : setup_of viewer.hello ≡ viewing.hello
+  pub limit_is : viewer.text_limit ≡ viewing.hello.text_limit
+  pub encodings_are : viewer.encodings.items ≡ viewing.encodings
+  pub outstanding_is : s.outstanding ≡ is_outstanding viewer.request
+  pub progress_is : ProgressStandsFor viewing viewer viewer.progress s.point s.picture prefix
+
+-- ---- what is told of a viewer, whether it has failed or not
+
+-- what it shows, once there is a screen
+abbrev pub picture_of : Viewer → Option (Grid Colour)
+picture_of viewer = viewer.picture
+
+-- the fault that it has failed with, if it has
+abbrev pub fault_of : Viewer → Option ViewerFault
+fault_of viewer = fault_in viewer.progress

@@ -1,0 +1,134 @@
+//! A viewer: a picture, and how far the server's bytes have come.
+
+ghost use Rattle.std.specs.Prelude.{◌≡◌, ◌≢◌, ◌≤◌, ◌<◌, ℕ, List, [], length, take, true, IfOk, IfErr, None, Some};
+ghost use Rattle.rfb_viewer.specs.Sound.{is_sound};
+
+mod behind;
+mod greeting;
+mod messages;
+mod progress;
+mod updates;
+
+use crate::event::ViewerEvent;
+use crate::fault::ViewerFault;
+use arrayvec::ArrayVec;
+use progress::{Progress, Request};
+use rfb_hello::{Fed, Version, ViewerHello};
+use rfb_picture::Picture;
+use rfb_pixel::{Colour, Format};
+use rfb_wire::Encoding;
+use std::alloc::Global;
+
+/// A viewer of one server. The owner feeds it what the server sends, sends the server what it answers
+/// and what calls on it answer, and shows its picture.
+#[derive(Drop)]
+pub struct Viewer {
+    alloc: Global,
+    hello: ViewerHello,
+    format: Format,
+    encodings: ArrayVec<Encoding, 4>,
+    text_limit: u32,
+    picture: Option<Picture<Colour>>,
+    request: Request,
+    progress: Progress,
+    ghost sound: { is_sound hello progress picture ≡ true },
+}
+
+impl Viewer {
+    ghost use Rattle.rfb_wire.specs.stream.End.{FedBy, RefusedBy, RunsOutBy, StaysFailed};
+    ghost use Rattle.rfb_viewer.specs.declared.fault.ViewerFault.TheVariants.{NoMemory};
+    ghost use Rattle.rfb_viewer.specs.Told.{seen};
+    ghost use Rattle.rfb_viewer.specs.Viewer.{Viewing, viewer, first_viewer, AsksMemory};
+    ghost use Rattle.rfb_viewer.specs.Standing.{StandsFor, viewing_with, fault_of};
+    ghost use Rattle.rfb_viewer.specs.Feeding.{StepsOn, RefusesBy, StarvesBy};
+
+    /// A viewer that was fed nothing. It goes up to version `limit`, asks for the screen alone where
+    /// it is not `shared`, admits a screen of `max_places` places, and keeps `text_limit` bytes of
+    /// each text. Once the handshake is done it asks for updates in `format`, in one of `encodings`,
+    /// the best first. It takes no memory.
+    pub fn new(
+        alloc: Global,
+        format: Format,
+        encodings: ArrayVec<Encoding, 4>,
+        limit: Version,
+        shared: bool,
+        max_places: u32,
+        text_limit: u32,
+    ) -> Viewer
+        ensures { let viewing =
+            viewing_with format encodings.items limit shared max_places text_limit in
+            StandsFor viewing result first_viewer [] }
+    {
+        Viewer {
+            alloc,
+            hello: ViewerHello::new(alloc, limit, shared, max_places, text_limit),
+            format,
+            encodings,
+            text_limit,
+            picture: None,
+            request: Request::Answered,
+            progress: Progress::Handshake,
+        }
+    }
+
+    /// Takes bytes of the server's, up to the last of its first item that is told of, or all. A fault
+    /// is told at its last byte, and by every later call, which take nothing. `NoMemory` comes only
+    /// where the screen is made, and at the length of a text.
+    pub fn feed(&mut self, bytes: &[u8]) -> Result<Fed<ViewerEvent>, ViewerFault>
+        // What was taken, what it was, and what is left.
+        ensures used { IfOk result (λ fed. fed.used ≤ length bytes.now) }
+        ensures all { IfOk result (λ fed. fed.event ≡ None → fed.used ≡ length bytes.now) }
+        ensures some { IfOk result (λ fed. 0 < length bytes.now → 0 < fed.used) }
+        ensures fed { IfOk result (λ fed. (viewing : Viewing)
+            → FedBy (viewer viewing) (StandsFor viewing)
+            self.old (take fed.used bytes.now) (seen fed.event) self.new) }
+
+        // When a fault comes, when memory is wanting, and that it stays.
+        ensures fault { IfErr result (λ fault. fault ≢ NoMemory → (viewing : Viewing)
+            → RefusedBy (viewer viewing) (StandsFor viewing) self.old bytes.now fault) }
+        ensures memory { IfErr result (λ fault. fault ≡ NoMemory → (viewing : Viewing)
+            → RunsOutBy (viewer viewing) (AsksMemory viewing) (StandsFor viewing)
+            self.old bytes.now) }
+        ensures fails { IfErr result (λ fault. fault_of self.new ≡ Some fault) }
+        ensures failed { StaysFailed (fault_of self.old) self.old result self.new }
+    {
+        if let Progress::Failed(fault) = self.progress {
+            return Err(fault);
+        }
+        let mut used = 0;
+        while used < bytes.len() {
+            let fed = self.take(&bytes[used..])?;
+            used += fed.used;
+            if fed.event.is_some() {
+                return Ok(Fed {
+                    used,
+                    event: fed.event,
+                });
+            }
+        }
+        Ok(Fed { used, event: None })
+    }
+
+    // Takes bytes of the server's next item, as many of it as there are.
+    fn take(&mut self, bytes: &[u8]) -> Result<Fed<ViewerEvent>, ViewerFault>
+        requires some { 0 < length bytes.now }
+        requires going { fault_of self.old ≡ None }
+        ensures used { IfOk result (λ fed. (0 < fed.used) × (fed.used ≤ length bytes.now)) }
+        ensures going { IfOk result (λ fed. fault_of self.new ≡ None) }
+        ensures steps { IfOk result (λ fed.
+            StepsOn self.old (take fed.used bytes.now) fed.event self.new) }
+        ensures fault { IfErr result (RefusesBy self.old bytes.now) }
+        ensures memory { IfErr result (StarvesBy self.old bytes.now) }
+        ensures fails { IfErr result (λ fault. fault_of self.new ≡ Some fault) }
+    {
+        match self.progress {
+            Progress::Handshake => self.greet(bytes),
+            Progress::Head(_) => self.take_head(bytes),
+            Progress::RectHead { .. } => self.take_rect_head(bytes),
+            Progress::Data { .. } => self.take_data(bytes),
+            Progress::Colours { .. } => Ok(self.skip_colours(bytes)),
+            Progress::CutText { .. } => Ok(self.take_text(bytes)),
+            Progress::Failed(_) => unreachable!(),
+        }
+    }
+}

@@ -1,0 +1,96 @@
+//! The handshake of a viewer.
+
+ghost use Rattle.std.specs.Prelude.{◌≡◌, ◌≤◌, ◌<◌, length, take, IfOk, IfErr, OnOk, OnErr, None, Some};
+ghost use Rattle.rfb_viewer.specs.Steps.{screen_or};
+
+use crate::event::ViewerEvent;
+use crate::fault::ViewerFault;
+use crate::sending::ready_answer;
+use crate::viewer::Viewer;
+use crate::viewer::progress::Progress;
+use arrayvec::ArrayVec;
+use rfb_hello::{Fed, ViewerStep};
+use rfb_picture::Picture;
+use rfb_pixel::Colour;
+use std::alloc::{AllocError, Global};
+
+// The colour that a picture begins with.
+const BLACK: Colour = Colour { r: 0, g: 0, b: 0 };
+
+impl Viewer {
+    ghost use Rattle.rfb_viewer.specs.declared.viewer.progress.Progress.{Progress};
+    ghost use Rattle.rfb_viewer.specs.Standing.{fault_of};
+    ghost use Rattle.rfb_viewer.specs.Feeding.{StepsOn, RefusesBy, StarvesBy};
+
+    // Takes bytes of the server's handshake, up to the last of its next step, and makes the screen
+    // where that tells its size.
+    pub(super) fn greet(&mut self, bytes: &[u8]) -> Result<Fed<ViewerEvent>, ViewerFault>
+        requires some { 0 < length bytes.now }
+        requires handshake { self.old.progress ≡ Progress.Handshake }
+        ensures used { IfOk result (λ fed. (0 < fed.used) × (fed.used ≤ length bytes.now)) }
+        ensures going { IfOk result (λ fed. fault_of self.new ≡ None) }
+        ensures steps { IfOk result (λ fed.
+            StepsOn self.old (take fed.used bytes.now) fed.event self.new) }
+        ensures fault { IfErr result (RefusesBy self.old bytes.now) }
+        ensures memory { IfErr result (StarvesBy self.old bytes.now) }
+        ensures fails { IfErr result (λ fault. fault_of self.new ≡ Some fault) }
+    {
+        let fed = match self.hello.feed(bytes) {
+            Ok(fed) => fed,
+            Err(fault) => return Err(self.progress.fail(ViewerFault::of_hello(fault))),
+        };
+        let used = fed.used;
+        let step = match fed.event {
+            None => return Ok(Fed { used, event: None }),
+            Some(step) => step,
+        };
+        match step {
+            ViewerStep::Reply(reply) => Ok(Fed {
+                used,
+                event: Some(ViewerEvent::Reply(reply)),
+            }),
+            ViewerStep::Screen { width, height } => {
+                let Ok(()) = make_screen(self.alloc, &mut self.picture, width, height) else {
+                    return Err(self.progress.fail(ViewerFault::NoMemory));
+                };
+                Ok(Fed { used, event: None })
+            }
+            ViewerStep::Ready {
+                width,
+                height,
+                version: _,
+                name,
+                name_length,
+            } => {
+                let Ok(()) = make_screen(self.alloc, &mut self.picture, width, height) else {
+                    return Err(self.progress.fail(ViewerFault::NoMemory));
+                };
+                self.progress = Progress::Head(ArrayVec::new());
+                Ok(Fed {
+                    used,
+                    event: Some(ViewerEvent::Ready {
+                        reply: ready_answer(self.format, self.encodings.as_slice()),
+                        name: name.into_vec(),
+                        name_length,
+                    }),
+                })
+            }
+        }
+    }
+}
+
+// Makes the screen, black, unless there is one.
+fn make_screen(
+    alloc: Global,
+    picture: &mut Option<Picture<Colour>>,
+    width: u16,
+    height: u16,
+) -> Result<(), AllocError>
+    ensures made { OnOk result (picture.new ≡ Some (screen_or width height picture.old)) }
+    ensures none { OnErr result (picture.old ≡ None) }
+{
+    if picture.is_none() {
+        *picture = Some(Picture::new(alloc, width, height, BLACK)?);
+    }
+    Ok(())
+}

@@ -1,0 +1,114 @@
+//! What a viewer takes of an update's rectangles: their heads and their data.
+
+ghost use Rattle.std.specs.Prelude.{◌≡◌, ◌≤◌, ◌<◌, ℕ, length, take, IfOk, IfErr, None, Some};
+ghost use Rattle.arrayvec.specs.ArrayVec.{ArrayVec as Items};
+ghost use Rattle.rfb_codec.specs.UnderWay.{UnderWay};
+
+use crate::event::ViewerEvent;
+use crate::fault::ViewerFault;
+use crate::gather::gather;
+use crate::viewer::Viewer;
+use crate::viewer::behind::behind_rectangles;
+use crate::viewer::progress::{Progress, RECT_HEAD_PART};
+use rfb_codec::Painter;
+use rfb_hello::Fed;
+use rfb_wire::{Read, RectHead};
+
+// How many bytes a rectangle's head has, RFC 6143 section 7.6.1.
+const RECT_HEAD_SIZE: usize = 12;
+
+impl Viewer {
+    ghost use Rattle.rfb_viewer.specs.declared.viewer.progress.Progress.{Progress};
+    ghost use Rattle.rfb_viewer.specs.Standing.{fault_of};
+    ghost use Rattle.rfb_viewer.specs.Feeding.{StepsOn, RefusesBy, StarvesBy};
+
+    // Takes bytes of a rectangle's head, and behind it those of its data.
+    pub(super) fn take_rect_head(&mut self, bytes: &[u8]) -> Result<Fed<ViewerEvent>, ViewerFault>
+        requires some { 0 < length bytes.now }
+        requires head { (more : ℕ) × (part : Items ℕ)
+            × (self.old.progress ≡ Progress.RectHead more part) }
+        ensures used { IfOk result (λ fed. (0 < fed.used) × (fed.used ≤ length bytes.now)) }
+        ensures going { IfOk result (λ fed. fault_of self.new ≡ None) }
+        ensures steps { IfOk result (λ fed.
+            StepsOn self.old (take fed.used bytes.now) fed.event self.new) }
+        ensures fault { IfErr result (RefusesBy self.old bytes.now) }
+        ensures memory { IfErr result (StarvesBy self.old bytes.now) }
+        ensures fails { IfErr result (λ fault. fault_of self.new ≡ Some fault) }
+    {
+        let Progress::RectHead { more, head } = &mut self.progress else {
+            unreachable!()
+        };
+        let (front, whole) = gather::<RECT_HEAD_PART, RECT_HEAD_SIZE>(head, bytes);
+        let Some(whole) = whole else {
+            return Ok(Fed {
+                used: front,
+                event: None,
+            });
+        };
+        let more = *more;
+        let Some(picture) = &mut self.picture else {
+            unreachable!()
+        };
+        let (width, height) = (picture.width(), picture.height());
+        let head = match RectHead::read(whole.as_slice(), width, height) {
+            Read::Got(head, _) => head,
+            Read::Bad(fault) => return Err(self.progress.fail(ViewerFault::of_wire(fault))),
+            Read::More(_) => unreachable!(),
+        };
+        // A rectangle may have no data, and is then whole with its head.
+        let mut painter = Painter::new(head.rect, head.encoding, self.format);
+        let painted = match painter.feed(&bytes[front..], picture) {
+            Ok(painted) => painted,
+            Err(fault) => return Err(self.progress.fail(ViewerFault::of_paint(fault))),
+        };
+        let used = front + painted.used;
+        if !painted.done {
+            self.progress = Progress::Data { more, painter };
+            return Ok(Fed { used, event: None });
+        }
+        let behind = behind_rectangles(more, self.request);
+        self.progress = behind.progress;
+        self.request = behind.request;
+        Ok(Fed {
+            used,
+            event: behind.event,
+        })
+    }
+
+    // Takes bytes of a rectangle's data, and paints them piece by piece.
+    pub(super) fn take_data(&mut self, bytes: &[u8]) -> Result<Fed<ViewerEvent>, ViewerFault>
+        requires some { 0 < length bytes.now }
+        requires data { (more : ℕ) × (painter : UnderWay)
+            × (self.old.progress ≡ Progress.Data more painter) }
+        ensures used { IfOk result (λ fed. (0 < fed.used) × (fed.used ≤ length bytes.now)) }
+        ensures going { IfOk result (λ fed. fault_of self.new ≡ None) }
+        ensures steps { IfOk result (λ fed.
+            StepsOn self.old (take fed.used bytes.now) fed.event self.new) }
+        ensures fault { IfErr result (RefusesBy self.old bytes.now) }
+        ensures memory { IfErr result (StarvesBy self.old bytes.now) }
+        ensures fails { IfErr result (λ fault. fault_of self.new ≡ Some fault) }
+    {
+        let Progress::Data { more, painter } = &mut self.progress else {
+            unreachable!()
+        };
+        let Some(picture) = &mut self.picture else {
+            unreachable!()
+        };
+        let more = *more;
+        let painted = match painter.feed(bytes, picture) {
+            Ok(painted) => painted,
+            Err(fault) => return Err(self.progress.fail(ViewerFault::of_paint(fault))),
+        };
+        let used = painted.used;
+        if !painted.done {
+            return Ok(Fed { used, event: None });
+        }
+        let behind = behind_rectangles(more, self.request);
+        self.progress = behind.progress;
+        self.request = behind.request;
+        Ok(Fed {
+            used,
+            event: behind.event,
+        })
+    }
+}
