@@ -9,3 +9,5 @@ pub mod AnswerLemmas
 pub mod FlightLemmas
 pub mod SentLemmas
 pub mod MoveLemmas
+pub mod ToldLemmas
+pub mod CarryLemmas

@@ -4,3 +4,5 @@ pub mod LinkSteps
 pub mod Headline
 pub mod Network
 pub mod InFlight
+pub mod Told
+pub mod Carrying

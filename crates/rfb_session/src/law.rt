@@ -1,6 +1,6 @@
 //! Laws of a server and its viewer, with nothing to run.
 
-ghost use Rattle.std.specs.Prelude.{◌≡◌, ℕ, ◌+◌, List, ◌++◌, length, Option, None};
+ghost use Rattle.std.specs.Prelude.{◌≡◌, ℕ, ◌+◌, List, ◌++◌, length, Option, None, Some};
 ghost use Rattle.rfb_pixel.specs.declared.colour.Colour.{Colour};
 ghost use Rattle.rfb_pixel.specs.Format.{PixelFormat};
 ghost use Rattle.rfb_picture.specs.Grid.{Grid};
@@ -19,7 +19,11 @@ ghost use Rattle.rfb_session.specs.Link.{Ends, Link, server_of, first_link};
 ghost use Rattle.rfb_session.specs.LinkSteps.{begun, calls, ComposesOn, MovesToViewer};
 ghost use Rattle.rfb_session.specs.LinkSteps.{MovesToServer, flight_to_viewer, flight_to_server};
 ghost use Rattle.rfb_session.specs.Headline.{IsHeadline};
-ghost use Rattle.rfb_session.specs.Network.{Network, IsReached};
+ghost use Rattle.rfb_session.specs.Network.{Network, Steps, IsReached};
+ghost use Rattle.rfb_session.specs.Told.{Tells};
+ghost use Rattle.rfb_session.specs.declared.event.Event.{Event};
+ghost use Rattle.rfb_session.specs.declared.told.Refused.{Refused};
+ghost use Rattle.rfb_session.specs.declared.told.Told.{Told};
 ghost use Rattle.rfb_session.specs.InFlight.{AreMade, Flight, Flies, first_flight};
 ghost use Rattle.rfb_session.specs.InFlight.{ReachesViewer, ReachesServer};
 
@@ -34,6 +38,12 @@ pub fn what_is_due_is_the_screen()
         IsReached e (record { screen = screen; link = first_link e }) }
     ensures holds { (e : Ends) (network : Network) →
         IsReached e network → IsHeadline e network.link }
+{}
+
+/// An event that is told as refused has changed nothing.
+pub fn a_refused_event_changes_nothing()
+    ensures { (e : Ends) (old new : Network) (event : Event) (told : Told) (refused : Refused) →
+        Steps e old event new → Tells e old event told → told.refused ≡ Some refused → new ≡ old }
 {}
 
 /// Neither end refuses what is in flight to it, however it is cut.

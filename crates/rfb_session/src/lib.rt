@@ -7,5 +7,7 @@
 
 mod event;
 pub mod law;
+mod told;
 
 pub use event::Event;
+pub use told::{Refused, Told};

@@ -1,0 +1,31 @@
+//! What a step answers.
+
+use thiserror::Error;
+
+/// Why an event is refused. Nothing was changed then.
+#[derive(Clone, Copy, Debug, PartialEq, Eq, Error)]
+pub enum Refused {
+    /// A drawing or a hint leaves the screen.
+    #[error("24 Outside")]
+    Outside,
+    /// The viewer's handshake is not done.
+    #[error("25 NotReady")]
+    NotReady,
+    /// A request is outstanding; or, for a format, the viewer is inside an update.
+    #[error("26 Busy")]
+    Busy,
+    /// The area that is asked for has no place, or leaves the screen.
+    #[error("27 AreaOutside")]
+    AreaOutside,
+}
+
+/// What became of an event.
+#[derive(Clone, Copy, Debug, PartialEq, Eq)]
+pub struct Told {
+    /// How many bytes a delivery moved, 0 at any other event.
+    pub moved: u32,
+    /// The refusal of a drawing, a hint or a call, if it was refused.
+    pub refused: Option<Refused>,
+    /// Whether an update was composed.
+    pub composed: bool,
+}
