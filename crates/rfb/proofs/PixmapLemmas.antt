@@ -1,38 +1,17 @@
 -- The bytes of a pixmap's places, one row after the other.
 use Rattle.std.proofs.Common.{◌≡◌, ℕ, ◌+◌, ◌*◌, ◌<◌, List, [], ◌∷◌, ◌++◌, length, take, take-add, drop, slice_index, slice_index_or, get_or, refl, ap, sym, ◌∙◌, suc, arith}
+use Rattle.std.proofs.Common.{Option, Result, Ok, Err, OnErr, OnOk, true, ◌==◌, subst, append-nil, append_assoc, take-append-drop}
+use Rattle.std.proofs.lemmas.Bool.Decides.{nat_tests}
+use Rattle.std.proofs.KnownBytes.{Appends-nil, Appends-trans, Appends-kept}
+use Rattle.std.specs.Io.KnownBytes.{Appends, Keeps}
+use Rattle.rfb_picture.specs.Grid.{Grid}
 use Rattle.rfb_pixel.specs.declared.colour.Colour.{Colour}
-use Rattle.rfb.specs.Pixmap.{components}
-
--- Bytes `3 * i` to `3 * i + 2` are the red, the green and the blue of colour `i`.
-abbrev pub ShowsColour : List ℕ → List Colour → ℕ → Type 0
-ShowsColour bytes colours i = (d : Colour) → (slice_index bytes (3 * i) ≡ (slice_index_or colours i d).r) × (slice_index bytes (3 * i + 1) ≡ (slice_index_or colours i d).g) × (slice_index bytes (3 * i + 2) ≡ (slice_index_or colours i d).b)
+use Rattle.rfb.specs.Pixmap.{AppendsBeginning, AppendsUpTo, components, header, header_of, pixmap}
 
 pub components-append : (xs ys : List Colour) → components (xs ++ ys) ≡ components xs ++ components ys
 unfolding components
 components-append [] ys = refl
 components-append (c ∷ cs) ys = ap (λ (l : List ℕ). c.r ∷ c.g ∷ c.b ∷ l) (components-append cs ys)
-
--- Three bytes on, the place after the first.
-next_place : (c : Colour) (cs : List Colour) (r g b : ℕ) (bs : List ℕ) (i : ℕ) → ShowsColour (r ∷ g ∷ b ∷ bs) (c ∷ cs) (suc i) → ShowsColour bs cs i
-next_place c cs r g b bs i shown = λ d.
-    let e : 3 * suc i ≡ suc (suc (suc (3 * i))) = omega arith in
-    let f : 3 * suc i + 1 ≡ suc (suc (suc (3 * i + 1))) = omega arith in
-    let h : 3 * suc i + 2 ≡ suc (suc (suc (3 * i + 2))) = omega arith in
-    let at = λ (n : ℕ). get_or (r ∷ g ∷ b ∷ bs) n 0 in
-    (sym (ap at e) ∙ (shown d).0, sym (ap at f) ∙ (shown d).1, sym (ap at h) ∙ (shown d).2)
-
--- Bytes that show each colour at its place are the components in turn.
-pub components_are : (colours : List Colour) (bytes : List ℕ) → length bytes ≡ 3 * length colours → ((i : ℕ) → i < length colours → ShowsColour bytes colours i) → bytes ≡ components colours
-unfolding components
-components_are [] [] long shown = refl
-components_are [] (b ∷ bs) long shown = absurd (omega arith)
-components_are (c ∷ cs) [] long shown = absurd (omega arith)
-components_are (c ∷ cs) (r ∷ []) long shown = absurd (omega arith)
-components_are (c ∷ cs) (r ∷ g ∷ []) long shown = absurd (omega arith)
-components_are (c ∷ cs) (r ∷ g ∷ b ∷ bs) long shown =
-    let first = shown 0 (omega arith) c in
-    let rest : bs ≡ components cs = components_are cs bs (omega arith) (λ i within. next_place c cs r g b bs i (shown (suc i) (omega arith))) in
-    cc (first.0, first.1, first.2)
 
 -- The bytes of the rows so far and those of the next row are the bytes of one row more.
 pub components_more : (places row : List Colour) (bytes : List ℕ) (y width w : ℕ) → w ≡ width → row ≡ take w (drop (y * width + 0) places) → bytes ≡ components row → components (take (y * width) places) ++ bytes ≡ components (take ((y + 1) * width) places)
@@ -45,3 +24,121 @@ components_more places row bytes y width w same lent put =
 pub components_none : (places : List Colour) (width : ℕ) → components (take (0 * width) places) ≡ []
 unfolding components
 components_none places width = let e : 0 * width ≡ 0 = omega arith in rw e refl
+
+-- ---- what was written
+
+pub none_written : (old : Option (List ℕ)) (bytes : List ℕ) → AppendsUpTo old old bytes bytes
+none_written old bytes = record { done = []; parts = refl; appended = Appends-nil old }
+
+pub nothing_appended : (old new : Option (List ℕ)) → Keeps old new → Appends old new []
+nothing_appended old new kept = Appends-kept old old new [] (Appends-nil old) kept
+
+pub nothing_written : (old new : Option (List ℕ)) (bytes : List ℕ) → Keeps old new → AppendsUpTo old new bytes bytes
+nothing_written old new bytes kept = record { done = []; parts = refl; appended = nothing_appended old new kept }
+
+pub some_written : (old new : Option (List ℕ)) (bytes : List ℕ) (n : ℕ) → Appends old new (take n bytes) → AppendsUpTo old new bytes (drop n bytes)
+some_written old new bytes n more = record { done = take n bytes; parts = sym (take-append-drop n bytes); appended = more }
+
+pub then_written : (old mid new : Option (List ℕ)) (bytes rest now : List ℕ) → AppendsUpTo old mid bytes rest → AppendsUpTo mid new rest now → AppendsUpTo old new bytes now
+then_written old mid new bytes rest now so_far more = record {
+  done = so_far.done ++ more.done;
+  parts = so_far.parts ∙ ap (λ (l : List ℕ). so_far.done ++ l) more.parts ∙ sym (append_assoc so_far.done more.done now);
+  appended = Appends-trans old mid new so_far.done more.done so_far.appended more.appended;
+}
+
+pub stopped_written : (old mid new : Option (List ℕ)) (bytes rest : List ℕ) → AppendsUpTo old mid bytes rest → Appends mid new [] → AppendsBeginning old new bytes
+stopped_written old mid new bytes rest so_far none = (rest, then_written old mid new bytes rest rest so_far (record { done = []; parts = refl; appended = none }))
+
+pub all_written : (old new : Option (List ℕ)) (bytes rest : List ℕ) → AppendsUpTo old new bytes rest → rest ≡ [] → Appends old new bytes
+all_written old new bytes rest so_far none =
+    subst (λ (l : List ℕ). Appends old new l) (sym (so_far.parts ∙ ap (λ (l : List ℕ). so_far.done ++ l) none ∙ append-nil so_far.done)) so_far.appended
+
+-- all of a text is a beginning of it, and so is nothing
+pub whole_beginning : (old new : Option (List ℕ)) (text : List ℕ) → Appends old new text → AppendsBeginning old new text
+whole_beginning old new text all = ([], record { done = text; parts = sym (append-nil text); appended = all })
+
+pub no_beginning : (old : Option (List ℕ)) (text : List ℕ) → AppendsBeginning old old text
+no_beginning old text = (text, none_written old text)
+
+pub empty_rest : (bytes : List ℕ) → true ≡ (length bytes == 0) → bytes ≡ []
+empty_rest [] e = refl
+empty_rest (byte ∷ bytes) e = let zero : length (byte ∷ bytes) ≡ 0 = grind (arith, nat_tests) in absurd (omega (arith, zero))
+
+pub on_err : {A E : Type 0} (r : Result A E) (P : Type 0) → P → OnErr r P
+on_err (Ok a) P p = tt
+on_err (Err e) P p = p
+
+pub on_ok : {A E : Type 0} (r : Result A E) (P : Type 0) → P → OnOk r P
+on_ok (Ok a) P p = p
+on_ok (Err e) P p = tt
+
+-- ---- rows that are gathered for a write
+
+-- the header, and the rows up to one
+abbrev pub text_up_to : Grid Colour → ℕ → List ℕ
+text_up_to g y = header g ++ components (take (y * g.width) g.places)
+
+pub header_from : (g : Grid Colour) (w h : ℕ) (items now : List ℕ) → w ≡ g.width → h ≡ g.height → items ≡ [] → now ≡ items ++ header_of w h → now ≡ header g
+header_from g w h items now wide high none is =
+    is ∙ ap (λ (l : List ℕ). l ++ header_of w h) none ∙ ap (λ (k : ℕ). header_of k h) wide ∙ ap (λ (k : ℕ). header_of g.width k) high
+
+pub gathered_none : (g : Grid Colour) (old : Option (List ℕ)) (waiting : List ℕ) → waiting ≡ header g → AppendsUpTo old old (text_up_to g 0) waiting
+gathered_none g old waiting is = record {
+  done = [];
+  parts = ap (λ (l : List ℕ). header g ++ l) (components_none g.places g.width) ∙ append-nil (header g) ∙ sym is;
+  appended = Appends-nil old;
+}
+
+-- a row more waits
+pub gathered_more : (g : Grid Colour) (y : ℕ) (old new : Option (List ℕ)) (waiting now : List ℕ) (row : List Colour) (width : ℕ) → AppendsUpTo old new (text_up_to g y) waiting → width ≡ g.width → row ≡ take width (drop (y * g.width + 0) g.places) → now ≡ waiting ++ components row → AppendsUpTo old new (text_up_to g (y + 1)) now
+gathered_more g y old new waiting now row width so_far same lent is = record {
+  done = so_far.done;
+  parts = ap (λ (l : List ℕ). header g ++ l) (sym (components_more g.places row (components row) y g.width width same lent refl))
+      ∙ sym (append_assoc (header g) (components (take (y * g.width) g.places)) (components row))
+      ∙ ap (λ (l : List ℕ). l ++ components row) so_far.parts ∙ append_assoc so_far.done waiting (components row) ∙ ap (λ (l : List ℕ). so_far.done ++ l) (sym is);
+  appended = so_far.appended;
+}
+
+-- the text up to a row is a beginning of the picture's
+text_rest : (g : Grid Colour) (y : ℕ) → pixmap g ≡ text_up_to g y ++ components (drop (y * g.width) g.places)
+text_rest g y =
+    ap (λ (l : List Colour). header g ++ components l) (sym (take-append-drop (y * g.width) g.places))
+    ∙ ap (λ (l : List ℕ). header g ++ l) (components-append (take (y * g.width) g.places) (drop (y * g.width) g.places))
+    ∙ sym (append_assoc (header g) (components (take (y * g.width) g.places)) (components (drop (y * g.width) g.places)))
+
+pub beginning_written : (g : Grid Colour) (y : ℕ) (old mid new : Option (List ℕ)) (waiting : List ℕ) → AppendsUpTo old mid (text_up_to g y) waiting → AppendsBeginning mid new waiting → AppendsBeginning old new (pixmap g)
+beginning_written g y old mid new waiting so_far more =
+    let later = components (drop (y * g.width) g.places) in
+    let there = then_written old mid new (text_up_to g y) waiting more.0 so_far more.1 in (
+      more.0 ++ later,
+      record {
+        done = there.done;
+        parts = text_rest g y ∙ ap (λ (l : List ℕ). l ++ later) there.parts ∙ append_assoc there.done more.0 later;
+        appended = there.appended;
+      },
+    )
+
+-- all rows were written
+pub whole_written : (g : Grid Colour) (y : ℕ) (old mid new : Option (List ℕ)) (waiting : List ℕ) → AppendsUpTo old mid (text_up_to g y) waiting → take (y * g.width) g.places ≡ g.places → Appends mid new waiting → Appends old new (pixmap g)
+whole_written g y old mid new waiting so_far all more =
+    subst (λ (l : List ℕ). Appends old new l) (sym so_far.parts ∙ ap (λ (l : List Colour). header g ++ components l) all) (Appends-trans old mid new so_far.done waiting so_far.appended more)
+
+-- ---- components that are appended
+
+pub components_nil : components [] ≡ []
+unfolding components
+components_nil = refl
+
+-- the components of one colour more
+pub components_push : (colours : List Colour) (colour : Colour) → components (colours ++ colour ∷ []) ≡ components colours ++ colour.r ∷ colour.g ∷ colour.b ∷ []
+unfolding components
+components_push [] colour = refl
+components_push (c ∷ colours) colour = ap (λ (l : List ℕ). c.r ∷ c.g ∷ c.b ∷ l) (components_push colours colour)
+
+-- three bytes more
+pub three_more : (bytes one two three before : List ℕ) (colours now : List Colour) (colour : Colour) → bytes ≡ before ++ components colours → one ≡ bytes ++ colour.r ∷ [] → two ≡ one ++ colour.g ∷ [] → three ≡ two ++ colour.b ∷ [] → now ≡ colours ++ colour ∷ [] → three ≡ before ++ components now
+three_more bytes one two three before colours now colour so_far r g b is =
+    b ∙ ap (λ (l : List ℕ). l ++ colour.b ∷ []) g ∙ ap (λ (l : List ℕ). (l ++ colour.g ∷ []) ++ colour.b ∷ []) r
+    ∙ append_assoc (bytes ++ colour.r ∷ []) (colour.g ∷ []) (colour.b ∷ []) ∙ append_assoc bytes (colour.r ∷ []) (colour.g ∷ colour.b ∷ [])
+    ∙ ap (λ (l : List ℕ). l ++ colour.r ∷ colour.g ∷ colour.b ∷ []) so_far ∙ append_assoc before (components colours) (colour.r ∷ colour.g ∷ colour.b ∷ [])
+    ∙ ap (λ (l : List ℕ). before ++ l) (sym (components_push colours colour)) ∙ ap (λ (l : List Colour). before ++ components l) (sym is)

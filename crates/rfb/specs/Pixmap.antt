@@ -1,5 +1,6 @@
 -- Portable pixmaps (PPM): a header, then the places of a picture, row after row.
-use Rattle.std.specs.Prelude.{ℕ, List, [], ◌∷◌, ◌++◌}
+use Rattle.std.specs.Prelude.{◌≡◌, ℕ, List, [], ◌∷◌, ◌++◌, Option}
+use Rattle.std.specs.Io.KnownBytes.{Appends}
 use Rattle.std.specs.Fmt.{decimal}
 use lib.Chars.{codes}
 use Rattle.rfb_picture.specs.Grid.{Grid}
@@ -10,6 +11,24 @@ unfoldable pub components : List Colour → List ℕ
 components [] = []
 components (c ∷ cs) = c.r ∷ c.g ∷ c.b ∷ components cs
 
--- The pixmap of a picture: `P6`, the width and the height in decimal, the largest component, and the places.
+-- What stands before the places of a picture of that size: `P6`, the width and the height in decimal, and
+-- the largest component.
+abbrev pub header_of : ℕ → ℕ → List ℕ
+header_of width height = codes "P6\n" ++ (decimal width ++ (codes " " ++ (decimal height ++ codes "\n255\n")))
+
+abbrev pub header : Grid Colour → List ℕ
+header g = header_of g.width g.height
+
+-- The pixmap of a picture: the header, and the places.
 abbrev pub pixmap : Grid Colour → List ℕ
-pixmap g = (codes "P6\n" ++ decimal g.width ++ codes " " ++ decimal g.height ++ codes "\n255\n") ++ components g.places
+pixmap g = header g ++ components g.places
+
+-- A writer's bytes grew by a text up to a rest of it.
+pub record AppendsUpTo (old new : Option (List ℕ)) (text rest : List ℕ) : Type 0 where
+  pub done : List ℕ
+  pub parts : text ≡ done ++ rest
+  pub appended : Appends old new done
+
+-- They grew by a beginning of a text.
+abbrev pub AppendsBeginning : Option (List ℕ) → Option (List ℕ) → List ℕ → Type 0
+AppendsBeginning old new text = (rest : List ℕ) × AppendsUpTo old new text rest

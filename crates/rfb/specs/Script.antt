@@ -37,9 +37,13 @@ IsSide word = IsNumber word × (1 ≤ digits_value 10 word) × (digits_value 10 
 abbrev pub AreSize : List ℕ → List ℕ → Size → Type 0
 AreSize w h size = (IsSide w × IsSide h) × (size.width ≡ digits_value 10 w) × (size.height ≡ digits_value 10 h)
 
+-- four words are numbers
+abbrev pub AreNumbers : List ℕ → List ℕ → List ℕ → List ℕ → Type 0
+AreNumbers x y w h = IsNumber x × IsNumber y × IsNumber w × IsNumber h
+
 -- four words are a rectangle
 pub record AreRect (x y w h : List ℕ) (rect : Rect) : Type 0 where
-  pub numbers : IsNumber x × IsNumber y × IsNumber w × IsNumber h
+  pub numbers : AreNumbers x y w h
   pub x_is : rect.x ≡ digits_value 10 x
   pub y_is : rect.y ≡ digits_value 10 y
   pub w_is : rect.w ≡ digits_value 10 w

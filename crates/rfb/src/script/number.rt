@@ -12,7 +12,8 @@ const DIGITS_MAX: usize = 10;
 /// The value of 1 to 10 decimal digits, leading zeros among them. It is `None` where the word is
 /// anything else, or its value is above 65,535.
 pub fn read_number(word: &[u8]) -> Option<u16>
-    ensures { MatchOption result (¬ (IsNumber word.now)) (λ n. IsNumber word.now × (n ≡ digits_value 10 word.now)) }
+    ensures { MatchOption result (¬ (IsNumber word.now))
+        (λ n. IsNumber word.now × (n ≡ digits_value 10 word.now)) }
 {
     // `parse` alone would take a plus sign, and any number of zeros.
     if word.len() > DIGITS_MAX || !has_only_digits(word) {

@@ -1,11 +1,10 @@
 //! Reading one line of a script, by itself.
 
-ghost use Rattle.std.specs.Prelude.{◌≡◌, ◌↔◌, ◌≤◌, ◌∷◌, [], Ok, IfSome, IsSome, MatchOption, length};
+ghost use Rattle.std.specs.Prelude.{◌≡◌, ◌↔◌, ◌∷◌, [], Ok, IfSome, IsSome, MatchOption, length};
 ghost use Rattle.std.specs.List.{AllPass};
 ghost use Rattle.std.specs.Str.Parse.{digits_value};
 ghost use Rattle.hex.specs.Hex.{decode_of, is_hex_digit};
-ghost use Rattle.rfb.specs.Number.{IsNumber};
-ghost use Rattle.rfb.specs.Script.{AreRect, AsksForEvent, GivesSize, Says, SaysEvent, SaysNothing, texts, words_of};
+ghost use Rattle.rfb.specs.Script.{AreNumbers, AreRect, AsksForEvent, GivesSize, IsSide, Says, SaysEvent, SaysNothing, texts, words_of};
 
 use crate::pair::{MAX_SIDE, PairEvent};
 use crate::script::line::{Line, Screen};
@@ -89,14 +88,14 @@ fn line_of(words: &[&[u8]]) -> Option<Line>
 // A side of the screen.
 fn read_side(word: &[u8]) -> Option<u16>
     ensures value { IfSome result (λ side. side ≡ digits_value 10 word.now) }
-    ensures found { IsSome result ↔ (IsNumber word.now × (1 ≤ digits_value 10 word.now) × (digits_value 10 word.now ≤ 4096)) }
+    ensures found { IsSome result ↔ (IsSide word.now) }
 {
     read_number(word).filter(|side| (1..=MAX_SIDE).contains(side))
 }
 
 fn read_rect(x: &[u8], y: &[u8], w: &[u8], h: &[u8]) -> Option<Rect>
     ensures value { IfSome result (AreRect x.now y.now w.now h.now) }
-    ensures found { IsSome result ↔ (IsNumber x.now × IsNumber y.now × IsNumber w.now × IsNumber h.now) }
+    ensures found { IsSome result ↔ (AreNumbers x.now y.now w.now h.now) }
 {
     Some(Rect {
         x: read_number(x)?,
@@ -108,7 +107,8 @@ fn read_rect(x: &[u8], y: &[u8], w: &[u8], h: &[u8]) -> Option<Rect>
 
 // Six hexadecimal digits of either case.
 fn read_colour(word: &[u8]) -> Option<Colour>
-    ensures value { IfSome result (λ colour. decode_of word.now ≡ Ok (colour.r ∷ colour.g ∷ colour.b ∷ [])) }
+    ensures value { IfSome result (λ colour.
+        decode_of word.now ≡ Ok (colour.r ∷ colour.g ∷ colour.b ∷ [])) }
     ensures found { IsSome result ↔ ((length word.now ≡ 6) × AllPass is_hex_digit word.now) }
 {
     let [r, g, b] = <[u8; 3] as FromHex>::from_hex(word).ok()?;
