@@ -18,16 +18,16 @@ use Rattle.rfb_hello.specs.declared.server_hello.ServerHello.{ServerHello}
 use Rattle.rfb_hello.specs.declared.server_hello.progress.Progress.{Progress as HelloProgress}
 use Rattle.rfb_hello.specs.declared.server_hello.progress.Progress.TheVariants.{Version as VersionPart, Choice, Init, Done, Failed}
 use Rattle.rfb_hello.specs.ClientHandshake.{ClientPoint, AwaitsVersion, AwaitsChoice, AwaitsInit, Begun, ClientItem, ProtocolVersion, SecurityType, ClientInit, past_client_item, client_handshake}
-use Rattle.rfb_hello.specs.ServerEnd.{ServerSetup, server_tells as handshake_tells, server_end}
+use Rattle.rfb_hello.specs.ServerEnd.{ServerSetup, as_reply, server_tells as handshake_tells, server_end}
 use Rattle.rfb_hello.specs.ServerProgress.{ProgressStandsFor as HelloProgressStandsFor, is_open as goes_on}
 use Rattle.rfb_hello.specs.ServerStanding.{StandsFor as HelloStandsFor, is_open}
 use Rattle.rfb_server.specs.declared.session.Session.{Session}
-use Rattle.rfb_server.specs.declared.session.progress.Progress.TheVariants.{Handshake}
+use Rattle.rfb_server.specs.declared.session.progress.Progress.TheVariants.{Handshake, Head}
 use Rattle.rfb_server.specs.Fault.{fault_of_hello}
 use Rattle.rfb_server.specs.ClientBytes.{ClientAt, to_messages, client_two, client_bytes}
 use Rattle.rfb_server.specs.Told.{step_told}
 use Rattle.rfb_server.specs.Server.{Serving, ServerState, server, serves}
-use Rattle.rfb_server.specs.Progress.{ProgressStandsFor}
+use Rattle.rfb_server.specs.Progress.{ProgressStandsFor, is_partial, progress_behind}
 use Rattle.rfb_server.specs.Standing.{SessionStandsFor}
 use Rattle.rfb_server.specs.Sessions.{IsGreeted}
 use Rattle.rfb_server.proofs.ServerLaws.{client_bytes_laws}
@@ -241,3 +241,16 @@ greets_not serving screen old bytes fault handshake refused = λ s prefix now.
       quiet = told_first serving s p items None began.1 refuses.quiet;
       bad = rw stays (ap (λ (n : Next ClientItem HelloFault). named (λ i. First i) fault_of_hello n) refuses.bad);
     }
+
+-- what comes behind a call of the handshake's end is not all of an item
+pub partial_behind : (hello : ServerHello) (goes : Bool) → goes ≡ is_open hello → is_partial hello (progress_behind goes) ≡ true
+partial_behind hello true is = sym is
+partial_behind hello false is = refl
+
+pub goes_behind : (goes : Bool) → goes ≡ true → progress_behind goes ≡ Handshake
+goes_behind true e = refl
+goes_behind false e = absurd cc
+
+pub done_behind : (goes : Bool) → goes ≡ false → progress_behind goes ≡ Head (as_reply [])
+done_behind true e = absurd cc
+done_behind false e = refl

@@ -1,4 +1,5 @@
 pub mod ServerLaws
+pub mod ServerParts
 pub mod RecordLemmas
 pub mod ComposingLaws
 pub mod MarksLemmas
@@ -15,3 +16,9 @@ pub mod SentLemmas
 pub mod SentCells
 pub mod UpdateLemmas
 pub mod UpdatingLemmas
+pub mod FeedingLemmas
+pub mod HeadLemmas
+pub mod MessageLemmas
+pub mod ListLemmas
+pub mod CutTextLemmas
+pub mod SliceLemmas

@@ -1,13 +1,16 @@
 -- All that a client sends, RFC 6143 sections 7.1 to 7.5: its handshake, and then its messages.
-use Rattle.std.specs.Prelude.{Option, Some, None, ⊤}
+use Rattle.std.specs.Prelude.{ℕ, Bool, true, false, List, [], ◌∷◌, Option, Some, None, ⊤}
 use Rattle.rfb_wire.specs.stream.Reading.{Says}
 use Rattle.rfb_wire.specs.stream.Grammar.{Grammar}
-use Rattle.rfb_wire.specs.stream.Sequel.{Stage, Two, sequel, sequel_says}
+use Rattle.rfb_wire.specs.stream.Sequel.{Stage, First, Second, Two, sequel, sequel_says}
+use Rattle.rfb_wire.specs.stream.Pending.{pending_in}
+use Rattle.rfb_wire.specs.Pending.{client_pending}
 use Rattle.rfb_wire.specs.ClientMessage.{ClientMessage, ClientFault, client_says}
 use Rattle.rfb_wire.specs.ClientStream.{client_stream}
 use Rattle.rfb_hello.specs.declared.version.Version.{Version}
 use Rattle.rfb_hello.specs.declared.fault.HelloFault.{HelloFault}
 use Rattle.rfb_hello.specs.ClientHandshake.{ClientPoint, AwaitsInit, ClientItem, ClientInit, client_handshake, client_item_says}
+use Rattle.rfb_hello.specs.Pending.{client_handshake_pending}
 use Rattle.rfb_server.specs.declared.fault.ServerFault.{ServerFault}
 use Rattle.rfb_server.specs.Fault.{fault_of_hello, fault_of_message}
 
@@ -41,3 +44,13 @@ client_bytes offer = sequel (client_two offer)
 -- what its bytes say at each point
 abbrev pub client_bytes_say : Version → ClientAt → Says FromClient ServerFault
 client_bytes_say offer = sequel_says (client_two offer) (client_item_says offer) (λ _. client_says)
+
+-- how many of its bytes are pending: those of the item under way behind its last whole piece
+abbrev pub client_bytes_pending : ClientAt → List ℕ → ℕ
+client_bytes_pending at bytes = pending_in client_handshake_pending (λ _ others. client_pending others) at bytes
+
+-- the bytes end between two messages, behind the handshake
+abbrev pub is_between : ClientAt → List ℕ → Bool
+is_between (First point) bytes = false
+is_between (Second between) [] = true
+is_between (Second between) (first ∷ rest) = false

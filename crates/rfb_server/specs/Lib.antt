@@ -16,3 +16,4 @@ pub mod Needing
 pub mod Sends
 pub mod Composed
 pub mod Updating
+pub mod Feeding

@@ -1,11 +1,12 @@
 -- How far a client's bytes have come in a session, and what it holds of the item under way.
-use Rattle.std.specs.Prelude.{◌≡◌, ℕ, ℤ, ◌+◌, ◌<◌, min, List, [], ◌∷◌, ◌++◌, length, take, true, Option, Some, None}
+use Rattle.std.specs.Prelude.{◌≡◌, ℕ, ℤ, ◌+◌, ◌<◌, min, List, [], ◌∷◌, ◌++◌, length, take, Bool, true, false, ◌&&◌, ◌==◌, nat_lt, Option, Some, None}
 use Rattle.rfb_wire.specs.declared.encoding.Encoding.{Encoding}
 use Rattle.rfb_wire.specs.stream.Reading.{Listed}
 use Rattle.rfb_wire.specs.ClientHead.{client_head_size, SpellsSetEncodings, SpellsClientCutText}
 use Rattle.rfb_wire.specs.ClientMessage.{SpellsNumber}
 use Rattle.rfb_wire.specs.stream.Sequel.{First, Second}
 use Rattle.rfb_hello.specs.KeptText.{KeptText}
+use Rattle.rfb_hello.specs.ServerEnd.{as_reply}
 use Rattle.rfb_hello.specs.declared.server_hello.ServerHello.{ServerHello}
 use Rattle.rfb_hello.specs.ServerStanding.{StandsFor as HelloStandsFor, is_open}
 use Rattle.rfb_server.specs.declared.fault.ServerFault.{ServerFault}
@@ -45,6 +46,29 @@ pub record IsTextBegun (text_limit text_length left : ℕ) (kept : KeptText) (pr
   pub room : kept.room ≡ min text_length text_limit
   pub kept_is : kept.bytes ≡ take text_limit text
 
+-- so many bytes are fewer than a head has, if there is one
+abbrev pub is_less : ℕ → Option ℕ → Bool
+is_less count None = false
+is_less count (Some size) = nat_lt count size
+
+-- the same as a test
+abbrev pub is_head_begun : List ℕ → Bool
+is_head_begun [] = true
+is_head_begun (first ∷ rest) = is_less (length (first ∷ rest)) (client_head_size first)
+
+-- what is held of an item under way is not all of it, whatever it stands for
+abbrev pub is_partial : ServerHello → Progress → Bool
+is_partial hello Handshake = is_open hello
+is_partial hello (Head bytes) = is_head_begun bytes.items
+is_partial hello (Encodings left number list) = nat_lt 0 left && nat_lt (length number.items) 4
+is_partial hello (CutText text_length left kept) = nat_lt 0 left
+is_partial hello (Failed fault) = true
+
+-- what comes behind a call of the handshake's end, by whether that goes on
+abbrev pub progress_behind : Bool → Progress
+progress_behind true = Handshake
+progress_behind false = Head (as_reply [])
+
 -- so much progress stands for that point and that prefix; one that has failed stands for none
 abbrev pub ProgressStandsFor : Serving → ServerHello → Progress → ClientAt → List ℕ → Type 0
 ProgressStandsFor serving hello Handshake (First point) prefix = HelloStandsFor serving.hello hello point prefix × (is_open hello ≡ true)
@@ -56,6 +80,14 @@ ProgressStandsFor serving hello (Encodings left number list) (Second between) pr
 ProgressStandsFor serving hello (CutText text_length left kept) (First point) prefix = ⊥
 ProgressStandsFor serving hello (CutText text_length left kept) (Second between) prefix = IsTextBegun serving.text_limit text_length left kept prefix
 ProgressStandsFor serving hello (Failed fault) point prefix = ⊥
+
+-- nothing came of a message, and the handshake is done
+abbrev pub is_idle : Progress → Bool
+is_idle Handshake = false
+is_idle (Head bytes) = length bytes.items == 0
+is_idle (Encodings left number list) = false
+is_idle (CutText text_length left kept) = false
+is_idle (Failed fault) = false
 
 -- the fault that it has failed with, if it has
 abbrev pub fault_in : Progress → Option ServerFault

@@ -1,11 +1,13 @@
 -- What a server's session is, and what an item of its client's makes of it, RFC 6143 section 7.5.
-use Rattle.std.specs.Prelude.{ℕ, not, List, [], Option, None}
+use Rattle.std.specs.Prelude.{◌≡◌, ℕ, ◌<◌, not, List, [], Option, Some, None, ⊤}
 use Rattle.rfb_pixel.specs.declared.colour.Colour.{Colour}
 use Rattle.rfb_pixel.specs.Format.{PixelFormat, rgb888}
 use Rattle.rfb_picture.specs.Grid.{Grid, uniform}
 use Rattle.rfb_picture.specs.Area.{Places, no_places, added}
 use Rattle.rfb_wire.specs.declared.encoding.Encoding.{Encoding}
-use Rattle.rfb_wire.specs.ClientMessage.{ClientMessage, SetPixelFormat, SetEncodings, FramebufferUpdateRequest, KeyEvent, PointerEvent, ClientCutText}
+use Rattle.rfb_wire.specs.ClientHead.{SpellsClientCutText}
+use Rattle.rfb_wire.specs.ClientMessage.{ClientMessage, SetPixelFormat, SetEncodings, FramebufferUpdateRequest, KeyEvent, PointerEvent, ClientCutText, ClientFault}
+use Rattle.rfb_wire.specs.ClientStream.{client_stream}
 use Rattle.rfb_wire.specs.stream.Sequel.{First, Second, past_in}
 use Rattle.rfb_wire.specs.stream.End.{Machine}
 use Rattle.rfb_hello.specs.ClientHandshake.{AwaitsVersion}
@@ -76,6 +78,25 @@ server serving = record {
   act = serves serving;
   tells = server_tells serving;
 }
+
+-- the messages alone, as an end: a state is one behind the handshake
+abbrev pub messages_end : Serving → Machine ServerState ⊤ ClientMessage ClientFault ServerTold
+messages_end serving = record {
+  grammar = client_stream;
+  point = λ _. tt;
+  act = λ s message. serves serving s (Second message);
+  tells = λ s message. message_told serving.text_limit message;
+}
+
+-- the state, where the point lies behind the handshake
+abbrev pub behind_handshake : ClientAt → ServerState → Option ServerState
+behind_handshake (First point) s = None
+behind_handshake (Second between) s = Some s
+
+-- memory is asked for once the length of a text is known that has bytes
+abbrev pub AsksMemory : ServerState → List ℕ → Type 0
+AsksMemory s bytes =
+    (s.point ≡ Second tt) × (text_length : ℕ) × SpellsClientCutText text_length bytes × (0 < text_length)
 
 -- a screen begins black
 abbrev pub black : Colour

@@ -1,11 +1,12 @@
 -- What calls on a `Session` change of it.
-use Rattle.std.specs.Prelude.{◌≡◌, ℕ, ◌<◌, Bool, [], ◌∷◌, ◌++◌, true, false}
+use Rattle.std.specs.Prelude.{◌≡◌, ℕ, zero, suc, ◌<◌, Bool, List, [], ◌∷◌, ◌++◌, true, false}
 use Rattle.circular_buffer.specs.Buffer.{keep_last}
 use Rattle.rfb_pixel.specs.declared.colour.Colour.{Colour}
 use Rattle.rfb_pixel.specs.Format.{PixelFormat}
 use Rattle.rfb_picture.specs.declared.rect.Rect.{Rect}
 use Rattle.rfb_picture.specs.Grid.{Grid, filled}
 use Rattle.rfb_picture.specs.Area.{added}
+use Rattle.rfb_wire.specs.declared.encoding.Encoding.{Encoding}
 use Rattle.rfb_codec.specs.Effect.{IsAlike}
 use Rattle.rfb_picture.specs.Box.{is_in}
 use Rattle.rfb_hello.specs.ServerEnd.{as_reply}
@@ -14,7 +15,8 @@ use Rattle.rfb_server.specs.Record.{forgotten}
 use Rattle.rfb_server.specs.Marks.{IsCaughtUp}
 use Rattle.rfb_server.specs.declared.hint.Hint.{Hint}
 use Rattle.rfb_server.specs.declared.session.Session.{Session}
-use Rattle.rfb_server.specs.declared.session.progress.Progress.TheVariants.{Handshake, Head}
+use Rattle.rfb_server.specs.declared.session.progress.Progress.{Progress}
+use Rattle.rfb_server.specs.declared.session.progress.Progress.TheVariants.{Handshake, Head, Encodings}
 
 -- all but marks and hints is as it was
 pub record IsSame (old new : Session) : Type 0 where
@@ -56,20 +58,6 @@ pub record IsGreeted (old new : Session) : Type 0 where
   pub marks : new.marks ≡ old.marks
   pub hints : new.hints ≡ old.hints
 
--- the session goes on as its handshake's end does: in the handshake while that goes on, and once it
--- is done between two messages
-pub record GoesOn (old new : Session) : Type 0 where
-  pub hello : new.hello ≡ old.hello
-  pub goes : is_open new.hello ≡ true → new.progress ≡ Handshake
-  pub done : is_open new.hello ≡ false → new.progress ≡ Head (as_reply [])
-  pub text_limit : new.text_limit ≡ old.text_limit
-  pub format : new.format ≡ old.format
-  pub encodings : new.encodings ≡ old.encodings
-  pub known : new.known ≡ old.known
-  pub area : new.area ≡ old.area
-  pub marks : new.marks ≡ old.marks
-  pub hints : new.hints ≡ old.hints
-
 -- a message comes next
 pub record BeginsMessage (old new : Session) : Type 0 where
   pub hello : new.hello ≡ old.hello
@@ -82,12 +70,44 @@ pub record BeginsMessage (old new : Session) : Type 0 where
   pub marks : new.marks ≡ old.marks
   pub hints : new.hints ≡ old.hints
 
+-- so many numbers of a list come next; without any the list is there, with no encoding
+abbrev pub progress_of_list : ℕ → Progress
+progress_of_list zero = Head (as_reply [])
+progress_of_list (suc n) = Encodings (suc n) (as_reply []) []
+
+-- the list of a session, where so many numbers of a new one come next
+abbrev pub encodings_behind : ℕ → List Encoding → List Encoding
+encodings_behind zero list = []
+encodings_behind (suc n) list = list
+
+-- a list of so many numbers begins
+pub record BeginsList (count : ℕ) (old new : Session) : Type 0 where
+  pub hello : new.hello ≡ old.hello
+  pub progress : new.progress ≡ progress_of_list count
+  pub text_limit : new.text_limit ≡ old.text_limit
+  pub format : new.format ≡ old.format
+  pub encodings : new.encodings ≡ encodings_behind count old.encodings
+  pub known : new.known ≡ old.known
+  pub area : new.area ≡ old.area
+  pub marks : new.marks ≡ old.marks
+  pub hints : new.hints ≡ old.hints
+
 -- whatever the screen looks like, a session that had caught up with it still has
 abbrev pub StaysCaughtUp : Session → Session → Type 0
 StaysCaughtUp old new =
     (screen : Grid Colour) → IsAlike screen old.known →
     IsCaughtUp screen old.known old.area old.format old.marks →
     IsCaughtUp screen new.known new.area new.format new.marks
+
+-- whatever it is fed, a session keeps what it was made with, its places and its hints, and that it
+-- had caught up
+pub record KeepsUp (old new : Session) : Type 0 where
+  pub setup : setup_of new.hello ≡ setup_of old.hello
+  pub text_limit : new.text_limit ≡ old.text_limit
+  pub columns : new.known.width ≡ old.known.width
+  pub rows : new.known.height ≡ old.known.height
+  pub hints : new.hints ≡ old.hints
+  pub caught_up : StaysCaughtUp old new
 
 -- the rectangle's places were asked for, and whole if that was asked
 pub record IsAskedFor (rect : Rect) (whole : Bool) (old new : Session) : Type 0 where

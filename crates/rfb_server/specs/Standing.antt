@@ -45,6 +45,10 @@ screen_of server = server.screen
 abbrev pub fault_of : Server → Option ServerFault
 fault_of server = fault_in server.session.progress
 
+-- what it was made with
+abbrev pub serving_of : Server → Serving
+serving_of server = record { hello = setup_of server.session.hello; text_limit = server.session.text_limit }
+
 -- ---- drawings
 
 -- the state with another screen

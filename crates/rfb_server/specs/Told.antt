@@ -1,8 +1,9 @@
 -- What a server tells of what its client sent: events, as values that hold what was spelled.
-use Rattle.std.specs.Prelude.{ℕ, Bool, List, length, take, Option, Some, None}
+use Rattle.std.specs.Prelude.{ℕ, Bool, List, length, take, Option, Some, None, Result, Ok, Err}
 use Rattle.rfb_wire.specs.ClientMessage.{ClientMessage, SetPixelFormat, SetEncodings, FramebufferUpdateRequest, KeyEvent, PointerEvent, ClientCutText}
 use Rattle.rfb_hello.specs.declared.step.ServerStep.{ServerStep}
 use Rattle.rfb_hello.specs.declared.step.ServerStep.TheVariants.{Reply as ReplyStep, Ready as ReadyStep}
+use Rattle.rfb_server.specs.declared.fault.ServerFault.{ServerFault}
 use Rattle.rfb_server.specs.declared.event.ServerEvent.{ServerEvent}
 use Rattle.rfb_server.specs.declared.event.ServerEvent.TheVariants.{Reply as ReplyEvent, Ready as ReadyEvent, Key as KeyTold, Pointer as PointerTold, CutText as CutTextTold}
 
@@ -27,6 +28,11 @@ event_told (CutTextTold kept text_length) = CutText kept.items text_length
 abbrev pub seen : Option ServerEvent → Option ServerTold
 seen None = None
 seen (Some event) = Some (event_told event)
+
+-- the same of an answer
+abbrev pub answer_told : Result (Option ServerEvent) ServerFault → Result (Option ServerTold) ServerFault
+answer_told (Ok event) = Ok (seen event)
+answer_told (Err fault) = Err fault
 
 -- what is told of a step of the handshake: its version is the handshake's own matter
 abbrev pub step_told : Option ServerStep → Option ServerTold

@@ -1,10 +1,13 @@
 //! Why a session ends.
 
-ghost use Rattle.std.specs.Prelude.{◌≡◌};
+ghost use Rattle.std.specs.Prelude.{◌≡◌, ℕ};
+ghost use Rattle.rfb_wire.specs.declared.fault.WireFault.TheVariants.{UnknownMessage as UnknownType};
+ghost use Rattle.rfb_server.specs.declared.fault.ServerFault.TheVariants.{UnknownMessage};
 ghost use Rattle.rfb_server.specs.Fault.{fault_of_hello, fault_of_format};
 
 use rfb_hello::HelloFault;
 use rfb_pixel::FormatFault;
+use rfb_wire::WireFault;
 use thiserror::Error;
 
 /// What a client did wrong, and want of memory. Each prints as its number and its name.
@@ -61,6 +64,17 @@ impl ServerFault {
             HelloFault::ScreenEmpty => ServerFault::BadVersion,
             HelloFault::ScreenTooLarge => ServerFault::BadVersion,
             HelloFault::NoMemory => ServerFault::NoMemory,
+        }
+    }
+
+    // The fault of a message's head, as one of a session: a client's messages have no rectangles.
+    pub(crate) fn of_wire(fault: WireFault) -> ServerFault
+        requires { (first : ℕ) × (fault ≡ UnknownType first) }
+        ensures { (first : ℕ) → fault ≡ UnknownType first → result ≡ UnknownMessage first }
+    {
+        match fault {
+            WireFault::UnknownMessage(kind) => ServerFault::UnknownMessage(kind),
+            WireFault::UnknownEncoding(_) | WireFault::RectOutside => unreachable!(),
         }
     }
 

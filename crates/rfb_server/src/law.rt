@@ -6,11 +6,15 @@ ghost use Rattle.rfb_pixel.specs.Format.{PixelFormat, seen_through};
 ghost use Rattle.rfb_picture.specs.Grid.{Grid, IsGrid, at_or};
 ghost use Rattle.rfb_wire.specs.stream.Grammar.{IsSpelled, IsGrammar};
 ghost use Rattle.rfb_wire.specs.stream.End.{IsMachine};
+ghost use Rattle.rfb_wire.specs.stream.Both.{first_point, GoesAsFirst, GoesAsSecond};
 ghost use Rattle.rfb_hello.specs.declared.version.Version.{Version};
-ghost use Rattle.rfb_server.specs.ClientBytes.{client_bytes, client_bytes_say};
+ghost use Rattle.rfb_hello.specs.ServerEnd.{server_end};
+ghost use Rattle.rfb_server.specs.ClientBytes.{client_two, client_bytes, client_bytes_say};
 ghost use Rattle.rfb_codec.specs.Effect.{effects, IsAlike, Agrees};
 ghost use Rattle.rfb_codec.specs.WholeUpdate.{update_of};
 ghost use Rattle.rfb_server.specs.Server.{Serving, ServerState, server, black};
+ghost use Rattle.rfb_server.specs.Server.{messages_end, behind_handshake};
+ghost use Rattle.rfb_server.specs.Told.{step_told};
 ghost use Rattle.rfb_server.specs.Request.{wanted, recorded, is_asked};
 ghost use Rattle.rfb_server.specs.Composing.{Part, Composes, IsPlace, between, sent_as};
 
@@ -24,6 +28,17 @@ pub fn client_bytes_are_spelled()
 /// A server is a machine over that stream: each item brings its state to the point behind the item.
 pub fn a_server_is_a_machine()
     ensures { (serving : Serving) → IsMachine (server serving) }
+{}
+
+/// A server is fed the handshake as the handshake's end is, and messages as an end of messages alone:
+/// so what these ends take, refuse or want memory for, the server does.
+pub fn a_server_is_fed_as_the_ends_of_its_parts()
+    ensures handshake { (serving : Serving) → GoesAsFirst (client_two serving.hello.offer)
+        (server serving) (server_end serving.hello) (λ s. first_point s.point)
+        (λ step. step_told (Some step)) }
+    ensures messages { (serving : Serving) → GoesAsSecond (client_two serving.hello.offer)
+        (server serving) (messages_end serving) (λ s. behind_handshake s.point s)
+        (λ told. Some told) }
 {}
 
 /// A viewer whose picture agreed with the record shows, once it has the update, the screen over the

@@ -1,14 +1,16 @@
 //! A server: a screen and a session.
 
-ghost use Rattle.std.specs.Prelude.{◌≡◌, ◌≢◌, ◌≤◌, ◌↔◌, ℕ, List, [], length, true, false, None, Ok, IfOk, OnOk, OnErr, IsErr};
+ghost use Rattle.std.specs.Prelude.{◌≡◌, ◌≢◌, ◌≤◌, ◌<◌, ◌↔◌, ℕ, List, [], length, take};
+ghost use Rattle.std.specs.Prelude.{true, false, Some, None, Ok, IfOk, IfErr, OnOk, OnErr, IsErr};
 ghost use Rattle.rfb_picture.specs.Grid.{IsGrid};
 ghost use Rattle.rfb_codec.specs.Effect.{IsAlike};
 ghost use Rattle.rfb_server.specs.Marks.{IsCaughtUp};
 
-use crate::fault::Outside;
+use crate::event::ServerEvent;
+use crate::fault::{Outside, ServerFault};
 use crate::hint::Hint;
 use crate::session::Session;
-use rfb_hello::Version;
+use rfb_hello::{Fed, Version};
 use rfb_picture::{Area, Picture, Rect};
 use rfb_pixel::{Colour, Format};
 use std::alloc::{AllocError, Global};
@@ -29,9 +31,15 @@ const BLACK: Colour = Colour { r: 0, g: 0, b: 0 };
 
 impl Server {
     ghost use Rattle.rfb_picture.specs.Grid.{Holds, filled, copied, with_row};
+    ghost use Rattle.rfb_wire.specs.stream.End.{FedBy, RefusedBy, RunsOutBy, StaysFailed};
+    ghost use Rattle.rfb_server.specs.declared.fault.ServerFault.TheVariants.{NoMemory};
+    ghost use Rattle.rfb_server.specs.ClientBytes.{client_bytes_pending, is_between};
+    ghost use Rattle.rfb_server.specs.Told.{seen};
     ghost use Rattle.rfb_server.specs.Server.{Serving, ServerState, first_server};
+    ghost use Rattle.rfb_server.specs.Server.{server, AsksMemory};
     ghost use Rattle.rfb_hello.specs.Version.{version_text};
-    ghost use Rattle.rfb_server.specs.Standing.{StandsFor, serving_with, screen_of, row_from, fault_of, HoldsBoth, Draws, Keeps};
+    ghost use Rattle.rfb_server.specs.Standing.{StandsFor, serving_with, serving_of, fault_of};
+    ghost use Rattle.rfb_server.specs.Standing.{screen_of, row_from, HoldsBoth, Draws, Keeps};
     ghost use Rattle.rfb_server.specs.Updating.{Updates, StaysUnsent};
     ghost use Rattle.rfb_server.specs.Record.{ShowsKnown, TellsKnown};
 
@@ -163,6 +171,58 @@ impl Server {
         ensures failed { fault_of self.old ≢ None → result ≡ Ok false }
     {
         self.session.compose(&self.screen, out)
+    }
+
+    /// Takes bytes of the client's, up to the last of its first item that is told of, or all: a step
+    /// of the handshake, a key, the pointer or a text. Formats, lists and requests change the server
+    /// at their last byte, and are not told. A client's fault is told at its last byte, and want of
+    /// memory for a text at its length; every later call answers it again, and takes nothing. Up to
+    /// 19 bytes are kept of what is under way, and of one text as much as fits its limit.
+    pub fn feed(&mut self, bytes: &[u8]) -> Result<Fed<ServerEvent>, ServerFault>
+        // What was taken, what it was, and what is left.
+        ensures used { IfOk result (λ fed. fed.used ≤ length bytes.now) }
+        ensures all { IfOk result (λ fed. fed.event ≡ None → fed.used ≡ length bytes.now) }
+        ensures some { IfOk result (λ fed. 0 < length bytes.now → 0 < fed.used) }
+        ensures fed { IfOk result (λ fed. (serving : Serving)
+            → FedBy (server serving) (StandsFor serving)
+            self.old (take fed.used bytes.now) (seen fed.event) self.new) }
+        ensures made { serving_of self.new ≡ serving_of self.old }
+        ensures screen { screen_of self.new ≡ screen_of self.old }
+
+        // When a fault comes, when memory is wanting, and that it stays.
+        ensures fault { IfErr result (λ fault. fault ≢ NoMemory → (serving : Serving)
+            → RefusedBy (server serving) (StandsFor serving) self.old bytes.now fault) }
+        ensures memory { IfErr result (λ fault. fault ≡ NoMemory → (serving : Serving)
+            → RunsOutBy (server serving) AsksMemory (StandsFor serving) self.old bytes.now) }
+        ensures fails { IfErr result (λ fault. fault_of self.new ≡ Some fault) }
+        ensures failed { StaysFailed (fault_of self.old) self.old result self.new }
+    {
+        if let Some(fault) = self.session.fault() {
+            return Err(fault);
+        }
+        self.session.feed(bytes)
+    }
+
+    /// Whether the client's bytes end between two messages: the handshake is done, no message has
+    /// begun, and no fault was told.
+    pub fn between(&self) -> bool
+        ensures value { (serving : Serving) (s : ServerState) (prefix : List ℕ)
+            → StandsFor serving self.now s prefix → result ≡ is_between s.point prefix }
+        ensures failed { fault_of self.now ≢ None → result ≡ false }
+    {
+        self.session.between()
+    }
+
+    /// How many bytes are pending: those of the client's item under way that stand behind its last
+    /// whole piece. It keeps no others, but the first bytes of a text.
+    pub fn pending(&self) -> usize
+        ensures value { (serving : Serving) (s : ServerState) (prefix : List ℕ)
+            → StandsFor serving self.now s prefix
+            → result ≡ client_bytes_pending s.point prefix }
+        ensures few { result ≤ 20 }
+        ensures failed { fault_of self.now ≢ None → result ≡ 0 }
+    {
+        self.session.pending()
     }
 
     /// The ProtocolVersion that is sent before all else, RFC 6143 section 7.1.1.

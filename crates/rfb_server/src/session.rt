@@ -3,13 +3,19 @@
 ghost use Rattle.std.specs.Prelude.{◌≡◌, ◌≤◌, ◌<◌, [], length, IfOk, true};
 ghost use Rattle.rfb_picture.specs.Grid.{Holds, filled};
 ghost use Rattle.rfb_server.specs.Marks.{AreAlike};
+ghost use Rattle.rfb_server.specs.Progress.{is_partial};
 
 mod asking;
 mod composing;
+mod feeding;
+mod gathering;
 mod greeting;
+mod lists;
+mod messages;
 mod needing;
 mod progress;
 mod telling;
+mod texts;
 
 use crate::encodings::EncodingList;
 use crate::hint::{Hint, MAX_HINTS};
@@ -27,6 +33,7 @@ use std::alloc::{AllocError, Global};
 /// screen is someone else's: a session is told where it was drawn, and is lent it to compose.
 #[derive(Drop)]
 pub struct Session {
+    alloc: Global,
     hello: ServerHello,
     progress: Progress,
     text_limit: u32,
@@ -39,6 +46,7 @@ pub struct Session {
     // The latest rectangle that was sent, kept for its room.
     block: Block,
     ghost alike: { AreAlike known area marks },
+    ghost partial: { is_partial hello progress ≡ true },
     ghost sixteen: { hints.capacity ≡ 16 },
 }
 
@@ -84,6 +92,7 @@ impl Session {
         });
         let hints = HeapCircularBuffer::with_capacity(alloc, MAX_HINTS)?;
         Ok(Session {
+            alloc,
             hello: ServerHello::new(offer, width, height, name),
             progress: Progress::Handshake,
             text_limit,

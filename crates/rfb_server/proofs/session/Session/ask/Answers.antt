@@ -5,7 +5,7 @@ use Rattle.rfb_server.proofs.session.Session.ask.Goals as goal
 pub invariant_of-self : goal.invariant_of-self
 invariant_of-self c =
     let s = c.args.self.now in
-    record { alike = rw (c.add.ensures.value) (alike_asked _ s.area _ c.args.rect false s.alike); sixteen = s.sixteen }
+    record { alike = rw (c.add.ensures.value) (alike_asked _ s.area _ c.args.rect false s.alike); partial = s.partial; sixteen = s.sixteen }
 
 pub returns : goal.returns
 returns c =

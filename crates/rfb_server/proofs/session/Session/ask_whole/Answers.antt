@@ -8,6 +8,7 @@ invariant_of-self c =
     let s = c.args.self.now in
     record {
       alike = alike_marked _ _ s.marks _ c.args.rect (rw (c.add.ensures.value) (alike_asked _ s.area _ c.args.rect true s.alike)) c.add-2.ensures.value;
+      partial = s.partial;
       sixteen = s.sixteen;
     }
 

@@ -1,6 +1,7 @@
 use Rattle.std.proofs.Common.{ap, sym, ◌∙◌}
 use Rattle.rfb_picture.proofs.GridLemmas.{whole-changed, whole-uniform}
 use Rattle.rfb_picture.proofs.AreaLemmas.{area-no_places}
+use Rattle.rfb_hello.proofs.StandingLaws.{server_stands}
 use Rattle.rfb_server.proofs.MarksLemmas.{in_all}
 use Rattle.rfb_server.proofs.session.Session.new.Goals as goal
 
@@ -18,6 +19,7 @@ invariant_of-result c =
         columns = rw (c.in_ok-known.ensures.width) c.requires.columns;
         rows = rw (c.in_ok-known.ensures.height) c.requires.rows;
       };
+      partial = (server_stands _ c.new-4.result _ _ c.new-4.ensures).1;
       sixteen = ap (λ b. b.capacity) c.in_ok-hints.ensures;
     }
 

@@ -8,6 +8,7 @@ invariant_of-self c =
     let s = c.args.self.now in
     record {
       alike = alike_marked _ _ s.marks _ _ (alike_forgotten _ _ s.area s.marks s.alike c.forget.ensures.value) c.add.ensures.value;
+      partial = s.partial;
       sixteen = s.sixteen;
     }
 

@@ -1,0 +1,48 @@
+use Rattle.std.proofs.Common.{refl, sym, ◌∙◌, ◌≡◌, Some, None}
+use Rattle.rfb_server.specs.Progress.{fault_in}
+use Rattle.rfb_server.proofs.SliceLemmas.{ok_map, err_map, serving_kept, failed_refuses, failed_starves}
+use Rattle.rfb_server.proofs.server.Server.feed.Goals as goal
+
+pub invariant_of-self : goal.invariant_of-self
+invariant_of-self c =
+    let s = c.args.self.now in
+    let up = c.feed.ensures.up in
+    record {
+      whole = s.whole;
+      alike = record { columns = s.alike.columns ∙ sym up.columns; rows = s.alike.rows ∙ sym up.rows };
+      caught_up = up.caught_up s.screen s.alike s.caught_up;
+    }
+
+pub returns-in-Some : goal.returns-in-Some
+returns-in-Some c =
+    let session = c.args.self.now.session in
+    let fails : fault_in session.progress ≡ Some c.in-Some.fault = sym c.fault.ensures ∙ c.in-Some.is in
+    record {
+      used = tt;
+      all = tt;
+      some = tt;
+      fed = tt;
+      made = refl;
+      screen = refl;
+      fault = λ other serving. failed_refuses session c.args.bytes.now c.in-Some.fault fails other serving c.args.self.now.screen;
+      memory = λ memory serving. failed_starves session c.args.bytes.now c.in-Some.fault fails memory serving c.args.self.now.screen;
+      fails = fails;
+      failed = λ f h. (cc, refl);
+    }
+
+pub returns : goal.returns
+returns c =
+    let session = c.args.self.now.session in
+    let none : fault_in session.progress ≡ None = sym c.fault.ensures ∙ c.in_default.is in
+    record {
+      used = c.feed.ensures.used;
+      all = c.feed.ensures.all;
+      some = c.feed.ensures.some;
+      fed = ok_map _ _ c.feed.result (λ fed h serving. h serving c.args.self.now.screen) c.feed.ensures.fed;
+      made = serving_kept session c.feed.new.self c.feed.ensures.up;
+      screen = refl;
+      fault = err_map _ _ c.feed.result (λ fault h other serving. h other serving c.args.self.now.screen) c.feed.ensures.fault;
+      memory = err_map _ _ c.feed.result (λ fault h memory serving. h memory serving c.args.self.now.screen) c.feed.ensures.memory;
+      fails = c.feed.ensures.fails;
+      failed = λ f h. absurd cc;
+    }

@@ -1,0 +1,4 @@
+use Rattle.rfb_server.proofs.server.Server.pending.Goals as goal
+
+pub returns-clause-value : goal.returns-clause-value
+returns-clause-value c = λ serving s prefix now. c.pending.ensures.value serving c.args.self.now.screen s prefix now

@@ -1,0 +1,16 @@
+use Rattle.std.proofs.Common.{◌≡◌, ◌-◌, ◌≤◌, length, take, None}
+use Rattle.rfb_server.specs.Progress.{fault_in}
+use Rattle.rfb_server.specs.Sessions.{KeepsUp}
+use Rattle.rfb_server.specs.Feeding.{FeedsAs}
+use Rattle.rfb_server.proofs.session.Session.feed.Given as goal
+
+abbrev pub invariant-loop-used : goal.invariant-loop-used
+invariant-loop-used l = record {
+  within : l.used ≤ length l.bytes;
+  going : fault_in l.self.progress ≡ None;
+  up : KeepsUp l.fn.self l.self;
+  fed : FeedsAs l.fn.self (take l.used l.bytes) None l.self;
+}
+
+abbrev pub decreases-loop-used : goal.decreases-loop-used
+decreases-loop-used l = length l.bytes - l.used

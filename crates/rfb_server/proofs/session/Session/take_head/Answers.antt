@@ -1,0 +1,35 @@
+use Rattle.std.proofs.Common.{◌≡◌, ◌∙◌, ◌++◌, List, ℕ, length, take, refl, sym, ap, subst, Ok, None}
+use Rattle.rfb_wire.specs.ClientHead.{SpellsClientHead}
+use Rattle.rfb_server.proofs.FeedingLemmas.{steps_from, starved_from}
+use Rattle.rfb_server.proofs.MessageLemmas.{head_part, type_refused}
+use Rattle.rfb_server.proofs.session.Session.take_head.Goals as goal
+
+pub returns-in-More-clause-steps : goal.returns-in-More-clause-steps
+returns-in-More-clause-steps c = λ _ serving screen.
+    let unit = take c.gather_head-used.result.0 c.args.bytes.now in
+    let more = rw c.in-More.is at c.gather_head-used.ensures.more in
+    head_part serving screen c.args.self.now _ c.in-Head.part c.gather_head-used.new.part unit c.in-Head.is refl
+    (record { setup = refl; text_limit = refl; format = refl; encodings = refl; known = refl; area = refl }) more.0 more.1
+
+pub returns-in-Got-clause-steps : goal.returns-in-Got-clause-steps
+returns-in-Got-clause-steps c = λ fine serving screen.
+    let unit = take c.gather_head-used.result.0 c.args.bytes.now in
+    let got = rw c.in-Got.is at c.gather_head-used.ensures.got in
+    let spelled : SpellsClientHead c.in-Got.head (c.gather_head-used.new.part.items ++ unit) = rw got.0 got.1 in
+    steps_from serving screen c.args.self.now _ _ unit _ (c.take_message.ensures.steps c.gather_head-used.new.part unit refl spelled fine serving screen)
+    (record { setup = refl; text_limit = refl; format = refl; encodings = refl; known = refl; area = refl }) refl (rw got.0 (sym c.in-Head.is))
+
+pub returns-in-Got-clause-memory : goal.returns-in-Got-clause-memory
+returns-in-Got-clause-memory c = λ wants serving screen.
+    let unit = take c.gather_head-used.result.0 c.args.bytes.now in
+    let got = rw c.in-Got.is at c.gather_head-used.ensures.got in
+    let spelled : SpellsClientHead c.in-Got.head (c.gather_head-used.new.part.items ++ unit) = rw got.0 got.1 in
+    starved_from serving screen c.args.self.now _ unit (c.take_message.ensures.memory c.gather_head-used.new.part unit refl spelled wants serving screen)
+    (record { setup = refl; text_limit = refl; format = refl; encodings = refl; known = refl; area = refl }) refl (rw got.0 (sym c.in-Head.is))
+
+pub returns-in-Bad-clause-steps : goal.returns-in-Bad-clause-steps
+returns-in-Bad-clause-steps c = λ _ serving screen.
+    let unit = take c.gather_head-used.result.0 c.args.bytes.now in
+    let bad = rw c.in-Bad.is at c.gather_head-used.ensures.bad in
+    rw (c.fail.ensures.value, c.of_wire.ensures bad.1 bad.2)
+    (type_refused serving screen c.args.self.now c.fail.new.self c.in-Head.part unit bad.1 c.in-Head.is bad.3)
