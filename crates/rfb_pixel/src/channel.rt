@@ -44,6 +44,7 @@ impl Channel {
     }
 
     /// The greatest value of the field, as red-max is of the red one.
+    #[inline(always)]
     fn max(self) -> u32
         requires { IsField 32 self }
         ensures value { result ≡ max_of self }
@@ -70,6 +71,7 @@ impl Channel {
     }
 
     /// The component that the field shows in a pixel value. The other bits are not looked at.
+    #[inline(always)]
     pub fn component(self, pixel: u32) -> u8
         requires { IsField 32 self }
         ensures { result ≡ component_in self pixel }
@@ -130,7 +132,7 @@ const OFFSETS: [u16; 9] = [0, 3, 9, 132, 45, 140, 132, 192, 0];
 
 /// A value of a field of 1 to 8 bits as the nearest component. It is what `rescale` gives for each
 /// of them, without a division, and sixteen bits are enough for it.
-#[inline]
+#[inline(always)]
 fn widen(width: u8, value: u16) -> u8
     requires some { 1 ≤ width }
     requires few { width ≤ 8 }

@@ -209,6 +209,7 @@ impl Format {
     }
 
     /// How many bytes a pixel has: 1, 2 or 4.
+    #[inline]
     pub fn size(&self) -> usize
         ensures value { result ≡ size_of self.now }
         ensures some { 0 < result }
@@ -243,6 +244,7 @@ impl Format {
     }
 
     /// The colour of a pixel value. Bits outside the three fields are ignored.
+    #[inline(always)]
     pub fn unpack(&self, pixel: u32) -> Colour
         ensures value { result ≡ colour_of self.now pixel }
         ensures ignored { (other : ℕ) → AgreeInFields self.now pixel other →
@@ -272,6 +274,7 @@ impl Format {
     }
 
     /// The pixel value in the format's bytes, in its byte order.
+    #[inline]
     pub fn take(&self, bytes: &[u8]) -> u32
         requires { length bytes.now ≡ size_of self.now }
         ensures { result ≡ pixel_number self.now bytes.now }
