@@ -20,3 +20,6 @@ pub use event::{MAX_REPLY, ServerEvent};
 pub use fault::{Outside, ServerFault};
 pub use hint::MAX_HINTS;
 pub use server::Server;
+
+#[cfg(test)]
+mod tests;

@@ -156,3 +156,6 @@ impl Session {
         self.format
     }
 }
+
+#[cfg(test)]
+mod tests;

@@ -1,0 +1,3 @@
+//! Tests of a server that is fed what clients send.
+
+mod composing;
