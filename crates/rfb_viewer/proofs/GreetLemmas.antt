@@ -1,5 +1,5 @@
 -- What the handshake's end takes and refuses, a viewer does: each call of that is by bytes of one step.
-use Rattle.std.proofs.Common.{◌≡◌, ℕ, zero, suc, ◌<◌, inl, inr, Bool, true, false, List, [], ◌∷◌, ◌++◌, Option, Some, None, Ok, Err, take, drop, if◌then◌else◌, refl, sym, subst, ◌∙◌, ap, arith, append-nil, append_assoc, take-append-drop}
+use Rattle.std.proofs.Common.{◌≡◌, ℕ, zero, suc, ◌<◌, inl, inr, true, false, List, [], ◌∷◌, ◌++◌, Option, Some, None, Ok, take, drop, if◌then◌else◌, refl, sym, subst, ◌∙◌, ap, arith, append-nil, append_assoc, take-append-drop}
 use Rattle.arrayvec.specs.ArrayVec.{ArrayVec}
 use Rattle.rfb_pixel.specs.declared.colour.Colour.{Colour}
 use Rattle.rfb_pixel.specs.Format.{PixelFormat}
@@ -41,7 +41,7 @@ use Rattle.rfb_viewer.specs.ServerBytes.{ServerAt, FromServer, to_updates, first
 use Rattle.rfb_viewer.specs.Messages.{ready_bytes}
 use Rattle.rfb_viewer.specs.Told.{ViewerTold, Reply as ReplyTold, Ready as ReadyTold, step_told}
 use Rattle.rfb_viewer.specs.Viewer.{Viewing, ViewerState, viewer, shows, told_at, picture_behind, screen_behind, ends_update, black, AsksInHandshake, AsksAt, AsksMemory}
-use Rattle.rfb_viewer.specs.Progress.{ProgressStandsFor, IsReadyAt, Stores, IsScreenAt}
+use Rattle.rfb_viewer.specs.Progress.{ProgressStandsFor, Stores, IsScreenAt}
 use Rattle.rfb_viewer.specs.Standing.{StandsFor, is_outstanding}
 use Rattle.rfb_viewer.specs.Steps.{at_message, screen_or}
 use Rattle.rfb_viewer.proofs.MessageLemmas.{here}

@@ -6,3 +6,4 @@ pub mod RectLemmas
 pub mod GreetLemmas
 pub mod FeedLemmas
 pub mod SendingLaws
+pub mod CallLemmas

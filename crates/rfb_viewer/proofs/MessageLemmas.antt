@@ -1,5 +1,5 @@
 -- What a viewer makes of messages: their heads, colours and texts.
-use Rattle.std.proofs.Common.{◌≡◌, ℕ, zero, suc, ◌+◌, ◌-◌, ◌*◌, ◌<◌, ◌≤◌, ◌==◌, Bool, true, false, List, [], ◌∷◌, ◌++◌, Option, Some, None, Ok, Err, if◌then◌else◌, length, take, drop, min, nat_le, slice_index, refl, sym, subst, ◌∙◌, ap, arith, length-append, append-nil, append_assoc, take-append-drop, length-drop}
+use Rattle.std.proofs.Common.{◌≡◌, ℕ, zero, suc, ◌+◌, ◌*◌, ◌<◌, ◌≤◌, ◌==◌, Bool, true, false, List, [], ◌∷◌, ◌++◌, Option, Some, None, Ok, Err, if◌then◌else◌, length, take, drop, min, nat_le, refl, sym, subst, ◌∙◌, ap, arith, length-append, append-nil, append_assoc, take-append-drop, length-drop}
 use Rattle.std.proofs.lemmas.Bool.Decides.{nat_tests}
 use Rattle.std.proofs.lemmas.List.{take-append-le, take_all, length-take-le}
 use Rattle.arrayvec.specs.ArrayVec.{ArrayVec}
@@ -11,10 +11,10 @@ use Rattle.rfb_wire.specs.declared.fault.WireFault.{WireFault}
 use Rattle.rfb_wire.specs.declared.fault.WireFault.TheVariants.{UnknownMessage, UnknownEncoding, RectOutside}
 use Rattle.rfb_wire.specs.Heads.{IsUnknown}
 use Rattle.rfb_wire.specs.ServerHead.{SpellsServerHead, SpellsColourMap, SpellsServerCutText}
-use Rattle.rfb_wire.specs.stream.Reading.{More, Got, Bad, Listed}
+use Rattle.rfb_wire.specs.stream.Reading.{More, Got, Listed}
 use Rattle.rfb_wire.specs.ServerMessage.{Color, ServerMessage, FramebufferUpdate, SetColorMapEntries, Bell, ServerCutText, UnknownType, SpellsColor, SpellsServerMessage, color_of, server_message}
 use Rattle.rfb_wire.specs.stream.Sequel.{First, Second}
-use Rattle.rfb_wire.specs.stream.End.{StepsBy, RefusedBy, RunsOutBy}
+use Rattle.rfb_wire.specs.stream.End.{StepsBy, RunsOutBy}
 use Rattle.rfb_wire.proofs.ServerMessageLaws.{server_message_reads}
 use Rattle.rfb_wire.proofs.WaitLaws.{colors_wait, server_text_waits, server_type_faults}
 use Rattle.rfb_codec.specs.UpdateStream.{UpdatePoint, UpdateItem, Message, InMessage, update_stream}
@@ -23,7 +23,7 @@ use Rattle.rfb_codec.proofs.EffectLaws.{effect_message}
 use Rattle.rfb_hello.specs.KeptText.{KeptText, kept_of}
 use Rattle.rfb_viewer.specs.declared.viewer.Viewer.{Viewer}
 use Rattle.rfb_viewer.specs.declared.viewer.progress.Progress.{Progress}
-use Rattle.rfb_viewer.specs.declared.viewer.progress.Progress.TheVariants.{Head, RectHead, Colours, CutText}
+use Rattle.rfb_viewer.specs.declared.viewer.progress.Progress.TheVariants.{Head, Colours, CutText}
 use Rattle.rfb_viewer.specs.declared.viewer.progress.Request.{Request}
 use Rattle.rfb_viewer.specs.Fault.{fault_of_wire}
 use Rattle.rfb_viewer.specs.ServerBytes.{ServerAt}

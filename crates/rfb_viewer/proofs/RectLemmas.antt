@@ -1,5 +1,5 @@
 -- What a viewer makes of an update's rectangles: their heads and their data.
-use Rattle.std.proofs.Common.{◌≡◌, ℕ, zero, suc, ◌+◌, ◌-◌, ◌<◌, ◌==◌, Bool, true, false, List, [], ◌∷◌, ◌++◌, Option, Some, None, Result, Ok, Err, if◌then◌else◌, not, ◌≤◌, length, take, refl, sym, subst, ◌∙◌, ap, arith, length-append, append-nil, append_assoc}
+use Rattle.std.proofs.Common.{◌≡◌, ℕ, zero, suc, ◌+◌, ◌-◌, ◌<◌, ◌==◌, Bool, true, false, List, [], ◌∷◌, ◌++◌, Option, Some, None, Result, Ok, Err, not, ◌≤◌, length, take, refl, sym, subst, ◌∙◌, ap, arith, append-nil, append_assoc}
 use Rattle.std.proofs.lemmas.List.{length-take-le, take_all}
 use Rattle.rfb_codec.specs.Stage.{encoding_at}
 use Rattle.arrayvec.specs.ArrayVec.{ArrayVec}
@@ -15,19 +15,18 @@ use Rattle.rfb_codec.specs.declared.fault.PaintFault.{PaintFault}
 use Rattle.rfb_codec.specs.UnderWay.{UnderWay, painting, StandsFor as PainterStandsFor, Paints, Waits, Refuses}
 use Rattle.rfb_codec.specs.Painter.{Painting, data_of, painting_of, AwaitsData}
 use Rattle.rfb_codec.specs.Effect.{effect}
-use Rattle.rfb_codec.specs.UpdateStream.{UpdatePoint, UpdateItem, Rectangle, InHead, InData, update_stream}
+use Rattle.rfb_codec.specs.UpdateStream.{UpdatePoint, Rectangle, InHead, InData, update_stream}
 use Rattle.rfb_codec.proofs.UpdateWaitLaws.{past_rectangle, rect_short, head_bad, body_got, body_effect, body_waits, body_bad}
 use Rattle.rfb_codec.proofs.EffectLaws.{effects_picture}
 use Rattle.rfb_viewer.specs.declared.viewer.Viewer.{Viewer}
 use Rattle.rfb_viewer.specs.declared.viewer.progress.Progress.TheVariants.{RectHead, Data}
-use Rattle.rfb_viewer.specs.declared.viewer.progress.Request.{Request}
 use Rattle.rfb_viewer.specs.Fault.{fault_of_wire, fault_of_paint}
 use Rattle.rfb_viewer.specs.ServerBytes.{ServerAt}
 use Rattle.rfb_viewer.specs.declared.fault.ViewerFault.{ViewerFault}
-use Rattle.rfb_viewer.specs.Told.{ViewerTold, is_last}
+use Rattle.rfb_viewer.specs.Told.{ViewerTold}
 use Rattle.rfb_viewer.specs.Viewer.{Viewing, ViewerState, viewer, shows}
 use Rattle.rfb_viewer.specs.Progress.{fault_in, ProgressStandsFor, IsReadyAt, Stores, IsPainting}
-use Rattle.rfb_viewer.specs.Standing.{StandsFor, is_outstanding}
+use Rattle.rfb_viewer.specs.Standing.{StandsFor}
 use Rattle.rfb_viewer.specs.Steps.{progress_past, told_past, request_past}
 use Rattle.rfb_viewer.proofs.StepLemmas.{IsMade, made_stands, ready_same, more_step, got_step, bad_step, past_stands, past_progress, past_request, past_told, one_left}
 use Rattle.rfb_viewer.proofs.MessageLemmas.{here}

@@ -1,5 +1,5 @@
 -- The messages that a viewer sends are what RFC 6143 section 7.5 says of their bytes.
-use Rattle.std.proofs.Common.{◌≡◌, ℕ, ◌<◌, ◌^◌, List, [], ◌∷◌, ◌++◌, length, map, refl, sym, subst, ◌∙◌, ap, arith, append-nil}
+use Rattle.std.proofs.Common.{◌≡◌, ℕ, ◌<◌, ◌^◌, List, [], ◌∷◌, length, map, refl, sym, subst, arith}
 use Rattle.std.proofs.lemmas.List.{length-map}
 use Rattle.std.specs.List.{flat_map}
 use Rattle.byteorder.specs.Numbers.{big_number-reads_back}
@@ -8,12 +8,12 @@ use Rattle.rfb_pixel.specs.Reading.{format_bytes}
 use Rattle.rfb_pixel.proofs.ReadingLemmas.{spells_written, spells-accepted}
 use Rattle.rfb_wire.specs.declared.encoding.Encoding.{Encoding}
 use Rattle.rfb_wire.specs.declared.encoding.Encoding.TheVariants.{Raw, CopyRect, Rre, Hextile}
-use Rattle.rfb_wire.specs.declared.client_head.ClientHead.TheVariants.{SetEncodings}
+use Rattle.rfb_wire.specs.declared.client_head.ClientHead.TheVariants.{SetEncodings, CutText}
 use Rattle.rfb_wire.specs.Encoding.{number_of}
 use Rattle.rfb_wire.specs.ClientHead.{SpellsSetEncodings, client_head_bytes}
-use Rattle.rfb_wire.specs.ClientMessage.{SpellsFormatMessage, SpellsNumber, SpellsEncodingsMessage}
+use Rattle.rfb_wire.specs.ClientMessage.{SpellsFormatMessage, SpellsNumber, SpellsEncodingsMessage, SpellsTextMessage}
 use Rattle.rfb_wire.specs.stream.Reading.{Listed}
-use Rattle.rfb_viewer.specs.Messages.{format_message, encoding_bytes, encodings_message}
+use Rattle.rfb_viewer.specs.Messages.{format_message, encoding_bytes, encodings_message, text_message}
 
 -- SetPixelFormat
 pub format_spelled : (form : PixelFormat) → IsFormat form → SpellsFormatMessage form (format_message form)
@@ -50,3 +50,11 @@ encodings_spelled encodings few =
       head_is = subst (λ (n : ℕ). SpellsSetEncodings n (client_head_bytes (SetEncodings (length encodings)))) (sym count) head;
       listed = numbers_spelled encodings;
     }
+
+-- ClientCutText
+pub text_spelled : (text : List ℕ) → length text < 2 ^ 32 → SpellsTextMessage text (text_message text)
+text_spelled text few = record {
+  head = client_head_bytes (CutText (length text));
+  whole = refl;
+  head_is = record { size = refl; message_type = refl; length_is = big_number-reads_back 4 (length text) [] few };
+}

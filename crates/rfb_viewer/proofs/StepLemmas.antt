@@ -1,11 +1,11 @@
 -- Steps of a viewer behind the handshake: each is by bytes of one item.
-use Rattle.std.proofs.Common.{◌≡◌, ℕ, zero, suc, ◌+◌, ◌-◌, ◌<◌, ◌==◌, Bool, true, false, List, [], ◌++◌, Option, Some, None, Ok, Err, if◌then◌else◌, length, refl, sym, subst, ◌∙◌, ap, arith, append-nil}
+use Rattle.std.proofs.Common.{◌≡◌, ℕ, zero, suc, ◌+◌, ◌==◌, Bool, false, List, [], ◌++◌, Option, Some, None, Ok, Err, if◌then◌else◌, refl, sym, subst, ◌∙◌, ap, arith}
 use Rattle.std.proofs.lemmas.Bool.Decides.{nat_tests}
 use Rattle.rfb_pixel.specs.declared.colour.Colour.{Colour}
 use Rattle.rfb_picture.specs.Grid.{Grid}
 use Rattle.rfb_wire.specs.stream.Reading.{Next, More, Got, Bad}
 use Rattle.rfb_wire.specs.stream.Parts.{named}
-use Rattle.rfb_wire.specs.stream.Sequel.{First, Second, past_in}
+use Rattle.rfb_wire.specs.stream.Sequel.{Second, past_in}
 use Rattle.rfb_wire.specs.stream.End.{Steps, StepsBy}
 use Rattle.rfb_codec.specs.Effect.{effect}
 use Rattle.rfb_codec.specs.UpdateStream.{UpdatePoint, UpdateItem, UpdateFault, update_stream}
@@ -14,14 +14,13 @@ use Rattle.rfb_viewer.specs.declared.fault.ViewerFault.{ViewerFault}
 use Rattle.rfb_viewer.specs.declared.viewer.Viewer.{Viewer}
 use Rattle.rfb_viewer.specs.declared.viewer.progress.Progress.{Progress}
 use Rattle.rfb_viewer.specs.declared.viewer.progress.Request.{Request}
-use Rattle.rfb_viewer.specs.declared.viewer.progress.Request.TheVariants.{Answered}
 use Rattle.rfb_viewer.specs.Fault.{fault_of_update}
 use Rattle.rfb_viewer.specs.ServerBytes.{ServerAt, FromServer, server_two, server_bytes}
-use Rattle.rfb_viewer.specs.Told.{ViewerTold, UpdateDone, is_last, item_told, done_told}
+use Rattle.rfb_viewer.specs.Told.{ViewerTold, is_last, item_told, done_told}
 use Rattle.rfb_viewer.specs.Viewer.{Viewing, ViewerState, viewer, shows, told_at, picture_behind, effect_on, ends_update}
-use Rattle.rfb_viewer.specs.Progress.{ProgressStandsFor, IsReadyAt, Stores}
+use Rattle.rfb_viewer.specs.Progress.{ProgressStandsFor, IsReadyAt}
 use Rattle.rfb_viewer.specs.Standing.{StandsFor, is_outstanding}
-use Rattle.rfb_viewer.specs.Steps.{at_message, progress_past, told_past, request_past}
+use Rattle.rfb_viewer.specs.Steps.{progress_past, told_past, request_past}
 
 -- ---- a viewer that is made of another
 

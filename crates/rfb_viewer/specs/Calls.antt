@@ -1,5 +1,5 @@
 -- Calls on a viewer: which are refused, and what the others change of its state.
-use Rattle.std.specs.Prelude.{ℕ, zero, suc, ◌==◌, ◌&&◌, ◌||◌, nat_lt, not, Bool, true, false, List, [], ◌∷◌, Option, Some, None}
+use Rattle.std.specs.Prelude.{ℕ, zero, suc, ◌==◌, ◌&&◌, ◌||◌, nat_lt, not, Bool, true, false, List, [], ◌∷◌, Option, Some, None, Result, Ok, Err}
 use Rattle.rfb_pixel.specs.Format.{PixelFormat}
 use Rattle.rfb_picture.specs.declared.rect.Rect.{Rect}
 use Rattle.rfb_wire.specs.RectStream.{is_on_screen}
@@ -7,6 +7,8 @@ use Rattle.rfb_wire.specs.stream.Sequel.{First, Second}
 use Rattle.rfb_codec.specs.UpdateStream.{UpdatePoint}
 use Rattle.rfb_viewer.specs.declared.fault.CallFault.{CallFault}
 use Rattle.rfb_viewer.specs.declared.fault.CallFault.TheVariants.{NotReady, Busy, AreaOutside}
+use Rattle.rfb_viewer.specs.declared.fault.TextFault.{TextFault}
+use Rattle.rfb_viewer.specs.declared.fault.TextFault.TheVariants.{NotReady as TextNotReady, NoMemory}
 use Rattle.rfb_viewer.specs.ServerBytes.{ServerAt}
 use Rattle.rfb_viewer.specs.Viewer.{ViewerState}
 
@@ -51,6 +53,19 @@ request_refusal s rect = request_refused s.point s.outstanding rect
 
 abbrev pub format_refusal : ViewerState → List ℕ → Option CallFault
 format_refusal s prefix = format_refused s.point s.outstanding prefix
+
+-- ---- refusals as they are answered
+
+-- what a call was refused with, if it was
+abbrev pub refusal_of : {A : Type 0} → Result A CallFault → Option CallFault
+refusal_of (Ok sent) = None
+refusal_of (Err fault) = Some fault
+
+-- the same of a text: want of memory is no refusal
+abbrev pub text_refusal_of : {A : Type 0} → Result A TextFault → Option CallFault
+text_refusal_of (Ok sent) = None
+text_refusal_of (Err TextNotReady) = Some NotReady
+text_refusal_of (Err NoMemory) = None
 
 -- ---- what a call that is not refused makes of the state
 

@@ -1,11 +1,11 @@
 -- What a viewer makes of bytes that it is fed.
-use Rattle.std.specs.Prelude.{◌≡◌, ◌≢◌, ℕ, List, Option, Ok, Err}
+use Rattle.std.specs.Prelude.{◌≡◌, ◌≢◌, ℕ, List, Option, Ok}
 use Rattle.rfb_wire.specs.stream.End.{FedBy, RefusedBy, RunsOutBy, StepsBy}
 use Rattle.rfb_viewer.specs.declared.fault.ViewerFault.{ViewerFault}
 use Rattle.rfb_viewer.specs.declared.fault.ViewerFault.TheVariants.{NoMemory}
 use Rattle.rfb_viewer.specs.declared.event.ViewerEvent.{ViewerEvent}
 use Rattle.rfb_viewer.specs.declared.viewer.Viewer.{Viewer}
-use Rattle.rfb_viewer.specs.Told.{ViewerTold, seen}
+use Rattle.rfb_viewer.specs.Told.{seen}
 use Rattle.rfb_viewer.specs.Viewer.{Viewing, viewer, AsksMemory}
 use Rattle.rfb_viewer.specs.Standing.{StandsFor}
 

@@ -1,5 +1,5 @@
 -- How far a server's bytes have come in a viewer, and what it holds of the item under way.
-use Rattle.std.specs.Prelude.{◌≡◌, ℕ, ◌+◌, ◌*◌, ◌<◌, ◌&&◌, min, not, Bool, true, false, List, [], ◌∷◌, ◌++◌, length, take, Option, Some, None}
+use Rattle.std.specs.Prelude.{◌≡◌, ℕ, ◌+◌, ◌*◌, ◌<◌, true, false, List, [], ◌∷◌, ◌++◌, length, Option, Some, None}
 use Rattle.rfb_pixel.specs.declared.colour.Colour.{Colour}
 use Rattle.rfb_picture.specs.Grid.{Grid, uniform}
 use Rattle.rfb_wire.specs.declared.rect_head.RectHead.{RectHead}
@@ -11,7 +11,6 @@ use Rattle.rfb_codec.specs.Painter.{painting_of, AwaitsData}
 use Rattle.rfb_codec.specs.UpdateStream.{UpdatePoint, update_stream}
 use Rattle.rfb_hello.specs.KeptText.{KeptText, no_text, kept_of}
 use Rattle.rfb_hello.specs.ServerHandshake.{ServerPoint, AwaitsVersion, AwaitsSecurity, AwaitsResult, AwaitsInit, AwaitsName, Begun}
-use Rattle.rfb_hello.specs.declared.viewer_hello.ViewerHello.{ViewerHello}
 use Rattle.rfb_hello.specs.ViewerStanding.{StandsFor as HelloStandsFor, is_open, reason_of}
 use Rattle.rfb_viewer.specs.declared.fault.ViewerFault.{ViewerFault}
 use Rattle.rfb_viewer.specs.declared.viewer.Viewer.{Viewer}

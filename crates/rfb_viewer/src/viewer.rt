@@ -4,6 +4,7 @@ ghost use Rattle.std.specs.Prelude.{◌≡◌, ◌≢◌, ◌≤◌, ◌<◌, �
 ghost use Rattle.rfb_viewer.specs.Sound.{is_sound};
 
 mod behind;
+mod calls;
 mod greeting;
 mod messages;
 mod progress;

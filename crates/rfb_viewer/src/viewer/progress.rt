@@ -2,6 +2,7 @@
 
 ghost use Rattle.std.specs.Prelude.{◌≡◌};
 ghost use Rattle.rfb_viewer.specs.declared.viewer.progress.Progress.{Progress};
+ghost use Rattle.rfb_viewer.specs.Standing.{is_outstanding};
 
 use crate::fault::ViewerFault;
 use arrayvec::ArrayVec;
@@ -54,6 +55,15 @@ pub(crate) enum Request {
     Answered,
     /// A request was sent, and no update has ended since.
     Outstanding,
+}
+
+impl Request {
+    /// Whether a request was sent, and no update has ended since.
+    pub(crate) fn is_outstanding(self) -> bool
+        ensures { result ≡ is_outstanding self }
+    {
+        matches!(self, Request::Outstanding)
+    }
 }
 
 impl Progress {

@@ -1,4 +1,4 @@
-use Rattle.std.proofs.Common.{◌≡◌, ◌∙◌, ◌<◌, ◌+◌, ◌++◌, ◌∷◌, [], length, ap, lit<, arith, length-append}
+use Rattle.std.proofs.Common.{◌<◌, length, ap, lit<, arith, length-append}
 use Rattle.rfb_viewer.proofs.HeadLemmas.{misses_few}
 use Rattle.rfb_viewer.proofs.gather.read_head.Goals as goal
 

@@ -1,4 +1,4 @@
-use Rattle.std.proofs.Common.{◌≡◌, ◌∙◌, ◌+◌, ◌-◌, ℕ, length, take, List, ap, refl, arith}
+use Rattle.std.proofs.Common.{◌≡◌, ◌+◌, ◌-◌, ℕ, length, take, List, ap, refl, arith}
 use Rattle.std.proofs.lemmas.List.{length-take-le}
 use Rattle.rfb_viewer.specs.declared.viewer.progress.Progress.TheVariants.{Head}
 use Rattle.rfb_viewer.proofs.MessageLemmas.{colours_part, colours_got}

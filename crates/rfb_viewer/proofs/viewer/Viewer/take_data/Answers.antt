@@ -1,11 +1,10 @@
-use Rattle.std.proofs.Common.{◌≡◌, ◌≤◌, ◌∙◌, ℕ, List, true, false, length, take, refl, sym, subst, arith}
+use Rattle.std.proofs.Common.{◌≡◌, ℕ, List, true, false, length, take, refl, sym, subst, arith}
 use Rattle.std.proofs.lemmas.List.{take_all}
 use Rattle.rfb_wire.proofs.stream_laws.FeedLaws.{step_refuses}
 use Rattle.rfb_codec.specs.UnderWay.{Waits}
 use Rattle.rfb_viewer.specs.Fault.{fault_of_paint}
 use Rattle.rfb_viewer.specs.Viewer.{viewer}
 use Rattle.rfb_viewer.specs.Standing.{StandsFor}
-use Rattle.rfb_viewer.proofs.ViewerLaws.{viewer_machine}
 use Rattle.rfb_viewer.proofs.RectLemmas.{paint_more, paint_done, paint_fault, painting_same, not_false, not_true}
 use Rattle.rfb_viewer.proofs.viewer.Viewer.take_data.Goals as goal
 

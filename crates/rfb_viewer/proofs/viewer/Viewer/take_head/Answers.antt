@@ -1,4 +1,4 @@
-use Rattle.std.proofs.Common.{◌≡◌, ◌∙◌, ℕ, List, ◌∷◌, [], ◌++◌, take, slice_index, ap, sym, subst, refl}
+use Rattle.std.proofs.Common.{◌∙◌, ℕ, List, ◌++◌, take, slice_index, ap, sym, subst, refl}
 use Rattle.rfb_wire.specs.Heads.{IsUnknown}
 use Rattle.rfb_wire.specs.ServerHead.{SpellsServerHead}
 use Rattle.rfb_wire.proofs.stream_laws.FeedLaws.{front_refuses}

@@ -1,4 +1,4 @@
-use Rattle.std.proofs.Common.{◌≡◌, ◌≤◌, ◌∙◌, ◌+◌, ◌-◌, ◌++◌, ℕ, List, true, false, None, length, take, drop, refl, sym, subst, ap, arith, take-append-drop}
+use Rattle.std.proofs.Common.{◌≡◌, ◌∙◌, ◌+◌, ◌++◌, ℕ, List, true, false, length, take, drop, refl, sym, subst, ap, arith, take-append-drop}
 use Rattle.std.proofs.lemmas.List.{take_all, take_rest}
 use Rattle.rfb_wire.specs.stream.End.{RefusedBy}
 use Rattle.rfb_wire.proofs.stream_laws.FeedLaws.{take_add, front_refuses, step_refuses}

@@ -1,0 +1,216 @@
+//! Calls of a viewer's owner that become messages, RFC 6143 section 7.5.
+
+ghost use Rattle.std.specs.Prelude.{◌≡◌, ◌≢◌, ◌≤◌, ◌++◌, ℕ, List, length, map, IfOk, IfErr, Err, None};
+ghost use Rattle.rfb_wire.specs.Encoding.{number_of};
+ghost use Rattle.rfb_wire.specs.ClientMessage.{SpellsClientMessage, SetPixelFormat, SetEncodings};
+ghost use Rattle.rfb_wire.specs.ClientMessage.{FramebufferUpdateRequest, KeyEvent, PointerEvent};
+ghost use Rattle.rfb_wire.specs.ClientMessage.{ClientCutText};
+ghost use Rattle.rfb_viewer.specs.declared.fault.CallFault.TheVariants.{NotReady};
+ghost use Rattle.rfb_viewer.specs.declared.fault.TextFault.TheVariants.{NotReady as TextNotReady};
+ghost use Rattle.rfb_viewer.specs.Messages.{format_message, encodings_message, request_message};
+ghost use Rattle.rfb_viewer.specs.Messages.{key_message, pointer_message, text_message};
+ghost use Rattle.rfb_viewer.specs.Sound.{is_ready, is_updating, is_shown};
+ghost use Rattle.rfb_viewer.specs.Viewer.{Viewing, ViewerState};
+
+use crate::fault::{CallFault, TextFault};
+use crate::sending::{append_text, spell_encodings, spell_format};
+use crate::viewer::Viewer;
+use crate::viewer::progress::{Progress, Request};
+use arrayvec::ArrayVec;
+use rfb_picture::Rect;
+use rfb_pixel::Format;
+use rfb_wire::{ClientHead, Encoding};
+
+// The type of FramebufferUpdate, section 7.6.1.
+const FRAMEBUFFER_UPDATE: u8 = 0;
+
+impl Viewer {
+    ghost use Rattle.rfb_viewer.specs.Calls.{call_refusal, request_refusal, format_refusal};
+    ghost use Rattle.rfb_viewer.specs.Calls.{refusal_of, text_refusal_of, requested, formatted};
+    ghost use Rattle.rfb_viewer.specs.Standing.{StandsFor, fault_of, picture_of};
+
+    /// FramebufferUpdateRequest, section 7.5.3: asks for the area, what has changed of it or all of
+    /// it. The request is outstanding until the next `UpdateDone`. `NotReady` before the handshake is
+    /// done and once the viewer has failed; else `Busy` where a request is outstanding; else
+    /// `AreaOutside` where the area has no place or leaves the screen. A refusal changes nothing.
+    pub fn request(&mut self, incremental: bool, rect: Rect) -> Result<[u8; 10], CallFault>
+        // Which message it is.
+        ensures sent { IfOk result (λ bytes. bytes ≡ request_message incremental rect) }
+        ensures spelled { IfOk result (λ bytes.
+            SpellsClientMessage (FramebufferUpdateRequest incremental rect) bytes) }
+
+        // When it is refused, and what it changes.
+        ensures refusal { (viewing : Viewing) (s : ViewerState) (prefix : List ℕ)
+            → StandsFor viewing self.old s prefix
+            → refusal_of result ≡ request_refusal s rect }
+        ensures failed { fault_of self.old ≢ None → result ≡ Err NotReady }
+        ensures stands { IfOk result (λ bytes.
+            (viewing : Viewing) (s : ViewerState) (prefix : List ℕ)
+            → StandsFor viewing self.old s prefix
+            → StandsFor viewing self.new (requested s) prefix) }
+        ensures refused { IfErr result (λ fault. self.new ≡ self.old) }
+        ensures picture { picture_of self.new ≡ picture_of self.old }
+    {
+        if !self.is_ready() {
+            return Err(CallFault::NotReady);
+        }
+        if self.request.is_outstanding() {
+            return Err(CallFault::Busy);
+        }
+        if !self.shows(rect) {
+            return Err(CallFault::AreaOutside);
+        }
+        self.request = Request::Outstanding;
+        Ok(bytes_of(&ClientHead::Request { incremental, rect }.spell()))
+    }
+
+    /// SetPixelFormat, section 7.5.1: asks for updates in this format. The viewer reads the next
+    /// update in it. `NotReady` as for `request`; else `Busy` where a request is outstanding or the
+    /// server's bytes stand inside an update, from its type byte to its last. A refusal changes
+    /// nothing.
+    pub fn set_format(&mut self, format: Format) -> Result<[u8; 20], CallFault>
+        // Which message it is.
+        ensures sent { IfOk result (λ bytes. bytes ≡ format_message format) }
+        ensures spelled { IfOk result (λ bytes.
+            SpellsClientMessage (SetPixelFormat format) bytes) }
+
+        // When it is refused, and what it changes.
+        ensures refusal { (viewing : Viewing) (s : ViewerState) (prefix : List ℕ)
+            → StandsFor viewing self.old s prefix
+            → refusal_of result ≡ format_refusal s prefix }
+        ensures failed { fault_of self.old ≢ None → result ≡ Err NotReady }
+        ensures stands { IfOk result (λ bytes.
+            (viewing : Viewing) (s : ViewerState) (prefix : List ℕ)
+            → StandsFor viewing self.old s prefix
+            → StandsFor viewing self.new (formatted format s) prefix) }
+        ensures refused { IfErr result (λ fault. self.new ≡ self.old) }
+        ensures picture { picture_of self.new ≡ picture_of self.old }
+    {
+        if !self.is_ready() {
+            return Err(CallFault::NotReady);
+        }
+        if self.request.is_outstanding() || self.is_updating() {
+            return Err(CallFault::Busy);
+        }
+        self.format = format;
+        Ok(bytes_of(&spell_format(format)))
+    }
+
+    /// SetEncodings, section 7.5.2: lists the encodings that updates may have, the best first.
+    /// Updates are read in all four, whatever the list. `NotReady` as for `request`.
+    pub fn set_encodings(
+        &self,
+        encodings: ArrayVec<Encoding, 4>,
+    ) -> Result<ArrayVec<u8, 20>, CallFault>
+        ensures sent { IfOk result (λ bytes. bytes.items ≡ encodings_message encodings.items) }
+        ensures spelled { IfOk result (λ bytes. SpellsClientMessage
+            (SetEncodings (map (λ encoding. number_of encoding) encodings.items)) bytes.items) }
+        ensures refusal { (viewing : Viewing) (s : ViewerState) (prefix : List ℕ)
+            → StandsFor viewing self.now s prefix
+            → refusal_of result ≡ call_refusal s }
+        ensures failed { fault_of self.now ≢ None → result ≡ Err NotReady }
+    {
+        if !self.is_ready() {
+            return Err(CallFault::NotReady);
+        }
+        Ok(spell_encodings(encodings.as_slice()))
+    }
+
+    /// KeyEvent, section 7.5.4: a key, by its keysym, was pressed or released. `NotReady` as for
+    /// `request`.
+    pub fn key(&self, down: bool, key: u32) -> Result<[u8; 8], CallFault>
+        ensures sent { IfOk result (λ bytes. bytes ≡ key_message down key) }
+        ensures spelled { IfOk result (λ bytes.
+            SpellsClientMessage (KeyEvent down key) bytes) }
+        ensures refusal { (viewing : Viewing) (s : ViewerState) (prefix : List ℕ)
+            → StandsFor viewing self.now s prefix
+            → refusal_of result ≡ call_refusal s }
+        ensures failed { fault_of self.now ≢ None → result ≡ Err NotReady }
+    {
+        if !self.is_ready() {
+            return Err(CallFault::NotReady);
+        }
+        Ok(bytes_of(&ClientHead::Key { down, key }.spell()))
+    }
+
+    /// PointerEvent, section 7.5.5: where the pointer is, and which buttons are down, a bit each.
+    /// `NotReady` as for `request`.
+    pub fn pointer(&self, buttons: u8, x: u16, y: u16) -> Result<[u8; 6], CallFault>
+        ensures sent { IfOk result (λ bytes. bytes ≡ pointer_message buttons x y) }
+        ensures spelled { IfOk result (λ bytes.
+            SpellsClientMessage (PointerEvent buttons x y) bytes) }
+        ensures refusal { (viewing : Viewing) (s : ViewerState) (prefix : List ℕ)
+            → StandsFor viewing self.now s prefix
+            → refusal_of result ≡ call_refusal s }
+        ensures failed { fault_of self.now ≢ None → result ≡ Err NotReady }
+    {
+        if !self.is_ready() {
+            return Err(CallFault::NotReady);
+        }
+        Ok(bytes_of(&ClientHead::Pointer { buttons, x, y }.spell()))
+    }
+
+    /// ClientCutText, section 7.5.6: appends the message with this text, of at most 1,048,576 bytes,
+    /// to the caller's buffer. `NotReady` as for `request`; else `NoMemory` where the buffer cannot
+    /// grow. Either leaves the buffer as it was.
+    pub fn cut_text(&self, text: &[u8], out: &mut Vec<u8>) -> Result<(), TextFault>
+        requires few { length text.now ≤ 1048576 }
+        ensures sent { IfOk result (λ _. out.new.items ≡ out.old.items ++ text_message text.now) }
+        ensures spelled { IfOk result (λ _.
+            SpellsClientMessage (ClientCutText text.now) (text_message text.now)) }
+        ensures kept { IfErr result (λ _. out.new.items ≡ out.old.items) }
+        ensures refusal { (viewing : Viewing) (s : ViewerState) (prefix : List ℕ)
+            → StandsFor viewing self.now s prefix
+            → text_refusal_of result ≡ call_refusal s }
+        ensures failed { fault_of self.now ≢ None → result ≡ Err TextNotReady }
+    {
+        if !self.is_ready() {
+            return Err(TextFault::NotReady);
+        }
+        match append_text(text, out) {
+            Ok(()) => Ok(()),
+            Err(_) => Err(TextFault::NoMemory),
+        }
+    }
+
+    // Whether messages may be sent: the handshake is done, and the viewer has not failed.
+    fn is_ready(&self) -> bool
+        ensures { result ≡ is_ready self.now.progress }
+    {
+        !matches!(self.progress, Progress::Handshake | Progress::Failed(_))
+    }
+
+    // Whether the server's bytes stand inside an update, from its type byte on.
+    fn is_updating(&self) -> bool
+        ensures { result ≡ is_updating self.now.progress }
+    {
+        match &self.progress {
+            Progress::Head(part) => part.as_slice().first() == Some(&FRAMEBUFFER_UPDATE),
+            Progress::RectHead { .. } | Progress::Data { .. } => true,
+            Progress::Handshake
+            | Progress::Colours { .. }
+            | Progress::CutText { .. }
+            | Progress::Failed(_) => false,
+        }
+    }
+
+    // Whether there is a screen that the area lies on, and the area has a place.
+    fn shows(&self, rect: Rect) -> bool
+        ensures { result ≡ is_shown self.now.picture rect }
+    {
+        match &self.picture {
+            None => false,
+            Some(picture) => rect.w > 0 && rect.h > 0 && picture.holds(rect),
+        }
+    }
+}
+
+// A message of so many bytes.
+fn bytes_of<const SIZE: usize>(message: &ArrayVec<u8, 20>) -> [u8; SIZE]
+    requires { length message.now.items ≡ SIZE }
+    ensures { result ≡ message.now.items }
+{
+    let mut bytes = [0; SIZE];
+    bytes.copy_from_slice(message.as_slice());
+    bytes
+}
