@@ -7,3 +7,4 @@ pub mod GreetLemmas
 pub mod FeedLemmas
 pub mod SendingLaws
 pub mod CallLemmas
+pub mod LendLemmas

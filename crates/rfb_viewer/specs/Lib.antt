@@ -8,4 +8,5 @@ pub mod Sound
 pub mod Progress
 pub mod Standing
 pub mod Steps
+pub mod Showing
 pub mod Feeding

@@ -1,14 +1,17 @@
 -- All that a server sends, RFC 6143 sections 7.1 to 7.6: its handshake, and then its messages, those
 -- of updates with their rectangles.
-use Rattle.std.specs.Prelude.{ℕ, zero, suc, Option, Some, None}
+use Rattle.std.specs.Prelude.{ℕ, zero, suc, ◌==◌, Bool, false, List, [], ◌∷◌, Option, Some, None}
 use Rattle.rfb_pixel.specs.Format.{PixelFormat}
 use Rattle.rfb_wire.specs.stream.Reading.{Says}
 use Rattle.rfb_wire.specs.stream.Grammar.{Grammar}
-use Rattle.rfb_wire.specs.stream.Sequel.{Stage, Two, sequel, sequel_says}
+use Rattle.rfb_wire.specs.stream.Sequel.{Stage, First, Second, Two, sequel, sequel_says}
+use Rattle.rfb_wire.specs.stream.Pending.{pending_in}
 use Rattle.rfb_codec.specs.UpdateStream.{UpdatePoint, UpdateItem, UpdateFault, update_stream, update_says}
+use Rattle.rfb_codec.specs.Pending.{update_pending}
 use Rattle.rfb_hello.specs.declared.fault.HelloFault.{HelloFault}
 use Rattle.rfb_hello.specs.ServerHandshake.{ServerPoint, AwaitsInit, AwaitsName, ServerItem, ServerInit, Name, server_item_says}
 use Rattle.rfb_hello.specs.ServerReading.{server_handshake}
+use Rattle.rfb_hello.specs.Pending.{server_handshake_pending}
 use Rattle.rfb_hello.specs.ViewerEnd.{ViewerSetup}
 use Rattle.rfb_viewer.specs.declared.fault.ViewerFault.{ViewerFault}
 use Rattle.rfb_viewer.specs.Fault.{fault_of_hello, fault_of_update}
@@ -51,3 +54,14 @@ server_bytes form setup = sequel (server_two form setup)
 -- what its bytes say at each point
 abbrev pub server_bytes_say : PixelFormat → ViewerSetup → ServerAt → Says FromServer ViewerFault
 server_bytes_say form setup = sequel_says (server_two form setup) (server_item_says setup.max_places) update_says
+
+-- how many of its bytes are pending: those of the item under way behind its last whole piece
+abbrev pub server_bytes_pending : ServerAt → List ℕ → ℕ
+server_bytes_pending at bytes = pending_in server_handshake_pending update_pending at bytes
+
+-- it stands between two messages: the handshake is done, no update is under way, and nothing came of the
+-- next item
+abbrev pub is_between : ServerAt → List ℕ → Bool
+is_between (First point) bytes = false
+is_between (Second p) [] = p.left == 0
+is_between (Second p) (first ∷ rest) = false

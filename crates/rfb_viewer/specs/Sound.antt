@@ -1,5 +1,5 @@
 -- What holds of each viewer, whatever it stands for.
-use Rattle.std.specs.Prelude.{nat_lt, ◌&&◌, not, Bool, true, false, Option, Some, None}
+use Rattle.std.specs.Prelude.{nat_lt, ◌==◌, ◌&&◌, not, Bool, true, false, length, Option, Some, None}
 use Rattle.rfb_pixel.specs.declared.colour.Colour.{Colour}
 use Rattle.rfb_picture.specs.declared.rect.Rect.{Rect}
 use Rattle.rfb_picture.specs.Grid.{Grid}
@@ -58,3 +58,13 @@ is_updating (Failed fault) = false
 abbrev pub is_shown : Option (Grid Colour) → Rect → Bool
 is_shown None rect = false
 is_shown (Some picture) rect = nat_lt 0 rect.w && nat_lt 0 rect.h && is_on_screen picture.width picture.height rect
+
+-- the bytes end between two messages
+abbrev pub is_idle : Progress → Bool
+is_idle Handshake = false
+is_idle (Head bytes) = length bytes.items == 0
+is_idle (RectHeadPart more head) = false
+is_idle (Data more painter) = false
+is_idle (Colours more) = false
+is_idle (CutText text_length more kept) = false
+is_idle (Failed fault) = false

@@ -7,7 +7,7 @@ use Rattle.rfb_pixel.specs.Format.{PixelFormat}
 use Rattle.rfb_picture.specs.Grid.{Grid}
 use Rattle.rfb_wire.specs.declared.encoding.Encoding.{Encoding}
 use Rattle.rfb_hello.specs.declared.version.Version.{Version}
-use Rattle.rfb_hello.specs.ViewerStanding.{setup_of}
+use Rattle.rfb_hello.specs.ViewerStanding.{setup_of, reason_of as reason_in}
 use Rattle.rfb_viewer.specs.declared.fault.ViewerFault.{ViewerFault}
 use Rattle.rfb_viewer.specs.declared.viewer.Viewer.{Viewer}
 use Rattle.rfb_viewer.specs.declared.viewer.progress.Request.{Request}
@@ -44,3 +44,7 @@ picture_of viewer = viewer.picture
 -- the fault that it has failed with, if it has
 abbrev pub fault_of : Viewer → Option ViewerFault
 fault_of viewer = fault_in viewer.progress
+
+-- what is kept of the reason that the server gave
+abbrev pub reason_of : Viewer → List ℕ
+reason_of viewer = (reason_in viewer.hello).bytes

@@ -6,6 +6,7 @@ ghost use Rattle.rfb_viewer.specs.Sound.{is_sound};
 mod behind;
 mod calls;
 mod greeting;
+mod lending;
 mod messages;
 mod progress;
 mod updates;
