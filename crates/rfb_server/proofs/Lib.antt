@@ -22,3 +22,6 @@ pub mod MessageLemmas
 pub mod ListLemmas
 pub mod CutTextLemmas
 pub mod SliceLemmas
+pub mod CountLemmas
+pub mod CopyingLemmas
+pub mod CopiedLemmas

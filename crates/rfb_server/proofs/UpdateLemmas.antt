@@ -1,5 +1,5 @@
 -- An update that is composed: its head, what it leaves, and where there is none.
-use Rattle.std.proofs.Common.{◌≡◌, ℕ, ◌+◌, ◌-◌, ◌*◌, ◌<◌, ◌&&◌, ◌||◌, not, Bool, true, false, List, [], ◌∷◌, ◌++◌, length, get_or, set, Option, Some, None, refl, sym, subst, ◌∙◌, arith, append_assoc}
+use Rattle.std.proofs.Common.{◌≡◌, ℕ, ◌+◌, ◌-◌, ◌*◌, ◌<◌, ◌&&◌, ◌||◌, not, Bool, true, false, List, [], ◌∷◌, ◌++◌, length, get_or, set, Option, Some, None, refl, sym, subst, ◌∙◌, arith, append_assoc, length-append}
 use Rattle.std.specs.Int.{div_ceil}
 use Rattle.std.proofs.lemmas.List.{set-append_right}
 use Rattle.std.proofs.lemmas.Bool.{both_ways}
@@ -13,15 +13,20 @@ use Rattle.rfb_picture.proofs.GridLemmas.{at-changed, width-changed, height-chan
 use Rattle.rfb_picture.proofs.AreaLemmas.{whole_at-no_places, area-no_places}
 use Rattle.rfb_wire.specs.ServerHead.{SpellsUpdate}
 use Rattle.rfb_wire.specs.stream.Sequel.{Second}
+use Rattle.rfb_codec.specs.Effect.{IsAlike}
 use Rattle.rfb_server.specs.declared.session.Session.{Session}
 use Rattle.rfb_server.specs.Server.{ServerState}
 use Rattle.rfb_server.specs.Request.{wanted, wanted_at, recorded, is_asked, is_whole, differs}
 use Rattle.rfb_server.specs.Marks.{AreAlike, IsCaughtUp}
 use Rattle.rfb_server.specs.Needing.{IsAbout}
-use Rattle.rfb_server.specs.Composing.{Part, IsDue, Composes}
-use Rattle.rfb_server.specs.Sends.{IsKept, Sends, state_of, AppendsCells}
+use Rattle.rfb_server.specs.Composing.{Part, Move, IsDue, Composes}
+use Rattle.rfb_server.specs.Sends.{IsKept, Sends, state_of, AppendsCells, IsEnough}
+use Rattle.rfb_server.specs.Copying.{Copies, AppendsCopies}
 use Rattle.rfb_server.specs.Composed.{is_ready, HasComposed, StaysIdle, IsSettled, IsCounted}
 use Rattle.rfb_server.proofs.NeedingLemmas.{differs_not}
+use Rattle.rfb_server.proofs.SentCells.{kept_then}
+use Rattle.rfb_server.proofs.CopyingLemmas.{copied_due, none_copied}
+use Rattle.rfb_server.proofs.CopiedLemmas.{state_copied}
 use Rattle.rfb_server.proofs.ComposesLemmas.{all_cells, composes}
 
 -- ---- the head
@@ -132,34 +137,7 @@ sends_here screen old mid parts bytes about sends =
     subst (λ (h : ℕ). Sends (div_ceil screen.width 64) (div_ceil screen.width 64 * div_ceil h 64) (state_of screen old) mid.known parts bytes) (sym about.alike.rows)
     (subst (λ (w : ℕ). Sends (div_ceil w 64) (div_ceil w 64 * div_ceil old.known.height 64) (state_of screen old) mid.known parts bytes) (sym about.alike.columns) sends)
 
--- where rectangles were sent the update is done
-pub updated : (screen : Grid Colour) (old mid new : Session) (before after last : List ℕ) (count : ℕ) →
-    IsAbout screen old → IsKept old mid →
-    AppendsCells (div_ceil old.known.width 64) (div_ceil old.known.width 64 * div_ceil old.known.height 64) screen old mid (before ++ (0 ∷ 0 ∷ 0 ∷ 0 ∷ [])) after count →
-    (count ≡ 0 → ⊥) → IsCounted (length before) count after last → IsSettled mid new → is_ready old.progress ≡ true →
-    HasComposed screen old new before last
-updated screen old mid new before after last count about kept cells some counts settled ready =
-    let s : ServerState = state_of screen old in
-    let N : ℕ = div_ceil screen.width 64 * div_ceil screen.height 64 in
-    let sends : Sends (div_ceil screen.width 64) (div_ceil screen.width 64 * div_ceil screen.height 64) s mid.known cells.parts cells.bytes = sends_here screen old mid cells.parts cells.bytes about cells.sent in
-    let whole : after ≡ before ++ (0 ∷ 0 ∷ 0 ∷ 0 ∷ cells.bytes) = cells.appended ∙ append_assoc before (0 ∷ 0 ∷ 0 ∷ 0 ∷ []) cells.bytes in
-    let (head, spelled, is) = counts before cells.bytes refl whole in
-    let head_is : SpellsUpdate (length cells.parts) head = subst (λ (n : ℕ). SpellsUpdate n head) cells.count_is spelled in
-    record {
-      ready = ready;
-      due = sent_due (div_ceil screen.width 64) N s mid.known cells.parts cells.bytes refl (λ none. some (cells.count_is ∙ none)) sends;
-      bytes = head ++ cells.bytes;
-      copies = [];
-      blocks = cells.parts;
-      appended = is;
-      composes = subst (λ (t : ServerState). Composes s t (head ++ cells.bytes) [] cells.parts) (sym (state_settled screen old mid new kept settled))
-          (composes s mid.known cells.parts head cells.bytes old.alike.area_is (old.alike.area_wide ∙ sym about.alike.columns) (old.alike.area_high ∙ sym about.alike.rows) sends head_is);
-      hello = settled.hello ∙ kept.hello;
-      progress = settled.progress ∙ kept.progress;
-      text_limit = settled.text_limit ∙ kept.text_limit;
-    }
-
--- and the session has caught up
+-- behind an update the session has caught up
 pub about_updated : (screen : Grid Colour) (old mid new : Session) (before after : List ℕ) (count : ℕ) →
     IsAbout screen old → IsAbout screen mid → IsKept old mid →
     AppendsCells (div_ceil old.known.width 64) (div_ceil old.known.width 64 * div_ceil old.known.height 64) screen old mid before after count →
@@ -182,28 +160,95 @@ no_parts : (parts : List Part) → length parts ≡ 0 → parts ≡ []
 no_parts [] e = refl
 no_parts (part ∷ parts) e = absurd (omega arith)
 
--- where none was sent nothing has changed
-pub stayed : (screen : Grid Colour) (old mid : Session) (before start after last : List ℕ) (count : ℕ) →
-    IsAbout screen old → IsKept old mid →
-    AppendsCells (div_ceil old.known.width 64) (div_ceil old.known.width 64 * div_ceil old.known.height 64) screen old mid start after count →
-    count ≡ 0 → last ≡ before →
-    StaysIdle screen old mid before last
-stayed screen old mid before start after last count about kept cells none same =
-    let s : ServerState = state_of screen old in
-    let empty : cells.parts ≡ [] = no_parts cells.parts (sym cells.count_is ∙ none) in
-    let sends : Sends (div_ceil screen.width 64) (div_ceil screen.width 64 * div_ceil screen.height 64) s mid.known cells.parts cells.bytes = sends_here screen old mid cells.parts cells.bytes about cells.sent in
-    let sends' : Sends (div_ceil screen.width 64) (div_ceil screen.width 64 * div_ceil screen.height 64) s mid.known [] cells.bytes =
-    subst (λ (parts : List Part). Sends (div_ceil screen.width 64) (div_ceil screen.width 64 * div_ceil screen.height 64) s mid.known parts cells.bytes) empty sends in
-    record {
-      not_due = λ ready. idle_not_due s mid.known cells.bytes sends';
-      appended = same;
-      same = record {
-        hello = kept.hello;
-        progress = kept.progress;
-        text_limit = kept.text_limit;
-        format = kept.format;
-        encodings = kept.encodings;
-        known = sends'.idle refl;
-        area = kept.area;
-      };
-    }
+-- ---- copies, and then cells
+
+-- the room that was enough still is
+pub enough_kept : (old mid : Session) (room : ℕ) → IsKept old mid → IsAlike old.known mid.known →
+    IsEnough old (div_ceil old.known.width 64) (div_ceil old.known.width 64 * div_ceil old.known.height 64) room →
+    IsEnough mid (div_ceil mid.known.width 64) (div_ceil mid.known.width 64 * div_ceil mid.known.height 64) room
+enough_kept old mid room kept alike enough = record {
+  cost = enough.cost;
+  costs = rw (kept.marks, kept.format, ← alike.columns, ← alike.rows) enough.costs;
+  sum_is = rw (← alike.columns, ← alike.rows) enough.sum_is;
+}
+
+module _ (screen : Grid Colour) (old mid sent : Session) (before middle after : List ℕ) (k n : ℕ)
+    (about : IsAbout screen old) (aware : IsAbout screen mid) (kept : IsKept old mid) (kept_on : IsKept mid sent)
+    (copies : AppendsCopies screen old mid (before ++ (0 ∷ 0 ∷ 0 ∷ 0 ∷ [])) middle k)
+    (cells : AppendsCells (div_ceil mid.known.width 64) (div_ceil mid.known.width 64 * div_ceil mid.known.height 64) screen mid sent middle after n) where
+  abbrev s : ServerState
+  s = state_of screen old
+
+  sends : Sends (div_ceil screen.width 64) (div_ceil screen.width 64 * div_ceil screen.height 64) (record (state_of screen old) { known = mid.known }) sent.known cells.parts cells.bytes
+  sends =
+      subst (λ (t : ServerState). Sends (div_ceil screen.width 64) (div_ceil screen.width 64 * div_ceil screen.height 64) t sent.known cells.parts cells.bytes)
+      (state_copied screen old mid kept) (sends_here screen mid sent cells.parts cells.bytes aware cells.sent)
+
+  -- all that was appended
+  pub sent_whole : after ≡ before ++ (0 ∷ 0 ∷ 0 ∷ 0 ∷ (copies.bytes ++ cells.bytes))
+  sent_whole =
+      cells.appended
+      ∙ (rw (copies.appended)
+      (append_assoc (before ++ (0 ∷ 0 ∷ 0 ∷ 0 ∷ [])) copies.bytes cells.bytes ∙ append_assoc before (0 ∷ 0 ∷ 0 ∷ 0 ∷ []) (copies.bytes ++ cells.bytes)))
+
+  -- where nothing was copied, the cells are those of what was known
+  sends_alone : (moves : List Move) → Copies (state_of screen old) moves [] mid.known copies.bytes →
+      Sends (div_ceil screen.width 64) (div_ceil screen.width 64 * div_ceil screen.height 64) (state_of screen old) sent.known cells.parts cells.bytes
+  sends_alone moves taken =
+      subst (λ (g : Grid (Option ℕ)). Sends (div_ceil screen.width 64) (div_ceil screen.width 64 * div_ceil screen.height 64) (record (state_of screen old) { known = g }) sent.known cells.parts cells.bytes)
+      (none_copied (state_of screen old) moves mid.known copies.bytes taken) sends
+
+  due_by : (moves : List Move) (list : List Part) → Copies (state_of screen old) moves list mid.known copies.bytes →
+      (length list + length cells.parts ≡ 0 → ⊥) → IsDue (state_of screen old)
+  due_by moves [] taken some =
+      sent_due (div_ceil screen.width 64) (div_ceil screen.width 64 * div_ceil screen.height 64) (state_of screen old) sent.known cells.parts cells.bytes refl
+      (λ none. some (omega (arith, none))) (sends_alone moves taken)
+  due_by moves (copy ∷ list) taken some = copied_due (state_of screen old) moves (copy ∷ list) mid.known copies.bytes refl (λ none. omega (arith, none)) taken
+
+  -- where rectangles were sent the update is done
+  pub updated : (new : Session) (last : List ℕ) → (k + n ≡ 0 → ⊥) → IsCounted (length before) (k + n) after last →
+      IsSettled sent new → is_ready old.progress ≡ true → HasComposed screen old new before last
+  updated new last some counts settled ready =
+      let (head, spelled, is) = counts before (copies.bytes ++ cells.bytes) refl sent_whole in
+      let total : k + n ≡ length (copies.copies ++ cells.parts) = rw (length-append copies.copies cells.parts) (omega (arith, copies.count_is, cells.count_is)) in
+      let head_is : SpellsUpdate (length (copies.copies ++ cells.parts)) head = subst (λ (m : ℕ). SpellsUpdate m head) total spelled in
+      record {
+        ready = ready;
+        due = due_by copies.moves copies.copies copies.taken (λ none. some (omega (arith, none, copies.count_is, cells.count_is)));
+        bytes = head ++ (copies.bytes ++ cells.bytes);
+        copies = copies.copies;
+        blocks = cells.parts;
+        appended = is;
+        composes = subst (λ (t : ServerState). Composes (state_of screen old) t (head ++ (copies.bytes ++ cells.bytes)) copies.copies cells.parts)
+            (sym (state_settled screen old sent new (kept_then old mid sent kept kept_on) settled))
+            (composes (state_of screen old) copies.moves copies.copies cells.parts mid.known sent.known head copies.bytes cells.bytes
+            old.alike.area_is (old.alike.area_wide ∙ sym about.alike.columns) (old.alike.area_high ∙ sym about.alike.rows) copies.taken sends head_is);
+        hello = settled.hello ∙ (kept_on.hello ∙ kept.hello);
+        progress = settled.progress ∙ (kept_on.progress ∙ kept.progress);
+        text_limit = settled.text_limit ∙ (kept_on.text_limit ∙ kept.text_limit);
+        hints = settled.hints;
+      }
+
+  -- where none was sent nothing has changed
+  pub stayed : (last : List ℕ) → k + n ≡ 0 → last ≡ before → StaysIdle screen old sent before last
+  stayed last none same =
+      let no_copies : copies.copies ≡ [] = no_parts copies.copies (omega (arith, none, copies.count_is)) in
+      let empty : cells.parts ≡ [] = no_parts cells.parts (omega (arith, none, cells.count_is)) in
+      let alone : Copies (state_of screen old) copies.moves [] mid.known copies.bytes =
+      subst (λ (list : List Part). Copies (state_of screen old) copies.moves list mid.known copies.bytes) no_copies copies.taken in
+      let quiet : Sends (div_ceil screen.width 64) (div_ceil screen.width 64 * div_ceil screen.height 64) (state_of screen old) sent.known [] cells.bytes =
+      subst (λ (parts : List Part). Sends (div_ceil screen.width 64) (div_ceil screen.width 64 * div_ceil screen.height 64) (state_of screen old) sent.known parts cells.bytes) empty (sends_alone copies.moves alone) in
+      record {
+        not_due = λ ready. idle_not_due (state_of screen old) sent.known cells.bytes quiet;
+        appended = same;
+        same = record {
+          hello = kept_on.hello ∙ kept.hello;
+          progress = kept_on.progress ∙ kept.progress;
+          text_limit = kept_on.text_limit ∙ kept.text_limit;
+          format = kept_on.format ∙ kept.format;
+          encodings = kept_on.encodings ∙ kept.encodings;
+          known = quiet.idle refl;
+          area = kept_on.area ∙ kept.area;
+        };
+        hints = kept_on.hints ∙ kept.hints;
+      }

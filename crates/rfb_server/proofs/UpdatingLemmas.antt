@@ -118,36 +118,21 @@ updates old new before after e done = record {
       };
 }
 
--- and one whose session stays idle is as it was
+-- a server whose session is the same but for marks and hints is as it was
+pub keeps : (old new : Server) → new.screen ≡ old.screen → IsSame old.session new.session → Keeps old new
+keeps old new e same = record {
+  screen_is = e;
+  fault_is = ap fault_in same.progress;
+  stands = λ serving s prefix stands. stands_same serving old.screen new.screen old.session new.session s prefix e same stands;
+}
+
+-- so is one whose session stays idle
 pub stays : (old new : Server) (before after : List ℕ) → new.screen ≡ old.screen →
     StaysIdle old.screen old.session new.session before after → StaysUnsent old new before after
 stays old new before after e idle = record {
   appended = idle.appended;
-  kept = record {
-    screen_is = e;
-    fault_is = ap fault_in idle.same.progress;
-    stands = λ serving s prefix stands. stands_same serving old.screen new.screen old.session new.session s prefix e idle.same stands;
-  };
+  kept = keeps old new e idle.same;
   not_due = λ serving s prefix stands due.
       let ready = ready_point serving old.session.hello old.session.progress s.point prefix due.ready stands.progress_is in
       idle.not_due ready (subst (λ (t : ServerState). IsDue t) (state_is serving old.screen old.session s prefix ready stands) due);
-}
-
--- so is one whose session is the same
-pub keeps : (old new : Server) → new.screen ≡ old.screen → new.session ≡ old.session → Keeps old new
-keeps old new e same = record {
-  screen_is = e;
-  fault_is = ap (λ (session : Session). fault_in session.progress) same;
-  stands = λ serving s prefix stands.
-      stands_same serving old.screen new.screen old.session new.session s prefix e
-      (record {
-        hello = ap (λ (session : Session). session.hello) same;
-        progress = ap (λ (session : Session). session.progress) same;
-        text_limit = ap (λ (session : Session). session.text_limit) same;
-        format = ap (λ (session : Session). session.format) same;
-        encodings = ap (λ (session : Session). session.encodings) same;
-        known = ap (λ (session : Session). session.known) same;
-        area = ap (λ (session : Session). session.area) same;
-      })
-      stands;
 }

@@ -20,7 +20,7 @@ is_ready (Encodings left number list) = true
 is_ready (CutText text_length left kept) = true
 is_ready (Failed fault) = false
 
--- an update was due and was appended, and the rest of the session is as it was
+-- an update was due and was appended, and no hint is kept; the rest of the session is as it was
 pub record HasComposed (screen : Grid Colour) (old new : Session) (before after : List ℕ) : Type 0 where
   pub ready : is_ready old.progress ≡ true
   pub due : IsDue (state_of screen old)
@@ -32,12 +32,14 @@ pub record HasComposed (screen : Grid Colour) (old new : Session) (before after 
   pub hello : new.hello ≡ old.hello
   pub progress : new.progress ≡ old.progress
   pub text_limit : new.text_limit ≡ old.text_limit
+  pub hints : new.hints.items ≡ []
 
 -- no update was due, and nothing was appended
 pub record StaysIdle (screen : Grid Colour) (old new : Session) (before after : List ℕ) : Type 0 where
   pub not_due : is_ready old.progress ≡ true → IsDue (state_of screen old) → ⊥
   pub appended : after ≡ before
   pub same : IsSame old new
+  pub hints : new.hints ≡ old.hints
 
 -- nothing is asked any more, what was is not marked, and no hint is kept
 pub record IsSettled (old new : Session) : Type 0 where

@@ -17,3 +17,4 @@ pub mod Sends
 pub mod Composed
 pub mod Updating
 pub mod Feeding
+pub mod Copying

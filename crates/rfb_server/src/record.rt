@@ -4,7 +4,7 @@ ghost use Rattle.std.specs.Prelude.{◌≡◌, ◌<◌, None, IfOk};
 
 mod taking;
 
-use rfb_picture::{Area, Picture};
+use rfb_picture::{Area, Picture, Rect};
 use std::alloc::{AllocError, Global};
 use std::marker::Model;
 
@@ -33,8 +33,9 @@ impl Model for Record {
 }
 
 impl Record {
-    ghost use Rattle.rfb_picture.specs.Grid.{IsGrid, at_or, uniform};
-    ghost use Rattle.rfb_server.specs.Record.{forgotten, ShowsKnown, TellsKnown};
+    ghost use Rattle.std.specs.Bool.{OnTrue};
+    ghost use Rattle.rfb_picture.specs.Grid.{IsGrid, Holds, at_or, uniform};
+    ghost use Rattle.rfb_server.specs.Record.{AreKnown, forgotten, ShowsKnown, TellsKnown};
 
     /// A record of a screen of `width` by `height` places, of which none is known. It asks for room
     /// for all its places, in seven pieces; where there is none it gives the error, and nothing is
@@ -78,6 +79,17 @@ impl Record {
         } else {
             None
         }
+    }
+
+    /// Whether each place of the rectangle is known.
+    pub(crate) fn knows(&self, rect: Rect) -> bool
+        requires { Holds self.now rect }
+        ensures { OnTrue result (AreKnown self.now rect) }
+    {
+        if !self.known.asked().has_all(rect) {
+            return false;
+        }
+        true
     }
 
     /// Lends a picture that has each known pixel at its place; elsewhere it says nothing.

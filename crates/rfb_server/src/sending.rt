@@ -7,14 +7,18 @@ ghost use Rattle.rfb_wire.specs.declared.encoding.Encoding.TheVariants.{Raw as R
 ghost use Rattle.rfb_codec.specs.Pixels.{HasPixels, IsSized};
 ghost use Rattle.rfb_codec.specs.Codec.{raw_of};
 ghost use Rattle.rfb_server.specs.Sending.{AppendsIn, SendsRect};
+ghost use Rattle.rfb_server.specs.Copying.{AppendsCopy};
 
-use rfb_codec::{Block, Codec, Hextile, Raw, Rre};
+use rfb_codec::{Block, Codec, Hextile, Raw, Rre, spell_source};
 use rfb_picture::Rect;
 use rfb_pixel::Format;
 use rfb_wire::{Encoding, RectHead};
 
 /// How many bytes the head of a rectangle has, RFC 6143 section 7.6.1.
 pub(crate) const RECT_HEAD_SIZE: usize = 12;
+
+/// How many bytes a rectangle has that is copied: its head and its source.
+pub(crate) const COPY_SIZE: usize = 16;
 
 // Appends a rectangle with the pixels of a block: in that encoding where it is one for pixels and
 // does not give the block up, else in Raw. The room is the caller's: that of its head and its
@@ -85,6 +89,22 @@ fn append_coded<C: Codec>(
     }
     out.truncate(start);
     false
+}
+
+/// Appends a rectangle that the viewer is to copy from the one of its size at (`sx`, `sy`), RFC
+/// 6143 section 7.7.2. The room is the caller's.
+pub(crate) fn append_copy(rect: Rect, sx: u16, sy: u16, out: &mut Vec<u8>)
+    requires { vec_len out.old + 16 ≤ vec_capacity out.old }
+    ensures copied { AppendsCopy rect sx sy out.old.items out.new.items }
+    ensures len { vec_len out.new ≡ vec_len out.old + 16 }
+    ensures room { vec_capacity out.new ≡ vec_capacity out.old }
+{
+    let head = RectHead {
+        rect,
+        encoding: Encoding::CopyRect,
+    };
+    append_within(out, head.spell().as_slice());
+    append_within(out, spell_source(sx, sy).as_slice());
 }
 
 /// Appends bytes for which there is room, so the vector keeps its memory.

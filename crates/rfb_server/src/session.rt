@@ -7,7 +7,9 @@ ghost use Rattle.rfb_server.specs.Progress.{is_partial};
 
 mod asking;
 mod composing;
+mod copying;
 mod feeding;
+mod gaining;
 mod gathering;
 mod greeting;
 mod lists;

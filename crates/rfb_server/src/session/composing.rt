@@ -9,10 +9,12 @@ ghost use Rattle.rfb_codec.specs.Raw.{raw_length};
 ghost use Rattle.rfb_server.specs.Needing.{IsAbout};
 ghost use Rattle.rfb_server.specs.Cells.{IsCell};
 ghost use Rattle.rfb_server.specs.Sends.{IsKept, AppendsPixels, SendsCell, AppendsCells, IsCost, IsEnough};
+ghost use Rattle.rfb_server.specs.Sessions.{IsSame};
+ghost use Rattle.rfb_server.specs.Copying.{usable_hints};
 ghost use Rattle.rfb_server.specs.Composed.{is_ready, HasComposed, StaysIdle, IsSettled, IsCounted};
 
 use crate::cells::{cell_at, cell_count};
-use crate::sending::{RECT_HEAD_SIZE, append_rect, append_within};
+use crate::sending::{COPY_SIZE, RECT_HEAD_SIZE, append_rect, append_within};
 use crate::session::Session;
 use crate::session::progress::Progress;
 use rfb_picture::{Picture, Rect};
@@ -40,13 +42,16 @@ impl Session {
         ensures idle { IfOk result (λ did. did ≡ false →
             StaysIdle screen.now self.old self.new out.old.items out.new.items) }
         ensures kept { OnErr result (out.new.items ≡ out.old.items) }
-        ensures same { OnErr result (self.new ≡ self.old) }
+        ensures same { OnErr result (IsSame self.old self.new) }
+        ensures hints { OnErr result (self.new.hints ≡ self.old.hints) }
         ensures unready { is_ready self.old.progress ≡ false → result ≡ Ok false }
     {
         if !self.is_ready() {
             return Ok(false);
         }
-        out.reserve(UPDATE_HEAD_SIZE + self.room())?;
+        self.mark_hints(screen);
+        let copies = COPY_SIZE * self.usable_hints();
+        out.reserve(UPDATE_HEAD_SIZE + copies + self.room())?;
         Ok(self.update(screen, out))
     }
 
@@ -66,7 +71,7 @@ impl Session {
         requires ready { is_ready self.old.progress ≡ true }
         requires room { (room : ℕ) × IsEnough self.old (div_ceil self.old.known.width 64)
             (div_ceil self.old.known.width 64 * div_ceil self.old.known.height 64) room
-            × (vec_len out.old + 4 + room ≤ vec_capacity out.old) }
+            × (vec_len out.old + 4 + 16 * usable_hints self.old + room ≤ vec_capacity out.old) }
         ensures about { IsAbout screen.now self.new }
         ensures composed { OnTrue result
             (HasComposed screen.now self.old self.new out.old.items out.new.items) }
@@ -75,7 +80,8 @@ impl Session {
     {
         let start = out.len();
         append_within(out, ServerHead::Update(0).spell().as_slice());
-        let count = self.send_cells(screen, out);
+        let copies = self.send_copies(screen, out);
+        let count = copies + self.send_cells(screen, out);
         if count == 0 {
             out.truncate(start);
             return false;

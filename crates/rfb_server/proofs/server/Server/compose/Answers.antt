@@ -1,5 +1,6 @@
-use Rattle.std.proofs.Common.{◌≡◌, refl}
+use Rattle.std.proofs.Common.{refl}
 use Rattle.std.proofs.lemmas.Result.{IfOk-weaker, IfErr-weaker}
+use Rattle.rfb_server.specs.Sessions.{IsSame}
 use Rattle.rfb_server.proofs.UpdatingLemmas.{updates, stays, keeps, failed_unready}
 use Rattle.rfb_server.proofs.server.Server.compose.Goals as goal
 
@@ -13,7 +14,7 @@ returns-clause-idle c =
 
 pub returns-clause-same : goal.returns-clause-same
 returns-clause-same c =
-    IfErr-weaker c.compose.result (λ _. c.compose.new.self ≡ c.args.self.now.session) _ (λ _ same. keeps c.args.self.now _ refl same) c.compose.ensures.same
+    IfErr-weaker c.compose.result (λ _. IsSame c.args.self.now.session c.compose.new.self) _ (λ _ same. keeps c.args.self.now _ refl same) c.compose.ensures.same
 
 pub returns-clause-failed : goal.returns-clause-failed
 returns-clause-failed c = λ some. c.compose.ensures.unready (failed_unready c.args.self.now.session.progress some)

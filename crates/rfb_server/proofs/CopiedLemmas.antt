@@ -1,0 +1,144 @@
+-- A copy more, for the session that tells its viewer of it.
+use Rattle.std.proofs.Common.{◌≡◌, ℕ, ◌+◌, ◌-◌, ◌<◌, Bool, true, false, List, [], ◌∷◌, ◌++◌, length, Option, Some, None, if◌then◌else◌, refl, sym, subst, ◌∙◌, arith, append_assoc, append-nil, length-append}
+use Rattle.std.proofs.lemmas.Bool.{both_ways}
+use mir.Val.{bool_byte}
+use Rattle.rfb_pixel.specs.declared.colour.Colour.{Colour}
+use Rattle.rfb_picture.specs.declared.rect.Rect.{Rect}
+use Rattle.rfb_picture.specs.Rect.{contains}
+use Rattle.rfb_picture.specs.Grid.{Grid, at_or, copied}
+use Rattle.rfb_picture.specs.Box.{is_in}
+use Rattle.rfb_picture.proofs.GridLemmas.{at-changed, width-changed, height-changed, whole-changed}
+use Rattle.rfb_wire.specs.declared.encoding.Encoding.TheVariants.{CopyRect}
+use Rattle.rfb_codec.specs.RectData.{Source}
+use Rattle.rfb_server.specs.declared.session.Session.{Session}
+use Rattle.rfb_server.specs.Encodings.{is_listed}
+use Rattle.rfb_server.specs.Server.{ServerState}
+use Rattle.rfb_server.specs.Request.{wanted_at, is_asked, is_whole}
+use Rattle.rfb_server.specs.Marks.{AreAlike}
+use Rattle.rfb_server.specs.Needing.{IsAbout}
+use Rattle.rfb_server.specs.Sessions.{IsSame, IsMarked}
+use Rattle.rfb_server.specs.Composing.{Part, IsGain}
+use Rattle.rfb_server.specs.Sends.{IsKept, state_of}
+use Rattle.rfb_server.specs.Copying.{IsFree, SendsHint, AppendsCopies, move_of, usable_hints}
+use Rattle.rfb_server.proofs.MarksLemmas.{caught_drawn}
+use Rattle.rfb_server.proofs.CopyingLemmas.{copies_start, copies_more}
+
+-- ---- marks
+
+pub same_then : (a b c : Session) → IsSame a b → IsSame b c → IsSame a c
+same_then a b c one two = record {
+  hello = two.hello ∙ one.hello;
+  progress = two.progress ∙ one.progress;
+  text_limit = two.text_limit ∙ one.text_limit;
+  format = two.format ∙ one.format;
+  encodings = two.encodings ∙ one.encodings;
+  known = two.known ∙ one.known;
+  area = two.area ∙ one.area;
+}
+
+pub same_self : (a : Session) → IsSame a a
+same_self a = record { hello = refl; progress = refl; text_limit = refl; format = refl; encodings = refl; known = refl; area = refl }
+
+-- a session with more marks is about the same screen
+pub about_marked : (screen : Grid Colour) (old new : Session) (rect : Rect) → IsAbout screen old → IsMarked rect old new → IsAbout screen new
+about_marked screen old new rect about marked = record {
+  whole = about.whole;
+  alike = rw (marked.same.known) about.alike;
+  caught_up = rw (marked.same.known, marked.same.area, marked.same.format)
+      (caught_drawn screen screen old.known old.area old.format old.marks new.marks rect old.alike about.alike
+      (record { columns = refl; rows = refl; same = λ x y p q e. refl }) marked.marks about.caught_up);
+}
+
+-- ---- one copy
+
+-- a place that is not marked is not copied to
+pub about_copied : (screen : Grid Colour) (old new : Session) (to : Rect) (sx sy : ℕ) → IsAbout screen old → IsFree old to →
+    IsKept old new → new.known ≡ copied to sx sy old.known → IsAbout screen new
+about_copied screen old new to sx sy about free kept e = record {
+  whole = about.whole;
+  alike = rw e (record { columns = about.alike.columns ∙ sym (width-changed _ old.known); rows = about.alike.rows ∙ sym (height-changed _ old.known) });
+  caught_up = rw (e, kept.area, kept.format, kept.marks) (record { right = right; not_whole = about.caught_up.not_whole });
+}
+  where
+    outside : (x y : ℕ) → (here : Bool) → contains to x y ≡ here → is_in old.marks x y ≡ false → here ≡ false
+    outside x y true c e = absurd (both_ways (is_in old.marks x y) e (free.marked x y c))
+    outside x y false c e = refl
+
+    right : (x y : ℕ) → x < old.marks.width → y < old.marks.height → is_in old.marks x y ≡ false →
+        at_or (copied to sx sy old.known) x y None ≡ Some (wanted_at screen old.format x y)
+    right x y p q e =
+        let out : contains to x y ≡ false = outside x y (contains to x y) refl e in
+        at-changed (λ i j (was : Option ℕ). if contains to i j then at_or old.known (sx + (i - to.x)) (sy + (j - to.y)) was else was) old.known x y None
+        old.alike.known_whole (rw (← old.alike.marks_wide) p) (rw (← old.alike.marks_high) q)
+        ∙ ((rw out refl) ∙ about.caught_up.right x y p q e)
+
+pub alike_copied : (known : Grid (Option ℕ)) (session : Session) (to : Rect) (sx sy : ℕ) → known ≡ copied to sx sy session.known →
+    AreAlike known session.area session.marks
+alike_copied known session to sx sy e =
+    rw e
+    (record {
+      known_whole = whole-changed _ session.known session.alike.known_whole;
+      area_is = session.alike.area_is;
+      marks_whole = session.alike.marks_whole;
+      area_wide = session.alike.area_wide ∙ sym (width-changed _ session.known);
+      area_high = session.alike.area_high ∙ sym (height-changed _ session.known);
+      marks_wide = session.alike.marks_wide ∙ sym (width-changed _ session.known);
+      marks_high = session.alike.marks_high ∙ sym (height-changed _ session.known);
+      columns = rw (width-changed _ session.known) session.alike.columns;
+      rows = rw (height-changed _ session.known) session.alike.rows;
+    })
+
+-- ---- copies one behind another
+
+-- a session that may use hints has a viewer that listed CopyRect
+pub listed_usable : (session : Session) (n : ℕ) → n < usable_hints session → is_listed CopyRect session.encodings ≡ true
+listed_usable session n l = by (is_listed CopyRect session.encodings) l
+  where
+    by : (listed : Bool) → n < (if listed then length session.hints.items else 0) → listed ≡ true
+    by true less = refl
+    by false less = absurd (omega arith)
+
+-- the state behind copies
+pub state_copied : (screen : Grid Colour) (first old : Session) → IsKept first old →
+    state_of screen old ≡ record (state_of screen first) { known = old.known }
+state_copied screen first old kept = rw (kept.area, kept.format, kept.encodings) refl
+
+pub copies_begin : (screen : Grid Colour) (session : Session) (bytes : List ℕ) → AppendsCopies screen session session bytes bytes 0
+copies_begin screen session bytes = record {
+  moves = [];
+  copies = [];
+  bytes = [];
+  appended = sym (append-nil bytes);
+  count_is = refl;
+  taken = copies_start (state_of screen session) session.alike.known_whole;
+}
+
+module _ (screen : Grid Colour) (first old new : Session) (start before after : List ℕ) (count : ℕ)
+    (about : IsAbout screen first) (kept : IsKept first old) (listed : is_listed CopyRect first.encodings ≡ true)
+    (copies : AppendsCopies screen first old start before count) where
+  pub copies_go_on : (did : Bool) → SendsHint did screen old new before after →
+      AppendsCopies screen first new start after (count + bool_byte did)
+  copies_go_on false (known, same) = record {
+    moves = copies.moves;
+    copies = copies.copies;
+    bytes = copies.bytes;
+    appended = same ∙ copies.appended;
+    count_is = omega (arith, copies.count_is);
+    taken = rw known copies.taken;
+  }
+  copies_go_on true (hint, useful, appends, known) =
+      let s : ServerState = state_of screen first in
+      let gain : IsGain (record s { known = old.known }) (move_of hint) =
+      subst (λ (t : ServerState). IsGain t (move_of hint)) (state_copied screen first old kept) useful.gain in
+      let free : (x y : ℕ) → contains hint.to x y ≡ true → (is_asked s x y ≡ true) × (is_whole s x y ≡ false) =
+      λ x y c. (rw (← kept.area) (useful.free.asked x y c), rw (← kept.area) (useful.free.not_whole x y c)) in
+      let part : Part = record { head = record { rect = hint.to; encoding = CopyRect }; contents = Source hint.sx hint.sy; body = appends.copied.body } in
+      record {
+        moves = copies.moves ++ move_of hint ∷ [];
+        copies = copies.copies ++ part ∷ [];
+        bytes = copies.bytes ++ appends.bytes;
+        appended = appends.appended ∙ (rw (copies.appended) (append_assoc start copies.bytes appends.bytes));
+        count_is = rw (length-append copies.copies (part ∷ [])) (omega (arith, copies.count_is));
+        taken = rw known
+            (copies_more s copies.moves copies.copies old.known copies.bytes appends.bytes (move_of hint) about.alike copies.taken gain free listed appends.copied);
+      }

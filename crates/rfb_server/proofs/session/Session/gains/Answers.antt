@@ -1,0 +1,26 @@
+use Rattle.rfb_picture.specs.Grid.{Holds}
+use Rattle.rfb_codec.specs.RectData.{moved_to}
+use Rattle.rfb_server.specs.Sends.{state_of}
+use Rattle.rfb_server.specs.Copying.{move_of}
+use Rattle.rfb_server.proofs.CountLemmas.{gain_is}
+use Rattle.rfb_server.proofs.session.Session.gains.Goals as goal
+
+pub returns : goal.returns
+returns c =
+    let s = c.args.self.now in
+    let hint = c.args.hint in
+    let size = c.requires.alike in
+    let on : Holds c.args.screen.now c.args.hint.to = c.holds.ensures.0 c.if-not-holds.false in
+    let from : Holds c.args.screen.now (moved_to c.args.hint.sx c.args.hint.sy c.args.hint.to) = c.holds-else-not-holds.ensures.0 c.if-not-holds-2.false in
+    let target : Holds s.known c.args.hint.to = (rw (← size.columns) on.0, rw (← size.rows) on.1) in
+    let source : Holds s.known (moved_to c.args.hint.sx c.args.hint.sy c.args.hint.to) = (rw (← size.columns) from.0, rw (← size.rows) from.1) in
+    record {
+      gain = record {
+        on_screen = on;
+        source_on_screen = from;
+        source_known = c.if-not-knows.ensures;
+        more_right = gain_is (state_of c.args.screen.now s) (move_of hint) s.alike.known_whole target source
+            (rw (c.right_from-before.ensures, c.right_from-behind.ensures) at c.if-before-behind.false);
+      };
+      free = c.if-not-is_free.ensures;
+    }

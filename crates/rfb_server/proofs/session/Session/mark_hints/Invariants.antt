@@ -1,0 +1,12 @@
+use Rattle.std.proofs.Common.{◌≡◌}
+use Rattle.rfb_server.specs.Needing.{IsAbout}
+use Rattle.rfb_server.specs.Sessions.{IsSame}
+use Rattle.rfb_server.proofs.session.Session.mark_hints.Given as goal
+
+-- all but marks is as it was
+abbrev pub invariant-loop-index : goal.invariant-loop-index
+invariant-loop-index l = record {
+  about : IsAbout l.screen l.self;
+  same : IsSame l.initial.self l.self;
+  hints : l.self.hints ≡ l.initial.self.hints;
+}

@@ -1,0 +1,36 @@
+use Rattle.std.proofs.Common.{◌≤◌, Bool, true, false, refl, arith, ◌∙◌}
+use mir.Val.{bool_byte}
+use Rattle.rfb_server.proofs.SentCells.{kept_then, kept_same}
+use Rattle.rfb_server.proofs.CopiedLemmas.{copies_begin, copies_go_on, listed_usable}
+use Rattle.rfb_server.proofs.session.Session.send_copies.Goals as goal
+
+at_most : (b : Bool) → bool_byte b ≤ 1
+at_most true = omega arith
+at_most false = omega arith
+
+pub loop-index-init : goal.loop-index-init
+loop-index-init c =
+    let s = c.args.self.now in
+    record {
+      kept = kept_same s;
+      about = c.requires.about;
+      sent = copies_begin c.args.screen.now s c.args.out.now.items;
+      few = omega arith;
+      capacity = refl;
+      space = omega arith;
+    }
+
+pub loop-index-preserved : goal.loop-index-preserved
+loop-index-preserved c =
+    let s = c.args.self.now in
+    let l = c.loop-index in
+    record {
+      kept = kept_then s l.self c.send_hint-sent.new.self l.invariant.kept c.send_hint-sent.ensures.kept;
+      about = c.send_hint-sent.ensures.about;
+      sent = rw (c.from-count.ensures)
+          (copies_go_on c.args.screen.now s l.self c.send_hint-sent.new.self c.args.out.now.items l.out.items c.send_hint-sent.new.out.items l.count
+          c.requires.about l.invariant.kept (listed_usable s l.index (omega (arith, c.usable_hints-index-end.ensures.value))) l.invariant.sent c.send_hint-sent.result c.send_hint-sent.ensures.sent);
+      few = rw (c.from-count.ensures) (omega (arith, at_most c.send_hint-sent.result, l.invariant.few));
+      capacity = c.send_hint-sent.ensures.room ∙ l.invariant.capacity;
+      space = omega (arith, c.send_hint-sent.ensures.len, l.invariant.space);
+    }

@@ -1,0 +1,17 @@
+use Rattle.std.proofs.Common.{◌≡◌, ◌≤◌, ◌*◌, ◌+◌, vec_len}
+use Rattle.std.specs.Vec.{vec_capacity}
+use Rattle.rfb_server.specs.Needing.{IsAbout}
+use Rattle.rfb_server.specs.Sends.{IsKept}
+use Rattle.rfb_server.specs.Copying.{AppendsCopies}
+use Rattle.rfb_server.proofs.session.Session.send_copies.Given as goal
+
+-- the copies so far were sent, and there is room for the others
+abbrev pub invariant-loop-index : goal.invariant-loop-index
+invariant-loop-index l = record {
+  kept : IsKept l.initial.self l.self;
+  about : IsAbout l.screen l.self;
+  sent : AppendsCopies l.screen l.initial.self l.self l.initial.out.items l.out.items l.count;
+  few : l.count ≤ l.index;
+  capacity : vec_capacity l.out ≡ vec_capacity l.initial.out;
+  space : vec_len l.out ≤ vec_len l.initial.out + 16 * l.index;
+}

@@ -1,0 +1,114 @@
+//! Rectangles that the viewer is told to copy, by the hints of the screen's owner.
+
+ghost use Rattle.std.specs.Prelude.{◌≡◌, ◌+◌, ◌*◌, ◌≤◌, vec_len};
+ghost use Rattle.std.specs.Vec.{vec_capacity};
+ghost use Rattle.rfb_server.specs.Needing.{IsAbout};
+ghost use Rattle.rfb_server.specs.Sessions.{IsSame};
+ghost use Rattle.rfb_server.specs.Sends.{IsKept};
+ghost use Rattle.rfb_server.specs.Copying.{SendsHint, AppendsCopies, usable_hints};
+
+use crate::hint::Hint;
+use crate::sending::append_copy;
+use crate::session::Session;
+use rfb_picture::Picture;
+use rfb_pixel::Colour;
+use rfb_wire::Encoding;
+
+impl Session {
+    /// How many of the hints may be used: all, where the viewer listed CopyRect.
+    pub(crate) fn usable_hints(&self) -> usize
+        ensures value { result ≡ usable_hints self.now }
+        ensures few { result ≤ 16 }
+    {
+        if !self.encodings.has(Encoding::CopyRect) {
+            return 0;
+        }
+        self.hints.len()
+    }
+
+    /// Marks where the viewer may be told to copy to, since its picture changes there. That may
+    /// mark a place that the viewer has already, and costs a look at it.
+    pub(crate) fn mark_hints(&mut self, screen: &Picture<Colour>)
+        requires { IsAbout screen.now self.old }
+        ensures about { IsAbout screen.now self.new }
+        ensures same { IsSame self.old self.new }
+        ensures hints { self.new.hints ≡ self.old.hints }
+    {
+        for index in 0..self.usable_hints() {
+            self.mark_hint(screen, index);
+        }
+    }
+
+    // Marks it for the hint of that number.
+    fn mark_hint(&mut self, screen: &Picture<Colour>, index: usize)
+        requires { IsAbout screen.now self.old }
+        ensures about { IsAbout screen.now self.new }
+        ensures same { IsSame self.old self.new }
+        ensures hints { self.new.hints ≡ self.old.hints }
+    {
+        if let Some(hint) = self.hints.get(index) {
+            let to = hint.to;
+            if screen.holds(to) {
+                self.drawn(to);
+            }
+        }
+    }
+
+    /// Tells the viewer to copy by each hint that is of use, the oldest first, and tells how many
+    /// rectangles that makes. There is room for them.
+    pub(crate) fn send_copies(&mut self, screen: &Picture<Colour>, out: &mut Vec<u8>) -> u16
+        requires about { IsAbout screen.now self.old }
+        requires room { vec_len out.old + 16 * usable_hints self.old ≤ vec_capacity out.old }
+        ensures kept { IsKept self.old self.new }
+        ensures about { IsAbout screen.now self.new }
+        ensures sent { AppendsCopies screen.now self.old self.new
+            out.old.items out.new.items result }
+        ensures few { result ≤ 16 }
+        ensures len { vec_len out.new ≤ vec_len out.old + 16 * usable_hints self.old }
+        ensures room { vec_capacity out.new ≡ vec_capacity out.old }
+    {
+        let mut count = 0;
+        for index in 0..self.usable_hints() {
+            let sent = self.send_hint(screen, index, out);
+            count += u16::from(sent);
+        }
+        count
+    }
+
+    // Tells the viewer to copy by the hint of that number, if that is of use. There is room for it.
+    fn send_hint(&mut self, screen: &Picture<Colour>, index: usize, out: &mut Vec<u8>) -> bool
+        requires about { IsAbout screen.now self.old }
+        requires room { vec_len out.old + 16 ≤ vec_capacity out.old }
+        ensures kept { IsKept self.old self.new }
+        ensures about { IsAbout screen.now self.new }
+        ensures sent { SendsHint result screen.now self.old self.new out.old.items out.new.items }
+        ensures len { vec_len out.new ≤ vec_len out.old + 16 }
+        ensures room { vec_capacity out.new ≡ vec_capacity out.old }
+    {
+        match self.hints.get(index) {
+            None => false,
+            Some(hint) => {
+                let hint = *hint;
+                self.send_copy(screen, hint, out)
+            }
+        }
+    }
+
+    // The same for a hint.
+    fn send_copy(&mut self, screen: &Picture<Colour>, hint: Hint, out: &mut Vec<u8>) -> bool
+        requires about { IsAbout screen.now self.old }
+        requires room { vec_len out.old + 16 ≤ vec_capacity out.old }
+        ensures kept { IsKept self.old self.new }
+        ensures about { IsAbout screen.now self.new }
+        ensures sent { SendsHint result screen.now self.old self.new out.old.items out.new.items }
+        ensures len { vec_len out.new ≤ vec_len out.old + 16 }
+        ensures room { vec_capacity out.new ≡ vec_capacity out.old }
+    {
+        if !self.gains(screen, hint) {
+            return false;
+        }
+        append_copy(hint.to, hint.sx, hint.sy, out);
+        self.known.copy(hint.to, hint.sx, hint.sy);
+        true
+    }
+}
