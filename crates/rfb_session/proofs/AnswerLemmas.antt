@@ -1,14 +1,10 @@
 -- What each end answers, as bytes, is read by the other as the answers' items, behind all that is
 -- in flight to it.
-use Rattle.std.proofs.Common.{◌≡◌, ℕ, ◌==◌, Bool, true, false, List, [], ◌∷◌, ◌++◌, map, length, Option, Some, None, refl, sym, ap, ◌∙◌, subst, append-nil}
-use Rattle.rfb_picture.specs.Grid.{Grid}
-use Rattle.rfb_pixel.specs.declared.colour.Colour.{Colour}
+use Rattle.std.proofs.Common.{◌≡◌, ℕ, ◌==◌, Bool, true, false, List, [], ◌∷◌, map, length, refl, sym, ap, ◌∙◌, subst}
 use Rattle.rfb_wire.specs.stream.Sequel.{First, Second, StaysFirst}
-use Rattle.rfb_wire.specs.stream.Grammar.{Grammar, IsGrammar, ReadsAll, past_all}
-use Rattle.rfb_wire.specs.stream.End.{EndsWith, acts}
-use Rattle.rfb_wire.proofs.stream_laws.GrammarLaws.{some_byte}
+use Rattle.rfb_wire.specs.stream.Grammar.{Grammar, ReadsAll, past_all}
 use Rattle.rfb_wire.proofs.stream_laws.SequelLaws.{all_first, all_second}
-use Rattle.rfb_wire.specs.ClientMessage.{ClientMessage, SetPixelFormat, SetEncodings, FramebufferUpdateRequest, KeyEvent, PointerEvent, ClientCutText}
+use Rattle.rfb_wire.specs.ClientMessage.{SetPixelFormat, SetEncodings, FramebufferUpdateRequest, KeyEvent, PointerEvent, ClientCutText}
 use Rattle.rfb_wire.specs.Encoding.{number_of}
 use Rattle.rfb_wire.specs.ServerMessage.{FramebufferUpdate, SetColorMapEntries, Bell, ServerCutText}
 use Rattle.rfb_codec.specs.UpdateStream.{UpdatePoint, UpdateItem, Message, Rectangle}
@@ -17,20 +13,19 @@ use Rattle.rfb_hello.specs.declared.version.Version.TheVariants.{V33, V37, V38}
 use Rattle.rfb_hello.specs.Version.{lower}
 use Rattle.rfb_hello.specs.ClientHandshake.{AwaitsVersion as AwaitsClientVersion, AwaitsChoice, AwaitsInit as AwaitsClientInit, ClientItem, ProtocolVersion as ClientVersion, SecurityType, ClientInit, behind_version}
 use Rattle.rfb_hello.specs.ServerHandshake.{ServerPoint, AwaitsVersion, AwaitsSecurity, AwaitsResult, AwaitsInit, AwaitsName, ServerItem, ProtocolVersion, SecurityNone, SecurityTypes, SecurityResult, ServerInit, Name}
-use Rattle.rfb_hello.specs.ServerEnd.{server_init_bytes, security_bytes}
 use Rattle.rfb_hello.specs.ServerAnswers.{types_asked, init_asked, name_asked}
 use Rattle.rfb_hello.proofs.AnswerLaws.{types_read, result_read, init_read}
 use Rattle.rfb_hello.proofs.ViewerAnswerLaws.{greeting_answered, none_answered, types_answered, result_answered}
 use Rattle.rfb_server.specs.ClientBytes.{ClientAt, FromClient, client_two, client_bytes}
-use Rattle.rfb_server.specs.Server.{item_told, server_tells}
+use Rattle.rfb_server.specs.Server.{item_told}
 use Rattle.rfb_server.specs.declared.fault.ServerFault.{ServerFault}
 use Rattle.rfb_viewer.specs.declared.fault.ViewerFault.{ViewerFault}
 use Rattle.rfb_viewer.specs.Messages.{ready_bytes}
 use Rattle.rfb_viewer.specs.ServerBytes.{ServerAt, FromServer, server_two, server_bytes}
 use Rattle.rfb_viewer.specs.Told.{item_told as update_told, done_told}
-use Rattle.rfb_viewer.specs.Viewer.{Viewing, viewer_tells, told_at}
-use Rattle.rfb_session.specs.Link.{Ends, server_of}
-use Rattle.rfb_session.specs.Answers.{ready_messages, answers_to_step, viewer_answers, server_answers}
+use Rattle.rfb_viewer.specs.Viewer.{told_at}
+use Rattle.rfb_session.specs.Link.{Ends}
+use Rattle.rfb_session.specs.Answers.{ready_messages, viewer_answers, server_answers}
 use Rattle.rfb_session.specs.InFlight.{AreMade, viewer_reply, server_reply}
 use Rattle.rfb_session.proofs.PhaseLemmas.{Core, Stands, Phase, Greeting, Versioned, Typed, Choosing37, Choosing38, Chosen, Sharing, Begun, Named, Idling, Asking, Held, Sent, first_is, none_first}
 use Rattle.rfb_session.proofs.ReadyLemmas.{ready_read}

@@ -1,25 +1,25 @@
 -- Calls of the viewer keep what holds of a link.
-use Rattle.std.proofs.Common.{◌≡◌, ℕ, Bool, true, false, ◌||◌, not, List, [], ◌∷◌, ◌++◌, map, Option, Some, None, refl, sym, ap, ◌∙◌, subst}
+use Rattle.std.proofs.Common.{◌≡◌, ℕ, Bool, true, List, [], ◌∷◌, ◌++◌, Option, Some, None, refl, sym, ap, ◌∙◌, subst}
 use Rattle.rfb_pixel.specs.declared.colour.Colour.{Colour}
 use Rattle.rfb_pixel.specs.Format.{PixelFormat}
 use Rattle.rfb_picture.specs.declared.rect.Rect.{Rect}
 use Rattle.rfb_picture.specs.Grid.{Grid}
 use Rattle.rfb_wire.specs.stream.Sequel.{First, Second}
 use Rattle.rfb_wire.specs.stream.End.{acts}
-use Rattle.rfb_wire.specs.ClientMessage.{ClientMessage, SetPixelFormat, SetEncodings, FramebufferUpdateRequest, KeyEvent, PointerEvent, ClientCutText}
+use Rattle.rfb_wire.specs.ClientMessage.{ClientMessage, SetPixelFormat, FramebufferUpdateRequest}
 use Rattle.rfb_codec.specs.UpdateStream.{UpdatePoint}
 use Rattle.rfb_hello.specs.ServerHandshake.{ServerPoint}
 use Rattle.rfb_viewer.specs.declared.fault.CallFault.{CallFault}
-use Rattle.rfb_viewer.specs.declared.fault.CallFault.TheVariants.{NotReady, Busy, AreaOutside}
+use Rattle.rfb_viewer.specs.declared.fault.CallFault.TheVariants.{NotReady, Busy}
 use Rattle.rfb_viewer.specs.ServerBytes.{ServerAt, FromServer}
 use Rattle.rfb_viewer.specs.Viewer.{ViewerState, viewer}
-use Rattle.rfb_viewer.specs.Calls.{refusal_if, is_inside, call_refused, request_refused, format_refused, call_refusal, request_refusal, format_refusal, requested, with_format, formatted, is_requestable}
+use Rattle.rfb_viewer.specs.Calls.{call_refused, request_refused, format_refused, call_refusal, request_refusal, format_refusal, requested, with_format, formatted}
 use Rattle.rfb_server.specs.ClientBytes.{FromClient}
 use Rattle.rfb_session.specs.Link.{Ends, Link}
 use Rattle.rfb_session.specs.Headline.{ShowsKnown, ShowsLatest}
-use Rattle.rfb_session.specs.LinkSteps.{begun, calls}
-use Rattle.rfb_session.proofs.QueueLemmas.{IsMere, AreMere, IsLater, AreLater, AskOnce, form_past, form_behind, form_append, mere_form, mere_later, mere_more, later_more, ask_more, asks_now}
-use Rattle.rfb_session.proofs.PhaseLemmas.{Core, core, Stands, Meets, Idles, Asks, Awaits, Sends, Phase, Greeting, Versioned, Typed, Choosing37, Choosing38, Chosen, Sharing, Begun, Named, Idling, Asking, Held, Sent, meets_as}
+use Rattle.rfb_session.specs.LinkSteps.{calls}
+use Rattle.rfb_session.proofs.QueueLemmas.{IsMere, form_behind, form_append, mere_form, mere_later, mere_more, later_more, ask_more, asks_now}
+use Rattle.rfb_session.proofs.PhaseLemmas.{Core, core, Phase, Greeting, Versioned, Typed, Choosing37, Choosing38, Chosen, Sharing, Begun, Named, Idling, Asking, Held, Sent, meets_as}
 use Rattle.rfb_session.proofs.HoldsLemmas.{Holds, due}
 
 -- a message joins those in flight to the server

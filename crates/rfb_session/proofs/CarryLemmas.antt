@@ -1,5 +1,5 @@
 -- What two ends stand for goes on as they are fed what is in flight between them.
-use Rattle.std.proofs.Common.{◌≡◌, ℕ, List, ◌++◌, length, Option, refl, sym, subst}
+use Rattle.std.proofs.Common.{ℕ, List, ◌++◌, length, Option, refl, sym, subst}
 use Rattle.rfb_pixel.specs.declared.colour.Colour.{Colour}
 use Rattle.rfb_picture.specs.Grid.{Grid}
 use Rattle.rfb_wire.specs.stream.End.{FedBy, RefusedBy}

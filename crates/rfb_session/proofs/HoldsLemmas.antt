@@ -1,13 +1,13 @@
 -- What holds of a link at all times, and that each step of it keeps that.
-use Rattle.std.proofs.Common.{◌≡◌, ℕ, Bool, true, false, ◌&&◌, List, [], ◌∷◌, ◌++◌, map, length, Option, Some, None, ◌⊎◌, inl, inr, refl, sym, ap, ◌∙◌, subst, append-nil, append_assoc}
+use Rattle.std.proofs.Common.{◌≡◌, ℕ, false, List, [], ◌∷◌, ◌++◌, map, Option, Some, None, ◌⊎◌, inl, inr, refl, sym, ap, ◌∙◌, subst, append-nil, append_assoc}
 use Rattle.rfb_pixel.specs.declared.colour.Colour.{Colour}
 use Rattle.rfb_pixel.specs.Format.{PixelFormat}
-use Rattle.rfb_picture.specs.Grid.{Grid, IsGrid, at_or}
+use Rattle.rfb_picture.specs.Grid.{Grid, at_or}
 use Rattle.rfb_picture.specs.Area.{Places}
 use Rattle.rfb_picture.proofs.GridLemmas.{width-uniform, height-uniform}
 use Rattle.rfb_wire.specs.stream.Sequel.{First, Second, past_in}
 use Rattle.rfb_wire.specs.stream.End.{acts}
-use Rattle.rfb_wire.specs.ClientMessage.{ClientMessage, SetPixelFormat, SetEncodings, FramebufferUpdateRequest, KeyEvent, PointerEvent, ClientCutText}
+use Rattle.rfb_wire.specs.ClientMessage.{SetPixelFormat, SetEncodings, FramebufferUpdateRequest, KeyEvent, PointerEvent, ClientCutText}
 use Rattle.rfb_codec.specs.UpdateStream.{UpdatePoint, UpdateItem, left_behind, update_stream}
 use Rattle.rfb_codec.specs.Effect.{effect, effects, IsAlike, Agrees}
 use Rattle.rfb_codec.specs.WholeUpdate.{update_of}
@@ -24,7 +24,7 @@ use Rattle.rfb_session.specs.Answers.{viewer_answers, viewer_replies, server_ans
 use Rattle.rfb_session.specs.Headline.{IsUnknown, ShowsKnown, ShowsLatest}
 use Rattle.rfb_session.specs.LinkSteps.{ComposesOn, MovesToViewer, MovesToServer}
 use Rattle.rfb_session.proofs.QueueLemmas.{IsRest, update_rest, forgotten_unknown, IsUnasked, none_unasked}
-use Rattle.rfb_session.proofs.PhaseLemmas.{Core, core, HasPicture, Stands, Meets, Idles, Asks, Awaits, Sends, Phase, Greeting, Versioned, Typed, Choosing37, Choosing38, Chosen, Sharing, Begun, Named, Idling, Asking, Held, Sent, shown, phase_shown, meets_as}
+use Rattle.rfb_session.proofs.PhaseLemmas.{Core, core, Meets, Awaits, Phase, Greeting, Versioned, Typed, Choosing37, Choosing38, Chosen, Sharing, Begun, Named, Idling, Asking, Held, Sent, shown, phase_shown, meets_as}
 use Rattle.rfb_session.proofs.ServedLemmas.{served, phase_served, no_answer}
 
 -- what the viewer shows once all that is in flight has reached it

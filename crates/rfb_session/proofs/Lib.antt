@@ -11,3 +11,12 @@ pub mod SentLemmas
 pub mod MoveLemmas
 pub mod ToldLemmas
 pub mod CarryLemmas
+pub mod WorldLemmas
+pub mod ChannelLemmas
+pub mod DrawnLemmas
+pub mod ComposedLemmas
+pub mod CalledLemmas
+pub mod EndFacts
+pub mod RunLemmas
+pub mod PlayedLemmas
+pub mod ShownLemmas

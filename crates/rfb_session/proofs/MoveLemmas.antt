@@ -1,6 +1,6 @@
 -- Deliveries of some bytes and of some more are one of all of them; and how many bytes are in
 -- flight.
-use Rattle.std.proofs.Common.{◌≡◌, ℕ, ◌+◌, ◌-◌, Bool, List, [], ◌∷◌, ◌++◌, length, Option, Some, None, refl, sym, ap, ◌∙◌, subst, append_assoc, length-append, arith}
+use Rattle.std.proofs.Common.{◌≡◌, ℕ, ◌+◌, ◌-◌, Bool, List, [], ◌∷◌, ◌++◌, length, None, refl, sym, ap, ◌∙◌, append_assoc, length-append, arith}
 use Rattle.rfb_pixel.specs.declared.colour.Colour.{Colour}
 use Rattle.rfb_pixel.specs.Format.{PixelFormat}
 use Rattle.rfb_picture.specs.Grid.{Grid}
@@ -14,13 +14,11 @@ use Rattle.rfb_codec.specs.UpdateStream.{UpdatePoint}
 use Rattle.rfb_server.specs.ClientBytes.{FromClient}
 use Rattle.rfb_server.specs.Server.{Serving, ServerState, serves, server}
 use Rattle.rfb_server.proofs.ServerLaws.{client_bytes_laws}
-use Rattle.rfb_viewer.specs.declared.fault.CallFault.{CallFault}
-use Rattle.rfb_viewer.specs.declared.fault.CallFault.TheVariants.{NotReady}
 use Rattle.rfb_viewer.specs.ServerBytes.{ServerAt, FromServer}
 use Rattle.rfb_viewer.specs.Viewer.{Viewing, ViewerState, viewer, shows}
 use Rattle.rfb_viewer.specs.Calls.{format_refused, format_refusal, with_format, formatted}
 use Rattle.rfb_viewer.proofs.ViewerLaws.{server_bytes_laws}
-use Rattle.rfb_session.specs.Link.{Ends, SessionState, server_of, session_of, Link}
+use Rattle.rfb_session.specs.Link.{Ends, server_of, session_of, Link}
 use Rattle.rfb_session.specs.Answers.{viewer_answers, viewer_replies, server_answers, server_replies}
 use Rattle.rfb_session.specs.LinkSteps.{calls, flight_to_viewer, flight_to_server, MovesToViewer, MovesToServer}
 use Rattle.rfb_session.specs.InFlight.{Flight, Flies}

@@ -1,5 +1,5 @@
 -- Every step of a world keeps what holds of its link; so it holds of all that is reached.
-use Rattle.std.proofs.Common.{◌≡◌, ℕ, List, [], ◌∷◌, map, Option, Some, None, ◌⊎◌, inl, inr, refl, sym, ap, ◌∙◌, subst}
+use Rattle.std.proofs.Common.{◌≡◌, ℕ, List, [], ◌∷◌, map, None, inl, inr, refl, sym, ap, ◌∙◌, subst}
 use Rattle.rfb_pixel.specs.declared.colour.Colour.{Colour}
 use Rattle.rfb_picture.specs.Grid.{Grid, changed}
 use Rattle.rfb_picture.proofs.GridLemmas.{width-changed, height-changed, width-uniform, height-uniform}
@@ -14,7 +14,7 @@ use Rattle.rfb_session.specs.declared.event.Event.TheVariants.{Fill, Put, Copy, 
 use Rattle.rfb_session.specs.Link.{Ends, Link, first_link}
 use Rattle.rfb_session.specs.LinkSteps.{LinkEvent, Request as OfRequest, SetFormat as OfFormat, SetEncodings as OfEncodings, Key as OfKey, Pointer as OfPointer, CutText as OfText, Compose as OfComposing, ToServer as OfServer, ToViewer as OfViewer, LinkSteps, begun}
 use Rattle.rfb_session.specs.Headline.{IsHeadline}
-use Rattle.rfb_session.specs.Network.{Network, Draws, OnLink, Steps, StepsAll, IsFirst, IsReached}
+use Rattle.rfb_session.specs.Network.{Network, Draws, OnLink, Steps, StepsAll, IsReached}
 use Rattle.rfb_session.proofs.QueueLemmas.{uniform_at, none_unasked}
 use Rattle.rfb_session.proofs.PhaseLemmas.{Core, core, Phase, Greeting, Versioned, Typed, Choosing37, Choosing38, Chosen, Sharing, Begun, Named, Idling, Asking, Held, Sent}
 use Rattle.rfb_session.proofs.HoldsLemmas.{Holds, holds_composed, holds_to_viewer, holds_to_server}

@@ -1,15 +1,14 @@
 -- What a viewer sends at the end of the handshake is read as a format and a list of encodings.
-use Rattle.std.proofs.Common.{◌≡◌, ℕ, suc, ◌+◌, ◌*◌, ◌<◌, ◌^◌, ℤ, List, [], ◌∷◌, ◌++◌, map, length, drop, Some, None, refl, sym, ap, ◌∙◌, subst, arith, append-nil, length-append}
-use Rattle.std.specs.Int.{cast_unsigned, cast_signed, w32}
+use Rattle.std.proofs.Common.{◌≡◌, ℕ, suc, ◌<◌, ◌^◌, List, [], ◌∷◌, ◌++◌, map, length, refl, sym, ap, ◌∙◌, subst, arith, append-nil}
+use Rattle.std.specs.Int.{cast_unsigned, w32}
 use Rattle.byteorder.specs.Endian.{big_bytes, big_number}
 use Rattle.byteorder.specs.Numbers.{big_number-reads_back}
 use Rattle.rfb_pixel.specs.Format.{PixelFormat, IsFormat}
-use Rattle.rfb_pixel.specs.Reading.{Spells, format_bytes, first_fault}
+use Rattle.rfb_pixel.specs.Reading.{format_bytes}
 use Rattle.rfb_pixel.proofs.ReadingLemmas.{spells_written, spells-accepted}
 use Rattle.rfb_wire.specs.declared.encoding.Encoding.{Encoding}
 use Rattle.rfb_wire.specs.declared.encoding.Encoding.TheVariants.{Raw, CopyRect, Rre, Hextile}
 use Rattle.rfb_wire.specs.Encoding.{number_of}
-use Rattle.rfb_wire.specs.ClientHead.{SpellsSetPixelFormat, SpellsSetEncodings}
 use Rattle.rfb_wire.specs.stream.Reading.{Got, Listed}
 use Rattle.rfb_wire.specs.stream.Grammar.{ReadsAll}
 use Rattle.rfb_wire.specs.ClientMessage.{ClientMessage, SetPixelFormat, SetEncodings, SpellsClientMessage, SpellsFormatMessage, SpellsNumber, SpellsEncodingsMessage}

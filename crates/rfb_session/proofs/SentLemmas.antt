@@ -1,41 +1,30 @@
 -- What is sent joins the bytes in flight: an update that is composed, and messages of the viewer.
-use Rattle.std.proofs.Common.{◌≡◌, ℕ, zero, suc, ◌+◌, Bool, true, false, ◌||◌, List, [], ◌∷◌, ◌++◌, map, length, Option, Some, None, refl, sym, ap, ◌∙◌, subst, append-nil, append_assoc, arith}
+use Rattle.std.proofs.Common.{◌≡◌, ℕ, Bool, true, List, [], ◌∷◌, ◌++◌, map, length, Some, None, refl, sym, ap, ◌∙◌, subst}
 use Rattle.rfb_pixel.specs.declared.colour.Colour.{Colour}
 use Rattle.rfb_picture.specs.Grid.{Grid}
 use Rattle.rfb_wire.specs.stream.Sequel.{First, Second}
-use Rattle.rfb_wire.specs.stream.Grammar.{Grammar, IsGrammar, ReadsAll, past_all, IsWithinFirst}
-use Rattle.rfb_wire.specs.stream.End.{EndsWith, acts, Takes, Refuses}
-use Rattle.rfb_wire.proofs.stream_laws.GrammarLaws.{some_byte, all_more, all_append, within_append}
-use Rattle.rfb_wire.proofs.stream_laws.SequelLaws.{all_first, all_second}
-use Rattle.rfb_wire.proofs.stream_laws.EndLaws.{delivered, not_refused}
-use Rattle.rfb_wire.specs.ClientMessage.{ClientMessage, SetPixelFormat, SetEncodings, FramebufferUpdateRequest, KeyEvent, PointerEvent, ClientCutText, SpellsClientMessage}
+use Rattle.rfb_wire.specs.stream.Grammar.{ReadsAll, past_all}
+use Rattle.rfb_wire.proofs.stream_laws.GrammarLaws.{within_append}
+use Rattle.rfb_wire.proofs.stream_laws.SequelLaws.{all_second}
+use Rattle.rfb_wire.specs.ClientMessage.{ClientMessage, SpellsClientMessage}
 use Rattle.rfb_codec.specs.UpdateStream.{UpdatePoint}
 use Rattle.rfb_codec.specs.WholeUpdate.{update_of}
-use Rattle.rfb_hello.specs.Version.{version_text}
-use Rattle.rfb_hello.specs.ServerHandshake.{ServerPoint, AwaitsVersion, ProtocolVersion}
-use Rattle.rfb_hello.proofs.AnswerLaws.{greeting_read}
-use Rattle.rfb_server.specs.declared.fault.ServerFault.{ServerFault}
-use Rattle.rfb_server.specs.ClientBytes.{ClientAt, FromClient, client_two, client_bytes}
-use Rattle.rfb_server.specs.Server.{Serving, ServerState, serves, server}
-use Rattle.rfb_server.specs.Told.{ServerTold}
+use Rattle.rfb_hello.specs.ServerHandshake.{ServerPoint}
+use Rattle.rfb_server.specs.ClientBytes.{ClientAt, FromClient, client_two}
 use Rattle.rfb_server.specs.Composing.{sent_as, between}
-use Rattle.rfb_server.proofs.ServerLaws.{client_bytes_laws, server_machine}
-use Rattle.rfb_viewer.specs.declared.fault.ViewerFault.{ViewerFault}
-use Rattle.rfb_viewer.specs.declared.fault.CallFault.{CallFault}
-use Rattle.rfb_viewer.specs.declared.fault.CallFault.TheVariants.{NotReady, Busy}
-use Rattle.rfb_viewer.specs.ServerBytes.{ServerAt, FromServer, server_two, server_bytes}
-use Rattle.rfb_viewer.specs.Told.{ViewerTold}
-use Rattle.rfb_viewer.specs.Viewer.{ViewerState, viewer, shows}
-use Rattle.rfb_viewer.specs.Calls.{refusal_if, is_inside, format_refused, format_refusal}
-use Rattle.rfb_viewer.proofs.ViewerLaws.{server_bytes_laws, viewer_machine}
-use Rattle.rfb_session.specs.Link.{Ends, SessionState, server_of, session_of, Link, first_link}
-use Rattle.rfb_session.specs.Answers.{viewer_answers, viewer_replies, server_answers, server_replies}
-use Rattle.rfb_session.specs.LinkSteps.{begun, calls, ComposesOn, MovesToViewer, MovesToServer}
-use Rattle.rfb_session.specs.InFlight.{AreMade, Flight, Flies, first_flight, viewer_reply, server_reply, ReachesViewer, ReachesServer}
+use Rattle.rfb_server.proofs.ServerLaws.{client_bytes_laws}
+use Rattle.rfb_viewer.specs.declared.fault.CallFault.TheVariants.{Busy}
+use Rattle.rfb_viewer.specs.ServerBytes.{ServerAt, FromServer, server_two}
+use Rattle.rfb_viewer.specs.Viewer.{ViewerState}
+use Rattle.rfb_viewer.specs.Calls.{format_refused, format_refusal}
+use Rattle.rfb_viewer.proofs.ViewerLaws.{server_bytes_laws}
+use Rattle.rfb_session.specs.Link.{Ends, server_of, Link}
+use Rattle.rfb_session.specs.LinkSteps.{begun, calls, ComposesOn}
+use Rattle.rfb_session.specs.InFlight.{Flight, Flies}
 use Rattle.rfb_session.proofs.PhaseLemmas.{Core, core, Phase, Greeting, Versioned, Typed, Choosing37, Choosing38, Chosen, Sharing, Begun, Named, Idling, Asking, Held, Sent}
-use Rattle.rfb_session.proofs.HoldsLemmas.{Holds, holds_shown, holds_served, kept_screen, IsHeld, due_held, point_is}
+use Rattle.rfb_session.proofs.HoldsLemmas.{Holds, due_held, point_is}
 use Rattle.rfb_session.proofs.ReadyLemmas.{one_read}
-use Rattle.rfb_session.proofs.AnswerLemmas.{to_server_stream, to_viewer_stream, AnswersBehind, answers_read, RepliesBehind, replies_read}
+use Rattle.rfb_session.proofs.AnswerLemmas.{to_server_stream, to_viewer_stream}
 use Rattle.rfb_session.proofs.FlightLemmas.{joins, p_server, p_viewer}
 
 -- ---- a composing

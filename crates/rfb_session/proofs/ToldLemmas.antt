@@ -1,5 +1,5 @@
 -- An event that is refused changes nothing.
-use Rattle.std.proofs.Common.{◌≡◌, ℕ, Option, Some, None, ◌⊎◌, inl, inr, refl, sym, ap, ◌∙◌}
+use Rattle.std.proofs.Common.{◌≡◌, Option, Some, None, inl, inr, refl, sym, ap, ◌∙◌}
 use Rattle.rfb_picture.specs.Grid.{Grid}
 use Rattle.rfb_pixel.specs.declared.colour.Colour.{Colour}
 use Rattle.rfb_wire.specs.ClientMessage.{ClientMessage}

@@ -1,6 +1,6 @@
 -- What each end answers to the other's items, as items of its own: in the handshake what RFC 6143
 -- sections 7.1 and 7.3 and Appendix A ask next, and behind it nothing.
-use Rattle.std.specs.Prelude.{ℕ, zero, suc, List, [], ◌∷◌, ◌++◌, map}
+use Rattle.std.specs.Prelude.{zero, suc, List, [], ◌∷◌, ◌++◌, map}
 use Rattle.rfb_wire.specs.Encoding.{number_of}
 use Rattle.rfb_wire.specs.ClientMessage.{SetPixelFormat, SetEncodings}
 use Rattle.rfb_wire.specs.stream.Sequel.{First, Second}

@@ -6,3 +6,6 @@ pub mod Network
 pub mod InFlight
 pub mod Told
 pub mod Carrying
+pub mod Latest
+pub mod World
+pub mod Played

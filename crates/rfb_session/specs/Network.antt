@@ -1,5 +1,5 @@
 -- A world: one screen, and one link over it.
-use Rattle.std.specs.Prelude.{◌≡◌, ℕ, List, [], ◌∷◌, length, ◌⊎◌}
+use Rattle.std.specs.Prelude.{◌≡◌, List, [], ◌∷◌, length, ◌⊎◌}
 use Rattle.rfb_pixel.specs.declared.colour.Colour.{Colour}
 use Rattle.rfb_picture.specs.Grid.{Grid, Holds, filled, copied, with_row}
 use Rattle.rfb_server.specs.Standing.{row_from, HoldsBoth}

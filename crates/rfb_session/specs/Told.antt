@@ -1,6 +1,7 @@
 -- What a step answers: how many bytes it moved, whether it was refused, whether it composed.
-use Rattle.std.specs.Prelude.{◌≡◌, ℕ, min, Bool, true, false, length, Option, Some, None, ◌⊎◌, ◌↔◌}
+use Rattle.std.specs.Prelude.{◌≡◌, ℕ, min, Bool, true, false, length, Option, Some, None, ◌⊎◌, ◌↔◌, Result, Ok, Err}
 use Rattle.rfb_picture.specs.Grid.{Holds}
+use Rattle.rfb_server.specs.declared.fault.Outside.{Outside as OutsideFault}
 use Rattle.rfb_server.specs.Composing.{IsDue}
 use Rattle.rfb_server.specs.Standing.{row_from, HoldsBoth}
 use Rattle.rfb_viewer.specs.declared.fault.CallFault.{CallFault}
@@ -27,6 +28,11 @@ refused_as None = None
 refused_as (Some CallNotReady) = Some NotReady
 refused_as (Some CallBusy) = Some Busy
 refused_as (Some CallOutside) = Some AreaOutside
+
+-- the refusal of a drawing, as one of an event
+abbrev pub refused_by : {A : Type 0} → Result A OutsideFault → Option Refused
+refused_by (Ok done) = None
+refused_by (Err fault) = Some Outside
 
 -- a drawing is refused where what it needs leaves the screen
 abbrev pub RefusesUnless : Type 0 → Option Refused → Type 0

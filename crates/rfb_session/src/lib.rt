@@ -5,9 +5,13 @@
 //! composed and delivered.
 #![tactic(auto)]
 
+mod channel;
 mod event;
+mod latest;
 pub mod law;
 mod told;
+mod world;
 
 pub use event::Event;
-pub use told::{Refused, Told};
+pub use told::{NoMemory, Refused, Told};
+pub use world::World;

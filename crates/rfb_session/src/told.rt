@@ -1,5 +1,6 @@
 //! What a step answers.
 
+use std::alloc::AllocError;
 use thiserror::Error;
 
 /// Why an event is refused. Nothing was changed then.
@@ -28,4 +29,15 @@ pub struct Told {
     pub refused: Option<Refused>,
     /// Whether an update was composed.
     pub composed: bool,
+}
+
+/// There is no memory. The world is closed.
+#[derive(Clone, Copy, Debug, PartialEq, Eq, Error)]
+#[error("30 NoMemory")]
+pub struct NoMemory;
+
+impl From<AllocError> for NoMemory {
+    fn from(_error: AllocError) -> NoMemory {
+        NoMemory
+    }
 }

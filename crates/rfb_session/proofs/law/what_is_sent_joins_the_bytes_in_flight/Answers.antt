@@ -1,4 +1,4 @@
-use Rattle.std.proofs.Common.{ℕ, [], ◌++◌, sym, subst}
+use Rattle.std.proofs.Common.{[], ◌++◌, sym, subst}
 use Rattle.rfb_wire.specs.stream.Grammar.{ReadsAll}
 use Rattle.rfb_viewer.specs.ServerBytes.{ServerAt}
 use Rattle.rfb_session.proofs.NetworkLemmas.{reached_holds}

@@ -1,0 +1,169 @@
+-- Calls on the viewer of a world: a message is in flight, or nothing has changed.
+use Rattle.std.proofs.Common.{◌≡◌, ℕ, Bool, List, [], ◌++◌, Option, None, Some, refl, sym, ap, ◌∙◌, subst}
+use Rattle.rfb_pixel.specs.Format.{PixelFormat}
+use Rattle.rfb_picture.specs.declared.rect.Rect.{Rect}
+use Rattle.rfb_wire.specs.ClientMessage.{ClientMessage, SetPixelFormat, FramebufferUpdateRequest, SpellsClientMessage}
+use Rattle.rfb_wire.specs.stream.Sequel.{First, Second}
+use Rattle.rfb_wire.specs.stream.Grammar.{ReadsAll}
+use Rattle.rfb_codec.specs.UpdateStream.{UpdatePoint}
+use Rattle.rfb_server.specs.declared.server.Server.{Server}
+use Rattle.rfb_server.specs.Standing.{screen_of}
+use Rattle.rfb_viewer.specs.declared.fault.CallFault.{CallFault}
+use Rattle.rfb_viewer.specs.declared.viewer.Viewer.{Viewer}
+use Rattle.rfb_viewer.specs.ServerBytes.{ServerAt}
+use Rattle.rfb_viewer.specs.Viewer.{ViewerState}
+use Rattle.rfb_viewer.specs.Calls.{call_refusal, call_refused, request_refused, request_refusal, format_refusal, requested, formatted}
+use Rattle.rfb_viewer.specs.Standing.{StandsFor as ViewerStandsFor}
+use Rattle.rfb_session.specs.declared.latest.Latest.{Latest}
+use Rattle.rfb_session.specs.declared.world.World.{World}
+use Rattle.rfb_session.specs.Latest.{composing_in}
+use Rattle.rfb_session.specs.Link.{Ends}
+use Rattle.rfb_session.specs.LinkSteps.{begun, calls}
+use Rattle.rfb_session.specs.InFlight.{Flight, Flies}
+use Rattle.rfb_session.specs.Network.{Network, IsReached}
+use Rattle.rfb_session.specs.World.{StandsFor, HasSameLink}
+use Rattle.rfb_session.proofs.DrawnLemmas.{same_stands}
+use Rattle.rfb_session.proofs.NetworkLemmas.{reached_holds}
+use Rattle.rfb_session.proofs.AnswerLemmas.{to_viewer_stream}
+use Rattle.rfb_session.proofs.SentLemmas.{called_flies, refusal_same}
+use Rattle.rfb_session.proofs.MoveLemmas.{format_flies}
+
+-- a call became a step of the link: it was taken or refused, and its message is in flight or not
+abbrev pub Called : Ends → World → World → Network → Option CallFault → ViewerState →
+    ClientMessage → Type 0
+Called e old new n refusal v message =
+    (m : Network) × ((m.screen ≡ n.screen) × (m.link ≡ calls refusal n.link v message))
+    × StandsFor e new m
+
+-- all but the viewer and the bytes to the server is as it was
+pub record OnlySends (old new : World) (bytes : List ℕ) : Type 0 where
+  pub server : new.server ≡ old.server
+  pub to_server : new.to_server ≡ old.to_server ++ bytes
+  pub to_viewer : new.to_viewer ≡ old.to_viewer
+  pub latest : new.latest ≡ old.latest
+  pub closed : new.closed ≡ old.closed
+
+-- what is in flight in a world
+abbrev flight_of : (e : Ends) (w : World) (n : Network) → StandsFor e w n → Flight
+flight_of e w n stands = record {
+  viewer_has = stands.carries.viewer_has;
+  viewer_gets = w.to_viewer;
+  server_has = stands.carries.server_has;
+  server_gets = w.to_server;
+}
+
+-- it was taken
+taken : (e : Ends) (old new : World) (n : Network) (refusal : Option CallFault) (v : ViewerState)
+    (message : ClientMessage) (bytes : List ℕ) (stands : StandsFor e old n) →
+    None ≡ refusal → ViewerStandsFor e.viewing new.viewer v stands.carries.viewer_has →
+    Flies e (calls None n.link v message)
+    (record (flight_of e old n stands) { server_gets = old.to_server ++ bytes }) →
+    OnlySends old new bytes → Called e old new n refusal v message
+taken e old new n refusal v message bytes stands none viewer_is flies only = (
+  record n { link = calls None n.link v message },
+  (refl, ap (λ (o : Option CallFault). calls o n.link v message) none),
+  record {
+    goes_on = only.closed ∙ stands.goes_on;
+    screen_is = stands.screen_is ∙ ap (λ (s : Server). screen_of s) (sym only.server);
+    carries = rw (only.server, only.to_server, only.to_viewer) (record {
+      server_has = stands.carries.server_has;
+      viewer_has = stands.carries.viewer_has;
+      server_is = stands.carries.server_is;
+      viewer_is = viewer_is;
+      flies = flies;
+    });
+    latest_is = stands.latest_is ∙ ap (λ (l : Latest). composing_in l) (sym only.latest);
+  },
+)
+
+-- it was refused
+pub refused : (e : Ends) (old new : World) (n : Network) (refusal : Option CallFault)
+    (v : ViewerState) (message : ClientMessage) (fault : CallFault) → StandsFor e old n →
+    Some fault ≡ refusal → new.server ≡ old.server → HasSameLink old new →
+    Called e old new n refusal v message
+refused e old new n refusal v message fault stands some server same = (
+  n,
+  (refl, ap (λ (o : Option CallFault). calls o n.link v message) some),
+  same_stands e old new n server same stands,
+)
+
+-- the viewer that takes it is ready
+call_ready : (at : ServerAt) → None ≡ call_refused at → (p : UpdatePoint) × (at ≡ Second p)
+call_ready (First point) none = absurd cc
+call_ready (Second p) none = (p, refl)
+
+request_ready : (at : ServerAt) (outstanding : Bool) (rect : Rect) →
+    None ≡ request_refused at outstanding rect → (p : UpdatePoint) × (at ≡ Second p)
+request_ready (First point) outstanding rect none = absurd cc
+request_ready (Second p) outstanding rect none = (p, refl)
+
+-- a message of a viewer that is ready, and that stands where it stood
+message_flies : (e : Ends) (w : World) (n : Network) (stands : StandsFor e w n) (v : ViewerState)
+    (message : ClientMessage) (bytes : List ℕ) (p : UpdatePoint) → IsReached e n →
+    n.link.viewer.point ≡ Second p → v.point ≡ n.link.viewer.point →
+    SpellsClientMessage message bytes →
+    Flies e (calls None n.link v message)
+    (record (flight_of e w n stands) { server_gets = w.to_server ++ bytes })
+message_flies e w n stands v message bytes p reached ready same spelled =
+    called_flies e n.link (flight_of e w n stands) p v message bytes
+    (reached_holds e n reached).phase ready stands.carries.flies
+    (subst (λ (at : ServerAt). ReadsAll (to_viewer_stream e) at
+    (stands.carries.viewer_has ++ w.to_viewer) n.link.to_viewer [])
+    (sym same) stands.carries.flies.to_viewer) spelled
+
+-- ---- each kind of call
+
+-- a request
+pub request_taken : (e : Ends) (old new : World) (n : Network) (incremental : Bool) (rect : Rect)
+    (bytes : List ℕ) (stands : StandsFor e old n) → IsReached e n →
+    None ≡ request_refusal n.link.viewer rect →
+    ViewerStandsFor e.viewing new.viewer (requested n.link.viewer) stands.carries.viewer_has →
+    SpellsClientMessage (FramebufferUpdateRequest incremental rect) bytes →
+    OnlySends old new bytes →
+    Called e old new n (request_refusal n.link.viewer rect) (requested n.link.viewer)
+    (FramebufferUpdateRequest incremental rect)
+request_taken e old new n incremental rect bytes stands reached none viewer_is spelled only =
+    let ready = request_ready n.link.viewer.point n.link.viewer.outstanding rect none in
+    taken e old new n _ (requested n.link.viewer) (FramebufferUpdateRequest incremental rect) bytes
+    stands none viewer_is
+    (message_flies e old n stands (requested n.link.viewer)
+    (FramebufferUpdateRequest incremental rect) bytes ready.0 reached ready.1 refl spelled) only
+
+-- a format is refused by the bytes that came of an item as by the item
+pub format_same : (e : Ends) (w : World) (n : Network) (stands : StandsFor e w n) →
+    IsReached e n → format_refusal n.link.viewer stands.carries.viewer_has
+    ≡ format_refusal n.link.viewer (begun n.link.at_viewer n.link.to_viewer)
+format_same e w n stands reached =
+    refusal_same e n.link (flight_of e w n stands) (reached_holds e n reached).phase
+    stands.carries.flies
+
+-- a format
+pub format_taken : (e : Ends) (old new : World) (n : Network) (form : PixelFormat)
+    (bytes : List ℕ) (stands : StandsFor e old n) → IsReached e n →
+    None ≡ format_refusal n.link.viewer stands.carries.viewer_has →
+    ViewerStandsFor e.viewing new.viewer (formatted form n.link.viewer)
+    stands.carries.viewer_has →
+    SpellsClientMessage (SetPixelFormat form) bytes → OnlySends old new bytes →
+    Called e old new n (format_refusal n.link.viewer (begun n.link.at_viewer n.link.to_viewer))
+    (formatted form n.link.viewer) (SetPixelFormat form)
+format_taken e old new n form bytes stands reached none viewer_is spelled only =
+    let phase = (reached_holds e n reached).phase in
+    let same = format_same e old n stands reached in
+    taken e old new n _ (formatted form n.link.viewer) (SetPixelFormat form) bytes stands
+    (none ∙ same) viewer_is
+    (format_flies e n.link (flight_of e old n stands) form bytes phase stands.carries.flies
+    (sym none) spelled) only
+
+-- a message that waits for the end of the handshake alone
+pub message_taken : (e : Ends) (old new : World) (n : Network) (message : ClientMessage)
+    (bytes : List ℕ) → StandsFor e old n → IsReached e n →
+    None ≡ call_refusal n.link.viewer → new.viewer ≡ old.viewer →
+    SpellsClientMessage message bytes → OnlySends old new bytes →
+    Called e old new n (call_refusal n.link.viewer) n.link.viewer message
+message_taken e old new n message bytes stands reached none same spelled only =
+    let ready = call_ready n.link.viewer.point none in
+    taken e old new n _ n.link.viewer message bytes stands none
+    (subst (λ (v : Viewer). ViewerStandsFor e.viewing v n.link.viewer stands.carries.viewer_has)
+    (sym same) stands.carries.viewer_is)
+    (message_flies e old n stands n.link.viewer message bytes ready.0 reached ready.1 refl spelled)
+    only

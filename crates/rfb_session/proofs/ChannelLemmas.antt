@@ -1,0 +1,32 @@
+-- An update behind other bytes stands behind those of them that are still in flight.
+use Rattle.std.proofs.Common.{◌≡◌, ℕ, ◌≤◌, min, List, ◌++◌, length, drop, length-append, ap, ◌∙◌, arith}
+use Rattle.std.proofs.lemmas.List.{drop-append-le}
+use Rattle.rfb_server.specs.declared.server.Server.{Server}
+use Rattle.rfb_server.specs.Updating.{Updates}
+
+rest_of : (all more bytes : List ℕ) (k j : ℕ) → k ≤ length all → j ≡ min k (length more) →
+    more ≡ all ++ bytes → drop j more ≡ drop k all ++ bytes
+rest_of all more bytes k j within least is =
+    let long = ap (λ (q : List ℕ). length q) is ∙ length-append all bytes in
+    let same : j ≡ k = omega (arith, long) in
+    ap (λ (i : ℕ). drop i more) same ∙ ap (λ (q : List ℕ). drop k q) is
+    ∙ drop-append-le k all bytes within
+
+pub updates_rest : (old new : Server) (all more : List ℕ) (k j : ℕ) → k ≤ length all →
+    j ≡ min k (length more) → Updates old new all more → Updates old new (drop k all) (drop j more)
+updates_rest old new all more k j within least updates = record {
+  screen_is = updates.screen_is;
+  fault_is = updates.fault_is;
+  sent = λ serving s prefix stands.
+      let one = updates.sent serving s prefix stands in
+      record {
+        due = one.due;
+        behind = one.behind;
+        bytes = one.bytes;
+        copies = one.copies;
+        blocks = one.blocks;
+        appended = rest_of all more one.bytes k j within least one.appended;
+        composes = one.composes;
+        stands = one.stands;
+      };
+}

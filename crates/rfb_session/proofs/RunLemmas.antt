@@ -1,0 +1,54 @@
+-- Runs of a world: step after step, and what holds behind them.
+use Rattle.std.proofs.Common.{List, [], ◌∷◌, ◌++◌, refl, subst}
+use Rattle.rfb_session.specs.declared.event.Event.{Event}
+use Rattle.rfb_session.specs.declared.told.Told.{Told}
+use Rattle.rfb_session.specs.declared.world.World.{World}
+use Rattle.rfb_session.specs.Link.{Ends}
+use Rattle.rfb_session.specs.Network.{Network, StepsAll, IsReached}
+use Rattle.rfb_session.specs.World.{StandsFor, Does, Reaches, NeitherFailed}
+use Rattle.rfb_session.proofs.WorldLemmas.{steps_last}
+use Rattle.rfb_session.proofs.EndFacts.{server_goes_on, viewer_goes_on}
+
+-- a network, and nothing said of it
+abbrev pub Any : Ends → Network → Type 0
+Any e n = Unit {0}
+
+steps_append : (e : Ends) (a b c : Network) (xs ys : List Event) → StepsAll e a xs b →
+    StepsAll e b ys c → StepsAll e a (xs ++ ys) c
+steps_append e a b c [] ys is steps = subst (λ (n : Network). StepsAll e n ys c) is steps
+steps_append e a b c (event ∷ xs) ys (mid, one, more) steps =
+    (mid, one, steps_append e mid b c xs ys more steps)
+
+pub reached_more : (e : Ends) (n m : Network) (events : List Event) → IsReached e n →
+    StepsAll e n events m → IsReached e m
+reached_more e n m events r steps = record {
+  first = r.first;
+  is_first = r.is_first;
+  events = r.events ++ events;
+  steps = steps_append e r.first n m r.events events r.steps steps;
+}
+
+pub run_none : (w : World) → Reaches w [] w Any
+run_none w = λ e n made reached stands. (n, refl, stands, tt)
+
+pub run_more : (old mid new : World) (events : List Event) (event : Event) (told : Told) →
+    Reaches old events mid Any → Does mid event told new → Reaches old (events ++ event ∷ []) new Any
+run_more old mid new events event told runs does = λ e n made reached stands.
+    let one = runs e n made reached stands in
+    let two = does e one.0 made (reached_more e n one.0 events reached one.1) one.2 in
+    (two.0, steps_last e n one.0 two.0 events event one.1 two.1, two.3, tt)
+
+-- a world that stands for a network has not failed
+pub neither_failed : (e : Ends) (w : World) (n : Network) → StandsFor e w n → NeitherFailed w
+neither_failed e w n stands = (
+  server_goes_on e.serving w.server _ _ stands.carries.server_is,
+  viewer_goes_on e.viewing w.viewer _ _ stands.carries.viewer_is,
+)
+
+-- what holds of all that is reached holds behind a run
+pub run_holds : (old new : World) (events : List Event) (Holds : Ends → Network → Type 0) →
+    ((e : Ends) (m : Network) → IsReached e m → StandsFor e new m → Holds e m) →
+    Reaches old events new Any → Reaches old events new Holds
+run_holds old new events Holds holds runs = λ e n made reached stands.
+    let one = runs e n made reached stands in
+    (one.0, one.1, one.2, holds e one.0 (reached_more e n one.0 events reached one.1) one.2)

@@ -1,0 +1,47 @@
+-- Where nothing is in flight to a viewer it shows what is due.
+use Rattle.std.proofs.Common.{◌≡◌, ℕ, List, [], ◌∷◌, ◌++◌, length, length-append, Option, inl, inr, refl, sym, ap, ◌∙◌, subst, arith}
+use Rattle.rfb_pixel.specs.declared.colour.Colour.{Colour}
+use Rattle.rfb_picture.specs.Grid.{Grid}
+use Rattle.rfb_wire.specs.stream.Grammar.{IsWithinFirst}
+use Rattle.rfb_wire.specs.stream.End.{acts}
+use Rattle.rfb_wire.specs.stream.Sequel.{First, Second}
+use Rattle.rfb_viewer.specs.ServerBytes.{ServerAt, FromServer}
+use Rattle.rfb_viewer.specs.Viewer.{Viewing, ViewerState, viewer}
+use Rattle.rfb_viewer.specs.Showing.{Shows, ShowsAt}
+use Rattle.rfb_viewer.specs.Standing.{StandsFor as ViewerStandsFor}
+use Rattle.rfb_session.specs.declared.world.World.{World}
+use Rattle.rfb_session.specs.Link.{Ends, viewer_stream}
+use Rattle.rfb_session.specs.Headline.{due_picture}
+use Rattle.rfb_session.specs.Network.{Network}
+use Rattle.rfb_session.specs.World.{StandsFor}
+
+-- with no byte of the next item it shows the picture
+shown_whole : (at : ServerAt) (picture stored : Option (Grid Colour)) →
+    ShowsAt at picture [] stored → stored ≡ picture
+shown_whole (First point) picture stored is = is
+shown_whole (Second p) picture stored (inl whole) = whole.1
+shown_whole (Second p) picture stored (inr (before, now, was, is, pieces)) =
+    let all : 0 ≡ length (pieces.front ++ pieces.body) =
+    ap (λ (b : List ℕ). length b) pieces.prefix_is in
+    absurd (omega (arith, all, length-append pieces.front pieces.body, pieces.awaits.head_is.size))
+
+no_bytes : (bytes : List ℕ) → length bytes ≡ 0 → bytes ≡ []
+no_bytes [] none = refl
+no_bytes (byte ∷ bytes) none = absurd (omega (arith, none))
+
+pub shown_due : (e : Ends) (w : World) (n : Network) (stored : Option (Grid Colour)) →
+    StandsFor e w n → n.link.to_viewer ≡ [] →
+    ((viewing : Viewing) (s : ViewerState) (prefix : List ℕ) →
+    ViewerStandsFor viewing w.viewer s prefix → Shows s prefix stored) →
+    stored ≡ due_picture e n.link
+shown_due e w n stored stands none shows =
+    let c = stands.carries in
+    let start : n.link.at_viewer ≡ 0 =
+    subst (λ (q : List FromServer). IsWithinFirst (viewer_stream e) n.link.at_viewer q) none
+    c.flies.viewer_within in
+    let bare : c.viewer_has ≡ [] = no_bytes c.viewer_has (c.flies.at_viewer ∙ start) in
+    let here : Shows n.link.viewer [] stored =
+    subst (λ (bytes : List ℕ). Shows n.link.viewer bytes stored) bare
+    (shows e.viewing n.link.viewer c.viewer_has c.viewer_is) in
+    shown_whole n.link.viewer.point n.link.viewer.picture stored here
+    ∙ sym (ap (λ (q : List FromServer). (acts (viewer e.viewing) n.link.viewer q).picture) none)

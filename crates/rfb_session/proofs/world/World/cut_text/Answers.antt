@@ -1,0 +1,30 @@
+use Rattle.std.proofs.Common.{refl, ap, ◌∙◌}
+use Rattle.rfb_wire.specs.ClientMessage.{ClientCutText}
+use Rattle.rfb_viewer.specs.Messages.{text_message}
+use Rattle.rfb_session.specs.Told.{refused_as}
+use Rattle.rfb_session.proofs.CalledLemmas.{message_taken}
+use Rattle.rfb_session.proofs.world.World.cut_text.Goals as goal
+
+pub returns-in-Ok-clause-does : goal.returns-in-Ok-clause-does
+returns-in-Ok-clause-does c = λ e n made reached stands.
+    let has = stands.carries in
+    let is = c.in-Ok.ensures.refusal e.viewing n.link.viewer has.viewer_has has.viewer_is in
+    let one = message_taken e c.args.self.now _ n (ClientCutText c.args.text.now.items)
+    (text_message c.args.text.now.items) stands reached is refl
+    (rw c.deref.ensures.value at c.in-Ok.ensures.spelled)
+    (record {
+      server = refl;
+      to_server = rw c.deref.ensures.value at c.in-Ok.ensures.sent;
+      to_viewer = refl;
+      latest = refl;
+      closed = refl;
+    }) in (
+      one.0,
+      one.1,
+      record {
+        moved = c.told_taken.ensures.moved;
+        refused = c.told_taken.ensures.refused ∙ ap (λ o. refused_as o) is;
+        composed = c.told_taken.ensures.composed;
+      },
+      one.2,
+    )

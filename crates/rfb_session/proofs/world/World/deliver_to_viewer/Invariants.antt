@@ -1,0 +1,14 @@
+use Rattle.std.proofs.Common.{◌-◌, ◌≤◌, length}
+use Rattle.rfb_session.specs.World.{DeliversToViewer}
+use Rattle.rfb_session.proofs.world.World.deliver_to_viewer.Given as goal
+
+abbrev pub invariant-loop-left : goal.invariant-loop-left
+invariant-loop-left l = record {
+  within : l.left ≤ length l.self.to_viewer;
+  some : l.left ≤ l.count;
+  before : l.count ≤ length l.fn.self.to_viewer;
+  delivered : DeliversToViewer l.fn.self (l.count - l.left) l.self;
+}
+
+abbrev pub decreases-loop-left : goal.decreases-loop-left
+decreases-loop-left l = l.left

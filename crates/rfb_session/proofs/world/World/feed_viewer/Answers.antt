@@ -1,0 +1,18 @@
+use Rattle.std.proofs.Common.{ℕ, List, ◌++◌, ap, ◌∙◌, refl}
+use Rattle.rfb_viewer.specs.Told.{seen}
+use Rattle.rfb_session.proofs.WorldLemmas.{viewer_delivers, viewer_never}
+use Rattle.rfb_session.proofs.world.World.feed_viewer.Goals as goal
+
+pub returns-in_ok-send-in-Ok-clause-delivered : goal.returns-in_ok-send-in-Ok-clause-delivered
+returns-in_ok-send-in-Ok-clause-delivered c =
+    viewer_delivers c.args.self.now _ c.first.result.now c.args.count c.in-Ok.fed.used
+    (seen c.in-Ok.fed.event) c.requires.within c.first.ensures c.in-Ok.ensures.used
+    c.in-Ok.ensures.fed refl c.arrive.ensures
+    (c.in_ok-send-in-Ok.ensures.sent
+    ∙ ap (λ (b : List ℕ). c.args.self.now.to_server ++ b) c.viewer_reply.ensures) refl refl
+
+pub returns-else-viewer_wants_memory-clause-delivered :
+    goal.returns-else-viewer_wants_memory-clause-delivered
+returns-else-viewer_wants_memory-clause-delivered c =
+    viewer_never c.args.self.now _ c.first.result.now c.args.count c.in-Err.fault c.first.ensures
+    (c.in-Err.ensures.fault (c.viewer_wants_memory.ensures c.if-viewer_wants_memory.false))

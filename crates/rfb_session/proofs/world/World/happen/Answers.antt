@@ -1,0 +1,69 @@
+use Rattle.std.proofs.Common.{IfOk, sym, subst}
+use Rattle.rfb_session.specs.declared.event.Event.{Event}
+use Rattle.rfb_session.specs.World.{Does}
+use Rattle.rfb_session.proofs.world.World.happen.Goals as goal
+
+pub returns-in-Fill-clause-does : goal.returns-in-Fill-clause-does
+returns-in-Fill-clause-does c =
+    subst (λ (event : Event). Does c.args.self.now event c.fill.result c.fill.new.self)
+    (sym c.in-Fill.is) c.fill.ensures.does
+
+pub returns-in-Put-clause-does : goal.returns-in-Put-clause-does
+returns-in-Put-clause-does c =
+    subst (λ (event : Event). Does c.args.self.now event c.put.result c.put.new.self)
+    (sym c.in-Put.is) c.put.ensures.does
+
+pub returns-in-Copy-clause-does : goal.returns-in-Copy-clause-does
+returns-in-Copy-clause-does c =
+    subst (λ (event : Event). Does c.args.self.now event c.copy.result c.copy.new.self)
+    (sym c.in-Copy.is) c.copy.ensures.does
+
+pub returns-in-Hint-clause-does : goal.returns-in-Hint-clause-does
+returns-in-Hint-clause-does c =
+    subst (λ (event : Event). Does c.args.self.now event c.hint.result c.hint.new.self)
+    (sym c.in-Hint.is) c.hint.ensures.does
+
+pub returns-in-Request-clause-does : goal.returns-in-Request-clause-does
+returns-in-Request-clause-does c =
+    subst (λ (event : Event). IfOk c.request.result
+    (λ told. Does c.args.self.now event told c.request.new.self)) (sym c.in-Request.is) c.request.ensures.does
+
+pub returns-in-SetFormat-clause-does : goal.returns-in-SetFormat-clause-does
+returns-in-SetFormat-clause-does c =
+    subst (λ (event : Event). IfOk c.set_format.result
+    (λ told. Does c.args.self.now event told c.set_format.new.self)) (sym c.in-SetFormat.is) c.set_format.ensures.does
+
+pub returns-in-SetEncodings-clause-does : goal.returns-in-SetEncodings-clause-does
+returns-in-SetEncodings-clause-does c =
+    subst (λ (event : Event). IfOk c.set_encodings.result
+    (λ told. Does c.args.self.now event told c.set_encodings.new.self)) (sym c.in-SetEncodings.is) c.set_encodings.ensures.does
+
+pub returns-in-Key-clause-does : goal.returns-in-Key-clause-does
+returns-in-Key-clause-does c =
+    subst (λ (event : Event). IfOk c.key.result
+    (λ told. Does c.args.self.now event told c.key.new.self)) (sym c.in-Key.is) c.key.ensures.does
+
+pub returns-in-Pointer-clause-does : goal.returns-in-Pointer-clause-does
+returns-in-Pointer-clause-does c =
+    subst (λ (event : Event). IfOk c.pointer.result
+    (λ told. Does c.args.self.now event told c.pointer.new.self)) (sym c.in-Pointer.is) c.pointer.ensures.does
+
+pub returns-in-CutText-clause-does : goal.returns-in-CutText-clause-does
+returns-in-CutText-clause-does c =
+    subst (λ (event : Event). IfOk c.cut_text.result
+    (λ told. Does c.args.self.now event told c.cut_text.new.self)) (sym c.in-CutText.is) c.cut_text.ensures.does
+
+pub returns-in-Compose-clause-does : goal.returns-in-Compose-clause-does
+returns-in-Compose-clause-does c =
+    subst (λ (event : Event). IfOk c.compose.result
+    (λ told. Does c.args.self.now event told c.compose.new.self)) (sym c.in-Compose.is) c.compose.ensures.does
+
+pub returns-in-ToServer-clause-does : goal.returns-in-ToServer-clause-does
+returns-in-ToServer-clause-does c =
+    subst (λ (event : Event). IfOk c.move_to_server.result
+    (λ told. Does c.args.self.now event told c.move_to_server.new.self)) (sym c.in-ToServer.is) c.move_to_server.ensures.does
+
+pub returns-in-ToViewer-clause-does : goal.returns-in-ToViewer-clause-does
+returns-in-ToViewer-clause-does c =
+    subst (λ (event : Event). IfOk c.move_to_viewer.result
+    (λ told. Does c.args.self.now event told c.move_to_viewer.new.self)) (sym c.in-ToViewer.is) c.move_to_viewer.ensures.does

@@ -1,0 +1,10 @@
+use Rattle.std.proofs.Common.{ℕ, min, ap, ◌∙◌}
+use Rattle.rfb_session.proofs.WorldLemmas.{server_moved}
+use Rattle.rfb_session.proofs.world.World.move_to_server.Goals as goal
+
+pub returns-clause-does : goal.returns-clause-does
+returns-clause-does c =
+    server_moved c.args.self.now c.deliver_to_server.new.self c.args.count c.min-moved.result
+    c.told_moved.result (c.min-moved.ensures ∙ ap (λ (k : ℕ). min k c.args.count) c.len.ensures)
+    c.in_ok-deliver_to_server.ensures.delivered c.told_moved.ensures.moved
+    c.told_moved.ensures.refused c.told_moved.ensures.composed

@@ -1,0 +1,10 @@
+use Rattle.std.proofs.Common.{ℕ, min, ap, ◌∙◌}
+use Rattle.rfb_session.proofs.WorldLemmas.{viewer_moved}
+use Rattle.rfb_session.proofs.world.World.move_to_viewer.Goals as goal
+
+pub returns-clause-does : goal.returns-clause-does
+returns-clause-does c =
+    viewer_moved c.args.self.now c.deliver_to_viewer.new.self c.args.count c.min-moved.result
+    c.told_moved.result (c.min-moved.ensures ∙ ap (λ (k : ℕ). min k c.args.count) c.len.ensures)
+    c.in_ok-deliver_to_viewer.ensures.delivered c.told_moved.ensures.moved
+    c.told_moved.ensures.refused c.told_moved.ensures.composed

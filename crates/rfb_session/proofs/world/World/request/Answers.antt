@@ -1,0 +1,48 @@
+use Rattle.std.proofs.Common.{refl, ap, ◌∙◌}
+use Rattle.rfb_wire.specs.ClientMessage.{FramebufferUpdateRequest}
+use Rattle.rfb_viewer.specs.Calls.{requested}
+use Rattle.rfb_session.specs.Told.{refused_as}
+use Rattle.rfb_session.proofs.CalledLemmas.{request_taken, refused}
+use Rattle.rfb_session.proofs.world.World.request.Goals as goal
+
+pub returns-in_ok-send-in-Ok-clause-does : goal.returns-in_ok-send-in-Ok-clause-does
+returns-in_ok-send-in-Ok-clause-does c = λ e n made reached stands.
+    let has = stands.carries in
+    let is = c.in-Ok.ensures.refusal e.viewing n.link.viewer has.viewer_has has.viewer_is in
+    let one = request_taken e c.args.self.now _ n c.args.incremental c.args.rect c.in-Ok.message
+    stands reached is
+    (c.in-Ok.ensures.stands e.viewing n.link.viewer has.viewer_has has.viewer_is)
+    c.in-Ok.ensures.spelled
+    (record {
+      server = refl;
+      to_server = c.in_ok-send-in-Ok.ensures.sent;
+      to_viewer = refl;
+      latest = refl;
+      closed = refl;
+    }) in (
+      one.0,
+      one.1,
+      record {
+        moved = c.told_taken.ensures.moved;
+        refused = c.told_taken.ensures.refused ∙ ap (λ o. refused_as o) is;
+        composed = c.told_taken.ensures.composed;
+      },
+      one.2,
+    )
+
+pub returns-in-Err-clause-does : goal.returns-in-Err-clause-does
+returns-in-Err-clause-does c = λ e n made reached stands.
+    let has = stands.carries in
+    let is = c.in-Err.ensures.refusal e.viewing n.link.viewer has.viewer_has has.viewer_is in
+    let one = refused e c.args.self.now _ n _ (requested n.link.viewer)
+    (FramebufferUpdateRequest c.args.incremental c.args.rect) c.in-Err.fault stands is refl
+    (record { viewer = c.in-Err.ensures.refused; to_server = refl; to_viewer = refl; latest = refl; closed = refl }) in (
+      one.0,
+      one.1,
+      record {
+        moved = c.told_refused.ensures.moved;
+        refused = c.told_refused.ensures.refused ∙ ap (λ o. refused_as o) is;
+        composed = c.told_refused.ensures.composed;
+      },
+      one.2,
+    )

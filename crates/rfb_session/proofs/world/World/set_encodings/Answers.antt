@@ -1,0 +1,35 @@
+use Rattle.std.proofs.Common.{ℕ, List, ◌++◌, map, refl, ap, ◌∙◌, subst}
+use Rattle.rfb_wire.specs.declared.encoding.Encoding.{Encoding}
+use Rattle.rfb_wire.specs.Encoding.{number_of}
+use Rattle.rfb_wire.specs.ClientMessage.{SetEncodings, SpellsClientMessage}
+use Rattle.rfb_session.specs.Told.{refused_as}
+use Rattle.rfb_session.proofs.CalledLemmas.{message_taken}
+use Rattle.rfb_session.proofs.world.World.set_encodings.Goals as goal
+
+pub returns-in_ok-send-in-Ok-clause-does : goal.returns-in_ok-send-in-Ok-clause-does
+returns-in_ok-send-in-Ok-clause-does c = λ e n made reached stands.
+    let has = stands.carries in
+    let is = c.in-Ok.ensures.refusal e.viewing n.link.viewer has.viewer_has has.viewer_is in
+    let spelled = subst (λ (list : List Encoding). SpellsClientMessage
+    (SetEncodings (map (λ encoding. number_of encoding) list)) c.in-Ok.message.items)
+    c.copy_of.ensures c.in-Ok.ensures.spelled in
+    let one = message_taken e c.args.self.now _ n
+    (SetEncodings (map (λ encoding. number_of encoding) c.args.encodings.now.items))
+    c.in-Ok.message.items stands reached is refl spelled
+    (record {
+      server = refl;
+      to_server = c.in_ok-send-in-Ok.ensures.sent
+          ∙ ap (λ (b : List ℕ). c.args.self.now.to_server ++ b) c.as_slice.ensures.value;
+      to_viewer = refl;
+      latest = refl;
+      closed = refl;
+    }) in (
+      one.0,
+      one.1,
+      record {
+        moved = c.told_taken.ensures.moved;
+        refused = c.told_taken.ensures.refused ∙ ap (λ o. refused_as o) is;
+        composed = c.told_taken.ensures.composed;
+      },
+      one.2,
+    )

@@ -1,0 +1,139 @@
+-- What a `World` stands for: a screen, and a link over it.
+use Rattle.std.specs.Prelude.{◌≡◌, ℕ, ◌≤◌, Bool, false, List, [], length, drop, Option, None}
+use Rattle.rfb_pixel.specs.declared.colour.Colour.{Colour}
+use Rattle.rfb_pixel.specs.Format.{PixelFormat}
+use Rattle.rfb_picture.specs.Grid.{Grid}
+use Rattle.rfb_picture.specs.Area.{Places}
+use Rattle.rfb_server.specs.declared.fault.ServerFault.{ServerFault}
+use Rattle.rfb_server.specs.declared.server.Server.{Server}
+use Rattle.rfb_server.specs.Server.{Serving, ServerState, first_server}
+use Rattle.rfb_server.specs.Standing.{StandsFor as ServerStandsFor, with_screen, screen_of, fault_of as fault_of_server}
+use Rattle.rfb_viewer.specs.declared.fault.ViewerFault.{ViewerFault}
+use Rattle.rfb_viewer.specs.declared.viewer.Viewer.{Viewer}
+use Rattle.rfb_viewer.specs.Viewer.{first_viewer}
+use Rattle.rfb_viewer.specs.Standing.{StandsFor as ViewerStandsFor, picture_of, fault_of as fault_of_viewer}
+use Rattle.rfb_session.specs.declared.event.Event.{Event}
+use Rattle.rfb_session.specs.declared.event.Event.TheVariants.{CutText}
+use Rattle.rfb_session.specs.declared.told.Told.{Told}
+use Rattle.rfb_session.specs.declared.world.World.{World}
+use Rattle.rfb_session.specs.Latest.{composing_in}
+use Rattle.rfb_session.specs.Link.{Ends, Link, first_link}
+use Rattle.rfb_session.specs.LinkSteps.{MovesToViewer, MovesToServer}
+use Rattle.rfb_session.specs.InFlight.{AreMade}
+use Rattle.rfb_session.specs.Carrying.{Carries}
+use Rattle.rfb_session.specs.Network.{Network, Steps, StepsAll, IsReached}
+use Rattle.rfb_session.specs.Told.{Tells}
+
+-- ---- what a world is
+
+-- a world that goes on stands for a network: its two ends and the bytes in flight between them for
+-- its link, over the screen; and what it notes is the link's latest composing
+pub record StandsFor (e : Ends) (world : World) (n : Network) : Type 0 where
+  pub goes_on : world.closed ≡ false
+  pub screen_is : n.screen ≡ screen_of world.server
+  pub carries : Carries ServerStandsFor ViewerStandsFor e n.screen world.server world.viewer
+      world.to_server world.to_viewer n.link
+  pub latest_is : n.link.latest ≡ composing_in world.latest
+
+-- it is closed, after want of memory
+abbrev pub is_closed : World → Bool
+is_closed world = world.closed
+
+-- the faults that its ends have failed with, if they have
+abbrev pub server_fault : World → Option ServerFault
+server_fault world = fault_of_server world.server
+
+abbrev pub viewer_fault : World → Option ViewerFault
+viewer_fault world = fault_of_viewer world.viewer
+
+-- what its viewer shows, once there is a screen
+abbrev pub shown_by : World → Option (Grid Colour)
+shown_by world = picture_of world.viewer
+
+-- two ends that were fed nothing; the server's screen may be drawn on
+pub record AreFresh (e : Ends) (server : Server) (viewer : Viewer) (screen : Grid Colour)
+    : Type 0 where
+  pub width : screen.width ≡ e.serving.hello.width
+  pub height : screen.height ≡ e.serving.hello.height
+  pub server_is :
+      ServerStandsFor e.serving server (with_screen screen (first_server e.serving)) []
+  pub viewer_is : ViewerStandsFor e.viewing viewer first_viewer []
+
+-- the network of two fresh ends
+abbrev pub first_network : Ends → Grid Colour → Network
+first_network e screen = record { screen = screen; link = first_link e }
+
+-- ---- what becomes of it
+
+-- an event is a step, whatever the world stood for, and the answer tells of it
+abbrev pub Does : World → Event → Told → World → Type 0
+Does old event told new =
+    (e : Ends) (n : Network) → AreMade e → IsReached e n → StandsFor e old n →
+    (m : Network) × Steps e n event m × Tells e n event told × StandsFor e new m
+
+-- all but the server is as it was
+pub record HasSameLink (old new : World) : Type 0 where
+  pub viewer : new.viewer ≡ old.viewer
+  pub to_server : new.to_server ≡ old.to_server
+  pub to_viewer : new.to_viewer ≡ old.to_viewer
+  pub latest : new.latest ≡ old.latest
+  pub closed : new.closed ≡ old.closed
+
+-- these places are asked of a server, whatever it stands for
+abbrev pub AsksFor : Server → Places → Type 0
+AsksFor server asked =
+    (serving : Serving) (s : ServerState) (prefix : List ℕ) →
+    ServerStandsFor serving server s prefix → asked ≡ s.area
+
+-- this is its format
+abbrev pub FormatIs : Server → PixelFormat → Type 0
+FormatIs server form =
+    (serving : Serving) (s : ServerState) (prefix : List ℕ) →
+    ServerStandsFor serving server s prefix → form ≡ s.form
+
+-- so many bytes reach the viewer
+abbrev pub DeliversToViewer : World → ℕ → World → Type 0
+DeliversToViewer old count new =
+    (e : Ends) (n : Network) → AreMade e → IsReached e n → StandsFor e old n →
+    (l : Link) × MovesToViewer e n.link count l × StandsFor e new (record n { link = l })
+
+-- so many bytes reach the server
+abbrev pub DeliversToServer : World → ℕ → World → Type 0
+DeliversToServer old count new =
+    (e : Ends) (n : Network) → AreMade e → IsReached e n → StandsFor e old n →
+    (l : Link) × MovesToServer e n.screen n.link count l × StandsFor e new (record n { link = l })
+
+-- so many bytes leave the channel to an end that has failed, and nothing else changes
+pub record LosesToViewer (old : World) (count : ℕ) (new : World) : Type 0 where
+  pub to_viewer : new.to_viewer ≡ drop count old.to_viewer
+  pub to_server : new.to_server ≡ old.to_server
+  pub viewer : new.viewer ≡ old.viewer
+  pub server : new.server ≡ old.server
+  pub latest : new.latest ≡ old.latest
+  pub closed : new.closed ≡ old.closed
+
+pub record LosesToServer (old : World) (count : ℕ) (new : World) : Type 0 where
+  pub to_server : new.to_server ≡ drop count old.to_server
+  pub to_viewer : new.to_viewer ≡ old.to_viewer
+  pub viewer : new.viewer ≡ old.viewer
+  pub server : new.server ≡ old.server
+  pub latest : new.latest ≡ old.latest
+  pub closed : new.closed ≡ old.closed
+
+-- a text has at most 1,048,576 bytes
+abbrev pub HasFewBytes : Event → Type 0
+HasFewBytes (CutText text) = length text.items ≤ 1048576
+HasFewBytes event = Unit {0}
+
+-- ---- runs
+
+-- neither end has failed
+abbrev pub NeitherFailed : World → Type 0
+NeitherFailed world = (server_fault world ≡ None) × (viewer_fault world ≡ None)
+
+-- whatever network the world stood for, if it was reached from a fresh one: by the steps of these
+-- events it comes to one of which that holds
+abbrev pub Reaches : World → List Event → World → (Ends → Network → Type 0) → Type 0
+Reaches old events new Holds =
+    (e : Ends) (n : Network) → AreMade e → IsReached e n → StandsFor e old n →
+    (m : Network) × StepsAll e n events m × StandsFor e new m × Holds e m

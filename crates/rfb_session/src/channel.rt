@@ -1,0 +1,132 @@
+//! The bytes in flight one way.
+
+ghost use Rattle.std.specs.Prelude.{◌≡◌, ◌≤◌, ◌++◌, ℕ, List, [], length, take, drop};
+ghost use Rattle.std.specs.Prelude.{true, false, IfOk, OnOk, OnErr};
+
+use rfb_server::Server;
+use rfb_viewer::{TextFault, Viewer};
+use std::alloc::{AllocError, Global};
+use std::marker::Model;
+
+/// Bytes that were sent and have not arrived, in order. They arrive where they lie; once the last
+/// of them has arrived their memory is given back.
+#[derive(Drop)]
+pub(crate) struct Channel {
+    alloc: Global,
+    bytes: Vec<u8>,
+    // So many of them have arrived.
+    arrived: usize,
+}
+
+impl Model for Channel {
+    ghost use Rattle.std.specs.Prelude.{ℕ, ◌≤◌, List, drop, length};
+
+    ghost Value = { List ℕ };
+
+    ghost view = { λ c. drop c.arrived c.bytes.items };
+
+    ghost invariant = { λ c. c.arrived ≤ length c.bytes.items };
+}
+
+impl Channel {
+    ghost use Rattle.rfb_wire.specs.ClientMessage.{SpellsClientMessage, ClientCutText};
+    ghost use Rattle.rfb_server.specs.Standing.{screen_of};
+    ghost use Rattle.rfb_viewer.specs.Viewer.{Viewing, ViewerState};
+    ghost use Rattle.rfb_viewer.specs.Standing.{StandsFor};
+    ghost use Rattle.rfb_viewer.specs.Messages.{text_message};
+    ghost use Rattle.rfb_viewer.specs.Calls.{call_refusal, text_refusal_of};
+    ghost use Rattle.rfb_server.specs.Updating.{Updates, StaysUnsent};
+
+    /// A channel with nothing in flight. It takes no memory.
+    pub(crate) fn new(alloc: Global) -> Channel
+        ensures { result ≡ [] }
+    {
+        Channel {
+            alloc,
+            bytes: Vec::new(alloc),
+            arrived: 0,
+        }
+    }
+
+    /// How many bytes are in flight.
+    pub(crate) fn len(&self) -> usize
+        ensures { result ≡ length self.now }
+    {
+        self.bytes.len() - self.arrived
+    }
+
+    /// Lends the first `count` bytes in flight.
+    pub(crate) fn first(&self, count: usize) -> &[u8]
+        requires { count ≤ length self.now }
+        ensures { result.now ≡ take count self.now }
+    {
+        &self.bytes[self.arrived..self.arrived + count]
+    }
+
+    /// The first `count` bytes in flight have arrived.
+    pub(crate) fn arrive(&mut self, count: usize)
+        requires { count ≤ length self.old }
+        ensures { self.new ≡ drop count self.old }
+    {
+        self.arrived += count;
+        if self.arrived == self.bytes.len() {
+            self.bytes = Vec::new(self.alloc);
+            self.arrived = 0;
+        }
+    }
+
+    /// These bytes are in flight too, behind the others. Where there is no memory nothing changes.
+    pub(crate) fn send(&mut self, bytes: &[u8]) -> Result<(), AllocError>
+        ensures sent { OnOk result (self.new ≡ self.old ++ bytes.now) }
+        ensures kept { OnErr result (self.new ≡ self.old) }
+    {
+        self.make_room();
+        self.bytes.extend_from_slice(bytes)?;
+        Ok(())
+    }
+
+    /// The update that a server composes is in flight too, if it composes one.
+    pub(crate) fn send_update(&mut self, server: &mut Server) -> Result<bool, AllocError>
+        ensures composed { IfOk result (λ did. did ≡ true →
+            Updates server.old server.new self.old self.new) }
+        ensures idle { IfOk result (λ did. did ≡ false →
+            StaysUnsent server.old server.new self.old self.new) }
+        ensures screen { screen_of server.new ≡ screen_of server.old }
+    {
+        self.make_room();
+        let did = server.compose(&mut self.bytes)?;
+        self.arrived = self.arrived.min(self.bytes.len());
+        Ok(did)
+    }
+
+    /// The message of a text that a viewer cuts is in flight too. Where the viewer refuses it, or
+    /// there is no memory, nothing changes.
+    pub(crate) fn send_text(&mut self, viewer: &Viewer, text: &[u8]) -> Result<(), TextFault>
+        requires few { length text.now ≤ 1048576 }
+        ensures sent { OnOk result (self.new ≡ self.old ++ text_message text.now) }
+        ensures spelled { OnOk result
+            (SpellsClientMessage (ClientCutText text.now) (text_message text.now)) }
+        ensures kept { OnErr result (self.new ≡ self.old) }
+        ensures refusal { (viewing : Viewing) (s : ViewerState) (prefix : List ℕ)
+            → StandsFor viewing viewer.now s prefix → text_refusal_of result ≡ call_refusal s }
+    {
+        self.make_room();
+        match viewer.cut_text(text, &mut self.bytes) {
+            Ok(()) => Ok(()),
+            Err(fault) => Err(fault),
+        }
+    }
+
+    // Room of bytes that have arrived is taken for others, once they are as many as those that are
+    // in flight.
+    fn make_room(&mut self)
+        ensures { self.new ≡ self.old }
+    {
+        let in_flight = self.len();
+        if self.arrived >= in_flight {
+            self.bytes.copy_within(self.arrived.., 0);
+            self.bytes.truncate(in_flight);
+            self.arrived = 0;
+        }
+    }
+}

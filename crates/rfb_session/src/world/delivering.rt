@@ -1,0 +1,139 @@
+//! Bytes that arrive at an end.
+
+ghost use Rattle.std.specs.Prelude.{◌≡◌, ◌≢◌, ◌≤◌, ◌<◌, ◌+◌, ℕ, List, [], length, drop, Ok, Err};
+ghost use Rattle.std.specs.Prelude.{true, false, Some, None, IfOk, IfErr, OnOk, OnErr, IsErr};
+
+use crate::told::NoMemory;
+use crate::world::World;
+use rfb_server::{ServerEvent, ServerFault};
+use rfb_viewer::{ViewerEvent, ViewerFault};
+
+impl World {
+    ghost use Rattle.rfb_session.specs.World.{DeliversToViewer, LosesToViewer, viewer_fault};
+    ghost use Rattle.rfb_session.specs.World.{DeliversToServer, LosesToServer, server_fault};
+
+    // So many bytes reach the viewer, of those in flight to it. Its answers are in flight then.
+    pub(super) fn deliver_to_viewer(&mut self, count: usize) -> Result<(), NoMemory>
+        requires { count ≤ length self.old.to_viewer }
+        ensures delivered { OnOk result (DeliversToViewer self.old count self.new) }
+    {
+        let mut left = count;
+        while left > 0 {
+            left -= self.feed_viewer(left)?;
+        }
+        Ok(())
+    }
+
+    // Feeds the viewer of so many bytes what it takes at once, and sends what it answers. One that
+    // has failed takes them all, to no effect.
+    fn feed_viewer(&mut self, count: usize) -> Result<usize, NoMemory>
+        requires some { 0 < count }
+        requires within { count ≤ length self.old.to_viewer }
+        ensures used { IfOk result (λ used. (0 < used) × (used ≤ count)) }
+        ensures left { IfOk result (λ used. self.new.to_viewer ≡ drop used self.old.to_viewer) }
+        ensures delivered { IfOk result (λ used. DeliversToViewer self.old used self.new) }
+    {
+        match self.viewer.feed(self.to_viewer.first(count)) {
+            Ok(fed) => {
+                self.to_server.send(viewer_reply(&fed.event))?;
+                self.to_viewer.arrive(fed.used);
+                Ok(fed.used)
+            }
+            Err(fault) => {
+                if viewer_wants_memory(fault) {
+                    return Err(NoMemory);
+                }
+                self.to_viewer.arrive(count);
+                Ok(count)
+            }
+        }
+    }
+
+    // So many bytes reach the server, of those in flight to it. Its answers are in flight then.
+    pub(super) fn deliver_to_server(&mut self, count: usize) -> Result<(), NoMemory>
+        requires { count ≤ length self.old.to_server }
+        ensures delivered { OnOk result (DeliversToServer self.old count self.new) }
+    {
+        let mut left = count;
+        while left > 0 {
+            left -= self.feed_server(left)?;
+        }
+        Ok(())
+    }
+
+    // Feeds the server of so many bytes what it takes at once, and sends what it answers. One that
+    // has failed takes them all, to no effect.
+    fn feed_server(&mut self, count: usize) -> Result<usize, NoMemory>
+        requires some { 0 < count }
+        requires within { count ≤ length self.old.to_server }
+        ensures used { IfOk result (λ used. (0 < used) × (used ≤ count)) }
+        ensures left { IfOk result (λ used. self.new.to_server ≡ drop used self.old.to_server) }
+        ensures delivered { IfOk result (λ used. DeliversToServer self.old used self.new) }
+    {
+        match self.server.feed(self.to_server.first(count)) {
+            Ok(fed) => {
+                self.to_viewer.send(server_reply(&fed.event))?;
+                self.to_server.arrive(fed.used);
+                Ok(fed.used)
+            }
+            Err(fault) => {
+                if server_wants_memory(fault) {
+                    return Err(NoMemory);
+                }
+                self.to_server.arrive(count);
+                Ok(count)
+            }
+        }
+    }
+}
+
+ghost use Rattle.rfb_viewer.specs.Told.{seen as seen_by_viewer};
+ghost use Rattle.rfb_viewer.specs.declared.fault.ViewerFault.TheVariants.{NoMemory as ViewerNoMemory};
+ghost use Rattle.rfb_session.specs.InFlight.{viewer_reply as reply_of_viewer};
+
+// The bytes that are sent for what a viewer tells.
+fn viewer_reply(event: &Option<ViewerEvent>) -> &[u8]
+    ensures { result.now ≡ reply_of_viewer (seen_by_viewer event.now) }
+{
+    match event {
+        Some(ViewerEvent::Reply(reply)) => reply.as_slice(),
+        Some(ViewerEvent::Ready { reply, .. }) => reply.as_slice(),
+        Some(ViewerEvent::UpdateDone)
+        | Some(ViewerEvent::Bell)
+        | Some(ViewerEvent::CutText { .. })
+        | Some(ViewerEvent::ColourMapSkipped)
+        | None => &[],
+    }
+}
+
+// Whether it is want of memory that the viewer has failed with.
+fn viewer_wants_memory(fault: ViewerFault) -> bool
+    ensures { result ≡ false → fault ≢ ViewerNoMemory }
+{
+    matches!(fault, ViewerFault::NoMemory)
+}
+
+ghost use Rattle.rfb_server.specs.Told.{seen as seen_by_server};
+ghost use Rattle.rfb_server.specs.declared.fault.ServerFault.TheVariants.{NoMemory as ServerNoMemory};
+ghost use Rattle.rfb_session.specs.InFlight.{server_reply as reply_of_server};
+
+// The bytes that are sent for what a server tells.
+fn server_reply(event: &Option<ServerEvent>) -> &[u8]
+    ensures { result.now ≡ reply_of_server (seen_by_server event.now) }
+{
+    match event {
+        Some(ServerEvent::Reply(reply)) => reply.as_slice(),
+        Some(ServerEvent::Ready { reply, .. }) => reply.as_slice(),
+        Some(ServerEvent::Key { .. })
+        | Some(ServerEvent::Pointer { .. })
+        | Some(ServerEvent::CutText { .. })
+        | None => &[],
+    }
+}
+
+// Whether it is want of memory that the server has failed with.
+fn server_wants_memory(fault: ServerFault) -> bool
+    ensures { result ≡ false → fault ≢ ServerNoMemory }
+{
+    matches!(fault, ServerFault::NoMemory)
+}

@@ -1,0 +1,55 @@
+//! A world that makes its ends itself.
+
+ghost use Rattle.std.specs.Prelude.{◌≤◌, ℕ, All, IfOk};
+
+use crate::event::Event;
+use crate::told::NoMemory;
+use crate::world::World;
+use arrayvec::ArrayVec;
+use rfb_hello::Version;
+use rfb_pixel::Format;
+use rfb_server::Server;
+use rfb_viewer::Viewer;
+use rfb_wire::Encoding;
+use std::alloc::Global;
+
+// How many bytes of a text each end keeps.
+const TEXT_LIMIT: u32 = 1024;
+
+// How many places of a screen the viewer admits: those of the largest one.
+const MAX_PLACES: u32 = 16_777_216;
+
+impl World {
+    ghost use Rattle.rfb_session.specs.World.{HasFewBytes};
+    ghost use Rattle.rfb_session.specs.Played.{Played};
+
+    /// A world of two ends of version 3.8 after these events: a server with a black screen that is
+    /// named `rfb`, and a viewer that asks for Raw at rgb888. It rests on no premise but memory.
+    pub fn played(
+        alloc: Global,
+        width: u16,
+        height: u16,
+        events: &[Event],
+    ) -> Result<World, NoMemory>
+        requires columns { (1 ≤ width) × (width ≤ 4096) }
+        requires rows { (1 ≤ height) × (height ≤ 4096) }
+        requires few { All HasFewBytes events.now }
+        ensures { IfOk result (λ world. Played width height events.now world) }
+    {
+        let server = Server::new(alloc, width, height, b"rfb", Version::V38, TEXT_LIMIT)?;
+        let mut encodings = ArrayVec::new();
+        encodings.push(Encoding::Raw);
+        let viewer = Viewer::new(
+            alloc,
+            Format::rgb888(),
+            encodings,
+            Version::V38,
+            true,
+            MAX_PLACES,
+            TEXT_LIMIT,
+        );
+        let mut world = World::new(alloc, server, viewer)?;
+        world.run(events)?;
+        Ok(world)
+    }
+}
