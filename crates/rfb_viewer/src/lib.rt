@@ -11,6 +11,8 @@ mod fault;
 mod gather;
 pub mod law;
 mod sending;
+#[cfg(test)]
+mod tests;
 mod viewer;
 
 pub use event::{MAX_ANSWER, MAX_READY, ViewerEvent};

@@ -1,0 +1,95 @@
+//! Tests of a viewer that is fed what servers send. Streams, answers and colours were worked out by hand
+//! from RFC 6143.
+
+mod calls;
+mod cuts;
+mod encodings;
+mod handshakes;
+mod hostile;
+mod long_texts;
+mod messages;
+mod painting;
+mod pending;
+mod plain;
+
+use crate::{Viewer, ViewerEvent};
+use arrayvec::ArrayVec;
+use rfb_hello::{Fed, Version};
+use rfb_picture::Picture;
+use rfb_pixel::{Colour, Format};
+use rfb_wire::Encoding;
+use std::alloc::{AllocError, Global};
+
+const BLACK: Colour = Colour { r: 0, g: 0, b: 0 };
+
+// Pixels 10 and 20 at bgr233: 2 and 4 sevenths of green, rounded.
+const TEN: Colour = Colour { r: 0, g: 73, b: 0 };
+
+const TWENTY: Colour = Colour { r: 0, g: 146, b: 0 };
+
+// A viewer of shared screens of up to 1,024 places that takes Raw, and keeps four bytes of a text.
+fn viewer(alloc: Global, format: Format, limit: Version) -> Viewer {
+    let mut encodings = ArrayVec::new();
+    encodings.push(Encoding::Raw);
+    Viewer::new(alloc, format, encodings, limit, true, 1_024, 4)
+}
+
+// A server of 3.3 of so wide and high a screen of no name, up to the end of its handshake.
+const HELLO_1_BY_1: &[u8] = b"RFB 003.003\n\0\0\0\x01\0\x01\0\x01................\0\0\0\0";
+
+const HELLO_2_BY_1: &[u8] = b"RFB 003.003\n\0\0\0\x01\0\x02\0\x01................\0\0\0\0";
+
+const HELLO_17_BY_1: &[u8] = b"RFB 003.003\n\0\0\0\x01\0\x11\0\x01................\0\0\0\0";
+
+// A viewer that took such a handshake.
+fn ready(alloc: Global, format: Format, hello: &[u8]) -> Viewer {
+    let mut viewer = viewer(alloc, format, Version::V38);
+    let mut rest = hello;
+    for _ in 0..3 {
+        rest = rest.get(taken(&mut viewer, rest)..).unwrap_or_default();
+    }
+    viewer
+}
+
+// How many bytes it takes up to what it tells next.
+fn taken(viewer: &mut Viewer, bytes: &[u8]) -> usize {
+    match viewer.feed(bytes) {
+        Ok(fed) => fed.used,
+        Err(_) => 0,
+    }
+}
+
+// Whether it takes so many bytes, and tells nothing.
+fn takes(viewer: &mut Viewer, bytes: &[u8], wanted: usize) -> bool {
+    match viewer.feed(bytes) {
+        Ok(Fed { used, event }) => used == wanted && event.is_none(),
+        Err(_) => false,
+    }
+}
+
+// Whether it takes so many bytes, and then tells that an update is done.
+fn ends_update(viewer: &mut Viewer, bytes: &[u8], wanted: usize) -> bool {
+    match viewer.feed(bytes) {
+        Ok(Fed { used, event }) => {
+            used == wanted && matches!(event, Some(ViewerEvent::UpdateDone))
+        }
+        Err(_) => false,
+    }
+}
+
+// Whether it shows one row of these colours.
+fn shows_row(viewer: &Viewer, wanted: &[Colour]) -> bool {
+    match viewer.picture() {
+        Some(picture) => picture.height() == 1 && row_of(picture, 0) == wanted,
+        None => false,
+    }
+}
+
+// A row of a picture, or nothing where there is none.
+fn row_of(picture: &Picture<Colour>, y: u16) -> &[Colour] {
+    if y < picture.height() {
+        picture.row(0, y, picture.width())
+    } else {
+        &[]
+    }
+}
