@@ -1,3 +1,8 @@
 //! Tests of a server that is fed what clients send.
 
+mod client_messages;
 mod composing;
+mod cuts;
+mod long_streams;
+mod memory;
+mod requests;

@@ -61,7 +61,7 @@ fn is_quiet(server: &mut Server, alloc: Global) -> bool {
     }
 }
 
-// Requests for all of a row of 1, 4 and 8 places.
+// Requests for all of a row of 1 and of 4 places.
 const WHOLE_1: &[u8] = b"\x03\0\0\0\0\0\0\x01\0\x01";
 
 const INCREMENTAL_1: &[u8] = b"\x03\x01\0\0\0\0\0\x01\0\x01";
@@ -70,9 +70,8 @@ const WHOLE_4: &[u8] = b"\x03\0\0\0\0\0\0\x04\0\x01";
 
 const INCREMENTAL_4: &[u8] = b"\x03\x01\0\0\0\0\0\x04\0\x01";
 
-const WHOLE_8: &[u8] = b"\x03\0\0\0\0\0\0\x08\0\x01";
-
-const WHOLE_17: &[u8] = b"\x03\0\0\0\0\0\0\x11\0\x01";
+// A request for a row of any length, which the screen's edge cuts.
+const WHOLE_ROW: &[u8] = b"\x03\0\0\0\0\0\xFF\xFF\0\x01";
 
 // One place in Raw at rgb888, orange.
 const ONE_PLACE: &[u8] = b"\0\0\0\x01\0\0\0\0\0\x01\0\x01\0\0\0\0\x01\x80\xFF\0";
@@ -154,32 +153,46 @@ const EIGHT_IN_RRE: &[u8] =
 
 const SEVENTEEN_IN_HEXTILE: &[u8] = b"\0\0\0\x01\0\0\0\0\0\x11\0\x01\0\0\0\x05\x02\x01\x80\xFF\0\0";
 
+// Whether a row whose places from column `x` on are of that colour is sent so behind that list.
+fn sends_row(
+    server: &mut Server,
+    alloc: Global,
+    list: &[u8],
+    columns: (u16, u16, Colour),
+    wanted: &[u8],
+) -> bool {
+    let (x, w, colour) = columns;
+    feed(server, list);
+    draw(server, x, w, colour);
+    feed(server, WHOLE_ROW);
+    sends(server, alloc, wanted)
+}
+
 #[test]
 fn four_places_are_sent_in_raw_where_rre_is_no_shorter(rt: HostRuntime) -> Result<(), AllocError> {
     let mut server = ready(rt.alloc(), 4)?;
-    feed(&mut server, RRE);
-    draw(&mut server, 3, 1, WHITE);
-    feed(&mut server, WHOLE_4);
-    assert!(rt; sends(&mut server, rt.alloc(), FOUR_IN_RAW));
+    assert!(rt; sends_row(&mut server, rt.alloc(), RRE, (3, 1, WHITE), FOUR_IN_RAW));
     Ok(())
 }
 
 #[test]
 fn eight_places_are_sent_in_rre_where_it_is_shorter(rt: HostRuntime) -> Result<(), AllocError> {
     let mut server = ready(rt.alloc(), 8)?;
-    feed(&mut server, RRE);
-    draw(&mut server, 7, 1, WHITE);
-    feed(&mut server, WHOLE_8);
-    assert!(rt; sends(&mut server, rt.alloc(), EIGHT_IN_RRE));
+    assert!(rt; sends_row(&mut server, rt.alloc(), RRE, (7, 1, WHITE), EIGHT_IN_RRE));
     Ok(())
 }
 
 #[test]
 fn two_tiles_of_one_colour_are_sent_in_hextile(rt: HostRuntime) -> Result<(), AllocError> {
     let mut server = ready(rt.alloc(), 17)?;
-    feed(&mut server, HEXTILE);
-    draw(&mut server, 0, 17, ORANGE);
-    feed(&mut server, WHOLE_17);
-    assert!(rt; sends(&mut server, rt.alloc(), SEVENTEEN_IN_HEXTILE));
+    assert!(rt;
+        sends_row(
+            &mut server,
+            rt.alloc(),
+            HEXTILE,
+            (0, 17, ORANGE),
+            SEVENTEEN_IN_HEXTILE
+        )
+    );
     Ok(())
 }
