@@ -5,4 +5,5 @@ mod composing;
 mod cuts;
 mod long_streams;
 mod memory;
+mod model;
 mod requests;
