@@ -20,3 +20,4 @@ pub mod EndFacts
 pub mod RunLemmas
 pub mod PlayedLemmas
 pub mod ShownLemmas
+pub mod LossLemmas

@@ -1,5 +1,5 @@
 -- What a `World` stands for: a screen, and a link over it.
-use Rattle.std.specs.Prelude.{◌≡◌, ℕ, ◌≤◌, Bool, false, List, [], length, drop, Option, None}
+use Rattle.std.specs.Prelude.{◌≡◌, ℕ, ◌≤◌, min, Bool, false, List, [], length, drop, Option, None, Some}
 use Rattle.rfb_pixel.specs.declared.colour.Colour.{Colour}
 use Rattle.rfb_pixel.specs.Format.{PixelFormat}
 use Rattle.rfb_picture.specs.Grid.{Grid}
@@ -13,7 +13,7 @@ use Rattle.rfb_viewer.specs.declared.viewer.Viewer.{Viewer}
 use Rattle.rfb_viewer.specs.Viewer.{first_viewer}
 use Rattle.rfb_viewer.specs.Standing.{StandsFor as ViewerStandsFor, picture_of, fault_of as fault_of_viewer}
 use Rattle.rfb_session.specs.declared.event.Event.{Event}
-use Rattle.rfb_session.specs.declared.event.Event.TheVariants.{CutText}
+use Rattle.rfb_session.specs.declared.event.Event.TheVariants.{CutText, ToServer, ToViewer}
 use Rattle.rfb_session.specs.declared.told.Told.{Told}
 use Rattle.rfb_session.specs.declared.world.World.{World}
 use Rattle.rfb_session.specs.Latest.{composing_in}
@@ -119,6 +119,16 @@ pub record LosesToServer (old : World) (count : ℕ) (new : World) : Type 0 wher
   pub server : new.server ≡ old.server
   pub latest : new.latest ≡ old.latest
   pub closed : new.closed ≡ old.closed
+
+-- a delivery to an end that has failed is of as many bytes as another, and has no effect
+abbrev pub LosesAs : World → Event → Told → World → Type 0
+LosesAs old (ToServer count) told new =
+    (fault : ServerFault) → server_fault old ≡ Some fault →
+    (told.moved ≡ min (length old.to_server) count) × LosesToServer old told.moved new
+LosesAs old (ToViewer count) told new =
+    (fault : ViewerFault) → viewer_fault old ≡ Some fault →
+    (told.moved ≡ min (length old.to_viewer) count) × LosesToViewer old told.moved new
+LosesAs old event told new = Unit {0}
 
 -- a text has at most 1,048,576 bytes
 abbrev pub HasFewBytes : Event → Type 0

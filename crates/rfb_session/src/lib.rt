@@ -1,8 +1,9 @@
 //! Both ends of a connection in one process: a server, its viewer, and what is in flight between
 //! them.
 //!
-//! `law` says in contracts alone what holds of the two ends together, whatever is drawn, asked,
-//! composed and delivered.
+//! A `World` is all of that: events happen to it, one by one or as a run, and its contracts say
+//! what the viewer comes to show. `law` says in contracts alone what holds of the two ends
+//! together, whatever is drawn, asked, composed and delivered.
 #![tactic(auto)]
 
 mod channel;

@@ -44,7 +44,7 @@ impl World {
     ghost use Rattle.rfb_session.specs.World.{StandsFor, AreFresh, first_network};
     ghost use Rattle.rfb_session.specs.World.{is_closed, shown_by};
     ghost use Rattle.rfb_session.specs.Network.{Network};
-    ghost use Rattle.rfb_session.specs.World.{Does, HasFewBytes, Reaches, NeitherFailed};
+    ghost use Rattle.rfb_session.specs.World.{Does, LosesAs, HasFewBytes, Reaches, NeitherFailed};
     ghost use Rattle.rfb_session.specs.Headline.{IsHeadline, ShowsKnown, ShowsLatest, due_picture};
 
     /// A world of two fresh ends: nothing was fed to them, and the server's screen may be drawn on.
@@ -80,6 +80,7 @@ impl World {
         // Whatever network the world stood for, the event is a step of it, and the answer tells so.
         ensures does { IfOk result (λ told. Does self.old event.now told self.new) }
         ensures kept { IfOk result (λ told. told.refused ≢ None → self.new ≡ self.old) }
+        ensures lost { IfOk result (λ told. LosesAs self.old event.now told self.new) }
 
         // Want of memory closes it for good.
         ensures closes { OnErr result (is_closed self.new ≡ true) }
@@ -141,6 +142,7 @@ impl World {
         requires few { HasFewBytes event.now }
         ensures does { IfOk result (λ told. Does self.old event.now told self.new) }
         ensures kept { IfOk result (λ told. told.refused ≢ None → self.new ≡ self.old) }
+        ensures lost { IfOk result (λ told. LosesAs self.old event.now told self.new) }
     {
         match event {
             Event::Fill(rect, colour) => Ok(self.fill(*rect, *colour)),

@@ -7,7 +7,7 @@ use crate::told::{NoMemory, Told};
 use crate::world::World;
 
 impl World {
-    ghost use Rattle.rfb_session.specs.World.{Does};
+    ghost use Rattle.rfb_session.specs.World.{Does, LosesAs};
 
     // The server composes an update, if one is due, and it is in flight then. What it was composed
     // of is noted.
@@ -31,6 +31,7 @@ impl World {
     // Bytes reach the server, at most so many.
     pub(super) fn move_to_server(&mut self, count: u32) -> Result<Told, NoMemory>
         ensures does { IfOk result (λ told. Does self.old (ToServer count) told self.new) }
+        ensures lost { IfOk result (λ told. LosesAs self.old (ToServer count) told self.new) }
         ensures taken { IfOk result (λ told. told.refused ≡ None) }
     {
         let moved = self.to_server.len().min(count as usize);
@@ -41,6 +42,7 @@ impl World {
     // Bytes reach the viewer, at most so many.
     pub(super) fn move_to_viewer(&mut self, count: u32) -> Result<Told, NoMemory>
         ensures does { IfOk result (λ told. Does self.old (ToViewer count) told self.new) }
+        ensures lost { IfOk result (λ told. LosesAs self.old (ToViewer count) told self.new) }
         ensures taken { IfOk result (λ told. told.refused ≡ None) }
     {
         let moved = self.to_viewer.len().min(count as usize);

@@ -9,6 +9,8 @@ use rfb_server::{ServerEvent, ServerFault};
 use rfb_viewer::{ViewerEvent, ViewerFault};
 
 impl World {
+    ghost use Rattle.rfb_server.specs.declared.fault.ServerFault.{ServerFault};
+    ghost use Rattle.rfb_viewer.specs.declared.fault.ViewerFault.{ViewerFault};
     ghost use Rattle.rfb_session.specs.World.{DeliversToViewer, LosesToViewer, viewer_fault};
     ghost use Rattle.rfb_session.specs.World.{DeliversToServer, LosesToServer, server_fault};
 
@@ -16,6 +18,8 @@ impl World {
     pub(super) fn deliver_to_viewer(&mut self, count: usize) -> Result<(), NoMemory>
         requires { count ≤ length self.old.to_viewer }
         ensures delivered { OnOk result (DeliversToViewer self.old count self.new) }
+        ensures lost { (fault : ViewerFault) → viewer_fault self.old ≡ Some fault →
+            OnOk result (LosesToViewer self.old count self.new) }
     {
         let mut left = count;
         while left > 0 {
@@ -32,6 +36,8 @@ impl World {
         ensures used { IfOk result (λ used. (0 < used) × (used ≤ count)) }
         ensures left { IfOk result (λ used. self.new.to_viewer ≡ drop used self.old.to_viewer) }
         ensures delivered { IfOk result (λ used. DeliversToViewer self.old used self.new) }
+        ensures lost { (fault : ViewerFault) → viewer_fault self.old ≡ Some fault →
+            IfOk result (λ used. LosesToViewer self.old used self.new) }
     {
         match self.viewer.feed(self.to_viewer.first(count)) {
             Ok(fed) => {
@@ -53,6 +59,8 @@ impl World {
     pub(super) fn deliver_to_server(&mut self, count: usize) -> Result<(), NoMemory>
         requires { count ≤ length self.old.to_server }
         ensures delivered { OnOk result (DeliversToServer self.old count self.new) }
+        ensures lost { (fault : ServerFault) → server_fault self.old ≡ Some fault →
+            OnOk result (LosesToServer self.old count self.new) }
     {
         let mut left = count;
         while left > 0 {
@@ -69,6 +77,8 @@ impl World {
         ensures used { IfOk result (λ used. (0 < used) × (used ≤ count)) }
         ensures left { IfOk result (λ used. self.new.to_server ≡ drop used self.old.to_server) }
         ensures delivered { IfOk result (λ used. DeliversToServer self.old used self.new) }
+        ensures lost { (fault : ServerFault) → server_fault self.old ≡ Some fault →
+            IfOk result (λ used. LosesToServer self.old used self.new) }
     {
         match self.server.feed(self.to_server.first(count)) {
             Ok(fed) => {

@@ -1,5 +1,8 @@
-use Rattle.std.proofs.Common.{◌≡◌, ℕ, ◌+◌, ◌-◌, ◌≤◌, ◌<◌, length, length-drop, ap, subst, arith}
-use Rattle.rfb_session.specs.World.{DeliversToServer}
+use Rattle.std.proofs.Common.{◌≡◌, ℕ, ◌+◌, ◌-◌, ◌≤◌, ◌<◌, length, length-drop, ap, ◌∙◌, subst, arith}
+use Rattle.rfb_server.specs.declared.server.Server.{Server}
+use Rattle.rfb_server.specs.Standing.{fault_of}
+use Rattle.rfb_session.specs.World.{DeliversToServer, LosesToServer}
+use Rattle.rfb_session.proofs.LossLemmas.{no_server_loss, more_server_loss}
 use Rattle.rfb_session.proofs.WorldLemmas.{server_none, server_more}
 use Rattle.rfb_session.proofs.world.World.deliver_to_server.Goals as goal
 
@@ -12,6 +15,8 @@ loop-left-init c =
       before = c.requires;
       delivered = subst (λ (k : ℕ). DeliversToServer c.args.self.now k c.args.self.now) none
           (server_none c.args.self.now);
+      lost = λ fault is. subst (λ (k : ℕ). LosesToServer c.args.self.now k c.args.self.now) none
+          (no_server_loss c.args.self.now);
     }
 
 pub loop-left-preserved : goal.loop-left-preserved
@@ -38,6 +43,12 @@ loop-left-preserved c =
           (server_more c.args.self.now c.loop-left.self c.feed_server.new.self
           (c.args.count - c.loop-left.left) used first was.delivered
           c.in_ok-left.ensures.delivered);
+      lost = λ fault is.
+          let one = was.lost fault is in
+          let still = ap (λ (end : Server). fault_of end) one.server ∙ is in
+          subst (λ (k : ℕ). LosesToServer c.args.self.now k c.feed_server.new.self) all
+          (more_server_loss c.args.self.now c.loop-left.self c.feed_server.new.self
+          (c.args.count - c.loop-left.left) used one (c.in_ok-left.ensures.lost fault still));
     }
 
 pub returns : goal.returns
@@ -47,4 +58,6 @@ returns c =
     record {
       delivered = subst (λ (k : ℕ). DeliversToServer c.args.self.now k c.loop-left.self) all
           was.delivered;
+      lost = λ fault is. subst (λ (k : ℕ). LosesToServer c.args.self.now k c.loop-left.self) all
+          (was.lost fault is);
     }

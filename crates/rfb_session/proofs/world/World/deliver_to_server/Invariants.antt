@@ -1,5 +1,6 @@
-use Rattle.std.proofs.Common.{◌-◌, ◌≤◌, length}
-use Rattle.rfb_session.specs.World.{DeliversToServer}
+use Rattle.std.proofs.Common.{◌-◌, ◌≤◌, length, ◌≡◌, Some}
+use Rattle.rfb_server.specs.declared.fault.ServerFault.{ServerFault}
+use Rattle.rfb_session.specs.World.{DeliversToServer, LosesToServer, server_fault}
 use Rattle.rfb_session.proofs.world.World.deliver_to_server.Given as goal
 
 abbrev pub invariant-loop-left : goal.invariant-loop-left
@@ -8,6 +9,8 @@ invariant-loop-left l = record {
   some : l.left ≤ l.count;
   before : l.count ≤ length l.fn.self.to_server;
   delivered : DeliversToServer l.fn.self (l.count - l.left) l.self;
+  lost : (fault : ServerFault) → server_fault l.fn.self ≡ Some fault →
+      LosesToServer l.fn.self (l.count - l.left) l.self;
 }
 
 abbrev pub decreases-loop-left : goal.decreases-loop-left

@@ -1,5 +1,8 @@
-use Rattle.std.proofs.Common.{◌≡◌, ℕ, ◌+◌, ◌-◌, ◌≤◌, ◌<◌, length, length-drop, ap, subst, arith}
-use Rattle.rfb_session.specs.World.{DeliversToViewer}
+use Rattle.std.proofs.Common.{◌≡◌, ℕ, ◌+◌, ◌-◌, ◌≤◌, ◌<◌, length, length-drop, ap, ◌∙◌, subst, arith}
+use Rattle.rfb_viewer.specs.declared.viewer.Viewer.{Viewer}
+use Rattle.rfb_viewer.specs.Standing.{fault_of}
+use Rattle.rfb_session.specs.World.{DeliversToViewer, LosesToViewer}
+use Rattle.rfb_session.proofs.LossLemmas.{no_viewer_loss, more_viewer_loss}
 use Rattle.rfb_session.proofs.WorldLemmas.{viewer_none, viewer_more}
 use Rattle.rfb_session.proofs.world.World.deliver_to_viewer.Goals as goal
 
@@ -12,6 +15,8 @@ loop-left-init c =
       before = c.requires;
       delivered = subst (λ (k : ℕ). DeliversToViewer c.args.self.now k c.args.self.now) none
           (viewer_none c.args.self.now);
+      lost = λ fault is. subst (λ (k : ℕ). LosesToViewer c.args.self.now k c.args.self.now) none
+          (no_viewer_loss c.args.self.now);
     }
 
 pub loop-left-preserved : goal.loop-left-preserved
@@ -38,6 +43,12 @@ loop-left-preserved c =
           (viewer_more c.args.self.now c.loop-left.self c.feed_viewer.new.self
           (c.args.count - c.loop-left.left) used first was.delivered
           c.in_ok-left.ensures.delivered);
+      lost = λ fault is.
+          let one = was.lost fault is in
+          let still = ap (λ (end : Viewer). fault_of end) one.viewer ∙ is in
+          subst (λ (k : ℕ). LosesToViewer c.args.self.now k c.feed_viewer.new.self) all
+          (more_viewer_loss c.args.self.now c.loop-left.self c.feed_viewer.new.self
+          (c.args.count - c.loop-left.left) used one (c.in_ok-left.ensures.lost fault still));
     }
 
 pub returns : goal.returns
@@ -47,4 +58,6 @@ returns c =
     record {
       delivered = subst (λ (k : ℕ). DeliversToViewer c.args.self.now k c.loop-left.self) all
           was.delivered;
+      lost = λ fault is. subst (λ (k : ℕ). LosesToViewer c.args.self.now k c.loop-left.self) all
+          (was.lost fault is);
     }

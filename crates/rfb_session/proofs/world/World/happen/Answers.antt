@@ -1,7 +1,13 @@
-use Rattle.std.proofs.Common.{IfOk, sym, subst}
+use Rattle.std.proofs.Common.{Result, Ok, Err, IfOk, sym, subst}
 use Rattle.rfb_session.specs.declared.event.Event.{Event}
-use Rattle.rfb_session.specs.World.{Does}
+use Rattle.rfb_session.specs.declared.told.NoMemory.{NoMemory}
+use Rattle.rfb_session.specs.declared.told.Told.{Told}
+use Rattle.rfb_session.specs.World.{Does, LosesAs}
 use Rattle.rfb_session.proofs.world.World.happen.Goals as goal
+
+nothing : (result : Result Told NoMemory) → IfOk result (λ told. Unit {0})
+nothing (Ok told) = tt
+nothing (Err error) = tt
 
 pub returns-in-Fill-clause-does : goal.returns-in-Fill-clause-does
 returns-in-Fill-clause-does c =
@@ -67,3 +73,75 @@ pub returns-in-ToViewer-clause-does : goal.returns-in-ToViewer-clause-does
 returns-in-ToViewer-clause-does c =
     subst (λ (event : Event). IfOk c.move_to_viewer.result
     (λ told. Does c.args.self.now event told c.move_to_viewer.new.self)) (sym c.in-ToViewer.is) c.move_to_viewer.ensures.does
+
+pub returns-in-Fill-clause-lost : goal.returns-in-Fill-clause-lost
+returns-in-Fill-clause-lost c =
+    subst (λ (event : Event). LosesAs c.args.self.now event c.fill.result c.fill.new.self)
+    (sym c.in-Fill.is) tt
+
+pub returns-in-Put-clause-lost : goal.returns-in-Put-clause-lost
+returns-in-Put-clause-lost c =
+    subst (λ (event : Event). LosesAs c.args.self.now event c.put.result c.put.new.self)
+    (sym c.in-Put.is) tt
+
+pub returns-in-Copy-clause-lost : goal.returns-in-Copy-clause-lost
+returns-in-Copy-clause-lost c =
+    subst (λ (event : Event). LosesAs c.args.self.now event c.copy.result c.copy.new.self)
+    (sym c.in-Copy.is) tt
+
+pub returns-in-Hint-clause-lost : goal.returns-in-Hint-clause-lost
+returns-in-Hint-clause-lost c =
+    subst (λ (event : Event). LosesAs c.args.self.now event c.hint.result c.hint.new.self)
+    (sym c.in-Hint.is) tt
+
+pub returns-in-Request-clause-lost : goal.returns-in-Request-clause-lost
+returns-in-Request-clause-lost c =
+    subst (λ (event : Event). IfOk c.request.result
+    (λ told. LosesAs c.args.self.now event told c.request.new.self)) (sym c.in-Request.is)
+    (nothing c.request.result)
+
+pub returns-in-SetFormat-clause-lost : goal.returns-in-SetFormat-clause-lost
+returns-in-SetFormat-clause-lost c =
+    subst (λ (event : Event). IfOk c.set_format.result
+    (λ told. LosesAs c.args.self.now event told c.set_format.new.self)) (sym c.in-SetFormat.is)
+    (nothing c.set_format.result)
+
+pub returns-in-SetEncodings-clause-lost : goal.returns-in-SetEncodings-clause-lost
+returns-in-SetEncodings-clause-lost c =
+    subst (λ (event : Event). IfOk c.set_encodings.result
+    (λ told. LosesAs c.args.self.now event told c.set_encodings.new.self)) (sym c.in-SetEncodings.is)
+    (nothing c.set_encodings.result)
+
+pub returns-in-Key-clause-lost : goal.returns-in-Key-clause-lost
+returns-in-Key-clause-lost c =
+    subst (λ (event : Event). IfOk c.key.result
+    (λ told. LosesAs c.args.self.now event told c.key.new.self)) (sym c.in-Key.is)
+    (nothing c.key.result)
+
+pub returns-in-Pointer-clause-lost : goal.returns-in-Pointer-clause-lost
+returns-in-Pointer-clause-lost c =
+    subst (λ (event : Event). IfOk c.pointer.result
+    (λ told. LosesAs c.args.self.now event told c.pointer.new.self)) (sym c.in-Pointer.is)
+    (nothing c.pointer.result)
+
+pub returns-in-CutText-clause-lost : goal.returns-in-CutText-clause-lost
+returns-in-CutText-clause-lost c =
+    subst (λ (event : Event). IfOk c.cut_text.result
+    (λ told. LosesAs c.args.self.now event told c.cut_text.new.self)) (sym c.in-CutText.is)
+    (nothing c.cut_text.result)
+
+pub returns-in-Compose-clause-lost : goal.returns-in-Compose-clause-lost
+returns-in-Compose-clause-lost c =
+    subst (λ (event : Event). IfOk c.compose.result
+    (λ told. LosesAs c.args.self.now event told c.compose.new.self)) (sym c.in-Compose.is)
+    (nothing c.compose.result)
+
+pub returns-in-ToServer-clause-lost : goal.returns-in-ToServer-clause-lost
+returns-in-ToServer-clause-lost c =
+    subst (λ (event : Event). IfOk c.move_to_server.result
+    (λ told. LosesAs c.args.self.now event told c.move_to_server.new.self)) (sym c.in-ToServer.is) c.move_to_server.ensures.lost
+
+pub returns-in-ToViewer-clause-lost : goal.returns-in-ToViewer-clause-lost
+returns-in-ToViewer-clause-lost c =
+    subst (λ (event : Event). IfOk c.move_to_viewer.result
+    (λ told. LosesAs c.args.self.now event told c.move_to_viewer.new.self)) (sym c.in-ToViewer.is) c.move_to_viewer.ensures.lost

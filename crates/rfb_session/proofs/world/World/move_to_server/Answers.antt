@@ -1,4 +1,5 @@
-use Rattle.std.proofs.Common.{ℕ, min, ap, ◌∙◌}
+use Rattle.std.proofs.Common.{ℕ, min, sym, ap, ◌∙◌, subst}
+use Rattle.rfb_session.specs.World.{LosesToServer}
 use Rattle.rfb_session.proofs.WorldLemmas.{server_moved}
 use Rattle.rfb_session.proofs.world.World.move_to_server.Goals as goal
 
@@ -8,3 +9,11 @@ returns-clause-does c =
     c.told_moved.result (c.min-moved.ensures ∙ ap (λ (k : ℕ). min k c.args.count) c.len.ensures)
     c.in_ok-deliver_to_server.ensures.delivered c.told_moved.ensures.moved
     c.told_moved.ensures.refused c.told_moved.ensures.composed
+
+pub returns-clause-lost : goal.returns-clause-lost
+returns-clause-lost c = λ fault is. (
+  c.told_moved.ensures.moved ∙ c.min-moved.ensures
+      ∙ ap (λ (k : ℕ). min k c.args.count) c.len.ensures,
+  subst (λ (k : ℕ). LosesToServer c.args.self.now k c.deliver_to_server.new.self)
+      (sym c.told_moved.ensures.moved) (c.in_ok-deliver_to_server.ensures.lost fault is),
+)
