@@ -1,6 +1,7 @@
 //! A name and a text of all the bytes that a length can tell: their first MiB is kept, the rest taken.
 
 use super::*;
+use crate::ViewerFault;
 
 fn with_long_texts(alloc: Global) -> Viewer {
     let mut encodings = ArrayVec::new();
@@ -80,4 +81,21 @@ fn a_text_at_the_limit_is_kept_whole(rt: HostRuntime) -> Result<(), AllocError> 
     assert!(rt; takes(&mut viewer, b"\x03\0\0\0\0\x10\0\0", 8));
     assert!(rt; tells_whole(&mut viewer, &text));
     Ok(())
+}
+
+// The screen, the name and a text take memory. Where it is refused, that is told once more, and else all is
+// taken.
+#[test]
+fn want_of_memory_is_told_for_good(rt: HostRuntime) {
+    let mut viewer = viewer(rt.alloc(), Format::rgb888(), Version::V38);
+    let stream =
+        b"RFB 003.003\n\0\0\0\x01\0\x02\0\x01................\0\0\0\x01t\x03\0\0\0\0\0\0\x02AB";
+    for byte in stream.chunks(1) {
+        if let Err(fault) = viewer.feed(byte) {
+            assert_eq!(rt; fault, ViewerFault::NoMemory);
+            assert_eq!(rt; viewer.feed(byte).err(), Some(fault));
+            return;
+        }
+    }
+    assert!(rt; viewer.between());
 }
