@@ -3,6 +3,7 @@
 mod client_messages;
 mod composing;
 mod cuts;
+mod hints;
 mod long_streams;
 mod memory;
 mod model;
