@@ -14,3 +14,4 @@ pub mod TakenPlaneLemmas
 pub mod TakenLemmas
 pub mod CoverLemmas
 pub mod AreaLemmas
+pub mod NextCellLemmas

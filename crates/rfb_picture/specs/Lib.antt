@@ -6,6 +6,7 @@ pub mod Plane
 pub mod Box
 pub mod Places
 pub mod Cells
+pub mod CellOrder
 pub mod PlaceSet
 pub mod Edges
 pub mod Area

@@ -1,5 +1,5 @@
 -- How a `PlaceSet` holds which places are in it: by marks of its places, and by marks of its cells.
-use Rattle.std.specs.Prelude.{ℕ, Bool, true, ◌≡◌, ◌/◌, ◌^◌, ◌<◌, ◌&&◌, ◌||◌, not, false}
+use Rattle.std.specs.Prelude.{ℕ, Bool, true, ◌≡◌, ◌+◌, ◌*◌, ◌/◌, ◌^◌, ◌<◌, ◌≤◌, ◌&&◌, ◌||◌, not, false, Option, MatchOption}
 use Rattle.rfb_picture.specs.declared.rect.Rect.{Rect}
 use Rattle.rfb_picture.specs.declared.place_set.layers.Layers.{Layers}
 use Rattle.rfb_picture.specs.Rect.{contains}
@@ -70,3 +70,20 @@ pub record HasLost (cells : ℕ → ℕ → Bool) (other old new : Layers) : Typ
   pub alike : AreAlike new old
   pub each : (x y : ℕ) → x < old.places.width → y < old.places.height →
       in_set new x y ≡ (in_set old x y && not (cells (x / 64) (y / 64) && in_part other x y))
+
+-- no cell from one number up to another, in reading order, is open
+abbrev pub NoneOpen : Layers → ℕ → ℕ → Type 0
+NoneOpen l from to =
+    (i j : ℕ) → i < l.full.width → j < l.full.height → from ≤ j * l.full.width + i →
+    j * l.full.width + i < to → is_open l i j ≡ false
+
+-- it is the first open cell from one number on
+pub record IsNextOpen (l : Layers) (from cell : ℕ) : Type 0 where
+  pub after : from ≤ cell
+  pub is_cell : cell < l.full.width * l.full.height
+  pub none : NoneOpen l from cell
+
+-- that cell is it, or there is none
+abbrev pub HasNextOpen : Layers → ℕ → Option ℕ → Type 0
+HasNextOpen l from found =
+    MatchOption found (NoneOpen l from (l.full.width * l.full.height)) (λ cell. IsNextOpen l from cell)

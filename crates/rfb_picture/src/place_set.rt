@@ -13,6 +13,7 @@ use std::marker::Model;
 mod bounding;
 mod covering;
 mod layers;
+mod next_cell;
 mod parts;
 mod taking;
 #[cfg(test)]
@@ -46,6 +47,7 @@ impl PlaceSet {
     ghost use Rattle.rfb_picture.specs.Grid.{IsGrid, Holds, at_or, filled, uniform};
     ghost use Rattle.rfb_picture.specs.Box.{is_in, HasBox};
     ghost use Rattle.rfb_picture.specs.Cells.{IsOfCells};
+    ghost use Rattle.rfb_picture.specs.CellOrder.{HasNextCell, HasNextOfBoth};
     ghost use Rattle.rfb_picture.specs.Places.{AllMarked, HasRowBits, without};
 
     /// The set with no place, of a picture of `width` by `height` places. It asks for room for all
@@ -132,6 +134,36 @@ impl PlaceSet {
             None => None,
             Some(edges) => Some(edges.rect()),
         }
+    }
+
+    /// The first cell, 64 by 64 places, from number `from` on that has a place of the set; `None`
+    /// where none has. Cells are numbered in reading order: row by row from the top left, those at
+    /// the picture's right and lower edge too, which may be smaller. Cells with no place of the set
+    /// cost by the word, of 64 cells each.
+    pub fn next_cell(&self, from: usize) -> Option<usize>
+        ensures { HasNextCell (is_in self.now) self.now.width self.now.height from result }
+    {
+        self.layers.next_cell(from)
+    }
+
+    /// The first cell from number `from` on in which the set and `other`, of the same size, have a
+    /// place each, though it need not be one place; `None` where there is none. It costs by the
+    /// cells of the set that has fewer.
+    pub fn next_cell_of_both(&self, other: &PlaceSet, from: usize) -> Option<usize>
+        requires width { self.now.width ≡ other.now.width }
+        requires height { self.now.height ≡ other.now.height }
+        ensures { HasNextOfBoth (is_in self.now) (is_in other.now)
+            self.now.width self.now.height from result }
+    {
+        let mut at = from;
+        while let Some(cell) = self.next_cell(at) {
+            let next = other.next_cell(cell)?;
+            if next == cell {
+                return Some(cell);
+            }
+            at = next;
+        }
+        None
     }
 
     /// Puts the places of the rectangle into the set.

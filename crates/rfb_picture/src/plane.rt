@@ -1,6 +1,6 @@
 //! A mark for each place of a picture, or for each of its cells.
 
-ghost use Rattle.std.specs.Prelude.{◌≡◌, ◌↔◌, ◌+◌, ◌*◌, ◌/◌, ◌%◌, ◌<◌, ◌≤◌, false, true, IfOk};
+ghost use Rattle.std.specs.Prelude.{◌≡◌, ◌↔◌, ◌+◌, ◌*◌, ◌/◌, ◌%◌, ◌<◌, ◌≤◌, ◌||◌, false, true, IfOk};
 ghost use Rattle.std.specs.Prelude.{IsTrue};
 
 use crate::edges::{Edges, edges_in};
@@ -138,6 +138,22 @@ impl Plane {
         match next_place(&self.words, self.across, row, usize::from(x), to) {
             None => None,
             Some(column) => Some(column as u16),
+        }
+    }
+
+    /// The same of the places that are marked here, in `other`, of the same size, or in both.
+    #[inline]
+    pub(crate) fn next_of_either(&self, other: &Plane, x: u16, y: u16) -> Option<u16>
+        requires row { y < self.now.height }
+        requires width { self.now.width ≡ other.now.width }
+        requires height { self.now.height ≡ other.now.height }
+        ensures { HasNext (λ i j. is_in self.now i j || is_in other.now i j) y x
+            self.now.width result }
+    {
+        match (self.next(x, y), other.next(x, y)) {
+            (None, found) => found,
+            (Some(column), None) => Some(column),
+            (Some(here), Some(there)) => Some(here.min(there)),
         }
     }
 

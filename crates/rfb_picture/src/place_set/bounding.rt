@@ -45,7 +45,7 @@ impl Layers {
     }
 
     // The edges of those in a zone of one cell.
-    fn edges_in_cell(&self, zone: Rect) -> Option<Edges>
+    pub(super) fn edges_in_cell(&self, zone: Rect) -> Option<Edges>
         requires sound { IsLayers self.now }
         requires room { Holds self.now.places zone }
         requires column { zone.x + zone.w ≤ zone.x / 64 * 64 + 64 }

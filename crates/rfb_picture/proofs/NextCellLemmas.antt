@@ -1,0 +1,145 @@
+-- The next open cell of a set, row by row, and the places of a cell by its number.
+use Rattle.std.proofs.Common.{ℕ, Bool, true, false, ◌≡◌, ◌⊎◌, ◌+◌, ◌*◌, ◌/◌, ◌%◌, ◌<◌, ◌≤◌, ◌||◌, Option, Some, None, ◌∙◌, arith, inl, inr}
+use Rattle.std.proofs.lemmas.Bool.{cases_lt, cases_eq}
+use Rattle.std.proofs.lemmas.Nat.{mul-add-lt, same_from_place, div-add-mod', mod_below}
+use Rattle.std.proofs.Math.Nat.{mul_comm, mul-le-mul_right}
+use Rattle.rfb_picture.specs.declared.rect.Rect.{Rect}
+use Rattle.rfb_picture.specs.declared.edges.Edges.{Edges}
+use Rattle.rfb_picture.specs.declared.place_set.layers.Layers.{Layers}
+use Rattle.rfb_picture.specs.Rect.{contains}
+use Rattle.rfb_picture.specs.Box.{is_in}
+use Rattle.rfb_picture.specs.Edges.{IsEdges}
+use Rattle.rfb_picture.specs.Places.{NoneInRow, IsNext}
+use Rattle.rfb_picture.specs.Cells.{cells_in, in_column, in_row}
+use Rattle.rfb_picture.specs.CellOrder.{NoneInCells, HasPlaceIn, HasNextCell}
+use Rattle.rfb_picture.specs.PlaceSet.{in_set, layered, NoneOpen, IsNextOpen}
+use Rattle.rfb_picture.proofs.GridLemmas.{contains_true, contains_row}
+use Rattle.rfb_picture.proofs.PlaceSetLemmas.{at-layered}
+
+-- ---- open cells, row by row
+
+-- a cell of a row above has a lower number than the row's first
+above : (i j w row : ℕ) → i < w → j < row → j * w + i < row * w
+above i j w row p q = let below = mul-add-lt j w i row q p in omega (arith, mul_comm w row)
+
+-- a row's cells from one column up to another that are no further are not open
+pub row_none : (l : Layers) (from row start to : ℕ) →
+    (start ≡ 0) ⊎ (row * l.full.width + start ≡ from) →
+    to ≤ l.full.width →
+    NoneInRow (λ i j. is_in l.full i j || is_in l.used i j) row start to →
+    NoneOpen l from (row * l.full.width) →
+    NoneOpen l from (row * l.full.width + to)
+row_none l from row start to begins room none before =
+    λ i j p q low high.
+    elim (cases_lt j row) [
+      | inl less ↦ before i j p q low (above i j l.full.width row p less)
+      | inr more ↦ elim (cases_eq j row) [
+        | inl e ↦ elim (cases_lt i start) [
+          | inl left ↦ elim begins [
+            | inl z ↦ absurd (omega arith)
+            | inr at ↦ let low' = rw e at low in absurd (omega arith)
+          ]
+          | inr right ↦ let high' = rw e at high in rw e (none i right (omega arith))
+        ]
+        | inr apart ↦
+            let next : (row + 1) * l.full.width ≤ j * l.full.width =
+            mul-le-mul_right l.full.width (omega arith) in
+            absurd (omega (arith, next))
+      ]
+    ]
+
+-- the first open one of a row is the next
+pub next_open_is : (l : Layers) (from row start column : ℕ) →
+    (start ≡ 0) ⊎ (row * l.full.width + start ≡ from) →
+    from ≤ row * l.full.width + start →
+    row < l.full.height →
+    IsNext (λ i j. is_in l.full i j || is_in l.used i j) row start l.full.width column →
+    NoneOpen l from (row * l.full.width) →
+    IsNextOpen l from (row * l.full.width + column)
+next_open_is l from row start column begins reached low next before =
+    let after = next.after in
+    let below = next.before in
+    record {
+      after = omega arith;
+      is_cell = let less = mul-add-lt row l.full.width column l.full.height low below in
+          omega (arith, mul_comm l.full.width l.full.height);
+      none = row_none l from row start column begins (omega arith) next.none before;
+    }
+
+-- ---- the places of a cell
+
+-- the cell at that column and row of cells, as far as it lies in a picture of that size
+abbrev pub zone_of : ℕ → ℕ → ℕ → ℕ → Rect
+zone_of width height column row =
+    in_row (in_column (record { x = 0; y = 0; w = width; h = height }) column) row
+
+pub in_zone : (width height column row x y : ℕ) →
+    x < width → y < height → x / 64 ≡ column → y / 64 ≡ row →
+    contains (zone_of width height column row) x y ≡ true
+in_zone width height column row x y p q e f =
+    contains_row (zone_of width height column row) x y (omega arith) (omega arith) (omega arith)
+    (omega arith)
+
+pub of_zone : (width height column row x y : ℕ) →
+    contains (zone_of width height column row) x y ≡ true →
+    (x < width) × (y < height) × (x / 64 ≡ column) × (y / 64 ≡ row)
+of_zone width height column row x y inside =
+    let (x0, x1, y0, y1) = contains_true (zone_of width height column row) x y inside in
+    (omega arith, omega arith, omega arith, omega arith)
+
+-- where its places have edges, one of them is marked
+pub place_in_cell : (p : ℕ → ℕ → Bool) (width height across cell : ℕ) (e : Edges) →
+    across ≡ cells_in width →
+    IsEdges p (zone_of width height (cell % across) (cell / across)) e →
+    HasPlaceIn p width height cell
+place_in_cell p width height across cell e wide edges =
+    let (y, inside, marked) = edges.at_left in
+    let (left, low, column, row) =
+    of_zone width height (cell % across) (cell / across) e.left y inside in
+    record {
+      x = e.left;
+      y = y;
+      on_picture = (left, low);
+      in_cell = rw (← wide, column, row) (div-add-mod' cell across);
+      marked = marked;
+    }
+
+-- and where none of them is marked, none is in the cell of that number
+pub none_in_cell : (p : ℕ → ℕ → Bool) (width height across cell : ℕ) →
+    across ≡ cells_in width →
+    ((x y : ℕ) → contains (zone_of width height (cell % across) (cell / across)) x y ≡ true →
+    p x y ≡ false) →
+    NoneInCells p width height cell (cell + 1)
+none_in_cell p width height across cell wide none =
+    λ x y left low from to.
+    let from' = rw (← wide) at from in
+    let to' = rw (← wide) at to in
+    let column : x / 64 < across = omega (arith, wide) in
+    let place = same_from_place (y / 64) (x / 64) (cell / across) (cell % across) across column
+    (mod_below cell across (omega arith)) (omega (arith, div-add-mod' cell across)) in
+    none x y
+    (in_zone width height (cell % across) (cell / across) x y left low place.1 place.0)
+
+-- ---- the set itself
+
+-- the next cell by the marks is that of the set's places
+pub next-layered : (l : Layers) (from : ℕ) (found : Option ℕ) →
+    HasNextCell (in_set l) l.places.width l.places.height from found →
+    HasNextCell (is_in (layered l)) l.places.width l.places.height from found
+next-layered l from None none = λ x y p q low high.
+    at-layered l x y false p q ∙ none x y p q low high
+next-layered l from (Some cell) next =
+    let here = next.here in
+    record {
+      after = next.after;
+      is_cell = next.is_cell;
+      none = λ x y p q low high. at-layered l x y false p q ∙ next.none x y p q low high;
+      here = record {
+        x = here.x;
+        y = here.y;
+        on_picture = here.on_picture;
+        in_cell = here.in_cell;
+        marked = at-layered l here.x here.y false here.on_picture.0 here.on_picture.1
+            ∙ here.marked;
+      };
+    }
