@@ -34,8 +34,8 @@ HasNextCell p width height from found =
     MatchOption found (NoneInCells p width height from (cells_in width * cells_in height))
     (λ cell. IsNextCell p width height from cell)
 
--- it is the first cell from one number on in which two sets have a place each; no cell between has a
--- place that is in both
+-- it is the first cell from one number on in which two sets have a place each; no cell between has
+-- a place that is in both
 pub record IsNextOfBoth (p q : ℕ → ℕ → Bool) (width height from cell : ℕ) : Type 0 where
   pub after : from ≤ cell
   pub is_cell : cell < cells_in width * cells_in height

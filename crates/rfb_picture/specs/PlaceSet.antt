@@ -86,4 +86,5 @@ pub record IsNextOpen (l : Layers) (from cell : ℕ) : Type 0 where
 -- that cell is it, or there is none
 abbrev pub HasNextOpen : Layers → ℕ → Option ℕ → Type 0
 HasNextOpen l from found =
-    MatchOption found (NoneOpen l from (l.full.width * l.full.height)) (λ cell. IsNextOpen l from cell)
+    MatchOption found (NoneOpen l from (l.full.width * l.full.height))
+    (λ cell. IsNextOpen l from cell)

@@ -1,5 +1,7 @@
 //! Each call at a small set. The values were worked out by hand.
 
+ghost use Rattle.std.specs.Prelude.{◌≡◌};
+
 use super::*;
 use std::test::Fail;
 
@@ -79,5 +81,58 @@ fn a_set_loses_what_another_has(rt: HostRuntime) -> Result<(), Fail> {
     assert!(rt; set.has(0, 64));
     other.clear();
     assert_eq!(rt; other.row_bits(64, 1), 0);
+    Ok(())
+}
+
+// A cell of three by two, a place of another, and that place of a set of its own.
+fn spread(set: &mut PlaceSet, other: &mut PlaceSet)
+    requires width { set.old.width ≡ 130 }
+    requires height { set.old.height ≡ 66 }
+    requires width_too { other.old.width ≡ 130 }
+    requires height_too { other.old.height ≡ 66 }
+    ensures width { set.new.width ≡ 130 }
+    ensures height { set.new.height ≡ 66 }
+    ensures width_too { other.new.width ≡ 130 }
+    ensures height_too { other.new.height ≡ 66 }
+{
+    let place = Rect {
+        x: 65,
+        y: 65,
+        w: 1,
+        h: 1,
+    };
+    let last_cell = Rect {
+        x: 128,
+        y: 64,
+        w: 2,
+        h: 2,
+    };
+    set.add(place);
+    set.add(last_cell);
+    other.add(place);
+}
+
+#[test]
+fn cells_with_a_place_come_in_reading_order(rt: HostRuntime) -> Result<(), Fail> {
+    let mut set = PlaceSet::new(rt.alloc(), 130, 66)?;
+    let mut other = PlaceSet::new(rt.alloc(), 130, 66)?;
+    assert_eq!(rt; set.next_cell(0), None);
+    spread(&mut set, &mut other);
+    assert_eq!(rt; (set.next_cell(0), set.next_cell(4)), (Some(4), Some(4)));
+    assert_eq!(rt; (set.next_cell(5), set.next_cell(6)), (Some(5), None));
+    assert_eq!(rt; set.next_cell(usize::MAX), None);
+    assert_eq!(rt; set.next_cell_of_both(&other, 0), Some(4));
+    assert_eq!(rt; set.next_cell_of_both(&other, 5), None);
+    Ok(())
+}
+
+#[test]
+fn a_cell_that_lost_its_places_is_passed_over(rt: HostRuntime) -> Result<(), Fail> {
+    let mut set = PlaceSet::new(rt.alloc(), 130, 66)?;
+    let mut other = PlaceSet::new(rt.alloc(), 130, 66)?;
+    spread(&mut set, &mut other);
+    set.take_away(&other);
+    assert_eq!(rt; (set.next_cell(0), set.next_cell(6)), (Some(5), None));
+    assert_eq!(rt; set.next_cell_of_both(&other, 0), None);
     Ok(())
 }
