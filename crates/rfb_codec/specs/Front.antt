@@ -1,6 +1,7 @@
--- What data of a rectangle begin with, RFC 6143 section 7.7: pieces, each of which is shown at its last
--- byte, and the bytes of the piece after them. The pieces are the source of a CopyRect, a pixel of Raw
--- or of a raw tile, RRE's number with its background, a subrectangle of RRE, and a tile that is not raw.
+-- What data of a rectangle begin with, RFC 6143 section 7.7: pieces, each of which is shown at its
+-- last byte, and the bytes of the piece after them. The pieces are the source of a CopyRect, a
+-- pixel of Raw or of a raw tile, RRE's number with its background, a subrectangle of RRE, and a
+-- tile that is not raw.
 use Rattle.std.specs.Prelude.{◌≡◌, ℕ, ◌+◌, ◌-◌, ◌*◌, ◌/◌, ◌%◌, ◌<◌, ◌≤◌, ◌&&◌, nat_lt, true, false, List, [], ◌∷◌, ◌++◌, length, if◌then◌else◌}
 use Rattle.rfb_pixel.specs.declared.colour.Colour.{Colour}
 use Rattle.rfb_pixel.specs.Format.{PixelFormat, size_of, colour_of}
@@ -150,7 +151,8 @@ pub record Shows (f : PixelFormat) (rect : Rect) (front : Front) (pending : List
   pub spelled : SpellsFront f before.width before.height rect front pending body
   pub shows : now ≡ shown f rect front before
 
--- it shows the whole pieces that data of this encoding begin with, and these bytes are pending after them
+-- it shows the whole pieces that data of this encoding begin with, and these bytes are pending
+-- after them
 pub record ShowsFront (f : PixelFormat) (rect : Rect) (encoding : Encoding) (before : Grid Colour)
     (body pending : List ℕ) (now : Grid Colour) : Type 0 where
   pub front : Front

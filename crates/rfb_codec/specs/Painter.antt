@@ -29,8 +29,10 @@ data_of p picture = rect_data p.form picture.width picture.height p.rect p.encod
 abbrev pub painting_of : UpdatePoint → RectHead → Painting
 painting_of p head = record { rect = head.rect; encoding = head.encoding; form = p.form }
 
--- at that point of the stream these bytes are a rectangle's head, and the screen has the picture's size
-pub record AwaitsData (p : UpdatePoint) (head : RectHead) (front : List ℕ) (picture : Grid Colour) : Type 0 where
+-- at that point of the stream these bytes are a rectangle's head, and the screen has the picture's
+-- size
+pub record AwaitsData (p : UpdatePoint) (head : RectHead) (front : List ℕ) (picture : Grid Colour)
+    : Type 0 where
   pub some_left : 0 < p.left
   pub head_is : SpellsRectHead head front
   pub on_screen : IsOnScreen p.width p.height head.rect
@@ -41,4 +43,5 @@ pub record AwaitsData (p : UpdatePoint) (head : RectHead) (front : List ℕ) (pi
 
 -- the picture with colour c x y at place (x, y) of the rectangle, counted from its corner
 abbrev pub over : Rect → (ℕ → ℕ → Colour) → Grid Colour → Grid Colour
-over rect c picture = changed (λ x y old. if contains rect x y then c (x - rect.x) (y - rect.y) else old) picture
+over rect c picture =
+    changed (λ x y old. if contains rect x y then c (x - rect.x) (y - rect.y) else old) picture

@@ -36,7 +36,8 @@ pub record Sees (before : List Tile) (seen : Seen) : Type 0 where
   pub background : seen.background ≡ last_of background_of before
   pub foreground : seen.foreground ≡ last_of foreground_of before
 
--- stage, pending bytes and picture stand for the picture before the rectangle and for its data so far
+-- stage, pending bytes and picture stand for the picture before the rectangle and for its data so
+-- far
 abbrev pub StandsAt : PixelFormat → Rect → Stage → List ℕ → Grid Colour → Grid Colour → List ℕ →
     Type 0
 StandsAt f rect BeforeSource pending now before body = Shows f rect NoSource pending now before body

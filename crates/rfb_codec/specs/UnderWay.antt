@@ -1,4 +1,5 @@
--- A rectangle under way in a `Painter`: what it and the picture stand for, and what a slice makes of it.
+-- A rectangle under way in a `Painter`: what it and the picture stand for, and what a slice makes
+-- of it.
 use Rattle.std.specs.Prelude.{◌≡◌, ℕ, List, [], ◌++◌}
 use Rattle.rfb_pixel.specs.declared.colour.Colour.{Colour}
 use Rattle.rfb_pixel.specs.Format.{PixelFormat}
@@ -22,7 +23,8 @@ pub record UnderWay : Type 0 where
 abbrev pub painting : UnderWay → Painting
 painting p = record { rect = p.rect; encoding = encoding_at p.stage; form = p.form }
 
--- the painter and the picture `now` stand for the picture before the rectangle and for its data so far
+-- the painter and the picture `now` stand for the picture before the rectangle and for its data so
+-- far
 abbrev pub StandsFor : UnderWay → Grid Colour → Grid Colour → List ℕ → Type 0
 StandsFor p now before body = StandsAt p.form p.rect p.stage p.pending now before body
 
@@ -32,7 +34,8 @@ StandsFor p now before body = StandsAt p.form p.rect p.stage p.pending now befor
 abbrev pub Paints : UnderWay → Grid Colour → List ℕ → UnderWay → Grid Colour → Type 0
 Paints p picture bytes next now =
     (before : Grid Colour) (body : List ℕ) → StandsFor p picture before body →
-    (contents : RectData) × (data_of (painting p) before (body ++ bytes) ≡ Got contents []) × (now ≡ painted p.form p.rect contents before)
+    (contents : RectData) × (data_of (painting p) before (body ++ bytes) ≡ Got contents []) ×
+    (now ≡ painted p.form p.rect contents before)
     × (next.pending ≡ [])
 
 -- with the bytes the data are not whole, and painter and picture stand for them
@@ -45,9 +48,11 @@ Waits p picture bytes next now =
 abbrev pub Refuses : UnderWay → Grid Colour → List ℕ → Grid Colour → PaintFault → Type 0
 Refuses p picture bytes now fault =
     (before : Grid Colour) (body : List ℕ) → StandsFor p picture before body →
-    (data_of (painting p) before (body ++ bytes) ≡ Bad fault) × IsRefused p.form p.rect (encoding_at p.stage) before body bytes fault now
+    (data_of (painting p) before (body ++ bytes) ≡ Bad fault) ×
+    IsRefused p.form p.rect (encoding_at p.stage) before body bytes fault now
 
 -- ---- what a painter stands for is shown
 
 abbrev pub ShowsPieces : UnderWay → Grid Colour → Grid Colour → List ℕ → Type 0
-ShowsPieces p now before body = ShowsFront p.form p.rect (encoding_at p.stage) before body p.pending now
+ShowsPieces p now before body =
+    ShowsFront p.form p.rect (encoding_at p.stage) before body p.pending now

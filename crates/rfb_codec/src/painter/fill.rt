@@ -8,8 +8,8 @@ ghost use Rattle.rfb_codec.specs.inside.Step.{IsPaintable};
 use rfb_picture::{Picture, Rect};
 use rfb_pixel::Colour;
 
-/// Gives the colour to each place of the rectangle, as `Picture::fill` does. It needs fewer instructions
-/// a place, since each row is lent as a slice and the type of a place is known here.
+/// Gives the colour to each place of the rectangle, as `Picture::fill` does. It needs fewer
+/// instructions a place, since each row is lent as a slice and the type of a place is known here.
 pub fn fill(rect: Rect, colour: Colour, picture: &mut Picture<Colour>)
     requires { IsPaintable picture.old rect }
     ensures value { picture.new ≡ filled rect colour picture.old }
@@ -21,8 +21,8 @@ pub fn fill(rect: Rect, colour: Colour, picture: &mut Picture<Colour>)
     }
 }
 
-/// Gives the colour to each place of a row. Sixteen are written as one array, which needs a third of the
-/// instructions.
+/// Gives the colour to each place of a row. Sixteen are written as one array, which needs a third
+/// of the instructions.
 #[inline]
 pub fn fill_row(row: &mut [Colour], colour: Colour)
     ensures { (k : ℕ) (d : Colour) → k < length row.new → slice_index_or row.new k d ≡ colour }
@@ -80,8 +80,8 @@ fn put_line_at(row: &mut [Colour], start: usize, line: &[Colour; 16])
     put_line(&mut row[start..start + 16], line);
 }
 
-/// Sixteen places of that colour. It is taken apart, so that they are put together in registers: copies of
-/// it as a whole would be written to memory one by one.
+/// Sixteen places of that colour. It is taken apart, so that they are put together in registers:
+/// copies of it as a whole would be written to memory one by one.
 pub fn line_of(colour: Colour) -> [Colour; 16]
     ensures { (k : ℕ) (d : Colour) → k < 16 → slice_index_or result k d ≡ colour }
 {

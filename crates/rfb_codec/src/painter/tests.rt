@@ -1,5 +1,5 @@
-//! Data byte for byte, and what they leave in a picture. The values were worked out by hand from the
-//! tables of RFC 6143, section 7.7, and the formats of section 7.4.
+//! Data byte for byte, and what they leave in a picture. The values were worked out by hand from
+//! the tables of RFC 6143, section 7.7, and the formats of section 7.4.
 
 ghost use Rattle.std.specs.Prelude.{◌≡◌, ◌≢◌};
 ghost use Rattle.rfb_picture.specs.Grid.{Holds};

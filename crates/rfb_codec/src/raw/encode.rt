@@ -61,7 +61,8 @@ impl Codec for Raw {
 // Appends a piece of the pixels.
 fn append_pixels(out: &mut Vec<u8>, format: &Format, pixels: &[u32])
     requires few { length pixels.now ≤ PIECE }
-    requires room { vec_len out.old + length pixels.now * size_of format.now ≤ vec_capacity out.old }
+    requires room { vec_len out.old
+        + length pixels.now * size_of format.now ≤ vec_capacity out.old }
     ensures items { out.new.items ≡ out.old.items ++ flat_map (pixel_bytes format.now) pixels.now }
     ensures len { vec_len out.new ≡ vec_len out.old + length pixels.now * size_of format.now }
     ensures room { vec_capacity out.new ≡ vec_capacity out.old }

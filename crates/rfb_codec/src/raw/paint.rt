@@ -30,8 +30,8 @@ pub fn paint_rows(format: Format, rect: Rect, bytes: &[u8], picture: &mut Pictur
     }
 }
 
-/// Paints so many whole rows of the rectangle, from a row on, whose pixels stand behind those of the rows
-/// above.
+/// Paints so many whole rows of the rectangle, from a row on, whose pixels stand behind those of
+/// the rows above.
 pub fn paint_lines(
     format: Format,
     rect: Rect,
@@ -48,7 +48,8 @@ pub fn paint_lines(
     ensures width { picture.new.width ≡ picture.old.width }
     ensures height { picture.new.height ≡ picture.old.height }
 {
-    // The formats that this project announces are known before it runs, and their loops are far shorter.
+    // The formats that this project announces are known before it runs, and their loops are far
+    // shorter.
     if format == Format::rgb888() {
         lines_in(Format::rgb888(), rect, top, count, bytes, picture);
     } else if format == Format::rgb565() {
@@ -89,8 +90,8 @@ fn lines_in(
     }
 }
 
-/// Paints so many pixels of one row of the rectangle, from a place on, which stand behind those of the
-/// places before it.
+/// Paints so many pixels of one row of the rectangle, from a place on, which stand behind those of
+/// the places before it.
 #[inline(always)]
 pub fn paint_run(
     format: Format,

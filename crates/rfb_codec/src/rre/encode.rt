@@ -99,7 +99,8 @@ fn encode_with<const N: usize>(block: &Block, format: &Format, out: &mut Vec<u8>
 // Appends the U32 number of subrectangles and the background.
 fn append_head(out: &mut Vec<u8>, format: &Format, count: u32, background: u32)
     requires { vec_len out.old + (4 + size_of format.now) ≤ vec_capacity out.old }
-    ensures items { out.new.items ≡ out.old.items ++ (big_bytes 4 count ++ pixel_bytes format.now background) }
+    ensures items { out.new.items ≡
+        out.old.items ++ (big_bytes 4 count ++ pixel_bytes format.now background) }
     ensures len { vec_len out.new ≡ vec_len out.old + (4 + size_of format.now) }
     ensures room { vec_capacity out.new ≡ vec_capacity out.old }
 {

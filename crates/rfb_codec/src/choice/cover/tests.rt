@@ -34,6 +34,15 @@ fn a_run_goes_down_as_far_as_all_of_it_does(rt: HostRuntime) {
     assert!(rt; is_covered_by(&[B, A, A, A, B, A, A, B], &wanted));
 }
 
+#[test]
+fn a_run_of_two_columns_goes_down_two_rows(rt: HostRuntime) {
+    let pixels = [B, A, A, A, B, B, A, A, B, B, B, A, A, A, A];
+    let wanted = [dark(1, 0, 3, 1), dark(1, 1, 2, 2), dark(3, 2, 2, 1)];
+    let mut subs: ArrayVec<Subrect, 8> = ArrayVec::new();
+    assert!(rt; cover(&pixels, 5, 3, B, 8, &mut subs));
+    assert_eq!(rt; subs.as_slice(), wanted.as_slice());
+}
+
 // Whether a row of five places, of which every second one has pixel A, is covered.
 fn is_row_covered(background: u32, limit: usize) -> bool
     requires { limit ≤ 8 }

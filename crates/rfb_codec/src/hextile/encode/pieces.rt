@@ -31,7 +31,8 @@ pub fn append_byte(byte: u8, tile: &mut TileBytes)
 /// Appends the pixels of a tile.
 pub fn append_pixels(format: &Format, pixels: &[u32], tile: &mut TileBytes)
     requires few { length pixels.now ≤ 256 }
-    requires room { array_vec_len tile.old + length pixels.now * size_of format.now ≤ MAX_TILE_BYTES }
+    requires room { array_vec_len tile.old
+        + length pixels.now * size_of format.now ≤ MAX_TILE_BYTES }
     ensures { tile.new.items ≡ tile.old.items ++ flat_map (pixel_bytes format.now) pixels.now }
 {
     let mut bytes = [0; 1024];
@@ -56,7 +57,8 @@ fn append_pixel(format: &Format, pixel: u32, tile: &mut TileBytes)
 pub fn append_colour(format: &Format, colour: Option<u32>, tile: &mut TileBytes)
     requires { array_vec_len tile.old + length (colour_bytes format.now colour) ≤ MAX_TILE_BYTES }
     ensures items { tile.new.items ≡ tile.old.items ++ colour_bytes format.now colour }
-    ensures len { array_vec_len tile.new ≡ array_vec_len tile.old + length (colour_bytes format.now colour) }
+    ensures len { array_vec_len tile.new ≡
+        array_vec_len tile.old + length (colour_bytes format.now colour) }
 {
     if let Some(pixel) = colour {
         append_pixel(format, pixel, tile);
@@ -67,7 +69,8 @@ pub fn append_colour(format: &Format, colour: Option<u32>, tile: &mut TileBytes)
 pub fn append_count(subs: &TileSubrects, tile: &mut TileBytes)
     requires { array_vec_len tile.old + length (count_bytes subs.now.items) ≤ MAX_TILE_BYTES }
     ensures items { tile.new.items ≡ tile.old.items ++ count_bytes subs.now.items }
-    ensures len { array_vec_len tile.new ≡ array_vec_len tile.old + length (count_bytes subs.now.items) }
+    ensures len { array_vec_len tile.new ≡
+        array_vec_len tile.old + length (count_bytes subs.now.items) }
 {
     if !subs.is_empty() {
         append_byte(subs.len() as u8, tile);
@@ -90,7 +93,8 @@ pub fn append_colored(format: &Format, subs: &TileSubrects, tile: &mut TileBytes
     requires parts { AreTileParts format.now 16 16 subs.now.items }
     requires room { array_vec_len tile.old
         + length subs.now.items * (size_of format.now + 2) ≤ MAX_TILE_BYTES }
-    ensures { tile.new.items ≡ tile.old.items ++ flat_map (colored_bytes format.now) subs.now.items }
+    ensures { tile.new.items ≡
+        tile.old.items ++ flat_map (colored_bytes format.now) subs.now.items }
 {
     for sub in subs.as_slice() {
         append_pixel(format, sub.pixel, tile);

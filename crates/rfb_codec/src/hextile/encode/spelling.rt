@@ -58,7 +58,8 @@ fn colour_length(format: &Format, colour: Option<u32>) -> usize
 // How many bytes the subrectangles have, of so many each, and the byte that counts them.
 fn list_length(subs: &TileSubrects, size: usize) -> usize
     requires { size ≤ 6 }
-    ensures value { result ≡ (if are_some subs.now.items then 1 + length subs.now.items * size else 0) }
+    ensures value { result ≡
+        (if are_some subs.now.items then 1 + length subs.now.items * size else 0) }
     ensures few { result ≤ 1531 }
 {
     if subs.is_empty() {
@@ -80,7 +81,8 @@ pub fn append(
     requires few { length pixels.now ≤ 256 }
     requires room { array_vec_len tile.old
         + length (tile_bytes format.now layout pixels.now subs.now.items) ≤ MAX_TILE_BYTES }
-    ensures { tile.new.items ≡ tile.old.items ++ tile_bytes format.now layout pixels.now subs.now.items }
+    ensures { tile.new.items ≡
+        tile.old.items ++ tile_bytes format.now layout pixels.now subs.now.items }
 {
     append_byte(mask_of(layout, subs), tile);
     match layout {

@@ -56,9 +56,9 @@ pub fn draw_tile(
     }
 }
 
-// Paints the background over the rectangle, and then so many subrectangles, which lie inside it. Those
-// without a pixel of their own have the foreground. Inlined, so that its loop is made anew for each of the
-// two calls, which know whether there are such pixels.
+// Paints the background over the rectangle, and then so many subrectangles, which lie inside it.
+// Those without a pixel of their own have the foreground. Inlined, so that its loop is made anew
+// for each of the two calls, which know whether there are such pixels.
 #[inline(always)]
 fn draw_subs(
     format: Format,
@@ -91,7 +91,8 @@ fn draw_subs(
     }
 }
 
-// The colour of a subrectangle: of its pixel, or that of the foreground where it has none of its own.
+// The colour of a subrectangle: of its pixel, or that of the foreground where it has none of its
+// own.
 fn colour_at(format: Format, colored: bool, own: Colour, pixel: u32) -> Colour
     requires { colored ≡ false → own ≡ colour_of format pixel }
     ensures { result ≡ colour_of format pixel }
@@ -103,8 +104,8 @@ fn colour_at(format: Format, colored: bool, own: Colour, pixel: u32) -> Colour
     }
 }
 
-// The colour of a pixel. The format that this project announces is known before it runs, and needs no
-// division.
+// The colour of a pixel. The format that this project announces is known before it runs, and needs
+// no division.
 fn unpacked(format: Format, pixel: u32) -> Colour
     ensures { result ≡ colour_of format pixel }
 {

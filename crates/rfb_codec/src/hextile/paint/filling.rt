@@ -8,9 +8,9 @@ use crate::painter::fill::{fill, fill_row, line_of, put_line};
 use rfb_picture::{Picture, Rect};
 use rfb_pixel::Colour;
 
-/// Gives the colour to each place of a tile, as `fill` does. The rows of one that is not at the right
-/// edge are copied, each with a length that is known before it runs, so a place takes a third of the
-/// instructions.
+/// Gives the colour to each place of a tile, as `fill` does. The rows of one that is not at the
+/// right edge are copied, each with a length that is known before it runs, so a place takes a third
+/// of the instructions.
 pub fn fill_tile(rect: Rect, colour: Colour, picture: &mut Picture<Colour>)
     requires { IsPaintable picture.old rect }
     ensures value { picture.new ≡ filled rect colour picture.old }
@@ -38,7 +38,8 @@ fn fill_lines(rect: Rect, colour: Colour, picture: &mut Picture<Colour>)
     }
 }
 
-/// Gives the colour to each place of a part of a tile, as `fill` does. Most parts are one place wide.
+/// Gives the colour to each place of a part of a tile, as `fill` does. Most parts are one place
+/// wide.
 pub fn fill_part(rect: Rect, colour: Colour, picture: &mut Picture<Colour>)
     requires { IsPaintable picture.old rect }
     ensures value { picture.new ≡ filled rect colour picture.old }

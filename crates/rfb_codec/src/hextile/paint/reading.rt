@@ -17,9 +17,9 @@ use crate::hextile::mask::{
 use rfb_picture::Rect;
 use rfb_pixel::Format;
 
-/// The tile of that size that the bytes begin with, behind tiles that have specified the colours seen.
-/// None where it is not all there. A mask is judged at its byte, and subrectangles that leave the tile
-/// at the last byte of the tile.
+/// The tile of that size that the bytes begin with, behind tiles that have specified the colours
+/// seen. None where it is not all there. A mask is judged at its byte, and subrectangles that leave
+/// the tile at the last byte of the tile.
 pub fn read_tile(
     format: Format,
     seen: Seen,
@@ -129,7 +129,8 @@ fn whole(
     })
 }
 
-// The colour at that place, if it is named, and the place behind it. None where it is not all there.
+// The colour at that place, if it is named, and the place behind it. None where it is not all
+// there.
 fn find_colour(format: Format, named: bool, bytes: &[u8], at: usize) -> Option<(Option<u32>, usize)>
     requires place { at ≤ length bytes.now }
     requires low { at ≤ 8 }

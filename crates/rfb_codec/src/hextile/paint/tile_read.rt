@@ -6,8 +6,8 @@ ghost use Rattle.rfb_codec.specs.inside.TileRead.{background_named, foreground_n
 
 use crate::hextile::layout::TileLayout;
 
-/// A tile in the bytes that begin with it: how it is laid out, where its pixels or its subrectangles
-/// begin, how many subrectangles there are, and how many bytes it has in all.
+/// A tile in the bytes that begin with it: how it is laid out, where its pixels or its
+/// subrectangles begin, how many subrectangles there are, and how many bytes it has in all.
 #[derive(Clone, Copy, Debug, PartialEq, Eq)]
 pub struct TileRead {
     pub layout: TileLayout,

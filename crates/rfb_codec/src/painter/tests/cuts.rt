@@ -1,5 +1,5 @@
-//! Data that come in slices: after each byte the picture shows the whole pieces so far, and the bytes of
-//! the piece under way are pending.
+//! Data that come in slices: after each byte the picture shows the whole pieces so far, and the
+//! bytes of the piece under way are pending.
 
 use super::hextile::THREE;
 use super::*;
@@ -12,8 +12,8 @@ const THIRTY: Colour = Colour { r: 0, g: 219, b: 0 };
 
 const GREY: Colour = Colour { r: 1, g: 2, b: 3 };
 
-// A piece: the number of the bytes up to its end, what it gives a colour, and the mask of a raw tile as a
-// piece that shows nothing.
+// A piece: the number of the bytes up to its end, what it gives a colour, and the mask of a raw
+// tile as a piece that shows nothing.
 #[derive(Clone, Copy)]
 struct Piece {
     end: usize,
@@ -202,7 +202,8 @@ fn a_tile_is_shown_at_its_last_byte(rt: HostRuntime) -> Result<(), Fail> {
     at_every_cut(&rt, rt.alloc(), scene)
 }
 
-// One of two colours in sixteen places, and a raw one of one place, each pixel of which shows at once.
+// One of two colours in sixteen places, and a raw one of one place, each pixel of which shows at
+// once.
 #[test]
 fn a_pixel_of_a_raw_tile_is_shown_at_once(rt: HostRuntime) -> Result<(), Fail> {
     let pieces = [

@@ -9,8 +9,8 @@ const TWENTY: Colour = Colour { r: 0, g: 146, b: 0 };
 
 const THIRTY: Colour = Colour { r: 0, g: 219, b: 0 };
 
-// Three tiles at bgr233: two coloured subrectangles; one of a foreground; one of the same, carried, as
-// the background of both is.
+// Three tiles at bgr233: two coloured subrectangles; one of a foreground; one of the same, carried,
+// as the background of both is.
 pub const THREE: [u8; 18] = [
     0x1A, 0x10, 2, 0x20, 0xE0, 0x00, 0x30, 0xF0, 0x00, //
     0x0C, 0x20, 1, 0xF0, 0x00, //

@@ -12,7 +12,8 @@ const ALL: Rect = Rect {
 // Pixel 0x10 at bgr233.
 const TEN: Colour = Colour { r: 0, g: 73, b: 0 };
 
-// What is answered to RRE data over two red places, which have the background once its pixel is there.
+// What is answered to RRE data over two red places, which have the background once its pixel is
+// there.
 fn refused(
     rt: &impl Abort,
     alloc: Global,

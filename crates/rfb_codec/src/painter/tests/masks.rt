@@ -3,8 +3,8 @@
 use super::hextile::painted;
 use super::*;
 
-// What is answered to tiles of a row so wide. Its last place, which belongs to the last tile, stays as it
-// is if they are not done.
+// What is answered to tiles of a row so wide. Its last place, which belongs to the last tile, stays
+// as it is if they are not done.
 fn answered(
     rt: &impl Abort,
     alloc: Global,
@@ -77,7 +77,8 @@ fn refused_at_the_end(rt: &impl Abort, alloc: Global, data: &[u8]) -> Result<(),
     Ok(())
 }
 
-// Which colours the tiles before one specified: pixel 0x08 as the background and 0x18 as the foreground.
+// Which colours the tiles before one specified: pixel 0x08 as the background and 0x18 as the
+// foreground.
 #[derive(Clone, Copy)]
 struct Known {
     background: bool,
@@ -136,8 +137,9 @@ fn fault(mask: u8, known: Known) -> Option<PaintFault> {
     }
 }
 
-// What such a mask asks for: pixels 0x10 and 0x20 where it is raw; else 0x10 as the background, 0x20
-// as the foreground, and one subrectangle at the second place, with pixel 0x30 if it has its own.
+// What such a mask asks for: pixels 0x10 and 0x20 where it is raw; else 0x10 as the background,
+// 0x20 as the foreground, and one subrectangle at the second place, with pixel 0x30 if it has its
+// own.
 fn push_rest(data: &mut Vec<u8>, mask: u8) -> Result<(), Fail> {
     if has(mask, 1) {
         data.extend_from_slice(&[0x10, 0x20])?;
@@ -159,7 +161,8 @@ fn push_rest(data: &mut Vec<u8>, mask: u8) -> Result<(), Fail> {
     Ok(())
 }
 
-// Whether the tile is refused at its mask; or waited with up to its last byte, and what follows is left.
+// Whether the tile is refused at its mask; or waited with up to its last byte, and what follows is
+// left.
 fn is_judged(
     rt: &impl Abort,
     alloc: Global,

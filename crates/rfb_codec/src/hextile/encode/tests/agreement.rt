@@ -13,8 +13,8 @@ const A: u32 = 0x10;
 
 const B: u32 = 0x20;
 
-// Whether a reading of the data shows the pixels, with colours carried as leniently and as strictly as
-// can be.
+// Whether a reading of the data shows the pixels, with colours carried as leniently and as strictly
+// as can be.
 fn is_read_back(
     alloc: Global,
     format: &Format,
@@ -32,8 +32,8 @@ fn is_read_back(
     Ok(true)
 }
 
-// Whether the encoder does what the rule's plain form does, after bytes that stood there, and what it
-// appends is read back.
+// Whether the encoder does what the rule's plain form does, after bytes that stood there, and what
+// it appends is read back.
 fn keeps_the_rule(
     alloc: Global,
     format: &Format,

@@ -73,8 +73,8 @@ fn pixels_of_one_hash_are_not_one_pixel(rt: HostRuntime) -> Result<(), Fail> {
 fn fifty_dense_and_sparse_cells_keep_the_rule(rt: HostRuntime) -> Result<(), Fail> {
     let mut state = 7u32;
     for round in 0..50u32 {
-        // Of every so many places, one has one of so many other pixels, and one in three of these goes on
-        // to the right.
+        // Of every so many places, one has one of so many other pixels, and one in three of these
+        // goes on to the right.
         let apart = 2 + (round % 5) * (round % 5) * 9;
         let others = 1 + round % 7 * (round % 7) * 30;
         let mut pixels = [0x55_5555; 4096];
