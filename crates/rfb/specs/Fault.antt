@@ -11,7 +11,8 @@ use Rattle.rfb.specs.declared.fault.Fault.TheVariants.{Device, NoMemory}
 -- an error of that kind is want of memory, and any other a fault of a device
 abbrev pub IsFaultOf : Error → Fault → Type 0
 IsFaultOf error fault =
-    ((error_kind error ≡ OutOfMemory) × (fault ≡ NoMemory)) ⊎ ((error_kind error ≢ OutOfMemory) × (fault ≡ Device))
+    ((error_kind error ≡ OutOfMemory) × (fault ≡ NoMemory))
+    ⊎ ((error_kind error ≢ OutOfMemory) × (fault ≡ Device))
 
 -- the same as a failure of a command
 abbrev pub IsFailureOf : Error → Failure → Type 0

@@ -1,5 +1,6 @@
--- The two messages between the ends, as RFC 6143 lays them out: the viewer's FramebufferUpdateRequest,
--- section 7.5.3, and a FramebufferUpdate of one rectangle in Raw, sections 7.6.1 and 7.7.1.
+-- The two messages between the ends, as RFC 6143 lays them out: the viewer's
+-- FramebufferUpdateRequest, section 7.5.3, and a FramebufferUpdate of one rectangle in Raw,
+-- sections 7.6.1 and 7.7.1.
 use Rattle.std.specs.Prelude.{◌≡◌, ℕ, ◌+◌, ◌-◌, ◌*◌, ◌<◌, false, List, ◌++◌, length, take, drop, slice_index_or, if◌then◌else◌}
 use Rattle.rfb_pixel.specs.declared.colour.Colour.{Colour}
 use Rattle.rfb_pixel.specs.Format.{pixel_of, colour_of, pixel_number, rgb888}
@@ -20,7 +21,8 @@ request_bytes area = client_head_bytes (Request false area)
 
 -- the head of an update of one rectangle in Raw: the message's, and then the rectangle's
 abbrev pub update_head : Rect → List ℕ
-update_head area = server_head_bytes (Update 1) ++ rect_head_bytes (record { rect = area; encoding = Raw })
+update_head area =
+    server_head_bytes (Update 1) ++ rect_head_bytes (record { rect = area; encoding = Raw })
 
 -- the rectangle that stands in bytes from an offset on
 abbrev pub rect_at : ℕ → List ℕ → Rect
@@ -47,14 +49,16 @@ IsRequest bytes = SpellsClientHead (Request false (requested_area bytes)) bytes
 -- rectangle's, and four bytes for each of its places
 pub record IsUpdate (width height : ℕ) (bytes : List ℕ) : Type 0 where
   pub announced : SpellsServerHead (Update 1) (take 4 bytes)
-  pub placed : SpellsRectHead (record { rect = updated_area bytes; encoding = Raw }) (take 12 (drop 4 bytes))
+  pub placed : SpellsRectHead (record { rect = updated_area bytes; encoding = Raw })
+      (take 12 (drop 4 bytes))
   pub on : IsOnScreen width height (updated_area bytes)
   pub size : length bytes ≡ 16 + 4 * ((updated_area bytes).h * (updated_area bytes).w)
 
 -- bytes hold the pixels of the first n colours of a row, one after the other
 pub record ArePixels (n : ℕ) (row : List Colour) (bytes : List ℕ) : Type 0 where
   pub size : length bytes ≡ 4 * n
-  pub pixels : (k : ℕ) (d : Colour) → k < n → pixel_number rgb888 (drop (4 * k) bytes) ≡ pixel_of rgb888 (slice_index_or row k d)
+  pub pixels : (k : ℕ) (d : Colour) → k < n →
+      pixel_number rgb888 (drop (4 * k) bytes) ≡ pixel_of rgb888 (slice_index_or row k d)
 
 -- the pixel in Raw data of a place of the rectangle, counted from its corner
 abbrev pub raw_pixel : Rect → List ℕ → ℕ → ℕ → ℕ
@@ -63,12 +67,15 @@ raw_pixel r bytes x y = pixel_number rgb888 (drop (4 * (y * r.w + x)) bytes)
 -- Raw data of a rectangle of a screen: a pixel for each of its places, row by row
 pub record IsRaw (r : Rect) (screen : Grid Colour) (bytes : List ℕ) : Type 0 where
   pub size : length bytes ≡ 4 * (r.h * r.w)
-  pub pixels : (x y : ℕ) (d : Colour) → x < r.w → y < r.h → raw_pixel r bytes x y ≡ pixel_of rgb888 (at_or screen (r.x + x) (r.y + y) d)
+  pub pixels : (x y : ℕ) (d : Colour) → x < r.w → y < r.h →
+      raw_pixel r bytes x y ≡ pixel_of rgb888 (at_or screen (r.x + x) (r.y + y) d)
 
 -- the picture once Raw data were drawn over a rectangle of it
 abbrev pub painted : Rect → List ℕ → Grid Colour → Grid Colour
 painted r bytes g =
-    changed (λ x y old. if contains r x y then colour_of rgb888 (raw_pixel r bytes (x - r.x) (y - r.y)) else old) g
+    changed
+    (λ x y old. if contains r x y then colour_of rgb888 (raw_pixel r bytes (x - r.x) (y - r.y))
+    else old) g
 
 -- the picture once an update of one rectangle was applied to it
 abbrev pub after_update : List ℕ → Grid Colour → Grid Colour

@@ -9,4 +9,5 @@ IsDigits word = EachIndex word (λ k. IsInRange 48 57 (slice_index word k))
 
 -- The word is 1 to 10 decimal digits, whose value is at most 65,535.
 abbrev pub IsNumber : List ℕ → Type 0
-IsNumber word = IsDigits word × (1 ≤ length word) × (length word ≤ 10) × (digits_value 10 word < 2 ^ 16)
+IsNumber word =
+    IsDigits word × (1 ≤ length word) × (length word ≤ 10) × (digits_value 10 word < 2 ^ 16)

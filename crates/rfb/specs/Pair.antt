@@ -1,4 +1,5 @@
--- Both ends and all bytes between them: what contracts see of a `Pair`, and what each call does to it.
+-- Both ends and all bytes between them: what contracts see of a `Pair`, and what each call does to
+-- it.
 use Rattle.std.specs.Prelude.{◌≡◌, ℕ, ◌+◌, ◌&&◌, nat_lt, nat_le, Bool, true, false, List, [], ◌++◌, Option, Some, None, is_some, unwrap_or, if◌then◌else◌}
 use Rattle.rfb_pixel.specs.declared.colour.Colour.{Colour}
 use Rattle.rfb_picture.specs.declared.rect.Rect.{Rect}
@@ -30,7 +31,15 @@ black = record { r = 0; g = 0; b = 0 }
 
 -- a pair as it begins: a black screen, and nothing else yet
 abbrev pub fresh : ℕ → ℕ → PairState
-fresh w h = record { screen = uniform w h black; picture = None; to_server = []; to_viewer = []; request = Idle; latest = None }
+fresh w h =
+    record {
+      screen = uniform w h black;
+      picture = None;
+      to_server = [];
+      to_viewer = [];
+      request = Idle;
+      latest = None;
+    }
 
 -- no edge of the rectangle passes the screen's
 abbrev pub is_on : Grid Colour → Rect → Bool
@@ -55,13 +64,15 @@ is_area screen r = nat_lt 0 r.w && nat_lt 0 r.h && is_on screen r
 abbrev pub request_refusal : PairState → Rect → Option CallFault
 request_refusal s area =
     if is_some s.picture
-    then (if is_idle s.request then (if is_area s.screen area then None else Some AreaOutside) else Some Busy)
+    then (if is_idle s.request then (if is_area s.screen area then None else Some AreaOutside)
+    else Some Busy)
     else Some NotReady
 
 -- the pair after the viewer asked for an area; nothing changes where it refuses
 abbrev pub requested : Rect → PairState → PairState
 requested area s =
-    if is_some (request_refusal s area) then s else record s { to_server = request_bytes area; request = Sent }
+    if is_some (request_refusal s area) then s
+    else record s { to_server = request_bytes area; request = Sent }
 
 -- a request is there that the server has not answered
 abbrev pub is_delivered : Progress → Bool
@@ -74,10 +85,15 @@ is_delivered Answered = false
 pub record Answers (s : PairState) (area : Rect) (t : PairState) : Type 0 where
   pub pixels : List ℕ
   pub raw : IsRaw area s.screen pixels
-  pub after : t ≡ record s { to_viewer = update_head area ++ pixels; request = Answered; latest = Some (record { area = area; screen = s.screen }) }
+  pub after : t
+      ≡ record s {
+        to_viewer = update_head area ++ pixels;
+        request = Answered;
+        latest = Some (record { area = area; screen = s.screen });
+      }
 
--- the pair after the server composed when a request had come so far: it answers a delivered one, and else
--- does nothing
+-- the pair after the server composed when a request had come so far: it answers a delivered one,
+-- and else does nothing
 abbrev pub ComposesAt : Progress → PairState → PairState → Type 0
 ComposesAt Idle s t = t ≡ s
 ComposesAt Sent s t = t ≡ s
@@ -109,7 +125,8 @@ first_picture screen = uniform screen.width screen.height black
 -- the pair after all bytes in flight were delivered, and the viewer is ready
 abbrev pub settled : PairState → PairState
 settled s = record s {
-  picture = Some (delivered_to s.request s.to_viewer (unwrap_or s.picture (first_picture s.screen)));
+  picture =
+      Some (delivered_to s.request s.to_viewer (unwrap_or s.picture (first_picture s.screen)));
   to_server = [];
   to_viewer = [];
   request = arrived s.request s.to_server;

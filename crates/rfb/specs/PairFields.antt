@@ -24,10 +24,13 @@ abbrev pub IsInFlight : Grid Colour → Progress → List ℕ → List ℕ → T
 IsInFlight screen Idle to_server to_viewer = (to_server ≡ []) × (to_viewer ≡ [])
 IsInFlight screen Sent to_server to_viewer =
     IsRequest to_server × Holds screen (requested_area to_server) × (to_viewer ≡ [])
-IsInFlight screen (Delivered area) to_server to_viewer = (to_server ≡ []) × Holds screen area × (to_viewer ≡ [])
-IsInFlight screen Answered to_server to_viewer = (to_server ≡ []) × IsUpdate screen.width screen.height to_viewer
+IsInFlight screen (Delivered area) to_server to_viewer =
+    (to_server ≡ []) × Holds screen area × (to_viewer ≡ [])
+IsInFlight screen Answered to_server to_viewer =
+    (to_server ≡ []) × IsUpdate screen.width screen.height to_viewer
 
--- the three pictures have one size; before the viewer is ready its picture is black and nothing was asked
+-- the three pictures have one size; before the viewer is ready its picture is black and nothing was
+-- asked
 pub record IsPair (p : Inside) : Type 0 where
   pub narrow : p.screen.width ≤ 4096
   pub low : p.screen.height ≤ 4096

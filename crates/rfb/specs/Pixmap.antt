@@ -11,10 +11,11 @@ unfoldable pub components : List Colour → List ℕ
 components [] = []
 components (c ∷ cs) = c.r ∷ c.g ∷ c.b ∷ components cs
 
--- What stands before the places of a picture of that size: `P6`, the width and the height in decimal, and
--- the largest component.
+-- What stands before the places of a picture of that size: `P6`, the width and the height in
+-- decimal, and the largest component.
 abbrev pub header_of : ℕ → ℕ → List ℕ
-header_of width height = codes "P6\n" ++ (decimal width ++ (codes " " ++ (decimal height ++ codes "\n255\n")))
+header_of width height =
+    codes "P6\n" ++ (decimal width ++ (codes " " ++ (decimal height ++ codes "\n255\n")))
 
 abbrev pub header : Grid Colour → List ℕ
 header g = header_of g.width g.height

@@ -52,8 +52,11 @@ pub record IsReached (s : PairState) : Type 0 where
 abbrev pub AgreeOver : Rect → Grid Colour → Grid Colour → Type 0
 AgreeOver r g h = (x y : ℕ) (d : Colour) → IsTrue (contains r x y) → at_or g x y d ≡ at_or h x y d
 
--- with no update in flight, the viewer shows over the area of the latest update what the screen was at
--- that composing
+-- with no update in flight, the viewer shows over the area of the latest update what the screen was
+-- at that composing
 abbrev pub IsShown : PairState → Type 0
 IsShown s =
-    s.to_viewer ≡ [] → IfSome s.latest (λ composing. IsSomeAnd s.picture (λ picture. AgreeOver composing.area picture composing.screen))
+    s.to_viewer ≡ [] →
+    IfSome s.latest
+    (λ composing. IsSomeAnd s.picture
+    (λ picture. AgreeOver composing.area picture composing.screen))

@@ -35,7 +35,8 @@ IsSide word = IsNumber word × (1 ≤ digits_value 10 word) × (digits_value 10 
 
 -- two words are the size of a screen
 abbrev pub AreSize : List ℕ → List ℕ → Size → Type 0
-AreSize w h size = (IsSide w × IsSide h) × (size.width ≡ digits_value 10 w) × (size.height ≡ digits_value 10 h)
+AreSize w h size =
+    (IsSide w × IsSide h) × (size.width ≡ digits_value 10 w) × (size.height ≡ digits_value 10 h)
 
 -- four words are numbers
 abbrev pub AreNumbers : List ℕ → List ℕ → List ℕ → List ℕ → Type 0
@@ -52,14 +53,17 @@ pub record AreRect (x y w h : List ℕ) (rect : Rect) : Type 0 where
 -- a word is a colour: six hexadecimal digits, of red, green and blue
 abbrev pub IsColourWord : List ℕ → Colour → Type 0
 IsColourWord word colour =
-    ((length word ≡ 6) × AllPass is_hex_digit word) × (decode_of word ≡ Ok (colour.r ∷ colour.g ∷ colour.b ∷ []))
+    ((length word ≡ 6) × AllPass is_hex_digit word)
+    × (decode_of word ≡ Ok (colour.r ∷ colour.g ∷ colour.b ∷ []))
 
 -- what the words of a line behind the first ask for
 abbrev pub SaysEvent : List (List ℕ) → PairEvent → Type 0
 SaysEvent words (Fill rect colour) =
-    (x y w h c : List ℕ) × (words ≡ codes "fill" ∷ x ∷ y ∷ w ∷ h ∷ c ∷ []) × AreRect x y w h rect × IsColourWord c colour
+    (x y w h c : List ℕ) × (words ≡ codes "fill" ∷ x ∷ y ∷ w ∷ h ∷ c ∷ []) × AreRect x y w h rect
+    × IsColourWord c colour
 SaysEvent words (Request rect) =
-    (x y w h : List ℕ) × (words ≡ codes "request" ∷ codes "full" ∷ x ∷ y ∷ w ∷ h ∷ []) × AreRect x y w h rect
+    (x y w h : List ℕ) × (words ≡ codes "request" ∷ codes "full" ∷ x ∷ y ∷ w ∷ h ∷ [])
+    × AreRect x y w h rect
 SaysEvent words Compose = words ≡ codes "compose" ∷ []
 SaysEvent words Settle = words ≡ codes "settle" ∷ []
 
@@ -76,8 +80,8 @@ SaysNothing words = (line : Line) → Says words line → ⊥
 abbrev pub AreEmpty : List (List ℕ) → Type 0
 AreEmpty lines = All (λ line. line ≡ []) lines
 
--- lines, the first of which has this number, ask for these events in their order, each with the number of
--- its line; empty lines ask for nothing
+-- lines, the first of which has this number, ask for these events in their order, each with the
+-- number of its line; empty lines ask for nothing
 abbrev pub AskFor : ℕ → List (List ℕ) → List Numbered → Type 0
 AskFor n [] [] = Unit {0}
 AskFor n [] (event ∷ events) = ⊥
@@ -108,13 +112,15 @@ AsksForEvent line = (event : PairEvent) × SaysEvent (words_of line) event
 abbrev pub AreSomeScript : List (List ℕ) → Type 0
 AreSomeScript lines = (size : Size) × (events : List Numbered) × AreScript lines size events
 
--- a line is bad behind these: it has characters, and gives no size behind empty lines, or asks for nothing
--- behind a script
+-- a line is bad behind these: it has characters, and gives no size behind empty lines, or asks for
+-- nothing behind a script
 abbrev pub IsBadBehind : List (List ℕ) → List ℕ → Type 0
 IsBadBehind lines line =
-    (line ≢ []) × ((AreEmpty lines × ¬ (GivesSize line)) ⊎ (AreSomeScript lines × ¬ (AsksForEvent line)))
+    (line ≢ [])
+    × ((AreEmpty lines × ¬ (GivesSize line)) ⊎ (AreSomeScript lines × ¬ (AsksForEvent line)))
 
--- the first bad line has this number: those before it are empty or a script, and it is bad behind them
+-- the first bad line has this number: those before it are empty or a script, and it is bad behind
+-- them
 pub record IsFirstBad (lines : List (List ℕ)) (n : ℕ) : Type 0 where
   pub before : List (List ℕ)
   pub line : List ℕ

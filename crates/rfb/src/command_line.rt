@@ -1,9 +1,10 @@
 //! The command line: what the words ask for, what is read and printed, and the exit status.
 
-ghost use Rattle.std.specs.Prelude.{◌≡◌, ◌≢◌, ◌≤◌, map};
+ghost use Rattle.std.specs.Prelude.{◌≡◌, ◌≢◌, ◌≤◌, ℕ, map, Err, OnOk, IfErr};
 ghost use Rattle.clap.specs.Faults.{fault_of};
 ghost use Rattle.clap.specs.Kinds.{FailsBy};
-ghost use Rattle.rfb.specs.CommandLine.{AreMistaken, HaveMeaning, program};
+ghost use Rattle.rfb.specs.CommandLine.{AreCommand, AreMistaken, FailsAt, HaveMeaning, PlaysScript, program};
+ghost use Rattle.rfb.specs.declared.fault.Failure.TheVariants as Failure;
 ghost use Rattle.std.specs.IoError.{error_kind};
 ghost use Rattle.std.specs.declared.io.ErrorKind.TheVariants.{InvalidData};
 
@@ -62,6 +63,8 @@ pub fn command<P: AllocGlobal, S: AsStr, R: Read, W: Write, E: Write>(
     ensures range { result ≤ 2 }
     ensures done { result ≡ 0 → HaveMeaning (map S.text words.now) }
     ensures mistake { result ≡ 2 → AreMistaken (map S.text words.now) }
+    ensures played { result ≡ 0 → AreCommand (map S.text words.now) →
+        PlaysScript (R.remaining input.old) (W.contents output.old) (W.contents output.new) }
 {
     let alloc = rt.alloc();
     let done = match parse(alloc, words) {
@@ -90,8 +93,8 @@ fn tell<E: Write>(failure: Failure, errors: &mut E) -> u8
     FAILED
 }
 
-/// Tells on `errors` why there are no words to go by, and answers the exit status: 2 for a word that is
-/// not UTF-8, and else 1. A write that fails changes nothing.
+/// Tells on `errors` why there are no words to go by, and answers the exit status: 2 for a word
+/// that is not UTF-8, and else 1. A write that fails changes nothing.
 pub fn without_words<E: Write>(error: io::Error, errors: &mut E) -> u8
     ensures not_text { error_kind error ≡ InvalidData → result ≡ 2 }
     ensures other { error_kind error ≢ InvalidData → result ≡ 1 }
@@ -126,14 +129,19 @@ fn show<W: Write>(answer: &clap::Error, output: &mut W) -> Result<(), Failure> {
     Ok(())
 }
 
-// Runs the script that `input` has, between a server and a viewer in memory, and writes the viewer's
-// picture.
+// Runs the script that `input` has, between a server and a viewer in memory, and writes the
+// viewer's picture. At a bad line nothing is written.
 fn script<R: Read, W: Write, E: Write>(
     alloc: Global,
     input: &mut R,
     output: &mut W,
     errors: &mut E,
-) -> Result<(), Failure> {
+) -> Result<(), Failure>
+    ensures done { OnOk result
+        (PlaysScript (R.remaining input.old) (W.contents output.old) (W.contents output.new)) }
+    ensures stopped { IfErr result (FailsAt (R.remaining input.old)) }
+    ensures unwritten { (n : ℕ) → result ≡ Err (Failure.BadLine n) → output.new ≡ output.old }
+{
     let mut text = Vec::new(alloc);
     input.read_to_end(&mut text)?;
     let script = read_script(alloc, &text)?;
@@ -143,8 +151,8 @@ fn script<R: Read, W: Write, E: Write>(
     Ok(())
 }
 
-// A fresh pair after the events of a script. Calls that are refused are told on `errors`, each in one
-// write, and do not end the script.
+// A fresh pair after the events of a script. Calls that are refused are told on `errors`, each in
+// one write, and do not end the script.
 fn run<E: Write>(alloc: Global, script: &Script, errors: &mut E) -> Result<Pair, Fault> {
     let mut refusals = LineWriter::new(alloc, errors)?;
     let mut pair = Pair::new(alloc, script.screen.width, script.screen.height)?;

@@ -29,8 +29,8 @@ pub enum CallFault {
     AreaOutside,
 }
 
-/// A call that was refused on the spot, by the end that it was made on. It changed nothing, and later
-/// calls are judged as if it had not been made.
+/// A call that was refused on the spot, by the end that it was made on. It changed nothing, and
+/// later calls are judged as if it had not been made.
 #[derive(Clone, Copy, Debug, PartialEq, Eq, Error)]
 pub enum Refused {
     /// A drawing on the server's screen.

@@ -1,7 +1,7 @@
 //! The program `rfb`: both ends of the Remote Framebuffer protocol (RFC 6143) at work.
 //!
-//! Its one command `script` plays a script between a server and a viewer, both in memory, and writes
-//! the viewer's picture. `command_line` has the statuses, `script` the language.
+//! Its one command `script` plays a script between a server and a viewer, both in memory, and
+//! writes the viewer's picture. `command_line` has the statuses, `script` the language.
 #![tactic(auto)]
 
 mod command_line;

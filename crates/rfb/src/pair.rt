@@ -26,9 +26,9 @@ pub const BLACK: Colour = Colour { r: 0, g: 0, b: 0 };
 /// The most columns and rows of a screen.
 pub const MAX_SIDE: u16 = 4096;
 
-/// A server with its screen, a viewer with its picture, and the bytes in flight between them. Both ends
-/// use the format rgb888. The viewer is ready from the first `settle` on. All memory but that of
-/// updates is taken by `new`.
+/// A server with its screen, a viewer with its picture, and the bytes in flight between them. Both
+/// ends use the format rgb888. The viewer is ready from the first `settle` on. All memory but that
+/// of updates is taken by `new`.
 #[derive(Drop)]
 pub struct Pair {
     screen: Picture<Colour>,
@@ -61,8 +61,9 @@ impl Pair {
     ghost use Rattle.rfb.specs.Pair.{Composes, fresh, drawn, is_delivered, is_on, requested, request_refusal, settled};
     ghost use Rattle.rfb.specs.Run.{Does, Steps, AreColours, IsReached, IsShown, refusal_of};
 
-    /// A pair with a black screen of `width` by `height` places, and nothing in flight. It takes the memory
-    /// of three pictures of that size; where there is none, it gives the error and keeps nothing.
+    /// A pair with a black screen of `width` by `height` places, and nothing in flight. It takes
+    /// the memory of three pictures of that size; where there is none, it gives the error and keeps
+    /// nothing.
     pub fn new(alloc: Global, width: u16, height: u16) -> Result<Pair, AllocError>
         requires width { width ≤ MAX_SIDE }
         requires height { height ≤ MAX_SIDE }
@@ -96,8 +97,8 @@ impl Pair {
     }
 
     /// The viewer asks for all of an area, in ten bytes that are then in flight to the server. It
-    /// refuses, in this order, before it is ready, while a request is outstanding, and an area that is
-    /// empty or leaves the screen; nothing changes then.
+    /// refuses, in this order, before it is ready, while a request is outstanding, and an area that
+    /// is empty or leaves the screen; nothing changes then.
     pub fn request(&mut self, area: Rect) -> Result<(), CallFault>
         ensures refused { result_err result ≡ request_refusal self.old area }
         ensures after { self.new ≡ requested area self.old }
@@ -117,9 +118,10 @@ impl Pair {
         Ok(())
     }
 
-    /// The server answers the request that it has by one update of the area, in Raw, which is then in
-    /// flight to the viewer, and notes the area and the screen. It tells whether it did. The update's
-    /// memory is reserved before anything changes; where there is none, nothing has changed.
+    /// The server answers the request that it has by one update of the area, in Raw, which is then
+    /// in flight to the viewer, and notes the area and the screen. It tells whether it did. The
+    /// update's memory is reserved before anything changes; where there is none, nothing has
+    /// changed.
     pub fn compose(&mut self) -> Result<bool, AllocError>
         ensures did { IfOk result (λ did. did ≡ is_delivered self.old.request) }
         ensures after { OnOk result (Composes self.old self.new) }
@@ -139,8 +141,8 @@ impl Pair {
         Ok(true)
     }
 
-    /// Delivers all bytes in flight, first to the server, then to the viewer. From the first time on
-    /// the viewer is ready, and has a picture.
+    /// Delivers all bytes in flight, first to the server, then to the viewer. From the first time
+    /// on the viewer is ready, and has a picture.
     pub fn settle(&mut self)
         ensures { self.new ≡ settled self.old }
     {
@@ -173,8 +175,8 @@ impl Pair {
         }
     }
 
-    /// Makes the call that an event stands for, and tells its refusal, if there was one. Where memory
-    /// for an update is wanting, nothing has changed.
+    /// Makes the call that an event stands for, and tells its refusal, if there was one. Where
+    /// memory for an update is wanting, nothing has changed.
     pub fn step(&mut self, event: &PairEvent) -> Result<Option<Refused>, AllocError>
         ensures refused { IfOk result (λ refused. refused ≡ refusal_of self.old event.now) }
         ensures after { OnOk result (Does self.old event.now self.new) }
@@ -198,11 +200,13 @@ impl Pair {
         }
     }
 
-    /// Makes the calls of all events, in order; refused ones change nothing. Where memory for an update
-    /// is wanting, it stops, and the pair is as the events before that composing left it.
+    /// Makes the calls of all events, in order; refused ones change nothing. Where memory for an
+    /// update is wanting, it stops, and the pair is as the events before that composing left it.
     pub fn run(&mut self, events: &[PairEvent]) -> Result<(), AllocError>
         ensures after { OnOk result (Steps self.old events.now self.new) }
-        ensures stopped { OnErr result ((n : ℕ) × (slice_get events.now n ≡ Some PairEvent.Compose) × Steps self.old (take n events.now) self.new) }
+        ensures stopped { OnErr result ((n : ℕ)
+            × (slice_get events.now n ≡ Some PairEvent.Compose)
+            × Steps self.old (take n events.now) self.new) }
 
         // However it got here: what the viewer shows is the screen that it asked for.
         ensures shown { IsReached self.old → IsShown self.new }

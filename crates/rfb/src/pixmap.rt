@@ -101,7 +101,8 @@ fn write_some<'a, W: Write>(bytes: &'a [u8], output: &mut W) -> io::Result<&'a [
     }
 }
 
-// Appends the components of each colour, red first, one colour after the other. There is room for them.
+// Appends the components of each colour, red first, one colour after the other. There is room for
+// them.
 fn append_components(colours: &[Colour], bytes: &mut Vec<u8>)
     requires { vec_len bytes.old + 3 * length colours.now ≤ vec_capacity bytes.old }
     ensures items { bytes.new.items ≡ bytes.old.items ++ components colours.now }

@@ -15,7 +15,8 @@ pub fn append_rows(out: &mut Vec<u8>, screen: &Picture<Colour>, area: Rect)
     requires low { area.y + area.h < 2 ^ 16 }
     requires narrow { area.w ≤ MAX_SIDE }
     requires room { vec_len out.old + 4 * (area.h * area.w) ≤ vec_capacity out.old }
-    ensures { (bytes : List ℕ) × (out.new.items ≡ out.old.items ++ bytes) × IsRaw area screen.now bytes }
+    ensures { (bytes : List ℕ) × (out.new.items ≡ out.old.items ++ bytes)
+        × IsRaw area screen.now bytes }
 {
     let mut pixels = [0; 4 * MAX_SIDE as usize];
     let size = 4 * usize::from(area.w);

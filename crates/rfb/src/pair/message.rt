@@ -1,5 +1,5 @@
-//! The two messages between the ends, spelled and read by their heads: a request for all of an area,
-//! RFC 6143 section 7.5.3, and an update of one rectangle in Raw, sections 7.6.1 and 7.7.1.
+//! The two messages between the ends, spelled and read by their heads: a request for all of an
+//! area, RFC 6143 section 7.5.3, and an update of one rectangle in Raw, sections 7.6.1 and 7.7.1.
 
 ghost use Rattle.std.specs.Prelude.{◌≡◌, ◌+◌, ◌≤◌, ◌++◌, drop, vec_len};
 ghost use Rattle.std.specs.Vec.{vec_capacity};

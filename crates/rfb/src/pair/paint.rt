@@ -28,7 +28,9 @@ pub fn paint(bytes: &[u8], rect: Rect, picture: &mut Picture<Colour>)
 // The colours of a row of pixels.
 fn unpack_row(bytes: &[u8], row: &mut [Colour])
     requires { length bytes.now ≡ 4 * length row.old }
-    ensures { (k : ℕ) (d : Colour) → k < length row.new → slice_index_or row.new k d ≡ colour_of rgb888 (pixel_number rgb888 (drop (4 * k) bytes.now)) }
+    ensures { (k : ℕ) (d : Colour) → k < length row.new →
+        slice_index_or row.new k d
+        ≡ colour_of rgb888 (pixel_number rgb888 (drop (4 * k) bytes.now)) }
 {
     let format = Format::rgb888();
     for (k, colour) in row.iter_mut().enumerate() {

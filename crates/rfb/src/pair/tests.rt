@@ -32,8 +32,8 @@ const UPDATE_OF_ONE_PLACE: [u8; 20] = [
     0, 0, 0, 1, 0, 0, 0, 0, 0, 1, 0, 1, 0, 0, 0, 0, 0x01, 0x80, 0xFF, 0,
 ];
 
-// 7.6.1: type 0, padding, one rectangle: x 0, y 0, width 2, height 1, encoding 0. 7.7.1: two pixels,
-// each with its lowest byte first: FF8001, and black.
+// 7.6.1: type 0, padding, one rectangle: x 0, y 0, width 2, height 1, encoding 0. 7.7.1: two
+// pixels, each with its lowest byte first: FF8001, and black.
 const UPDATE_OF_ALL: [u8; 24] = [
     0, 0, 0, 1, 0, 0, 0, 0, 0, 2, 0, 1, 0, 0, 0, 0, 0x01, 0x80, 0xFF, 0, 0, 0, 0, 0,
 ];

@@ -30,7 +30,8 @@ const SETTLE: &[u8] = b"settle";
 // No line has more words.
 const WORDS_MAX: usize = 6;
 
-/// The screen's size, as a line without its newline gives it. It is `None` where the line gives none.
+/// The screen's size, as a line without its newline gives it. It is `None` where the line gives
+/// none.
 pub fn read_screen(line: &[u8]) -> Option<Screen>
     ensures { MatchOption result (¬ (GivesSize line.now))
         (λ size. Says (words_of line.now) (Line.Screen size)) }
@@ -51,8 +52,8 @@ pub fn read_event(line: &[u8]) -> Option<PairEvent>
     }
 }
 
-// Reads a line without its newline. It is `None` where the line is bad wherever it stands, as it is with
-// any character that is not ASCII.
+// Reads a line without its newline. It is `None` where the line is bad wherever it stands, as it is
+// with any character that is not ASCII.
 fn read_line(line: &[u8]) -> Option<Line>
     ensures { MatchOption result (SaysNothing (words_of line.now)) (Says (words_of line.now)) }
 {
