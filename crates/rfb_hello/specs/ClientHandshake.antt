@@ -1,5 +1,5 @@
--- The handshake as a client's bytes have it, RFC 6143 sections 7.1 and 7.3.1 and Appendix A: its version,
--- from version 3.7 on its choice of a security type, and ClientInit.
+-- The handshake as a client's bytes have it, RFC 6143 sections 7.1 and 7.3.1 and Appendix A: its
+-- version, from version 3.7 on its choice of a security type, and ClientInit.
 use Rattle.std.specs.Prelude.{◌≡◌, ◌≢◌, ℕ, ◌≤◌, ◌<◌, ◌==◌, Bool, true, false, List, [], ◌∷◌, length, Option, Some, None, nat_le, if◌then◌else◌}
 use Rattle.rfb_wire.specs.Fields.{u8_at, flag_at}
 use Rattle.rfb_wire.specs.stream.Reading.{Reading, Says}
@@ -33,21 +33,27 @@ pub data ClientItem : Type 0 where
 
 -- the bytes are this step at this point, where the server has offered a version
 abbrev pub SpellsClientItem : Version → ClientPoint → ClientItem → List ℕ → Type 0
-SpellsClientItem offer AwaitsVersion (ProtocolVersion version) bytes = SpellsVersion version bytes × (minor_of version ≤ minor_of offer)
+SpellsClientItem offer AwaitsVersion (ProtocolVersion version) bytes =
+    SpellsVersion version bytes × (minor_of version ≤ minor_of offer)
 SpellsClientItem offer (AwaitsChoice version) SecurityType bytes = bytes ≡ 1 ∷ []
-SpellsClientItem offer (AwaitsInit version) (ClientInit shared) bytes = (length bytes ≡ 1) × (flag_at 0 bytes ≡ shared)
+SpellsClientItem offer (AwaitsInit version) (ClientInit shared) bytes =
+    (length bytes ≡ 1) × (flag_at 0 bytes ≡ shared)
 SpellsClientItem offer point step bytes = ⊥
 
--- the bytes end in this fault at this point: twelve that are no version, a version above the one that was
--- offered, and a choice of another type
+-- the bytes end in this fault at this point: twelve that are no version, a version above the one
+-- that was offered, and a choice of another type
 abbrev pub FaultsClientItem : Version → ClientPoint → HelloFault → List ℕ → Type 0
-FaultsClientItem offer AwaitsVersion BadVersion bytes = (length bytes ≡ 12) × (IsVersionText bytes → ⊥)
-FaultsClientItem offer AwaitsVersion VersionTooHigh bytes = (version : Version) × SpellsVersion version bytes × (minor_of offer < minor_of version)
-FaultsClientItem offer (AwaitsChoice version) BadSecurityChoice bytes = (choice : ℕ) × (bytes ≡ choice ∷ []) × (choice ≢ 1)
+FaultsClientItem offer AwaitsVersion BadVersion bytes =
+    (length bytes ≡ 12) × (IsVersionText bytes → ⊥)
+FaultsClientItem offer AwaitsVersion VersionTooHigh bytes =
+    (version : Version) × SpellsVersion version bytes × (minor_of offer < minor_of version)
+FaultsClientItem offer (AwaitsChoice version) BadSecurityChoice bytes =
+    (choice : ℕ) × (bytes ≡ choice ∷ []) × (choice ≢ 1)
 FaultsClientItem offer point fault bytes = ⊥
 
 abbrev pub client_item_says : Version → ClientPoint → Says ClientItem HelloFault
-client_item_says offer point = record { item = SpellsClientItem offer point; fault = FaultsClientItem offer point }
+client_item_says offer point =
+    record { item = SpellsClientItem offer point; fault = FaultsClientItem offer point }
 
 -- the point behind a version: 3.3 leaves no choice
 abbrev pub behind_version : Version → ClientPoint
@@ -72,7 +78,8 @@ client_item_size (ClientInit shared) = 1
 abbrev pub client_version_fault : Version → List ℕ → Option HelloFault
 client_version_fault offer bytes =
     if is_version_text bytes
-    then (if nat_le (minor_of (version_of bytes)) (minor_of offer) then None else Some VersionTooHigh)
+    then (if nat_le (minor_of (version_of bytes)) (minor_of offer) then None
+    else Some VersionTooHigh)
     else Some BadVersion
 
 -- the fault of a choice, if it has one
@@ -81,11 +88,13 @@ choice_fault bytes = if u8_at 0 bytes == 1 then None else Some BadSecurityChoice
 
 -- what is read at a point; behind ClientInit nothing is
 abbrev pub client_item : Version → ClientPoint → Reading ClientItem HelloFault
-client_item offer AwaitsVersion = checked 12 (client_version_fault offer) (λ bytes. ProtocolVersion (version_of bytes))
+client_item offer AwaitsVersion =
+    checked 12 (client_version_fault offer) (λ bytes. ProtocolVersion (version_of bytes))
 client_item offer (AwaitsChoice version) = checked 1 choice_fault (λ bytes. SecurityType)
 client_item offer (AwaitsInit version) = valued 1 (λ bytes. ClientInit (flag_at 0 bytes))
 client_item offer (Begun version shared) = waiting
 
 -- the handshake of a client's bytes, where the server has offered a version
 abbrev pub client_handshake : Version → Grammar ClientPoint ClientItem HelloFault
-client_handshake offer = record { next = client_item offer; past = past_client_item; size = client_item_size }
+client_handshake offer =
+    record { next = client_item offer; past = past_client_item; size = client_item_size }

@@ -1,5 +1,5 @@
--- A whole handshake as two ends speak it: who sends what and when, by the version that both use, RFC 6143
--- sections 7.1 to 7.3 and Appendix A.
+-- A whole handshake as two ends speak it: who sends what and when, by the version that both use,
+-- RFC 6143 sections 7.1 to 7.3 and Appendix A.
 use Rattle.std.specs.Prelude.{◌≡◌, ℕ, Bool, List, [], ◌∷◌, ◌++◌, Some}
 use Rattle.rfb_wire.specs.stream.Grammar.{ReadsAll}
 use Rattle.rfb_wire.specs.stream.End.{acts, told}
@@ -39,9 +39,9 @@ types_turn = FromServer (SecurityTypes (1 ∷ []) ∷ []) (1 ∷ 1 ∷ [])
 abbrev pub result_turn : Turn
 result_turn = FromServer (SecurityResult ∷ []) (0 ∷ 0 ∷ 0 ∷ 0 ∷ [])
 
--- behind the versions. Under 3.3 the server decides the type, by a word, and ClientInit follows. Under 3.7
--- the viewer chooses, and sends ClientInit at once, since no SecurityResult comes for None. Under 3.8 it
--- waits for that
+-- behind the versions. Under 3.3 the server decides the type, by a word, and ClientInit follows.
+-- Under 3.7 the viewer chooses, and sends ClientInit at once, since no SecurityResult comes for
+-- None. Under 3.8 it waits for that
 abbrev pub turns_behind_versions : Version → Bool → ServerSetup → List Turn
 turns_behind_versions V33 shared setup =
     FromServer (SecurityNone ∷ []) (0 ∷ 0 ∷ 0 ∷ 1 ∷ [])
@@ -58,7 +58,8 @@ turns_behind_versions V38 shared setup =
     ∷ client_init_turn shared
     ∷ server_init_turn setup ∷ []
 
--- the version that both ends use: the lower of what the server offers and what the viewer goes up to
+-- the version that both ends use: the lower of what the server offers and what the viewer goes up
+-- to
 abbrev pub version_used : ServerSetup → ViewerSetup → Version
 version_used server viewer = lower viewer.limit server.offer
 
@@ -66,7 +67,8 @@ version_used server viewer = lower viewer.limit server.offer
 abbrev pub conversation : ServerSetup → ViewerSetup → List Turn
 conversation server viewer =
     FromServer (ServerVersion server.offer ∷ []) (version_text server.offer)
-    ∷ FromViewer (ClientVersion (version_used server viewer) ∷ []) (version_text (version_used server viewer))
+    ∷ FromViewer (ClientVersion (version_used server viewer) ∷ [])
+    (version_text (version_used server viewer))
     ∷ turns_behind_versions (version_used server viewer) viewer.shared server
 
 -- ---- that two ends speak it
@@ -92,17 +94,22 @@ server_answers setup point items = ByServer (server_replies (told (server_end se
 abbrev pub viewer_answers : ViewerSetup → ServerPoint → List ServerItem → Said
 viewer_answers setup point items = ByViewer (viewer_replies (told (viewer_end setup) point items))
 
--- turn by turn: what was said are the bytes of the turn; the end that hears them reads them as its items,
--- with nothing left; and what is said next is its answer to these. At the last the viewer has nothing to say,
--- and each end stands at its point
-abbrev pub Converse : ServerSetup → ViewerSetup → ClientPoint → ServerPoint → Said → List Turn → ClientPoint → ServerPoint → Type 0
+-- turn by turn: what was said are the bytes of the turn; the end that hears them reads them as its
+-- items, with nothing left; and what is said next is its answer to these. At the last the viewer
+-- has nothing to say, and each end stands at its point
+abbrev pub Converse : ServerSetup → ViewerSetup → ClientPoint → ServerPoint → Said → List Turn →
+    ClientPoint → ServerPoint → Type 0
 Converse server viewer at_server at_viewer said [] server_end_at viewer_end_at =
     (said ≡ ByViewer []) × (at_server ≡ server_end_at) × (at_viewer ≡ viewer_end_at)
-Converse server viewer at_server at_viewer said (FromServer items bytes ∷ turns) server_end_at viewer_end_at =
+Converse server viewer at_server at_viewer said
+    (FromServer items bytes ∷ turns) server_end_at viewer_end_at =
     (said ≡ ByServer bytes)
     × ReadsAll (server_handshake viewer.limit viewer.max_places) at_viewer bytes items []
-    × Converse server viewer at_server (acts (viewer_end viewer) at_viewer items) (viewer_answers viewer at_viewer items) turns server_end_at viewer_end_at
-Converse server viewer at_server at_viewer said (FromViewer items bytes ∷ turns) server_end_at viewer_end_at =
+    × Converse server viewer at_server (acts (viewer_end viewer) at_viewer items)
+    (viewer_answers viewer at_viewer items) turns server_end_at viewer_end_at
+Converse server viewer at_server at_viewer said
+    (FromViewer items bytes ∷ turns) server_end_at viewer_end_at =
     (said ≡ ByViewer bytes)
     × ReadsAll (client_handshake server.offer) at_server bytes items []
-    × Converse server viewer (acts (server_end server) at_server items) at_viewer (server_answers server at_server items) turns server_end_at viewer_end_at
+    × Converse server viewer (acts (server_end server) at_server items) at_viewer
+    (server_answers server at_server items) turns server_end_at viewer_end_at

@@ -1,7 +1,7 @@
--- Pending bytes of a handshake: those that stand behind the last whole piece. Pieces are a version's text,
--- the word of 3.3, the count of the security types and each of these, the word of SecurityResult, the length
--- of a reason and each byte of it, ServerInit up to the name and each byte of that; a client's are its
--- version's text, its choice and ClientInit.
+-- Pending bytes of a handshake: those that stand behind the last whole piece. Pieces are a
+-- version's text, the word of 3.3, the count of the security types and each of these, the word of
+-- SecurityResult, the length of a reason and each byte of it, ServerInit up to the name and each
+-- byte of that; a client's are its version's text, its choice and ClientInit.
 use Rattle.std.specs.Prelude.{ℕ, zero, suc, List, [], ◌∷◌}
 use Rattle.rfb_wire.specs.stream.Pending.{in_pieces, behind_piece}
 use Rattle.rfb_hello.specs.declared.version.Version.{Version}

@@ -1,5 +1,5 @@
--- The server's end of the handshake: what it answers to what a client sends, RFC 6143 sections 7.1 and
--- 7.3 and Appendix A.
+-- The server's end of the handshake: what it answers to what a client sends, RFC 6143 sections 7.1
+-- and 7.3 and Appendix A.
 use Rattle.std.specs.Prelude.{ℕ, List, [], ◌∷◌, ◌++◌, length, Option, Some, None}
 use Rattle.byteorder.specs.Endian.{big_bytes}
 use Rattle.arrayvec.specs.ArrayVec.{ArrayVec}
@@ -33,7 +33,8 @@ security_bytes V38 = 1 ∷ 1 ∷ []
 -- ServerInit, section 7.3.2, with the format rgb888
 abbrev pub server_init_bytes : ServerSetup → List ℕ
 server_init_bytes setup =
-    big_bytes 2 setup.width ++ big_bytes 2 setup.height ++ format_bytes rgb888 ++ big_bytes 4 (length setup.name) ++ setup.name
+    big_bytes 2 setup.width ++ big_bytes 2 setup.height ++ format_bytes rgb888
+    ++ big_bytes 4 (length setup.name) ++ setup.name
 
 -- the answer to a choice of None: from 3.8 on a SecurityResult, success, and before it none
 abbrev pub answer_to_choice : Version → Option ServerStep
@@ -43,14 +44,23 @@ answer_to_choice V38 = Some (Reply (as_reply (0 ∷ 0 ∷ 0 ∷ 0 ∷ [])))
 
 -- what the server's end tells of what a client sent
 abbrev pub server_tells : ServerSetup → ClientPoint → ClientItem → Option ServerStep
-server_tells setup AwaitsVersion (ProtocolVersion version) = Some (Reply (as_reply (security_bytes version)))
+server_tells setup AwaitsVersion (ProtocolVersion version) =
+    Some (Reply (as_reply (security_bytes version)))
 server_tells setup (AwaitsChoice version) SecurityType = answer_to_choice version
-server_tells setup (AwaitsInit version) (ClientInit shared) = Some (Ready (as_reply (server_init_bytes setup)) version shared)
+server_tells setup (AwaitsInit version) (ClientInit shared) =
+    Some (Ready (as_reply (server_init_bytes setup)) version shared)
 server_tells setup point item = None
 
 -- the server's end: its state is where the client's bytes stand
-abbrev pub server_end : ServerSetup → Machine ClientPoint ClientPoint ClientItem HelloFault ServerStep
-server_end setup = record { grammar = client_handshake setup.offer; point = λ point. point; act = past_client_item; tells = server_tells setup }
+abbrev pub server_end : ServerSetup →
+    Machine ClientPoint ClientPoint ClientItem HelloFault ServerStep
+server_end setup =
+    record {
+      grammar = client_handshake setup.offer;
+      point = λ point. point;
+      act = past_client_item;
+      tells = server_tells setup;
+    }
 
 -- the bytes of an answer
 abbrev pub answer_bytes : Option ServerStep → List ℕ

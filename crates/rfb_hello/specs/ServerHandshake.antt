@@ -1,5 +1,6 @@
--- The handshake as a server's bytes have it, RFC 6143 sections 7.1 and 7.3.2 and Appendix A: its version,
--- the security types, from version 3.8 on the SecurityResult, and ServerInit with the name.
+-- The handshake as a server's bytes have it, RFC 6143 sections 7.1 and 7.3.2 and Appendix A: its
+-- version, the security types, from version 3.8 on the SecurityResult, and ServerInit with the
+-- name.
 use Rattle.std.specs.Prelude.{◌≡◌, ◌≢◌, ℕ, zero, suc, ◌+◌, ◌*◌, ◌≤◌, ◌<◌, ◌==◌, ◌||◌, Bool, true, false, List, [], ◌∷◌, ◌++◌, length}
 use Rattle.rfb_wire.specs.Fields.{u16_at, u32_at}
 use Rattle.rfb_wire.specs.stream.Reading.{Says}
@@ -9,8 +10,8 @@ use Rattle.rfb_hello.specs.declared.fault.HelloFault.{HelloFault}
 use Rattle.rfb_hello.specs.declared.fault.HelloFault.TheVariants.{BadVersion, NoneNotOffered, Refused, BadSecurityWord, SecurityFailed, ScreenEmpty, ScreenTooLarge}
 use Rattle.rfb_hello.specs.Version.{IsVersionText, SpellsVersion, lower}
 
--- where a server's bytes stand in the handshake, with the version that both ends use and the screen's
--- size once they are known, and behind it
+-- where a server's bytes stand in the handshake, with the version that both ends use and the
+-- screen's size once they are known, and behind it
 pub data ServerPoint : Type 0 where
   AwaitsVersion : ServerPoint
   AwaitsSecurity : (version : Version) → ServerPoint
@@ -68,8 +69,8 @@ pub record IsWordWithReason (word reason_length : ℕ) (bytes : List ℕ) : Type
   pub head_is : IsWord word head
   pub reason_is : IsReason reason_length reason
 
--- ServerInit up to the name, section 7.3.2: U16 width, U16 height, sixteen bytes of a format, which are
--- not judged, and the U32 length of the name
+-- ServerInit up to the name, section 7.3.2: U16 width, U16 height, sixteen bytes of a format, which
+-- are not judged, and the U32 length of the name
 pub record SpellsServerInit (width height name_length : ℕ) (bytes : List ℕ) : Type 0 where
   pub size : length bytes ≡ 24
   pub width_is : u16_at 0 bytes ≡ width
@@ -82,13 +83,18 @@ IsAdmitted max_places width height = (0 < width) × (0 < height) × (width * hei
 
 -- the bytes are this step at this point
 abbrev pub SpellsServerItem : ℕ → ServerPoint → ServerItem → List ℕ → Type 0
-SpellsServerItem max_places AwaitsVersion (ProtocolVersion version) bytes = SpellsVersion version bytes
+SpellsServerItem max_places AwaitsVersion (ProtocolVersion version) bytes =
+    SpellsVersion version bytes
 SpellsServerItem max_places (AwaitsSecurity V33) SecurityNone bytes = IsWord 1 bytes
-SpellsServerItem max_places (AwaitsSecurity V37) (SecurityTypes types) bytes = IsTypes types bytes × (has_none types ≡ true)
-SpellsServerItem max_places (AwaitsSecurity V38) (SecurityTypes types) bytes = IsTypes types bytes × (has_none types ≡ true)
+SpellsServerItem max_places (AwaitsSecurity V37) (SecurityTypes types) bytes =
+    IsTypes types bytes × (has_none types ≡ true)
+SpellsServerItem max_places (AwaitsSecurity V38) (SecurityTypes types) bytes =
+    IsTypes types bytes × (has_none types ≡ true)
 SpellsServerItem max_places (AwaitsResult version) SecurityResult bytes = IsWord 0 bytes
-SpellsServerItem max_places (AwaitsInit version) (ServerInit width height name_length) bytes = SpellsServerInit width height name_length bytes × IsAdmitted max_places width height
-SpellsServerItem max_places (AwaitsName version width height name_length) (Name text) bytes = (bytes ≡ text) × (length text ≡ name_length) × (0 < name_length)
+SpellsServerItem max_places (AwaitsInit version) (ServerInit width height name_length) bytes =
+    SpellsServerInit width height name_length bytes × IsAdmitted max_places width height
+SpellsServerItem max_places (AwaitsName version width height name_length) (Name text) bytes =
+    (bytes ≡ text) × (length text ≡ name_length) × (0 < name_length)
 SpellsServerItem max_places point step bytes = ⊥
 
 -- types without None, told at the last of them
@@ -97,26 +103,38 @@ IsWithoutNone bytes = (types : List ℕ) × IsTypes types bytes × (has_none typ
 
 -- a count of no types, and behind it a reason
 abbrev pub IsRefusal : ℕ → List ℕ → Type 0
-IsRefusal reason_length bytes = (reason : List ℕ) × (bytes ≡ 0 ∷ reason) × IsReason reason_length reason
+IsRefusal reason_length bytes =
+    (reason : List ℕ) × (bytes ≡ 0 ∷ reason) × IsReason reason_length reason
 
--- the bytes end in this fault at this point: a refusal at the last byte of its reason, a screen at the
--- last byte before the name
+-- the bytes end in this fault at this point: a refusal at the last byte of its reason, a screen at
+-- the last byte before the name
 abbrev pub FaultsServerItem : ℕ → ServerPoint → HelloFault → List ℕ → Type 0
-FaultsServerItem max_places AwaitsVersion BadVersion bytes = (length bytes ≡ 12) × (IsVersionText bytes → ⊥)
-FaultsServerItem max_places (AwaitsSecurity V33) (Refused reason_length) bytes = IsWordWithReason 0 reason_length bytes
+FaultsServerItem max_places AwaitsVersion BadVersion bytes =
+    (length bytes ≡ 12) × (IsVersionText bytes → ⊥)
+FaultsServerItem max_places (AwaitsSecurity V33) (Refused reason_length) bytes =
+    IsWordWithReason 0 reason_length bytes
 FaultsServerItem max_places (AwaitsSecurity V33) NoneNotOffered bytes = IsWord 2 bytes
-FaultsServerItem max_places (AwaitsSecurity V33) BadSecurityWord bytes = (word : ℕ) × IsWord word bytes × (2 < word)
-FaultsServerItem max_places (AwaitsSecurity V37) (Refused reason_length) bytes = IsRefusal reason_length bytes
+FaultsServerItem max_places (AwaitsSecurity V33) BadSecurityWord bytes =
+    (word : ℕ) × IsWord word bytes × (2 < word)
+FaultsServerItem max_places (AwaitsSecurity V37) (Refused reason_length) bytes =
+    IsRefusal reason_length bytes
 FaultsServerItem max_places (AwaitsSecurity V37) NoneNotOffered bytes = IsWithoutNone bytes
-FaultsServerItem max_places (AwaitsSecurity V38) (Refused reason_length) bytes = IsRefusal reason_length bytes
+FaultsServerItem max_places (AwaitsSecurity V38) (Refused reason_length) bytes =
+    IsRefusal reason_length bytes
 FaultsServerItem max_places (AwaitsSecurity V38) NoneNotOffered bytes = IsWithoutNone bytes
-FaultsServerItem max_places (AwaitsResult version) (SecurityFailed reason_length) bytes = (word : ℕ) × (word ≢ 0) × IsWordWithReason word reason_length bytes
-FaultsServerItem max_places (AwaitsInit version) ScreenEmpty bytes = (width height name_length : ℕ) × SpellsServerInit width height name_length bytes × (width * height ≡ 0)
-FaultsServerItem max_places (AwaitsInit version) ScreenTooLarge bytes = (width height name_length : ℕ) × SpellsServerInit width height name_length bytes × (0 < width * height) × (max_places < width * height)
+FaultsServerItem max_places (AwaitsResult version) (SecurityFailed reason_length) bytes =
+    (word : ℕ) × (word ≢ 0) × IsWordWithReason word reason_length bytes
+FaultsServerItem max_places (AwaitsInit version) ScreenEmpty bytes =
+    (width height name_length : ℕ) × SpellsServerInit width height name_length bytes
+    × (width * height ≡ 0)
+FaultsServerItem max_places (AwaitsInit version) ScreenTooLarge bytes =
+    (width height name_length : ℕ) × SpellsServerInit width height name_length bytes
+    × (0 < width * height) × (max_places < width * height)
 FaultsServerItem max_places point fault bytes = ⊥
 
 abbrev pub server_item_says : ℕ → ServerPoint → Says ServerItem HelloFault
-server_item_says max_places point = record { item = SpellsServerItem max_places point; fault = FaultsServerItem max_places point }
+server_item_says max_places point =
+    record { item = SpellsServerItem max_places point; fault = FaultsServerItem max_places point }
 
 -- the point behind the security types
 abbrev pub behind_types : Version → ServerPoint
@@ -131,12 +149,15 @@ behind_init version width height (suc n) = AwaitsName version width height (suc 
 
 -- the point behind a step, where the viewer goes up to a version
 abbrev pub past_server_item : Version → ServerPoint → ServerItem → ServerPoint
-past_server_item limit AwaitsVersion (ProtocolVersion version) = AwaitsSecurity (lower limit version)
+past_server_item limit AwaitsVersion (ProtocolVersion version) =
+    AwaitsSecurity (lower limit version)
 past_server_item limit (AwaitsSecurity version) SecurityNone = behind_types version
 past_server_item limit (AwaitsSecurity version) (SecurityTypes types) = behind_types version
 past_server_item limit (AwaitsResult version) SecurityResult = AwaitsInit version
-past_server_item limit (AwaitsInit version) (ServerInit width height name_length) = behind_init version width height name_length
-past_server_item limit (AwaitsName version width height name_length) (Name text) = Begun version width height
+past_server_item limit (AwaitsInit version) (ServerInit width height name_length) =
+    behind_init version width height name_length
+past_server_item limit (AwaitsName version width height name_length) (Name text) =
+    Begun version width height
 past_server_item limit point step = point
 
 -- how many bytes a step has

@@ -9,10 +9,12 @@ use Rattle.rfb_hello.specs.ClientHandshake.{ClientPoint, AwaitsVersion, AwaitsCh
 
 -- so much progress stands for that point and that prefix; one that has failed stands for none
 abbrev pub ProgressStandsFor : Progress → ClientPoint → List ℕ → Type 0
-ProgressStandsFor (VersionPart text) point prefix = (point ≡ AwaitsVersion) × (prefix ≡ text.items) × (length text.items < 12)
+ProgressStandsFor (VersionPart text) point prefix =
+    (point ≡ AwaitsVersion) × (prefix ≡ text.items) × (length text.items < 12)
 ProgressStandsFor (Choice version) point prefix = (point ≡ AwaitsChoice version) × (prefix ≡ [])
 ProgressStandsFor (Init version) point prefix = (point ≡ AwaitsInit version) × (prefix ≡ [])
-ProgressStandsFor (Done version shared) point prefix = (point ≡ Begun version shared) × (prefix ≡ [])
+ProgressStandsFor (Done version shared) point prefix =
+    (point ≡ Begun version shared) × (prefix ≡ [])
 ProgressStandsFor (Failed fault) point prefix = ⊥
 
 -- the fault that it has failed with, if it has

@@ -13,7 +13,8 @@ use Rattle.rfb_hello.specs.ServerHandshake.{ServerPoint, AwaitsVersion, AwaitsSe
 
 -- a reason, and at its last byte the fault that tells its length
 abbrev pub reason : (ℕ → HelloFault) → Reading ServerItem HelloFault
-reason fault = and_then (valued 4 (λ bytes. u32_at 0 bytes)) (λ n. and_then (piece n) (λ _. refused (fault n)))
+reason fault =
+    and_then (valued 4 (λ bytes. u32_at 0 bytes)) (λ n. and_then (piece n) (λ _. refused (fault n)))
 
 -- behind the word that 3.3 has for a security type
 abbrev pub behind_word : ℕ → Reading ServerItem HelloFault
@@ -55,13 +56,20 @@ security V38 = and_then (valued 1 (λ bytes. u8_at 0 bytes)) behind_count
 
 -- what is read at a point; behind the name nothing is
 abbrev pub server_item : ℕ → ServerPoint → Reading ServerItem HelloFault
-server_item max_places AwaitsVersion = checked 12 (λ bytes. if is_version_text bytes then None else Some BadVersion) (λ bytes. ProtocolVersion (version_of bytes))
+server_item max_places AwaitsVersion =
+    checked 12 (λ bytes. if is_version_text bytes then None else Some BadVersion)
+    (λ bytes. ProtocolVersion (version_of bytes))
 server_item max_places (AwaitsSecurity version) = security version
-server_item max_places (AwaitsResult version) = and_then (valued 4 (λ bytes. u32_at 0 bytes)) behind_result
-server_item max_places (AwaitsInit version) = checked 24 (screen_fault max_places) (λ bytes. ServerInit (u16_at 0 bytes) (u16_at 2 bytes) (u32_at 20 bytes))
+server_item max_places (AwaitsResult version) =
+    and_then (valued 4 (λ bytes. u32_at 0 bytes)) behind_result
+server_item max_places (AwaitsInit version) =
+    checked 24 (screen_fault max_places)
+    (λ bytes. ServerInit (u16_at 0 bytes) (u16_at 2 bytes) (u32_at 20 bytes))
 server_item max_places (AwaitsName version width height name_length) = name name_length
 server_item max_places (Begun version width height) = waiting
 
--- the handshake of a server's bytes, where the viewer goes up to a version and admits so many places
+-- the handshake of a server's bytes, where the viewer goes up to a version and admits so many
+-- places
 abbrev pub server_handshake : Version → ℕ → Grammar ServerPoint ServerItem HelloFault
-server_handshake limit max_places = record { next = server_item max_places; past = past_server_item limit; size = server_item_size }
+server_handshake limit max_places =
+    record { next = server_item max_places; past = past_server_item limit; size = server_item_size }

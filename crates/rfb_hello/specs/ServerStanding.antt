@@ -1,5 +1,5 @@
--- What a `ServerHello` stands for: a setup, a point of the handshake, and the bytes that came of the
--- client's next item, fewer than it has.
+-- What a `ServerHello` stands for: a setup, a point of the handshake, and the bytes that came of
+-- the client's next item, fewer than it has.
 use Rattle.std.specs.Prelude.{◌≡◌, ℕ, Bool, List, Option}
 use Rattle.rfb_hello.specs.declared.fault.HelloFault.{HelloFault}
 use Rattle.rfb_hello.specs.declared.server_hello.ServerHello.{ServerHello}
@@ -9,10 +9,17 @@ use Rattle.rfb_hello.specs.ServerProgress.{ProgressStandsFor, fault_in, is_open 
 
 -- the setup that it was made with
 abbrev pub setup_of : ServerHello → ServerSetup
-setup_of hello = record { offer = hello.offer; width = hello.width; height = hello.height; name = hello.name.items }
+setup_of hello =
+    record {
+      offer = hello.offer;
+      width = hello.width;
+      height = hello.height;
+      name = hello.name.items;
+    }
 
 -- the end stands for a setup, a point and a prefix
-pub record StandsFor (setup : ServerSetup) (hello : ServerHello) (point : ClientPoint) (prefix : List ℕ) : Type 0 where
+pub record StandsFor (setup : ServerSetup) (hello : ServerHello) (point : ClientPoint)
+    (prefix : List ℕ) : Type 0 where
   pub setup_is : setup_of hello ≡ setup
   pub progress_is : ProgressStandsFor hello.progress point prefix
 

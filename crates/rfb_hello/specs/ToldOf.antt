@@ -1,4 +1,5 @@
--- What the steps `Screen` and `Ready` are told of: one item at one point each, whose numbers they have.
+-- What the steps `Screen` and `Ready` are told of: one item at one point each, whose numbers they
+-- have.
 use Rattle.std.specs.Prelude.{◌≡◌, ◌<◌, ◌⊎◌, ℕ, Bool, List}
 use Rattle.arrayvec.specs.ArrayVec.{ArrayVec}
 use Rattle.rfb_hello.specs.declared.version.Version.{Version}
@@ -8,16 +9,18 @@ use Rattle.rfb_hello.specs.ServerHandshake.{ServerPoint, AwaitsInit, AwaitsName,
 use Rattle.rfb_hello.specs.ServerEnd.{ServerSetup, as_reply, server_init_bytes}
 use Rattle.rfb_hello.specs.ViewerEnd.{ViewerSetup}
 
--- the server's end is ready at ClientInit, under the version and with the flag that it tells, and answers
--- it with ServerInit and the name; the handshake is then behind the client's bytes
-pub record IsReadyAt (setup : ServerSetup) (point : ClientPoint) (item : ClientItem) (reply : ArrayVec ℕ) (version : Version) (shared : Bool) : Type 0 where
+-- the server's end is ready at ClientInit, under the version and with the flag that it tells, and
+-- answers it with ServerInit and the name; the handshake is then behind the client's bytes
+pub record IsReadyAt (setup : ServerSetup) (point : ClientPoint) (item : ClientItem)
+    (reply : ArrayVec ℕ) (version : Version) (shared : Bool) : Type 0 where
   pub at_point : point ≡ AwaitsClientInit version
   pub item_is : item ≡ ClientInit shared
   pub reply_is : reply ≡ as_reply (server_init_bytes setup)
   pub behind : past_client_item point item ≡ ClientBegun version shared
 
 -- the viewer's end tells a screen at the ServerInit that has its size, before a name that has bytes
-pub record IsScreenAt (setup : ViewerSetup) (point : ServerPoint) (item : ServerItem) (width height : ℕ) : Type 0 where
+pub record IsScreenAt (setup : ViewerSetup) (point : ServerPoint) (item : ServerItem)
+    (width height : ℕ) : Type 0 where
   pub version : Version
   pub name_length : ℕ
   pub at_point : point ≡ AwaitsInit version
@@ -26,21 +29,24 @@ pub record IsScreenAt (setup : ViewerSetup) (point : ServerPoint) (item : Server
   pub behind : past_server_item setup.limit point item ≡ AwaitsName version width height name_length
 
 -- it is ready at a ServerInit before a name without bytes
-pub record IsReadyUnnamed (point : ServerPoint) (item : ServerItem) (width height : ℕ) (version : Version) (name : KeptText) (name_length : ℕ) : Type 0 where
+pub record IsReadyUnnamed (point : ServerPoint) (item : ServerItem) (width height : ℕ)
+    (version : Version) (name : KeptText) (name_length : ℕ) : Type 0 where
   pub at_point : point ≡ AwaitsInit version
   pub item_is : item ≡ ServerInit width height name_length
   pub name_is : name ≡ no_text
   pub unnamed : name_length ≡ 0
 
 -- or at the name behind the ServerInit that had the size and the name's length
-pub record IsReadyNamed (setup : ViewerSetup) (point : ServerPoint) (item : ServerItem) (width height : ℕ) (version : Version) (name : KeptText) (name_length : ℕ) : Type 0 where
+pub record IsReadyNamed (setup : ViewerSetup) (point : ServerPoint) (item : ServerItem)
+    (width height : ℕ) (version : Version) (name : KeptText) (name_length : ℕ) : Type 0 where
   pub text : List ℕ
   pub at_point : point ≡ AwaitsName version width height name_length
   pub item_is : item ≡ Name text
   pub name_is : name ≡ kept_of setup.text_limit name_length text
 
 -- in either case the handshake is then behind the server's bytes
-pub record IsViewerReadyAt (setup : ViewerSetup) (point : ServerPoint) (item : ServerItem) (width height : ℕ) (version : Version) (name : KeptText) (name_length : ℕ) : Type 0 where
+pub record IsViewerReadyAt (setup : ViewerSetup) (point : ServerPoint) (item : ServerItem)
+    (width height : ℕ) (version : Version) (name : KeptText) (name_length : ℕ) : Type 0 where
   pub told_at : IsReadyUnnamed point item width height version name name_length
       ⊎ IsReadyNamed setup point item width height version name name_length
   pub behind : past_server_item setup.limit point item ≡ Begun version width height

@@ -11,7 +11,8 @@ IsDigit byte = (48 ≤ byte) × (byte ≤ 57)
 -- "RFB ddd.ddd" and a line feed
 pub record IsVersionText (bytes : List ℕ) : Type 0 where
   pub size : length bytes ≡ 12
-  pub letters : (u8_at 0 bytes ≡ 82) × (u8_at 1 bytes ≡ 70) × (u8_at 2 bytes ≡ 66) × (u8_at 3 bytes ≡ 32)
+  pub letters : (u8_at 0 bytes ≡ 82) × (u8_at 1 bytes ≡ 70) × (u8_at 2 bytes ≡ 66)
+      × (u8_at 3 bytes ≡ 32)
   pub major : IsDigit (u8_at 4 bytes) × IsDigit (u8_at 5 bytes) × IsDigit (u8_at 6 bytes)
   pub point : u8_at 7 bytes ≡ 46
   pub minor : IsDigit (u8_at 8 bytes) × IsDigit (u8_at 9 bytes) × IsDigit (u8_at 10 bytes)
@@ -19,7 +20,8 @@ pub record IsVersionText (bytes : List ℕ) : Type 0 where
 
 -- the number that three decimal digits are
 abbrev pub number_at : ℕ → List ℕ → ℕ
-number_at i bytes = (u8_at i bytes - 48) * 100 + (u8_at (i + 1) bytes - 48) * 10 + (u8_at (i + 2) bytes - 48)
+number_at i bytes =
+    (u8_at i bytes - 48) * 100 + (u8_at (i + 1) bytes - 48) * 10 + (u8_at (i + 2) bytes - 48)
 
 -- the published versions are 3.3, 3.7 and 3.8; any other is taken as 3.3
 abbrev pub version_named : ℕ → ℕ → Version
@@ -38,11 +40,13 @@ is_digit byte = nat_le 48 byte && nat_le byte 57
 
 -- the test that three bytes are digits
 abbrev pub are_digits : ℕ → List ℕ → Bool
-are_digits i bytes = is_digit (u8_at i bytes) && is_digit (u8_at (i + 1) bytes) && is_digit (u8_at (i + 2) bytes)
+are_digits i bytes =
+    is_digit (u8_at i bytes) && is_digit (u8_at (i + 1) bytes) && is_digit (u8_at (i + 2) bytes)
 
 -- the test that bytes begin with "RFB "
 abbrev pub has_letters : List ℕ → Bool
-has_letters bytes = u8_at 0 bytes == 82 && u8_at 1 bytes == 70 && u8_at 2 bytes == 66 && u8_at 3 bytes == 32
+has_letters bytes =
+    u8_at 0 bytes == 82 && u8_at 1 bytes == 70 && u8_at 2 bytes == 66 && u8_at 3 bytes == 32
 
 -- the test of twelve bytes for a ProtocolVersion
 abbrev pub is_version_text : List ℕ → Bool

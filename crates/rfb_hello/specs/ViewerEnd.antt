@@ -1,5 +1,5 @@
--- The viewer's end of the handshake: what it answers to what a server sends, and what it tells of it, RFC
--- 6143 sections 7.1 to 7.3 and Appendix A.
+-- The viewer's end of the handshake: what it answers to what a server sends, and what it tells of
+-- it, RFC 6143 sections 7.1 to 7.3 and Appendix A.
 use Rattle.std.specs.Prelude.{◌≡◌, ◌≢◌, ◌<◌, ℕ, zero, suc, List, [], ◌∷◌, ◌++◌, Option, Some, None, Bool, true, false}
 use Rattle.rfb_wire.specs.stream.End.{Machine}
 use Rattle.rfb_hello.specs.declared.version.Version.{Version}
@@ -16,8 +16,8 @@ use Rattle.rfb_hello.specs.ServerHandshake.{ServerPoint, AwaitsVersion, AwaitsSe
 use Rattle.rfb_hello.specs.ServerReading.{server_handshake}
 use Rattle.rfb_hello.specs.ServerEnd.{as_reply}
 
--- the version that a viewer goes up to, whether it shares the screen with others, how many places it
--- admits, and how many bytes of a text it keeps
+-- the version that a viewer goes up to, whether it shares the screen with others, how many places
+-- it admits, and how many bytes of a text it keeps
 pub record ViewerSetup : Type 0 where
   pub limit : Version
   pub shared : Bool
@@ -38,45 +38,61 @@ choice_bytes V38 shared = 1 ∷ []
 
 -- ServerInit: the screen, or where there is no name to be waited for, all
 abbrev pub told_of_init : ℕ → Version → ℕ → ℕ → ℕ → ViewerStep
-told_of_init text_limit version width height zero = Ready width height version (kept_of text_limit zero []) zero
+told_of_init text_limit version width height zero =
+    Ready width height version (kept_of text_limit zero []) zero
 told_of_init text_limit version width height (suc n) = Screen width height
 
 -- what the viewer's end tells of what a server sent
 abbrev pub viewer_tells : ViewerSetup → ServerPoint → ServerItem → Option ViewerStep
-viewer_tells setup AwaitsVersion (ProtocolVersion version) = Some (Reply (as_reply (version_text (lower setup.limit version))))
-viewer_tells setup (AwaitsSecurity version) SecurityNone = Some (Reply (as_reply (shared_flag setup.shared ∷ [])))
-viewer_tells setup (AwaitsSecurity version) (SecurityTypes types) = Some (Reply (as_reply (choice_bytes version setup.shared)))
-viewer_tells setup (AwaitsResult version) SecurityResult = Some (Reply (as_reply (shared_flag setup.shared ∷ [])))
-viewer_tells setup (AwaitsInit version) (ServerInit width height name_length) = Some (told_of_init setup.text_limit version width height name_length)
-viewer_tells setup (AwaitsName version width height name_length) (Name text) = Some (Ready width height version (kept_of setup.text_limit name_length text) name_length)
+viewer_tells setup AwaitsVersion (ProtocolVersion version) =
+    Some (Reply (as_reply (version_text (lower setup.limit version))))
+viewer_tells setup (AwaitsSecurity version) SecurityNone =
+    Some (Reply (as_reply (shared_flag setup.shared ∷ [])))
+viewer_tells setup (AwaitsSecurity version) (SecurityTypes types) =
+    Some (Reply (as_reply (choice_bytes version setup.shared)))
+viewer_tells setup (AwaitsResult version) SecurityResult =
+    Some (Reply (as_reply (shared_flag setup.shared ∷ [])))
+viewer_tells setup (AwaitsInit version) (ServerInit width height name_length) =
+    Some (told_of_init setup.text_limit version width height name_length)
+viewer_tells setup (AwaitsName version width height name_length) (Name text) =
+    Some (Ready width height version (kept_of setup.text_limit name_length text) name_length)
 viewer_tells setup point item = None
 
 -- the viewer's end: its state is where the server's bytes stand
-abbrev pub viewer_end : ViewerSetup → Machine ServerPoint ServerPoint ServerItem HelloFault ViewerStep
-viewer_end setup = record { grammar = server_handshake setup.limit setup.max_places; point = λ point. point; act = past_server_item setup.limit; tells = viewer_tells setup }
+abbrev pub viewer_end : ViewerSetup →
+    Machine ServerPoint ServerPoint ServerItem HelloFault ViewerStep
+viewer_end setup =
+    record {
+      grammar = server_handshake setup.limit setup.max_places;
+      point = λ point. point;
+      act = past_server_item setup.limit;
+      tells = viewer_tells setup;
+    }
 
 -- the fault that a reason of so many bytes is given for
 abbrev pub fault_for : Cause → ℕ → HelloFault
 fault_for Refused reason_length = RefusedFault reason_length
 fault_for SecurityFailed reason_length = FailedFault reason_length
 
--- these bytes stand before a reason at that point: a word or a count of no types, or a SecurityResult that
--- is not success
+-- these bytes stand before a reason at that point: a word or a count of no types, or a
+-- SecurityResult that is not success
 abbrev pub OpensReason : Cause → ServerPoint → List ℕ → Type 0
 OpensReason Refused (AwaitsSecurity V33) bytes = IsWord 0 bytes
 OpensReason Refused (AwaitsSecurity V37) bytes = bytes ≡ 0 ∷ []
 OpensReason Refused (AwaitsSecurity V38) bytes = bytes ≡ 0 ∷ []
-OpensReason SecurityFailed (AwaitsResult version) bytes = (word : ℕ) × (word ≢ 0) × IsWord word bytes
+OpensReason SecurityFailed (AwaitsResult version) bytes =
+    (word : ℕ) × (word ≢ 0) × IsWord word bytes
 OpensReason cause point bytes = ⊥
 
--- memory is asked for once the length of a text is known that has bytes: so it is at the last byte of a
--- reason's length
+-- memory is asked for once the length of a text is known that has bytes: so it is at the last byte
+-- of a reason's length
 abbrev pub AsksForReason : ServerPoint → List ℕ → Type 0
 AsksForReason point bytes =
     (cause : Cause) × (intro word : List ℕ) × (n : ℕ) × (bytes ≡ intro ++ word)
     × OpensReason cause point intro × IsWord n word × (0 < n)
 
--- so it is at a good ServerInit before a name that has bytes: a screen that is refused asks for none
+-- so it is at a good ServerInit before a name that has bytes: a screen that is refused asks for
+-- none
 abbrev pub AsksForName : ℕ → List ℕ → Type 0
 AsksForName max_places bytes =
     (width height name_length : ℕ) × SpellsServerInit width height name_length bytes

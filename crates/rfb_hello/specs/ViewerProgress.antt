@@ -9,19 +9,33 @@ use Rattle.rfb_hello.specs.KeptText.{KeptText, no_text, kept_of}
 use Rattle.rfb_hello.specs.ServerHandshake.{ServerPoint, AwaitsVersion, AwaitsSecurity, AwaitsResult, AwaitsInit, AwaitsName, Begun, IsWord, has_none}
 use Rattle.rfb_hello.specs.ViewerEnd.{OpensReason}
 
--- under a limit of texts, so much progress stands for that point and that prefix; one that has failed
--- stands for none
+-- under a limit of texts, so much progress stands for that point and that prefix; one that has
+-- failed stands for none
 abbrev pub ProgressStandsFor : ℕ → Progress → ServerPoint → List ℕ → Type 0
-ProgressStandsFor limit (VersionPart part) point prefix = (point ≡ AwaitsVersion) × (prefix ≡ part.items) × (length part.items < 12)
-ProgressStandsFor limit (Word part) point prefix = (point ≡ AwaitsSecurity V33) × (prefix ≡ part.items) × (length part.items < 4)
-ProgressStandsFor limit (Count version) point prefix = (point ≡ AwaitsSecurity version) × (version ≢ V33) × (prefix ≡ [])
-ProgressStandsFor limit (Types version more none) point prefix = (seen : List ℕ) × (point ≡ AwaitsSecurity version) × (version ≢ V33) × (prefix ≡ (length seen + (more + 1)) ∷ seen) × (none ≡ has_none seen)
-ProgressStandsFor limit (ResultPart version part) point prefix = (point ≡ AwaitsResult version) × (prefix ≡ part.items) × (length part.items < 4)
-ProgressStandsFor limit (ReasonLength cause part) point prefix = (intro : List ℕ) × OpensReason cause point intro × (prefix ≡ intro ++ part.items) × (length part.items < 4)
-ProgressStandsFor limit (Reason cause n more kept) point prefix = (intro word text : List ℕ) × OpensReason cause point intro × (prefix ≡ intro ++ (word ++ text)) × IsWord n word × (length text + (more + 1) ≡ n) × (kept ≡ kept_of limit n text)
-ProgressStandsFor limit (Init version part) point prefix = (point ≡ AwaitsInit version) × (prefix ≡ part.items) × (length part.items < 24)
-ProgressStandsFor limit (Name version width height n more kept) point prefix = (point ≡ AwaitsName version width height n) × (length prefix + (more + 1) ≡ n) × (kept ≡ kept_of limit n prefix)
-ProgressStandsFor limit Done point prefix = (version : Version) × (width height : ℕ) × (point ≡ Begun version width height) × (prefix ≡ [])
+ProgressStandsFor limit (VersionPart part) point prefix =
+    (point ≡ AwaitsVersion) × (prefix ≡ part.items) × (length part.items < 12)
+ProgressStandsFor limit (Word part) point prefix =
+    (point ≡ AwaitsSecurity V33) × (prefix ≡ part.items) × (length part.items < 4)
+ProgressStandsFor limit (Count version) point prefix =
+    (point ≡ AwaitsSecurity version) × (version ≢ V33) × (prefix ≡ [])
+ProgressStandsFor limit (Types version more none) point prefix =
+    (seen : List ℕ) × (point ≡ AwaitsSecurity version) × (version ≢ V33)
+    × (prefix ≡ (length seen + (more + 1)) ∷ seen) × (none ≡ has_none seen)
+ProgressStandsFor limit (ResultPart version part) point prefix =
+    (point ≡ AwaitsResult version) × (prefix ≡ part.items) × (length part.items < 4)
+ProgressStandsFor limit (ReasonLength cause part) point prefix =
+    (intro : List ℕ) × OpensReason cause point intro × (prefix ≡ intro ++ part.items)
+    × (length part.items < 4)
+ProgressStandsFor limit (Reason cause n more kept) point prefix =
+    (intro word text : List ℕ) × OpensReason cause point intro × (prefix ≡ intro ++ (word ++ text))
+    × IsWord n word × (length text + (more + 1) ≡ n) × (kept ≡ kept_of limit n text)
+ProgressStandsFor limit (Init version part) point prefix =
+    (point ≡ AwaitsInit version) × (prefix ≡ part.items) × (length part.items < 24)
+ProgressStandsFor limit (Name version width height n more kept) point prefix =
+    (point ≡ AwaitsName version width height n) × (length prefix + (more + 1) ≡ n)
+    × (kept ≡ kept_of limit n prefix)
+ProgressStandsFor limit Done point prefix =
+    (version : Version) × (width height : ℕ) × (point ≡ Begun version width height) × (prefix ≡ [])
 ProgressStandsFor limit (Failed fault kept) point prefix = ⊥
 
 -- the fault that it has failed with, if it has
@@ -95,4 +109,5 @@ progress_behind_types V38 = ResultPart V38 (record { items = [] })
 -- of one that told its screen, and how many bytes its name has
 abbrev pub progress_behind_init : ℕ → Version → ℕ → ℕ → ℕ → Progress
 progress_behind_init limit version width height zero = Done
-progress_behind_init limit version width height (suc n) = Name version width height (suc n) n (kept_of limit (suc n) [])
+progress_behind_init limit version width height (suc n) =
+    Name version width height (suc n) n (kept_of limit (suc n) [])

@@ -1,5 +1,5 @@
--- What a `ViewerHello` stands for: a setup, a point of the handshake, and the bytes that came of the
--- server's next item, fewer than it has.
+-- What a `ViewerHello` stands for: a setup, a point of the handshake, and the bytes that came of
+-- the server's next item, fewer than it has.
 use Rattle.std.specs.Prelude.{◌≡◌, ◌≢◌, ℕ, Bool, true, false, List, ◌++◌, Option, None, Some, Result, Err, length}
 use Rattle.rfb_wire.specs.stream.End.{RunsOutBy, StepsBy}
 use Rattle.rfb_hello.specs.declared.fault.HelloFault.{HelloFault}
@@ -16,10 +16,17 @@ use Rattle.rfb_hello.specs.ViewerProgress.{ProgressStandsFor, fault_in, reason_i
 
 -- the setup that it was made with
 abbrev pub setup_of : ViewerHello → ViewerSetup
-setup_of hello = record { limit = hello.limit; shared = hello.shared; max_places = hello.max_places; text_limit = hello.text_limit }
+setup_of hello =
+    record {
+      limit = hello.limit;
+      shared = hello.shared;
+      max_places = hello.max_places;
+      text_limit = hello.text_limit;
+    }
 
 -- the end stands for a setup, a point and a prefix
-pub record StandsFor (setup : ViewerSetup) (hello : ViewerHello) (point : ServerPoint) (prefix : List ℕ) : Type 0 where
+pub record StandsFor (setup : ViewerSetup) (hello : ViewerHello) (point : ServerPoint)
+    (prefix : List ℕ) : Type 0 where
   pub setup_is : setup_of hello ≡ setup
   pub progress_is : ProgressStandsFor setup.text_limit hello.progress point prefix
 
@@ -43,7 +50,8 @@ abbrev pub reason_of : ViewerHello → KeptText
 reason_of hello = reason_in hello.progress
 
 -- what a step by bytes of one item answers, where memory is not wanting
-abbrev pub StepsAs : ViewerHello → List ℕ → Result (Option ViewerStep) HelloFault → ViewerHello → Type 0
+abbrev pub StepsAs : ViewerHello → List ℕ → Result (Option ViewerStep) HelloFault → ViewerHello →
+    Type 0
 StepsAs old bytes result new =
     result ≢ Err NoMemory → (setup : ViewerSetup)
     → StepsBy (viewer_end setup) (StandsFor setup) old bytes result new
@@ -64,10 +72,11 @@ IsReasonKept limit cause n kept point bytes =
 abbrev pub LeadsToReason : Cause → ℕ → KeptText → ViewerHello → List ℕ → Type 0
 LeadsToReason cause n kept old bytes =
     (setup : ViewerSetup)
-    → RunsOutBy (viewer_end setup) (IsReasonKept setup.text_limit cause n kept) (StandsFor setup) old bytes
+    → RunsOutBy (viewer_end setup) (IsReasonKept setup.text_limit cause n kept)
+    (StandsFor setup) old bytes
 
--- after a fault: the bytes have led to the last one of a reason, where one was given, and the end keeps
--- the first bytes of its text, with room for these alone; without a reason it keeps nothing
+-- after a fault: the bytes have led to the last one of a reason, where one was given, and the end
+-- keeps the first bytes of its text, with room for these alone; without a reason it keeps nothing
 abbrev pub KeepsReason : HelloFault → ViewerHello → List ℕ → ViewerHello → Type 0
 KeepsReason (RefusedFault n) old bytes new = LeadsToReason Refused n (reason_of new) old bytes
 KeepsReason (FailedFault n) old bytes new = LeadsToReason SecurityFailed n (reason_of new) old bytes

@@ -28,8 +28,8 @@ use rfb_pixel::Format;
 /// How many bytes the name of a screen has at most.
 pub const MAX_NAME: usize = 255;
 
-/// The server's end of a handshake: it is fed what the client sends, and tells what is to be answered. It
-/// offers one version, and security type None alone; it takes no memory.
+/// The server's end of a handshake: it is fed what the client sends, and tells what is to be
+/// answered. It offers one version, and security type None alone; it takes no memory.
 #[derive(Drop)]
 pub struct ServerHello {
     offer: Version,
@@ -40,8 +40,8 @@ pub struct ServerHello {
 }
 
 impl ServerHello {
-    /// An end that has sent nothing and was fed nothing. It goes up to version `offer`, and will tell the
-    /// screen's size and its name.
+    /// An end that has sent nothing and was fed nothing. It goes up to version `offer`, and will
+    /// tell the screen's size and its name.
     pub fn new(offer: Version, width: u16, height: u16, name: &[u8]) -> ServerHello
         requires { length name.now ≤ 255 }
         ensures { StandsFor
@@ -66,9 +66,9 @@ impl ServerHello {
         self.offer.text()
     }
 
-    /// Takes bytes of the client's, up to the last of its first item that is told of, or all. A fault is
-    /// told at its last byte, and by every later call, which take nothing. Once the handshake is done no
-    /// bytes are taken: they are the messages'.
+    /// Takes bytes of the client's, up to the last of its first item that is told of, or all. A
+    /// fault is told at its last byte, and by every later call, which take nothing. Once the
+    /// handshake is done no bytes are taken: they are the messages'.
     pub fn feed(&mut self, bytes: &[u8]) -> Result<Fed<ServerStep>, HelloFault>
         // What was taken, what it was, and what is left.
         ensures used { IfOk result (λ fed. fed.used ≤ length bytes.now) }
@@ -108,8 +108,8 @@ impl ServerHello {
         self.progress.is_open()
     }
 
-    /// How many bytes are pending: those of the client's next item that stand behind its last whole piece.
-    /// It keeps no others.
+    /// How many bytes are pending: those of the client's next item that stand behind its last whole
+    /// piece. It keeps no others.
     pub fn pending(&self) -> usize
         ensures value { (setup : ServerSetup) (point : ClientPoint) (prefix : List ℕ)
             → StandsFor setup self.now point prefix
@@ -120,8 +120,8 @@ impl ServerHello {
         self.progress.part()
     }
 
-    // Takes bytes for the client's next item, as many of it as there are: how many these were, and what
-    // is told of it once it is whole.
+    // Takes bytes for the client's next item, as many of it as there are: how many these were, and
+    // what is told of it once it is whole.
     fn take(&mut self, bytes: &[u8]) -> Result<(usize, Option<ServerStep>), HelloFault>
         requires some { 0 < length bytes.now }
         requires open { is_open self.old ≡ true }

@@ -12,8 +12,8 @@ pub const MAX_REPLY: usize = 279;
 pub enum ServerStep {
     /// Bytes that are to be sent to the client.
     Reply(ArrayVec<u8, MAX_REPLY>),
-    /// The handshake is done: the last bytes to be sent, ServerInit; the version that both ends use; and
-    /// whether the client shares the screen with others.
+    /// The handshake is done: the last bytes to be sent, ServerInit; the version that both ends
+    /// use; and whether the client shares the screen with others.
     Ready {
         reply: ArrayVec<u8, MAX_REPLY>,
         version: Version,
@@ -34,8 +34,8 @@ pub enum ViewerStep {
         width: u16,
         height: u16,
     },
-    /// The handshake is done: the screen's size; the version that both ends use; as much of the screen's
-    /// name as is kept; and how many bytes the name had.
+    /// The handshake is done: the screen's size; the version that both ends use; as much of the
+    /// screen's name as is kept; and how many bytes the name had.
     Ready {
         width: u16,
         height: u16,

@@ -7,8 +7,8 @@ ghost use Rattle.rfb_hello.specs.KeptText.{KeptText, no_text};
 use std::alloc::{AllocError, Global};
 use std::marker::Model;
 
-/// The first bytes of a text, as many as there was room for: its memory is for so many and no more. What
-/// they are encoded in is the server's matter.
+/// The first bytes of a text, as many as there was room for: its memory is for so many and no more.
+/// What they are encoded in is the server's matter.
 #[derive(Debug, Drop)]
 pub struct Text {
     bytes: Vec<u8>,
@@ -30,7 +30,8 @@ impl Text {
         }
     }
 
-    /// A text with room for so many bytes and none of them there. An error where there is no memory.
+    /// A text with room for so many bytes and none of them there. An error where there is no
+    /// memory.
     pub fn with_room(alloc: Global, room: usize) -> Result<Text, AllocError>
         ensures { IfOk result (λ text. text ≡ record { room = room; bytes = [] }) }
     {
@@ -45,7 +46,8 @@ impl Text {
         self.bytes.as_slice()
     }
 
-    /// The bytes that are kept, which are the caller's from now on, with the memory that was taken for them.
+    /// The bytes that are kept, which are the caller's from now on, with the memory that was taken
+    /// for them.
     pub fn into_vec(self) -> Vec<u8>
         ensures bytes { vec_items result ≡ self.bytes }
         ensures room { vec_capacity result ≡ self.room }

@@ -18,7 +18,8 @@ pub enum Version {
 pub const VERSION_SIZE: usize = 12;
 
 impl Version {
-    /// The ProtocolVersion of this version: `RFB 003.003`, `RFB 003.007` or `RFB 003.008`, and a line feed.
+    /// The ProtocolVersion of this version: `RFB 003.003`, `RFB 003.007` or `RFB 003.008`, and a
+    /// line feed.
     pub fn text(self) -> [u8; VERSION_SIZE]
         ensures { result ≡ version_text self }
     {
@@ -40,8 +41,8 @@ impl Version {
         }
     }
 
-    /// The version that a ProtocolVersion stands for: 3.7 and 3.8 for themselves, any other number for
-    /// 3.3. `None` where the bytes are not of the shape `RFB ddd.ddd` and a line feed.
+    /// The version that a ProtocolVersion stands for: 3.7 and 3.8 for themselves, any other number
+    /// for 3.3. `None` where the bytes are not of the shape `RFB ddd.ddd` and a line feed.
     pub fn of_text(text: &[u8]) -> Option<Version>
         ensures { result ≡ (if length text.now == 12 && is_version_text text.now
             then Some (version_of text.now) else None) }

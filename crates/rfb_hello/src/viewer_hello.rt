@@ -24,9 +24,9 @@ use crate::viewer_hello::progress::Progress;
 use arrayvec::ArrayVec;
 use std::alloc::Global;
 
-/// The viewer's end of a handshake: it is fed what the server sends, and tells what is to be answered, the
-/// screen's size and its name. It takes security type None alone. Memory is taken for a name or a reason
-/// alone, as much as is kept of it, once its length is known.
+/// The viewer's end of a handshake: it is fed what the server sends, and tells what is to be
+/// answered, the screen's size and its name. It takes security type None alone. Memory is taken for
+/// a name or a reason alone, as much as is kept of it, once its length is known.
 #[derive(Drop)]
 pub struct ViewerHello {
     alloc: Global,
@@ -38,9 +38,9 @@ pub struct ViewerHello {
 }
 
 impl ViewerHello {
-    /// An end that has sent nothing and was fed nothing. It goes up to version `limit`, asks for the screen
-    /// alone where it is not `shared`, admits a screen of `max_places` places, and keeps `text_limit` bytes
-    /// of a name or a reason. It takes no memory.
+    /// An end that has sent nothing and was fed nothing. It goes up to version `limit`, asks for
+    /// the screen alone where it is not `shared`, admits a screen of `max_places` places, and keeps
+    /// `text_limit` bytes of a name or a reason. It takes no memory.
     pub fn new(
         alloc: Global,
         limit: Version,
@@ -67,9 +67,10 @@ impl ViewerHello {
         }
     }
 
-    /// Takes bytes of the server's, up to the last of its first item that is told of, or all. A fault is
-    /// told at its last byte, and by every later call, which take nothing; a refusal is told at the last
-    /// byte of its reason. Once the handshake is done no bytes are taken: they are the messages'.
+    /// Takes bytes of the server's, up to the last of its first item that is told of, or all. A
+    /// fault is told at its last byte, and by every later call, which take nothing; a refusal is
+    /// told at the last byte of its reason. Once the handshake is done no bytes are taken: they are
+    /// the messages'.
     pub fn feed(&mut self, bytes: &[u8]) -> Result<Fed<ViewerStep>, HelloFault>
         // What was taken, what it was, and what is left.
         ensures used { IfOk result (λ fed. fed.used ≤ length bytes.now) }
@@ -110,8 +111,9 @@ impl ViewerHello {
         Ok(Fed { used, event: None })
     }
 
-    /// What is kept of the reason that the server gave, after `Refused` and `SecurityFailed`; before a
-    /// fault, and after another, no bytes. What they are encoded in is the server's matter.
+    /// What is kept of the reason that the server gave, after `Refused` and `SecurityFailed`;
+    /// before a fault, and after another, no bytes. What they are encoded in is the server's
+    /// matter.
     pub fn reason(&self) -> &[u8]
         ensures { result.now ≡ (reason_of self.now).bytes }
     {
@@ -128,8 +130,8 @@ impl ViewerHello {
         self.progress.is_open()
     }
 
-    /// How many bytes are pending: those of the server's next item that stand behind its last whole piece.
-    /// It keeps no others, but the first bytes of a text.
+    /// How many bytes are pending: those of the server's next item that stand behind its last whole
+    /// piece. It keeps no others, but the first bytes of a text.
     pub fn pending(&self) -> usize
         ensures value { (setup : ViewerSetup) (point : ServerPoint) (prefix : List ℕ)
             → StandsFor setup self.now point prefix
@@ -140,8 +142,8 @@ impl ViewerHello {
         self.progress.part()
     }
 
-    // Takes bytes of the server's next item, as many of it as there are: how many these were, and what is
-    // told of it once it is whole.
+    // Takes bytes of the server's next item, as many of it as there are: how many these were, and
+    // what is told of it once it is whole.
     fn take(&mut self, bytes: &[u8]) -> (usize, Result<Option<ViewerStep>, HelloFault>)
         requires some { 0 < length bytes.now }
         requires open { is_open self.old ≡ true }

@@ -1,5 +1,5 @@
-//! Both ends are fed their streams whole, byte by byte, in two slices, and damaged: what they tell doesn't
-//! depend on the cut.
+//! Both ends are fed their streams whole, byte by byte, in two slices, and damaged: what they tell
+//! doesn't depend on the cut.
 
 use crate::{Fed, HelloFault, ServerHello, Version, ViewerHello};
 use std::alloc::{AllocError, Global};
@@ -36,7 +36,8 @@ impl End {
         End::Viewer(ViewerHello::new(alloc, Version::V38, true, 16, 2))
     }
 
-    // What it tells of a slice, written to the log: its events. How many bytes it left, or its fault.
+    // What it tells of a slice, written to the log: its events. How many bytes it left, or its
+    // fault.
     fn feed_all(
         &mut self,
         alloc: Global,
@@ -89,8 +90,8 @@ fn note<E: Debug + Drop>(
     Ok(())
 }
 
-// All that an end tells of a stream, cut behind its first bytes and then every so many: its events, and
-// how many bytes it left, or its fault with the reason.
+// All that an end tells of a stream, cut behind its first bytes and then every so many: its events,
+// and how many bytes it left, or its fault with the reason.
 fn told(
     alloc: Global,
     mut end: End,

@@ -10,8 +10,8 @@ use arrayvec::ArrayVec;
 /// The security type None, as 3.3 sends it and as a list has it, sections 7.1.2 and 7.2.1.
 pub const SECURITY_NONE: u8 = 1;
 
-/// Takes bytes of a piece of `SIZE` bytes, of which a part has come: how many these were, and the piece, if
-/// it is whole now.
+/// Takes bytes of a piece of `SIZE` bytes, of which a part has come: how many these were, and the
+/// piece, if it is whole now.
 pub fn gather<const PART: usize, const SIZE: usize>(
     part: &mut ArrayVec<u8, PART>,
     bytes: &[u8],
@@ -37,8 +37,8 @@ pub fn gather<const PART: usize, const SIZE: usize>(
     (missing, Some(whole))
 }
 
-/// Takes bytes of a text, of which so many come behind the next one: how many these were, and whether the
-/// text is whole now.
+/// Takes bytes of a text, of which so many come behind the next one: how many these were, and
+/// whether the text is whole now.
 pub fn read_text(kept: &mut Text, more: &mut u32, bytes: &[u8]) -> (usize, bool)
     requires some { 0 < length bytes.now }
     ensures used { (0 < result.0) × (result.0 ≤ length bytes.now) }

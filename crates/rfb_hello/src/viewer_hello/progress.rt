@@ -27,7 +27,8 @@ pub enum Progress {
     Word(ArrayVec<u8, 3>),
     /// The count of its security types, under 3.7 or 3.8.
     Count(Version),
-    /// Its security types: how many come behind the next one, and whether None was among those before it.
+    /// Its security types: how many come behind the next one, and whether None was among those
+    /// before it.
     Types {
         version: Version,
         more: u8,
@@ -49,8 +50,8 @@ pub enum Progress {
     },
     /// ServerInit up to the name: the bytes of it that have come.
     Init(Version, ArrayVec<u8, 23>),
-    /// The name: the screen's size, the name's length, how many bytes come behind the next one, and what is
-    /// kept of it.
+    /// The name: the screen's size, the name's length, how many bytes come behind the next one, and
+    /// what is kept of it.
     Name {
         version: Version,
         width: u16,

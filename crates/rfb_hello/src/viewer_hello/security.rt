@@ -1,4 +1,5 @@
-//! What a viewer takes of a server up to ServerInit: its version, the security types and the result.
+//! What a viewer takes of a server up to ServerInit: its version, the security types and the
+//! result.
 
 ghost use Rattle.std.specs.Prelude.{◌≡◌, ◌≤◌, ◌<◌, ℕ, [], ◌∷◌, length, take, true, IfOk, IfErr, Some, None, Ok, Bool};
 ghost use Rattle.arrayvec.specs.ArrayVec.{ArrayVec as Items};

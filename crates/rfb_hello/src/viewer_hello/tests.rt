@@ -28,8 +28,8 @@ fn bytes_of(bytes: &[u8]) -> ArrayVec<u8, 64> {
     kept
 }
 
-// All that an end tells of bytes that are handed in so many at a time. It shares the screen, admits 64
-// places, and tells a fault twice.
+// All that an end tells of bytes that are handed in so many at a time. It shares the screen, admits
+// 64 places, and tells a fault twice.
 fn told_of<R: AllocGlobal + Abort>(
     rt: &R,
     limit: Version,

@@ -143,7 +143,8 @@ impl ViewerHello {
         (used, Ok(Some(step)))
     }
 
-    // What comes next of a server that told its screen and the length of its name, and what is told of it.
+    // What comes next of a server that told its screen and the length of its name, and what is told
+    // of it.
     fn behind_init(
         &self,
         version: Version,
