@@ -1,19 +1,22 @@
 -- The next open cell of a set, row by row, and the places of a cell by its number.
-use Rattle.std.proofs.Common.{ℕ, Bool, true, false, ◌≡◌, ◌⊎◌, ◌+◌, ◌*◌, ◌/◌, ◌%◌, ◌<◌, ◌≤◌, ◌||◌, Option, Some, None, ◌∙◌, arith, inl, inr}
+use Rattle.std.proofs.Common.{List, length, refl, ℕ, Bool, true, false, ◌≡◌, ◌⊎◌, ◌+◌, ◌*◌, ◌/◌, ◌%◌, ◌<◌, ◌≤◌, ◌||◌, Option, Some, None, ◌∙◌, arith, inl, inr}
 use Rattle.std.proofs.lemmas.Bool.{cases_lt, cases_eq}
 use Rattle.std.proofs.lemmas.Nat.{mul-add-lt, same_from_place, div-add-mod', mod_below}
-use Rattle.std.proofs.Math.Nat.{mul_comm, mul-le-mul_right}
+use Rattle.std.proofs.Math.Nat.{mul_comm, mul-le-mul_right, div-mul-le_self, le_of_mul-le-mul_right}
 use Rattle.rfb_picture.specs.declared.rect.Rect.{Rect}
 use Rattle.rfb_picture.specs.declared.edges.Edges.{Edges}
 use Rattle.rfb_picture.specs.declared.place_set.layers.Layers.{Layers}
 use Rattle.rfb_picture.specs.Rect.{contains}
 use Rattle.rfb_picture.specs.Box.{is_in}
 use Rattle.rfb_picture.specs.Edges.{IsEdges}
-use Rattle.rfb_picture.specs.Places.{NoneInRow, IsNext}
+use Rattle.rfb_picture.specs.Places.{NoneInRow, IsNext, AreRowsClear}
 use Rattle.rfb_picture.specs.Cells.{cells_in, in_column, in_row}
 use Rattle.rfb_picture.specs.CellOrder.{NoneInCells, HasPlaceIn, HasNextCell}
 use Rattle.rfb_picture.specs.PlaceSet.{in_set, layered, NoneOpen, IsNextOpen}
+use Rattle.rfb_picture.specs.Plane.{AreUnused, IsPlane, plane}
 use Rattle.rfb_picture.proofs.GridLemmas.{contains_true, contains_row}
+use Rattle.rfb_picture.proofs.PlaneLemmas.{at-plane, column_below, same_across}
+use Rattle.rfb_picture.proofs.TakenWordLemmas.{none_in_word}
 use Rattle.rfb_picture.proofs.PlaceSetLemmas.{at-layered}
 
 -- ---- open cells, row by row
@@ -45,6 +48,25 @@ row_none l from row start to begins room none before =
             let next : (row + 1) * l.full.width ≤ j * l.full.width =
             mul-le-mul_right l.full.width (omega arith) in
             absurd (omega (arith, next))
+      ]
+    ]
+
+-- nor are those of rows behind it that are clear
+pub rows_none : (l : Layers) (from row next : ℕ) →
+    NoneOpen l from (row * l.full.width + l.full.width) →
+    AreRowsClear (λ i j. is_in l.full i j || is_in l.used i j) l.full.width (row + 1) next →
+    NoneOpen l from (next * l.full.width)
+rows_none l from row next before clear =
+    λ i j p q low high.
+    elim (cases_lt j (row + 1)) [
+      | inl less ↦ before i j p q low
+          (let below = above i j l.full.width (row + 1) p less in omega (arith, below))
+      | inr more ↦ elim (cases_lt j next) [
+        | inl here ↦ clear i j p more here
+        | inr far ↦
+            let past : next * l.full.width ≤ j * l.full.width =
+            mul-le-mul_right l.full.width far in
+            absurd (omega (arith, past, high))
       ]
     ]
 
@@ -143,3 +165,37 @@ next-layered l from (Some cell) next =
             ∙ here.marked;
       };
     }
+
+-- ---- rows of words
+
+-- rows whose words have no bit are clear, in both of two sets of one size
+pub rows_clear : (w h across ow oh oacross : ℕ) (words other : List ℕ) (y n : ℕ) →
+    IsPlane w h across words →
+    IsPlane ow oh oacross other →
+    w ≡ ow →
+    h ≡ oh →
+    n ≤ length words →
+    AreUnused words other (y * across) n →
+    AreRowsClear
+    (λ i j. is_in (plane w h across words) i j || is_in (plane ow oh oacross other) i j) w y
+    (n / across)
+rows_clear w h across ow oh oacross words other y n sound sound_too wide tall within none =
+    λ i j p q l.
+    let column = column_below w h across words i sound p in
+    let whole : n / across * across ≤ n = div-mul-le_self n across in
+    let below : (j + 1) * across ≤ n / across * across = mul-le-mul_right across (omega arith) in
+    let least : y * across ≤ j * across = mul-le-mul_right across q in
+    let unused = none (j * across + i / 64) (omega (arith, least))
+    (omega (arith, below, whole, column)) in
+    let all : n ≤ h * across = rw sound.size at within in
+    let fits : (j + 1) * across ≤ h * across = omega (arith, below, whole, all) in
+    let row : j + 1 ≤ h = le_of_mul-le-mul_right fits (omega arith) in
+    let high : j < h = omega arith in
+    let first = none_in_word words across j (i / 64) i unused.0 (omega arith) (omega arith) in
+    let same = same_across w h across words oh oacross other sound (rw wide sound_too) in
+    let second = none_in_word other oacross j (i / 64) i (rw same at unused.1) (omega arith)
+    (omega arith) in
+    let here = at-plane w h across words i j false p high ∙ first in
+    let there =
+    at-plane ow oh oacross other i j false (rw (← wide) p) (rw (← tall) high) ∙ second in
+    rw (here, there) refl

@@ -29,6 +29,11 @@ HasRowBits g x y word =
 abbrev pub NoneInRow : (ℕ → ℕ → Bool) → ℕ → ℕ → ℕ → Type 0
 NoneInRow p y from to = (x : ℕ) → from ≤ x → x < to → p x y ≡ false
 
+-- no place of the rows from one up to another, each of so many places, is marked
+abbrev pub AreRowsClear : (ℕ → ℕ → Bool) → ℕ → ℕ → ℕ → Type 0
+AreRowsClear p width from to =
+    (x y : ℕ) → x < width → from ≤ y → y < to → p x y ≡ false
+
 -- the column of the first marked place of row y from one column up to another
 pub record IsNext (p : ℕ → ℕ → Bool) (y from to column : ℕ) : Type 0 where
   pub after : from ≤ column

@@ -72,6 +72,12 @@ RowsLost across rows other old new =
     (k y i : ℕ) → k < across → y < rows → i < 64 →
     has_at new across y k i ≡ (has_at old across y k i && not (has_at other across y k i))
 
+-- the words from one number up to another have no bit, in both of two lists
+abbrev pub AreUnused : List ℕ → List ℕ → ℕ → ℕ → Type 0
+AreUnused words other from to =
+    (i : ℕ) → from ≤ i → i < to →
+    (slice_index_or words i 0 ≡ 0) × (slice_index_or other i 0 ≡ 0)
+
 -- place (x, y) is marked: a word holds 64 places of a row, the lowest bit the leftmost place
 abbrev pub has_place : List ℕ → ℕ → ℕ → ℕ → Bool
 has_place words across x y = has_at words across y (x / 64) (x % 64)

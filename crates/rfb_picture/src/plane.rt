@@ -6,7 +6,8 @@ ghost use Rattle.std.specs.Prelude.{IsTrue};
 use crate::edges::{Edges, edges_in};
 use crate::rect::Rect;
 use crate::words::{
-    add_places, clear_column, columns_between, has_places, next_place, take_column, take_places,
+    add_places, clear_column, columns_between, has_places, next_place, next_used, take_column,
+    take_places,
 };
 use std::alloc::{AllocError, Global};
 use std::boxed::BoxedSlice;
@@ -46,7 +47,7 @@ impl Plane {
     ghost use Rattle.rfb_picture.specs.Box.{is_in};
     ghost use Rattle.rfb_picture.specs.Edges.{HasEdges};
     ghost use Rattle.rfb_picture.specs.Cells.{cell_at, one_cell};
-    ghost use Rattle.rfb_picture.specs.Places.{AllMarked, HasRowBits, HasNext, without, without_in};
+    ghost use Rattle.rfb_picture.specs.Places.{AllMarked, HasRowBits, HasNext, AreRowsClear, without, without_in};
 
     /// No mark, at `width` by `height` places. It asks for room for all its bits, in one piece;
     /// where there is none it gives the error, and nothing is kept.
@@ -155,6 +156,24 @@ impl Plane {
             (Some(column), None) => Some(column),
             (Some(here), Some(there)) => Some(here.min(there)),
         }
+    }
+
+    /// A row from row `y` on, up to which no place is marked here or in `other`, of the same size:
+    /// the next one whose words have a bit in one of both, or the height.
+    #[inline]
+    pub(crate) fn next_row_of_either(&self, other: &Plane, y: u16) -> u16
+        requires row { y ≤ self.now.height }
+        requires width { self.now.width ≡ other.now.width }
+        requires height { self.now.height ≡ other.now.height }
+        ensures bounds { (y ≤ result) × (result ≤ self.now.height) }
+        ensures none { AreRowsClear (λ i j. is_in self.now i j || is_in other.now i j)
+            self.now.width y result }
+    {
+        if self.across == 0 {
+            return self.height;
+        }
+        let from = usize::from(y) * self.across;
+        (next_used(&self.words, &other.words, from) / self.across) as u16
     }
 
     /// Marks the places of the rectangle.

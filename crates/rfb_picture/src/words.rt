@@ -1,8 +1,8 @@
 //! Rows of words, each with a bit for 64 places: the lowest for the leftmost.
 
-ghost use Rattle.std.specs.Prelude.{◌↔◌, ◌+◌, ◌*◌, ◌^◌, ◌<◌, ◌≤◌, length, IsTrue};
+ghost use Rattle.std.specs.Prelude.{◌≡◌, ◌↔◌, ◌+◌, ◌*◌, ◌^◌, ◌<◌, ◌≤◌, length, IsTrue};
 ghost use Rattle.rfb_picture.specs.Plane.{has_place, HasMasked, PlacesAdded, IsBetween};
-ghost use Rattle.rfb_picture.specs.Plane.{ColumnAdded, ColumnCleared, ColumnLost, RowsLost};
+ghost use Rattle.rfb_picture.specs.Plane.{ColumnAdded, ColumnCleared, ColumnLost, RowsLost, AreUnused};
 ghost use Rattle.rfb_picture.specs.Places.{AllMarked, HasNext};
 
 use crate::rect::Rect;
@@ -151,6 +151,23 @@ pub(crate) fn next_place(
         }
     }
     None
+}
+
+/// The number of the first word from number `from` on that has a bit here or in `other`, which has
+/// as many words; how many there are where none has.
+#[inline]
+pub(crate) fn next_used(words: &[u64], other: &[u64], from: usize) -> usize
+    requires alike { length words.now ≡ length other.now }
+    requires within { from ≤ length words.now }
+    ensures bounds { (from ≤ result) × (result ≤ length words.now) }
+    ensures none { AreUnused words.now other.now from result }
+{
+    for at in from..words.len() {
+        if words[at] != 0 || other[at] != 0 {
+            return at;
+        }
+    }
+    words.len()
 }
 
 /// The bits of word `column` for the places from column `from` up to column `to`.

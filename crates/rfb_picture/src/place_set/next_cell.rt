@@ -38,12 +38,14 @@ impl Layers {
             return None;
         }
         let mut start = (from % across) as u16;
-        for row in from / across..usize::from(self.full.height()) {
+        let mut row = from / across;
+        while row < usize::from(self.full.height()) {
             match self.full.next_of_either(&self.used, start, row as u16) {
                 None => {}
                 Some(column) => return Some(row * across + usize::from(column)),
             }
             start = 0;
+            row = usize::from(self.full.next_row_of_either(&self.used, row as u16 + 1));
         }
         None
     }

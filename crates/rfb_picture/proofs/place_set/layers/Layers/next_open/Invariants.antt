@@ -1,4 +1,4 @@
-use Rattle.std.proofs.Common.{◌≡◌, ◌⊎◌, ◌+◌, ◌*◌, ◌≤◌}
+use Rattle.std.proofs.Common.{◌≡◌, ◌⊎◌, ◌+◌, ◌-◌, ◌*◌, ◌≤◌}
 use Rattle.rfb_picture.specs.PlaceSet.{NoneOpen}
 use Rattle.rfb_picture.proofs.place_set.layers.Layers.next_open.Given as goal
 
@@ -10,3 +10,6 @@ invariant-loop-row l = record {
   begins : (l.start ≡ 0) ⊎ (l.row * l.across + l.start ≡ l.from);
   none : NoneOpen l.self l.from (l.row * l.across);
 }
+
+abbrev pub decreases-loop-row : goal.decreases-loop-row
+decreases-loop-row l = l.self.full.height - l.row
