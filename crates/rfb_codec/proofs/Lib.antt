@@ -48,6 +48,8 @@ pub mod TakeTileLemmas
 pub mod RawTileLemmas
 pub mod TileFaultLemmas
 pub mod TakePartLemmas
+pub mod LeastLemmas
+pub mod JoinLemmas
 pub mod VerdictLemmas
 pub mod FeedLemmas
 pub mod FrontPendingLaws

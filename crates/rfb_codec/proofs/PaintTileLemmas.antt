@@ -22,10 +22,10 @@ use Rattle.rfb_codec.specs.inside.TileRead.{values_in, tile_of_read, LiesIn, IsC
 
 module _ {A : Type 0} where
   -- a value whose bytes are there
-  valued_got : (unit : ℕ) (value : List ℕ → A) (bytes : List ℕ) → unit ≤ length bytes → valued {F = PaintFault} unit value bytes ≡ Got (value (take unit bytes)) (drop unit bytes)
+  pub valued_got : (unit : ℕ) (value : List ℕ → A) (bytes : List ℕ) → unit ≤ length bytes → valued {F = PaintFault} unit value bytes ≡ Got (value (take unit bytes)) (drop unit bytes)
   valued_got unit value bytes enough = let whole : nat_le unit (length bytes) ≡ true = grind (arith, nat_tests) in rw whole refl
 
-  valued_short : (unit : ℕ) (value : List ℕ → A) (bytes : List ℕ) → length bytes < unit → valued {F = PaintFault} unit value bytes ≡ More
+  pub valued_short : (unit : ℕ) (value : List ℕ → A) (bytes : List ℕ) → length bytes < unit → valued {F = PaintFault} unit value bytes ≡ More
   valued_short unit value bytes short = rw (piece_short {F = PaintFault} unit bytes short) refl
 
   -- so many values, whose bytes are all there

@@ -146,7 +146,7 @@ next_byte f w h tiles [] byte some begins more = absurd (omega arith)
 next_byte f w h tiles (mask ∷ rest) byte some begins more = (begins.0, begins.1, more)
 
 -- that is not whole yet
-tile_stays : (f : PixelFormat) (rect : Rect) (n : ℕ) (seen : Seen) (pending more xs : List ℕ) (now before : Grid Colour) (body : List ℕ) → xs ≡ pending ++ more → ((tiles : List Tile) → length tiles ≡ n → Sees tiles seen → BeginsTile f rect.w rect.h tiles pending → BeginsTile f rect.w rect.h tiles xs) → StandsAt f rect (InTiles n seen) pending now before body → StandsAt f rect (InTiles n seen) xs now before (body ++ more)
+pub tile_stays : (f : PixelFormat) (rect : Rect) (n : ℕ) (seen : Seen) (pending more xs : List ℕ) (now before : Grid Colour) (body : List ℕ) → xs ≡ pending ++ more → ((tiles : List Tile) → length tiles ≡ n → Sees tiles seen → BeginsTile f rect.w rect.h tiles pending → BeginsTile f rect.w rect.h tiles xs) → StandsAt f rect (InTiles n seen) pending now before body → StandsAt f rect (InTiles n seen) xs now before (body ++ more)
 tile_stays f rect n seen pending more xs now before body is begins (tiles, number, sees, s) =
     (tiles, number, sees, record { spelled = tiles_wait f rect.w rect.h tiles pending more xs body s.spelled is (begins tiles number sees s.spelled.begins); shows = s.shows })
 

@@ -9,6 +9,7 @@ ghost use Rattle.rfb_codec.specs.inside.Step.{stage_of};
 
 pub mod fill;
 pub mod gather;
+mod joining;
 mod pieces;
 pub mod stage;
 
@@ -16,6 +17,7 @@ use crate::fault::PaintFault;
 use crate::hextile::NOTHING;
 use arrayvec::ArrayVec;
 use gather::Pending;
+use joining::joins;
 use rfb_picture::{Picture, Rect};
 use rfb_pixel::{Colour, Format};
 use rfb_wire::Encoding;
@@ -111,6 +113,13 @@ impl Painter {
     {
         // It tells that the picture has a colour at each place.
         let _width = picture.width();
+        if bytes.len() == 1 && joins(self.format, self.rect, self.stage, &self.pending) {
+            self.pending.push(bytes[0]);
+            return Ok(Painted {
+                used: 1,
+                done: false,
+            });
+        }
         let step = pieces::feed(
             self.format,
             self.rect,

@@ -1,6 +1,6 @@
 -- What the parts of a painter promise: a step of it, from one stage to the next. No public clause reads
 -- these words.
-use Rattle.std.specs.Prelude.{◌≡◌, ℕ, ◌+◌, ◌*◌, ◌^◌, ◌<◌, List, [], ◌∷◌, ◌++◌, length, Option, None, Result}
+use Rattle.std.specs.Prelude.{◌≡◌, ℕ, ◌+◌, ◌*◌, ◌^◌, ◌<◌, ◌==◌, if◌then◌else◌, List, [], ◌∷◌, ◌++◌, length, Option, None, Result}
 use Rattle.rfb_pixel.specs.declared.colour.Colour.{Colour}
 use Rattle.rfb_pixel.specs.Format.{PixelFormat, size_of}
 use Rattle.rfb_picture.specs.declared.rect.Rect.{Rect}
@@ -12,10 +12,10 @@ use Rattle.rfb_codec.specs.declared.hextile.paint.tile_read.Seen.{Seen}
 use Rattle.rfb_codec.specs.declared.hextile.paint.tile_read.TileRead.{TileRead}
 use Rattle.rfb_codec.specs.declared.painter.stage.Place.{Place}
 use Rattle.rfb_codec.specs.declared.painter.stage.Stage.{Stage}
-use Rattle.rfb_codec.specs.declared.painter.stage.Stage.TheVariants.{BeforeSource, InPixels, BeforeHead, InTiles}
+use Rattle.rfb_codec.specs.declared.painter.stage.Stage.TheVariants.{BeforeSource, Copied, InPixels, BeforeHead, InSubrects, InTiles, InRawTile}
 use Rattle.rfb_codec.specs.Tile.{Tile, AreInside, places_of}
 use Rattle.rfb_codec.specs.Hextile.{tile_width, tile_height, next_tile}
-use Rattle.rfb_codec.specs.inside.TileRead.{LiesIn, TellsTile, tile_of_read}
+use Rattle.rfb_codec.specs.inside.TileRead.{LiesIn, TellsTile, tile_of_read, least_size}
 use Rattle.rfb_codec.specs.Front.{SpellsPixels, pixels_over, tiles_over}
 use Rattle.rfb_codec.specs.Stage.{Sees, StandsAt, IsRefused, encoding_at, places_before}
 
@@ -91,3 +91,22 @@ abbrev pub Stops : PixelFormat → Rect → Stage → List ℕ → Grid Colour �
 Stops f rect stage pending picture bytes now fault =
     (before : Grid Colour) (body : List ℕ) → StandsAt f rect stage pending picture before body →
     IsRefused f rect (encoding_at stage) before body bytes fault now
+
+-- ---- a byte that only joins those pending
+
+-- the fewest bytes that the piece under way has, whose first ones are pending
+abbrev pub piece_size : PixelFormat → Stage → List ℕ → ℕ
+piece_size f BeforeSource pending = 4
+piece_size f Copied pending = 0
+piece_size f (InPixels at) pending = size_of f
+piece_size f BeforeHead pending = 4 + size_of f
+piece_size f (InSubrects left) pending = size_of f + 8
+piece_size f (InTiles tile seen) pending =
+    if length pending == 0 then 0 else least_size f pending
+piece_size f (InRawTile tile seen at) pending = size_of f
+
+-- whatever the next byte is, it is pending too, and the picture stays
+abbrev pub Joins : PixelFormat → Rect → Stage → List ℕ → Type 0
+Joins f rect stage pending =
+    (byte : ℕ) (picture : Grid Colour) →
+    GoesOn f rect stage pending picture (byte ∷ []) stage (pending ++ byte ∷ []) picture

@@ -1,6 +1,6 @@
 -- A tile of Hextile as a decoder finds it in its bytes, and the colours that it has seen.
 -- No public clause reads these words.
-use Rattle.std.specs.Prelude.{◌≡◌, ℕ, zero, suc, ◌+◌, ◌*◌, ◌≤◌, ◌<◌, Bool, true, false, slice_index, List, [], ◌∷◌, length, take, drop, map, Option, Some, None, Result, Ok, Err}
+use Rattle.std.specs.Prelude.{◌≡◌, ℕ, zero, suc, ◌+◌, ◌*◌, ◌≤◌, ◌<◌, nat_le, Bool, true, false, if◌then◌else◌, slice_index, List, [], ◌∷◌, length, take, drop, map, Option, Some, None, Result, Ok, Err}
 use Rattle.rfb_pixel.specs.Format.{PixelFormat, size_of}
 use Rattle.rfb_picture.specs.declared.rect.Rect.{Rect}
 use Rattle.rfb_wire.specs.RectHead.{IsOnScreen}
@@ -12,7 +12,7 @@ use Rattle.rfb_codec.specs.declared.hextile.layout.TileLayout.{TileLayout}
 use Rattle.rfb_codec.specs.declared.hextile.layout.TileLayout.TheVariants.{Raw, Plain, Colored}
 use Rattle.rfb_codec.specs.declared.hextile.paint.tile_read.TileRead.{TileRead}
 use Rattle.rfb_codec.specs.Raw.{raw_length}
-use Rattle.rfb_codec.specs.Tile.{Tile, RawTile, PlainTile, ColoredTile, in_pixel, AreInside, places_of, place_of, colored_of}
+use Rattle.rfb_codec.specs.Tile.{Tile, RawTile, PlainTile, ColoredTile, background_specified, foreground_specified, any_subrects, subrects_colored, in_pixel, AreInside, places_of, place_of, colored_of}
 use Rattle.rfb_codec.specs.Hextile.{tile_count, next_tile}
 
 -- so many values, one behind another, of so many bytes each
@@ -100,3 +100,29 @@ places_from skip (suc n) list = place_of (take 2 (drop skip list)) ∷ places_fr
 -- the tiles of a rectangle
 abbrev pub all_tiles : PixelFormat → ℕ → ℕ → Reading (List Tile) PaintFault
 all_tiles f width height = each (tile_count width height) (next_tile f width height) []
+
+-- ---- how many bytes a tile has at least
+
+-- those of a colour, if it is specified
+abbrev pub colour_size : PixelFormat → Bool → ℕ
+colour_size f false = 0
+colour_size f true = size_of f
+
+-- where the colours of a tile end, with coloured subrectangles or without
+abbrev pub colours_end : PixelFormat → ℕ → Bool → ℕ
+colours_end f mask true = 1 + colour_size f (background_specified mask)
+colours_end f mask false =
+    1 + colour_size f (background_specified mask) + colour_size f (foreground_specified mask)
+
+-- those up to the count of its subrectangles, and once it is there up to the last of them
+abbrev pub list_end : PixelFormat → Bool → ℕ → List ℕ → ℕ
+list_end f colored end bytes =
+    if nat_le (length bytes) end then end + 1 else
+    end + 1 + slice_index bytes end * sub_size f colored
+
+-- the fewest bytes that a tile has that is not raw and begins with these
+abbrev pub least_size : PixelFormat → List ℕ → ℕ
+least_size f bytes =
+    let mask = slice_index bytes 0 in
+    let end = colours_end f mask (subrects_colored mask) in
+    if any_subrects mask then list_end f (subrects_colored mask) end bytes else end

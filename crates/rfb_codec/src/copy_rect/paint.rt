@@ -19,6 +19,7 @@ const SOURCE_SIZE: usize = 4;
 
 /// Takes bytes of the source, and copies it at its last byte. `SourceOutside` where it leaves the
 /// picture.
+#[inline(never)]
 pub fn take_source(
     rect: Rect,
     pending: &mut Pending,

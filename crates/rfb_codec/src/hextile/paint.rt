@@ -2,12 +2,14 @@
 
 mod drawing;
 mod filling;
+mod least;
 mod next;
 mod pixels;
 mod reading;
 mod take;
 mod tile_read;
 
+pub use least::least_size;
 pub use pixels::take_raw;
 pub use take::take_tile;
 pub use tile_read::Seen;

@@ -28,7 +28,9 @@ pub fn is_ended(rect: Rect, stage: Stage) -> bool
     }
 }
 
-/// Takes bytes of the data up to their last one, piece by piece. On a fault nothing is pending.
+/// Takes bytes of the data up to their last one, piece by piece. On a fault nothing is pending. It is
+/// not inlined, since a byte that only joins those pending needs none of it.
+#[inline(never)]
 pub fn feed(
     format: Format,
     rect: Rect,

@@ -77,6 +77,7 @@ pub fn take_pixels(
 }
 
 /// Takes pixels of Raw, from a place of the rectangle on.
+#[inline(never)]
 pub fn take_run(
     format: Format,
     rect: Rect,

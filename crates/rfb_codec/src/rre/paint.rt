@@ -24,6 +24,7 @@ use rfb_picture::{Picture, Rect};
 use rfb_pixel::{Colour, Format};
 
 /// Takes bytes of the number of subrectangles and of the background, which is painted at its last byte.
+#[inline(never)]
 pub fn take_head(
     format: Format,
     rect: Rect,
@@ -65,6 +66,7 @@ pub fn take_head(
 
 /// Takes the whole subrectangles that the bytes begin with, or bytes of one, which is painted at its last
 /// byte. `SubrectOutside` where one leaves the rectangle.
+#[inline(never)]
 pub fn take_subrect(
     format: Format,
     rect: Rect,

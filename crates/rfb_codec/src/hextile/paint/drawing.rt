@@ -58,9 +58,47 @@ pub fn draw_tile(
 
 // Paints the background over the rectangle, and then so many subrectangles, which lie inside it.
 // Those without a pixel of their own have the foreground. Inlined, so that its loop is made anew
-// for each of the two calls, which know whether there are such pixels.
+// for each of the two calls, which know whether there are such pixels; and for the format that this
+// project announces, which is known before it runs.
 #[inline(always)]
 fn draw_subs(
+    format: Format,
+    rect: Rect,
+    background: u32,
+    foreground: u32,
+    colored: bool,
+    count: usize,
+    list: &[u8],
+    picture: &mut Picture<Colour>,
+)
+    requires place { IsPaintable picture.old rect }
+    requires inside { AreSubsInside format rect.w rect.h foreground colored count list.now }
+    ensures value { picture.new ≡ over rect (λ x y. colour_of format
+        (pixel_at background (subs_in format foreground colored count list.now) x y)) picture.old }
+    ensures width { picture.new.width ≡ picture.old.width }
+    ensures height { picture.new.height ≡ picture.old.height }
+{
+    if format == Format::rgb888() {
+        draw_each(
+            Format::rgb888(),
+            rect,
+            background,
+            foreground,
+            colored,
+            count,
+            list,
+            picture,
+        );
+    } else {
+        draw_each(
+            format, rect, background, foreground, colored, count, list, picture,
+        );
+    }
+}
+
+// The same, by one loop for every format.
+#[inline(always)]
+fn draw_each(
     format: Format,
     rect: Rect,
     background: u32,
@@ -93,6 +131,7 @@ fn draw_subs(
 
 // The colour of a subrectangle: of its pixel, or that of the foreground where it has none of its
 // own.
+#[inline(always)]
 fn colour_at(format: Format, colored: bool, own: Colour, pixel: u32) -> Colour
     requires { colored ≡ false → own ≡ colour_of format pixel }
     ensures { result ≡ colour_of format pixel }
@@ -106,6 +145,7 @@ fn colour_at(format: Format, colored: bool, own: Colour, pixel: u32) -> Colour
 
 // The colour of a pixel. The format that this project announces is known before it runs, and needs
 // no division.
+#[inline(always)]
 fn unpacked(format: Format, pixel: u32) -> Colour
     ensures { result ≡ colour_of format pixel }
 {
@@ -117,6 +157,7 @@ fn unpacked(format: Format, pixel: u32) -> Colour
 }
 
 // The subrectangle behind so many others.
+#[inline(always)]
 fn sub_at(format: Format, foreground: u32, colored: bool, n: usize, list: &[u8]) -> Subrect
     requires { (n + 1) * sub_size format colored ≤ length list.now }
     ensures { result ≡ sub_behind format foreground colored n list.now }

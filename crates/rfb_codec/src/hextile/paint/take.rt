@@ -10,11 +10,12 @@ ghost use Rattle.rfb_codec.specs.inside.Step.{IsPaintable};
 ghost use Rattle.rfb_codec.specs.inside.Step.{GoesOn, Stops};
 ghost use Rattle.rfb_codec.specs.Stage.{encoding_at, is_sound};
 
+use super::least::least_size;
 use super::next::{draw_next, read_next};
 use super::tile_read::Seen;
 use crate::fault::PaintFault;
 use crate::hextile::mask::RAW;
-use crate::painter::gather::Pending;
+use crate::painter::gather::{Pending, gather};
 use crate::painter::stage::{Place, Stage, Step};
 use rfb_picture::{Picture, Rect};
 use rfb_pixel::{Colour, Format};
@@ -51,7 +52,7 @@ pub fn take_tile(
     ensures height { picture.new.height ≡ picture.old.height }
 {
     if !pending.is_empty() {
-        return take_byte(format, rect, tile, seen, pending, bytes[0], picture);
+        return take_more(format, rect, tile, seen, pending, bytes, picture);
     }
     // It tells that a pixel has bytes.
     let _size = format.size();
@@ -103,7 +104,50 @@ fn take_front(tile: usize, seen: Seen, pending: &mut Pending, bytes: &[u8]) -> S
     }
 }
 
+// Takes bytes more of a tile that is not raw: all but the last of those that it has at least, or
+// that one.
+fn take_more(
+    format: Format,
+    rect: Rect,
+    tile: usize,
+    seen: Seen,
+    pending: &mut Pending,
+    bytes: &[u8],
+    picture: &mut Picture<Colour>,
+) -> Result<Step, PaintFault>
+    requires place { IsPaintable picture.old rect }
+    requires below { tile < tile_count rect.w rect.h }
+    requires pending { 0 < array_vec_len pending.old }
+    requires short { array_vec_len pending.old < 1536 }
+    requires some { 0 < length bytes.now }
+    ensures some { IfOk result (λ step. 0 < step.used) }
+    ensures used { IfOk result (λ step. step.used ≤ length bytes.now) }
+    ensures sound { IfOk result (λ step.
+        is_sound format rect step.stage (array_vec_len pending.new) ≡ true) }
+    ensures same { IfOk result (λ step. encoding_at step.stage ≡ encoding_at (InTiles tile seen)) }
+    ensures goes_on { IfOk result (λ step.
+        GoesOn format rect (InTiles tile seen) pending.old.items picture.old
+        (take step.used bytes.now) step.stage pending.new.items picture.new) }
+    ensures fault { IfErr result
+        (Stops format rect (InTiles tile seen) pending.old.items picture.old
+        bytes.now picture.new) }
+    ensures emptied { OnErr result (array_vec_len pending.new ≡ 0) }
+    ensures width { picture.new.width ≡ picture.old.width }
+    ensures height { picture.new.height ≡ picture.old.height }
+{
+    let least = least_size(format, pending.as_slice());
+    if pending.len() + 1 < least {
+        let used = gather(pending, least - 1, bytes);
+        return Ok(Step {
+            used,
+            stage: Stage::InTiles { tile, seen },
+        });
+    }
+    take_byte(format, rect, tile, seen, pending, bytes[0], picture)
+}
+
 // Takes a byte more of a tile that is not raw.
+#[inline(never)]
 fn take_byte(
     format: Format,
     rect: Rect,

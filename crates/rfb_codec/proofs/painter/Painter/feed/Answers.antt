@@ -1,8 +1,9 @@
-use Rattle.std.proofs.Common.{◌≡◌, ◌∙◌, take, length, true, false, sym, subst}
+use Rattle.std.proofs.Common.{◌≡◌, ◌∙◌, ◌+◌, take, length, true, false, refl, sym, subst, arith}
 use Rattle.std.proofs.lemmas.Result.{err_from_is_err_and}
 use Rattle.rfb_codec.specs.Stage.{is_ended}
 use Rattle.rfb_codec.specs.UnderWay.{UnderWay, Paints, Waits, Refuses}
 use Rattle.rfb_codec.proofs.FeedLemmas.{feed_paints, feed_waits, feed_refuses}
+use Rattle.rfb_codec.proofs.JoinLemmas.{byte_joined}
 use Rattle.rfb_codec.proofs.painter.Painter.feed.Goals as goal
 
 pub returns-in_err-step-clause-fault : goal.returns-in_err-step-clause-fault
@@ -32,3 +33,13 @@ returns-clause-more c = λ ended.
     let waits = feed_waits old.format old.rect old.stage step.stage old.pending.items c.feed.new.pending.items c.args.picture.now c.feed.new.picture step.used c.args.bytes.now all ended' c.in_ok-step.ensures.sound c.in_ok-step.ensures.same c.in_ok-step.ensures.goes_on in
     let next : UnderWay = record { rect = old.rect; form = old.format; stage = step.stage; pending = c.feed.new.pending.items } in
     subst (λ (p : UnderWay). Waits p c.args.picture.now c.args.bytes.now next c.feed.new.picture) c.self.view_is waits
+
+pub returns-then-joins-clause-more : goal.returns-then-joins-clause-more
+returns-then-joins-clause-more c = λ ended.
+    let old = c.self.inside in
+    let rest = c.push.new.self.items in
+    let one : length c.args.bytes.now ≡ 1 = omega (arith, c.if-bytes-eq1.true) in
+    let long : length rest ≡ length old.pending.items + 1 = c.push.ensures.len in
+    let waits = byte_joined old.format old.rect old.stage old.pending.items rest c.args.picture.now c.args.bytes.now one (c.if-joins.ensures.left refl) (rw long (c.if-joins.ensures.sound refl)) c.push.ensures.items (c.if-joins.ensures.joins refl) in
+    let next : UnderWay = record { rect = old.rect; form = old.format; stage = old.stage; pending = rest } in
+    subst (λ (p : UnderWay). Waits p c.args.picture.now c.args.bytes.now next c.args.picture.now) c.self.view_is waits

@@ -1,27 +1,11 @@
-use Rattle.std.proofs.Common.{◌≡◌, ◌∷◌, [], ◌<◌, ◌++◌, length, take, refl, slice_index, arith}
-use Rattle.std.proofs.lemmas.Result.{IfErr-weaker}
+use Rattle.std.proofs.Common.{◌≡◌, [], ◌<◌, ◌++◌, length, take, refl, arith}
 use Rattle.std.proofs.lemmas.Bool.Decides.{nat_tests}
 use Rattle.rfb_codec.specs.Hextile.{tile_width, tile_height}
-use Rattle.rfb_codec.specs.declared.painter.stage.Stage.TheVariants.{InTiles}
 use Rattle.rfb_codec.specs.inside.TileRead.{tile_of_read}
-use Rattle.rfb_codec.specs.inside.Step.{Stops}
 use Rattle.rfb_codec.proofs.FrontLemmas.{no_items, some_places}
 use Rattle.rfb_codec.proofs.TakeTileLemmas.{front_goes_on, front_sound, tile_goes_on, tile_taken}
-use Rattle.rfb_codec.proofs.TileFaultLemmas.{first_refused, slice_refused}
+use Rattle.rfb_codec.proofs.TileFaultLemmas.{slice_refused}
 use Rattle.rfb_codec.proofs.hextile.paint.take.take_tile.Goals as goal
-
-pub returns-then-not-is_empty-clause-fault : goal.returns-then-not-is_empty-clause-fault
-returns-then-not-is_empty-clause-fault c =
-    let f = c.args.format in
-    let rect = c.args.rect in
-    let bytes = c.args.bytes.now in
-    let stage = InTiles c.args.tile c.args.seen in
-    let now = c.take_byte.new.picture in
-    IfErr-weaker c.take_byte.result
-    (Stops f rect stage c.args.pending.now.items c.args.picture.now (slice_index bytes 0 ∷ []) now)
-    (Stops f rect stage c.args.pending.now.items c.args.picture.now bytes now)
-    (λ fault refuses before body stands. first_refused f rect before body bytes fault now c.requires.some (refuses before body stands))
-    c.take_byte.ensures.fault
 
 pub returns-in-Err-clause-fault : goal.returns-in-Err-clause-fault
 returns-in-Err-clause-fault c = λ before body stands.

@@ -3,7 +3,7 @@ use Rattle.rfb_pixel.specs.Format.{colour_of}
 use Rattle.rfb_codec.specs.Rre.{pixel_at}
 use Rattle.rfb_codec.specs.inside.TileRead.{subs_in}
 use Rattle.rfb_codec.specs.Painter.{over}
-use Rattle.rfb_codec.proofs.hextile.paint.drawing.draw_subs.Given as goal
+use Rattle.rfb_codec.proofs.hextile.paint.drawing.draw_each.Given as goal
 
 abbrev pub invariant-loop-n : goal.invariant-loop-n
 invariant-loop-n l = record {

@@ -9,7 +9,7 @@ use Rattle.rfb_codec.specs.inside.TileRead.{sub_behind, subs_in}
 use Rattle.rfb_codec.specs.Painter.{over}
 use Rattle.rfb_codec.proofs.PaintRreLemmas.{moved, moved_inside, over_filled}
 use Rattle.rfb_codec.proofs.TileReadLemmas.{subs_in-more}
-use Rattle.rfb_codec.proofs.hextile.paint.drawing.draw_subs.Goals as goal
+use Rattle.rfb_codec.proofs.hextile.paint.drawing.draw_each.Goals as goal
 
 pub fill_part-requires : goal.fill_part-requires
 fill_part-requires c =
