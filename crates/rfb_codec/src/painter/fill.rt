@@ -23,7 +23,7 @@ pub fn fill(rect: Rect, colour: Colour, picture: &mut Picture<Colour>)
 
 /// Gives the colour to each place of a row. Sixteen are written as one array, which needs a third
 /// of the instructions.
-#[inline(always)]
+#[inline]
 pub fn fill_row(row: &mut [Colour], colour: Colour)
     ensures { (k : ℕ) (d : Colour) → k < length row.new → slice_index_or row.new k d ≡ colour }
 {
@@ -45,7 +45,6 @@ fn fill_each(row: &mut [Colour], colour: Colour)
 }
 
 // The same, sixteen places at a time and then the others.
-#[inline(never)]
 fn fill_long(row: &mut [Colour], colour: Colour)
     ensures { (k : ℕ) (d : Colour) → k < length row.new → slice_index_or row.new k d ≡ colour }
 {

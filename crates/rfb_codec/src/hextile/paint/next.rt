@@ -16,7 +16,6 @@ use rfb_picture::{Picture, Rect};
 use rfb_pixel::{Colour, Format};
 
 /// The rectangle's tile with that number, if the bytes begin with all of it.
-#[inline(always)]
 pub fn read_next(
     format: Format,
     rect: Rect,

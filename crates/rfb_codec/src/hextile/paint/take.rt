@@ -147,7 +147,6 @@ fn take_more(
 }
 
 // Takes a byte more of a tile that is not raw.
-#[inline(never)]
 fn take_byte(
     format: Format,
     rect: Rect,
