@@ -49,6 +49,10 @@ about_marked screen old new rect about marked = record {
       (record { columns = refl; rows = refl; same = λ x y p q e. refl }) marked.marks about.caught_up);
 }
 
+-- what it is told of itself is the same
+pub state_same : (screen : Grid Colour) (old new : Session) → IsSame old new → state_of screen new ≡ state_of screen old
+state_same screen old new same = rw (same.known, same.area, same.format, same.encodings) refl
+
 -- ---- one copy
 
 -- a place that is not marked is not copied to

@@ -1,7 +1,7 @@
 -- Room for the rectangles of an update, cell by cell.
-use Rattle.std.proofs.Common.{◌≡◌, ℕ, zero, suc, ◌+◌, ◌-◌, ◌*◌, ◌<◌, ◌≤◌, Bool, true, nat_eq, if◌then◌else◌, refl, ap, subst, ◌∙◌, arith, inl, inr, add-one}
+use Rattle.std.proofs.Common.{◌≡◌, ℕ, zero, suc, ◌+◌, ◌-◌, ◌*◌, ◌<◌, ◌≤◌, Bool, true, false, nat_eq, nat_lt, if◌then◌else◌, refl, ap, subst, ◌∙◌, arith, inl, inr, add-one}
 use Rattle.std.specs.Int.{div_ceil}
-use Rattle.std.proofs.lemmas.Bool.{cases_eq, both_ways}
+use Rattle.std.proofs.lemmas.Bool.{cases_eq, cases_lt, both_ways}
 use Rattle.std.proofs.lemmas.Bool.Decides.{nat_tests}
 use Rattle.std.proofs.Math.Nat.{mul-le-mul_right, mul-le-mul_left}
 use Rattle.rfb_pixel.specs.Format.{PixelFormat, size_of}
@@ -10,7 +10,7 @@ use Rattle.rfb_picture.specs.Rect.{contains}
 use Rattle.rfb_picture.specs.Grid.{Grid}
 use Rattle.rfb_picture.specs.Box.{is_in, IsClear, IsTight, IsBox}
 use Rattle.rfb_picture.proofs.GridLemmas.{contains_true, contains_row}
-use Rattle.rfb_server.specs.Cells.{IsCell}
+use Rattle.rfb_server.specs.Cells.{cell_of, IsCell}
 use Rattle.rfb_server.specs.Sends.{sum_below, IsCost, AreCosts}
 
 -- ---- sums
@@ -48,13 +48,31 @@ sum_with n c cost =
     sum_more (with_cost n c cost) n
     ∙ (rw (sum_same (with_cost n c cost) cost n (with_other n c cost), with_here n c cost) refl)
 
-module _ (width height across : ℕ) (marks : Grid Bool) (form : PixelFormat) where
-  pub costs_none : (cost : ℕ → ℕ) → AreCosts width height across marks form 0 cost
+-- the costs of the first cells, and none of the others
+abbrev pub cut : ℕ → (ℕ → ℕ) → ℕ → ℕ
+cut n cost i = if nat_lt i n then cost i else 0
+
+cut_before : (n : ℕ) (cost : ℕ → ℕ) (i : ℕ) → i < n → cut n cost i ≡ cost i
+cut_before n cost i l = grind (arith, nat_tests)
+
+cut_behind : (n : ℕ) (cost : ℕ → ℕ) (i : ℕ) → n ≤ i → cut n cost i ≡ 0
+cut_behind n cost i l = grind (arith, nat_tests)
+
+pub sum_cut : (n m : ℕ) (cost : ℕ → ℕ) → n ≤ m → sum_below (cut n cost) m ≡ sum_below cost n
+sum_cut n zero cost l = let e : n ≡ 0 = omega arith in rw e refl
+sum_cut n (suc m) cost l =
+    elim (cases_eq n (suc m)) [
+      | inl e ↦ subst (λ (k : ℕ). sum_below (cut n cost) k ≡ sum_below cost n) e (sum_same (cut n cost) cost n (cut_before n cost))
+      | inr other ↦ let rest = sum_cut n m cost (omega arith) in let none = cut_behind n cost m (omega arith) in omega (arith, rest, none)
+    ]
+
+module _ (width height across : ℕ) (p : ℕ → ℕ → Bool) (form : PixelFormat) where
+  pub costs_none : (cost : ℕ → ℕ) → AreCosts width height across p form 0 cost
   costs_none cost = λ i cell l is. absurd (omega arith)
 
-  pub costs_more : (n c : ℕ) (cost : ℕ → ℕ) → AreCosts width height across marks form n cost →
-      ((cell : Rect) → IsCell width height across n cell → IsCost marks form cell c) →
-      AreCosts width height across marks form (n + 1) (with_cost n c cost)
+  pub costs_more : (n c : ℕ) (cost : ℕ → ℕ) → AreCosts width height across p form n cost →
+      ((cell : Rect) → IsCell width height across n cell → IsCost p form cell c) →
+      AreCosts width height across p form (n + 1) (with_cost n c cost)
   costs_more n c cost before here = λ i cell l is.
       elim (cases_eq i n) [
         | inl e ↦
@@ -66,7 +84,24 @@ module _ (width height across : ℕ) (marks : Grid Bool) (form : PixelFormat) wh
             rw same (before i cell (omega arith) is)
       ]
 
-  -- an edge of a rectangle in a cell is a marked place of the cell
+  -- cells without such a place cost nothing
+  pub costs_skip : (n m : ℕ) (cost : ℕ → ℕ) → AreCosts width height across p form n cost →
+      ((x y : ℕ) → x < width → y < height → n ≤ cell_of across x y → cell_of across x y < m → p x y ≡ false) →
+      AreCosts width height across p form m (cut n cost)
+  costs_skip n m cost before none = λ i cell l is.
+      elim (cases_lt i n) [
+        | inl less ↦ rw (cut_before n cost i less) (before i cell less is)
+        | inr more ↦
+            rw (cut_behind n cost i more)
+            (λ r tight a b c d.
+            let (j, inside, e) = tight.left in
+            let (x0, x1, y0, y1) = contains_true r r.x j inside in
+            let there : contains cell r.x j ≡ true = contains_row cell r.x j (omega arith) (omega arith) (omega arith) (omega arith) in
+            let of_cell : cell_of across r.x j ≡ i = is.inside r.x j there in
+            absurd (both_ways (p r.x j) (none r.x j (omega (arith, is.held)) (omega (arith, is.held)) (omega arith) (omega arith)) e))
+      ]
+
+  -- an edge of a rectangle in a cell is a place of the cell
   edge : (n : ℕ) (cell other r : Rect) (x y : ℕ) → IsCell width height across n cell → IsCell width height across n other →
       cell.x ≤ r.x → r.x + r.w ≤ cell.x + cell.w → cell.y ≤ r.y → r.y + r.h ≤ cell.y + cell.h →
       contains r x y ≡ true → contains other x y ≡ true
@@ -76,39 +111,60 @@ module _ (width height across : ℕ) (marks : Grid Bool) (form : PixelFormat) wh
       let (f, g, h, i) = contains_true cell x y there in
       that.all x y (omega (arith, is.held)) (omega (arith, is.held)) (is.inside x y there)
 
-  -- nothing marked costs nothing
-  pub cost_clear : (n : ℕ) (other cell : Rect) → IsCell width height across n other → IsCell width height across n cell →
-      IsClear (is_in marks) other.x (other.x + other.w) other.y (other.y + other.h) → IsCost marks form cell 0
-  cost_clear n other cell that is clear = λ r tight a b c d.
-      let (j, inside, m) = tight.left in
-      let (f, g, h, i) = contains_true other r.x j (edge n cell other r r.x j is that a b c d inside) in
-      absurd (both_ways (is_in marks r.x j) (clear r.x j f g h i) m)
+  module _ (marks : Grid Bool) (marked : (x y : ℕ) → p x y ≡ true → is_in marks x y ≡ true) where
+    -- nothing marked costs nothing
+    pub cost_clear : (n : ℕ) (other cell : Rect) → IsCell width height across n other → IsCell width height across n cell →
+        IsClear (is_in marks) other.x (other.x + other.w) other.y (other.y + other.h) → IsCost p form cell 0
+    cost_clear n other cell that is clear = λ r tight a b c d.
+        let (j, inside, m) = tight.left in
+        let (f, g, h, i) = contains_true other r.x j (edge n cell other r r.x j is that a b c d inside) in
+        absurd (both_ways (is_in marks r.x j) (clear r.x j f g h i) (marked r.x j m))
 
-  -- a rectangle whose edges are marked lies in the marked zone of the cell
-  pub in_zone : (n : ℕ) (other cell zone r : Rect) → IsCell width height across n other → IsCell width height across n cell →
-      IsBox (is_in marks) other zone → IsTight (is_in marks) r →
-      cell.x ≤ r.x → r.x + r.w ≤ cell.x + cell.w → cell.y ≤ r.y → r.y + r.h ≤ cell.y + cell.h →
-      (r.w ≤ zone.w) × (r.h ≤ zone.h)
-  in_zone n other cell zone r that is box tight a b c d =
-      let (j0, c0, m0) = tight.left in
-      let (j1, c1, m1) = tight.right in
-      let (i2, c2, m2) = tight.top in
-      let (i3, c3, m3) = tight.bottom in
-      let l = contains_true zone r.x j0 (box.holds r.x j0 (edge n cell other r r.x j0 is that a b c d c0) m0) in
-      let g = contains_true zone (r.x + r.w - 1) j1 (box.holds (r.x + r.w - 1) j1 (edge n cell other r (r.x + r.w - 1) j1 is that a b c d c1) m1) in
-      let t = contains_true zone i2 r.y (box.holds i2 r.y (edge n cell other r i2 r.y is that a b c d c2) m2) in
-      let u = contains_true zone i3 (r.y + r.h - 1) (box.holds i3 (r.y + r.h - 1) (edge n cell other r i3 (r.y + r.h - 1) is that a b c d c3) m3) in
-      (omega (arith, l, g), omega (arith, t, u))
+    -- a rectangle whose edges are marked lies in the marked zone of the cell
+    in_zone : (n : ℕ) (other cell zone r : Rect) → IsCell width height across n other → IsCell width height across n cell →
+        IsBox (is_in marks) other zone → IsTight p r →
+        cell.x ≤ r.x → r.x + r.w ≤ cell.x + cell.w → cell.y ≤ r.y → r.y + r.h ≤ cell.y + cell.h →
+        (r.w ≤ zone.w) × (r.h ≤ zone.h)
+    in_zone n other cell zone r that is box tight a b c d =
+        let (j0, c0, m0) = tight.left in
+        let (j1, c1, m1) = tight.right in
+        let (i2, c2, m2) = tight.top in
+        let (i3, c3, m3) = tight.bottom in
+        let l = contains_true zone r.x j0 (box.holds r.x j0 (edge n cell other r r.x j0 is that a b c d c0) (marked r.x j0 m0)) in
+        let g = contains_true zone (r.x + r.w - 1) j1 (box.holds (r.x + r.w - 1) j1 (edge n cell other r (r.x + r.w - 1) j1 is that a b c d c1) (marked (r.x + r.w - 1) j1 m1)) in
+        let t = contains_true zone i2 r.y (box.holds i2 r.y (edge n cell other r i2 r.y is that a b c d c2) (marked i2 r.y m2)) in
+        let u = contains_true zone i3 (r.y + r.h - 1) (box.holds i3 (r.y + r.h - 1) (edge n cell other r i3 (r.y + r.h - 1) is that a b c d c3) (marked i3 (r.y + r.h - 1) m3)) in
+        (omega (arith, l, g), omega (arith, t, u))
 
-  pub cost_zone : (n : ℕ) (other cell zone : Rect) → IsCell width height across n other → IsCell width height across n cell →
-      IsBox (is_in marks) other zone → IsCost marks form cell (12 + zone.h * zone.w * size_of form)
-  cost_zone n other cell zone that is box = λ r tight a b c d.
-      let (w, h) = in_zone n other cell zone r that is box tight a b c d in
-      let rows : r.h * r.w ≤ zone.h * r.w = mul-le-mul_right r.w h in
-      let columns : zone.h * r.w ≤ zone.h * zone.w = mul-le-mul_left zone.h w in
-      let all : r.h * r.w ≤ zone.h * zone.w = omega arith in
-      let bytes : r.h * r.w * size_of form ≤ zone.h * zone.w * size_of form = mul-le-mul_right (size_of form) all in
-      omega arith
+    pub cost_zone : (n : ℕ) (other cell zone : Rect) → IsCell width height across n other → IsCell width height across n cell →
+        IsBox (is_in marks) other zone → IsCost p form cell (12 + zone.h * zone.w * size_of form)
+    cost_zone n other cell zone that is box = λ r tight a b c d.
+        let (w, h) = in_zone n other cell zone r that is box tight a b c d in
+        let rows : r.h * r.w ≤ zone.h * r.w = mul-le-mul_right r.w h in
+        let columns : zone.h * r.w ≤ zone.h * zone.w = mul-le-mul_left zone.h w in
+        let all : r.h * r.w ≤ zone.h * zone.w = omega arith in
+        let bytes : r.h * r.w * size_of form ≤ zone.h * zone.w * size_of form = mul-le-mul_right (size_of form) all in
+        omega arith
+
+  -- where all cells cost nothing no place is such
+  pub none_without_room : (cost : ℕ → ℕ) (n : ℕ) (cell : Rect) (x y : ℕ) → AreCosts width height across p form n cost → sum_below cost n ≤ 0 →
+      cell_of across x y < n → IsCell width height across (cell_of across x y) cell → contains cell x y ≡ true → p x y ≡ true → ⊥
+  none_without_room cost n cell x y costs none below is inside here =
+      let (a, b, c, d) = contains_true cell x y inside in
+      let more = sum_more cost (cell_of across x y) in
+      let order = sum_order cost (cell_of across x y + 1) n (omega arith) in
+      let at : contains (record { x = x; y = y; w = 1; h = 1 }) x y ≡ true = contains_row (record { x = x; y = y; w = 1; h = 1 }) x y (omega arith) (omega arith) (omega arith) (omega arith) in
+      let last : x + 1 - 1 ≡ x = omega arith in
+      let lower : y + 1 - 1 ≡ y = omega arith in
+      let tight : IsTight p (record { x = x; y = y; w = 1; h = 1 }) = record {
+        some = (omega arith, omega arith);
+        left = (y, at, here);
+        right = (y, rw last at, rw last here);
+        top = (x, at, here);
+        bottom = (x, rw lower at, rw lower here);
+      } in
+      let cost_is = costs (cell_of across x y) cell below is (record { x = x; y = y; w = 1; h = 1 }) tight (omega arith) (omega arith) (omega arith) (omega arith) in
+      omega (arith, cost_is, more, order, none)
 
 -- so few columns and rows have so few places
 pub few_places : (w h size : ℕ) → w ≤ 64 → h ≤ 64 → size ≤ 4 → h * w * size ≤ 16384

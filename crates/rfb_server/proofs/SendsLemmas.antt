@@ -1,6 +1,6 @@
 -- A cell more in a composing: one that has nothing to send, and one of which a rectangle is sent.
-use Rattle.std.proofs.Common.{◌≡◌, ℕ, ◌+◌, ◌-◌, ◌<◌, ◌&&◌, ◌||◌, Bool, true, false, not, List, [], ◌∷◌, ◌++◌, map, Option, Some, None, if◌then◌else◌, refl, sym, ap, ◌∙◌, arith, inl, inr, ◌⊎◌, append_assoc, append-nil, length-append, ◌==◌}
-use Rattle.std.proofs.lemmas.Bool.{cases_eq, both_ways, or_left, or_right}
+use Rattle.std.proofs.Common.{◌≡◌, ℕ, ◌+◌, ◌-◌, ◌<◌, ◌≤◌, ◌&&◌, ◌||◌, Bool, true, false, not, List, [], ◌∷◌, ◌++◌, map, Option, Some, None, if◌then◌else◌, refl, sym, ap, ◌∙◌, arith, inl, inr, ◌⊎◌, append_assoc, append-nil, length-append, ◌==◌}
+use Rattle.std.proofs.lemmas.Bool.{cases_eq, cases_lt, both_ways, or_left, or_right}
 use Rattle.std.proofs.lemmas.Bool.Decides.{nat_tests}
 use Rattle.rfb_pixel.specs.declared.colour.Colour.{Colour}
 use Rattle.rfb_pixel.specs.Format.{PixelFormat}
@@ -154,6 +154,36 @@ module _ (across : ℕ) (s : ServerState) where
       quiet x y p here a =
           let (f, g, h, i) = contains_true cell x y (is.all x y p.0 p.1 here) in
           quiet_place (is_asked s x y) (is_whole s x y) (wanted s x y) (at_or known x y None) (clear x y f g h i) a
+
+  -- cells of which nothing needs sending
+  pub sends_skip : (n m : ℕ) (known : Grid (Option ℕ)) (parts : List Part) (bytes : List ℕ) → IsArea s.area →
+      s.area.asked.width ≡ s.screen.width → s.area.asked.height ≡ s.screen.height → n ≤ m →
+      ((x y : ℕ) → IsPlace s x y → n ≤ cell_of across x y → cell_of across x y < m → needs_at s.screen known s.area s.form x y ≡ false) →
+      Sends across n s known parts bytes → Sends across m s known parts bytes
+  sends_skip n m known parts bytes area wide high order clear sends = record {
+    whole = sends.whole;
+    alike = sends.alike;
+    few = omega (arith, sends.few, order);
+    idle = sends.idle;
+    spelled = sends.spelled;
+    data_are = sends.data_are;
+    blocks_are = sends.blocks_are;
+    agrees = sends.agrees;
+    answered = λ x y p l a.
+        elim (cases_lt (cell_of across x y) n) [
+          | inl less ↦ sends.answered x y p less a
+          | inr more ↦ (quiet_place (is_asked s x y) (is_whole s x y) (wanted s x y) (at_or known x y None) (clear x y p more l) a).0
+        ];
+    others = sends.others;
+    later = λ x y p l. sends.later x y p (omega (arith, l, order));
+    renewed = λ x y p l w.
+        elim (cases_lt (cell_of across x y) n) [
+          | inl less ↦ sends.renewed x y p less w
+          | inr more ↦
+              absurd (both_ways (is_whole s x y)
+              (quiet_place (is_asked s x y) (is_whole s x y) (wanted s x y) (at_or known x y None) (clear x y p more l) (area.inside x y (rw wide p.0) (rw high p.1) w)).1 w)
+        ];
+  }
 
   -- a cell of which a rectangle is sent
   pub sends_some : (n : ℕ) (known now : Grid (Option ℕ)) (parts : List Part) (bytes more : List ℕ) (cell rect : Rect) →

@@ -1,17 +1,20 @@
 -- A cell more that is taken care of, for the session that does it.
-use Rattle.std.proofs.Common.{◌≡◌, ℕ, ◌+◌, Bool, true, false, List, [], ◌∷◌, ◌++◌, refl, sym, ◌∙◌, arith, append_assoc, append-nil, length-append}
+use Rattle.std.proofs.Common.{◌≡◌, ℕ, ◌+◌, ◌<◌, ◌≤◌, ◌&&◌, ◌||◌, Bool, None, true, false, List, [], ◌∷◌, ◌++◌, refl, sym, ◌∙◌, arith, append_assoc, append-nil, length-append}
+use Rattle.std.specs.Int.{div_ceil}
 use mir.Val.{bool_byte}
 use Rattle.rfb_pixel.specs.declared.colour.Colour.{Colour}
 use Rattle.rfb_picture.specs.declared.rect.Rect.{Rect}
-use Rattle.rfb_picture.specs.Grid.{Grid}
-use Rattle.rfb_picture.specs.Box.{IsClear, IsBox}
+use Rattle.rfb_picture.specs.Grid.{Grid, at_or}
+use Rattle.rfb_picture.specs.Box.{is_in, IsClear, IsBox}
+use Rattle.rfb_picture.specs.Area.{asked_at, whole_at}
 use Rattle.rfb_server.specs.declared.session.Session.{Session}
-use Rattle.rfb_server.specs.Request.{needs_at}
-use Rattle.rfb_server.specs.Cells.{IsCell}
-use Rattle.rfb_server.specs.Needing.{IsAbout}
+use Rattle.rfb_server.specs.Request.{wanted_at, differs, needs_at}
+use Rattle.rfb_server.specs.Cells.{cell_of, IsCell}
+use Rattle.rfb_server.specs.Needing.{IsAbout, needs_of}
 use Rattle.rfb_server.specs.Composing.{Part}
-use Rattle.rfb_server.specs.Sends.{IsKept, SendsPixels, SendsCell, state_of, AppendsCells}
-use Rattle.rfb_server.proofs.SendsLemmas.{part_of, sends_start, sends_none, sends_some}
+use Rattle.rfb_server.specs.Sends.{IsKept, SendsPixels, SendsCell, state_of, AppendsCells, NoneMayNeed, may_need}
+use Rattle.rfb_server.proofs.NeedingLemmas.{unmarked_quiet}
+use Rattle.rfb_server.proofs.SendsLemmas.{part_of, sends_start, sends_none, sends_skip, sends_some}
 
 -- before the first cell
 pub cells_start : (across : ℕ) (screen : Grid Colour) (session : Session) (bytes : List ℕ) → AppendsCells across 0 screen session session bytes bytes 0
@@ -58,6 +61,42 @@ module _ (across n : ℕ) (screen : Grid Colour) (first old new : Session) (star
         count_is = rw (length-append cells.parts (part ∷ [])) (omega (arith, cells.count_is));
         sent = sends_some across (state_of screen first) n old.known new.known cells.parts cells.bytes appends.bytes cell rect about.alike first.alike.area_is area_wide area_high cell_is least sent cells.sent;
       }
+
+-- where no place is marked and asked, nothing needs sending
+quiet_by : (marked asked need whole : Bool) → (marked && asked) ≡ false → (marked ≡ false → (asked && need) ≡ false) → (asked && need) ≡ false
+quiet_by true true need whole e unmarked = absurd cc
+quiet_by true false need whole e unmarked = refl
+quiet_by false asked need whole e unmarked = unmarked refl
+
+pub quiet_unless : (screen : Grid Colour) (session : Session) (x y : ℕ) → IsAbout screen session → x < session.known.width → y < session.known.height →
+    may_need session.marks session.area x y ≡ false → needs_of screen session x y ≡ false
+quiet_unless screen session x y about p q e =
+    quiet_by (is_in session.marks x y) (asked_at session.area x y) (whole_at session.area x y || differs (wanted_at screen session.format x y) (at_or session.known x y None)) true e
+    (unmarked_quiet screen session x y about p q)
+
+-- both are about one screen
+pub same_wide : (screen : Grid Colour) (first old : Session) → IsAbout screen first → IsAbout screen old → old.known.width ≡ first.known.width
+same_wide screen first old about aware = sym aware.alike.columns ∙ about.alike.columns
+
+pub same_high : (screen : Grid Colour) (first old : Session) → IsAbout screen first → IsAbout screen old → old.known.height ≡ first.known.height
+same_high screen first old about aware = sym aware.alike.rows ∙ about.alike.rows
+
+pub cells_skip : (n m : ℕ) (screen : Grid Colour) (first old : Session) (start before : List ℕ) (count : ℕ) →
+    IsAbout screen first → IsAbout screen old → IsKept first old → n ≤ m → NoneMayNeed old n m →
+    AppendsCells (div_ceil first.known.width 64) n screen first old start before count → AppendsCells (div_ceil first.known.width 64) m screen first old start before count
+cells_skip n m screen first old start before count about aware kept order none cells = record {
+  parts = cells.parts;
+  bytes = cells.bytes;
+  appended = cells.appended;
+  count_is = cells.count_is;
+  sent = sends_skip (div_ceil first.known.width 64) (state_of screen first) n m old.known cells.parts cells.bytes first.alike.area_is
+      (first.alike.area_wide ∙ sym about.alike.columns) (first.alike.area_high ∙ sym about.alike.rows) order
+      (λ x y p l u.
+      let wide : x < old.known.width = rw (← aware.alike.columns) p.0 in
+      let high : y < old.known.height = rw (← aware.alike.rows) p.1 in
+      rw (← kept.area, ← kept.format) (quiet_unless screen old x y aware wide high (none x y wide high (rw (same_wide screen first old about aware) l) (rw (same_wide screen first old about aware) u))))
+      cells.sent;
+}
 
 -- what is kept by one step and by the next
 pub kept_then : (a b c : Session) → IsKept a b → IsKept b c → IsKept a c

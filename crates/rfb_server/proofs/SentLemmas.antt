@@ -1,12 +1,12 @@
 -- A rectangle that is sent, for the session that sends it.
-use Rattle.std.proofs.Common.{◌≡◌, ℕ, ◌+◌, ◌-◌, ◌*◌, ◌<◌, ◌≤◌, Bool, true, false, List, ◌++◌, length, Option, Some, None, if◌then◌else◌, refl, ◌∙◌, arith, inl, inr, length-append}
+use Rattle.std.proofs.Common.{◌≡◌, ℕ, ◌+◌, ◌-◌, ◌*◌, ◌<◌, ◌≤◌, ◌&&◌, ◌||◌, Bool, true, false, List, ◌++◌, length, Option, Some, None, if◌then◌else◌, refl, ◌∙◌, arith, inl, inr, length-append}
 use Rattle.rfb_pixel.specs.declared.colour.Colour.{Colour}
 use Rattle.rfb_pixel.specs.Format.{PixelFormat, size_of}
 use Rattle.rfb_picture.specs.declared.rect.Rect.{Rect}
 use Rattle.rfb_picture.specs.Rect.{contains}
 use Rattle.rfb_picture.specs.Grid.{Grid, IsGrid, Holds, at_or}
 use Rattle.rfb_picture.specs.Box.{is_in, IsTight, IsBox}
-use Rattle.rfb_picture.specs.Area.{Places}
+use Rattle.rfb_picture.specs.Area.{Places, asked_at, whole_at}
 use Rattle.rfb_picture.proofs.GridLemmas.{contains_true}
 use Rattle.rfb_wire.specs.declared.encoding.Encoding.{Encoding}
 use Rattle.rfb_wire.specs.declared.encoding.Encoding.TheVariants.{Raw}
@@ -15,12 +15,12 @@ use Rattle.rfb_codec.specs.Pixels.{IsSized}
 use Rattle.rfb_codec.specs.Raw.{raw_length}
 use Rattle.rfb_codec.specs.Effect.{IsAlike, IsRecorded}
 use Rattle.rfb_server.specs.declared.session.Session.{Session}
-use Rattle.rfb_server.specs.Request.{wanted_at}
+use Rattle.rfb_server.specs.Request.{wanted_at, differs}
 use Rattle.rfb_server.specs.Marks.{AreAlike, IsCaughtUp}
 use Rattle.rfb_server.specs.Needing.{IsAbout, needs_of}
 use Rattle.rfb_server.specs.Composing.{may_send}
 use Rattle.rfb_server.specs.Sending.{SendsRect}
-use Rattle.rfb_server.specs.Sends.{SendsPixels, AppendsPixels}
+use Rattle.rfb_server.specs.Sends.{SendsPixels, AppendsPixels, may_need}
 use Rattle.rfb_server.proofs.NeedingLemmas.{needed_marked}
 use Rattle.rfb_server.proofs.SendsLemmas.{noted_at}
 
@@ -74,9 +74,9 @@ length_sent screen rect old new before after a =
     let short : length a.bytes ≤ 12 + rect.h * rect.w * size_of old.format = rw (← sized.width_is, ← sized.height_is) a.sent.coded.short in
     rw (a.appended, length-append before a.bytes) (omega (arith, short))
 
--- the edges of a rectangle of places that need sending are marked
+-- the edges of a rectangle of places that need sending are marked and asked
 pub tight_marked : (screen : Grid Colour) (session : Session) (cell rect : Rect) → IsAbout screen session → Holds session.known cell →
-    IsBox (needs_of screen session) cell rect → IsTight (is_in session.marks) rect
+    IsBox (needs_of screen session) cell rect → IsTight (may_need session.marks session.area) rect
 tight_marked screen session cell rect about held box =
     let (j0, c0, m0) = box.tight.left in
     let (j1, c1, m1) = box.tight.right in
@@ -90,7 +90,13 @@ tight_marked screen session cell rect about held box =
       bottom = (i3, c3, marked i3 (rect.y + rect.h - 1) c3 m3);
     }
   where
-    marked : (x y : ℕ) → contains rect x y ≡ true → needs_of screen session x y ≡ true → is_in session.marks x y ≡ true
+    both : (mark asked need : Bool) → mark ≡ true → (asked && need) ≡ true → (mark && asked) ≡ true
+    both true true need m e = refl
+    both true false need m e = absurd cc
+    both false asked need m e = absurd cc
+
+    marked : (x y : ℕ) → contains rect x y ≡ true → needs_of screen session x y ≡ true → may_need session.marks session.area x y ≡ true
     marked x y c m =
         let (a, b, d, e) = contains_true rect x y c in
-        needed_marked screen session x y about (omega (arith, box.within, held)) (omega (arith, box.within, held)) m
+        both (is_in session.marks x y) (asked_at session.area x y) (whole_at session.area x y || differs (wanted_at screen session.format x y) (at_or session.known x y None))
+        (needed_marked screen session x y about (omega (arith, box.within, held)) (omega (arith, box.within, held)) m) m

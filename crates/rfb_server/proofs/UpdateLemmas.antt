@@ -18,13 +18,15 @@ use Rattle.rfb_server.specs.declared.session.Session.{Session}
 use Rattle.rfb_server.specs.Server.{ServerState}
 use Rattle.rfb_server.specs.Request.{wanted, wanted_at, recorded, is_asked, is_whole, differs}
 use Rattle.rfb_server.specs.Marks.{AreAlike, IsCaughtUp}
-use Rattle.rfb_server.specs.Needing.{IsAbout}
+use Rattle.rfb_server.specs.Needing.{IsAbout, needs_of}
 use Rattle.rfb_server.specs.Composing.{Part, Move, IsDue, Composes}
-use Rattle.rfb_server.specs.Sends.{IsKept, Sends, state_of, AppendsCells, IsEnough}
+use Rattle.rfb_server.specs.Sends.{IsKept, Sends, state_of, AppendsCells, IsEnough, may_need}
 use Rattle.rfb_server.specs.Copying.{Copies, AppendsCopies}
 use Rattle.rfb_server.specs.Composed.{is_ready, HasComposed, StaysIdle, IsSettled, IsCounted}
 use Rattle.rfb_server.proofs.NeedingLemmas.{differs_not}
-use Rattle.rfb_server.proofs.SentCells.{kept_then}
+use Rattle.rfb_server.proofs.SentCells.{kept_then, quiet_unless}
+use Rattle.rfb_server.proofs.CellLemmas.{place_cell}
+use Rattle.rfb_server.proofs.RoomLemmas.{none_without_room}
 use Rattle.rfb_server.proofs.CopyingLemmas.{copied_due, none_copied}
 use Rattle.rfb_server.proofs.CopiedLemmas.{state_copied}
 use Rattle.rfb_server.proofs.ComposesLemmas.{all_cells, composes}
@@ -160,6 +162,26 @@ no_parts : (parts : List Part) → length parts ≡ 0 → parts ≡ []
 no_parts [] e = refl
 no_parts (part ∷ parts) e = absurd (omega arith)
 
+-- ---- room
+
+-- where no room is needed no update is due
+pub nothing_due : (screen : Grid Colour) (session : Session) → IsAbout screen session →
+    IsEnough session (div_ceil session.known.width 64) (div_ceil session.known.width 64 * div_ceil session.known.height 64) 0 →
+    IsDue (state_of screen session) → ⊥
+nothing_due screen session about enough due =
+    let wide : due.x < session.known.width = rw (← about.alike.columns) due.is_place.0 in
+    let high : due.y < session.known.height = rw (← about.alike.rows) due.is_place.1 in
+    let (cell, is) = place_cell session.known.width session.known.height due.x due.y wide high in
+    by (may_need session.marks session.area due.x due.y) refl wide high
+    (λ here. none_without_room session.known.width session.known.height (div_ceil session.known.width 64) (may_need session.marks session.area) session.format enough.cost
+    (div_ceil session.known.width 64 * div_ceil session.known.height 64) cell due.x due.y enough.costs enough.sum_is
+    (all_cells session.known.width session.known.height due.x due.y wide high) is (is.all due.x due.y wide high refl) here)
+  where
+    by : (may : Bool) → may_need session.marks session.area due.x due.y ≡ may → due.x < session.known.width → due.y < session.known.height →
+        (may ≡ true → ⊥) → ⊥
+    by true e wide high some = some refl
+    by false e wide high some = absurd (both_ways (needs_of screen session due.x due.y) (quiet_unless screen session due.x due.y about wide high e) due.needs)
+
 -- ---- copies, and then cells
 
 -- the room that was enough still is
@@ -168,7 +190,7 @@ pub enough_kept : (old mid : Session) (room : ℕ) → IsKept old mid → IsAlik
     IsEnough mid (div_ceil mid.known.width 64) (div_ceil mid.known.width 64 * div_ceil mid.known.height 64) room
 enough_kept old mid room kept alike enough = record {
   cost = enough.cost;
-  costs = rw (kept.marks, kept.format, ← alike.columns, ← alike.rows) enough.costs;
+  costs = rw (kept.marks, kept.area, kept.format, ← alike.columns, ← alike.rows) enough.costs;
   sum_is = rw (← alike.columns, ← alike.rows) enough.sum_is;
 }
 

@@ -1,9 +1,11 @@
 -- Composing, cell by cell: what the rectangles so far are, and what they leave known.
-use Rattle.std.specs.Prelude.{◌≡◌, ℕ, zero, suc, ◌+◌, ◌*◌, ◌<◌, ◌≤◌, Bool, List, [], ◌++◌, length, map, true, false, Option, Some, None, ◌⊎◌}
+use Rattle.std.specs.Prelude.{◌≡◌, ℕ, zero, suc, ◌+◌, ◌*◌, ◌<◌, ◌≤◌, ◌&&◌, Bool, List, [], ◌++◌, length, map, true, false, Option, Some, None, ◌⊎◌, MatchOption}
+use Rattle.std.specs.Int.{div_ceil}
 use Rattle.rfb_pixel.specs.declared.colour.Colour.{Colour}
 use Rattle.rfb_pixel.specs.Format.{PixelFormat, size_of}
 use Rattle.rfb_picture.specs.declared.rect.Rect.{Rect}
 use Rattle.rfb_picture.specs.Grid.{Grid, IsGrid, at_or}
+use Rattle.rfb_picture.specs.Area.{Places, asked_at}
 use Rattle.rfb_picture.specs.Box.{IsTight, IsBox, is_in}
 use Rattle.rfb_wire.specs.declared.encoding.Encoding.{Encoding}
 use Rattle.rfb_wire.specs.stream.Sequel.{Second}
@@ -104,20 +106,48 @@ abbrev pub sum_below : (ℕ → ℕ) → ℕ → ℕ
 sum_below cost zero = 0
 sum_below cost (suc n) = sum_below cost n + cost n
 
--- the cost of a cell is at least that of a rectangle in it whose edges are all marked, as its head
--- and its pixels by themselves take room
-abbrev pub IsCost : Grid Bool → PixelFormat → Rect → ℕ → Type 0
-IsCost marks form cell cost = (r : Rect) → IsTight (is_in marks) r →
+-- the place is marked and asked: no other can need sending
+abbrev pub may_need : Grid Bool → Places → ℕ → ℕ → Bool
+may_need marks area x y = is_in marks x y && asked_at area x y
+
+-- the cost of a cell is at least that of a rectangle in it whose edges all have such a place, as its
+-- head and its pixels by themselves take room
+abbrev pub IsCost : (ℕ → ℕ → Bool) → PixelFormat → Rect → ℕ → Type 0
+IsCost p form cell cost = (r : Rect) → IsTight p r →
     cell.x ≤ r.x → r.x + r.w ≤ cell.x + cell.w → cell.y ≤ r.y → r.y + r.h ≤ cell.y + cell.h →
     12 + r.h * r.w * size_of form ≤ cost
 
+-- so it is in that session
+abbrev pub IsCostIn : Session → Rect → ℕ → Type 0
+IsCostIn session cell cost = IsCost (may_need session.marks session.area) session.format cell cost
+
 -- so it is for each of the first so many cells
-abbrev pub AreCosts : ℕ → ℕ → ℕ → Grid Bool → PixelFormat → ℕ → (ℕ → ℕ) → Type 0
-AreCosts width height across marks form n cost = (i : ℕ) (cell : Rect) → i < n →
-    IsCell width height across i cell → IsCost marks form cell (cost i)
+abbrev pub AreCosts : ℕ → ℕ → ℕ → (ℕ → ℕ → Bool) → PixelFormat → ℕ → (ℕ → ℕ) → Type 0
+AreCosts width height across p form n cost = (i : ℕ) (cell : Rect) → i < n →
+    IsCell width height across i cell → IsCost p form cell (cost i)
 
 -- so much room is enough for the first so many cells
 pub record IsEnough (session : Session) (across n room : ℕ) : Type 0 where
   pub cost : ℕ → ℕ
-  pub costs : AreCosts session.known.width session.known.height across session.marks session.format n cost
+  pub costs : AreCosts session.known.width session.known.height across (may_need session.marks session.area) session.format n cost
   pub sum_is : sum_below cost n ≤ room
+
+-- ---- the cells that are looked at
+
+-- no place of the cells from one number up to another is marked and asked
+abbrev pub NoneMayNeed : Session → ℕ → ℕ → Type 0
+NoneMayNeed session n m = (x y : ℕ) → x < session.known.width → y < session.known.height →
+    n ≤ cell_of (div_ceil session.known.width 64) x y → cell_of (div_ceil session.known.width 64) x y < m →
+    may_need session.marks session.area x y ≡ false
+
+-- the cell is one of the screen's, and no cell from a number on and before it has such a place
+pub record IsNext (session : Session) (n cell : ℕ) : Type 0 where
+  pub after : n ≤ cell
+  pub is_cell : cell < div_ceil session.known.width 64 * div_ceil session.known.height 64
+  pub none : NoneMayNeed session n cell
+
+-- that cell comes next, or there is no such place any more
+abbrev pub HasNext : Session → ℕ → Option ℕ → Type 0
+HasNext session n found =
+    MatchOption found (NoneMayNeed session n (div_ceil session.known.width 64 * div_ceil session.known.height 64))
+    (λ cell. IsNext session n cell)

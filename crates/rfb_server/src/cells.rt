@@ -9,13 +9,6 @@ use rfb_picture::Rect;
 /// How many columns and how many rows of places a cell has, but at the screen's edges.
 const SIDE: u16 = 64;
 
-/// How many cells a screen of `width` by `height` places has.
-pub(crate) fn cell_count(width: u16, height: u16) -> usize
-    ensures { result ≡ div_ceil width 64 * div_ceil height 64 }
-{
-    usize::from(width.div_ceil(SIDE)) * usize::from(height.div_ceil(SIDE))
-}
-
 /// The cell of that number, row by row from the top left. It lies on the screen.
 pub(crate) fn cell_at(width: u16, height: u16, index: usize) -> Rect
     requires columns { width ≤ 4096 }

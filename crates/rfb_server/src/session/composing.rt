@@ -8,12 +8,12 @@ ghost use Rattle.rfb_picture.specs.Grid.{Holds};
 ghost use Rattle.rfb_codec.specs.Raw.{raw_length};
 ghost use Rattle.rfb_server.specs.Needing.{IsAbout};
 ghost use Rattle.rfb_server.specs.Cells.{IsCell};
-ghost use Rattle.rfb_server.specs.Sends.{IsKept, AppendsPixels, SendsCell, AppendsCells, IsCost, IsEnough};
+ghost use Rattle.rfb_server.specs.Sends.{IsKept, AppendsPixels, SendsCell, AppendsCells, IsCostIn, IsEnough, HasNext};
 ghost use Rattle.rfb_server.specs.Sessions.{IsSame};
 ghost use Rattle.rfb_server.specs.Copying.{usable_hints};
 ghost use Rattle.rfb_server.specs.Composed.{is_ready, HasComposed, StaysIdle, IsSettled, IsCounted};
 
-use crate::cells::{cell_at, cell_count};
+use crate::cells::cell_at;
 use crate::sending::{COPY_SIZE, RECT_HEAD_SIZE, append_rect, append_within};
 use crate::session::Session;
 use crate::session::progress::Progress;
@@ -50,8 +50,11 @@ impl Session {
             return Ok(false);
         }
         self.mark_hints(screen);
-        let copies = COPY_SIZE * self.usable_hints();
-        out.reserve(UPDATE_HEAD_SIZE + copies + self.room())?;
+        let room = self.room();
+        if room == 0 {
+            return Ok(false);
+        }
+        out.reserve(UPDATE_HEAD_SIZE + COPY_SIZE * self.usable_hints() + room)?;
         Ok(self.update(screen, out))
     }
 
@@ -100,7 +103,8 @@ impl Session {
         self.hints.clear();
     }
 
-    // How many bytes the rectangles of an update take at most, by what is marked.
+    // How many bytes the rectangles of cells take at most, by what is marked and asked: none where
+    // no place is both.
     fn room(&self) -> usize
         ensures enough { IsEnough self.now (div_ceil self.now.known.width 64)
             (div_ceil self.now.known.width 64 * div_ceil self.now.known.height 64) result }
@@ -109,10 +113,19 @@ impl Session {
         let width = self.known.width();
         let height = self.known.height();
         let mut room = 0;
-        for index in 0..cell_count(width, height) {
+        let mut at = 0;
+        while let Some(index) = self.next_cell(at) {
             room += self.cost_of(cell_at(width, height, index));
+            at = index + 1;
         }
         room
+    }
+
+    // The number of the first cell from number `from` on that has marked places and asked ones.
+    fn next_cell(&self, from: usize) -> Option<usize>
+        ensures { HasNext self.now from result }
+    {
+        self.marks.next_cell_of_both(self.area.asked(), from)
     }
 
     // How many bytes a rectangle in the cell takes at most.
@@ -122,7 +135,7 @@ impl Session {
         ensures enough { (across n : ℕ) (other : Rect)
             → IsCell self.now.known.width self.now.known.height across n cell
             → IsCell self.now.known.width self.now.known.height across n other
-            → IsCost self.now.marks self.now.format other result }
+            → IsCostIn self.now other result }
         ensures bound { result ≤ 16396 }
     {
         match self.marks.bounds_in(cell) {
@@ -151,9 +164,11 @@ impl Session {
         let width = self.known.width();
         let height = self.known.height();
         let mut count = 0;
-        for index in 0..cell_count(width, height) {
+        let mut next = 0;
+        while let Some(index) = self.next_cell(next) {
             let sent = self.send_cell(screen, cell_at(width, height, index), out);
             count += u16::from(sent);
+            next = index + 1;
         }
         count
     }
@@ -163,13 +178,13 @@ impl Session {
         requires about { IsAbout screen.now self.old }
         requires held { Holds self.old.known cell }
         requires sides { (cell.w ≤ 64) × (cell.h ≤ 64) }
-        requires room { (cost : ℕ) × IsCost self.old.marks self.old.format cell cost
+        requires room { (cost : ℕ) × IsCostIn self.old cell cost
             × (vec_len out.old + cost ≤ vec_capacity out.old) }
         ensures kept { IsKept self.old self.new }
         ensures about { IsAbout screen.now self.new }
         ensures sent { SendsCell result screen.now cell self.old self.new
             out.old.items out.new.items }
-        ensures len { (cost : ℕ) → IsCost self.old.marks self.old.format cell cost
+        ensures len { (cost : ℕ) → IsCostIn self.old cell cost
             → vec_len out.new ≤ vec_len out.old + cost }
         ensures room { vec_capacity out.new ≡ vec_capacity out.old }
     {

@@ -1,4 +1,4 @@
-use Rattle.std.proofs.Common.{◌≤◌, ◌*◌}
+use Rattle.std.proofs.Common.{◌≤◌, ◌*◌, ◌-◌}
 use Rattle.std.specs.Int.{div_ceil}
 use Rattle.rfb_server.specs.Sends.{IsEnough}
 use Rattle.rfb_server.proofs.session.Session.room.Given as goal
@@ -6,6 +6,11 @@ use Rattle.rfb_server.proofs.session.Session.room.Given as goal
 -- the room is enough for the cells so far
 abbrev pub invariant-loop-index : goal.invariant-loop-index
 invariant-loop-index l = record {
-  enough : IsEnough l.self (div_ceil l.self.known.width 64) l.index l.room;
-  bound : l.room ≤ l.index * 16396;
+  enough : IsEnough l.self (div_ceil l.self.known.width 64) l.at l.room;
+  within : l.at ≤ div_ceil l.self.known.width 64 * div_ceil l.self.known.height 64;
+  few : l.at ≤ 4096;
+  bound : l.room ≤ l.at * 16396;
 }
+
+abbrev pub decreases-loop-index : goal.decreases-loop-index
+decreases-loop-index l = div_ceil l.self.known.width 64 * div_ceil l.self.known.height 64 - l.at

@@ -1,9 +1,9 @@
-use Rattle.std.proofs.Common.{◌≡◌, ◌+◌, ◌*◌, ◌<◌, refl, arith, ◌∙◌}
+use Rattle.std.proofs.Common.{◌≡◌, ◌+◌, ◌*◌, ◌<◌, ◌≤◌, ℕ, refl, subst, arith, ◌∙◌}
 use Rattle.std.specs.Int.{div_ceil}
 use Rattle.rfb_server.specs.Cells.{IsCell}
-use Rattle.rfb_server.specs.Sends.{IsCost}
-use Rattle.rfb_server.proofs.RoomLemmas.{sum_more, sum_order}
-use Rattle.rfb_server.proofs.SentCells.{cells_start, cells_more, kept_then, kept_same}
+use Rattle.rfb_server.specs.Sends.{IsCost, AppendsCells, NoneMayNeed, may_need}
+use Rattle.rfb_server.proofs.RoomLemmas.{sum_more, sum_order, few_cells}
+use Rattle.rfb_server.proofs.SentCells.{cells_start, cells_more, cells_skip, same_wide, same_high, kept_then, kept_same}
 use Rattle.rfb_server.proofs.session.Session.send_cells.Goals as goal
 
 pub loop-index-init : goal.loop-index-init
@@ -13,6 +13,8 @@ loop-index-init c =
       kept = kept_same s;
       about = c.requires.about;
       sent = cells_start (div_ceil s.known.width 64) c.args.screen.now s c.args.out.now.items;
+      within = omega arith;
+      few = omega arith;
       capacity = refl;
       space = λ cost costs fits. omega (arith, fits);
     }
@@ -22,34 +24,55 @@ send_cell-sent-requires-clause-room c =
     let s = c.args.self.now in
     let l = c.loop-index in
     let enough = c.requires.room.1 in
-    let index = l.index in
+    let index = c.in-Some.index in
+    let next = c.in-Some.ensures in
     let here : IsCell s.known.width s.known.height (div_ceil s.known.width 64) index c.cell_at.result = rw (c.width-width.ensures.value, c.height-height.ensures) at c.cell_at.ensures in
-    let count : c.cell_count-index-end.result ≡ div_ceil s.known.width 64 * div_ceil s.known.height 64 = rw (c.width-width.ensures.value, c.height-height.ensures) at c.cell_count-index-end.ensures in
-    let below : index < div_ceil s.known.width 64 * div_ceil s.known.height 64 = omega (arith, count) in
-    let cost : IsCost s.marks s.format c.cell_at.result (enough.cost index) = enough.costs index c.cell_at.result below here in
+    let below : index < div_ceil s.known.width 64 * div_ceil s.known.height 64 =
+    rw (← same_wide c.args.screen.now s l.self c.requires.about l.invariant.about, ← same_high c.args.screen.now s l.self c.requires.about l.invariant.about) next.is_cell in
+    let cost : IsCost (may_need s.marks s.area) s.format c.cell_at.result (enough.cost index) = enough.costs index c.cell_at.result below here in
     let space = l.invariant.space enough.cost enough.costs (omega (arith, enough.sum_is, c.requires.room.2)) in
+    let skipped = sum_order enough.cost l.next index next.after in
     let order = sum_order enough.cost (index + 1) (div_ceil s.known.width 64 * div_ceil s.known.height 64) (omega (arith, below)) in
     let more = sum_more enough.cost index in
-    (enough.cost index, rw (l.invariant.kept.marks, l.invariant.kept.format) cost, omega (arith, space, order, more, l.invariant.capacity))
+    (enough.cost index, rw (l.invariant.kept.marks, l.invariant.kept.area, l.invariant.kept.format) cost, omega (arith, space, skipped, order, more, l.invariant.capacity))
 
 pub loop-index-preserved : goal.loop-index-preserved
 loop-index-preserved c =
     let s = c.args.self.now in
     let l = c.loop-index in
-    let index = l.index in
+    let index = c.in-Some.index in
+    let across : ℕ = div_ceil s.known.width 64 in
+    let next = c.in-Some.ensures in
     let here : IsCell s.known.width s.known.height (div_ceil s.known.width 64) index c.cell_at.result = rw (c.width-width.ensures.value, c.height-height.ensures) at c.cell_at.ensures in
-    let count : c.cell_count-index-end.result ≡ div_ceil s.known.width 64 * div_ceil s.known.height 64 = rw (c.width-width.ensures.value, c.height-height.ensures) at c.cell_count-index-end.ensures in
-    let below : index < div_ceil s.known.width 64 * div_ceil s.known.height 64 = omega (arith, count) in
+    let below : index < div_ceil s.known.width 64 * div_ceil s.known.height 64 =
+    rw (← same_wide c.args.screen.now s l.self c.requires.about l.invariant.about, ← same_high c.args.screen.now s l.self c.requires.about l.invariant.about) next.is_cell in
+    let cells = few_cells s.known.width s.known.height s.alike.columns s.alike.rows in
+    let so_far : AppendsCells across index c.args.screen.now s l.self c.args.out.now.items l.out.items l.count =
+    cells_skip l.next index c.args.screen.now s l.self c.args.out.now.items l.out.items l.count c.requires.about l.invariant.about l.invariant.kept next.after next.none l.invariant.sent in
     record {
       kept = kept_then s l.self c.send_cell-sent.new.self l.invariant.kept c.send_cell-sent.ensures.kept;
       about = c.send_cell-sent.ensures.about;
       sent = rw (c.from-count.ensures) (cells_more (div_ceil s.known.width 64) index c.args.screen.now s l.self c.send_cell-sent.new.self c.args.out.now.items l.out.items c.send_cell-sent.new.out.items l.count c.cell_at.result
-          c.requires.about l.invariant.kept here l.invariant.sent c.send_cell-sent.result c.send_cell-sent.ensures.sent);
+          c.requires.about l.invariant.kept here so_far c.send_cell-sent.result c.send_cell-sent.ensures.sent);
+      within = omega (arith, below);
+      few = omega (arith, below, cells);
       capacity = c.send_cell-sent.ensures.room ∙ l.invariant.capacity;
       space = λ cost costs fits.
           let before = l.invariant.space cost costs fits in
+          let skipped = sum_order cost l.next index next.after in
           let more = sum_more cost index in
-          let room : IsCost s.marks s.format c.cell_at.result (cost index) = costs index c.cell_at.result below here in
-          let taken = c.send_cell-sent.ensures.len (cost index) (rw (l.invariant.kept.marks, l.invariant.kept.format) room) in
-          omega (arith, before, more, taken);
+          let room : IsCost (may_need s.marks s.area) s.format c.cell_at.result (cost index) = costs index c.cell_at.result below here in
+          let taken = c.send_cell-sent.ensures.len (cost index) (rw (l.invariant.kept.marks, l.invariant.kept.area, l.invariant.kept.format) room) in
+          omega (arith, before, skipped, more, taken);
     }
+
+pub returns-clause-sent : goal.returns-clause-sent
+returns-clause-sent c =
+    let s = c.args.self.now in
+    let l = c.loop-index in
+    let wide = same_wide c.args.screen.now s l.self c.requires.about l.invariant.about in
+    let high = same_high c.args.screen.now s l.self c.requires.about l.invariant.about in
+    let none : NoneMayNeed l.self l.next (div_ceil l.self.known.width 64 * div_ceil l.self.known.height 64) = rw c.in_default.is at c.next_cell.ensures in
+    let all : div_ceil l.self.known.width 64 * div_ceil l.self.known.height 64 ≡ div_ceil s.known.width 64 * div_ceil s.known.height 64 = rw (wide, high) refl in
+    cells_skip l.next (div_ceil s.known.width 64 * div_ceil s.known.height 64) c.args.screen.now s l.self c.args.out.now.items l.out.items l.count c.requires.about l.invariant.about l.invariant.kept l.invariant.within
+    (subst (λ (m : ℕ). NoneMayNeed l.self l.next m) all none) l.invariant.sent

@@ -1,0 +1,23 @@
+use Rattle.std.proofs.Common.{◌*◌, ℕ, refl, sym, subst}
+use Rattle.std.specs.Int.{div_ceil}
+use Rattle.rfb_server.specs.Server.{ServerState}
+use Rattle.rfb_server.specs.Composing.{IsDue}
+use Rattle.rfb_server.specs.Sends.{IsEnough, state_of}
+use Rattle.rfb_server.proofs.CopiedLemmas.{state_same}
+use Rattle.rfb_server.proofs.UpdateLemmas.{nothing_due}
+use Rattle.rfb_server.proofs.session.Session.compose.Goals as goal
+
+pub returns-then-room-eq0-clause-idle : goal.returns-then-room-eq0-clause-idle
+returns-then-room-eq0-clause-idle c = λ e.
+    let s = c.mark_hints.new.self in
+    let marked = c.mark_hints.ensures in
+    let none : IsEnough s (div_ceil s.known.width 64) (div_ceil s.known.width 64 * div_ceil s.known.height 64) 0 =
+    subst (λ (n : ℕ). IsEnough s (div_ceil s.known.width 64) (div_ceil s.known.width 64 * div_ceil s.known.height 64) n) c.if-room-eq0.true c.room-room.ensures.enough in
+    record {
+      not_due = λ ready due.
+          nothing_due c.args.screen.now s marked.about none
+          (subst (λ (t : ServerState). IsDue t) (sym (state_same c.args.screen.now c.args.self.now s marked.same)) due);
+      appended = refl;
+      same = marked.same;
+      hints = marked.hints;
+    }
