@@ -73,7 +73,7 @@ none_taken setup p v prefix bytes rest takes = by takes.items takes.reads takes.
     by (i ∷ []) reads state ends = absurd (got_told setup p i (prefix ++ bytes) reads.0 reads.1 ends)
     by (i ∷ j ∷ items) reads state ends = absurd (got_told setup p i (prefix ++ bytes) reads.0 reads.1 ends.0)
 
-some_taken : (setup : ViewerSetup) (p v : ServerPoint) (prefix bytes rest : List ℕ) (d : ViewerStep) → Takes (viewer_end setup) p prefix bytes (Some d) v rest → (i : ServerItem) × ((server_handshake setup.limit setup.max_places).next p (prefix ++ bytes) ≡ Got i []) × (handshake_tells setup p i ≡ Some d) × (v ≡ past_server_item setup.limit p i) × (rest ≡ [])
+pub some_taken : (setup : ViewerSetup) (p v : ServerPoint) (prefix bytes rest : List ℕ) (d : ViewerStep) → Takes (viewer_end setup) p prefix bytes (Some d) v rest → (i : ServerItem) × ((server_handshake setup.limit setup.max_places).next p (prefix ++ bytes) ≡ Got i []) × (handshake_tells setup p i ≡ Some d) × (v ≡ past_server_item setup.limit p i) × (rest ≡ [])
 some_taken setup p v prefix bytes rest d takes = by takes.items takes.reads takes.state takes.ends
   where
     by : (items : List ServerItem) → ReadsAll (server_handshake setup.limit setup.max_places) p (prefix ++ bytes) items rest → v ≡ acts (viewer_end setup) p items → EndsWith (viewer_end setup) p items (Some d) → (i : ServerItem) × ((server_handshake setup.limit setup.max_places).next p (prefix ++ bytes) ≡ Got i []) × (handshake_tells setup p i ≡ Some d) × (v ≡ past_server_item setup.limit p i) × (rest ≡ [])
@@ -87,7 +87,7 @@ some_taken setup p v prefix bytes rest d takes = by takes.items takes.reads take
     by (i ∷ j ∷ items) reads state ends = absurd (got_told setup p i (prefix ++ bytes) reads.0 reads.1 ends.0)
 
 -- items without an event are none
-none_quiet : (setup : ViewerSetup) (p : ServerPoint) (bytes rest : List ℕ) (items : List ServerItem) → ReadsAll (server_handshake setup.limit setup.max_places) p bytes items rest → EndsWith (viewer_end setup) p items None → items ≡ []
+pub none_quiet : (setup : ViewerSetup) (p : ServerPoint) (bytes rest : List ℕ) (items : List ServerItem) → ReadsAll (server_handshake setup.limit setup.max_places) p bytes items rest → EndsWith (viewer_end setup) p items None → items ≡ []
 none_quiet setup p bytes rest [] reads ends = refl
 none_quiet setup p bytes rest (i ∷ []) reads ends = absurd (got_told setup p i bytes reads.0 reads.1 ends)
 none_quiet setup p bytes rest (i ∷ j ∷ items) reads ends = absurd (got_told setup p i bytes reads.0 reads.1 ends.0)
@@ -123,7 +123,7 @@ none_kept limit (NamePart version width height n more kept) p prefix h = refl
 none_kept limit Done p prefix h = refl
 none_kept limit (HelloFailed fault kept) p prefix h = absurd h
 
-at_hello : (viewing : Viewing) (v : Viewer) (at : ServerAt) (g : Option (Grid Colour)) (prefix : List ℕ) → ProgressStandsFor viewing v Handshake at g prefix → (p : ServerPoint) × (at ≡ First p) × HelloStandsFor viewing.hello v.hello p prefix × (is_open v.hello ≡ true) × (v.format ≡ viewing.form) × Stores v g × IsScreenAt p g
+pub at_hello : (viewing : Viewing) (v : Viewer) (at : ServerAt) (g : Option (Grid Colour)) (prefix : List ℕ) → ProgressStandsFor viewing v Handshake at g prefix → (p : ServerPoint) × (at ≡ First p) × HelloStandsFor viewing.hello v.hello p prefix × (is_open v.hello ≡ true) × (v.format ≡ viewing.form) × Stores v g × IsScreenAt p g
 at_hello viewing v (First p) g prefix h = (p, refl, h.0, h.1, h.2, h.3, h.4)
 at_hello viewing v (Second q) g prefix h = absurd h
 
@@ -261,7 +261,7 @@ module _ (viewing : Viewing) (old new : Viewer) (after : ViewerHello) where
 -- ---- refusals
 
 module _ (viewing : Viewing) (old : Viewer) where
-  pub greet_bad : (bytes : List ℕ) (fault : HelloFault) → old.progress ≡ Handshake → RefusedBy (viewer_end viewing.hello) (HelloStandsFor viewing.hello) old.hello bytes fault → RefusedBy (viewer viewing) (StandsFor viewing) old bytes (fault_of_hello fault)
+  abbrev pub greet_bad : (bytes : List ℕ) (fault : HelloFault) → old.progress ≡ Handshake → RefusedBy (viewer_end viewing.hello) (HelloStandsFor viewing.hello) old.hello bytes fault → RefusedBy (viewer viewing) (StandsFor viewing) old bytes (fault_of_hello fault)
   greet_bad bytes fault was refused s prefix stands =
       let h = at_hello viewing old s.point s.picture prefix (here viewing old Handshake s prefix was stands) in
       let r = refused h.0 prefix h.2 in
@@ -276,7 +276,7 @@ module _ (viewing : Viewing) (old : Viewer) where
         bad = ap (λ (a : ServerAt). (server_bytes viewing.form viewing.hello).next a r.rest) h.1 ∙ ap (named (λ i. First i) fault_of_hello) bad;
       }
 
-  asks_too : (p : ServerPoint) (bytes : List ℕ) → HelloAsks viewing.hello p bytes → AsksInHandshake viewing.hello p bytes
+  pub asks_too : (p : ServerPoint) (bytes : List ℕ) → HelloAsks viewing.hello p bytes → AsksInHandshake viewing.hello p bytes
   asks_too AwaitsVersion bytes a = a
   asks_too (AwaitsSecurity version) bytes a = a
   asks_too (AwaitsResult version) bytes a = a
@@ -284,7 +284,7 @@ module _ (viewing : Viewing) (old : Viewer) where
   asks_too (AwaitsName version width height name_length) bytes a = a
   asks_too (Begun version width height) bytes a = a
 
-  pub greet_starves : (bytes : List ℕ) → old.progress ≡ Handshake → RunsOutBy (viewer_end viewing.hello) (HelloAsks viewing.hello) (HelloStandsFor viewing.hello) old.hello bytes → RunsOutBy (viewer viewing) (AsksMemory viewing) (StandsFor viewing) old bytes
+  abbrev pub greet_starves : (bytes : List ℕ) → old.progress ≡ Handshake → RunsOutBy (viewer_end viewing.hello) (HelloAsks viewing.hello) (HelloStandsFor viewing.hello) old.hello bytes → RunsOutBy (viewer viewing) (AsksMemory viewing) (StandsFor viewing) old bytes
   greet_starves bytes was out s prefix stands =
       let h = at_hello viewing old s.point s.picture prefix (here viewing old Handshake s prefix was stands) in
       let r = out h.0 prefix h.2 in
@@ -294,7 +294,7 @@ module _ (viewing : Viewing) (old : Viewer) where
       record { items = []; front = r.front; later = r.later; reads = reads; quiet = refl; asked = subst (λ (a : ServerAt). AsksAt viewing.hello a r.front) (sym h.1) (asks_too h.0 r.front asked) }
 
   -- no memory for a screen, where there was none
-  pub screen_asks : (bytes : List ℕ) (n : ℕ) (after : ViewerHello) (d : ViewerStep) → old.progress ≡ Handshake → old.picture ≡ None → FedBy (viewer_end viewing.hello) (HelloStandsFor viewing.hello) old.hello (take n bytes) (Some d) after → ((p : ServerPoint) (i : ServerItem) → handshake_tells viewing.hello p i ≡ Some d → IsScreenAt p None → (version : Version) × (width height name_length : ℕ) × (p ≡ AwaitsInit version) × (i ≡ ServerInit width height name_length)) → RunsOutBy (viewer viewing) (AsksMemory viewing) (StandsFor viewing) old bytes
+  abbrev pub screen_asks : (bytes : List ℕ) (n : ℕ) (after : ViewerHello) (d : ViewerStep) → old.progress ≡ Handshake → old.picture ≡ None → FedBy (viewer_end viewing.hello) (HelloStandsFor viewing.hello) old.hello (take n bytes) (Some d) after → ((p : ServerPoint) (i : ServerItem) → handshake_tells viewing.hello p i ≡ Some d → IsScreenAt p None → (version : Version) × (width height name_length : ℕ) × (p ≡ AwaitsInit version) × (i ≡ ServerInit width height name_length)) → RunsOutBy (viewer viewing) (AsksMemory viewing) (StandsFor viewing) old bytes
   screen_asks bytes n after d was missing fed is s prefix stands =
       let h = at_hello viewing old s.point s.picture prefix (here viewing old Handshake s prefix was stands) in
       let f = fed h.0 prefix h.2 in

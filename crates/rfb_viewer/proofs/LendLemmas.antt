@@ -1,5 +1,5 @@
 -- What is told of a viewer that stands for a state.
-use Rattle.std.proofs.Common.{◌≡◌, ◌≢◌, ℕ, zero, suc, ◌+◌, ◌-◌, ◌*◌, ◌%◌, ◌<◌, ◌==◌, Bool, true, false, List, [], ◌∷◌, ◌++◌, Option, Some, None, length, refl, sym, subst, ◌∙◌, ap, arith, inl, inr}
+use Rattle.std.proofs.Common.{◌≡◌, ◌≢◌, ℕ, ◌+◌, ◌-◌, ◌*◌, ◌%◌, ◌<◌, ◌==◌, false, List, [], ◌∷◌, ◌++◌, Option, None, length, refl, sym, subst, ◌∙◌, ap, arith, inl, inr}
 use Rattle.std.proofs.lemmas.Bool.Decides.{nat_tests}
 use Rattle.arrayvec.specs.ArrayVec.{ArrayVec}
 use Rattle.rfb_pixel.specs.declared.colour.Colour.{Colour}
@@ -11,10 +11,9 @@ use Rattle.rfb_wire.specs.stream.Sequel.{First, Second}
 use Rattle.rfb_wire.proofs.PendingLaws.{server_text_pending}
 use Rattle.rfb_wire.proofs.stream_laws.PendingLaws.{head_pending, past_head}
 use Rattle.rfb_codec.specs.Front.{ShowsFront}
-use Rattle.rfb_codec.specs.Painter.{Painting, painting_of}
+use Rattle.rfb_codec.specs.Painter.{Painting}
 use Rattle.rfb_codec.specs.Pending.{update_pending, data_pending}
-use Rattle.rfb_codec.specs.Stage.{encoding_at}
-use Rattle.rfb_codec.specs.UnderWay.{UnderWay, painting}
+use Rattle.rfb_codec.specs.UnderWay.{UnderWay}
 use Rattle.rfb_codec.specs.UpdateStream.{UpdatePoint}
 use Rattle.rfb_codec.proofs.PendingLaws.{message_pending_next, short_head_pending, data_pending_next}
 use Rattle.rfb_codec.proofs.FrontPendingLaws.{kept_is_pending, stands_shows}
@@ -32,7 +31,7 @@ use Rattle.rfb_viewer.specs.ServerBytes.{ServerAt, is_between, server_bytes_pend
 use Rattle.rfb_viewer.specs.Sound.{is_idle}
 use Rattle.rfb_viewer.specs.Viewer.{Viewing}
 use Rattle.rfb_viewer.specs.Showing.{ShowsPieces, ShowsAt}
-use Rattle.rfb_viewer.specs.Progress.{ProgressStandsFor, IsHeadBegun, AreColoursBegun, IsReadyAt, IsPainting, fault_in}
+use Rattle.rfb_viewer.specs.Progress.{ProgressStandsFor, IsHeadBegun, IsPainting, fault_in}
 
 -- ---- what is shown
 
@@ -66,7 +65,7 @@ shows_at viewing v (Failed fault) at g prefix h = absurd h
 
 -- ---- reasons
 
-hello_unreasoned : (limit : ℕ) (p : HelloProgress) (point : ServerPoint) (prefix : List ℕ) → HelloProgressStandsFor limit p point prefix → reason_in p ≡ no_text
+pub hello_unreasoned : (limit : ℕ) (p : HelloProgress) (point : ServerPoint) (prefix : List ℕ) → HelloProgressStandsFor limit p point prefix → reason_in p ≡ no_text
 hello_unreasoned limit (VersionPart part) point prefix h = refl
 hello_unreasoned limit (Word part) point prefix h = refl
 hello_unreasoned limit (Count version) point prefix h = refl

@@ -8,3 +8,4 @@ pub mod FeedLemmas
 pub mod SendingLaws
 pub mod CallLemmas
 pub mod LendLemmas
+pub mod FailLemmas

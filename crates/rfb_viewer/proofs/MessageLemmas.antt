@@ -83,7 +83,7 @@ kept_joined limit n text unit kept now is made within = made ∙ rw is (ap (λ (
 
 -- ---- where a viewer stands
 
-at_head : (viewing : Viewing) (v : Viewer) (part : ArrayVec ℕ) (at : ServerAt) (g : Option (Grid Colour)) (prefix : List ℕ) → ProgressStandsFor viewing v (Head part) at g prefix → (q : UpdatePoint) × (at ≡ Second q) × IsReadyAt v q g 0 × Stores v g × (prefix ≡ part.items) × IsHeadBegun part.items
+pub at_head : (viewing : Viewing) (v : Viewer) (part : ArrayVec ℕ) (at : ServerAt) (g : Option (Grid Colour)) (prefix : List ℕ) → ProgressStandsFor viewing v (Head part) at g prefix → (q : UpdatePoint) × (at ≡ Second q) × IsReadyAt v q g 0 × Stores v g × (prefix ≡ part.items) × IsHeadBegun part.items
 at_head viewing v part (First p) g prefix h = absurd h
 at_head viewing v part (Second q) g prefix h = (q, refl, h.0, h.1, h.2, h.3)
 
@@ -204,7 +204,7 @@ module _ (viewing : Viewing) (old new : Viewer) where
       ))
 
   -- where memory is wanting for a text
-  pub head_asks : (part : ArrayVec ℕ) (byte : ℕ) (bytes : List ℕ) (head : ServerHead) → old.progress ≡ Head part → take 1 bytes ≡ byte ∷ [] → ((begun : IsHeadBegun part.items) → SpellsServerHead head (part.items ++ byte ∷ [])) → AsksBehind head → RunsOutBy (viewer viewing) (AsksMemory viewing) (StandsFor viewing) old bytes
+  abbrev pub head_asks : (part : ArrayVec ℕ) (byte : ℕ) (bytes : List ℕ) (head : ServerHead) → old.progress ≡ Head part → take 1 bytes ≡ byte ∷ [] → ((begun : IsHeadBegun part.items) → SpellsServerHead head (part.items ++ byte ∷ [])) → AsksBehind head → RunsOutBy (viewer viewing) (AsksMemory viewing) (StandsFor viewing) old bytes
   head_asks part byte bytes (CutTextHead n) was one spelled asked = λ s prefix stands.
       let h = at_head viewing old part s.point s.picture prefix (here viewing old (Head part) s prefix was stands) in
       let front = part.items ++ byte ∷ [] in

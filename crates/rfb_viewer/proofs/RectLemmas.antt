@@ -31,11 +31,11 @@ use Rattle.rfb_viewer.specs.Steps.{progress_past, told_past, request_past}
 use Rattle.rfb_viewer.proofs.StepLemmas.{IsMade, made_stands, ready_same, more_step, got_step, bad_step, past_stands, past_progress, past_request, past_told, one_left}
 use Rattle.rfb_viewer.proofs.MessageLemmas.{here}
 
-at_rect_head : (viewing : Viewing) (v : Viewer) (more : ℕ) (part : ArrayVec ℕ) (at : ServerAt) (g : Option (Grid Colour)) (prefix : List ℕ) → ProgressStandsFor viewing v (RectHead more part) at g prefix → (q : UpdatePoint) × (at ≡ Second q) × IsReadyAt v q g (more + 1) × Stores v g × (prefix ≡ part.items) × (length part.items < 12)
+pub at_rect_head : (viewing : Viewing) (v : Viewer) (more : ℕ) (part : ArrayVec ℕ) (at : ServerAt) (g : Option (Grid Colour)) (prefix : List ℕ) → ProgressStandsFor viewing v (RectHead more part) at g prefix → (q : UpdatePoint) × (at ≡ Second q) × IsReadyAt v q g (more + 1) × Stores v g × (prefix ≡ part.items) × (length part.items < 12)
 at_rect_head viewing v more part (First p) g prefix h = absurd h
 at_rect_head viewing v more part (Second q) g prefix h = (q, refl, h.0, h.1, h.2, h.3)
 
-at_data : (viewing : Viewing) (v : Viewer) (more : ℕ) (painter : UnderWay) (at : ServerAt) (g : Option (Grid Colour)) (prefix : List ℕ) → ProgressStandsFor viewing v (Data more painter) at g prefix → (q : UpdatePoint) × (at ≡ Second q) × (ready : IsReadyAt v q g (more + 1)) × IsPainting v q painter ready.screen prefix
+pub at_data : (viewing : Viewing) (v : Viewer) (more : ℕ) (painter : UnderWay) (at : ServerAt) (g : Option (Grid Colour)) (prefix : List ℕ) → ProgressStandsFor viewing v (Data more painter) at g prefix → (q : UpdatePoint) × (at ≡ Second q) × (ready : IsReadyAt v q g (more + 1)) × IsPainting v q painter ready.screen prefix
 at_data viewing v more painter (First p) g prefix h = absurd h
 at_data viewing v more painter (Second q) g prefix h = (q, refl, h.0, h.1)
 
@@ -138,7 +138,7 @@ module _ (viewing : Viewing) (old new : Viewer) where
     pub painting_is : painting painter ≡ painting_of q head
     pub fresh : PainterStandsFor painter picture ready.screen []
 
-  opened_at : (s : ViewerState) (prefix : List ℕ) (more : ℕ) (part : ArrayVec ℕ) (unit whole : List ℕ) (head : HeadOfRect) (picture : Grid Colour) (painter : UnderWay) → IsOpened more part unit whole head picture painter → StandsFor viewing old s prefix → IsOpenedAt s prefix more unit whole head picture painter
+  pub opened_at : (s : ViewerState) (prefix : List ℕ) (more : ℕ) (part : ArrayVec ℕ) (unit whole : List ℕ) (head : HeadOfRect) (picture : Grid Colour) (painter : UnderWay) → IsOpened more part unit whole head picture painter → StandsFor viewing old s prefix → IsOpenedAt s prefix more unit whole head picture painter
   opened_at s prefix more part unit whole head picture painter o stands =
       let h = at_rect_head viewing old more part s.point s.picture prefix (here viewing old (RectHead more part) s prefix o.was stands) in
       let shown : Some picture ≡ s.picture = sym o.shown ∙ h.3 in
@@ -192,11 +192,11 @@ module _ (viewing : Viewing) (old new : Viewer) where
   -- ---- data
 
   -- the bytes behind what came of the data
-  joined : (prefix front body unit : List ℕ) → prefix ≡ front ++ body → prefix ++ unit ≡ front ++ (body ++ unit)
+  pub joined : (prefix front body unit : List ℕ) → prefix ≡ front ++ body → prefix ++ unit ≡ front ++ (body ++ unit)
   joined prefix front body unit is = ap (λ (ys : List ℕ). ys ++ unit) is ∙ append_assoc front body unit
 
   -- what is stored is what the painter has painted
-  painted_now : (painter : UnderWay) (q : UpdatePoint) (before picture : Grid Colour) (prefix : List ℕ) → old.picture ≡ Some picture → (p : IsPainting old q painter before prefix) → PainterStandsFor painter picture before p.body
+  pub painted_now : (painter : UnderWay) (q : UpdatePoint) (before picture : Grid Colour) (prefix : List ℕ) → old.picture ≡ Some picture → (p : IsPainting old q painter before prefix) → PainterStandsFor painter picture before p.body
   painted_now painter q before picture prefix shown p = subst (λ (g : Grid Colour). PainterStandsFor painter g before p.body) (same_screen p.now picture (sym p.now_is ∙ shown)) p.shows
 
   pub paint_more : (more : ℕ) (painter next : UnderWay) (picture now : Grid Colour) (unit : List ℕ) → old.progress ≡ Data more painter → old.picture ≡ Some picture → Waits painter picture unit next now → painting next ≡ painting painter → IsMade old new (Data more next) old.request (Some now) → StepsBy (viewer viewing) (StandsFor viewing) old unit (Ok None) new

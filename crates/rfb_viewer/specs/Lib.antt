@@ -9,4 +9,5 @@ pub mod Progress
 pub mod Standing
 pub mod Steps
 pub mod Showing
+pub mod Failing
 pub mod Feeding

@@ -7,6 +7,7 @@ use Rattle.rfb_pixel.specs.Format.{PixelFormat}
 use Rattle.rfb_picture.specs.Grid.{Grid}
 use Rattle.rfb_wire.specs.declared.encoding.Encoding.{Encoding}
 use Rattle.rfb_hello.specs.declared.version.Version.{Version}
+use Rattle.rfb_hello.specs.ViewerEnd.{ViewerSetup}
 use Rattle.rfb_hello.specs.ViewerStanding.{setup_of, reason_of as reason_in}
 use Rattle.rfb_viewer.specs.declared.fault.ViewerFault.{ViewerFault}
 use Rattle.rfb_viewer.specs.declared.viewer.Viewer.{Viewer}
@@ -48,3 +49,12 @@ fault_of viewer = fault_in viewer.progress
 -- what is kept of the reason that the server gave
 abbrev pub reason_of : Viewer → List ℕ
 reason_of viewer = (reason_in viewer.hello).bytes
+
+-- what it was made with, but for the format, which calls change
+pub record Making : Type 0 where
+  pub hello : ViewerSetup
+  pub encodings : List Encoding
+  pub text_limit : ℕ
+
+abbrev pub making_of : Viewer → Making
+making_of viewer = record { hello = setup_of viewer.hello; encodings = viewer.encodings.items; text_limit = viewer.text_limit }

@@ -41,8 +41,9 @@ impl Viewer {
     ghost use Rattle.rfb_viewer.specs.declared.fault.ViewerFault.TheVariants.{NoMemory};
     ghost use Rattle.rfb_viewer.specs.Told.{seen};
     ghost use Rattle.rfb_viewer.specs.Viewer.{Viewing, viewer, first_viewer, AsksMemory};
-    ghost use Rattle.rfb_viewer.specs.Standing.{StandsFor, viewing_with, fault_of};
+    ghost use Rattle.rfb_viewer.specs.Standing.{StandsFor, viewing_with, fault_of, making_of};
     ghost use Rattle.rfb_viewer.specs.Feeding.{StepsOn, RefusesBy, StarvesBy};
+    ghost use Rattle.rfb_viewer.specs.Failing.{KeepsPicture, KeepsReason};
 
     /// A viewer that was fed nothing. It goes up to version `limit`, asks for the screen alone where
     /// it is not `shared`, admits a screen of `max_places` places, and keeps `text_limit` bytes of
@@ -84,13 +85,18 @@ impl Viewer {
         ensures fed { IfOk result (λ fed. (viewing : Viewing)
             → FedBy (viewer viewing) (StandsFor viewing)
             self.old (take fed.used bytes.now) (seen fed.event) self.new) }
+        ensures made { making_of self.new ≡ making_of self.old }
 
-        // When a fault comes, when memory is wanting, and that it stays.
+        // When a fault comes, when memory is wanting, what is kept, and that it stays.
         ensures fault { IfErr result (λ fault. fault ≢ NoMemory → (viewing : Viewing)
             → RefusedBy (viewer viewing) (StandsFor viewing) self.old bytes.now fault) }
         ensures memory { IfErr result (λ fault. fault ≡ NoMemory → (viewing : Viewing)
             → RunsOutBy (viewer viewing) (AsksMemory viewing) (StandsFor viewing)
             self.old bytes.now) }
+        ensures picture { IfErr result (λ fault. fault_of self.old ≡ None
+            → KeepsPicture fault self.old bytes.now self.new) }
+        ensures reason { IfErr result (λ fault. fault_of self.old ≡ None
+            → KeepsReason fault self.old bytes.now self.new) }
         ensures fails { IfErr result (λ fault. fault_of self.new ≡ Some fault) }
         ensures failed { StaysFailed (fault_of self.old) self.old result self.new }
     {
@@ -121,6 +127,9 @@ impl Viewer {
             StepsOn self.old (take fed.used bytes.now) fed.event self.new) }
         ensures fault { IfErr result (RefusesBy self.old bytes.now) }
         ensures memory { IfErr result (StarvesBy self.old bytes.now) }
+        ensures picture { IfErr result (λ fault. KeepsPicture fault self.old bytes.now self.new) }
+        ensures reason { IfErr result (λ fault. KeepsReason fault self.old bytes.now self.new) }
+        ensures made { making_of self.new ≡ making_of self.old }
         ensures fails { IfErr result (λ fault. fault_of self.new ≡ Some fault) }
     {
         match self.progress {

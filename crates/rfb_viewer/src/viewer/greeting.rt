@@ -19,8 +19,9 @@ const BLACK: Colour = Colour { r: 0, g: 0, b: 0 };
 
 impl Viewer {
     ghost use Rattle.rfb_viewer.specs.declared.viewer.progress.Progress.{Progress};
-    ghost use Rattle.rfb_viewer.specs.Standing.{fault_of};
+    ghost use Rattle.rfb_viewer.specs.Standing.{fault_of, making_of};
     ghost use Rattle.rfb_viewer.specs.Feeding.{StepsOn, RefusesBy, StarvesBy};
+    ghost use Rattle.rfb_viewer.specs.Failing.{KeepsPicture, KeepsReason};
 
     // Takes bytes of the server's handshake, up to the last of its next step, and makes the screen
     // where that tells its size.
@@ -33,6 +34,9 @@ impl Viewer {
             StepsOn self.old (take fed.used bytes.now) fed.event self.new) }
         ensures fault { IfErr result (RefusesBy self.old bytes.now) }
         ensures memory { IfErr result (StarvesBy self.old bytes.now) }
+        ensures picture { IfErr result (λ fault. KeepsPicture fault self.old bytes.now self.new) }
+        ensures reason { IfErr result (λ fault. KeepsReason fault self.old bytes.now self.new) }
+        ensures made { making_of self.new ≡ making_of self.old }
         ensures fails { IfErr result (λ fault. fault_of self.new ≡ Some fault) }
     {
         let fed = match self.hello.feed(bytes) {
@@ -88,6 +92,7 @@ fn make_screen(
 ) -> Result<(), AllocError>
     ensures made { OnOk result (picture.new ≡ Some (screen_or width height picture.old)) }
     ensures none { OnErr result (picture.old ≡ None) }
+    ensures kept { OnErr result (picture.new ≡ picture.old) }
 {
     if picture.is_none() {
         *picture = Some(Picture::new(alloc, width, height, BLACK)?);

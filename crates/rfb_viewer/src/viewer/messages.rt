@@ -17,8 +17,9 @@ use std::mem;
 
 impl Viewer {
     ghost use Rattle.rfb_viewer.specs.declared.viewer.progress.Progress.{Progress};
-    ghost use Rattle.rfb_viewer.specs.Standing.{fault_of};
+    ghost use Rattle.rfb_viewer.specs.Standing.{fault_of, making_of};
     ghost use Rattle.rfb_viewer.specs.Feeding.{StepsOn, RefusesBy, StarvesBy};
+    ghost use Rattle.rfb_viewer.specs.Failing.{KeepsPicture, KeepsReason};
 
     // Takes a byte of a message's head.
     pub(super) fn take_head(&mut self, bytes: &[u8]) -> Result<Fed<ViewerEvent>, ViewerFault>
@@ -30,6 +31,9 @@ impl Viewer {
             StepsOn self.old (take fed.used bytes.now) fed.event self.new) }
         ensures fault { IfErr result (RefusesBy self.old bytes.now) }
         ensures memory { IfErr result (StarvesBy self.old bytes.now) }
+        ensures picture { IfErr result (λ fault. KeepsPicture fault self.old bytes.now self.new) }
+        ensures reason { IfErr result (λ fault. KeepsReason fault self.old bytes.now self.new) }
+        ensures made { making_of self.new ≡ making_of self.old }
         ensures fails { IfErr result (λ fault. fault_of self.new ≡ Some fault) }
     {
         let Progress::Head(part) = &mut self.progress else {
@@ -63,6 +67,7 @@ impl Viewer {
         ensures used { (0 < result.used) × (result.used ≤ length bytes.now) }
         ensures going { fault_of self.new ≡ None }
         ensures steps { StepsOn self.old (take result.used bytes.now) result.event self.new }
+        ensures made { making_of self.new ≡ making_of self.old }
     {
         let Progress::Colours { more } = &mut self.progress else {
             unreachable!()
@@ -90,6 +95,7 @@ impl Viewer {
         ensures used { (0 < result.used) × (result.used ≤ length bytes.now) }
         ensures going { fault_of self.new ≡ None }
         ensures steps { StepsOn self.old (take result.used bytes.now) result.event self.new }
+        ensures made { making_of self.new ≡ making_of self.old }
     {
         let Progress::CutText { more, kept, .. } = &mut self.progress else {
             unreachable!()

@@ -19,8 +19,9 @@ const RECT_HEAD_SIZE: usize = 12;
 
 impl Viewer {
     ghost use Rattle.rfb_viewer.specs.declared.viewer.progress.Progress.{Progress};
-    ghost use Rattle.rfb_viewer.specs.Standing.{fault_of};
+    ghost use Rattle.rfb_viewer.specs.Standing.{fault_of, making_of};
     ghost use Rattle.rfb_viewer.specs.Feeding.{StepsOn, RefusesBy, StarvesBy};
+    ghost use Rattle.rfb_viewer.specs.Failing.{KeepsPicture, KeepsReason};
 
     // Takes bytes of a rectangle's head, and behind it those of its data.
     pub(super) fn take_rect_head(&mut self, bytes: &[u8]) -> Result<Fed<ViewerEvent>, ViewerFault>
@@ -33,6 +34,9 @@ impl Viewer {
             StepsOn self.old (take fed.used bytes.now) fed.event self.new) }
         ensures fault { IfErr result (RefusesBy self.old bytes.now) }
         ensures memory { IfErr result (StarvesBy self.old bytes.now) }
+        ensures picture { IfErr result (λ fault. KeepsPicture fault self.old bytes.now self.new) }
+        ensures reason { IfErr result (λ fault. KeepsReason fault self.old bytes.now self.new) }
+        ensures made { making_of self.new ≡ making_of self.old }
         ensures fails { IfErr result (λ fault. fault_of self.new ≡ Some fault) }
     {
         let Progress::RectHead { more, head } = &mut self.progress else {
@@ -86,6 +90,9 @@ impl Viewer {
             StepsOn self.old (take fed.used bytes.now) fed.event self.new) }
         ensures fault { IfErr result (RefusesBy self.old bytes.now) }
         ensures memory { IfErr result (StarvesBy self.old bytes.now) }
+        ensures picture { IfErr result (λ fault. KeepsPicture fault self.old bytes.now self.new) }
+        ensures reason { IfErr result (λ fault. KeepsReason fault self.old bytes.now self.new) }
+        ensures made { making_of self.new ≡ making_of self.old }
         ensures fails { IfErr result (λ fault. fault_of self.new ≡ Some fault) }
     {
         let Progress::Data { more, painter } = &mut self.progress else {

@@ -1,4 +1,4 @@
-use Rattle.std.proofs.Common.{◌≡◌, ◌∙◌, ◌≤◌, sym, subst, ℕ, List, length, take, drop, length-drop, Option, None, arith}
+use Rattle.std.proofs.Common.{refl, ◌≡◌, ◌∙◌, ◌≤◌, sym, subst, ℕ, List, length, take, drop, length-drop, Option, None, arith}
 use Rattle.std.proofs.lemmas.List.{take_rest}
 use Rattle.std.proofs.lemmas.Result.{err_from_is_err_and}
 use Rattle.rfb_wire.specs.stream.End.{RefusedBy, RunsOutBy}
@@ -11,12 +11,14 @@ use Rattle.rfb_viewer.specs.Standing.{StandsFor}
 use Rattle.rfb_viewer.specs.Feeding.{StepsOn}
 use Rattle.rfb_viewer.proofs.ViewerLaws.{viewer_machine}
 use Rattle.rfb_viewer.proofs.FeedLemmas.{starts, not_failed}
+use Rattle.rfb_viewer.specs.Failing.{KeepsPicture, KeepsReason}
+use Rattle.rfb_viewer.proofs.FailLemmas.{ends_later, kept_later}
 use Rattle.rfb_viewer.proofs.viewer.Viewer.feed.Goals as goal
 
 pub loop-used-init : goal.loop-used-init
 loop-used-init c =
     let none = not_failed c.args.self.now.progress (λ fault e. c.in_default.not-Failed fault e) in
-    record { within = omega arith; began = none; going = none; fed = λ viewing. starts viewing c.args.self.now }
+    record { within = omega arith; began = none; going = none; made = refl; fed = λ viewing. starts viewing c.args.self.now }
 
 pub returns-in_err-fed : goal.returns-in_err-fed
 returns-in_err-fed c =
@@ -29,10 +31,13 @@ returns-in_err-fed c =
       all = tt;
       some = tt;
       fed = tt;
+      made = c.take.ensures.made ∙ c.loop-used.invariant.made;
       fault = λ other viewing. refused_later (viewer viewing) (viewer_machine viewing) (StandsFor viewing) c.args.self.now c.loop-used.self c.loop-used.used c.args.bytes.now fault (c.loop-used.invariant.fed viewing)
           (subst (λ (xs : List ℕ). RefusedBy (viewer viewing) (StandsFor viewing) c.loop-used.self xs fault) rest (c.in_err-fed.ensures.fault other viewing));
       memory = λ wants viewing. runs_out_later (viewer viewing) (viewer_machine viewing) (AsksMemory viewing) (StandsFor viewing) c.args.self.now c.loop-used.self c.loop-used.used c.args.bytes.now (c.loop-used.invariant.fed viewing)
           (subst (λ (xs : List ℕ). RunsOutBy (viewer viewing) (AsksMemory viewing) (StandsFor viewing) c.loop-used.self xs) rest (c.in_err-fed.ensures.memory wants viewing));
+      picture = λ none. ends_later fault c.args.self.now c.loop-used.self c.take.new.self c.loop-used.used c.args.bytes.now c.loop-used.invariant.fed (subst (λ (xs : List ℕ). KeepsPicture fault c.loop-used.self xs c.take.new.self) rest c.in_err-fed.ensures.picture);
+      reason = λ none. kept_later fault c.args.self.now c.loop-used.self c.take.new.self c.loop-used.used c.args.bytes.now c.loop-used.invariant.fed (subst (λ (xs : List ℕ). KeepsReason fault c.loop-used.self xs c.take.new.self) rest c.in_err-fed.ensures.reason);
       fails = c.in_err-fed.ensures.fails;
       failed = λ f h. absurd cc;
     })
@@ -47,12 +52,15 @@ returns-then-is_some c =
       used = omega (arith, length-drop c.loop-used.used c.args.bytes.now, within, c.loop-used.invariant.within);
       all = λ none. absurd (some_told fed.event (sym c.is_some.ensures ∙ c.if-is_some.true) none);
       some = λ any. omega (arith, c.in_ok-fed.ensures.used.0);
+      made = c.take.ensures.made ∙ c.loop-used.invariant.made;
       fed = λ viewing.
           let steps = c.in_ok-fed.ensures.steps in
           fed_step (viewer viewing) (viewer_machine viewing) (StandsFor viewing) c.args.self.now c.loop-used.self c.take.new.self c.loop-used.used fed.used c.args.bytes.now (seen fed.event) (c.loop-used.invariant.fed viewing)
           ((subst (λ (xs : List ℕ). StepsOn c.loop-used.self (take fed.used xs) fed.event c.take.new.self) rest steps) viewing);
       fault = tt;
       memory = tt;
+      picture = tt;
+      reason = tt;
       fails = tt;
       failed = λ f h. absurd cc;
     }
@@ -67,6 +75,7 @@ loop-used-preserved c =
       within = omega (arith, length-drop c.loop-used.used c.args.bytes.now, within, c.loop-used.invariant.within);
       began = c.loop-used.invariant.began;
       going = c.in_ok-fed.ensures.going;
+      made = c.take.ensures.made ∙ c.loop-used.invariant.made;
       fed = λ viewing.
           let steps = subst (λ (e : Option ViewerEvent). StepsOn c.loop-used.self (take fed.used (drop c.loop-used.used c.args.bytes.now)) e c.take.new.self) none (subst (λ (xs : List ℕ). StepsOn c.loop-used.self (take fed.used xs) fed.event c.take.new.self) rest c.in_ok-fed.ensures.steps) in
           fed_step (viewer viewing) (viewer_machine viewing) (StandsFor viewing) c.args.self.now c.loop-used.self c.take.new.self c.loop-used.used fed.used c.args.bytes.now None (c.loop-used.invariant.fed viewing) (steps viewing);

@@ -1,7 +1,7 @@
 use Rattle.std.proofs.Common.{◌≡◌, ◌-◌, ◌≤◌, length, take, None}
 use Rattle.rfb_wire.specs.stream.End.{FedBy}
 use Rattle.rfb_viewer.specs.Viewer.{Viewing, viewer}
-use Rattle.rfb_viewer.specs.Standing.{StandsFor, fault_of}
+use Rattle.rfb_viewer.specs.Standing.{StandsFor, fault_of, making_of}
 use Rattle.rfb_viewer.proofs.viewer.Viewer.feed.Given as goal
 
 abbrev pub invariant-loop-used : goal.invariant-loop-used
@@ -9,6 +9,7 @@ invariant-loop-used l = record {
   within : l.used ≤ length l.bytes;
   began : fault_of l.fn.self ≡ None;
   going : fault_of l.self ≡ None;
+  made : making_of l.self ≡ making_of l.fn.self;
   fed : (viewing : Viewing) → FedBy (viewer viewing) (StandsFor viewing) l.fn.self (take l.used l.bytes) None l.self;
 }
 

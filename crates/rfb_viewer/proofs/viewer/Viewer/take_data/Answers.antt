@@ -6,6 +6,7 @@ use Rattle.rfb_viewer.specs.Fault.{fault_of_paint}
 use Rattle.rfb_viewer.specs.Viewer.{viewer}
 use Rattle.rfb_viewer.specs.Standing.{StandsFor}
 use Rattle.rfb_viewer.proofs.RectLemmas.{paint_more, paint_done, paint_fault, painting_same, not_false, not_true}
+use Rattle.rfb_viewer.proofs.FailLemmas.{paint_ends, paint_keeps}
 use Rattle.rfb_viewer.proofs.viewer.Viewer.take_data.Goals as goal
 
 pub returns-in-Err-clause-fault : goal.returns-in-Err-clause-fault
@@ -33,3 +34,13 @@ returns-clause-steps c = λ viewing.
     rw (c.behind_rectangles-behind.ensures.told)
     (paint_done viewing c.args.self.now _ c.in-Data.more c.in-Data.painter c.feed.new.self c.in-Some.picture c.feed.new.picture (take c.in-Ok.painted.used bytes) c.in-Data.is c.in-Some.is (c.in-Ok.ensures.done done)
     (record { hello = refl; form = refl; encodings = refl; limit = refl; progress_is = c.behind_rectangles-behind.ensures.progress; request_is = c.behind_rectangles-behind.ensures.request; picture_is = refl }))
+
+pub returns-in-Err-clause-picture : goal.returns-in-Err-clause-picture
+returns-in-Err-clause-picture c =
+    let old = c.args.self.now in
+    rw (c.fail.ensures.value, c.of_paint.ensures) (λ viewing.
+    paint_ends viewing old old c.in-Data.more c.in-Data.painter c.in-Some.picture c.feed.new.picture c.args.bytes.now c.in-Err.fault c.in-Data.is c.in-Some.is c.in-Err.ensures.fault
+    (paint_fault viewing old old c.in-Data.more c.in-Data.painter c.in-Some.picture c.feed.new.picture c.args.bytes.now c.in-Err.fault c.in-Data.is c.in-Some.is c.in-Err.ensures.fault))
+
+pub returns-in-Err-clause-reason : goal.returns-in-Err-clause-reason
+returns-in-Err-clause-reason c = rw (c.fail.ensures.value, c.of_paint.ensures) (paint_keeps c.in-Err.fault c.args.self.now _ c.args.bytes.now refl)

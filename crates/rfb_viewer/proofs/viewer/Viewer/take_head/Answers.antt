@@ -9,6 +9,7 @@ use Rattle.rfb_viewer.specs.Standing.{StandsFor}
 use Rattle.rfb_viewer.proofs.ViewerLaws.{viewer_machine}
 use Rattle.rfb_viewer.proofs.HeadLemmas.{misses_begun, one_byte, head_whole}
 use Rattle.rfb_viewer.proofs.MessageLemmas.{head_part, head_bad, head_got, head_asks}
+use Rattle.rfb_viewer.proofs.FailLemmas.{head_ends, head_memory, wire_keeps, none_at}
 use Rattle.rfb_viewer.proofs.viewer.Viewer.take_head.Goals as goal
 
 pub returns-in-More-clause-steps : goal.returns-in-More-clause-steps
@@ -46,3 +47,27 @@ returns-clause-steps c = λ viewing.
     (head_got viewing c.args.self.now _ part (take 1 c.args.bytes.now) c.in-Got.head c.in-Head.is
     (λ begun. subst (λ (ys : List ℕ). SpellsServerHead c.in-Got.head (part.items ++ ys)) (sym one) (head_whole c.in-Got.head part.items (slice_index c.args.bytes.now 0) _ begun got.0 got.1))
     (record { hello = refl; form = refl; encodings = refl; limit = refl; progress_is = c.in-Ok.ensures.progress; request_is = c.in-Ok.ensures.request; picture_is = refl }))
+
+pub returns-in-Bad-clause-picture : goal.returns-in-Bad-clause-picture
+returns-in-Bad-clause-picture c =
+    let one = one_byte c.args.bytes.now c.requires.some in
+    let part = c.in-Head.part in
+    let old = c.args.self.now in
+    rw (c.fail.ensures.value, c.of_wire.ensures) (λ viewing.
+    head_ends viewing old old part 1 c.args.bytes.now c.in-Bad.fault c.in-Head.is
+    (head_bad viewing old old part (take 1 c.args.bytes.now) c.in-Bad.fault c.in-Head.is
+    (subst (λ (ys : List ℕ). IsUnknown SpellsServerHead c.in-Bad.fault (part.items ++ ys)) (sym one) c.in-Bad.ensures.bad)))
+
+pub returns-in-Bad-clause-reason : goal.returns-in-Bad-clause-reason
+returns-in-Bad-clause-reason c = rw (c.fail.ensures.value, c.of_wire.ensures) (wire_keeps c.in-Bad.fault c.args.self.now _ c.args.bytes.now refl)
+
+pub returns-in_default-behind_head-clause-picture : goal.returns-in_default-behind_head-clause-picture
+returns-in_default-behind_head-clause-picture c =
+    let one = one_byte c.args.bytes.now c.requires.some in
+    let got = c.in-Got.ensures.got in
+    rw (c.fail-in_default-behind_head.ensures.value) (λ viewing.
+    head_memory viewing c.args.self.now c.in-Head.part (slice_index c.args.bytes.now 0) c.args.bytes.now c.in-Got.head c.in-Head.is one
+    (λ begun. head_whole c.in-Got.head c.in-Head.part.items (slice_index c.args.bytes.now 0) _ begun got.0 got.1) c.in_default-behind_head.ensures.asked)
+
+pub returns-in_default-behind_head-clause-reason : goal.returns-in_default-behind_head-clause-reason
+returns-in_default-behind_head-clause-reason c = rw (c.fail-in_default-behind_head.ensures.value) (none_at c.args.self.now c.args.self.now.hello refl)

@@ -8,6 +8,7 @@ use Rattle.rfb_viewer.specs.Viewer.{viewer}
 use Rattle.rfb_viewer.specs.Standing.{StandsFor}
 use Rattle.rfb_viewer.proofs.ViewerLaws.{viewer_machine}
 use Rattle.rfb_viewer.proofs.RectLemmas.{IsOpened, rect_part, rect_bad, rect_more, rect_done, rect_fault, step_by, painting_same, head_all, not_false, not_true, past_going}
+use Rattle.rfb_viewer.proofs.FailLemmas.{rect_head_ends, opened_ends, wire_keeps, paint_keeps}
 use Rattle.rfb_viewer.proofs.viewer.Viewer.take_rect_head.Goals as goal
 
 pub returns-in_default-whole-clause-steps : goal.returns-in_default-whole-clause-steps
@@ -111,3 +112,46 @@ returns-clause-steps c = λ viewing.
     (step_by viewing c.args.self.now _ (take front bytes ++ take used (drop front bytes)) (take (front + used) bytes) _ (take_add front used bytes)
     (rect_done viewing c.args.self.now _ c.in-RectHead.more c.in-RectHead.head (take front bytes) whole (take used (drop front bytes)) c.in-Got.head c.in-Some-picture.picture c.feed.new.picture c.new-painter.result c.feed.new.self (record { was = opened.was; whole_is = opened.whole_is; shown = opened.shown; spelled = opened.spelled; on_screen = opened.on_screen; painting_is = opened.painting_is; fresh = opened.fresh }) paints
     (record { hello = refl; form = refl; encodings = refl; limit = refl; progress_is = c.behind_rectangles-behind.ensures.progress; request_is = c.behind_rectangles-behind.ensures.request; picture_is = refl })))
+
+pub returns-in-Bad-clause-picture : goal.returns-in-Bad-clause-picture
+returns-in-Bad-clause-picture c =
+    let old = c.args.self.now in
+    let gathered = rw c.in-Some.is at c.gather-front.ensures.whole in
+    let whole = c.in-Some.whole.items in
+    let slice : c.as_slice.result.now ≡ whole = c.as_slice.ensures.value in
+    let told = rw (c.width-width.ensures.value, c.height-height.ensures, slice) at c.in-Bad.ensures.bad in
+    let n = c.gather-front.result.0 in
+    rw (c.fail.ensures.value, c.of_wire.ensures) (λ viewing.
+    rect_head_ends viewing old old c.in-RectHead.more c.in-RectHead.head n c.args.bytes.now whole c.in-Bad.fault _ (sym c.in-Some-picture.is) c.in-RectHead.is gathered.0 gathered.1
+    (rect_bad viewing old old c.in-RectHead.more c.in-RectHead.head (take n c.args.bytes.now) whole c.in-Bad.fault c.in-Some-picture.picture c.in-RectHead.is gathered.0 gathered.1 c.in-Some-picture.is told))
+
+pub returns-in-Bad-clause-reason : goal.returns-in-Bad-clause-reason
+returns-in-Bad-clause-reason c = rw (c.fail.ensures.value, c.of_wire.ensures) (wire_keeps c.in-Bad.fault c.args.self.now _ c.args.bytes.now refl)
+
+pub returns-in-Err-clause-picture : goal.returns-in-Err-clause-picture
+returns-in-Err-clause-picture c =
+    let old = c.args.self.now in
+    let gathered = rw c.in-Some.is at c.gather-front.ensures.whole in
+    let whole = c.in-Some.whole.items in
+    let slice : c.as_slice.result.now ≡ whole = c.as_slice.ensures.value in
+    let got = rw (c.width-width.ensures.value, c.height-height.ensures, slice) at c.in-Got.ensures.got in
+    let bytes = c.args.bytes.now in
+    let front = c.gather-front.result.0 in
+    let rest = take_rest bytes front in
+    let refuses : Refuses c.new-painter.result c.in-Some-picture.picture (drop front bytes) c.feed.new.picture c.in-Err.fault =
+    subst (λ (ys : List ℕ). Refuses c.new-painter.result c.in-Some-picture.picture ys c.feed.new.picture c.in-Err.fault) rest c.in-Err.ensures.fault in
+    rw (c.fail-in-Err.ensures.value, c.of_paint.ensures) (λ viewing.
+    let opened : IsOpened viewing old old c.in-RectHead.more c.in-RectHead.head (take front bytes) whole c.in-Got.head c.in-Some-picture.picture c.new-painter.result = record {
+      was = c.in-RectHead.is;
+      whole_is = gathered.0;
+      shown = c.in-Some-picture.is;
+      spelled = head_all whole _ c.in-Got.head gathered.1 got.0 got.1;
+      on_screen = got.2;
+      painting_is = c.new-painter.ensures.value;
+      fresh = c.new-painter.ensures.stands c.in-Some-picture.picture;
+    } in
+    opened_ends viewing old old c.in-RectHead.more c.in-RectHead.head (take front bytes) whole (drop front bytes) c.in-Got.head c.in-Some-picture.picture c.feed.new.picture c.new-painter.result c.in-Err.fault bytes (sym (take-append-drop front bytes)) opened refuses
+    (rect_fault viewing old old c.in-RectHead.more c.in-RectHead.head (take front bytes) whole (drop front bytes) c.in-Got.head c.in-Some-picture.picture c.feed.new.picture c.new-painter.result c.in-Err.fault opened refuses))
+
+pub returns-in-Err-clause-reason : goal.returns-in-Err-clause-reason
+returns-in-Err-clause-reason c = rw (c.fail-in-Err.ensures.value, c.of_paint.ensures) (paint_keeps c.in-Err.fault c.args.self.now _ c.args.bytes.now refl)
