@@ -273,6 +273,3 @@ impl Server {
         self.session.format()
     }
 }
-
-#[cfg(test)]
-mod tests;

@@ -3,8 +3,10 @@
 mod client_messages;
 mod composing;
 mod cuts;
+mod drawings;
 mod hints;
 mod long_streams;
 mod memory;
 mod model;
 mod requests;
+mod scene;

@@ -1,32 +1,9 @@
 //! Single messages of a client: what is told of each, and what it changes.
 
+use super::scene::{Step, first_wrong, first_wrong_of, ready};
 use crate::Server;
-use rfb_hello::Version;
 use rfb_pixel::Format;
 use std::alloc::{AllocError, Global};
-
-// A server of a screen of 2 by 1 behind the handshake of 3.3, which keeps four bytes of a text.
-fn ready(alloc: Global) -> Result<Server, AllocError> {
-    let name = b"t".as_slice();
-    let mut server = Server::new(alloc, 2, 1, name, Version::V38, 4)?;
-    feed(&mut server, b"RFB 003.003\n".as_slice());
-    feed(&mut server, b"\x01".as_slice());
-    Ok(server)
-}
-
-// Feeds it bytes of which at most one event is told.
-fn feed(server: &mut Server, bytes: &[u8]) {
-    let _told = server.feed(bytes);
-}
-
-// Whether what it tells of the bytes prints as this.
-fn tells(server: &mut Server, alloc: Global, bytes: &[u8], wanted: &str) -> bool {
-    let told = server.feed(bytes);
-    match format!(in alloc; "{told:?}") {
-        Ok(printed) => printed.as_str() == wanted,
-        Err(_) => false,
-    }
-}
 
 // Texts above the limit and without bytes, keys, the pointer, and the pointer behind a list.
 const MESSAGES: [(&[u8], &str); 6] = [
@@ -56,24 +33,28 @@ const MESSAGES: [(&[u8], &str); 6] = [
     ),
 ];
 
-fn tells_between(server: &mut Server, alloc: Global, bytes: &[u8], wanted: &str) -> bool {
-    let before = server.between();
-    let told = tells(server, alloc, bytes, wanted);
-    before & told & server.between()
-}
-
-fn tells_all_between(server: &mut Server, alloc: Global) -> bool {
+// Whether each is told of so, between messages before and behind it.
+fn tells_each(server: &mut Server, alloc: Global) -> bool {
     let mut all = true;
-    for (bytes, wanted) in MESSAGES {
-        all = all && tells_between(server, alloc, bytes, wanted);
+    for (bytes, printed) in MESSAGES {
+        let steps = [
+            Step::Between(true),
+            Step::Tells(bytes, printed),
+            Step::Between(true),
+        ];
+        all = all && first_wrong(server, alloc, steps.as_slice()) == None;
     }
     all
 }
 
+fn is_told(alloc: Global) -> Result<bool, AllocError> {
+    let mut server = ready(alloc, 2, 1)?;
+    Ok(tells_each(&mut server, alloc))
+}
+
 #[test]
 fn a_message_is_told_at_its_last_byte(rt: HostRuntime) -> Result<(), AllocError> {
-    let mut server = ready(rt.alloc())?;
-    assert!(rt; tells_all_between(&mut server, rt.alloc()));
+    assert!(rt; is_told(rt.alloc())?);
     Ok(())
 }
 
@@ -92,87 +73,72 @@ const FAULTS: [(&[u8], &str); 4] = [
 ];
 
 // Whether it waits with all of the bytes but the last, and then fails for good.
-fn fails(server: &mut Server, alloc: Global, bytes: &[u8], wanted: &str) -> bool {
+fn is_fault(alloc: Global, bytes: &[u8], printed: &str) -> Result<bool, AllocError> {
     let (front, last) = bytes.split_at(bytes.len().saturating_sub(1));
-    let waits = server.feed(front).is_ok();
-    let told = tells(server, alloc, last, wanted);
-    let again = tells(server, alloc, b"\x06\0\0\0\0\0\0\0".as_slice(), wanted);
-    waits & told & again & !server.between() & (server.pending() == 0)
+    let steps = [
+        Step::Feed(front),
+        Step::Tells(last, printed),
+        Step::Tells(b"\x06\0\0\0\0\0\0\0".as_slice(), printed),
+        Step::Between(false),
+        Step::Pending(0),
+    ];
+    Ok(first_wrong_of(alloc, 2, 1, steps.as_slice())? == None)
 }
 
-fn is_fault(alloc: Global, bytes: &[u8], wanted: &str) -> Result<bool, AllocError> {
-    let mut server = ready(alloc)?;
-    Ok(fails(&mut server, alloc, bytes, wanted))
+fn are_faults(alloc: Global) -> Result<bool, AllocError> {
+    let mut all = true;
+    for (bytes, printed) in FAULTS {
+        all = all && is_fault(alloc, bytes, printed)?;
+    }
+    Ok(all)
 }
 
 #[test]
 fn a_fault_is_told_at_its_last_byte_and_stays(rt: HostRuntime) -> Result<(), AllocError> {
-    for (bytes, wanted) in FAULTS {
-        assert!(rt; is_fault(rt.alloc(), bytes, wanted)?);
-    }
+    assert!(rt; are_faults(rt.alloc())?);
     Ok(())
 }
 
-// Whether the place at column `x` is asked for, and whether whole.
-fn asked(server: &Server, x: u16) -> (bool, bool) {
-    let area = server.asked();
-    if x < area.width() && 0 < area.height() {
-        (area.is_asked(x, 0), area.is_whole(x, 0))
-    } else {
-        (false, false)
-    }
-}
-
-fn asks(server: &mut Server, bytes: &[u8], left: (bool, bool), right: (bool, bool)) -> bool {
-    feed(server, bytes);
-    (asked(server, 0) == left) & (asked(server, 1) == right)
-}
-
-// Of no width; from (1, 0) to beyond the edges, whole; the same incremental; all incremental.
-const REQUESTS: [(&[u8], (bool, bool), (bool, bool)); 4] = [
-    (b"\x03\0\0\0\0\0\0\0\0\x01", (false, false), (false, false)),
-    (
-        b"\x03\0\0\x01\0\0\xFF\xFF\xFF\xFF",
-        (false, false),
-        (true, true),
-    ),
-    (
-        b"\x03\x01\0\x01\0\0\xFF\xFF\xFF\xFF",
-        (false, false),
-        (true, true),
-    ),
-    (b"\x03\x01\0\0\0\0\0\x02\0\x01", (true, false), (true, true)),
-];
-
-fn asks_all(server: &mut Server) -> bool {
-    let mut all = true;
-    for (bytes, left, right) in REQUESTS {
-        all = all && asks(server, bytes, left, right);
-    }
-    all
-}
-
+// Requests: of no width; from (1, 0) to beyond the edges, whole; the same incremental; all
+// incremental.
 #[test]
 fn a_request_is_cut_to_the_screen_and_whole_stays_whole(rt: HostRuntime) -> Result<(), AllocError> {
-    let mut server = ready(rt.alloc())?;
-    assert!(rt; asks_all(&mut server));
+    let steps = [
+        Step::Feed(b"\x03\0\0\0\0\0\0\0\0\x01"),
+        Step::Asks(0, 0, Some((false, false))),
+        Step::Asks(1, 0, Some((false, false))),
+        Step::Feed(b"\x03\0\0\x01\0\0\xFF\xFF\xFF\xFF"),
+        Step::Asks(0, 0, Some((false, false))),
+        Step::Asks(1, 0, Some((true, true))),
+        Step::Feed(b"\x03\x01\0\x01\0\0\xFF\xFF\xFF\xFF"),
+        Step::Asks(0, 0, Some((false, false))),
+        Step::Asks(1, 0, Some((true, true))),
+        Step::Feed(b"\x03\x01\0\0\0\0\0\x02\0\x01"),
+        Step::Asks(0, 0, Some((true, false))),
+        Step::Asks(1, 0, Some((true, true))),
+    ];
+    assert_eq!(rt; first_wrong_of(rt.alloc(), 2, 1, steps.as_slice())?, None);
     Ok(())
 }
 
 // Whether a format of 16 bits is the server's at its last byte, and not before.
-fn sets_a_format(server: &mut Server) -> bool {
+fn sets_a_format(server: &mut Server, alloc: Global) -> bool {
     let bytes = b"\0\0\0\0\x10\x10\0\x01\0\x1F\0\x3F\0\x1F\x0B\x05\0\0\0\0".as_slice();
     let mut before = true;
     for byte in bytes.chunks(1) {
-        before = before && server.format() == Format::rgb888();
-        feed(server, byte);
+        let steps = [Step::Has(Format::rgb888()), Step::Feed(byte)];
+        before = before && first_wrong(server, alloc, steps.as_slice()) == None;
     }
     before && server.format() == Format::rgb565()
 }
 
+fn is_set(alloc: Global) -> Result<bool, AllocError> {
+    let mut server = ready(alloc, 2, 1)?;
+    Ok(sets_a_format(&mut server, alloc))
+}
+
 #[test]
 fn a_format_is_set_at_its_last_byte(rt: HostRuntime) -> Result<(), AllocError> {
-    let mut server = ready(rt.alloc())?;
-    assert!(rt; sets_a_format(&mut server));
+    assert!(rt; is_set(rt.alloc())?);
     Ok(())
 }

@@ -1,12 +1,9 @@
 //! What is composed for a client, byte by byte, RFC 6143 sections 7.6.1 and 7.7.
 
-ghost use Rattle.std.specs.Prelude.{◌≤◌};
-
-use crate::Server;
-use rfb_hello::Version;
+use super::scene::{Step, first_wrong_of};
 use rfb_picture::Rect;
 use rfb_pixel::Colour;
-use std::alloc::{AllocError, Global};
+use std::alloc::AllocError;
 
 const ORANGE: Colour = Colour {
     r: 255,
@@ -20,45 +17,9 @@ const WHITE: Colour = Colour {
     b: 255,
 };
 
-// A server of a screen of that width and one row, behind the handshake of 3.3.
-fn ready(alloc: Global, width: u16) -> Result<Server, AllocError>
-    requires some { 1 ≤ width }
-    requires few { width ≤ 4096 }
-{
-    let name = b"t".as_slice();
-    let mut server = Server::new(alloc, width, 1, name, Version::V38, 4)?;
-    feed(&mut server, b"RFB 003.003\n".as_slice());
-    feed(&mut server, b"\x01".as_slice());
-    Ok(server)
-}
-
-// Feeds it bytes of which at most one event is told.
-fn feed(server: &mut Server, bytes: &[u8]) {
-    let _told = server.feed(bytes);
-}
-
-// Gives columns a colour.
-fn draw(server: &mut Server, x: u16, w: u16, colour: Colour) {
-    let rect = Rect { x, y: 0, w, h: 1 };
-    let _drawn = server.fill(rect, colour);
-}
-
-// Whether composing answers true with exactly these bytes.
-fn sends(server: &mut Server, alloc: Global, wanted: &[u8]) -> bool {
-    let mut out = Vec::new(alloc);
-    match server.compose(&mut out) {
-        Ok(did) => did && out.as_slice() == wanted,
-        Err(_) => false,
-    }
-}
-
-// Whether composing answers false and appends nothing.
-fn is_quiet(server: &mut Server, alloc: Global) -> bool {
-    let mut out = Vec::new(alloc);
-    match server.compose(&mut out) {
-        Ok(did) => !did && out.is_empty(),
-        Err(_) => false,
-    }
+// Columns of the one row.
+fn columns(x: u16, w: u16) -> Rect {
+    Rect { x, y: 0, w, h: 1 }
 }
 
 // Requests for all of a row of 1 and of 4 places.
@@ -77,42 +38,40 @@ const WHOLE_ROW: &[u8] = b"\x03\0\0\0\0\0\xFF\xFF\0\x01";
 const ONE_PLACE: &[u8] = b"\0\0\0\x01\0\0\0\0\0\x01\0\x01\0\0\0\0\x01\x80\xFF\0";
 
 // A whole request is answered though nothing changed, an incremental one is not.
-fn answers_once(server: &mut Server, alloc: Global) -> bool {
-    draw(server, 0, 1, ORANGE);
-    let before = is_quiet(server, alloc);
-    feed(server, WHOLE_1);
-    let first = sends(server, alloc, ONE_PLACE);
-    let after = is_quiet(server, alloc);
-    feed(server, WHOLE_1);
-    let second = sends(server, alloc, ONE_PLACE);
-    feed(server, INCREMENTAL_1);
-    before & first & after & second & is_quiet(server, alloc)
-}
-
 #[test]
 fn an_update_answers_a_request_once(rt: HostRuntime) -> Result<(), AllocError> {
-    let mut server = ready(rt.alloc(), 1)?;
-    assert!(rt; answers_once(&mut server, rt.alloc()));
+    let steps = [
+        Step::Fill(columns(0, 1), ORANGE),
+        Step::Quiet,
+        Step::Feed(WHOLE_1),
+        Step::Sends(ONE_PLACE),
+        Step::Quiet,
+        Step::Feed(WHOLE_1),
+        Step::Sends(ONE_PLACE),
+        Step::Feed(INCREMENTAL_1),
+        Step::Quiet,
+    ];
+    assert_eq!(rt; first_wrong_of(rt.alloc(), 1, 1, steps.as_slice())?, None);
     Ok(())
 }
 
 // SetPixelFormat of eight bits: 7, 7, 3 at 0, 3, 6.
 const EIGHT_BITS: &[u8] = b"\0\0\0\0\x08\x08\0\x01\0\x07\0\x07\0\x03\0\x03\x06\0\0\0";
 
-fn sends_again(server: &mut Server, alloc: Global) -> bool {
-    draw(server, 0, 1, ORANGE);
-    feed(server, WHOLE_1);
-    let first = sends(server, alloc, ONE_PLACE);
-    feed(server, EIGHT_BITS);
-    feed(server, INCREMENTAL_1);
-    let wanted = b"\0\0\0\x01\0\0\0\0\0\x01\0\x01\0\0\0\0\x27".as_slice();
-    first & sends(server, alloc, wanted)
-}
+// The same place in that format.
+const ONE_PLACE_IN_EIGHT_BITS: &[u8] = b"\0\0\0\x01\0\0\0\0\0\x01\0\x01\0\0\0\0\x27";
 
 #[test]
 fn after_another_format_all_is_sent_again(rt: HostRuntime) -> Result<(), AllocError> {
-    let mut server = ready(rt.alloc(), 1)?;
-    assert!(rt; sends_again(&mut server, rt.alloc()));
+    let steps = [
+        Step::Fill(columns(0, 1), ORANGE),
+        Step::Feed(WHOLE_1),
+        Step::Sends(ONE_PLACE),
+        Step::Feed(EIGHT_BITS),
+        Step::Feed(INCREMENTAL_1),
+        Step::Sends(ONE_PLACE_IN_EIGHT_BITS),
+    ];
+    assert_eq!(rt; first_wrong_of(rt.alloc(), 1, 1, steps.as_slice())?, None);
     Ok(())
 }
 
@@ -123,19 +82,17 @@ const FOUR_PLACES: &[u8] =
 const THREE_PLACES: &[u8] =
     b"\0\0\0\x01\0\x01\0\0\0\x03\0\x01\0\0\0\0\xFF\xFF\xFF\0\0\0\0\0\xFF\xFF\xFF\0";
 
-fn reaches_no_further(server: &mut Server, alloc: Global) -> bool {
-    feed(server, WHOLE_4);
-    let first = sends(server, alloc, FOUR_PLACES);
-    draw(server, 1, 1, WHITE);
-    draw(server, 3, 1, WHITE);
-    feed(server, INCREMENTAL_4);
-    first & sends(server, alloc, THREE_PLACES)
-}
-
 #[test]
 fn a_rectangle_reaches_no_further_than_what_changed(rt: HostRuntime) -> Result<(), AllocError> {
-    let mut server = ready(rt.alloc(), 4)?;
-    assert!(rt; reaches_no_further(&mut server, rt.alloc()));
+    let steps = [
+        Step::Feed(WHOLE_4),
+        Step::Sends(FOUR_PLACES),
+        Step::Fill(columns(1, 1), WHITE),
+        Step::Fill(columns(3, 1), WHITE),
+        Step::Feed(INCREMENTAL_4),
+        Step::Sends(THREE_PLACES),
+    ];
+    assert_eq!(rt; first_wrong_of(rt.alloc(), 4, 1, steps.as_slice())?, None);
     Ok(())
 }
 
@@ -153,46 +110,38 @@ const EIGHT_IN_RRE: &[u8] =
 
 const SEVENTEEN_IN_HEXTILE: &[u8] = b"\0\0\0\x01\0\0\0\0\0\x11\0\x01\0\0\0\x05\x02\x01\x80\xFF\0\0";
 
-// Whether a row whose places from column `x` on are of that colour is sent so behind that list.
-fn sends_row(
-    server: &mut Server,
-    alloc: Global,
-    list: &[u8],
-    columns: (u16, u16, Colour),
-    wanted: &[u8],
-) -> bool {
-    let (x, w, colour) = columns;
-    feed(server, list);
-    draw(server, x, w, colour);
-    feed(server, WHOLE_ROW);
-    sends(server, alloc, wanted)
-}
-
 #[test]
 fn four_places_are_sent_in_raw_where_rre_is_no_shorter(rt: HostRuntime) -> Result<(), AllocError> {
-    let mut server = ready(rt.alloc(), 4)?;
-    assert!(rt; sends_row(&mut server, rt.alloc(), RRE, (3, 1, WHITE), FOUR_IN_RAW));
+    let steps = [
+        Step::Feed(RRE),
+        Step::Fill(columns(3, 1), WHITE),
+        Step::Feed(WHOLE_ROW),
+        Step::Sends(FOUR_IN_RAW),
+    ];
+    assert_eq!(rt; first_wrong_of(rt.alloc(), 4, 1, steps.as_slice())?, None);
     Ok(())
 }
 
 #[test]
 fn eight_places_are_sent_in_rre_where_it_is_shorter(rt: HostRuntime) -> Result<(), AllocError> {
-    let mut server = ready(rt.alloc(), 8)?;
-    assert!(rt; sends_row(&mut server, rt.alloc(), RRE, (7, 1, WHITE), EIGHT_IN_RRE));
+    let steps = [
+        Step::Feed(RRE),
+        Step::Fill(columns(7, 1), WHITE),
+        Step::Feed(WHOLE_ROW),
+        Step::Sends(EIGHT_IN_RRE),
+    ];
+    assert_eq!(rt; first_wrong_of(rt.alloc(), 8, 1, steps.as_slice())?, None);
     Ok(())
 }
 
 #[test]
 fn two_tiles_of_one_colour_are_sent_in_hextile(rt: HostRuntime) -> Result<(), AllocError> {
-    let mut server = ready(rt.alloc(), 17)?;
-    assert!(rt;
-        sends_row(
-            &mut server,
-            rt.alloc(),
-            HEXTILE,
-            (0, 17, ORANGE),
-            SEVENTEEN_IN_HEXTILE
-        )
-    );
+    let steps = [
+        Step::Feed(HEXTILE),
+        Step::Fill(columns(0, 17), ORANGE),
+        Step::Feed(WHOLE_ROW),
+        Step::Sends(SEVENTEEN_IN_HEXTILE),
+    ];
+    assert_eq!(rt; first_wrong_of(rt.alloc(), 17, 1, steps.as_slice())?, None);
     Ok(())
 }

@@ -55,13 +55,6 @@ fn takes_it_by_slices(server: &mut Server, alloc: Global) -> bool {
     slice.resize(65_536, b'n').is_ok() && takes_the_longest_text(server, slice.as_slice())
 }
 
-#[test]
-fn the_longest_text_is_taken_slice_by_slice(rt: HostRuntime) -> Result<(), AllocError> {
-    let mut server = ready(rt.alloc(), 1_048_576)?;
-    assert!(rt; takes_it_by_slices(&mut server, rt.alloc()));
-    Ok(())
-}
-
 // Five numbers: Raw, CopyRect, RRE, Hextile and one that is none.
 const NUMBERS: &[u8] = b"\0\0\0\0\0\0\0\x01\0\0\0\x02\0\0\0\x05\0\0\0\x07";
 
@@ -86,9 +79,29 @@ fn takes_the_longest_list(server: &mut Server) -> bool {
     waiting && server.between() && is_key(server, b"\x04\0\0\0\0\0\0A".as_slice())
 }
 
+// The two messages that have no bound but their count.
+#[derive(Clone, Copy)]
+enum Longest {
+    Text,
+    List,
+}
+
+fn takes(alloc: Global, longest: Longest) -> Result<bool, AllocError> {
+    let mut server = ready(alloc, 1_048_576)?;
+    Ok(match longest {
+        Longest::Text => takes_it_by_slices(&mut server, alloc),
+        Longest::List => takes_the_longest_list(&mut server),
+    })
+}
+
+#[test]
+fn the_longest_text_is_taken_slice_by_slice(rt: HostRuntime) -> Result<(), AllocError> {
+    assert!(rt; takes(rt.alloc(), Longest::Text)?);
+    Ok(())
+}
+
 #[test]
 fn the_longest_list_is_taken_slice_by_slice(rt: HostRuntime) -> Result<(), AllocError> {
-    let mut server = ready(rt.alloc(), 16)?;
-    assert!(rt; takes_the_longest_list(&mut server));
+    assert!(rt; takes(rt.alloc(), Longest::List)?);
     Ok(())
 }

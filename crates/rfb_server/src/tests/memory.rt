@@ -69,15 +69,6 @@ fn composes_at_last(server: &mut Server, alloc: Global) -> bool {
     did && out.as_slice() == UPDATE
 }
 
-#[test]
-fn an_update_that_was_refused_memory_is_composed_by_the_next_call(
-    rt: HostRuntime,
-) -> Result<(), AllocError> {
-    let mut server = server_at_last(rt.alloc())?;
-    assert!(rt; composes_at_last(&mut server, rt.alloc()));
-    Ok(())
-}
-
 // Whether it takes the length of a text, or has failed for good for want of memory.
 fn takes_a_text(server: &mut Server, alloc: Global) -> bool {
     ask(server);
@@ -100,11 +91,33 @@ fn is_failed(server: &mut Server, alloc: Global) -> bool {
     again && quiet && !server.between() && server.pending() == 0
 }
 
+// What a server asks for memory for.
+#[derive(Clone, Copy)]
+enum Growth {
+    Update,
+    Text,
+}
+
+fn outlives(alloc: Global, growth: Growth) -> Result<bool, AllocError> {
+    let mut server = server_at_last(alloc)?;
+    Ok(match growth {
+        Growth::Update => composes_at_last(&mut server, alloc),
+        Growth::Text => takes_a_text(&mut server, alloc),
+    })
+}
+
+#[test]
+fn an_update_that_was_refused_memory_is_composed_by_the_next_call(
+    rt: HostRuntime,
+) -> Result<(), AllocError> {
+    assert!(rt; outlives(rt.alloc(), Growth::Update)?);
+    Ok(())
+}
+
 #[test]
 fn a_text_that_was_refused_memory_fails_the_server_for_good(
     rt: HostRuntime,
 ) -> Result<(), AllocError> {
-    let mut server = server_at_last(rt.alloc())?;
-    assert!(rt; takes_a_text(&mut server, rt.alloc()));
+    assert!(rt; outlives(rt.alloc(), Growth::Text)?);
     Ok(())
 }

@@ -1,45 +1,16 @@
 //! What requests bring at the edges: none of a row's places, and a row of more than one cell.
 
-ghost use Rattle.std.specs.Prelude.{◌≤◌};
-
+use super::scene::{Step, feed, first_wrong_of, ready};
 use crate::Server;
-use rfb_hello::Version;
 use std::alloc::{AllocError, Global};
-
-// A server of a screen of that width and one row, behind the handshake of 3.3.
-fn ready(alloc: Global, width: u16) -> Result<Server, AllocError>
-    requires some { 1 ≤ width }
-    requires few { width ≤ 4096 }
-{
-    let name = b"t".as_slice();
-    let mut server = Server::new(alloc, width, 1, name, Version::V38, 4)?;
-    feed(&mut server, b"RFB 003.003\n".as_slice());
-    feed(&mut server, b"\x01".as_slice());
-    Ok(server)
-}
-
-fn feed(server: &mut Server, bytes: &[u8]) {
-    let _told = server.feed(bytes);
-}
-
-// What it composes, if it does.
-fn composed(server: &mut Server, alloc: Global) -> Option<Vec<u8>> {
-    let mut out = Vec::new(alloc);
-    match server.compose(&mut out) {
-        Ok(true) => Some(out),
-        _ => None,
-    }
-}
-
-fn brings_nothing(server: &mut Server, alloc: Global) -> bool {
-    feed(server, b"\x03\0\0\0\0\0\0\0\0\x01".as_slice());
-    composed(server, alloc).is_none()
-}
 
 #[test]
 fn a_request_of_no_width_brings_nothing(rt: HostRuntime) -> Result<(), AllocError> {
-    let mut server = ready(rt.alloc(), 4)?;
-    assert!(rt; brings_nothing(&mut server, rt.alloc()));
+    let steps = [
+        Step::Feed(b"\x03\0\0\0\0\0\0\0\0\x01".as_slice()),
+        Step::Quiet,
+    ];
+    assert_eq!(rt; first_wrong_of(rt.alloc(), 4, 1, steps.as_slice())?, None);
     Ok(())
 }
 
@@ -55,15 +26,17 @@ fn is_of_two_cells(bytes: &[u8]) -> bool {
 
 fn brings_two_cells(server: &mut Server, alloc: Global) -> bool {
     feed(server, b"\x03\0\0\0\0\0\0\x41\0\x01".as_slice());
-    match composed(server, alloc) {
-        Some(bytes) => is_of_two_cells(bytes.as_slice()),
-        None => false,
-    }
+    let mut out = Vec::new(alloc);
+    server.compose(&mut out) == Ok(true) && is_of_two_cells(out.as_slice())
+}
+
+fn row_brings_two_cells(alloc: Global) -> Result<bool, AllocError> {
+    let mut server = ready(alloc, 65, 1)?;
+    Ok(brings_two_cells(&mut server, alloc))
 }
 
 #[test]
 fn a_row_of_two_cells_takes_two_rectangles(rt: HostRuntime) -> Result<(), AllocError> {
-    let mut server = ready(rt.alloc(), 65)?;
-    assert!(rt; brings_two_cells(&mut server, rt.alloc()));
+    assert!(rt; row_brings_two_cells(rt.alloc())?);
     Ok(())
 }

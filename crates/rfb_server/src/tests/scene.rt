@@ -1,0 +1,140 @@
+//! A server played step by step: what is done to it, and what it then has to answer.
+
+ghost use Rattle.std.specs.Prelude.{◌≤◌};
+
+use crate::Server;
+use rfb_hello::Version;
+use rfb_picture::Rect;
+use rfb_pixel::{Colour, Format};
+use std::alloc::{AllocError, Global};
+
+/// What is done to a server, or what holds of it. A step that is refused, or does not hold, is wrong.
+#[derive(Clone, Copy)]
+pub(super) enum Step<'a> {
+    /// The client sends bytes of which at most one event is told.
+    Feed(&'a [u8]),
+    /// The same, and what is told of them prints so.
+    Tells(&'a [u8], &'a str),
+    Fill(Rect, Colour),
+    /// Colours for a part of a row, from a column on.
+    Put(u16, u16, &'a [Colour]),
+    Copy(Rect, u16, u16),
+    /// The same hint so many times.
+    Hints(u16, Rect, u16, u16),
+    /// An update of exactly these bytes is composed.
+    Sends(&'a [u8]),
+    /// No update is composed, and no byte.
+    Quiet,
+    /// The colour of a place; none beyond the edges.
+    Shows(u16, u16, Option<Colour>),
+    /// Whether a place is asked for, and whether whole; none beyond the edges.
+    Asks(u16, u16, Option<(bool, bool)>),
+    Has(Format),
+    /// Whether the client's bytes end between two messages.
+    Between(bool),
+    /// How many bytes are pending.
+    Pending(usize),
+    Greets(&'a [u8]),
+}
+
+// Whether what is told of the bytes prints so.
+fn tells(server: &mut Server, alloc: Global, bytes: &[u8], printed: &str) -> bool {
+    let told = server.feed(bytes);
+    match format!(in alloc; "{told:?}") {
+        Ok(text) => text.as_str() == printed,
+        Err(_) => false,
+    }
+}
+
+// Whether composing answers so, and appends exactly these bytes.
+fn composes(server: &mut Server, alloc: Global, did: bool, bytes: &[u8]) -> bool {
+    let mut out = Vec::new(alloc);
+    server.compose(&mut out) == Ok(did) && out.as_slice() == bytes
+}
+
+fn hints(server: &mut Server, times: u16, to: Rect, sx: u16, sy: u16) -> bool {
+    let mut kept = true;
+    for _ in 0..times {
+        kept = kept && server.hint(to, sx, sy).is_ok();
+    }
+    kept
+}
+
+fn shown(server: &Server, x: u16, y: u16) -> Option<Colour> {
+    let screen = server.screen();
+    if x < screen.width() && y < screen.height() {
+        Some(screen.at(x, y))
+    } else {
+        None
+    }
+}
+
+fn asked(server: &Server, x: u16, y: u16) -> Option<(bool, bool)> {
+    let area = server.asked();
+    if x < area.width() && y < area.height() {
+        Some((area.is_asked(x, y), area.is_whole(x, y)))
+    } else {
+        None
+    }
+}
+
+fn is_right(server: &mut Server, alloc: Global, step: &Step) -> bool {
+    match *step {
+        Step::Feed(bytes) => server.feed(bytes).is_ok(),
+        Step::Tells(bytes, printed) => tells(server, alloc, bytes, printed),
+        Step::Fill(rect, colour) => server.fill(rect, colour).is_ok(),
+        Step::Put(x, y, row) => server.put(x, y, row).is_ok(),
+        Step::Copy(to, sx, sy) => server.copy(to, sx, sy).is_ok(),
+        Step::Hints(times, to, sx, sy) => hints(server, times, to, sx, sy),
+        Step::Sends(bytes) => composes(server, alloc, true, bytes),
+        Step::Quiet => composes(server, alloc, false, [].as_slice()),
+        Step::Shows(x, y, colour) => shown(server, x, y) == colour,
+        Step::Asks(x, y, asks) => asked(server, x, y) == asks,
+        Step::Has(format) => server.format() == format,
+        Step::Between(between) => server.between() == between,
+        Step::Pending(count) => server.pending() == count,
+        Step::Greets(text) => server.greeting().as_slice() == text,
+    }
+}
+
+/// The number of the first step that is wrong, if one is.
+pub(super) fn first_wrong(server: &mut Server, alloc: Global, steps: &[Step]) -> Option<usize> {
+    for index in 0..steps.len() {
+        if !is_right(server, alloc, &steps[index]) {
+            return Some(index);
+        }
+    }
+    None
+}
+
+/// A server of a screen of that size that keeps four bytes of a text, behind the handshake of 3.3,
+/// RFC 6143 sections 7.1.1 and 7.3.1.
+pub(super) fn ready(alloc: Global, width: u16, height: u16) -> Result<Server, AllocError>
+    requires columns { (1 ≤ width) × (width ≤ 4096) }
+    requires rows { (1 ≤ height) × (height ≤ 4096) }
+{
+    let name = b"t".as_slice();
+    let mut server = Server::new(alloc, width, height, name, Version::V38, 4)?;
+    feed(&mut server, b"RFB 003.003\n".as_slice());
+    feed(&mut server, b"\x01".as_slice());
+    Ok(server)
+}
+
+/// Feeds it bytes of which at most one event is told.
+pub(super) fn feed(server: &mut Server, bytes: &[u8]) {
+    let _told = server.feed(bytes);
+}
+
+/// The number of the first step that is wrong of such a server, if one is.
+pub(super) fn first_wrong_of(
+    alloc: Global,
+    width: u16,
+    height: u16,
+    steps: &[Step],
+) -> Result<Option<usize>, AllocError>
+    requires columns { (1 ≤ width) × (width ≤ 4096) }
+    requires rows { (1 ≤ height) × (height ≤ 4096) }
+{
+    let mut server = ready(alloc, width, height)?;
+    Ok(first_wrong(&mut server, alloc, steps))
+}
