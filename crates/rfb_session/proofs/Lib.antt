@@ -21,3 +21,5 @@ pub mod RunLemmas
 pub mod PlayedLemmas
 pub mod ShownLemmas
 pub mod LossLemmas
+pub mod WrittenLemmas
+pub mod PixmapLemmas

@@ -9,3 +9,5 @@ pub mod Carrying
 pub mod Latest
 pub mod World
 pub mod Played
+pub mod Devices
+pub mod Pixmap

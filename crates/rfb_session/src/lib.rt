@@ -7,12 +7,14 @@
 #![tactic(auto)]
 
 mod channel;
+mod engine;
 mod event;
 mod latest;
 pub mod law;
 mod told;
 mod world;
 
+pub use engine::{Device, EngineFault, Sink, Source, Tally, ppm};
 pub use event::Event;
 pub use told::{NoMemory, Refused, Told};
 pub use world::World;

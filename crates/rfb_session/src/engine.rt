@@ -1,0 +1,12 @@
+//! Engines: one end of a connection, run over any reader and writer until its input ends.
+
+mod device;
+mod fault;
+mod pixmap;
+mod sending;
+mod tally;
+
+pub use device::{Sink, Source};
+pub use fault::{Device, EngineFault};
+pub use pixmap::ppm;
+pub use tally::Tally;

@@ -1,0 +1,108 @@
+//! Pictures as portable pixmaps (PPM), the files of Netpbm.
+
+ghost use Rattle.std.specs.Prelude.{◌≡◌, ◌≤◌, ◌<◌, ◌+◌, ◌-◌, ◌^◌, ◌++◌, length, OnOk, OnErr};
+ghost use Rattle.std.specs.Io.KnownBytes.{Appends};
+ghost use Rattle.arrayvec.specs.ArrayVec.{array_vec_len};
+ghost use Rattle.rfb_session.specs.Devices.{AppendsBeginning, AppendsUpTo};
+ghost use Rattle.rfb_session.specs.Pixmap.{components, header_of, pixmap};
+
+use crate::engine::device::Sink;
+use crate::engine::fault::Device;
+use crate::engine::sending::send;
+use arrayvec::ArrayVec;
+use itoa::Buffer;
+use rfb_picture::Picture;
+use rfb_pixel::Colour;
+
+// How many bytes wait for a write, at most.
+const ROOM: usize = 8192;
+
+/// Writes a picture as PPM: the header `P6`, the width and the height, the largest component, then
+/// three bytes a place, row by row from the top. All is written where it gives `Ok`; where it gives
+/// an error, a beginning was. It takes no memory.
+pub fn ppm<W: Sink>(picture: &Picture<Colour>, sink: &mut W) -> Result<(), Device>
+    requires countable { W.failed sink.old < 2 ^ 64 - 1 }
+    ensures done { OnOk result
+        (Appends (W.written sink.old) (W.written sink.new) (pixmap picture.now)) }
+    ensures stopped { OnErr result
+        (AppendsBeginning (W.written sink.old) (W.written sink.new) (pixmap picture.now)) }
+    ensures none_failed { OnOk result (W.failed sink.new ≡ W.failed sink.old) }
+    ensures one_failed { OnErr result (W.failed sink.new ≡ W.failed sink.old + 1) }
+{
+    let width = picture.width();
+    let height = picture.height();
+    let mut waiting = header(width, height);
+    for y in 0..height {
+        gather(picture.row(0, y, width), &mut waiting, sink)?;
+    }
+    send(waiting.as_slice(), sink)
+}
+
+// What stands before the places of a picture of that size.
+fn header(width: u16, height: u16) -> ArrayVec<u8, ROOM>
+    ensures { result.items ≡ header_of width height }
+{
+    let mut digits = Buffer::new();
+    let mut text = ArrayVec::new();
+    append(b"P6\n", &mut text);
+    append(digits.format(width).as_bytes(), &mut text);
+    append(b" ", &mut text);
+    append(digits.format(height).as_bytes(), &mut text);
+    append(b"\n255\n", &mut text);
+    text
+}
+
+// Appends some bytes, for which there is room.
+fn append(bytes: &[u8], text: &mut ArrayVec<u8, ROOM>)
+    requires { array_vec_len text.old + length bytes.now ≤ 8192 }
+    ensures items { text.new.items ≡ text.old.items ++ bytes.now }
+    ensures len { array_vec_len text.new ≡ array_vec_len text.old + length bytes.now }
+{
+    match text.try_extend_from_slice(bytes) {
+        Ok(()) => {}
+        Err(_) => unreachable!(),
+    }
+}
+
+// The components of each colour, red first, wait behind the bytes that do. Where there is no room
+// for more, what waits is written.
+fn gather<W: Sink>(
+    colours: &[Colour],
+    waiting: &mut ArrayVec<u8, ROOM>,
+    sink: &mut W,
+) -> Result<(), Device>
+    requires countable { W.failed sink.old < 2 ^ 64 - 1 }
+    ensures done { OnOk result (AppendsUpTo (W.written sink.old) (W.written sink.new)
+        (waiting.old.items ++ components colours.now) waiting.new.items) }
+    ensures stopped { OnErr result (AppendsBeginning (W.written sink.old) (W.written sink.new)
+        (waiting.old.items ++ components colours.now)) }
+    ensures none_failed { OnOk result (W.failed sink.new ≡ W.failed sink.old) }
+    ensures one_failed { OnErr result (W.failed sink.new ≡ W.failed sink.old + 1) }
+{
+    for colour in colours {
+        make_room(waiting, sink)?;
+        waiting.push(colour.r);
+        waiting.push(colour.g);
+        waiting.push(colour.b);
+    }
+    Ok(())
+}
+
+// Writes what waits, where there is no room for the components of a colour.
+fn make_room<W: Sink>(waiting: &mut ArrayVec<u8, ROOM>, sink: &mut W) -> Result<(), Device>
+    requires countable { W.failed sink.old < 2 ^ 64 - 1 }
+    ensures room { OnOk result (array_vec_len waiting.new + 3 ≤ 8192) }
+    ensures done { OnOk result (AppendsUpTo (W.written sink.old) (W.written sink.new)
+        waiting.old.items waiting.new.items) }
+    ensures stopped { OnErr result (AppendsBeginning (W.written sink.old) (W.written sink.new)
+        waiting.old.items) }
+    ensures none_failed { OnOk result (W.failed sink.new ≡ W.failed sink.old) }
+    ensures one_failed { OnErr result (W.failed sink.new ≡ W.failed sink.old + 1) }
+{
+    if waiting.remaining_capacity() >= 3 {
+        return Ok(());
+    }
+    send(waiting.as_slice(), sink)?;
+    waiting.clear();
+    Ok(())
+}
