@@ -23,3 +23,5 @@ pub mod ShownLemmas
 pub mod LossLemmas
 pub mod WrittenLemmas
 pub mod PixmapLemmas
+pub mod EngineRunLemmas
+pub mod PlayLemmas

@@ -11,3 +11,6 @@ pub mod World
 pub mod Played
 pub mod Devices
 pub mod Pixmap
+pub mod EngineRun
+pub mod Watching
+pub mod Playing

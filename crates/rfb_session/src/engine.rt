@@ -3,10 +3,15 @@
 mod device;
 mod fault;
 mod pixmap;
+mod playing;
 mod sending;
 mod tally;
 
 pub use device::{Sink, Source};
 pub use fault::{Device, EngineFault};
 pub use pixmap::ppm;
+pub use playing::play;
 pub use tally::Tally;
+
+// How many bytes one read asks for.
+const READ_SIZE: usize = 4096;

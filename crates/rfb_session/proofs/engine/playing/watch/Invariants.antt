@@ -1,0 +1,10 @@
+-- The first of the bytes were fed, and their updates counted.
+use Rattle.std.proofs.Common.{length}
+use Rattle.rfb_session.proofs.PlayLemmas.{Watched}
+use Rattle.rfb_session.proofs.engine.playing.watch.Given as goal
+
+abbrev pub invariant-loop-rest : goal.invariant-loop-rest
+invariant-loop-rest l = Watched l.fn.viewer l.bytes l.before l.rest l.updates l.viewer
+
+abbrev pub decreases-loop-rest : goal.decreases-loop-rest
+decreases-loop-rest l = length l.rest

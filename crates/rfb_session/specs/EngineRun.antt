@@ -1,0 +1,69 @@
+-- What an engine did with its end: bytes that the end was fed, in turn with acts of the engine's own,
+-- as a list of steps that each further step makes longer.
+use Rattle.std.specs.Prelude.{◌≡◌, ℕ, ◌+◌, List, [], ◌∷◌, ◌++◌, Option}
+use Rattle.rfb_wire.specs.stream.End.{Machine, Takes}
+
+-- a step: bytes that the end was fed, with what it told of them; or an act
+pub data Step (E A : Type 0) : Type 0 where
+  Fed : (bytes : List ℕ) → (event : Option E) → Step E A
+  Did : (act : A) → Step E A
+
+-- an end as engines run it: what it was made with, and by that its machine; what it stands for; what
+-- an act makes of a state; what is sent at a step; and how many updates a step is the end of
+pub record Driven (V C S P I F E A : Type 0) : Type 1 where
+  pub machine : C → Machine S P I F E
+  pub stands : C → V → S → List ℕ → Type 0
+  pub does : S → A → S → Type 0
+  pub sends : Step E A → List ℕ
+  pub updates : Step E A → ℕ
+
+module _ {E A : Type 0} where
+  -- the bytes that an end was fed in a step, and in steps the latest of which stands first
+  abbrev pub fed_at : Step E A → List ℕ
+  fed_at (Fed bytes event) = bytes
+  fed_at (Did act) = []
+
+  abbrev pub fed_in : List (Step E A) → List ℕ
+  fed_in [] = []
+  fed_in (step ∷ before) = fed_in before ++ fed_at step
+
+module _ {V C S P I F E A : Type 0} where
+  -- one step, from a state and the bytes that came of the next item to others
+  abbrev pub StepsTo : Driven V C S P I F E A → C → S → List ℕ → Step E A → S → List ℕ → Type 0
+  StepsTo d made s prefix (Fed bytes event) t rest = Takes (d.machine made) s prefix bytes event t rest
+  StepsTo d made s prefix (Did act) t rest = d.does s act t × (rest ≡ prefix)
+
+  -- steps one after another, the latest of which stands first in the list
+  abbrev pub Runs : Driven V C S P I F E A → C → S → List ℕ → List (Step E A) → S → List ℕ → Type 0
+  Runs d made s prefix [] t rest = (t ≡ s) × (rest ≡ prefix)
+  Runs d made s prefix (step ∷ before) t rest =
+      (mid : S) × (left : List ℕ) × Runs d made s prefix before mid left
+      × StepsTo d made mid left step t rest
+
+  -- what is sent in all of them, and how many updates ended
+  abbrev pub sent_in : Driven V C S P I F E A → List (Step E A) → List ℕ
+  sent_in d [] = []
+  sent_in d (step ∷ before) = sent_in d before ++ d.sends step
+
+  abbrev pub updates_in : Driven V C S P I F E A → List (Step E A) → ℕ
+  updates_in d [] = 0
+  updates_in d (step ∷ before) = updates_in d before + d.updates step
+
+  -- steps lead from a state and a prefix to one that the end then stands for: it was fed those bytes,
+  -- those are sent, and so many updates ended
+  pub record Ran (d : Driven V C S P I F E A) (made : C) (s : S) (prefix : List ℕ) (new : V)
+      (fed sent : List ℕ) (updates : ℕ) : Type 0 where
+    pub steps : List (Step E A)
+    pub state : S
+    pub rest : List ℕ
+    pub runs : Runs d made s prefix steps state rest
+    pub stands : d.stands made new state rest
+    pub fed_is : fed ≡ fed_in steps
+    pub sent_is : sent ≡ sent_in d steps
+    pub updates_are : updates ≡ updates_in d steps
+
+  -- whatever it stood for
+  abbrev pub RunsOn : Driven V C S P I F E A → V → List ℕ → List ℕ → ℕ → V → Type 0
+  RunsOn d old fed sent updates new =
+      (made : C) (s : S) (prefix : List ℕ) → d.stands made old s prefix →
+      Ran d made s prefix new fed sent updates

@@ -1,0 +1,89 @@
+-- What an engine did with a viewer: bytes that it was fed, and requests.
+use Rattle.std.specs.Prelude.{◌≡◌, ◌≢◌, ℕ, ◌+◌, ◌-◌, ◌^◌, Bool, min, List, ◌++◌, Option, Some, None}
+use Rattle.rfb_wire.specs.stream.End.{RefusedBy, RunsOutBy}
+use Rattle.rfb_picture.specs.declared.rect.Rect.{Rect}
+use Rattle.rfb_viewer.specs.declared.fault.ViewerFault.{ViewerFault}
+use Rattle.rfb_viewer.specs.declared.fault.ViewerFault.TheVariants.{NoMemory}
+use Rattle.rfb_viewer.specs.declared.viewer.Viewer.{Viewer}
+use Rattle.rfb_viewer.specs.ServerBytes.{ServerAt, FromServer, is_between}
+use Rattle.rfb_viewer.specs.Told.{ViewerTold, Reply, Ready, UpdateDone, Bell, CutText, ColourMapSkipped}
+use Rattle.rfb_viewer.specs.Viewer.{Viewing, ViewerState, viewer, AsksMemory}
+use Rattle.rfb_viewer.specs.Standing.{StandsFor, fault_of}
+use Rattle.rfb_viewer.specs.Calls.{request_refusal, requested}
+use Rattle.rfb_viewer.specs.Messages.{request_message}
+use Rattle.rfb_session.specs.InFlight.{viewer_reply}
+use Rattle.rfb_session.specs.EngineRun.{Step, Fed, Did, Driven, RunsOn}
+
+-- a request that an engine makes
+pub record Asking : Type 0 where
+  pub incremental : Bool
+  pub rect : Rect
+
+-- it is one that the viewer accepts
+abbrev pub Asks : ViewerState → Asking → ViewerState → Type 0
+Asks s asking t = (request_refusal s asking.rect ≡ None) × (t ≡ requested s)
+
+-- the viewer's answers are sent, and the engine's requests
+abbrev pub viewer_sends : Step ViewerTold Asking → List ℕ
+viewer_sends (Fed bytes event) = viewer_reply event
+viewer_sends (Did asking) = request_message asking.incremental asking.rect
+
+-- an update ends where its end is told
+abbrev pub ends_told : Option ViewerTold → ℕ
+ends_told None = 0
+ends_told (Some (Reply bytes)) = 0
+ends_told (Some (Ready bytes name name_length)) = 0
+ends_told (Some UpdateDone) = 1
+ends_told (Some Bell) = 0
+ends_told (Some (CutText kept text_length)) = 0
+ends_told (Some ColourMapSkipped) = 0
+
+abbrev pub updates_ended : Step ViewerTold Asking → ℕ
+updates_ended (Fed bytes event) = ends_told event
+updates_ended (Did asking) = 0
+
+-- a viewer as engines run it
+abbrev pub viewer_driven : Driven Viewer Viewing ViewerState ServerAt FromServer ViewerFault ViewerTold Asking
+viewer_driven = record {
+  machine = viewer;
+  stands = StandsFor;
+  does = Asks;
+  sends = viewer_sends;
+  updates = updates_ended;
+}
+
+-- it was fed these bytes, these are sent, so many updates ended, and it became that one
+abbrev pub ViewerRuns : Viewer → List ℕ → List ℕ → ℕ → Viewer → Type 0
+ViewerRuns old fed sent updates new = RunsOn viewer_driven old fed sent updates new
+
+-- it ended at these bytes: by a fault of theirs, or because it asked for memory there
+pub record EndsBy (fault : ViewerFault) (old : Viewer) (slice : List ℕ) (new : Viewer) : Type 0 where
+  pub fails : fault_of new ≡ Some fault
+  pub refused : fault ≢ NoMemory → (viewing : Viewing) →
+      RefusedBy (viewer viewing) (StandsFor viewing) old slice fault
+  pub starved : fault ≡ NoMemory → (viewing : Viewing) →
+      RunsOutBy (viewer viewing) (AsksMemory viewing) (StandsFor viewing) old slice
+
+-- a run over the first of some bytes, and then the viewer ended at those behind them
+pub record EndsWithin (old : Viewer) (bytes : List ℕ) (fault : ViewerFault) (new : Viewer) : Type 0 where
+  pub fed : List ℕ
+  pub slice : List ℕ
+  pub sent : List ℕ
+  pub updates : ℕ
+  pub last : Viewer
+  pub bytes_are : bytes ≡ fed ++ slice
+  pub runs : ViewerRuns old fed sent updates last
+  pub ends : EndsBy fault last slice new
+
+-- whether the server's bytes have ended between two messages, as the viewer stands
+abbrev pub StandsBetween : Viewer → Bool → Type 0
+StandsBetween now between =
+    (viewing : Viewing) (s : ViewerState) (prefix : List ℕ) →
+    StandsFor viewing now s prefix → between ≡ is_between s.point prefix
+
+-- it was fed all of these bytes, and the updates were counted behind those before
+pub record IsWatched (old : Viewer) (bytes : List ℕ) (before told : ℕ) (new : Viewer) : Type 0 where
+  pub sent : List ℕ
+  pub updates : ℕ
+  pub told_is : told ≡ min (before + updates) (2 ^ 64 - 1)
+  pub runs : ViewerRuns old bytes sent updates new
