@@ -1,5 +1,5 @@
 -- What composing leaves of what a server stands for.
-use Rattle.std.proofs.Common.{◌≡◌, ◌≢◌, ℕ, true, false, List, Option, None, refl, sym, ap, subst, ◌∙◌}
+use Rattle.std.proofs.Common.{◌≡◌, ◌≢◌, ℕ, Bool, true, false, List, [], ◌++◌, Option, None, Result, Ok, Err, IfOk, OnErr, refl, sym, ap, subst, ◌∙◌, append-nil}
 use Rattle.rfb_pixel.specs.declared.colour.Colour.{Colour}
 use Rattle.rfb_pixel.specs.Format.{PixelFormat}
 use Rattle.rfb_picture.specs.Grid.{Grid}
@@ -136,3 +136,12 @@ stays old new before after e idle = record {
       let ready = ready_point serving old.session.hello old.session.progress s.point prefix due.ready stands.progress_is in
       idle.not_due ready (subst (λ (t : ServerState). IsDue t) (state_is serving old.screen old.session s prefix ready stands) due);
 }
+
+-- whatever it answers, bytes were appended, if only none
+pub appends : {E : Type 0} (screen : Grid Colour) (old new : Session) (before after : List ℕ) (result : Result Bool E) →
+    IfOk result (λ did. did ≡ true → HasComposed screen old new before after) →
+    IfOk result (λ did. did ≡ false → StaysIdle screen old new before after) →
+    OnErr result (after ≡ before) → (bytes : List ℕ) × (after ≡ before ++ bytes)
+appends screen old new before after (Ok true) composed idle kept = ((composed refl).bytes, (composed refl).appended)
+appends screen old new before after (Ok false) composed idle kept = ([], (idle refl).appended ∙ sym (append-nil before))
+appends screen old new before after (Err error) composed idle kept = ([], kept ∙ sym (append-nil before))

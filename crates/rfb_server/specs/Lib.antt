@@ -9,6 +9,7 @@ pub mod Composing
 pub mod Marks
 pub mod Progress
 pub mod Standing
+pub mod Hints
 pub mod Sessions
 pub mod Sending
 pub mod Cells

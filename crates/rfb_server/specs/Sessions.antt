@@ -1,6 +1,5 @@
 -- What calls on a `Session` change of it.
 use Rattle.std.specs.Prelude.{◌≡◌, ℕ, zero, suc, ◌<◌, Bool, List, [], ◌∷◌, ◌++◌, true, false}
-use Rattle.circular_buffer.specs.Buffer.{keep_last}
 use Rattle.rfb_pixel.specs.declared.colour.Colour.{Colour}
 use Rattle.rfb_pixel.specs.Format.{PixelFormat}
 use Rattle.rfb_picture.specs.declared.rect.Rect.{Rect}
@@ -13,6 +12,7 @@ use Rattle.rfb_hello.specs.ServerEnd.{as_reply}
 use Rattle.rfb_hello.specs.ServerStanding.{setup_of, is_open}
 use Rattle.rfb_server.specs.Record.{forgotten}
 use Rattle.rfb_server.specs.Marks.{IsCaughtUp}
+use Rattle.rfb_server.specs.Hints.{with_hint}
 use Rattle.rfb_server.specs.declared.hint.Hint.{Hint}
 use Rattle.rfb_server.specs.declared.session.Session.{Session}
 use Rattle.rfb_server.specs.declared.session.progress.Progress.{Progress}
@@ -42,7 +42,7 @@ pub record IsMarked (rect : Rect) (old new : Session) : Type 0 where
 pub record IsHinted (hint : Hint) (old new : Session) : Type 0 where
   pub same : IsSame old new
   pub marks : new.marks ≡ old.marks
-  pub hints : new.hints.items ≡ keep_last 16 (old.hints.items ++ hint ∷ [])
+  pub hints : new.hints.items ≡ with_hint hint old.hints.items
 
 -- the handshake's end was fed, and its progress is the session's: while it goes on the session is
 -- in the handshake, and once it is done between two messages

@@ -1,6 +1,6 @@
 //! Laws of a client's stream and of a server's states, with nothing to run.
 
-ghost use Rattle.std.specs.Prelude.{◌≡◌, ℕ, List, true, map, ◌++◌, Some, ◌⊎◌};
+ghost use Rattle.std.specs.Prelude.{◌≡◌, ℕ, List, true, map, ◌++◌, Some, None, ◌⊎◌};
 ghost use Rattle.rfb_pixel.specs.declared.colour.Colour.{Colour};
 ghost use Rattle.rfb_pixel.specs.Format.{PixelFormat, seen_through};
 ghost use Rattle.rfb_picture.specs.Grid.{Grid, IsGrid, at_or};
@@ -15,6 +15,8 @@ ghost use Rattle.rfb_codec.specs.WholeUpdate.{update_of};
 ghost use Rattle.rfb_server.specs.Server.{Serving, ServerState, server, black};
 ghost use Rattle.rfb_server.specs.Server.{messages_end, behind_handshake};
 ghost use Rattle.rfb_server.specs.Told.{step_told};
+ghost use Rattle.rfb_server.specs.declared.server.Server.{Server};
+ghost use Rattle.rfb_server.specs.Standing.{StandsFor, fault_of};
 ghost use Rattle.rfb_server.specs.Request.{wanted, recorded, is_asked};
 ghost use Rattle.rfb_server.specs.Composing.{Part, Composes, IsPlace, between, sent_as};
 
@@ -39,6 +41,12 @@ pub fn a_server_is_fed_as_the_ends_of_its_parts()
     ensures messages { (serving : Serving) → GoesAsSecond (client_two serving.hello.offer)
         (server serving) (messages_end serving) (λ s. behind_handshake s.point s)
         (λ told. Some told) }
+{}
+
+/// A server that stands for a state and a prefix has not failed.
+pub fn a_server_that_stands_has_not_failed()
+    ensures { (serving : Serving) (server : Server) (s : ServerState) (prefix : List ℕ) →
+        StandsFor serving server s prefix → fault_of server ≡ None }
 {}
 
 /// A viewer whose picture agreed with the record shows, once it has the update, the screen over the

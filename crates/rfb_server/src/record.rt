@@ -95,7 +95,9 @@ impl Record {
     /// Lends a picture that has each known pixel at its place; elsewhere it says nothing.
     #[inline]
     pub(crate) fn pixels(&self) -> &Picture<u32>
-        ensures { ShowsKnown self.now result.now }
+        ensures value { ShowsKnown self.now result.now }
+        ensures columns { result.now.width ≡ self.now.width }
+        ensures rows { result.now.height ≡ self.now.height }
     {
         &self.pixels
     }
@@ -103,7 +105,9 @@ impl Record {
     /// Lends the set of the known places, as asked ones.
     #[inline]
     pub(crate) fn known(&self) -> &Area
-        ensures { TellsKnown self.now result.now }
+        ensures value { TellsKnown self.now result.now }
+        ensures columns { result.now.asked.width ≡ self.now.width }
+        ensures rows { result.now.asked.height ≡ self.now.height }
     {
         &self.known
     }

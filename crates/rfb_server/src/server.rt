@@ -1,6 +1,6 @@
 //! A server: a screen and a session.
 
-ghost use Rattle.std.specs.Prelude.{◌≡◌, ◌≢◌, ◌≤◌, ◌<◌, ◌↔◌, ℕ, List, [], length, take};
+ghost use Rattle.std.specs.Prelude.{◌≡◌, ◌≢◌, ◌≤◌, ◌<◌, ◌↔◌, ℕ, List, [], ◌++◌, length, take};
 ghost use Rattle.std.specs.Prelude.{true, false, Some, None, Ok, IfOk, IfErr, OnOk, OnErr, IsErr};
 ghost use Rattle.rfb_picture.specs.Grid.{IsGrid};
 ghost use Rattle.rfb_codec.specs.Effect.{IsAlike};
@@ -42,6 +42,7 @@ impl Server {
     ghost use Rattle.rfb_server.specs.Standing.{screen_of, row_from, HoldsBoth, Draws, Keeps};
     ghost use Rattle.rfb_server.specs.Updating.{Updates, StaysUnsent};
     ghost use Rattle.rfb_server.specs.Record.{ShowsKnown, TellsKnown};
+    ghost use Rattle.rfb_server.specs.Hints.{hints_of, with_hint};
 
     /// A server that was fed nothing, with a black screen of `width` by `height` places: nothing
     /// was sent, and nothing is asked. It offers versions up to `offer`, names the screen, and
@@ -60,9 +61,10 @@ impl Server {
         requires rows { (1 ≤ height) × (height ≤ 4096) }
         requires name { length name.now ≤ 255 }
         requires texts { text_limit ≤ 1048576 }
-        ensures { IfOk result (λ server.
+        ensures stands { IfOk result (λ server.
             StandsFor (serving_with offer width height name.now text_limit) server
             (first_server (serving_with offer width height name.now text_limit)) []) }
+        ensures hints { IfOk result (λ server. hints_of server ≡ []) }
     {
         let screen = Picture::new(alloc, width, height, BLACK)?;
         let session = Session::new(alloc, width, height, name, offer, text_limit)?;
@@ -76,6 +78,7 @@ impl Server {
         ensures kept { OnErr result (self.new ≡ self.old) }
         ensures drawn { OnOk result
             (Draws (filled rect colour (screen_of self.old)) self.old self.new) }
+        ensures hints { hints_of self.new ≡ hints_of self.old }
     {
         if !self.screen.holds(rect) {
             return Err(Outside);
@@ -94,6 +97,7 @@ impl Server {
         ensures kept { OnErr result (self.new ≡ self.old) }
         ensures drawn { OnOk result
             (Draws (with_row x y row.now (screen_of self.old)) self.old self.new) }
+        ensures hints { hints_of self.new ≡ hints_of self.old }
     {
         let width = usize::from(self.screen.width());
         let fits = row.len() <= width && usize::from(x) <= width - row.len();
@@ -119,6 +123,7 @@ impl Server {
         ensures kept { OnErr result (self.new ≡ self.old) }
         ensures drawn { OnOk result
             (Draws (copied dst sx sy (screen_of self.old)) self.old self.new) }
+        ensures hints { hints_of self.new ≡ hints_of self.old }
     {
         let source = Rect {
             x: sx,
@@ -142,6 +147,8 @@ impl Server {
             ↔ (HoldsBoth (screen_of self.old) dst sx sy → ⊥) }
         ensures kept { OnErr result (self.new ≡ self.old) }
         ensures hinted { OnOk result (Keeps self.old self.new) }
+        ensures hints { OnOk result (hints_of self.new
+            ≡ with_hint (record { to = dst; sx = sx; sy = sy }) (hints_of self.old)) }
     {
         let source = Rect {
             x: sx,
@@ -162,6 +169,7 @@ impl Server {
     /// changes: at most 260 bytes, and 12 and its pixels' bytes for each cell of 64 by 64 places that
     /// holds an asked place. Where there is none it gives the error, and nothing changes.
     pub fn compose(&mut self, out: &mut Vec<u8>) -> Result<bool, AllocError>
+        ensures appended { (bytes : List ℕ) × (out.new.items ≡ out.old.items ++ bytes) }
         ensures composed { IfOk result (λ did. did ≡ true →
             Updates self.old self.new out.old.items out.new.items) }
         ensures idle { IfOk result (λ did. did ≡ false →
@@ -169,6 +177,9 @@ impl Server {
         ensures kept { OnErr result (out.new.items ≡ out.old.items) }
         ensures same { OnErr result (Keeps self.old self.new) }
         ensures failed { fault_of self.old ≢ None → result ≡ Ok false }
+        ensures spent { IfOk result (λ did. did ≡ true → hints_of self.new ≡ []) }
+        ensures hints { IfOk result (λ did. did ≡ false → hints_of self.new ≡ hints_of self.old) }
+        ensures unspent { OnErr result (hints_of self.new ≡ hints_of self.old) }
     {
         self.session.compose(&self.screen, out)
     }
@@ -187,6 +198,7 @@ impl Server {
             → FedBy (server serving) (StandsFor serving)
             self.old (take fed.used bytes.now) (seen fed.event) self.new) }
         ensures made { serving_of self.new ≡ serving_of self.old }
+        ensures hints { hints_of self.new ≡ hints_of self.old }
         ensures screen { screen_of self.new ≡ screen_of self.old }
 
         // When a fault comes, when memory is wanting, and that it stays.
@@ -242,8 +254,10 @@ impl Server {
 
     /// Lends what the viewer asked for since the latest update.
     pub fn asked(&self) -> &Area
-        ensures { (serving : Serving) (s : ServerState) (prefix : List ℕ)
+        ensures value { (serving : Serving) (s : ServerState) (prefix : List ℕ)
             → StandsFor serving self.now s prefix → result.now ≡ s.area }
+        ensures columns { result.now.asked.width ≡ (screen_of self.now).width }
+        ensures rows { result.now.asked.height ≡ (screen_of self.now).height }
     {
         self.session.asked()
     }
@@ -251,16 +265,20 @@ impl Server {
     /// Lends what is recorded of the viewer: at each place that `known` has as asked the pixel that
     /// the viewer has or will have, in the format of the session. Elsewhere it says nothing.
     pub fn recorded(&self) -> &Picture<u32>
-        ensures { (serving : Serving) (s : ServerState) (prefix : List ℕ)
+        ensures value { (serving : Serving) (s : ServerState) (prefix : List ℕ)
             → StandsFor serving self.now s prefix → ShowsKnown s.known result.now }
+        ensures columns { result.now.width ≡ (screen_of self.now).width }
+        ensures rows { result.now.height ≡ (screen_of self.now).height }
     {
         self.session.recorded()
     }
 
     /// Lends the places of which it is known what the viewer has, as asked ones.
     pub fn known(&self) -> &Area
-        ensures { (serving : Serving) (s : ServerState) (prefix : List ℕ)
+        ensures value { (serving : Serving) (s : ServerState) (prefix : List ℕ)
             → StandsFor serving self.now s prefix → TellsKnown s.known result.now }
+        ensures columns { result.now.asked.width ≡ (screen_of self.now).width }
+        ensures rows { result.now.asked.height ≡ (screen_of self.now).height }
     {
         self.session.known()
     }

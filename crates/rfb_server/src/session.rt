@@ -82,6 +82,7 @@ impl Session {
             (uniform width height black) session
             (first_server (serving_with offer width height name.now text_limit)) []) }
         ensures unseen { IfOk result IsUnseen }
+        ensures unhinted { IfOk result (λ session. session.hints.items ≡ []) }
     {
         let known = Record::new(alloc, width, height)?;
         let area = Area::new(alloc, width, height)?;
@@ -139,14 +140,18 @@ impl Session {
 
     /// Lends the pixels that are known of the viewer, each at its place.
     pub(crate) fn recorded(&self) -> &Picture<u32>
-        ensures { ShowsKnown self.now.known result.now }
+        ensures value { ShowsKnown self.now.known result.now }
+        ensures columns { result.now.width ≡ self.now.known.width }
+        ensures rows { result.now.height ≡ self.now.known.height }
     {
         self.known.pixels()
     }
 
     /// Lends the set of the places of which they are known, as asked ones.
     pub(crate) fn known(&self) -> &Area
-        ensures { TellsKnown self.now.known result.now }
+        ensures value { TellsKnown self.now.known result.now }
+        ensures columns { result.now.asked.width ≡ self.now.known.width }
+        ensures rows { result.now.asked.height ≡ self.now.known.height }
     {
         self.known.known()
     }

@@ -1,4 +1,6 @@
-use Rattle.std.proofs.Common.{refl, sym, ◌∙◌, ◌≡◌, Some, None}
+use Rattle.std.proofs.Common.{refl, sym, ap, ◌∙◌, ◌≡◌, Some, None}
+use Rattle.circular_buffer.specs.Buffer.{Buffer}
+use Rattle.rfb_server.specs.declared.hint.Hint.{Hint}
 use Rattle.rfb_server.specs.Progress.{fault_in}
 use Rattle.rfb_server.proofs.SliceLemmas.{ok_map, err_map, serving_kept, failed_refuses, failed_starves}
 use Rattle.rfb_server.proofs.server.Server.feed.Goals as goal
@@ -23,6 +25,7 @@ returns-in-Some c =
       some = tt;
       fed = tt;
       made = refl;
+      hints = refl;
       screen = refl;
       fault = λ other serving. failed_refuses session c.args.bytes.now c.in-Some.fault fails other serving c.args.self.now.screen;
       memory = λ memory serving. failed_starves session c.args.bytes.now c.in-Some.fault fails memory serving c.args.self.now.screen;
@@ -40,6 +43,7 @@ returns c =
       some = c.feed.ensures.some;
       fed = ok_map _ _ c.feed.result (λ fed h serving. h serving c.args.self.now.screen) c.feed.ensures.fed;
       made = serving_kept session c.feed.new.self c.feed.ensures.up;
+      hints = ap (λ (kept : Buffer Hint). kept.items) c.feed.ensures.up.hints;
       screen = refl;
       fault = err_map _ _ c.feed.result (λ fault h other serving. h other serving c.args.self.now.screen) c.feed.ensures.fault;
       memory = err_map _ _ c.feed.result (λ fault h memory serving. h memory serving c.args.self.now.screen) c.feed.ensures.memory;

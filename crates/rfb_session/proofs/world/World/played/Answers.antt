@@ -21,7 +21,7 @@ returns c =
     (viewing_with f c.push.new.self.items V38 true 16777216 1024) c.new-viewer.result first_viewer
     []) c.rgb888.ensures.value c.new-viewer.ensures) in
     let fresh = fresh_for c.args.width c.args.height c.in_ok-server.server c.new-viewer.result
-    c.in_ok-server.ensures viewer_is in
+    c.in_ok-server.ensures.stands viewer_is in
     let stands = c.in_ok-world.ensures (ends_for c.args.width c.args.height)
     (uniform c.args.width c.args.height black) fresh in
     played c.args.width c.args.height c.args.events.now c.in_ok-world.world c.run.new.self
