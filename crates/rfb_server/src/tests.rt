@@ -10,3 +10,4 @@ mod memory;
 mod model;
 mod requests;
 mod scene;
+mod scrolling;

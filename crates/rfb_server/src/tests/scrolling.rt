@@ -1,0 +1,93 @@
+//! A screen that is scrolled by a row: one CopyRect, and the new row, RFC 6143 section 7.7.2.
+
+use super::scene::{Step, feed, first_wrong, ready};
+use crate::Server;
+use rfb_picture::Rect;
+use rfb_pixel::Colour;
+use std::alloc::{AllocError, Global};
+
+// SetEncodings with Raw and CopyRect.
+const LIST: &[u8] = b"\x02\0\0\x02\0\0\0\0\0\0\0\x01";
+
+// Requests for all of 64 by 64 places: whole, and what changed.
+const ALL: &[u8] = b"\x03\0\0\0\0\0\0\x40\0\x40";
+
+const CHANGED: &[u8] = b"\x03\x01\0\0\0\0\0\x40\0\x40";
+
+const ALL_BUT_LAST_ROW: Rect = Rect {
+    x: 0,
+    y: 0,
+    w: 64,
+    h: 63,
+};
+
+fn row(y: u16) -> Rect {
+    Rect {
+        x: 0,
+        y,
+        w: 64,
+        h: 1,
+    }
+}
+
+// Each row of the screen has another colour.
+fn draw(server: &mut Server) {
+    for y in 0..64 {
+        let colour = Colour {
+            r: y as u8,
+            g: 0,
+            b: 0,
+        };
+        let _drawn = server.fill(row(y), colour);
+    }
+}
+
+// Whether an update is composed, and its bytes.
+fn composed(server: &mut Server, alloc: Global) -> (bool, Vec<u8>) {
+    let mut out = Vec::new(alloc);
+    let did = server.compose(&mut out) == Ok(true);
+    (did, out)
+}
+
+// Two rectangles: 63 rows copied from row 1 on, and the heads of row 63 in Raw.
+const HEADS: &[u8] =
+    b"\0\0\0\x02\0\0\0\0\0\x40\0\x3F\0\0\0\x01\0\0\0\x01\0\0\0\x3F\0\x40\0\x01\0\0\0\0";
+
+// Whether the bytes are these and 64 blue pixels at rgb888.
+fn is_scrolled(bytes: &[u8]) -> bool {
+    let (heads, pixels) = bytes.split_at(bytes.len().min(32));
+    let mut blue = heads == HEADS && pixels.len() == 256;
+    for pixel in pixels.chunks(4) {
+        blue = blue && pixel == b"\xFF\0\0\0".as_slice();
+    }
+    blue
+}
+
+// Whether all that a viewer has is scrolled for it.
+fn scrolls(server: &mut Server, alloc: Global) -> bool {
+    draw(server);
+    feed(server, LIST);
+    feed(server, ALL);
+    let (first, _all) = composed(server, alloc);
+    let blue = Colour { r: 0, g: 0, b: 255 };
+    let steps = [
+        Step::Copy(ALL_BUT_LAST_ROW, 0, 1),
+        Step::Hints(1, ALL_BUT_LAST_ROW, 0, 1),
+        Step::Fill(row(63), blue),
+        Step::Feed(CHANGED),
+    ];
+    let drawn = first_wrong(server, alloc, steps.as_slice()) == None;
+    let (second, bytes) = composed(server, alloc);
+    first && drawn && second && is_scrolled(bytes.as_slice())
+}
+
+fn is_sent(alloc: Global) -> Result<bool, AllocError> {
+    let mut server = ready(alloc, 64, 64)?;
+    Ok(scrolls(&mut server, alloc))
+}
+
+#[test]
+fn a_scroll_is_one_copy_and_its_new_row(rt: HostRuntime) -> Result<(), AllocError> {
+    assert!(rt; is_sent(rt.alloc())?);
+    Ok(())
+}
