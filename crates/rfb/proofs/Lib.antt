@@ -1,6 +1,7 @@
-pub mod MessageLemmas
-pub mod PairLemmas
+pub mod ArgumentLemmas
 pub mod PixmapLemmas
-pub mod RunLemmas
+pub mod PlayingLemmas
 pub mod ScriptLemmas
+pub mod WordLemmas
 pub mod LinesLemmas
+pub mod MadeLemmas

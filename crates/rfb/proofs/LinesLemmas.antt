@@ -3,25 +3,25 @@ use Rattle.std.proofs.Common.{◌==◌, Bool, true, false, is_some, ◌≡◌, �
 use Rattle.std.proofs.lemmas.Bool.Decides.{nat_tests}
 use Rattle.std.proofs.lemmas.List.{length_push}
 use Rattle.std.proofs.lemmas.List.Elements.{All-nil, All-cons, All-head, All-tail}
-use Rattle.rfb.specs.declared.pair.event.PairEvent.{PairEvent}
-use Rattle.rfb.specs.declared.script.Numbered.{Numbered}
+use Rattle.rfb.specs.declared.script.line.Numbered.{Numbered}
 use Rattle.rfb.specs.declared.script.line.Screen.{Screen as Size}
-use Rattle.rfb.specs.declared.script.line.Line.TheVariants.{Screen}
-use Rattle.rfb.specs.Script.{AreEmpty, AreScript, AskFor, AsksForEvent, GivesSize, IsBadBehind, IsFirstBad, Says, SaysEvent, texts, words_of}
+use Rattle.rfb.specs.declared.script.line.Wants.{Wants}
+use Rattle.rfb.specs.declared.script.line.Step.{Step as ScriptStep}
+use Rattle.rfb.specs.declared.script.line.Line.TheVariants.{Screen, Viewer}
+use Rattle.rfb.specs.Words.{texts}
+use Rattle.rfb.specs.Few.{HasFew}
+use Rattle.rfb.specs.Script.{AreEmpty, AreScript, AskBehind, AskFor, AskForAll, AsksForStep, GivesSize, GivesWants, IsBadBehind, IsFirstBad, IsNoMore, Says, SaysStep, words_of}
+use Rattle.rfb.proofs.ScriptLemmas.{texts_length}
 
 -- what lines are that were read so far: empty, or a script
-abbrev pub ReadSoFar : List (List ℕ) → Option Size → List Numbered → Type 0
-ReadSoFar lines None events = AreEmpty lines × (events ≡ [])
-ReadSoFar lines (Some size) events = AreScript lines size events
+abbrev pub ReadSoFar : List (List ℕ) → Option Size → Option Wants → List Numbered → Type 0
+ReadSoFar lines None wants steps = AreEmpty lines × (wants ≡ None) × (steps ≡ [])
+ReadSoFar lines (Some size) wants steps = AreScript lines size wants steps
 
 -- one line more
 pub texts_more : (words : List (Bor (List ℕ))) (word : Bor (List ℕ)) → texts (words ++ word ∷ []) ≡ texts words ++ word.now ∷ []
 texts_more [] word = refl
 texts_more (w ∷ words) word = ap (λ (l : List (List ℕ)). w.now ∷ l) (texts_more words word)
-
-pub texts_length : (words : List (Bor (List ℕ))) → length (texts words) ≡ length words
-texts_length [] = refl
-texts_length (w ∷ words) = omega (arith, texts_length words)
 
 abbrev IsEmpty : List ℕ → Type 0
 IsEmpty line = line ≡ []
@@ -33,53 +33,108 @@ empty_more (l ∷ lines) line all none =
 
 -- ---- the lines behind the screen's
 
-asks_blank : (n : ℕ) (lines : List (List ℕ)) (line : List ℕ) (events : List Numbered) → line ≡ [] → AskFor n lines events → AskFor n (lines ++ line ∷ []) events
+asks_blank : (n : ℕ) (lines : List (List ℕ)) (line : List ℕ) (steps : List Numbered) → line ≡ [] → AskFor n lines steps → AskFor n (lines ++ line ∷ []) steps
 asks_blank n [] line [] none asks = rw none tt
-asks_blank n [] line (event ∷ events) none asks = absurd asks
-asks_blank n ([] ∷ lines) line events none asks = asks_blank (n + 1) lines line events none asks
+asks_blank n [] line (step ∷ steps) none asks = absurd asks
+asks_blank n ([] ∷ lines) line steps none asks = asks_blank (n + 1) lines line steps none asks
 asks_blank n ((char ∷ l) ∷ lines) line [] none asks = absurd asks
-asks_blank n ((char ∷ l) ∷ lines) line (event ∷ events) none asks = (asks.0, asks.1, asks_blank (n + 1) lines line events none asks.2)
+asks_blank n ((char ∷ l) ∷ lines) line (step ∷ steps) none asks = (asks.0, asks.1, asks_blank (n + 1) lines line steps none asks.2)
 
-asks_more : (n m : ℕ) (lines : List (List ℕ)) (line : List ℕ) (events : List Numbered) (event : Numbered) → AskFor n lines events → m ≡ n + length lines → event.line ≡ m → line ≢ [] → SaysEvent (words_of line) event.event → AskFor n (lines ++ line ∷ []) (events ++ event ∷ [])
-asks_more n m [] [] [] event asks count at some says = absurd (some refl)
-asks_more n m [] (char ∷ line) [] event asks count at some says = (at ∙ (omega (arith, count)), says, tt)
-asks_more n m [] line (e ∷ events) event asks count at some says = absurd asks
-asks_more n m ([] ∷ lines) line events event asks count at some says = asks_more (n + 1) m lines line events event asks (omega (arith, count)) at some says
-asks_more n m ((char ∷ l) ∷ lines) line [] event asks count at some says = absurd asks
-asks_more n m ((char ∷ l) ∷ lines) line (e ∷ events) event asks count at some says =
-    (asks.0, asks.1, asks_more (n + 1) m lines line events event asks.2 (omega (arith, count)) at some says)
+asks_more : (n m : ℕ) (lines : List (List ℕ)) (line : List ℕ) (steps : List Numbered) (step : Numbered) → AskFor n lines steps → m ≡ n + length lines → step.line ≡ m → line ≢ [] → SaysStep (words_of line) step.step → AskFor n (lines ++ line ∷ []) (steps ++ step ∷ [])
+asks_more n m [] [] [] step asks count at some says = absurd (some refl)
+asks_more n m [] (char ∷ line) [] step asks count at some says = (at ∙ (omega (arith, count)), says, tt)
+asks_more n m [] line (e ∷ steps) step asks count at some says = absurd asks
+asks_more n m ([] ∷ lines) line steps step asks count at some says = asks_more (n + 1) m lines line steps step asks (omega (arith, count)) at some says
+asks_more n m ((char ∷ l) ∷ lines) line [] step asks count at some says = absurd asks
+asks_more n m ((char ∷ l) ∷ lines) line (e ∷ steps) step asks count at some says =
+    (asks.0, asks.1, asks_more (n + 1) m lines line steps step asks.2 (omega (arith, count)) at some says)
 
--- ---- one line more of a script
+-- lines that ask for nothing are empty
+asks_none : (n : ℕ) (lines : List (List ℕ)) → AskFor n lines [] → AreEmpty lines
+asks_none n [] asks = All-nil IsEmpty
+asks_none n ([] ∷ lines) asks = All-cons IsEmpty [] lines refl (asks_none (n + 1) lines asks)
+asks_none n ((char ∷ l) ∷ lines) asks = absurd asks
 
 -- the line stands behind the later ones
 later_more : (lines blank later : List (List ℕ)) (first line : List ℕ) → lines ≡ blank ++ first ∷ later → lines ++ line ∷ [] ≡ blank ++ first ∷ (later ++ line ∷ [])
 later_more lines blank later first line whole = ap (λ (l : List (List ℕ)). l ++ line ∷ []) whole ∙ append_assoc blank (first ∷ later) (line ∷ [])
 
-pub blank_read : (lines : List (List ℕ)) (line : List ℕ) (screen : Option Size) (events : List Numbered) → line ≡ [] → ReadSoFar lines screen events → ReadSoFar (lines ++ line ∷ []) screen events
-blank_read lines line None events none read = (empty_more lines line read.0 none, read.1)
-blank_read lines line (Some size) events none read = record {
+all_blank : (n : ℕ) (lines : List (List ℕ)) (line : List ℕ) (wants : Option Wants) (steps : List Numbered) → line ≡ [] → AskForAll n lines wants steps → AskForAll n (lines ++ line ∷ []) wants steps
+all_blank n lines line None steps none asks = asks_blank n lines line steps none asks
+all_blank n lines line (Some wants) steps none asks = record {
+  blank = asks.blank;
+  second = asks.second;
+  later = asks.later ++ line ∷ [];
+  whole = later_more lines asks.blank asks.later asks.second line asks.whole;
+  blank_is = asks.blank_is;
+  wants_is = asks.wants_is;
+  steps_are = asks_blank (n + length asks.blank + 1) asks.later line steps none asks.steps_are;
+}
+
+all_more : (n : ℕ) (lines : List (List ℕ)) (line : List ℕ) (wants : Option Wants) (steps : List Numbered) (step : Numbered) → AskForAll n lines wants steps → step.line ≡ n + length lines → line ≢ [] → SaysStep (words_of line) step.step → AskForAll n (lines ++ line ∷ []) wants (steps ++ step ∷ [])
+all_more n lines line None steps step asks at some says = asks_more n (n + length lines) lines line steps step asks refl at some says
+all_more n lines line (Some wants) steps step asks at some says =
+    let size = ap (λ (l : List (List ℕ)). length l) asks.whole ∙ length-append asks.blank (asks.second ∷ asks.later) in
+    record {
+      blank = asks.blank;
+      second = asks.second;
+      later = asks.later ++ line ∷ [];
+      whole = later_more lines asks.blank asks.later asks.second line asks.whole;
+      blank_is = asks.blank_is;
+      wants_is = asks.wants_is;
+      steps_are = asks_more (n + length asks.blank + 1) (n + length lines) asks.later line steps step asks.steps_are (omega (arith, size)) at some says;
+    }
+
+all_wants : (n : ℕ) (lines : List (List ℕ)) (line : List ℕ) (wants : Wants) (steps : List Numbered) → steps ≡ [] → AskFor n lines steps → Says (words_of line) (Viewer wants) → AskBehind n (lines ++ line ∷ []) wants steps
+all_wants n lines line wants [] none asks says = record {
+  blank = lines;
+  second = line;
+  later = [];
+  whole = refl;
+  blank_is = asks_none n lines asks;
+  wants_is = says;
+  steps_are = tt;
+}
+all_wants n lines line wants (step ∷ steps) none asks says = absurd (cc)
+
+-- ---- one line more of a script
+
+pub blank_read : (lines : List (List ℕ)) (line : List ℕ) (screen : Option Size) (wants : Option Wants) (steps : List Numbered) → line ≡ [] → ReadSoFar lines screen wants steps → ReadSoFar (lines ++ line ∷ []) screen wants steps
+blank_read lines line None wants steps none read = (empty_more lines line read.0 none, read.1, read.2)
+blank_read lines line (Some size) wants steps none read = record {
   blank = read.blank;
   first = read.first;
   later = read.later ++ line ∷ [];
   whole = later_more lines read.blank read.later read.first line read.whole;
   blank_is = read.blank_is;
   size_is = read.size_is;
-  events_are = asks_blank (length read.blank + 2) read.later line events none read.events_are;
+  later_are = all_blank (length read.blank + 2) read.later line wants steps none read.later_are;
 }
 
-pub size_read : (lines : List (List ℕ)) (line : List ℕ) (size : Size) (events : List Numbered) → ReadSoFar lines None events → Says (words_of line) (Screen size) → AreScript (lines ++ line ∷ []) size events
-size_read lines line size events read says = record {
+pub size_read : (lines : List (List ℕ)) (line : List ℕ) (size : Size) (wants : Option Wants) (steps : List Numbered) → ReadSoFar lines None wants steps → Says (words_of line) (Screen size) → AreScript (lines ++ line ∷ []) size wants steps
+size_read lines line size wants steps read says = record {
   blank = lines;
   first = line;
   later = [];
   whole = refl;
   blank_is = read.0;
   size_is = says;
-  events_are = rw read.1 tt;
+  later_are = rw (read.1, read.2) tt;
 }
 
-pub event_read : (lines : List (List ℕ)) (line : List ℕ) (size : Size) (events : List Numbered) (event : Numbered) → AreScript lines size events → event.line ≡ length lines + 1 → line ≢ [] → SaysEvent (words_of line) event.event → AreScript (lines ++ line ∷ []) size (events ++ event ∷ [])
-event_read lines line size events event read at some says =
+pub wants_read : (lines : List (List ℕ)) (line : List ℕ) (size : Size) (wants : Wants) (steps : List Numbered) → steps ≡ [] → AreScript lines size None steps → Says (words_of line) (Viewer wants) → AreScript (lines ++ line ∷ []) size (Some wants) steps
+wants_read lines line size wants steps none read says = record {
+  blank = read.blank;
+  first = read.first;
+  later = read.later ++ line ∷ [];
+  whole = later_more lines read.blank read.later read.first line read.whole;
+  blank_is = read.blank_is;
+  size_is = read.size_is;
+  later_are = all_wants (length read.blank + 2) read.later line wants steps none read.later_are says;
+}
+
+pub step_read : (lines : List (List ℕ)) (line : List ℕ) (size : Size) (wants : Option Wants) (steps : List Numbered) (step : Numbered) → AreScript lines size wants steps → step.line ≡ length lines + 1 → line ≢ [] → SaysStep (words_of line) step.step → AreScript (lines ++ line ∷ []) size wants (steps ++ step ∷ [])
+step_read lines line size wants steps step read at some says =
     let size_of = ap (λ (l : List (List ℕ)). length l) read.whole ∙ length-append read.blank (read.first ∷ read.later) in
     record {
       blank = read.blank;
@@ -88,7 +143,7 @@ event_read lines line size events event read at some says =
       whole = later_more lines read.blank read.later read.first line read.whole;
       blank_is = read.blank_is;
       size_is = read.size_is;
-      events_are = asks_more (length read.blank + 2) (length lines + 1) read.later line events event read.events_are (omega (arith, size_of)) at some says;
+      later_are = all_more (length read.blank + 2) read.later line wants steps step read.later_are (at ∙ (omega (arith, size_of))) some says;
     }
 
 -- ---- a line that is bad
@@ -112,31 +167,45 @@ pub some_chars : (line : List ℕ) (b : Bool) → b ≡ (length line == 0) → b
 some_chars [] b is false_is none = let e : true ≡ false = sym is ∙ false_is in cc
 some_chars (char ∷ line) b is false_is none = cc
 
-pub turn_blank : (words : List (Bor (List ℕ))) (word : Bor (List ℕ)) (n : ℕ) (screen : Option Size) (events : List Numbered) → n ≡ length words → ReadSoFar (texts words) screen events → word.now ≡ [] → (n + 1 ≡ length (words ++ word ∷ [])) × ReadSoFar (texts (words ++ word ∷ [])) screen events
-turn_blank words word n screen events count read none =
-    (omega (arith, count, length_push words word), rw (texts_more words word) (blank_read (texts words) word.now screen events none read))
+pub no_steps : (steps : List Numbered) (b : Bool) → b ≡ (length steps == 0) → b ≡ true → steps ≡ []
+no_steps [] b is true_is = refl
+no_steps (step ∷ steps) b is true_is = let zero : length (step ∷ steps) ≡ 0 = grind (arith, nat_tests) in absurd (omega (arith, zero))
 
-pub turn_size : (words : List (Bor (List ℕ))) (word : Bor (List ℕ)) (n : ℕ) (screen : Option Size) (size : Size) (events : List Numbered) → n ≡ length words → ReadSoFar (texts words) screen events → is_some screen ≡ false → Says (words_of word.now) (Screen size) → (n + 1 ≡ length (words ++ word ∷ [])) × ReadSoFar (texts (words ++ word ∷ [])) (Some size) events
-turn_size words word n None size events count read none says =
-    (omega (arith, count, length_push words word), rw (texts_more words word) (size_read (texts words) word.now size events read says))
-turn_size words word n (Some other) size events count read none says = absurd (cc)
+pub turn_blank : (words : List (Bor (List ℕ))) (word : Bor (List ℕ)) (n : ℕ) (screen : Option Size) (wants : Option Wants) (steps : List Numbered) → n ≡ length words → ReadSoFar (texts words) screen wants steps → word.now ≡ [] → (n + 1 ≡ length (words ++ word ∷ [])) × ReadSoFar (texts (words ++ word ∷ [])) screen wants steps
+turn_blank words word n screen wants steps count read none =
+    (omega (arith, count, length_push words word), rw (texts_more words word) (blank_read (texts words) word.now screen wants steps none read))
 
-pub turn_event : (words : List (Bor (List ℕ))) (word : Bor (List ℕ)) (n : ℕ) (screen : Option Size) (events : List Numbered) (event : PairEvent) → n ≡ length words → ReadSoFar (texts words) screen events → is_some screen ≡ true → word.now ≢ [] → SaysEvent (words_of word.now) event
-    → (n + 1 ≡ length (words ++ word ∷ [])) × ReadSoFar (texts (words ++ word ∷ [])) screen (events ++ (record { line = n + 1; event = event }) ∷ [])
-turn_event words word n None events event count read begun some says = absurd (cc)
-turn_event words word n (Some size) events event count read begun some says =
-    let at : n + 1 ≡ length (texts words) + 1 = omega (arith, count, texts_length words) in
-    (omega (arith, count, length_push words word), rw (texts_more words word) (event_read (texts words) word.now size events (record { line = n + 1; event = event }) read at some says))
+pub turn_size : (words : List (Bor (List ℕ))) (word : Bor (List ℕ)) (n : ℕ) (screen : Option Size) (size : Size) (wants : Option Wants) (steps : List Numbered) → n ≡ length words → ReadSoFar (texts words) screen wants steps → is_some screen ≡ false → Says (words_of word.now) (Screen size) → (n + 1 ≡ length (words ++ word ∷ [])) × ReadSoFar (texts (words ++ word ∷ [])) (Some size) wants steps
+turn_size words word n None size wants steps count read none says =
+    (omega (arith, count, length_push words word), rw (texts_more words word) (size_read (texts words) word.now size wants steps read says))
+turn_size words word n (Some other) size wants steps count read none says = absurd (cc)
+
+pub turn_wants : (words : List (Bor (List ℕ))) (word : Bor (List ℕ)) (n : ℕ) (screen : Option Size) (old : Option Wants) (wants : Wants) (steps : List Numbered) → n ≡ length words → ReadSoFar (texts words) screen old steps → is_some screen ≡ true → is_some old ≡ false → steps ≡ [] → Says (words_of word.now) (Viewer wants) → (n + 1 ≡ length (words ++ word ∷ [])) × ReadSoFar (texts (words ++ word ∷ [])) screen (Some wants) steps
+turn_wants words word n None old wants steps count read begun none bare says = absurd (cc)
+turn_wants words word n (Some size) None wants steps count read begun none bare says =
+    (omega (arith, count, length_push words word), rw (texts_more words word) (wants_read (texts words) word.now size wants steps bare read says))
+turn_wants words word n (Some size) (Some old) wants steps count read begun none bare says = absurd (cc)
+
+pub turn_step : (words : List (Bor (List ℕ))) (word : Bor (List ℕ)) (n : ℕ) (screen : Option Size) (wants : Option Wants) (steps : List Numbered) (step : Numbered) → n ≡ length words → ReadSoFar (texts words) screen wants steps → is_some screen ≡ true → word.now ≢ [] → step.line ≡ n + 1 → SaysStep (words_of word.now) step.step
+    → (n + 1 ≡ length (words ++ word ∷ [])) × ReadSoFar (texts (words ++ word ∷ [])) screen wants (steps ++ step ∷ [])
+turn_step words word n None wants steps step count read begun some at says = absurd (cc)
+turn_step words word n (Some size) wants steps step count read begun some at says =
+    (omega (arith, count, length_push words word), rw (texts_more words word) (step_read (texts words) word.now size wants steps step read (at ∙ (omega (arith, count, texts_length words))) some says))
+
+-- the same without the count
+pub step_so_far : (words : List (Bor (List ℕ))) (word : Bor (List ℕ)) (n : ℕ) (screen : Option Size) (wants : Option Wants) (steps : List Numbered) (step : Numbered) → n ≡ length words → ReadSoFar (texts words) screen wants steps → is_some screen ≡ true → word.now ≢ [] → step.line ≡ n + 1 → SaysStep (words_of word.now) step.step
+    → ReadSoFar (texts (words ++ word ∷ [])) screen wants (steps ++ step ∷ [])
+step_so_far words word n screen wants steps step count read begun some at says = (turn_step words word n screen wants steps step count read begun some at says).1
 
 -- ---- what is answered to a line that is bad
 
-pub bad_size : (lines : List (List ℕ)) (line : List ℕ) (screen : Option Size) (events : List Numbered) → line ≢ [] → ReadSoFar lines screen events → is_some screen ≡ false → ¬ (GivesSize line) → IsBadBehind lines line
-bad_size lines line None events some read none not = (some, inl (read.0, not))
-bad_size lines line (Some size) events some read none not = absurd (cc)
+pub bad_size : (lines : List (List ℕ)) (line : List ℕ) (screen : Option Size) (wants : Option Wants) (steps : List Numbered) → line ≢ [] → ReadSoFar lines screen wants steps → is_some screen ≡ false → ¬ (GivesSize line) → IsBadBehind lines line
+bad_size lines line None wants steps some read none not = (some, inl (read.0, not))
+bad_size lines line (Some size) wants steps some read none not = absurd (cc)
 
-pub bad_event : (lines : List (List ℕ)) (line : List ℕ) (screen : Option Size) (events : List Numbered) → line ≢ [] → ReadSoFar lines screen events → is_some screen ≡ true → ¬ (AsksForEvent line) → IsBadBehind lines line
-bad_event lines line None events some read begun not = absurd (cc)
-bad_event lines line (Some size) events some read begun not = (some, inr ((size, events, read), not))
+pub bad_step : (lines : List (List ℕ)) (line : List ℕ) (screen : Option Size) (wants : Option Wants) (steps : List Numbered) → line ≢ [] → ReadSoFar lines screen wants steps → is_some screen ≡ true → IsNoMore wants steps line → IsBadBehind lines line
+bad_step lines line None wants steps some read begun not = absurd (cc)
+bad_step lines line (Some size) wants steps some read begun not = (some, inr (size, wants, steps, read, not))
 
 -- the line under way is the first bad one
 pub first_bad : (all : List (List ℕ)) (words : List (Bor (List ℕ))) (word : Bor (List ℕ)) (n : ℕ) → texts words ≡ take (length words) all → (length words < length all) × (word.now ≡ get_or all (length words) word.now) → n ≡ length words → IsBadBehind (texts words) word.now → IsFirstBad all (n + 1)

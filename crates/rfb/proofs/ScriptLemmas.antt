@@ -1,129 +1,343 @@
--- Words of a line, one by one.
-use Rattle.std.proofs.Common.{◌≡◌, ◌<◌, ◌≤◌, ◌↔◌, ◌∙◌, ap, sym, refl, Bool, true, false, inl, inr, length, ℕ, List, [], ◌∷◌, Bor, slice_index_or, arith, codes}
+-- Words of a line, one by one: which lines a keyword can begin.
+use Rattle.std.proofs.Common.{◌==◌, zero, suc, Option, Some, None, MatchOption, ◌≡◌, ◌≢◌, ◌<◌, ◌≤◌, ◌+◌, ◌⊎◌, ◌↔◌, ◌∙◌, ap, sym, refl, subst, Bool, true, false, inl, inr, length, ℕ, List, [], ◌∷◌, Bor, slice_index_or, arith, codes}
 use Rattle.std.specs.Str.{bytes_eq}
 use Rattle.std.proofs.lemmas.Bool.{cases_lt}
+use Rattle.std.proofs.lemmas.Bool.Decides.{nat_tests}
 use Rattle.std.proofs.lemmas.Slice.Eq.{bytes_eq-Decides}
-use Rattle.std.specs.Str.Parse.{digits_value}
 use Rattle.rfb_picture.specs.declared.rect.Rect.{Rect}
 use Rattle.rfb_pixel.specs.declared.colour.Colour.{Colour}
-use Rattle.rfb.specs.declared.pair.event.PairEvent.TheVariants.{Fill, Request, Compose, Settle}
+use Rattle.rfb_pixel.specs.Format.{PixelFormat}
+use Rattle.rfb_session.specs.declared.event.Event.{Event}
+use Rattle.rfb_session.specs.declared.event.Event.TheVariants.{Fill, Put, Copy, Hint, Request, SetFormat, SetEncodings, Key, Pointer, CutText, Compose, ToServer, ToViewer}
+use Rattle.rfb.specs.declared.script.line.Screen.{Screen as Size}
+use Rattle.rfb.specs.declared.script.line.Wants.{Wants}
+use Rattle.rfb.specs.declared.script.line.Step.{Step as ScriptStep}
+use Rattle.rfb.specs.declared.script.line.Step.TheVariants.{Event as OneEvent, Settle}
 use Rattle.rfb.specs.declared.script.line.Line.{Line}
-use Rattle.rfb.specs.declared.script.line.Line.TheVariants.{Screen, Event}
-use Rattle.rfb.specs.Script.{AreRect, IsColourWord, IsSide, Says, SaysNothing, texts}
+use Rattle.rfb.specs.declared.script.line.Line.TheVariants.{Screen, Viewer, Step}
+use Rattle.rfb.specs.Words.{AreFill, AreMove, AreRequest, AreSize, AreWants, IsCountAlone, IsFormatAlone, texts}
+use Rattle.rfb.specs.Few.{HasFew}
+use Rattle.rfb.specs.Script.{Says, SaysEvent, SaysNothing, SaysStep}
 
--- the word at an index
-abbrev pub word : List (Bor (List ℕ)) → ℕ → Bor (List ℕ) → List ℕ
-word words i d = (slice_index_or words i d).now
+-- ---- a keyword
 
-pub is_word : (words : List (Bor (List ℕ))) (i : ℕ) (d : Bor (List ℕ)) (key : List ℕ) → bytes_eq (word words i d) key ≡ true → word words i d ≡ key
-is_word words i d key same = (bytes_eq-Decides (word words i d) key).0 same
+pub same_word : (a b : List ℕ) → bytes_eq a b ≡ true → a ≡ b
+same_word a b same = (bytes_eq-Decides a b).0 same
 
-pub one_word : (words : List (Bor (List ℕ))) (d : Bor (List ℕ)) (key : List ℕ) → length words ≡ 1 → bytes_eq (word words 0 d) key ≡ true → texts words ≡ key ∷ []
-one_word [] d key e same = absurd (omega arith)
-one_word (a ∷ []) d key e same = ap (λ w. w ∷ []) ((bytes_eq-Decides a.now key).0 same)
-one_word (a ∷ b ∷ rest) d key e same = absurd (omega arith)
+pub other_word : (a b : List ℕ) → bytes_eq a b ≡ false → a ≢ b
+other_word a b other e = let same : bytes_eq a b ≡ true = (bytes_eq-Decides a b).1 e in cc
 
-pub three_words : (words : List (Bor (List ℕ))) (d : Bor (List ℕ)) → length words ≡ 3 → texts words ≡ word words 0 d ∷ word words 1 d ∷ word words 2 d ∷ []
-three_words [] d e = absurd (omega arith)
-three_words (a ∷ []) d e = absurd (omega arith)
-three_words (a ∷ b ∷ []) d e = absurd (omega arith)
-three_words (a ∷ b ∷ c ∷ []) d e = refl
-three_words (a ∷ b ∷ c ∷ x ∷ rest) d e = absurd (omega arith)
+pub texts_length : (words : List (Bor (List ℕ))) → length (texts words) ≡ length words
+texts_length [] = refl
+texts_length (w ∷ words) = omega (arith, texts_length words)
 
-pub six_words : (words : List (Bor (List ℕ))) (d : Bor (List ℕ)) → length words ≡ 6
-    → texts words ≡ word words 0 d ∷ word words 1 d ∷ word words 2 d ∷ word words 3 d ∷ word words 4 d ∷ word words 5 d ∷ []
-six_words [] d e = absurd (omega arith)
-six_words (a ∷ []) d e = absurd (omega arith)
-six_words (a ∷ b ∷ []) d e = absurd (omega arith)
-six_words (a ∷ b ∷ c ∷ []) d e = absurd (omega arith)
-six_words (a ∷ b ∷ c ∷ x ∷ []) d e = absurd (omega arith)
-six_words (a ∷ b ∷ c ∷ x ∷ y ∷ []) d e = absurd (omega arith)
-six_words (a ∷ b ∷ c ∷ x ∷ y ∷ z ∷ []) d e = refl
-six_words (a ∷ b ∷ c ∷ x ∷ y ∷ z ∷ v ∷ rest) d e = absurd (omega arith)
+pub no_texts : (words : List (Bor (List ℕ))) → length words ≡ 0 → texts words ≡ []
+no_texts [] none = refl
+no_texts (w ∷ words) none = absurd (omega arith)
 
-pub screen_said : (words : List (Bor (List ℕ))) (d : Bor (List ℕ)) (width height : ℕ) → length words ≡ 3 → bytes_eq (word words 0 d) (codes "screen") ≡ true
-    → width ≡ digits_value 10 (word words 1 d) → height ≡ digits_value 10 (word words 2 d)
-    → IsSide (word words 1 d) → IsSide (word words 2 d)
-    → (w h : List ℕ) × (texts words ≡ codes "screen" ∷ w ∷ h ∷ []) × ((IsSide w × IsSide h) × (width ≡ digits_value 10 w) × (height ≡ digits_value 10 h))
-screen_said words d width height len key w h wide high =
-    let said = three_words words d len ∙ ap (λ k. k ∷ word words 1 d ∷ word words 2 d ∷ []) (is_word words 0 d _ key) in
-    (word words 1 d, word words 2 d, said, ((wide, high), w, h))
+pub empty_of : (n : ℕ) (b : Bool) → b ≡ (n == 0) → b ≡ true → n ≡ 0
+empty_of n b is holds = grind (arith, nat_tests)
 
-pub fill_said : (words : List (Bor (List ℕ))) (d : Bor (List ℕ)) (rect : Rect) (colour : Colour) → length words ≡ 6 → bytes_eq (word words 0 d) (codes "fill") ≡ true
-    → AreRect (word words 1 d) (word words 2 d) (word words 3 d) (word words 4 d) rect → IsColourWord (word words 5 d) colour → Says (texts words) (Event (Fill rect colour))
-fill_said words d rect colour len key are is =
-    let said = six_words words d len ∙ ap (λ k. k ∷ word words 1 d ∷ word words 2 d ∷ word words 3 d ∷ word words 4 d ∷ word words 5 d ∷ []) (is_word words 0 d _ key) in
-    (word words 1 d, word words 2 d, word words 3 d, word words 4 d, word words 5 d, said, are, is)
+pub some_of : (n : ℕ) (b : Bool) → b ≡ (n == 0) → b ≡ false → n ≡ 0 → ⊥
+some_of zero b is fails none = let e : true ≡ false = sym is ∙ fails in cc
+some_of (suc n) b is fails none = absurd (omega arith)
 
-pub request_said : (words : List (Bor (List ℕ))) (d : Bor (List ℕ)) (rect : Rect) → length words ≡ 6 → bytes_eq (word words 0 d) (codes "request") ≡ true
-    → bytes_eq (word words 1 d) (codes "full") ≡ true
-    → AreRect (word words 2 d) (word words 3 d) (word words 4 d) (word words 5 d) rect → Says (texts words) (Event (Request rect))
-request_said words d rect len key whole are =
-    let rest = word words 2 d ∷ word words 3 d ∷ word words 4 d ∷ word words 5 d ∷ [] in
-    let said = six_words words d len ∙ ap (λ k. k ∷ word words 1 d ∷ rest) (is_word words 0 d _ key) ∙ ap (λ k. codes "request" ∷ k ∷ rest) (is_word words 1 d _ whole) in
-    (word words 2 d, word words 3 d, word words 4 d, word words 5 d, said, are)
+-- ---- words of lines that are the same
 
--- words that begin as a drawing, and are none
-pub no_fill : (words : List (Bor (List ℕ))) (d : Bor (List ℕ)) → length words ≡ 6 → bytes_eq (word words 0 d) (codes "fill") ≡ true
-    → ((rect : Rect) (colour : Colour) → AreRect (word words 1 d) (word words 2 d) (word words 3 d) (word words 4 d) rect → IsColourWord (word words 5 d) colour → ⊥) → SaysNothing (texts words)
-no_fill words d len key none = go
+pub heads : (a b : List ℕ) (x y : List (List ℕ)) → a ∷ x ≡ b ∷ y → a ≡ b
+heads a b x y e = cc
+
+pub tails : (a b : List ℕ) (x y : List (List ℕ)) → a ∷ x ≡ b ∷ y → y ≡ x
+tails a b x y e = cc
+
+pub nothing : (a : List ℕ) (x : List (List ℕ)) → [] ≡ a ∷ x → ⊥
+nothing a x e = cc
+
+-- two keywords that differ
+apart : (a b : List ℕ) (x y : List (List ℕ)) → bytes_eq a b ≡ false → a ∷ x ≡ b ∷ y → ⊥
+apart a b x y other e = other_word a b other (heads a b x y e)
+
+-- ---- the events of a keyword
+
+pub only_fill : (rest : List (List ℕ)) → ((rect : Rect) (colour : Colour) → ¬ (AreFill rest rect colour)) → (event : Event) → ¬ (SaysEvent (codes "fill" ∷ rest) event)
+only_fill rest none (Fill rect colour) said =
+    let e = tails _ _ rest said.0 said.1 in none rect colour (subst (λ (r : List (List ℕ)). AreFill r rect colour) e said.2)
+only_fill rest none (Copy rect sx sy) said = apart (codes "fill") (codes "copy") rest said.0 refl said.1
+only_fill rest none (Hint rect sx sy) said = apart (codes "fill") (codes "hint") rest said.0 refl said.1
+only_fill rest none (Request incremental rect) said = apart (codes "fill") (codes "request") rest said.0 refl said.1
+only_fill rest none (SetFormat format) said = apart (codes "fill") (codes "format") rest said.0 refl said.1
+only_fill rest none (ToServer n) said = apart (codes "fill") (codes "toserver") rest said.0 refl said.1
+only_fill rest none (ToViewer n) said = apart (codes "fill") (codes "toviewer") rest said.0 refl said.1
+only_fill rest none Compose said = apart (codes "fill") (codes "compose") rest [] refl said
+only_fill rest none (Put x y row) said = absurd said
+only_fill rest none (SetEncodings encodings) said = absurd said
+only_fill rest none (Key down key) said = absurd said
+only_fill rest none (Pointer buttons x y) said = absurd said
+only_fill rest none (CutText text) said = absurd said
+
+pub only_copy : (rest : List (List ℕ)) → ((rect : Rect) (sx sy : ℕ) → ¬ (AreMove rest rect sx sy)) → (event : Event) → ¬ (SaysEvent (codes "copy" ∷ rest) event)
+only_copy rest none (Fill rect colour) said = apart (codes "copy") (codes "fill") rest said.0 refl said.1
+only_copy rest none (Copy rect sx sy) said =
+    let e = tails _ _ rest said.0 said.1 in none rect sx sy (subst (λ (r : List (List ℕ)). AreMove r rect sx sy) e said.2)
+only_copy rest none (Hint rect sx sy) said = apart (codes "copy") (codes "hint") rest said.0 refl said.1
+only_copy rest none (Request incremental rect) said = apart (codes "copy") (codes "request") rest said.0 refl said.1
+only_copy rest none (SetFormat format) said = apart (codes "copy") (codes "format") rest said.0 refl said.1
+only_copy rest none (ToServer n) said = apart (codes "copy") (codes "toserver") rest said.0 refl said.1
+only_copy rest none (ToViewer n) said = apart (codes "copy") (codes "toviewer") rest said.0 refl said.1
+only_copy rest none Compose said = apart (codes "copy") (codes "compose") rest [] refl said
+only_copy rest none (Put x y row) said = absurd said
+only_copy rest none (SetEncodings encodings) said = absurd said
+only_copy rest none (Key down key) said = absurd said
+only_copy rest none (Pointer buttons x y) said = absurd said
+only_copy rest none (CutText text) said = absurd said
+
+pub only_hint : (rest : List (List ℕ)) → ((rect : Rect) (sx sy : ℕ) → ¬ (AreMove rest rect sx sy)) → (event : Event) → ¬ (SaysEvent (codes "hint" ∷ rest) event)
+only_hint rest none (Fill rect colour) said = apart (codes "hint") (codes "fill") rest said.0 refl said.1
+only_hint rest none (Copy rect sx sy) said = apart (codes "hint") (codes "copy") rest said.0 refl said.1
+only_hint rest none (Hint rect sx sy) said =
+    let e = tails _ _ rest said.0 said.1 in none rect sx sy (subst (λ (r : List (List ℕ)). AreMove r rect sx sy) e said.2)
+only_hint rest none (Request incremental rect) said = apart (codes "hint") (codes "request") rest said.0 refl said.1
+only_hint rest none (SetFormat format) said = apart (codes "hint") (codes "format") rest said.0 refl said.1
+only_hint rest none (ToServer n) said = apart (codes "hint") (codes "toserver") rest said.0 refl said.1
+only_hint rest none (ToViewer n) said = apart (codes "hint") (codes "toviewer") rest said.0 refl said.1
+only_hint rest none Compose said = apart (codes "hint") (codes "compose") rest [] refl said
+only_hint rest none (Put x y row) said = absurd said
+only_hint rest none (SetEncodings encodings) said = absurd said
+only_hint rest none (Key down key) said = absurd said
+only_hint rest none (Pointer buttons x y) said = absurd said
+only_hint rest none (CutText text) said = absurd said
+
+pub only_request : (rest : List (List ℕ)) → ((incremental : Bool) (rect : Rect) → ¬ (AreRequest rest incremental rect)) → (event : Event) → ¬ (SaysEvent (codes "request" ∷ rest) event)
+only_request rest none (Fill rect colour) said = apart (codes "request") (codes "fill") rest said.0 refl said.1
+only_request rest none (Copy rect sx sy) said = apart (codes "request") (codes "copy") rest said.0 refl said.1
+only_request rest none (Hint rect sx sy) said = apart (codes "request") (codes "hint") rest said.0 refl said.1
+only_request rest none (Request incremental rect) said =
+    let e = tails _ _ rest said.0 said.1 in none incremental rect (subst (λ (r : List (List ℕ)). AreRequest r incremental rect) e said.2)
+only_request rest none (SetFormat format) said = apart (codes "request") (codes "format") rest said.0 refl said.1
+only_request rest none (ToServer n) said = apart (codes "request") (codes "toserver") rest said.0 refl said.1
+only_request rest none (ToViewer n) said = apart (codes "request") (codes "toviewer") rest said.0 refl said.1
+only_request rest none Compose said = apart (codes "request") (codes "compose") rest [] refl said
+only_request rest none (Put x y row) said = absurd said
+only_request rest none (SetEncodings encodings) said = absurd said
+only_request rest none (Key down key) said = absurd said
+only_request rest none (Pointer buttons x y) said = absurd said
+only_request rest none (CutText text) said = absurd said
+
+pub only_format : (rest : List (List ℕ)) → ((format : PixelFormat) → ¬ (IsFormatAlone rest format)) → (event : Event) → ¬ (SaysEvent (codes "format" ∷ rest) event)
+only_format rest none (Fill rect colour) said = apart (codes "format") (codes "fill") rest said.0 refl said.1
+only_format rest none (Copy rect sx sy) said = apart (codes "format") (codes "copy") rest said.0 refl said.1
+only_format rest none (Hint rect sx sy) said = apart (codes "format") (codes "hint") rest said.0 refl said.1
+only_format rest none (Request incremental rect) said = apart (codes "format") (codes "request") rest said.0 refl said.1
+only_format rest none (SetFormat format) said =
+    let e = tails _ _ rest said.0 said.1 in none format (subst (λ (r : List (List ℕ)). IsFormatAlone r format) e said.2)
+only_format rest none (ToServer n) said = apart (codes "format") (codes "toserver") rest said.0 refl said.1
+only_format rest none (ToViewer n) said = apart (codes "format") (codes "toviewer") rest said.0 refl said.1
+only_format rest none Compose said = apart (codes "format") (codes "compose") rest [] refl said
+only_format rest none (Put x y row) said = absurd said
+only_format rest none (SetEncodings encodings) said = absurd said
+only_format rest none (Key down key) said = absurd said
+only_format rest none (Pointer buttons x y) said = absurd said
+only_format rest none (CutText text) said = absurd said
+
+pub only_toserver : (rest : List (List ℕ)) → ((n : ℕ) → ¬ (IsCountAlone rest n)) → (event : Event) → ¬ (SaysEvent (codes "toserver" ∷ rest) event)
+only_toserver rest none (Fill rect colour) said = apart (codes "toserver") (codes "fill") rest said.0 refl said.1
+only_toserver rest none (Copy rect sx sy) said = apart (codes "toserver") (codes "copy") rest said.0 refl said.1
+only_toserver rest none (Hint rect sx sy) said = apart (codes "toserver") (codes "hint") rest said.0 refl said.1
+only_toserver rest none (Request incremental rect) said = apart (codes "toserver") (codes "request") rest said.0 refl said.1
+only_toserver rest none (SetFormat format) said = apart (codes "toserver") (codes "format") rest said.0 refl said.1
+only_toserver rest none (ToServer n) said =
+    let e = tails _ _ rest said.0 said.1 in none n (subst (λ (r : List (List ℕ)). IsCountAlone r n) e said.2)
+only_toserver rest none (ToViewer n) said = apart (codes "toserver") (codes "toviewer") rest said.0 refl said.1
+only_toserver rest none Compose said = apart (codes "toserver") (codes "compose") rest [] refl said
+only_toserver rest none (Put x y row) said = absurd said
+only_toserver rest none (SetEncodings encodings) said = absurd said
+only_toserver rest none (Key down key) said = absurd said
+only_toserver rest none (Pointer buttons x y) said = absurd said
+only_toserver rest none (CutText text) said = absurd said
+
+pub only_toviewer : (rest : List (List ℕ)) → ((n : ℕ) → ¬ (IsCountAlone rest n)) → (event : Event) → ¬ (SaysEvent (codes "toviewer" ∷ rest) event)
+only_toviewer rest none (Fill rect colour) said = apart (codes "toviewer") (codes "fill") rest said.0 refl said.1
+only_toviewer rest none (Copy rect sx sy) said = apart (codes "toviewer") (codes "copy") rest said.0 refl said.1
+only_toviewer rest none (Hint rect sx sy) said = apart (codes "toviewer") (codes "hint") rest said.0 refl said.1
+only_toviewer rest none (Request incremental rect) said = apart (codes "toviewer") (codes "request") rest said.0 refl said.1
+only_toviewer rest none (SetFormat format) said = apart (codes "toviewer") (codes "format") rest said.0 refl said.1
+only_toviewer rest none (ToServer n) said = apart (codes "toviewer") (codes "toserver") rest said.0 refl said.1
+only_toviewer rest none (ToViewer n) said =
+    let e = tails _ _ rest said.0 said.1 in none n (subst (λ (r : List (List ℕ)). IsCountAlone r n) e said.2)
+only_toviewer rest none Compose said = apart (codes "toviewer") (codes "compose") rest [] refl said
+only_toviewer rest none (Put x y row) said = absurd said
+only_toviewer rest none (SetEncodings encodings) said = absurd said
+only_toviewer rest none (Key down key) said = absurd said
+only_toviewer rest none (Pointer buttons x y) said = absurd said
+only_toviewer rest none (CutText text) said = absurd said
+
+-- another keyword has none
+pub no_event : (key : List ℕ) (rest : List (List ℕ)) → key ≢ codes "fill" → key ≢ codes "copy" → key ≢ codes "hint" → key ≢ codes "request" → key ≢ codes "format" → key ≢ codes "toserver" → key ≢ codes "toviewer" → ((key ≡ codes "compose") → (rest ≡ []) → ⊥) → (event : Event) → ¬ (SaysEvent (key ∷ rest) event)
+no_event key rest nf nc nh nr nm ns nv ncompose (Fill rect colour) said = nf (heads key _ rest said.0 said.1)
+no_event key rest nf nc nh nr nm ns nv ncompose (Copy rect sx sy) said = nc (heads key _ rest said.0 said.1)
+no_event key rest nf nc nh nr nm ns nv ncompose (Hint rect sx sy) said = nh (heads key _ rest said.0 said.1)
+no_event key rest nf nc nh nr nm ns nv ncompose (Request incremental rect) said = nr (heads key _ rest said.0 said.1)
+no_event key rest nf nc nh nr nm ns nv ncompose (SetFormat format) said = nm (heads key _ rest said.0 said.1)
+no_event key rest nf nc nh nr nm ns nv ncompose (ToServer n) said = ns (heads key _ rest said.0 said.1)
+no_event key rest nf nc nh nr nm ns nv ncompose (ToViewer n) said = nv (heads key _ rest said.0 said.1)
+no_event key rest nf nc nh nr nm ns nv ncompose Compose said = ncompose (heads key _ rest [] said) (sym (tails key _ rest [] said))
+no_event key rest nf nc nh nr nm ns nv ncompose (Put x y row) said = absurd said
+no_event key rest nf nc nh nr nm ns nv ncompose (SetEncodings encodings) said = absurd said
+no_event key rest nf nc nh nr nm ns nv ncompose (Key down code) said = absurd said
+no_event key rest nf nc nh nr nm ns nv ncompose (Pointer buttons x y) said = absurd said
+no_event key rest nf nc nh nr nm ns nv ncompose (CutText text) said = absurd said
+
+-- a word that is a keyword has the events of it
+pub no_event_of : (key word : List ℕ) (rest : List (List ℕ)) → bytes_eq key word ≡ true → ((event : Event) → ¬ (SaysEvent (word ∷ rest) event)) → (event : Event) → ¬ (SaysEvent (key ∷ rest) event)
+no_event_of key word rest same none = subst (λ (k : List ℕ). (event : Event) → ¬ (SaysEvent (k ∷ rest) event)) (sym (same_word key word same)) none
+
+-- a word alone
+pub alone : (key word : List ℕ) (rest : List (Bor (List ℕ))) → bytes_eq key word ≡ true → length rest ≡ 0 → key ∷ texts rest ≡ word ∷ []
+alone key word rest same none = rw (same_word key word same, no_texts rest none) refl
+
+-- ---- the lines of a keyword
+
+pub only_screen : (rest : List (List ℕ)) → ((size : Size) → ¬ (AreSize rest size)) → SaysNothing (codes "screen" ∷ rest)
+only_screen rest none (Screen size) said =
+    let e = tails _ _ rest said.0 said.1 in none size (subst (λ (r : List (List ℕ)). AreSize r size) e said.2)
+only_screen rest none (Viewer wants) said = apart (codes "screen") (codes "viewer") rest said.0 refl said.1
+only_screen rest none (Step (OneEvent event)) said = no_event (codes "screen") rest (other_word (codes "screen") (codes "fill") refl) (other_word (codes "screen") (codes "copy") refl) (other_word (codes "screen") (codes "hint") refl) (other_word (codes "screen") (codes "request") refl) (other_word (codes "screen") (codes "format") refl) (other_word (codes "screen") (codes "toserver") refl) (other_word (codes "screen") (codes "toviewer") refl) (λ e n. other_word (codes "screen") (codes "compose") refl e) event said
+only_screen rest none (Step Settle) said = apart (codes "screen") (codes "settle") rest [] refl said
+
+pub only_viewer : (rest : List (List ℕ)) → ((wants : Wants) → ¬ (AreWants rest wants)) → SaysNothing (codes "viewer" ∷ rest)
+only_viewer rest none (Screen size) said = apart (codes "viewer") (codes "screen") rest said.0 refl said.1
+only_viewer rest none (Viewer wants) said =
+    let e = tails _ _ rest said.0 said.1 in none wants (subst (λ (r : List (List ℕ)). AreWants r wants) e said.2)
+only_viewer rest none (Step (OneEvent event)) said = no_event (codes "viewer") rest (other_word (codes "viewer") (codes "fill") refl) (other_word (codes "viewer") (codes "copy") refl) (other_word (codes "viewer") (codes "hint") refl) (other_word (codes "viewer") (codes "request") refl) (other_word (codes "viewer") (codes "format") refl) (other_word (codes "viewer") (codes "toserver") refl) (other_word (codes "viewer") (codes "toviewer") refl) (λ e n. other_word (codes "viewer") (codes "compose") refl e) event said
+only_viewer rest none (Step Settle) said = apart (codes "viewer") (codes "settle") rest [] refl said
+
+pub only_settle : (rest : List (List ℕ)) → rest ≢ [] → SaysNothing (codes "settle" ∷ rest)
+only_settle rest some (Screen size) said = apart (codes "settle") (codes "screen") rest said.0 refl said.1
+only_settle rest some (Viewer wants) said = apart (codes "settle") (codes "viewer") rest said.0 refl said.1
+only_settle rest some (Step (OneEvent event)) said = no_event (codes "settle") rest (other_word (codes "settle") (codes "fill") refl) (other_word (codes "settle") (codes "copy") refl) (other_word (codes "settle") (codes "hint") refl) (other_word (codes "settle") (codes "request") refl) (other_word (codes "settle") (codes "format") refl) (other_word (codes "settle") (codes "toserver") refl) (other_word (codes "settle") (codes "toviewer") refl) (λ e n. other_word (codes "settle") (codes "compose") refl e) event said
+only_settle rest some (Step Settle) said = some (sym (tails _ _ rest [] said))
+
+pub only_event : (key : List ℕ) (rest : List (List ℕ)) → key ≢ codes "screen" → key ≢ codes "viewer" → key ≢ codes "settle" → ((event : Event) → ¬ (SaysEvent (key ∷ rest) event)) → SaysNothing (key ∷ rest)
+only_event key rest screen viewer settle none (Screen size) said = screen (heads key _ rest said.0 said.1)
+only_event key rest screen viewer settle none (Viewer wants) said = viewer (heads key _ rest said.0 said.1)
+only_event key rest screen viewer settle none (Step (OneEvent event)) said = none event said
+only_event key rest screen viewer settle none (Step Settle) said = settle (heads key _ rest [] said)
+
+-- no words say nothing
+pub no_words : SaysNothing []
+no_words (Screen size) said = nothing _ said.0 said.1
+no_words (Viewer wants) said = nothing _ said.0 said.1
+no_words (Step (OneEvent event)) said = silent event said
   where
-    e : texts words ≡ codes "fill" ∷ word words 1 d ∷ word words 2 d ∷ word words 3 d ∷ word words 4 d ∷ word words 5 d ∷ []
-    e = six_words words d len ∙ ap (λ k. k ∷ word words 1 d ∷ word words 2 d ∷ word words 3 d ∷ word words 4 d ∷ word words 5 d ∷ []) (is_word words 0 d _ key)
+    silent : (event : Event) → ¬ (SaysEvent [] event)
+    silent (Fill rect colour) said = nothing _ said.0 said.1
+    silent (Copy rect sx sy) said = nothing _ said.0 said.1
+    silent (Hint rect sx sy) said = nothing _ said.0 said.1
+    silent (Request incremental rect) said = nothing _ said.0 said.1
+    silent (SetFormat format) said = nothing _ said.0 said.1
+    silent (ToServer n) said = nothing _ said.0 said.1
+    silent (ToViewer n) said = nothing _ said.0 said.1
+    silent Compose said = nothing _ [] said
+    silent (Put x y row) said = absurd said
+    silent (SetEncodings encodings) said = absurd said
+    silent (Key down key) said = absurd said
+    silent (Pointer buttons x y) said = absurd said
+    silent (CutText text) said = absurd said
+no_words (Step Settle) said = nothing _ [] said
 
-    go : (line : Line) → Says (texts words) line → ⊥
-    go (Screen size) said = let f = sym e ∙ said.2 in cc
-    go (Event (Fill rect colour)) said =
-        let f = sym e ∙ said.5 in
-        let x : word words 1 d ≡ said.0 = cc in
-        let y : word words 2 d ≡ said.1 = cc in
-        let w : word words 3 d ≡ said.2 = cc in
-        let h : word words 4 d ≡ said.3 = cc in
-        let c : word words 5 d ≡ said.4 = cc in
-        none rect colour (rw (x, y, w, h) said.6) (rw c said.7)
-    go (Event (Request rect)) said = let f = sym e ∙ said.4 in cc
-    go (Event Compose) said = let f = sym e ∙ said in cc
-    go (Event Settle) said = let f = sym e ∙ said in cc
+-- ---- the words of a line by its first one
 
--- words that begin as a request, and are none
-pub no_request : (words : List (Bor (List ℕ))) (d : Bor (List ℕ)) → length words ≡ 6 → bytes_eq (word words 0 d) (codes "request") ≡ true
-    → bytes_eq (word words 1 d) (codes "full") ≡ true
-    → ((rect : Rect) → AreRect (word words 2 d) (word words 3 d) (word words 4 d) (word words 5 d) rect → ⊥) → SaysNothing (texts words)
-no_request words d len key whole none = go
-  where
-    rest : List (List ℕ)
-    rest = word words 2 d ∷ word words 3 d ∷ word words 4 d ∷ word words 5 d ∷ []
+pub words_are : (words : List (Bor (List ℕ))) (first : Bor (List ℕ)) (rest : List (Bor (List ℕ))) (key : List ℕ) → words ≡ first ∷ rest → bytes_eq first.now key ≡ true → texts words ≡ key ∷ texts rest
+words_are words first rest key e same =
+    ap (λ (ws : List (Bor (List ℕ))). texts ws) e ∙ ap (λ (k : List ℕ). k ∷ texts rest) (same_word first.now key same)
 
-    e : texts words ≡ codes "request" ∷ codes "full" ∷ word words 2 d ∷ word words 3 d ∷ word words 4 d ∷ word words 5 d ∷ []
-    e = six_words words d len ∙ ap (λ k. k ∷ word words 1 d ∷ rest) (is_word words 0 d _ key) ∙ ap (λ k. codes "request" ∷ k ∷ rest) (is_word words 1 d _ whole)
+pub line_none : (words : List (Bor (List ℕ))) (first : Bor (List ℕ)) (rest : List (Bor (List ℕ))) (key : List ℕ) → words ≡ first ∷ rest → bytes_eq first.now key ≡ true → SaysNothing (key ∷ texts rest) → SaysNothing (texts words)
+line_none words first rest key e same none = subst (λ (ws : List (List ℕ)). SaysNothing ws) (sym (words_are words first rest key e same)) none
 
-    go : (line : Line) → Says (texts words) line → ⊥
-    go (Screen size) said = let f = sym e ∙ said.2 in cc
-    go (Event (Fill rect colour)) said = let f = sym e ∙ said.5 in cc
-    go (Event (Request rect)) said =
-        let f = sym e ∙ said.4 in
-        let x : word words 2 d ≡ said.0 = cc in
-        let y : word words 3 d ≡ said.1 = cc in
-        let w : word words 4 d ≡ said.2 = cc in
-        let h : word words 5 d ≡ said.3 = cc in
-        none rect (rw (x, y, w, h) said.5)
-    go (Event Compose) said = let f = sym e ∙ said in cc
-    go (Event Settle) said = let f = sym e ∙ said in cc
+pub says_size : (words : List (Bor (List ℕ))) (first : Bor (List ℕ)) (rest : List (Bor (List ℕ))) → words ≡ first ∷ rest → bytes_eq first.now (codes "screen") ≡ true → (size : Size) → AreSize (texts rest) size → Says (texts words) (Screen size)
+says_size words first rest e same size are = (texts rest, words_are words first rest (codes "screen") e same, are)
 
--- No line has seven words.
-pub too_many_words : (words : List (List ℕ)) → 6 < length words → SaysNothing words
+pub says_wants : (words : List (Bor (List ℕ))) (first : Bor (List ℕ)) (rest : List (Bor (List ℕ))) → words ≡ first ∷ rest → bytes_eq first.now (codes "viewer") ≡ true → (wants : Wants) → AreWants (texts rest) wants → Says (texts words) (Viewer wants)
+says_wants words first rest e same wants are = (texts rest, words_are words first rest (codes "viewer") e same, are)
+
+pub says_settle : (words : List (Bor (List ℕ))) (first : Bor (List ℕ)) (rest : List (Bor (List ℕ))) → words ≡ first ∷ rest → bytes_eq first.now (codes "settle") ≡ true → length rest ≡ 0 → texts words ≡ codes "settle" ∷ []
+says_settle words first rest e same none =
+    words_are words first rest (codes "settle") e same ∙ ap (λ (r : List (List ℕ)). codes "settle" ∷ r) (no_texts rest none)
+
+-- some line of these words says what the viewer wants
+abbrev pub GiveWants : List (List ℕ) → Type 0
+GiveWants all = (wants : Wants) × Says all (Viewer wants)
+
+pub viewer_line : (all : List (List ℕ)) (words : List (Bor (List ℕ))) (first : Bor (List ℕ)) (rest : List (Bor (List ℕ))) → texts words ≡ all → words ≡ first ∷ rest → bytes_eq first.now (codes "viewer") ≡ true → (r : Option Wants) → MatchOption r ((wants : Wants) → ¬ (AreWants (texts rest) wants)) (AreWants (texts rest))
+    → MatchOption r (¬ (GiveWants all)) (λ wants. Says all (Viewer wants))
+viewer_line all words first rest is e same None none = λ gives.
+    only_viewer (texts rest) none (Viewer gives.0) (subst (λ (ws : List (List ℕ)). Says ws (Viewer gives.0)) (sym is ∙ words_are words first rest (codes "viewer") e same) gives.1)
+viewer_line all words first rest is e same (Some wants) are = (texts rest, sym is ∙ words_are words first rest (codes "viewer") e same, are)
+
+pub other_line : (all : List (List ℕ)) (words : List (Bor (List ℕ))) (first : Bor (List ℕ)) (rest : List (Bor (List ℕ))) → texts words ≡ all → words ≡ first ∷ rest → bytes_eq first.now (codes "viewer") ≡ false → ¬ (GiveWants all)
+other_line all words first rest is e other gives =
+    other_word first.now (codes "viewer") other (heads first.now (codes "viewer") (texts rest) gives.1.0 (sym (ap (λ (ws : List (Bor (List ℕ))). texts ws) e) ∙ is ∙ gives.1.1))
+
+pub no_line : (all : List (List ℕ)) (words : List (Bor (List ℕ))) → texts words ≡ all → length words ≡ 0 → ¬ (GiveWants all)
+no_line all words is none gives = nothing (codes "viewer") gives.1.0 (sym (no_texts words none) ∙ is ∙ gives.1.1)
+
+-- ---- no line has eight words
+
+-- so many words behind a keyword
+begins_length : (n : ℕ) (key : List ℕ) (words rest : List (List ℕ)) → words ≡ key ∷ rest → length rest ≤ n → length words ≤ n + 1
+begins_length n key words rest e few = let s = ap (λ (l : List (List ℕ)). length l) e in omega (arith, s, few)
+
+pub too_many_words : (words : List (List ℕ)) → 7 < length words → SaysNothing words
 too_many_words words many = go
   where
-    go : (line : Line) → Says words line → ⊥
-    go (Screen size) said = let e = ap (λ (l : List (List ℕ)). length l) said.2 in omega (arith, e)
-    go (Event (Fill rect colour)) said = let e = ap (λ (l : List (List ℕ)). length l) said.5 in omega (arith, e)
-    go (Event (Request rect)) said = let e = ap (λ (l : List (List ℕ)). length l) said.4 in omega (arith, e)
-    go (Event Compose) said = let e = ap (λ (l : List (List ℕ)). length l) said in omega (arith, e)
-    go (Event Settle) said = let e = ap (λ (l : List (List ℕ)). length l) said in omega (arith, e)
+    over : (key : List ℕ) (rest : List (List ℕ)) → words ≡ key ∷ rest → length rest ≤ 6 → ⊥
+    over key rest e few = let s = begins_length 6 key words rest e few in omega (arith, s, many)
 
--- A push is refused where there are six already.
-pub six_already : (n : ℕ) (pushed : Bool) → ((pushed ≡ true) ↔ (n < 6)) → false ≡ pushed → 6 ≤ n
-six_already n pushed fits refused = elim (cases_lt n 6) [
+    event_over : (event : Event) → ¬ (SaysEvent words event)
+    event_over (Fill rect colour) said = over (codes "fill") said.0 said.1 (let s = ap (λ (l : List (List ℕ)). length l) said.2.5 in omega (arith, s))
+    event_over (Copy rect sx sy) said = over (codes "copy") said.0 said.1 (let s = ap (λ (l : List (List ℕ)). length l) said.2.6 in omega (arith, s))
+    event_over (Hint rect sx sy) said = over (codes "hint") said.0 said.1 (let s = ap (λ (l : List (List ℕ)). length l) said.2.6 in omega (arith, s))
+    event_over (Request incremental rect) said = over (codes "request") said.0 said.1 (let s = ap (λ (l : List (List ℕ)). length l) said.2.4 in omega (arith, s))
+    event_over (SetFormat format) said = over (codes "format") said.0 said.1 (let s = ap (λ (l : List (List ℕ)). length l) said.2.1 in omega (arith, s))
+    event_over (ToServer n) said = over (codes "toserver") said.0 said.1 (let s = ap (λ (l : List (List ℕ)). length l) said.2.1 in omega (arith, s))
+    event_over (ToViewer n) said = over (codes "toviewer") said.0 said.1 (let s = ap (λ (l : List (List ℕ)). length l) said.2.1 in omega (arith, s))
+    event_over Compose said = over (codes "compose") [] said (omega arith)
+    event_over (Put x y row) said = absurd said
+    event_over (SetEncodings encodings) said = absurd said
+    event_over (Key down key) said = absurd said
+    event_over (Pointer buttons x y) said = absurd said
+    event_over (CutText text) said = absurd said
+
+    go : (line : Line) → ¬ (Says words line)
+    go (Screen size) said = over (codes "screen") said.0 said.1 (let s = ap (λ (l : List (List ℕ)). length l) said.2.2 in omega (arith, s))
+    go (Viewer wants) said = over (codes "viewer") said.0 said.1 (let s = ap (λ (l : List (List ℕ)). length l) said.2.2 in omega (arith, s, said.2.4.2))
+    go (Step (OneEvent event)) said = event_over event said
+    go (Step Settle) said = over (codes "settle") [] said (omega arith)
+
+-- a push is refused where there are seven already
+pub seven_already : (n : ℕ) (pushed : Bool) → ((pushed ≡ true) ↔ (n < 7)) → false ≡ pushed → 7 ≤ n
+seven_already n pushed fits refused = elim (cases_lt n 7) [
   | inl under ↦ let yes = fits.1 under in absurd (cc)
   | inr over ↦ over
 ]
+
+-- ---- no line cuts a text
+
+few_event : (words : List (List ℕ)) (event : Event) → SaysEvent words event → HasFew (OneEvent event)
+few_event words (Fill rect colour) said = omega arith
+few_event words (Copy rect sx sy) said = omega arith
+few_event words (Hint rect sx sy) said = omega arith
+few_event words (Request incremental rect) said = omega arith
+few_event words (SetFormat format) said = omega arith
+few_event words (SetEncodings encodings) said = omega arith
+few_event words (Key down code) said = omega arith
+few_event words (Pointer buttons x y) said = omega arith
+few_event words (Put x y row) said = omega arith
+few_event words Compose said = omega arith
+few_event words (ToServer n) said = omega arith
+few_event words (ToViewer n) said = omega arith
+few_event words (CutText text) said = absurd said
+
+pub few_step : (words : List (List ℕ)) (step : ScriptStep) → SaysStep words step → HasFew step
+few_step words (OneEvent event) said = few_event words event said
+few_step words Settle said = omega arith

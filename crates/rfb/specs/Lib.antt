@@ -1,9 +1,8 @@
 pub mod CommandLine
 pub mod Fault
-pub mod Messages
+pub mod Few
 pub mod Number
-pub mod Pair
-pub mod PairFields
 pub mod Pixmap
-pub mod Run
+pub mod Playing
 pub mod Script
+pub mod Words

@@ -11,3 +11,8 @@ IsDigits word = EachIndex word (λ k. IsInRange 48 57 (slice_index word k))
 abbrev pub IsNumber : List ℕ → Type 0
 IsNumber word =
     IsDigits word × (1 ≤ length word) × (length word ≤ 10) × (digits_value 10 word < 2 ^ 16)
+
+-- The same below 2 to the 32nd.
+abbrev pub IsCount : List ℕ → Type 0
+IsCount word =
+    IsDigits word × (1 ≤ length word) × (length word ≤ 10) × (digits_value 10 word < 2 ^ 32)

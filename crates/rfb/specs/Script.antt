@@ -1,21 +1,19 @@
 -- The language of scripts: what a line says, and which line of a text is bad.
-use Rattle.std.specs.Prelude.{◌≡◌, ◌≢◌, ◌==◌, ◌≤◌, ◌+◌, ◌⊎◌, ℕ, List, [], ◌∷◌, ◌++◌, All, Ok, codes, length, map}
-use Rattle.std.specs.Borrow.{Bor}
-use Rattle.std.specs.List.{AllPass, slice_split}
-use Rattle.std.specs.Str.Parse.{digits_value}
-use Rattle.hex.specs.Hex.{decode_of, is_hex_digit}
-use Rattle.rfb_picture.specs.declared.rect.Rect.{Rect}
-use Rattle.rfb_pixel.specs.declared.colour.Colour.{Colour}
-use Rattle.rfb.specs.declared.pair.event.PairEvent.{PairEvent}
-use Rattle.rfb.specs.declared.pair.event.PairEvent.TheVariants.{Fill, Request, Compose, Settle}
+use Rattle.std.specs.Prelude.{◌≡◌, ◌≢◌, ◌==◌, ◌≤◌, ◌+◌, ◌⊎◌, ℕ, List, [], ◌∷◌, ◌++◌, All, Option, Some, None, codes, length, map}
+use Rattle.std.specs.List.{slice_split}
+use Rattle.rfb_session.specs.declared.event.Event.{Event}
+use Rattle.rfb_session.specs.declared.event.Event.TheVariants.{Fill, Put, Copy, Hint, Request, SetFormat, SetEncodings, Key, Pointer, CutText, Compose, ToServer, ToViewer}
 use Rattle.rfb.specs.declared.fault.Failure.{Failure}
 use Rattle.rfb.specs.declared.fault.Failure.TheVariants.{BadLine, Fault}
 use Rattle.rfb.specs.declared.fault.Fault.TheVariants.{NoMemory}
-use Rattle.rfb.specs.declared.script.Numbered.{Numbered}
+use Rattle.rfb.specs.declared.script.line.Numbered.{Numbered}
 use Rattle.rfb.specs.declared.script.line.Screen.{Screen as Size}
+use Rattle.rfb.specs.declared.script.line.Wants.{Wants}
+use Rattle.rfb.specs.declared.script.line.Step.{Step as ScriptStep}
+use Rattle.rfb.specs.declared.script.line.Step.TheVariants.{Event as OneEvent, Settle}
 use Rattle.rfb.specs.declared.script.line.Line.{Line}
-use Rattle.rfb.specs.declared.script.line.Line.TheVariants.{Screen, Event}
-use Rattle.rfb.specs.Number.{IsNumber}
+use Rattle.rfb.specs.declared.script.line.Line.TheVariants.{Screen, Viewer, Step}
+use Rattle.rfb.specs.Words.{AreFill, AreMove, AreRequest, AreSize, AreWants, IsCountAlone, IsFormatAlone}
 
 -- the lines of a text, parted by newlines; the last one is empty where the text ends in one
 abbrev pub lines_of : List ℕ → List (List ℕ)
@@ -25,99 +23,127 @@ lines_of text = slice_split (λ byte. byte == 10) text
 abbrev pub words_of : List ℕ → List (List ℕ)
 words_of line = slice_split (λ byte. byte == 32) line
 
--- the words behind references to them
-abbrev pub texts : List (Bor (List ℕ)) → List (List ℕ)
-texts words = map (λ word. word.now) words
+-- ---- what a line says
 
--- the word is the number of a side of the screen
-abbrev pub IsSide : List ℕ → Type 0
-IsSide word = IsNumber word × (1 ≤ digits_value 10 word) × (digits_value 10 word ≤ 4096)
+-- the words are that one, and others behind it of which this holds
+abbrev pub Begins : List ℕ → List (List ℕ) → (List (List ℕ) → Type 0) → Type 0
+Begins keyword words Holds = (rest : List (List ℕ)) × (words ≡ keyword ∷ rest) × Holds rest
 
--- two words are the size of a screen
-abbrev pub AreSize : List ℕ → List ℕ → Size → Type 0
-AreSize w h size =
-    (IsSide w × IsSide h) × (size.width ≡ digits_value 10 w) × (size.height ≡ digits_value 10 h)
-
--- four words are numbers
-abbrev pub AreNumbers : List ℕ → List ℕ → List ℕ → List ℕ → Type 0
-AreNumbers x y w h = IsNumber x × IsNumber y × IsNumber w × IsNumber h
-
--- four words are a rectangle
-pub record AreRect (x y w h : List ℕ) (rect : Rect) : Type 0 where
-  pub numbers : AreNumbers x y w h
-  pub x_is : rect.x ≡ digits_value 10 x
-  pub y_is : rect.y ≡ digits_value 10 y
-  pub w_is : rect.w ≡ digits_value 10 w
-  pub h_is : rect.h ≡ digits_value 10 h
-
--- a word is a colour: six hexadecimal digits, of red, green and blue
-abbrev pub IsColourWord : List ℕ → Colour → Type 0
-IsColourWord word colour =
-    ((length word ≡ 6) × AllPass is_hex_digit word)
-    × (decode_of word ≡ Ok (colour.r ∷ colour.g ∷ colour.b ∷ []))
-
--- what the words of a line behind the first ask for
-abbrev pub SaysEvent : List (List ℕ) → PairEvent → Type 0
-SaysEvent words (Fill rect colour) =
-    (x y w h c : List ℕ) × (words ≡ codes "fill" ∷ x ∷ y ∷ w ∷ h ∷ c ∷ []) × AreRect x y w h rect
-    × IsColourWord c colour
-SaysEvent words (Request rect) =
-    (x y w h : List ℕ) × (words ≡ codes "request" ∷ codes "full" ∷ x ∷ y ∷ w ∷ h ∷ [])
-    × AreRect x y w h rect
+-- the words of a line ask for one event; no line asks for a row, a key, the pointer, a text or
+-- other encodings
+abbrev pub SaysEvent : List (List ℕ) → Event → Type 0
+SaysEvent words (Fill rect colour) = Begins (codes "fill") words (λ rest. AreFill rest rect colour)
+SaysEvent words (Copy rect sx sy) = Begins (codes "copy") words (λ rest. AreMove rest rect sx sy)
+SaysEvent words (Hint rect sx sy) = Begins (codes "hint") words (λ rest. AreMove rest rect sx sy)
+SaysEvent words (Request incremental rect) =
+    Begins (codes "request") words (λ rest. AreRequest rest incremental rect)
+SaysEvent words (SetFormat format) =
+    Begins (codes "format") words (λ rest. IsFormatAlone rest format)
 SaysEvent words Compose = words ≡ codes "compose" ∷ []
-SaysEvent words Settle = words ≡ codes "settle" ∷ []
+SaysEvent words (ToServer n) = Begins (codes "toserver") words (λ rest. IsCountAlone rest n)
+SaysEvent words (ToViewer n) = Begins (codes "toviewer") words (λ rest. IsCountAlone rest n)
+SaysEvent words (Put x y row) = ⊥
+SaysEvent words (SetEncodings encodings) = ⊥
+SaysEvent words (Key down key) = ⊥
+SaysEvent words (Pointer buttons x y) = ⊥
+SaysEvent words (CutText text) = ⊥
+
+-- the words of a line ask for a step
+abbrev pub SaysStep : List (List ℕ) → ScriptStep → Type 0
+SaysStep words (OneEvent event) = SaysEvent words event
+SaysStep words Settle = words ≡ codes "settle" ∷ []
 
 -- what the words of a line say
 abbrev pub Says : List (List ℕ) → Line → Type 0
-Says words (Screen size) = (w h : List ℕ) × (words ≡ codes "screen" ∷ w ∷ h ∷ []) × AreSize w h size
-Says words (Event event) = SaysEvent words event
+Says words (Screen size) = Begins (codes "screen") words (λ rest. AreSize rest size)
+Says words (Viewer wants) = Begins (codes "viewer") words (λ rest. AreWants rest wants)
+Says words (Step step) = SaysStep words step
 
 -- the words of a line that is bad wherever it stands say nothing
 abbrev pub SaysNothing : List (List ℕ) → Type 0
 SaysNothing words = (line : Line) → Says words line → ⊥
 
+-- a line gives the screen's size
+abbrev pub GivesSize : List ℕ → Type 0
+GivesSize line = (size : Size) × Says (words_of line) (Screen size)
+
+-- a line gives what the viewer wants
+abbrev pub GivesWants : List ℕ → Type 0
+GivesWants line = (wants : Wants) × Says (words_of line) (Viewer wants)
+
+-- a line asks for a step
+abbrev pub AsksForStep : List ℕ → Type 0
+AsksForStep line = (step : ScriptStep) × SaysStep (words_of line) step
+
+-- ---- what lines are
+
 -- every line is empty
 abbrev pub AreEmpty : List (List ℕ) → Type 0
 AreEmpty lines = All (λ line. line ≡ []) lines
 
--- lines, the first of which has this number, ask for these events in their order, each with the
+-- lines, the first of which has this number, ask for these steps in their order, each with the
 -- number of its line; empty lines ask for nothing
 abbrev pub AskFor : ℕ → List (List ℕ) → List Numbered → Type 0
 AskFor n [] [] = Unit {0}
-AskFor n [] (event ∷ events) = ⊥
-AskFor n ([] ∷ lines) events = AskFor (n + 1) lines events
+AskFor n [] (step ∷ steps) = ⊥
+AskFor n ([] ∷ lines) steps = AskFor (n + 1) lines steps
 AskFor n ((char ∷ line) ∷ lines) [] = ⊥
-AskFor n ((char ∷ line) ∷ lines) (event ∷ events) =
-    (event.line ≡ n) × SaysEvent (words_of (char ∷ line)) event.event × AskFor (n + 1) lines events
+AskFor n ((char ∷ line) ∷ lines) (step ∷ steps) =
+    (step.line ≡ n) × SaysStep (words_of (char ∷ line)) step.step × AskFor (n + 1) lines steps
 
--- lines are a script: empty ones, one with the screen's size, and others that ask for its events
-pub record AreScript (lines : List (List ℕ)) (size : Size) (events : List Numbered) : Type 0 where
+-- the same behind a line with what the viewer wants, and empty ones before it
+pub record AskBehind (n : ℕ) (lines : List (List ℕ)) (wants : Wants) (steps : List Numbered)
+    : Type 0 where
+  pub blank : List (List ℕ)
+  pub second : List ℕ
+  pub later : List (List ℕ)
+  pub whole : lines ≡ blank ++ second ∷ later
+  pub blank_is : AreEmpty blank
+  pub wants_is : Says (words_of second) (Viewer wants)
+  pub steps_are : AskFor (n + length blank + 1) later steps
+
+-- the lines behind the screen's, with or without what the viewer wants
+abbrev pub AskForAll : ℕ → List (List ℕ) → Option Wants → List Numbered → Type 0
+AskForAll n lines None steps = AskFor n lines steps
+AskForAll n lines (Some wants) steps = AskBehind n lines wants steps
+
+-- lines are a script: empty ones, one with the screen's size, perhaps one with what the viewer
+-- wants, and others that ask for its steps
+pub record AreScript (lines : List (List ℕ)) (size : Size) (wants : Option Wants)
+    (steps : List Numbered) : Type 0 where
   pub blank : List (List ℕ)
   pub first : List ℕ
   pub later : List (List ℕ)
   pub whole : lines ≡ blank ++ first ∷ later
   pub blank_is : AreEmpty blank
   pub size_is : Says (words_of first) (Screen size)
-  pub events_are : AskFor (length blank + 2) later events
-
--- a line gives the screen's size
-abbrev pub GivesSize : List ℕ → Type 0
-GivesSize line = (size : Size) × Says (words_of line) (Screen size)
-
--- a line asks for an event
-abbrev pub AsksForEvent : List ℕ → Type 0
-AsksForEvent line = (event : PairEvent) × SaysEvent (words_of line) event
+  pub later_are : AskForAll (length blank + 2) later wants steps
 
 -- lines are some script
 abbrev pub AreSomeScript : List (List ℕ) → Type 0
-AreSomeScript lines = (size : Size) × (events : List Numbered) × AreScript lines size events
+AreSomeScript lines =
+    (size : Size) × (wants : Option Wants) × (steps : List Numbered)
+    × AreScript lines size wants steps
+
+-- ---- bad lines
+
+-- a line asks for nothing behind a script: for no step, and it is no second line with what the
+-- viewer wants
+abbrev pub IsNoMore : Option Wants → List Numbered → List ℕ → Type 0
+IsNoMore wants steps line =
+    ¬ (AsksForStep line) × (wants ≡ None → steps ≡ [] → ¬ (GivesWants line))
+
+-- a line is bad behind some script
+abbrev pub IsBadBehindScript : List (List ℕ) → List ℕ → Type 0
+IsBadBehindScript lines line =
+    (size : Size) × (wants : Option Wants) × (steps : List Numbered)
+    × AreScript lines size wants steps × IsNoMore wants steps line
 
 -- a line is bad behind these: it has characters, and gives no size behind empty lines, or asks for
 -- nothing behind a script
 abbrev pub IsBadBehind : List (List ℕ) → List ℕ → Type 0
 IsBadBehind lines line =
-    (line ≢ [])
-    × ((AreEmpty lines × ¬ (GivesSize line)) ⊎ (AreSomeScript lines × ¬ (AsksForEvent line)))
+    (line ≢ []) × ((AreEmpty lines × ¬ (GivesSize line)) ⊎ IsBadBehindScript lines line)
 
 -- the first bad line has this number: those before it are empty or a script, and it is bad behind
 -- them

@@ -3,17 +3,20 @@
 ghost use Rattle.std.specs.Prelude.{◌≡◌, ◌≢◌, ◌≤◌, ℕ, map, Err, OnOk, IfErr};
 ghost use Rattle.clap.specs.Faults.{fault_of};
 ghost use Rattle.clap.specs.Kinds.{FailsBy};
-ghost use Rattle.rfb.specs.CommandLine.{AreCommand, AreMistaken, FailsAt, HaveMeaning, PlaysScript, program};
+ghost use Rattle.rfb.specs.CommandLine.{AreCommand, AreMistaken, FailsAt, HaveMeaning, PlaysScript, WritesPlayed, WritesShown, program};
+ghost use Rattle.rfb.specs.Playing.{TakesAll, ends_of};
+ghost use Rattle.rfb_session.specs.InFlight.{AreMade};
 ghost use Rattle.rfb.specs.declared.fault.Failure.TheVariants as Failure;
 ghost use Rattle.std.specs.IoError.{error_kind};
 ghost use Rattle.std.specs.declared.io.ErrorKind.TheVariants.{InvalidData};
 
 use crate::fault::{Failure, Fault};
-use crate::pair::Pair;
 use crate::pixmap::write_pixmap;
-use crate::script::{Script, read_script};
+use crate::playing::{fresh_world, play};
+use crate::script::{Numbered, Script, read_script};
 use clap::error::ErrorKind;
 use clap::{ArgMatches, Command};
+use rfb_session::{Refused, World};
 use std::alloc::Global;
 use std::convert::AsStr;
 use std::io;
@@ -145,22 +148,64 @@ fn script<R: Read, W: Write, E: Write>(
     let mut text = Vec::new(alloc);
     input.read_to_end(&mut text)?;
     let script = read_script(alloc, &text)?;
-    let pair = run(alloc, &script, errors)?;
-    let picture = pair.picture().ok_or(Fault::NotReady)?;
+    run(alloc, &script, output, errors)?;
+    Ok(())
+}
+
+// Plays a script from two fresh ends, and writes what the viewer shows then.
+fn run<W: Write, E: Write>(
+    alloc: Global,
+    script: &Script,
+    output: &mut W,
+    errors: &mut E,
+) -> Result<(), Fault>
+    ensures { AreMade (ends_of script.now.screen script.now.wants) → OnOk result
+        (WritesPlayed script.now.screen script.now.wants script.now.steps.items
+            (W.contents output.old) (W.contents output.new)) }
+{
+    let mut world = fresh_world(alloc, script.screen, &script.wants)?;
+    finish(alloc, &mut world, &script.steps, output, errors)
+}
+
+// Takes all steps, and writes what the viewer shows then.
+fn finish<W: Write, E: Write>(
+    alloc: Global,
+    world: &mut World,
+    steps: &[Numbered],
+    output: &mut W,
+    errors: &mut E,
+) -> Result<(), Fault>
+    ensures taken { OnOk result (TakesAll world.old steps.now world.new) }
+    ensures shown { OnOk result
+        (WritesShown world.new (W.contents output.old) (W.contents output.new)) }
+{
+    play_all(alloc, world, steps, errors)?;
+    let picture = world.picture().ok_or(Fault::NotReady)?;
     write_pixmap(alloc, picture, output)?;
     Ok(())
 }
 
-// A fresh pair after the events of a script. Calls that are refused are told on `errors`, each in
-// one write, and do not end the script.
-fn run<E: Write>(alloc: Global, script: &Script, errors: &mut E) -> Result<Pair, Fault> {
+// Takes all steps. Those that are refused are told on `errors`, each in one write, and do not end
+// the script.
+fn play_all<E: Write>(
+    alloc: Global,
+    world: &mut World,
+    steps: &[Numbered],
+    errors: &mut E,
+) -> Result<(), Fault>
+    ensures { OnOk result (TakesAll world.old steps.now world.new) }
+{
     let mut refusals = LineWriter::new(alloc, errors)?;
-    let mut pair = Pair::new(alloc, script.screen.width, script.screen.height)?;
-    for numbered in &script.events {
-        if let Some(refused) = pair.step(&numbered.event)? {
-            let line = numbered.line;
-            let _ = writeln!(refusals, "line {line}: refused {refused}");
-        }
+    for numbered in steps {
+        let refused = play(world, &numbered.step)?;
+        tell_refusal(numbered.line, refused, &mut refusals);
     }
-    Ok(pair)
+    Ok(())
+}
+
+// Prints why the step of a line was refused, if it was. A write that fails changes nothing.
+fn tell_refusal<W: Write>(line: u64, refused: Option<Refused>, refusals: &mut W) {
+    if let Some(refused) = refused {
+        let _ = writeln!(refusals, "line {line}: refused {refused}");
+    }
 }

@@ -5,41 +5,11 @@ ghost use Rattle.rfb.specs.Fault.{IsFailureOf, IsFaultOf};
 ghost use Rattle.rfb.specs.declared.fault.Failure.TheVariants as Failure;
 ghost use Rattle.rfb.specs.declared.fault.Fault.TheVariants as Fault;
 
+use rfb_session::NoMemory;
 use std::alloc::{AllocError, AllocFailed};
 use std::io;
 use std::io::ErrorKind;
 use thiserror::Error;
-
-/// A drawing leaves the screen. It changed nothing.
-#[derive(Clone, Copy, Debug, PartialEq, Eq, Error)]
-#[error("24 Outside")]
-pub struct Outside;
-
-/// Why a viewer refuses a call of its own side. The call changed nothing.
-#[derive(Clone, Copy, Debug, PartialEq, Eq, Error)]
-pub enum CallFault {
-    /// The viewer has no picture yet.
-    #[error("25 NotReady")]
-    NotReady,
-    /// An update that was requested has not come yet.
-    #[error("26 Busy")]
-    Busy,
-    /// The requested area has no place, or leaves the screen.
-    #[error("27 AreaOutside")]
-    AreaOutside,
-}
-
-/// A call that was refused on the spot, by the end that it was made on. It changed nothing, and
-/// later calls are judged as if it had not been made.
-#[derive(Clone, Copy, Debug, PartialEq, Eq, Error)]
-pub enum Refused {
-    /// A drawing on the server's screen.
-    #[error(transparent)]
-    Drawing(Outside),
-    /// A call of the viewer.
-    #[error(transparent)]
-    Call(CallFault),
-}
 
 /// Why the program stops before its work is done.
 #[derive(Clone, Copy, Debug, PartialEq, Eq, Error)]
@@ -59,6 +29,14 @@ impl From<AllocError> for Fault {
     ghost from_gives = { λ _ fault. fault ≡ Fault.NoMemory };
 
     fn from(_error: AllocError) -> Fault {
+        Fault::NoMemory
+    }
+}
+
+impl From<NoMemory> for Fault {
+    ghost from_gives = { λ _ fault. fault ≡ Fault.NoMemory };
+
+    fn from(_error: NoMemory) -> Fault {
         Fault::NoMemory
     }
 }

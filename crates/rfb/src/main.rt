@@ -6,8 +6,8 @@
 
 mod command_line;
 mod fault;
-mod pair;
 mod pixmap;
+mod playing;
 mod script;
 #[cfg(test)]
 mod tests;

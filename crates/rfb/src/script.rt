@@ -4,54 +4,62 @@
 //! are parted by exactly one space. Empty lines are skipped, and counted.
 //!
 //! ```text
-//! screen W H              first and once: the size of the screen, each side 1 to 4,096 places
-//! fill X Y W H RRGGBB     the server gives a rectangle of its screen a colour
-//! request full X Y W H    the viewer requests a rectangle
-//! compose                 the server composes an update for a request that has come
-//! settle                  all bytes in flight come to their ends
+//! screen W H                 first and once: the size of the screen, each side 1 to 4,096 places
+//! viewer F E..               second, or not at all: what the viewer asks for, a format and one to
+//!                            four encodings, the best first
+//! fill X Y W H RRGGBB        the server gives a rectangle of its screen a colour
+//! copy X Y W H SX SY         a rectangle of the screen takes what the one at (SX, SY) had
+//! hint X Y W H SX SY         the server is told that a rectangle looks as the one there did
+//! request full X Y W H       the viewer requests all of a rectangle
+//! request inc X Y W H        the viewer requests what has changed of it
+//! format F                   the viewer asks for another format
+//! compose                    the server composes an update, if one is due
+//! toserver N                 at most N bytes in flight reach the server
+//! toviewer N                 at most N bytes in flight reach the viewer
+//! settle                     eight times, all bytes reach the server, and then all the viewer
 //! ```
 //!
-//! Numbers are decimal, of 1 to 10 digits, from 0 to 65,535; a colour has six hexadecimal digits.
+//! Numbers are decimal, of 1 to 10 digits, up to 65,535, and N up to 4,294,967,295; a colour has six
+//! hexadecimal digits. F is rgb888, rgb565 or bgr233, and E raw, copyrect, rre or hextile.
 //! A script with any other line is bad. Whether a rectangle lies on the screen is not judged here.
 
-ghost use Rattle.std.specs.Prelude.{IfOk, IfErr};
-ghost use Rattle.rfb.specs.Script.{AreScript, StopsReading, lines_of};
+ghost use Rattle.std.specs.Prelude.{◌≡◌, [], None, IfOk, IfErr, MatchOption};
+ghost use Rattle.rfb.specs.declared.script.line.Line.TheVariants as Line;
+ghost use Rattle.rfb.specs.Script.{AreScript, GivesWants, Says, StopsReading, lines_of, words_of};
 
+mod arguments;
 mod line;
 mod number;
 mod read;
+mod words;
 
 use crate::fault::Failure;
-use crate::pair::PairEvent;
-use crate::script::line::Screen;
-use crate::script::read::{read_event, read_screen};
+use crate::script::read::{read_screen, read_step, read_viewer};
 use std::alloc::Global;
+
+pub use line::{Numbered, Screen, Step, Wants};
 
 /// A script that was read to its end and has no bad line.
 #[derive(Debug, Drop)]
 pub struct Script {
     /// What its first line says.
     pub screen: Screen,
+    /// What its second line says, if that is of the viewer.
+    pub wants: Option<Wants>,
     /// What its later lines ask for, in their order.
-    pub events: Vec<Numbered>,
-}
-
-/// An event, and the line that asks for it, counted from 1.
-#[derive(Clone, Copy, Debug, PartialEq, Eq)]
-pub struct Numbered {
-    pub line: u64,
-    pub event: PairEvent,
+    pub steps: Vec<Numbered>,
 }
 
 /// Reads a whole script. It fails at the first bad line, or where memory is refused. A text with
 /// nothing but empty lines is bad at the line after them.
 pub fn read_script(alloc: Global, text: &[u8]) -> Result<Script, Failure>
     ensures read { IfOk result (λ script.
-        AreScript (lines_of text.now) script.screen script.events.items) }
+        AreScript (lines_of text.now) script.screen script.wants script.steps.items) }
     ensures stopped { IfErr result (StopsReading (lines_of text.now)) }
 {
     let mut screen = None;
-    let mut events = Vec::new(alloc);
+    let mut wants = None;
+    let mut steps = Vec::new(alloc);
     let mut number = 0;
     for line in text.split(|byte| *byte == b'\n') {
         number += 1;
@@ -65,16 +73,33 @@ pub fn read_script(alloc: Global, text: &[u8]) -> Result<Script, Failure>
             screen = Some(size);
             continue;
         }
-        let Some(event) = read_event(line) else {
+        if let Some(wanted) = read_second(line, &wants, &steps) {
+            wants = Some(wanted);
+            continue;
+        }
+        let Some(step) = read_step(line) else {
             return Err(Failure::BadLine(number));
         };
-        events.push(Numbered {
-            line: number,
-            event,
-        })?;
+        steps.push(Numbered { line: number, step })?;
     }
     match screen {
-        Some(screen) => Ok(Script { screen, events }),
+        Some(screen) => Ok(Script {
+            screen,
+            wants,
+            steps,
+        }),
         None => Err(Failure::BadLine(number)),
     }
+}
+
+// What the viewer wants, if the line gives that where it may: before any step, and once.
+fn read_second(line: &[u8], wants: &Option<Wants>, steps: &[Numbered]) -> Option<Wants>
+    ensures { MatchOption result (wants.now ≡ None → steps.now ≡ [] → ¬ (GivesWants line.now))
+        (λ wanted. (wants.now ≡ None) × (steps.now ≡ [])
+            × Says (words_of line.now) (Line.Viewer wanted)) }
+{
+    if wants.is_some() || !steps.is_empty() {
+        return None;
+    }
+    read_viewer(line)
 }

@@ -4,4 +4,6 @@ mod calls;
 mod devices;
 mod language;
 mod picture;
+mod steps;
+mod updates;
 mod words;

@@ -1,24 +1,54 @@
 //! What a line of a script says, as a value.
 
 ghost use Rattle.std.specs.Prelude.{◌≤◌};
-ghost use Rattle.rfb.specs.declared.pair.TheConstants.{MAX_SIDE};
+ghost use Rattle.rfb.specs.Few.{cut_length};
 
-use crate::pair::PairEvent;
+use arrayvec::ArrayVec;
+use rfb_pixel::Format;
+use rfb_session::Event;
+use rfb_wire::Encoding;
 
 /// The size of the screen in places, each side from 1 to 4,096.
 #[derive(Clone, Copy, Debug, PartialEq, Eq)]
 pub struct Screen {
     pub width: u16,
     pub height: u16,
-    ghost wide: { (1 ≤ width) × (width ≤ MAX_SIDE) },
-    ghost high: { (1 ≤ height) × (height ≤ MAX_SIDE) },
+    ghost wide: { (1 ≤ width) × (width ≤ 4096) },
+    ghost high: { (1 ≤ height) × (height ≤ 4096) },
+}
+
+/// What the viewer asks the server for, once both are ready: pixels of a format, in one of these
+/// encodings, the best first.
+#[derive(Debug, Drop)]
+pub struct Wants {
+    pub format: Format,
+    pub encodings: ArrayVec<Encoding, 4>,
+}
+
+/// What a line asks of both ends.
+#[derive(Debug, Drop)]
+pub enum Step {
+    /// One event.
+    Event(Event),
+    /// Sixteen deliveries: eight times, all bytes reach the server, and then all the viewer.
+    Settle,
 }
 
 /// A good line that is not empty.
-#[derive(Clone, Copy, Debug, PartialEq, Eq)]
+#[derive(Debug, Drop)]
 pub enum Line {
     /// The line that stands first.
     Screen(Screen),
+    /// The line that may stand second.
+    Viewer(Wants),
     /// Any later line.
-    Event(PairEvent),
+    Step(Step),
+}
+
+/// A step, and the line that asks for it, counted from 1.
+#[derive(Debug, Drop)]
+pub struct Numbered {
+    pub line: u64,
+    pub step: Step,
+    ghost few: { cut_length step ≤ 1048576 },
 }

@@ -2,7 +2,7 @@
 
 ghost use Rattle.std.specs.Prelude.{◌≡◌, ◌↔◌, IsTrue, MatchOption};
 ghost use Rattle.std.specs.Str.Parse.{digits_value};
-ghost use Rattle.rfb.specs.Number.{IsDigits, IsNumber};
+ghost use Rattle.rfb.specs.Number.{IsCount, IsDigits, IsNumber};
 
 use std::str;
 
@@ -21,6 +21,18 @@ pub fn read_number(word: &[u8]) -> Option<u16>
     }
     let text = str::from_utf8(word).ok()?;
     text.parse().ok()
+}
+
+/// The same up to 4,294,967,295.
+pub fn read_count(word: &[u8]) -> Option<u32>
+    ensures { MatchOption result (¬ (IsCount word.now))
+        (λ n. IsCount word.now × (n ≡ digits_value 10 word.now)) }
+{
+    if word.len() > DIGITS_MAX || !has_only_digits(word) {
+        return None;
+    }
+    let digits = str::from_utf8(word).ok()?;
+    digits.parse().ok()
 }
 
 fn has_only_digits(word: &[u8]) -> bool

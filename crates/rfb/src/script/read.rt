@@ -1,34 +1,42 @@
 //! Reading one line of a script, by itself.
 
-ghost use Rattle.std.specs.Prelude.{◌≡◌, ◌↔◌, ◌∷◌, [], Ok, IfSome, IsSome, MatchOption, length};
-ghost use Rattle.std.specs.List.{AllPass};
-ghost use Rattle.std.specs.Str.Parse.{digits_value};
-ghost use Rattle.hex.specs.Hex.{decode_of, is_hex_digit};
-ghost use Rattle.rfb.specs.Script.{AreNumbers, AreRect, AsksForEvent, GivesSize, IsSide, Says, SaysEvent, SaysNothing, texts, words_of};
+ghost use Rattle.std.specs.Prelude.{◌≡◌, ◌<◌, ◌∷◌, MatchOption, length};
+ghost use Rattle.rfb_session.specs.declared.event.Event.{Event};
+ghost use Rattle.rfb.specs.Script.{AsksForStep, GivesSize, GivesWants, Says, SaysEvent, SaysNothing, SaysStep, words_of};
+ghost use Rattle.rfb.specs.Words.{texts};
 
-use crate::pair::{MAX_SIDE, PairEvent};
-use crate::script::line::{Line, Screen};
-use crate::script::number::read_number;
+use crate::script::arguments::{
+    read_bytes, read_fill, read_move, read_only_format, read_request, read_size, read_wants,
+};
+use crate::script::line::{Line, Screen, Step, Wants};
 use arrayvec::ArrayVec;
-use hex::FromHex;
-use rfb_picture::Rect;
-use rfb_pixel::Colour;
+use rfb_session::Event;
 
-// The words that lines begin with, and the one that a request has behind it.
+// The words that lines begin with.
 const SCREEN: &[u8] = b"screen";
+
+const VIEWER: &[u8] = b"viewer";
 
 const FILL: &[u8] = b"fill";
 
+const COPY: &[u8] = b"copy";
+
+const HINT: &[u8] = b"hint";
+
 const REQUEST: &[u8] = b"request";
 
-const FULL: &[u8] = b"full";
+const FORMAT: &[u8] = b"format";
 
 const COMPOSE: &[u8] = b"compose";
+
+const TO_VIEWER: &[u8] = b"toviewer";
+
+const TO_SERVER: &[u8] = b"toserver";
 
 const SETTLE: &[u8] = b"settle";
 
 // No line has more words.
-const WORDS_MAX: usize = 6;
+const WORDS_MAX: usize = 7;
 
 /// The screen's size, as a line without its newline gives it. It is `None` where the line gives
 /// none.
@@ -38,17 +46,31 @@ pub fn read_screen(line: &[u8]) -> Option<Screen>
 {
     match read_line(line)? {
         Line::Screen(size) => Some(size),
-        Line::Event(_) => None,
+        Line::Viewer(_) | Line::Step(_) => None,
     }
 }
 
-/// The event that a line without its newline asks for. It is `None` where the line asks for none.
-pub fn read_event(line: &[u8]) -> Option<PairEvent>
-    ensures { MatchOption result (¬ (AsksForEvent line.now)) (SaysEvent (words_of line.now)) }
+/// What the viewer wants, as a line without its newline gives it. It is `None` where the line
+/// gives nothing of it.
+pub fn read_viewer(line: &[u8]) -> Option<Wants>
+    ensures { MatchOption result (¬ (GivesWants line.now))
+        (λ wants. Says (words_of line.now) (Line.Viewer wants)) }
+{
+    let words = parted(line)?;
+    let (keyword, rest) = words.as_slice().split_first()?;
+    if *keyword == VIEWER {
+        return read_wants(rest);
+    }
+    None
+}
+
+/// The step that a line without its newline asks for. It is `None` where the line asks for none.
+pub fn read_step(line: &[u8]) -> Option<Step>
+    ensures { MatchOption result (¬ (AsksForStep line.now)) (SaysStep (words_of line.now)) }
 {
     match read_line(line)? {
-        Line::Screen(_) => None,
-        Line::Event(event) => Some(event),
+        Line::Step(step) => Some(step),
+        Line::Screen(_) | Line::Viewer(_) => None,
     }
 }
 
@@ -57,61 +79,74 @@ pub fn read_event(line: &[u8]) -> Option<PairEvent>
 fn read_line(line: &[u8]) -> Option<Line>
     ensures { MatchOption result (SaysNothing (words_of line.now)) (Says (words_of line.now)) }
 {
-    let mut words: ArrayVec<&[u8], WORDS_MAX> = ArrayVec::new();
+    line_of(parted(line)?.as_slice())
+}
+
+// The words of a line, if they are not too many.
+fn parted<'a>(line: &'a [u8]) -> Option<ArrayVec<&'a [u8], WORDS_MAX>>
+    ensures { MatchOption result (7 < length (words_of line.now))
+        (λ words. texts words.items ≡ words_of line.now) }
+{
+    let mut words = ArrayVec::new();
     for word in line.split(|byte| *byte == b' ') {
         words.try_push(word).ok()?;
     }
-    line_of(words.as_slice())
+    Some(words)
 }
 
 // What the words of a line say.
 fn line_of(words: &[&[u8]]) -> Option<Line>
     ensures { MatchOption result (SaysNothing (texts words.now)) (Says (texts words.now)) }
 {
-    match words {
-        [keyword, width, height] if *keyword == SCREEN => Some(Line::Screen(Screen {
-            width: read_side(width)?,
-            height: read_side(height)?,
-        })),
-        [keyword, x, y, w, h, colour] if *keyword == FILL => Some(Line::Event(PairEvent::Fill(
-            read_rect(x, y, w, h)?,
-            read_colour(colour)?,
-        ))),
-        [keyword, whole, x, y, w, h] if *keyword == REQUEST && *whole == FULL => {
-            Some(Line::Event(PairEvent::Request(read_rect(x, y, w, h)?)))
-        }
-        [keyword] if *keyword == COMPOSE => Some(Line::Event(PairEvent::Compose)),
-        [keyword] if *keyword == SETTLE => Some(Line::Event(PairEvent::Settle)),
-        _ => None,
+    let (keyword, rest) = words.split_first()?;
+    if *keyword == SCREEN {
+        return Some(Line::Screen(read_size(rest)?));
     }
+    if *keyword == VIEWER {
+        return Some(Line::Viewer(read_wants(rest)?));
+    }
+    if *keyword == SETTLE {
+        if rest.is_empty() {
+            return Some(Line::Step(Step::Settle));
+        }
+        return None;
+    }
+    Some(Line::Step(Step::Event(event_of(keyword, rest)?)))
 }
 
-// A side of the screen.
-fn read_side(word: &[u8]) -> Option<u16>
-    ensures value { IfSome result (λ side. side ≡ digits_value 10 word.now) }
-    ensures found { IsSome result ↔ (IsSide word.now) }
+// The event that a keyword and the words behind it ask for.
+fn event_of(keyword: &[u8], rest: &[&[u8]]) -> Option<Event>
+    ensures { MatchOption result
+        ((event : Event) → ¬ (SaysEvent (keyword.now ∷ texts rest.now) event))
+        (SaysEvent (keyword.now ∷ texts rest.now)) }
 {
-    read_number(word).filter(|side| (1..=MAX_SIDE).contains(side))
-}
-
-fn read_rect(x: &[u8], y: &[u8], w: &[u8], h: &[u8]) -> Option<Rect>
-    ensures value { IfSome result (AreRect x.now y.now w.now h.now) }
-    ensures found { IsSome result ↔ (AreNumbers x.now y.now w.now h.now) }
-{
-    Some(Rect {
-        x: read_number(x)?,
-        y: read_number(y)?,
-        w: read_number(w)?,
-        h: read_number(h)?,
-    })
-}
-
-// Six hexadecimal digits of either case.
-fn read_colour(word: &[u8]) -> Option<Colour>
-    ensures value { IfSome result (λ colour.
-        decode_of word.now ≡ Ok (colour.r ∷ colour.g ∷ colour.b ∷ [])) }
-    ensures found { IsSome result ↔ ((length word.now ≡ 6) × AllPass is_hex_digit word.now) }
-{
-    let [r, g, b] = <[u8; 3] as FromHex>::from_hex(word).ok()?;
-    Some(Colour { r, g, b })
+    if keyword == FILL {
+        let (rect, colour) = read_fill(rest)?;
+        return Some(Event::Fill(rect, colour));
+    }
+    if keyword == COPY {
+        let (rect, sx, sy) = read_move(rest)?;
+        return Some(Event::Copy(rect, sx, sy));
+    }
+    if keyword == HINT {
+        let (rect, sx, sy) = read_move(rest)?;
+        return Some(Event::Hint(rect, sx, sy));
+    }
+    if keyword == REQUEST {
+        let (incremental, area) = read_request(rest)?;
+        return Some(Event::Request(incremental, area));
+    }
+    if keyword == FORMAT {
+        return Some(Event::SetFormat(read_only_format(rest)?));
+    }
+    if keyword == TO_VIEWER {
+        return Some(Event::ToViewer(read_bytes(rest)?));
+    }
+    if keyword == TO_SERVER {
+        return Some(Event::ToServer(read_bytes(rest)?));
+    }
+    if keyword == COMPOSE && rest.is_empty() {
+        return Some(Event::Compose);
+    }
+    None
 }

@@ -4,17 +4,21 @@ use super::calls::{LEFT_PLACE_FILLED, run};
 use std::test::Fail;
 
 // Lines that are bad wherever they stand after the first, each for one reason.
-const BAD_LINES: [&[u8]; 57] = [
+const BAD_LINES: [&[u8]; 82] = [
     // No keyword, or none that is known.
     b"paint 0 0 1 1 FF8001",
     b"Fill 0 0 1 1 FF8001",
     b"COMPOSE",
     b"# a remark",
-    b"request inc 0 0 2 1",
     b"request Full 0 0 2 1",
+    b"request incremental 0 0 2 1",
     b"request 0 0 2 1",
-    // A screen is there already.
+    b"format RGB565",
+    b"format rgb555",
+    b"format raw",
+    // A screen is there already, and the viewer's line is not the second.
     b"screen 2 1",
+    b"viewer rgb888 raw",
     // Words too many or too few.
     b"fill",
     b"fill 0 0 1 1",
@@ -22,6 +26,18 @@ const BAD_LINES: [&[u8]; 57] = [
     b"fill 0 0 1 1 FF8001 0",
     b"request full 0 0 2",
     b"request full 0 0 2 1 1",
+    b"request inc 0 0 2",
+    b"request full inc 0 0 2 1",
+    b"copy 0 0 1 1 1",
+    b"copy 0 0 1 1 1 0 0",
+    b"hint 0 0 1 1 1",
+    b"hint 0 0 1 1 1 0 0",
+    b"format",
+    b"format rgb565 rgb888",
+    b"toviewer",
+    b"toviewer 1 2",
+    b"toserver",
+    b"toserver 1 2",
     b"compose 1",
     b"settle 8",
     b"settle settle",
@@ -61,6 +77,15 @@ const BAD_LINES: [&[u8]; 57] = [
     b"fill A 0 1 1 FF8001",
     b"request full 0 0 2 65536",
     b"request full 0 0 -2 1",
+    b"request inc 65536 0 2 1",
+    b"copy 0 0 1 1 65536 0",
+    b"copy 0 0 1 1 0 65536",
+    b"hint 0 0 1 1 65536 0",
+    b"hint 0 0 1 1 0 65536",
+    b"toviewer 4294967296",
+    b"toviewer 00000000001",
+    b"toserver 4294967296",
+    b"toserver -1",
     // What is no colour.
     b"fill 0 0 1 1 FF80",
     b"fill 0 0 1 1 FF800",
@@ -103,6 +128,7 @@ fn the_first_bad_line_is_told_by_its_number(rt: HostRuntime) -> Result<(), Fail>
         (b"\nsettle\nscreen 2 1\nsettle\n".as_slice(), 2),
         (b" screen 2 1\nsettle\n".as_slice(), 1),
         (b"Screen 2 1\nsettle\n".as_slice(), 1),
+        (b"hub 2 1\nsettle\n".as_slice(), 1),
         (b"screen 2 1\r\nsettle\r\n".as_slice(), 1),
         (b"screen 2\nsettle\n".as_slice(), 1),
         (b"screen 2 1 1\nsettle\n".as_slice(), 1),
@@ -115,6 +141,15 @@ fn the_first_bad_line_is_told_by_its_number(rt: HostRuntime) -> Result<(), Fail>
         // Later lines, the last one also without its newline.
         (b"screen 2 1\n\n\nscreen 2 1\nsettle\n".as_slice(), 4),
         (b"screen 2 1\nsettle\n \n".as_slice(), 3),
+        // The viewer's line is the second, or there is none.
+        (b"viewer rgb888 raw\nscreen 2 1\nsettle\n".as_slice(), 1),
+        (b"screen 2 1\n\nviewer rgb888\nsettle\n".as_slice(), 3),
+        (b"screen 2 1\nviewer raw rgb888\nsettle\n".as_slice(), 2),
+        (b"screen 2 1\nviewer rgb888 Raw\nsettle\n".as_slice(), 2),
+        (b"screen 2 1\nviewer rgb888 raw zrle\nsettle\n".as_slice(), 2),
+        (b"screen 2 1\nviewer rgb888 raw rre raw rre raw\nsettle\n".as_slice(), 2),
+        (b"screen 2 1\nviewer rgb888 raw\nviewer rgb888 raw\n".as_slice(), 3),
+        (b"screen 2 1\nsettle\nviewer rgb888 raw\n".as_slice(), 3),
         (b"screen 2 1\nsettle\n\nsettle settle".as_slice(), 4),
         (b"screen 2 1\nsettle\0\nsettle\n".as_slice(), 2),
         (b"screen 2 1\nsettle\nrequest\nsettle\nfill\n".as_slice(), 3),
@@ -136,6 +171,15 @@ fn each_spelling_of_a_script_is_read(rt: HostRuntime) {
         b"screen 2 1\nfill 0 0 1 1 ff8001\nsettle\nrequest full 0 0 2 1\nsettle\ncompose\nsettle".as_slice(),
         b"\n\nscreen 0000000002 01\n\nfill 00 0000000000 0000000001 001 fF8001\n\n\nsettle
 request full 000 0 02 1\nsettle\ncompose\nsettle\n\n\n"
+            .as_slice(),
+        // The viewer's line says what holds without it, or names an encoding again.
+        b"screen 2 1\nviewer rgb888 raw\nfill 0 0 1 1 FF8001\nsettle\nrequest full 0 0 2 1\nsettle\ncompose\nsettle\n".as_slice(),
+        b"screen 2 1\n\nviewer rgb888 hextile rre raw rre\nfill 0 0 1 1 FF8001\nsettle
+request inc 0 0 2 1\nsettle\ncompose\nsettle\n"
+            .as_slice(),
+        // Deliveries by number, the greatest and none among them.
+        b"screen 2 1\nfill 0 0 1 1 FF8001\ntoserver 0\ntoviewer 0\nsettle\nrequest full 0 0 2 1
+toserver 4294967295\ncompose\ntoviewer 0004294967\n"
             .as_slice(),
     ] {
         let ended = run(&rt, script);

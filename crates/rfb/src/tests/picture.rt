@@ -52,6 +52,16 @@ compose
 settle
 "
             .as_slice(),
+        // The same, of what the viewer does not have.
+        b"screen 7 6
+fill 0 0 7 6 FF8001
+settle
+request inc 1 2 4 3
+settle
+compose
+settle
+"
+            .as_slice(),
     ] {
         let ended = run(&rt, script);
         let text = script.escape_ascii();

@@ -1,26 +1,47 @@
 use Rattle.std.proofs.Common.{◌≡◌, IfSome, Option, Some, None, List, ℕ, [], ◌++◌}
+use Rattle.rfb_pixel.specs.declared.colour.Colour.{Colour}
+use Rattle.rfb_picture.specs.Grid.{Grid}
+use Rattle.rfb_session.specs.declared.world.World.{World}
+use Rattle.rfb_session.specs.World.{shown_by}
+use Rattle.rfb.specs.declared.script.line.Numbered.{Numbered}
 use Rattle.rfb.specs.declared.script.line.Screen.{Screen}
-use Rattle.rfb.specs.declared.script.Numbered.{Numbered}
-use Rattle.rfb.specs.Script.{AreScript, AreSomeScript, lines_of}
+use Rattle.rfb.specs.declared.script.line.Wants.{Wants}
+use Rattle.rfb.specs.CommandLine.{Plays}
+use Rattle.rfb.specs.Playing.{IsPlayed}
+use Rattle.rfb.specs.Script.{AreScript, lines_of}
+use Rattle.rfb.proofs.MadeLemmas.{made}
 use Rattle.rfb.proofs.command_line.script.Goals as goal
 
 -- what was read behind nothing is what there was to read
-script_read : (read : Option (List ℕ)) (empty all : List ℕ) (size : Screen) (events : List Numbered) →
+script_played : (read : Option (List ℕ)) (empty all : List ℕ) (size : Screen) (wants : Option Wants) (steps : List Numbered) (world : World) (picture : Grid Colour) →
     empty ≡ [] →
     IfSome read (λ text. all ≡ empty ++ text) →
-    AreScript (lines_of all) size events →
-    IfSome read (λ text. AreSomeScript (lines_of text))
-script_read None empty all size events e is said = tt
-script_read (Some text) empty all size events e is said =
+    AreScript (lines_of all) size wants steps →
+    IsPlayed size wants steps world →
+    shown_by world ≡ Some picture →
+    IfSome read (λ text. Plays text picture)
+script_played None empty all size wants steps world picture e is said played shown = tt
+script_played (Some text) empty all size wants steps world picture e is said played shown =
     let same : all ≡ text = rw e at is in
-    (size, events, rw (← same) said)
+    record {
+      size = size;
+      wants = wants;
+      steps = steps;
+      is_script = rw (← same) said;
+      world = world;
+      is_played = played;
+      is_shown = shown;
+    }
 
 pub returns-clause-done : goal.returns-clause-done
-returns-clause-done g c = record {
-  is_script = script_read (g.R.Read.remaining c.args.input.now) c.new-text.result.items
-      c.read_to_end.new.buf.items c.in_ok-script.script.screen c.in_ok-script.script.events.items
-      c.new-text.ensures.items c.in_ok-read_to_end.ensures.bytes
-      (rw c.deref.ensures.value at c.in_ok-script.ensures.read);
-  picture = c.in_ok-picture.picture.now;
-  written = c.in_ok-write_pixmap.ensures.done;
-}
+returns-clause-done g c =
+    let script = c.in_ok-script.script in
+    let said : AreScript (lines_of c.read_to_end.new.buf.items) script.screen script.wants script.steps.items = rw c.deref.ensures.value at c.in_ok-script.ensures.read in
+    let written = c.in_ok-run.ensures (made _ _ _ _ said) in
+    record {
+      picture = written.2.0;
+      played = script_played (g.R.Read.remaining c.args.input.now) c.new-text.result.items
+          c.read_to_end.new.buf.items script.screen script.wants script.steps.items
+          written.0 written.2.0 c.new-text.ensures.items c.in_ok-read_to_end.ensures.bytes said written.1 written.2.1;
+      written = written.2.2;
+    }

@@ -1,39 +1,23 @@
-use Rattle.std.proofs.Common.{◌∙◌, arith, sym, refl}
-use Rattle.rfb.proofs.ScriptLemmas.{one_word, screen_said, fill_said, request_said, no_fill, no_request}
+use Rattle.std.proofs.Common.{◌∙◌, sym, codes}
+use Rattle.rfb.proofs.ScriptLemmas.{empty_of, line_none, only_screen, only_viewer, says_settle, says_size, says_wants}
 use Rattle.rfb.proofs.script.read.line_of.Goals as goal
 
-pub returns-in-len1 : goal.returns-in-len1
-returns-in-len1 c = one_word c.args.words.now _ _ (omega arith) (sym c.eq.ensures ∙ c.if-eq.true)
+pub returns-in_err-read_size : goal.returns-in_err-read_size
+returns-in_err-read_size c =
+    rw c.from_residual-in_err-read_size.ensures (line_none c.args.words.now c.in_ok-keyword.keyword.now c.in_ok-keyword.rest.now (codes "screen") c.in_ok-keyword.ensures.cases.0 (sym c.eq.ensures ∙ c.if-eq.true) (only_screen _ c.in_err-read_size.ensures))
 
-pub returns-in-len1-2 : goal.returns-in-len1-2
-returns-in-len1-2 c = one_word c.args.words.now _ _ (omega arith) (sym c.eq-then-words-lt2.ensures ∙ c.if-eq-2.true)
+pub returns-then-eq : goal.returns-then-eq
+returns-then-eq c =
+    says_size c.args.words.now c.in_ok-keyword.keyword.now c.in_ok-keyword.rest.now c.in_ok-keyword.ensures.cases.0 (sym c.eq.ensures ∙ c.if-eq.true) c.in_ok-read_size.field-0 c.in_ok-read_size.ensures
 
-pub returns-in_ok-read_side-in-len3-2 : goal.returns-in_ok-read_side-in-len3-2
-returns-in_ok-read_side-in-len3-2 c =
-    let w = c.in_ok-read_side-in-len3 in
-    let h = c.in_ok-read_side-in-len3-2 in
-    screen_said c.args.words.now _ _ _ (omega arith) (sym c.eq-then-words-lt4.ensures ∙ c.if-eq-3.true) w.ensures.value h.ensures.value (w.ensures.found.0 refl) (h.ensures.found.0 refl)
+pub returns-in_err-read_wants : goal.returns-in_err-read_wants
+returns-in_err-read_wants c =
+    rw c.from_residual-in_err-read_wants.ensures (line_none c.args.words.now c.in_ok-keyword.keyword.now c.in_ok-keyword.rest.now (codes "viewer") c.in_ok-keyword.ensures.cases.0 (sym c.eq-2.ensures ∙ c.if-eq-2.true) (only_viewer _ c.in_err-read_wants.ensures))
 
-pub returns-in_ok-read_colour-in-len6 : goal.returns-in_ok-read_colour-in-len6
-returns-in_ok-read_colour-in-len6 c =
-    fill_said c.args.words.now _ _ _ (omega arith) (sym c.eq-then-words-lt7.ensures ∙ c.if-eq-4.true) c.in_ok-read_rect-in-len6.ensures.value
-    (c.in_ok-read_colour-in-len6.ensures.found.0 refl, c.in_ok-read_colour-in-len6.ensures.value)
+pub returns-then-eq-2 : goal.returns-then-eq-2
+returns-then-eq-2 c =
+    says_wants c.args.words.now c.in_ok-keyword.keyword.now c.in_ok-keyword.rest.now c.in_ok-keyword.ensures.cases.0 (sym c.eq-2.ensures ∙ c.if-eq-2.true) c.in_ok-read_wants.field-0 c.in_ok-read_wants.ensures
 
-pub returns-in_ok-read_rect-in-len6-2 : goal.returns-in_ok-read_rect-in-len6-2
-returns-in_ok-read_rect-in-len6-2 c =
-    request_said c.args.words.now _ _ (omega arith) (sym c.eq-then-words-lt7-2.ensures ∙ c.if-eq-5.true) (sym c.eq-then-eq-5.ensures ∙ c.if-eq-6.true) c.in_ok-read_rect-in-len6-2.ensures.value
-
-pub returns-in_err-read_rect-in-len6 : goal.returns-in_err-read_rect-in-len6
-returns-in_err-read_rect-in-len6 c =
-    rw c.from_residual-in_err-read_rect-in-len6.ensures (no_fill c.args.words.now _ (omega arith) (sym c.eq-then-words-lt7.ensures ∙ c.if-eq-4.true)
-    (λ rect colour are is. let bad = c.in_err-read_rect-in-len6.ensures.found.1 are.numbers in cc))
-
-pub returns-in_err-read_colour-in-len6 : goal.returns-in_err-read_colour-in-len6
-returns-in_err-read_colour-in-len6 c =
-    rw c.from_residual-in_err-read_colour-in-len6.ensures (no_fill c.args.words.now _ (omega arith) (sym c.eq-then-words-lt7.ensures ∙ c.if-eq-4.true)
-    (λ rect colour are is. let bad = c.in_err-read_colour-in-len6.ensures.found.1 is.0 in cc))
-
-pub returns-in_err-read_rect-in-len6-2 : goal.returns-in_err-read_rect-in-len6-2
-returns-in_err-read_rect-in-len6-2 c =
-    rw c.from_residual-in_err-read_rect-in-len6-2.ensures (no_request c.args.words.now _ (omega arith) (sym c.eq-then-words-lt7-2.ensures ∙ c.if-eq-5.true)
-    (sym c.eq-then-eq-5.ensures ∙ c.if-eq-6.true) (λ rect are. let bad = c.in_err-read_rect-in-len6-2.ensures.found.1 are.numbers in cc))
+pub returns-then-is_empty : goal.returns-then-is_empty
+returns-then-is_empty c =
+    says_settle c.args.words.now c.in_ok-keyword.keyword.now c.in_ok-keyword.rest.now c.in_ok-keyword.ensures.cases.0 (sym c.eq-3.ensures ∙ c.if-eq-3.true) (empty_of _ _ c.is_empty.ensures c.if-is_empty.true)

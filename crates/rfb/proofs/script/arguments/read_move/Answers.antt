@@ -1,0 +1,12 @@
+use Rattle.std.proofs.Common.{arith}
+use Rattle.rfb.proofs.ArgumentLemmas.{is_move, no_move}
+use Rattle.rfb.proofs.script.arguments.read_move.Goals as goal
+
+pub returns-in_err-read_number-2 : goal.returns-in_err-read_number-2
+returns-in_err-read_number-2 c =
+    rw c.from_residual-in_err-read_number-2.ensures (no_move c.args.words.now _ (omega arith)
+    (λ rect are column row. c.in_err-read_number-2.ensures row))
+
+pub returns : goal.returns
+returns c =
+    is_move c.args.words.now _ (omega arith) _ _ _ c.in_ok-read_rect.ensures.value c.in_ok-read_number.ensures c.in_ok-read_number-2.ensures

@@ -1,0 +1,113 @@
+-- What the words of a line stand for, behind the first one.
+use Rattle.std.specs.Prelude.{◌≡◌, ◌≤◌, ◌⊎◌, ℕ, Bool, true, false, List, [], ◌∷◌, Ok, codes, length, map}
+use Rattle.std.specs.Borrow.{Bor}
+use Rattle.std.specs.List.{AllPass}
+use Rattle.std.specs.Str.Parse.{digits_value}
+use Rattle.hex.specs.Hex.{decode_of, is_hex_digit}
+use Rattle.rfb_picture.specs.declared.rect.Rect.{Rect}
+use Rattle.rfb_pixel.specs.declared.colour.Colour.{Colour}
+use Rattle.rfb_pixel.specs.Format.{PixelFormat, rgb888, rgb565, bgr233}
+use Rattle.rfb_wire.specs.declared.encoding.Encoding.{Encoding}
+use Rattle.rfb_wire.specs.declared.encoding.Encoding.TheVariants.{Raw, CopyRect, Rre, Hextile}
+use Rattle.rfb.specs.declared.script.line.Screen.{Screen as Size}
+use Rattle.rfb.specs.declared.script.line.Wants.{Wants}
+use Rattle.rfb.specs.Number.{IsCount, IsNumber}
+
+-- the words behind references to them
+abbrev pub texts : List (Bor (List ℕ)) → List (List ℕ)
+texts words = map (λ word. word.now) words
+
+-- ---- one word
+
+-- the word is the number of a side of the screen
+abbrev pub IsSide : List ℕ → Type 0
+IsSide word = IsNumber word × (1 ≤ digits_value 10 word) × (digits_value 10 word ≤ 4096)
+
+-- it is this number
+abbrev pub IsNumberOf : List ℕ → ℕ → Type 0
+IsNumberOf word n = IsNumber word × (n ≡ digits_value 10 word)
+
+-- a word is a colour: six hexadecimal digits, of red, green and blue
+abbrev pub IsColourWord : List ℕ → Colour → Type 0
+IsColourWord word colour =
+    ((length word ≡ 6) × AllPass is_hex_digit word)
+    × (decode_of word ≡ Ok (colour.r ∷ colour.g ∷ colour.b ∷ []))
+
+-- a word is the name of a format
+abbrev pub IsFormatWord : List ℕ → PixelFormat → Type 0
+IsFormatWord word format =
+    ((word ≡ codes "rgb888") × (format ≡ rgb888))
+    ⊎ ((word ≡ codes "rgb565") × (format ≡ rgb565))
+    ⊎ ((word ≡ codes "bgr233") × (format ≡ bgr233))
+
+-- the name of an encoding
+abbrev pub name_of : Encoding → List ℕ
+name_of Raw = codes "raw"
+name_of CopyRect = codes "copyrect"
+name_of Rre = codes "rre"
+name_of Hextile = codes "hextile"
+
+-- a request for what has changed is incremental, one for all is full
+abbrev pub kind_of : Bool → List ℕ
+kind_of true = codes "inc"
+kind_of false = codes "full"
+
+-- ---- more than one
+
+-- four words are numbers
+abbrev pub AreNumbers : List ℕ → List ℕ → List ℕ → List ℕ → Type 0
+AreNumbers x y w h = IsNumber x × IsNumber y × IsNumber w × IsNumber h
+
+-- four words are a rectangle
+pub record AreRect (x y w h : List ℕ) (rect : Rect) : Type 0 where
+  pub numbers : AreNumbers x y w h
+  pub x_is : rect.x ≡ digits_value 10 x
+  pub y_is : rect.y ≡ digits_value 10 y
+  pub w_is : rect.w ≡ digits_value 10 w
+  pub h_is : rect.h ≡ digits_value 10 h
+
+-- words are one to four encodings, each by its name
+abbrev pub AreEncodings : List (List ℕ) → List Encoding → Type 0
+AreEncodings words encodings =
+    (words ≡ map name_of encodings) × (1 ≤ length words) × (length words ≤ 4)
+
+-- ---- the words behind the first of a line
+
+-- the size of a screen
+abbrev pub AreSize : List (List ℕ) → Size → Type 0
+AreSize words size =
+    (w h : List ℕ) × (words ≡ w ∷ h ∷ []) × (IsSide w × IsSide h)
+    × (size.width ≡ digits_value 10 w) × (size.height ≡ digits_value 10 h)
+
+-- what the viewer wants
+abbrev pub AreWants : List (List ℕ) → Wants → Type 0
+AreWants words wants =
+    (f : List ℕ) × (names : List (List ℕ)) × (words ≡ f ∷ names) × IsFormatWord f wants.format
+    × AreEncodings names wants.encodings.items
+
+-- a rectangle and a colour
+abbrev pub AreFill : List (List ℕ) → Rect → Colour → Type 0
+AreFill words rect colour =
+    (x y w h c : List ℕ) × (words ≡ x ∷ y ∷ w ∷ h ∷ c ∷ []) × AreRect x y w h rect
+    × IsColourWord c colour
+
+-- a rectangle, and the column and the row of another
+abbrev pub AreMove : List (List ℕ) → Rect → ℕ → ℕ → Type 0
+AreMove words rect sx sy =
+    (x y w h u v : List ℕ) × (words ≡ x ∷ y ∷ w ∷ h ∷ u ∷ v ∷ []) × AreRect x y w h rect
+    × IsNumberOf u sx × IsNumberOf v sy
+
+-- the kind of a request, and its area
+abbrev pub AreRequest : List (List ℕ) → Bool → Rect → Type 0
+AreRequest words incremental rect =
+    (x y w h : List ℕ) × (words ≡ kind_of incremental ∷ x ∷ y ∷ w ∷ h ∷ [])
+    × AreRect x y w h rect
+
+-- one number of bytes
+abbrev pub IsCountAlone : List (List ℕ) → ℕ → Type 0
+IsCountAlone words n =
+    (c : List ℕ) × (words ≡ c ∷ []) × IsCount c × (n ≡ digits_value 10 c)
+
+-- one format
+abbrev pub IsFormatAlone : List (List ℕ) → PixelFormat → Type 0
+IsFormatAlone words format = (f : List ℕ) × (words ≡ f ∷ []) × IsFormatWord f format

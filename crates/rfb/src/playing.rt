@@ -1,0 +1,102 @@
+//! A script at work: both ends in memory, and what a step does to them.
+
+ghost use Rattle.std.specs.Prelude.{◌≡◌, ◌≢◌, None, IfOk, OnOk};
+ghost use Rattle.rfb.specs.declared.script.line.Step.TheVariants.{Settle};
+ghost use Rattle.rfb.specs.Few.{HasFew};
+ghost use Rattle.rfb.specs.Playing.{StandsFresh, TakesStep, TellsRefusal, encodings_of, format_of};
+
+use crate::fault::Fault;
+use crate::script::{Screen, Step, Wants};
+use arrayvec::ArrayVec;
+use rfb_hello::Version;
+use rfb_pixel::Format;
+use rfb_server::Server;
+use rfb_session::{Event, NoMemory, Refused, World};
+use rfb_viewer::Viewer;
+use rfb_wire::Encoding;
+use std::alloc::Global;
+
+// How many bytes of a text each end keeps.
+const TEXT_LIMIT: u32 = 1024;
+
+// How many places of a screen the viewer admits: those of the largest one.
+const MAX_PLACES: u32 = 16_777_216;
+
+// How often a `settle` delivers, each way.
+const TURNS: u32 = 8;
+
+// More bytes than are ever in flight one way.
+const ALL: u32 = u32::MAX;
+
+/// A world of two ends of version 3.8: a server with a black screen that is named `rfb`, and a
+/// viewer that asks for a shared screen. It wants Raw at rgb888 where nothing else is said.
+pub fn fresh_world(
+    alloc: Global,
+    screen: Screen,
+    wants: &Option<Wants>,
+) -> Result<World, Fault>
+    ensures { IfOk result (StandsFresh screen wants.now) }
+{
+    let (width, height) = (screen.width, screen.height);
+    let server = Server::new(alloc, width, height, b"rfb", Version::V38, TEXT_LIMIT)?;
+    let (format, encodings) = wishes(wants);
+    let viewer = Viewer::new(
+        alloc,
+        format,
+        encodings,
+        Version::V38,
+        true,
+        MAX_PLACES,
+        TEXT_LIMIT,
+    );
+    let world = World::new(alloc, server, viewer)?;
+    Ok(world)
+}
+
+// The format and the encodings of the viewer.
+fn wishes(wants: &Option<Wants>) -> (Format, ArrayVec<Encoding, 4>)
+    ensures format { result.0 ≡ format_of wants.now }
+    ensures encodings { result.1.items ≡ encodings_of wants.now }
+{
+    let mut encodings = ArrayVec::new();
+    match wants {
+        Some(wants) => {
+            match encodings.try_extend_from_slice(wants.encodings.as_slice()) {
+                Ok(()) => (wants.format, encodings),
+                Err(_) => unreachable!(),
+            }
+        }
+        None => {
+            encodings.push(Encoding::Raw);
+            (Format::rgb888(), encodings)
+        }
+    }
+}
+
+/// Takes a step, and answers its refusal, if it was refused; then nothing has changed. A `settle`
+/// never is.
+pub fn play(world: &mut World, step: &Step) -> Result<Option<Refused>, NoMemory>
+    requires few { HasFew step.now }
+    ensures taken { IfOk result (λ refused. TakesStep world.old step.now world.new) }
+    ensures told { IfOk result (TellsRefusal world.old step.now) }
+    ensures kept { IfOk result (λ refused. refused ≢ None → world.new ≡ world.old) }
+{
+    match step {
+        Step::Event(event) => Ok(world.step(event)?.refused),
+        Step::Settle => {
+            settle(world)?;
+            Ok(None)
+        }
+    }
+}
+
+// Makes sixteen deliveries.
+fn settle(world: &mut World) -> Result<(), NoMemory>
+    ensures { OnOk result (TakesStep world.old Settle world.new) }
+{
+    let both_ways = [Event::ToServer(ALL), Event::ToViewer(ALL)];
+    for _turn in 0..TURNS {
+        world.run(&both_ways)?;
+    }
+    Ok(())
+}

@@ -1,0 +1,208 @@
+//! What each line of a script does beside the filling and the asking.
+
+use super::calls::run;
+use std::test::Fail;
+
+// An update of 24 bytes that arrives in two parts; between them the viewer asks for a format.
+const BEFORE_THE_CUT: &[u8] = b"screen 2 1
+fill 0 0 1 1 FF8001
+settle
+request full 0 0 2 1
+toserver 9
+compose
+toserver 1
+compose
+";
+
+const BEHIND_THE_CUT: &[u8] = b"format rgb565
+toviewer 4294967295
+format rgb565
+request inc 0 0 2 1
+settle
+compose
+settle
+";
+
+// The left place, (255, 128, 1), as rgb565 has it.
+const SEEN_AT_RGB565: &[u8] = b"P6\n2 1\n255\n\xFF\x82\0\0\0\0";
+
+#[test]
+fn a_format_waits_for_the_end_of_an_update(rt: HostRuntime) -> Result<(), Fail> {
+    for cut in 1..=24 {
+        let mut script = BEFORE_THE_CUT.to_vec(rt.alloc())?;
+        let part = format!(in rt.alloc(); "toviewer {cut}\n")?;
+        script.extend_from_slice(part.as_bytes())?;
+        script.extend_from_slice(BEHIND_THE_CUT)?;
+        let ended = run(&rt, script.as_slice());
+        let told = if cut < 24 {
+            b"line 10: refused 26 Busy\n".as_slice()
+        } else {
+            b"".as_slice()
+        };
+        assert_eq!(rt; ended.errors.as_slice(), told, "cut at {cut}");
+        assert_eq!(rt; ended.output.as_slice(), SEEN_AT_RGB565, "cut at {cut}");
+        assert_eq!(rt; ended.status, 0, "cut at {cut}");
+    }
+    Ok(())
+}
+
+#[test]
+fn another_format_is_refused_while_a_request_is_outstanding(rt: HostRuntime) {
+    let script = b"screen 1 1
+fill 0 0 1 1 FF8001
+settle
+request full 0 0 1 1
+format bgr233
+settle
+compose
+settle
+format bgr233
+request inc 0 0 1 1
+settle
+compose
+settle
+";
+    let ended = run(&rt, script);
+    assert_eq!(rt;
+        ended.errors.as_slice(),
+        b"line 5: refused 26 Busy\n".as_slice()
+    );
+    assert_eq!(rt;
+        ended.output.as_slice(),
+        b"P6\n1 1\n255\n\xFF\x92\0".as_slice()
+    );
+    assert_eq!(rt; ended.status, 0);
+}
+
+#[test]
+fn the_viewer_asks_for_the_format_and_the_encodings_of_its_line(rt: HostRuntime) -> Result<(), Fail> {
+    for (wants, red, green, blue) in [
+        (b"".as_slice(), 255, 128, 1),
+        (b"viewer rgb888 rre copyrect hextile raw\n".as_slice(), 255, 128, 1),
+        (b"viewer rgb565 raw\n".as_slice(), 255, 130, 0),
+        (b"viewer bgr233 hextile rre\n".as_slice(), 255, 146, 0),
+    ] {
+        let mut script = b"screen 1 1\n".to_vec(rt.alloc())?;
+        script.extend_from_slice(wants)?;
+        script.extend_from_slice(b"fill 0 0 1 1 FF8001\nsettle\nrequest full 0 0 1 1\nsettle\n")?;
+        script.extend_from_slice(b"compose\nsettle\n")?;
+        let mut shown = b"P6\n1 1\n255\n".to_vec(rt.alloc())?;
+        shown.extend_from_slice(&[red, green, blue])?;
+        let ended = run(&rt, script.as_slice());
+        let text = wants.escape_ascii();
+        assert_eq!(rt; ended.errors.as_slice(), b"".as_slice(), "{text}");
+        assert_eq!(rt; ended.output.as_slice(), shown.as_slice(), "{text}");
+        assert_eq!(rt; ended.status, 0, "{text}");
+    }
+    Ok(())
+}
+
+// A screen of 9 by 8: a rectangle of 3 by 2 at (1, 0), and its copy at (4, 5).
+const COPIED: [&[u8; 9]; 8] = [
+    b".###.....",
+    b".###.....",
+    b".........",
+    b".........",
+    b".........",
+    b"....###..",
+    b"....###..",
+    b".........",
+];
+
+#[test]
+fn a_copy_takes_its_source_to_its_rectangle(rt: HostRuntime) -> Result<(), Fail> {
+    let mut shown = b"P6\n9 8\n255\n".to_vec(rt.alloc())?;
+    for row in COPIED {
+        for place in row {
+            let colour = if *place == b'#' {
+                b"\xFF\x80\x01"
+            } else {
+                b"\0\0\0"
+            };
+            shown.extend_from_slice(colour.as_slice())?;
+        }
+    }
+    // The viewer has the source already, and is told of the copy or not.
+    for hint in [b"".as_slice(), b"hint 4 5 3 2 1 0\n".as_slice()] {
+        let mut script = b"screen 9 8\nviewer rgb888 raw copyrect\n".to_vec(rt.alloc())?;
+        script.extend_from_slice(b"fill 1 0 3 2 FF8001\nsettle\nrequest full 0 0 9 8\nsettle\n")?;
+        script.extend_from_slice(b"compose\nsettle\ncopy 4 5 3 2 1 0\n")?;
+        script.extend_from_slice(hint)?;
+        script.extend_from_slice(b"request inc 0 0 9 8\nsettle\ncompose\nsettle\n")?;
+        let ended = run(&rt, script.as_slice());
+        let text = hint.escape_ascii();
+        assert_eq!(rt; ended.errors.as_slice(), b"".as_slice(), "{text}");
+        assert_eq!(rt; ended.output.as_slice(), shown.as_slice(), "{text}");
+        assert_eq!(rt; ended.status, 0, "{text}");
+    }
+    Ok(())
+}
+
+#[test]
+fn a_copy_or_a_hint_that_leaves_the_screen_is_refused(rt: HostRuntime) {
+    let script = b"screen 9 8
+hint 8 0 1 8 0 0
+hint 0 7 9 1 0 0
+hint 0 0 1 1 8 0
+hint 0 0 1 1 0 8
+hint 7 0 3 1 0 0
+copy 8 0 1 8 0 0
+copy 0 7 9 1 0 0
+copy 0 0 1 1 8 0
+copy 0 0 1 1 0 8
+copy 0 7 1 2 0 0
+settle
+";
+    let refused = b"line 5: refused 24 Outside
+line 6: refused 24 Outside
+line 10: refused 24 Outside
+line 11: refused 24 Outside
+";
+    let ended = run(&rt, script);
+    assert_eq!(rt; ended.errors.as_slice(), refused.as_slice());
+    assert_eq!(rt; ended.output.len(), 11 + 3 * 9 * 8);
+    assert_eq!(rt; ended.status, 0);
+}
+
+#[test]
+fn the_picture_is_there_once_the_screens_size_is_known(rt: HostRuntime) {
+    // Of the server's last message of the handshake 24 bytes have come, and its name has not.
+    let script = b"screen 2 1
+toviewer 12
+toserver 12
+toviewer 2
+toserver 1
+toviewer 4
+toserver 1
+toviewer 24
+request full 0 0 2 1
+format rgb565
+";
+    let ended = run(&rt, script);
+    assert_eq!(rt;
+        ended.errors.as_slice(),
+        b"line 9: refused 25 NotReady\nline 10: refused 25 NotReady\n".as_slice()
+    );
+    assert_eq!(rt;
+        ended.output.as_slice(),
+        b"P6\n2 1\n255\n\0\0\0\0\0\0".as_slice()
+    );
+    assert_eq!(rt; ended.status, 0);
+}
+
+#[test]
+fn one_byte_less_leaves_the_viewer_without_a_picture(rt: HostRuntime) {
+    let script = b"screen 2 1
+toviewer 12
+toserver 12
+toviewer 2
+toserver 1
+toviewer 4
+toserver 1
+toviewer 23
+";
+    let ended = run(&rt, script);
+    assert_eq!(rt; ended.errors.as_slice(), b"fault 25 NotReady\n".as_slice());
+    assert_eq!(rt; ended.output.as_slice(), b"".as_slice());
+    assert_eq!(rt; ended.status, 1);
+}
