@@ -166,4 +166,4 @@ none_named words items named none encodings said =
 pub no_wants : (words : List (Bor (List ℕ))) (first : Bor (List ℕ)) (rest : List (Bor (List ℕ))) → words ≡ first ∷ rest → ((format : PixelFormat) → ¬ (IsFormatWord first.now format)) → (wants : Wants) → ¬ (AreWants (texts words) wants)
 no_wants words first rest e none wants said =
     none wants.format (subst (λ (w : List ℕ). IsFormatWord w wants.format)
-        (sym (heads first.now said.0 (texts rest) said.1 (sym (ap (λ (ws : List (Bor (List ℕ))). texts ws) e) ∙ said.2))) said.3)
+    (sym (heads first.now said.0 (texts rest) said.1 (sym (ap (λ (ws : List (Bor (List ℕ))). texts ws) e) ∙ said.2))) said.3)

@@ -161,7 +161,7 @@ fn run<W: Write, E: Write>(
 ) -> Result<(), Fault>
     ensures { AreMade (ends_of script.now.screen script.now.wants) → OnOk result
         (WritesPlayed script.now.screen script.now.wants script.now.steps.items
-            (W.contents output.old) (W.contents output.new)) }
+        (W.contents output.old) (W.contents output.new)) }
 {
     let mut world = fresh_world(alloc, script.screen, &script.wants)?;
     finish(alloc, &mut world, &script.steps, output, errors)

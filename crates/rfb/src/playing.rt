@@ -30,11 +30,7 @@ const ALL: u32 = u32::MAX;
 
 /// A world of two ends of version 3.8: a server with a black screen that is named `rfb`, and a
 /// viewer that asks for a shared screen. It wants Raw at rgb888 where nothing else is said.
-pub fn fresh_world(
-    alloc: Global,
-    screen: Screen,
-    wants: &Option<Wants>,
-) -> Result<World, Fault>
+pub fn fresh_world(alloc: Global, screen: Screen, wants: &Option<Wants>) -> Result<World, Fault>
     ensures { IfOk result (StandsFresh screen wants.now) }
 {
     let (width, height) = (screen.width, screen.height);

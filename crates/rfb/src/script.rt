@@ -35,9 +35,8 @@ mod words;
 
 use crate::fault::Failure;
 use crate::script::read::{read_screen, read_step, read_viewer};
-use std::alloc::Global;
-
 pub use line::{Numbered, Screen, Step, Wants};
+use std::alloc::Global;
 
 /// A script that was read to its end and has no bad line.
 #[derive(Debug, Drop)]
@@ -96,7 +95,7 @@ pub fn read_script(alloc: Global, text: &[u8]) -> Result<Script, Failure>
 fn read_second(line: &[u8], wants: &Option<Wants>, steps: &[Numbered]) -> Option<Wants>
     ensures { MatchOption result (wants.now ≡ None → steps.now ≡ [] → ¬ (GivesWants line.now))
         (λ wanted. (wants.now ≡ None) × (steps.now ≡ [])
-            × Says (words_of line.now) (Line.Viewer wanted)) }
+        × Says (words_of line.now) (Line.Viewer wanted)) }
 {
     if wants.is_some() || !steps.is_empty() {
         return None;

@@ -72,7 +72,7 @@ pub fn read_move(words: &[&[u8]]) -> Option<(Rect, u16, u16)>
 pub fn read_request(words: &[&[u8]]) -> Option<(bool, Rect)>
     ensures { MatchOption result
         ((incremental : Bool) (rect : Rect) →
-            ¬ (AreRequest (texts words.now) incremental rect))
+        ¬ (AreRequest (texts words.now) incremental rect))
         (λ request. AreRequest (texts words.now) request.0 request.1) }
 {
     let [kind, x, y, w, h] = words else {

@@ -146,9 +146,18 @@ fn the_first_bad_line_is_told_by_its_number(rt: HostRuntime) -> Result<(), Fail>
         (b"screen 2 1\n\nviewer rgb888\nsettle\n".as_slice(), 3),
         (b"screen 2 1\nviewer raw rgb888\nsettle\n".as_slice(), 2),
         (b"screen 2 1\nviewer rgb888 Raw\nsettle\n".as_slice(), 2),
-        (b"screen 2 1\nviewer rgb888 raw zrle\nsettle\n".as_slice(), 2),
-        (b"screen 2 1\nviewer rgb888 raw rre raw rre raw\nsettle\n".as_slice(), 2),
-        (b"screen 2 1\nviewer rgb888 raw\nviewer rgb888 raw\n".as_slice(), 3),
+        (
+            b"screen 2 1\nviewer rgb888 raw zrle\nsettle\n".as_slice(),
+            2,
+        ),
+        (
+            b"screen 2 1\nviewer rgb888 raw rre raw rre raw\nsettle\n".as_slice(),
+            2,
+        ),
+        (
+            b"screen 2 1\nviewer rgb888 raw\nviewer rgb888 raw\n".as_slice(),
+            3,
+        ),
         (b"screen 2 1\nsettle\nviewer rgb888 raw\n".as_slice(), 3),
         (b"screen 2 1\nsettle\n\nsettle settle".as_slice(), 4),
         (b"screen 2 1\nsettle\0\nsettle\n".as_slice(), 2),

@@ -75,10 +75,17 @@ settle
 }
 
 #[test]
-fn the_viewer_asks_for_the_format_and_the_encodings_of_its_line(rt: HostRuntime) -> Result<(), Fail> {
+fn the_viewer_asks_for_the_format_and_the_encodings_of_its_line(
+    rt: HostRuntime,
+) -> Result<(), Fail> {
     for (wants, red, green, blue) in [
         (b"".as_slice(), 255, 128, 1),
-        (b"viewer rgb888 rre copyrect hextile raw\n".as_slice(), 255, 128, 1),
+        (
+            b"viewer rgb888 rre copyrect hextile raw\n".as_slice(),
+            255,
+            128,
+            1,
+        ),
         (b"viewer rgb565 raw\n".as_slice(), 255, 130, 0),
         (b"viewer bgr233 hextile rre\n".as_slice(), 255, 146, 0),
     ] {

@@ -27,7 +27,7 @@ loop-line-preserved-in-Some-read_second c =
     let l = c.loop-line in
     let said = c.in-Some-read_second.ensures in
     let turn = turn_wants l.yielded c.in-Some.line l.number l.screen l.wants c.in-Some-read_second.wanted l.steps.items l.invariant.count l.invariant.so_far (c.is_none.ensures ∙ ap not c.if-is_none.false)
-        (ap (λ (w : Option Wants). is_some w) said.0) (sym c.deref.ensures.value ∙ said.1) said.2 in
+    (ap (λ (w : Option Wants). is_some w) said.0) (sym c.deref.ensures.value ∙ said.1) said.2 in
     record { count = turn.0; so_far = turn.1 }
 
 pub loop-line-preserved : goal.loop-line-preserved
@@ -57,7 +57,7 @@ returns-in_default-read_step-clause-stopped c =
     let turn = YieldsList-turn (YieldsList-from_slice_split _ (λ byte. byte == 10) c.args.text.now (cc) (cc) (cc) (λ x r q k. search (rules, tests))) l.yielded _ l.yielded_by _ _ line c.in-Some.is c.next.ensures.steps in
     let front = YieldsList-so_far (YieldsList-from_slice_split _ (λ byte. byte == 10) c.args.text.now (cc) (cc) (cc) (λ x r q k. search (rules, tests))) l.yielded _ l.yielded_by in
     let bad = bad_step (texts l.yielded) line.now l.screen l.wants l.steps.items some l.invariant.so_far (c.is_none.ensures ∙ ap not c.if-is_none.false)
-        (c.in_default-read_step.ensures, λ w s. c.in_default-read_second.ensures w (c.deref.ensures.value ∙ s)) in
+    (c.in_default-read_step.ensures, λ w s. c.in_default-read_second.ensures w (c.deref.ensures.value ∙ s)) in
     inl (first_bad (lines_of c.args.text.now) l.yielded line l.number front turn l.invariant.count bad)
 
 pub returns-in-Some-screen-clause-read : goal.returns-in-Some-screen-clause-read
