@@ -23,7 +23,8 @@ use Rattle.rfb_viewer.proofs.ViewerLaws.{server_bytes_laws, viewer_machine}
 use Rattle.rfb_session.specs.Link.{Ends, SessionState, server_of, session_of, Link, first_link}
 use Rattle.rfb_session.specs.Answers.{viewer_answers, viewer_replies, server_answers, server_replies}
 use Rattle.rfb_session.specs.InFlight.{AreMade, Flight, Flies, first_flight, viewer_reply, server_reply, ReachesViewer, ReachesServer}
-use Rattle.rfb_session.proofs.PhaseLemmas.{Core, core, shown}
+use Rattle.rfb_session.proofs.PhaseLemmas.{Core, core}
+use Rattle.rfb_session.proofs.ShowingLemmas.{shown}
 use Rattle.rfb_session.proofs.ServedLemmas.{served}
 use Rattle.rfb_session.proofs.HoldsLemmas.{Holds, holds_shown, holds_served, kept_screen}
 use Rattle.rfb_session.proofs.AnswerLemmas.{to_server_stream, to_viewer_stream, AnswersBehind, answers_read, RepliesBehind, replies_read}

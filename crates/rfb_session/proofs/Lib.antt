@@ -1,7 +1,9 @@
 pub mod QueueLemmas
 pub mod PhaseLemmas
+pub mod ShowingLemmas
 pub mod ServedLemmas
 pub mod HoldsLemmas
+pub mod DueLemmas
 pub mod CallLemmas
 pub mod NetworkLemmas
 pub mod ReadyLemmas

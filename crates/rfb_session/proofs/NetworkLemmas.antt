@@ -17,7 +17,8 @@ use Rattle.rfb_session.specs.Headline.{IsHeadline}
 use Rattle.rfb_session.specs.Network.{Network, Draws, OnLink, Steps, StepsAll, IsReached}
 use Rattle.rfb_session.proofs.QueueLemmas.{uniform_at, none_unasked}
 use Rattle.rfb_session.proofs.PhaseLemmas.{Core, core, Phase, Greeting, Versioned, Typed, Choosing37, Choosing38, Chosen, Sharing, Begun, Named, Idling, Asking, Held, Sent}
-use Rattle.rfb_session.proofs.HoldsLemmas.{Holds, holds_composed, holds_to_viewer, holds_to_server}
+use Rattle.rfb_session.proofs.HoldsLemmas.{Holds, holds_to_viewer, holds_to_server}
+use Rattle.rfb_session.proofs.DueLemmas.{holds_composed}
 use Rattle.rfb_session.proofs.CallLemmas.{holds_mere, holds_request, holds_format}
 
 -- each step of a link

@@ -22,7 +22,8 @@ use Rattle.rfb_session.specs.Link.{Ends, server_of, Link}
 use Rattle.rfb_session.specs.LinkSteps.{begun, calls, ComposesOn}
 use Rattle.rfb_session.specs.InFlight.{Flight, Flies}
 use Rattle.rfb_session.proofs.PhaseLemmas.{Core, core, Phase, Greeting, Versioned, Typed, Choosing37, Choosing38, Chosen, Sharing, Begun, Named, Idling, Asking, Held, Sent}
-use Rattle.rfb_session.proofs.HoldsLemmas.{Holds, due_held, point_is}
+use Rattle.rfb_session.proofs.HoldsLemmas.{Holds}
+use Rattle.rfb_session.proofs.DueLemmas.{due_held, point_is}
 use Rattle.rfb_session.proofs.ReadyLemmas.{one_read}
 use Rattle.rfb_session.proofs.AnswerLemmas.{to_server_stream, to_viewer_stream}
 use Rattle.rfb_session.proofs.FlightLemmas.{joins, p_server, p_viewer}
