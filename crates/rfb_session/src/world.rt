@@ -161,3 +161,6 @@ impl World {
         }
     }
 }
+
+#[cfg(test)]
+mod tests;

@@ -1,0 +1,137 @@
+//! Worlds of two ends of ours.
+
+ghost use Rattle.std.specs.Prelude.{◌≤◌};
+ghost use Rattle.rfb_session.specs.World.{HasFewBytes};
+
+mod calls;
+mod cuts;
+mod failed;
+mod lists;
+mod machine;
+
+use super::World;
+use crate::event::Event;
+use crate::told::Refused;
+use arrayvec::ArrayVec;
+use rfb_hello::Version;
+use rfb_picture::Rect;
+use rfb_pixel::{Colour, Format};
+use rfb_server::Server;
+use rfb_viewer::Viewer;
+use rfb_wire::Encoding;
+use std::alloc::{AllocError, Global};
+
+// More bytes than are ever in flight here.
+const ALL: u32 = 4_294_967_295;
+
+const ORANGE: Colour = Colour {
+    r: 255,
+    g: 128,
+    b: 1,
+};
+
+// Orange, as RFC 6143's rgb565 of 5, 6 and 5 bits shows it: 31 of 31, 32 of 63 and 0 of 31.
+const ORANGE_OF_565: Colour = Colour {
+    r: 255,
+    g: 130,
+    b: 0,
+};
+
+const BLACK: Colour = Colour { r: 0, g: 0, b: 0 };
+
+const FIRST: Rect = Rect {
+    x: 0,
+    y: 0,
+    w: 1,
+    h: 1,
+};
+
+const SECOND: Rect = Rect {
+    x: 1,
+    y: 0,
+    w: 1,
+    h: 1,
+};
+
+const BOTH: Rect = Rect {
+    x: 0,
+    y: 0,
+    w: 2,
+    h: 1,
+};
+
+// A world of a row of places: version 3.8, the name `rfb`, Raw at rgb888.
+fn row_of(alloc: Global, width: u16) -> Result<World, AllocError>
+    requires { (1 ≤ width) × (width ≤ 4096) }
+{
+    let mut encodings = ArrayVec::new();
+    encodings.push(Encoding::Raw);
+    let format = Format::rgb888();
+    let server = Server::new(alloc, width, 1, b"rfb", Version::V38, 1024)?;
+    let viewer = Viewer::new(alloc, format, encodings, Version::V38, true, 4096, 1024);
+    World::new(alloc, server, viewer)
+}
+
+// The colour of a place of the row, where one is shown.
+fn shown(world: &World, x: u16) -> Option<Colour> {
+    let picture = world.picture()?;
+    if x < picture.width() && picture.height() > 0 {
+        Some(picture.at(x, 0))
+    } else {
+        None
+    }
+}
+
+// Whether an event is taken.
+fn takes(world: &mut World, event: Event) -> bool
+    requires few { HasFewBytes event }
+{
+    match world.step(&event) {
+        Ok(told) => told.refused.is_none(),
+        Err(_) => false,
+    }
+}
+
+// Whether an event is refused so.
+fn refuses(world: &mut World, event: Event, refused: Refused) -> bool
+    requires few { HasFewBytes event }
+{
+    match world.step(&event) {
+        Ok(told) => told.refused == Some(refused),
+        Err(_) => false,
+    }
+}
+
+// Whether an update is composed.
+fn composes(world: &mut World) -> bool {
+    match world.step(&Event::Compose) {
+        Ok(told) => told.composed,
+        Err(_) => false,
+    }
+}
+
+// How many of so many bytes reach the server.
+fn to_server(world: &mut World, count: u32) -> u32 {
+    match world.step(&Event::ToServer(count)) {
+        Ok(told) => told.moved,
+        Err(_) => 0,
+    }
+}
+
+// How many of so many bytes reach the viewer.
+fn to_viewer(world: &mut World, count: u32) -> u32 {
+    match world.step(&Event::ToViewer(count)) {
+        Ok(told) => told.moved,
+        Err(_) => 0,
+    }
+}
+
+// How many bytes arrive each way, all that is in flight at once, until none is.
+fn settle(world: &mut World) -> (u32, u32) {
+    let (mut server, mut viewer) = (0_u32, 0_u32);
+    for _ in 0..8 {
+        server = server.saturating_add(to_server(world, ALL));
+        viewer = viewer.saturating_add(to_viewer(world, ALL));
+    }
+    (server, viewer)
+}

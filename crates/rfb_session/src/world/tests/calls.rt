@@ -1,0 +1,196 @@
+//! Calls and drawings one by one: what is taken, how the rest is refused, and how long messages are.
+
+ghost use Rattle.std.specs.Prelude.{◌≤◌, IfOk};
+ghost use Rattle.rfb_session.specs.World.{HasFewBytes};
+
+use super::*;
+
+const FOUR: Rect = Rect {
+    x: 0,
+    y: 0,
+    w: 4,
+    h: 1,
+};
+
+const RIGHT_HALF: Rect = Rect {
+    x: 2,
+    y: 0,
+    w: 2,
+    h: 1,
+};
+
+// Whether the viewer's calls are refused, each with `NotReady`.
+fn waits_for_the_handshake(world: &mut World) -> bool {
+    refuses(world, Event::Request(false, FIRST), Refused::NotReady)
+        && refuses(world, Event::Key(true, 97), Refused::NotReady)
+        && refuses(world, Event::Pointer(1, 0, 0), Refused::NotReady)
+        && refuses(world, Event::SetFormat(Format::bgr233()), Refused::NotReady)
+        && refuses(
+            world,
+            Event::SetEncodings(ArrayVec::new()),
+            Refused::NotReady,
+        )
+}
+
+// Whether drawings and hints are taken on the screen, and refused off it.
+fn may_be_drawn_on(world: &mut World) -> bool {
+    takes(world, Event::Fill(BOTH, ORANGE))
+        && takes(world, Event::Hint(SECOND, 0, 0))
+        && takes(world, Event::Copy(SECOND, 0, 0))
+        && refuses(world, Event::Copy(BOTH, 1, 0), Refused::Outside)
+        && refuses(world, Event::Hint(BOTH, 1, 0), Refused::Outside)
+        && refuses(
+            world,
+            Event::Fill(Rect { h: 2, ..BOTH }, BLACK),
+            Refused::Outside,
+        )
+}
+
+#[test]
+fn a_call_before_the_handshake_is_refused(rt: HostRuntime) -> Result<(), AllocError> {
+    let mut world = row_of(rt.alloc(), 2)?;
+    let refused = waits_for_the_handshake(&mut world) && may_be_drawn_on(&mut world);
+    assert!(rt; refused);
+    // The greeting alone is in flight.
+    let in_flight = (to_server(&mut world, ALL), to_viewer(&mut world, ALL));
+    assert_eq!(rt; in_flight, (0, 12));
+    Ok(())
+}
+
+// A request is judged by what is outstanding, and then by its area.
+fn judges_requests(world: &mut World) -> bool {
+    let outside = Rect { w: 3, ..BOTH };
+    settle(world) == (42, 45)
+        && refuses(world, Event::Request(true, outside), Refused::AreaOutside)
+        && takes(world, Event::Request(true, BOTH))
+        && refuses(world, Event::Request(true, outside), Refused::Busy)
+        && to_server(world, ALL) == 10
+}
+
+#[test]
+fn a_request_is_judged_by_what_is_outstanding_and_then_by_its_area(
+    rt: HostRuntime,
+) -> Result<(), AllocError> {
+    let mut world = row_of(rt.alloc(), 2)?;
+    assert!(rt; judges_requests(&mut world));
+    Ok(())
+}
+
+fn two_encodings() -> Event
+    ensures { HasFewBytes result }
+{
+    let mut encodings = ArrayVec::new();
+    encodings.push(Encoding::Hextile);
+    encodings.push(Encoding::CopyRect);
+    Event::SetEncodings(encodings)
+}
+
+// How many bytes a call puts in flight to the server.
+fn size_of(world: &mut World, event: Event) -> u32
+    requires few { HasFewBytes event }
+{
+    if takes(world, event) {
+        to_server(world, ALL)
+    } else {
+        0
+    }
+}
+
+#[test]
+fn each_call_is_a_message_of_its_size(rt: HostRuntime) -> Result<(), AllocError> {
+    let text = text_of(rt.alloc(), 2000)?;
+    let mut world = row_of(rt.alloc(), 2)?;
+    settle(&mut world);
+    let sizes = [
+        size_of(&mut world, Event::Key(true, 97)),
+        size_of(&mut world, Event::Pointer(1, 1, 0)),
+        size_of(&mut world, two_encodings()),
+        size_of(&mut world, text),
+    ];
+    assert_eq!(rt; sizes, [8, 6, 12, 2008]);
+    Ok(())
+}
+
+// A text of so many letters.
+fn text_of(alloc: Global, count: usize) -> Result<Event, AllocError>
+    requires { count ≤ 1048576 }
+    ensures few { IfOk result (λ event. HasFewBytes event) }
+{
+    let mut text = Vec::new(alloc);
+    text.resize(count, b'A')?;
+    Ok(Event::CutText(text))
+}
+
+// A row of black and orange, from a column on.
+fn row_from(alloc: Global, x: u16) -> Result<Event, AllocError>
+    ensures few { IfOk result (λ event. HasFewBytes event) }
+{
+    let row = [BLACK, ORANGE].to_vec(alloc)?;
+    Ok(Event::Put(x, 0, row))
+}
+
+// What both places show once all was asked for and sent.
+fn shown_behind_an_update(world: &mut World) -> [Option<Colour>; 2] {
+    settle(world);
+    if takes(world, Event::Request(false, BOTH)) && settle(world) == (10, 0) && composes(world) {
+        settle(world);
+    }
+    [shown(world, 0), shown(world, 1)]
+}
+
+#[test]
+fn a_row_is_put(rt: HostRuntime) -> Result<(), AllocError> {
+    let row = row_from(rt.alloc(), 0)?;
+    let outside = row_from(rt.alloc(), 1)?;
+    let mut world = row_of(rt.alloc(), 2)?;
+    let put = refuses(&mut world, outside, Refused::Outside) && takes(&mut world, row);
+    assert!(rt; put);
+    assert_eq!(rt;
+        shown_behind_an_update(&mut world),
+        [Some(BLACK), Some(ORANGE)]
+    );
+    Ok(())
+}
+
+fn copy_rect_alone() -> Event
+    ensures { HasFewBytes result }
+{
+    let mut encodings = ArrayVec::new();
+    encodings.push(Encoding::CopyRect);
+    Event::SetEncodings(encodings)
+}
+
+// All is asked for and sent; how many bytes reached the viewer.
+fn refresh(world: &mut World, incremental: bool) -> u32 {
+    let asked = takes(world, Event::Request(incremental, FOUR));
+    let (server, _viewer) = settle(world);
+    if asked && server == 10 && composes(world) {
+        let (_server, viewer) = settle(world);
+        viewer
+    } else {
+        0
+    }
+}
+
+// How many bytes an update of four places has, and behind a copy that is hinted at, and what the
+// last place shows then.
+fn copies(world: &mut World) -> (u32, u32, Option<Colour>) {
+    takes(world, Event::Fill(BOTH, ORANGE));
+    settle(world);
+    takes(world, copy_rect_alone());
+    settle(world);
+    let pixels = refresh(world, false);
+    takes(world, Event::Copy(RIGHT_HALF, 0, 0));
+    takes(world, Event::Hint(RIGHT_HALF, 0, 0));
+    let copy = refresh(world, true);
+    (pixels, copy, shown(world, 3))
+}
+
+#[test]
+fn a_hinted_copy_arrives_as_its_source(rt: HostRuntime) -> Result<(), AllocError> {
+    let mut world = row_of(rt.alloc(), 4)?;
+    // Behind two heads of 4 and 12 bytes: four pixels of four bytes; then a column and a row, where
+    // two pixels would be 8 bytes.
+    assert_eq!(rt; copies(&mut world), (32, 20, Some(ORANGE)));
+    Ok(())
+}

@@ -1,0 +1,53 @@
+//! Ends that had failed before they were handed to a world.
+
+use super::*;
+
+// Twelve bytes of no version.
+const NO_VERSION: [u8; 12] = *b"RFB 008.003;";
+
+fn server_of(alloc: Global) -> Result<Server, AllocError> {
+    Server::new(alloc, 2, 1, b"rfb", Version::V38, 1024)
+}
+
+fn viewer_of(alloc: Global) -> Viewer {
+    let mut encodings = ArrayVec::new();
+    encodings.push(Encoding::Raw);
+    Viewer::new(
+        alloc,
+        Format::rgb888(),
+        encodings,
+        Version::V38,
+        true,
+        4096,
+        1024,
+    )
+}
+
+// How many bytes reach each end, the viewer's first, and what is in flight then.
+fn moves(world: &mut World) -> [usize; 4] {
+    let viewer = to_viewer(world, ALL) as usize;
+    let server = to_server(world, ALL) as usize;
+    [viewer, server, world.to_viewer.len(), world.to_server.len()]
+}
+
+#[test]
+fn bytes_to_a_viewer_that_has_failed_are_lost(rt: HostRuntime) -> Result<(), AllocError> {
+    let server = server_of(rt.alloc())?;
+    let mut viewer = viewer_of(rt.alloc());
+    let failed = viewer.feed(&NO_VERSION).is_err();
+    assert!(rt; failed);
+    let mut world = World::new(rt.alloc(), server, viewer)?;
+    assert_eq!(rt; moves(&mut world), [12, 0, 0, 0]);
+    Ok(())
+}
+
+#[test]
+fn bytes_to_a_server_that_has_failed_are_lost(rt: HostRuntime) -> Result<(), AllocError> {
+    let mut server = server_of(rt.alloc())?;
+    let failed = server.feed(&NO_VERSION).is_err();
+    assert!(rt; failed);
+    let mut world = World::new(rt.alloc(), server, viewer_of(rt.alloc()))?;
+    // The version of each.
+    assert_eq!(rt; moves(&mut world), [12, 12, 0, 0]);
+    Ok(())
+}

@@ -1,0 +1,52 @@
+//! A world and the plain machine, at the same events.
+
+ghost use Rattle.std.specs.Prelude.{◌≤◌, IfOk};
+ghost use Rattle.rfb_session.specs.World.{HasFewBytes};
+
+use super::lot::Lot;
+use super::plain::Plain;
+use crate::event::Event;
+use crate::world::World;
+use std::alloc::{AllocError, Global};
+
+// Whether both answer an event alike, and are alike behind it.
+fn is_alike(world: &mut World, plain: &mut Plain, event: &Event) -> Result<bool, AllocError>
+    requires few { HasFewBytes event.now }
+{
+    let before = world.to_viewer.len();
+    let Ok(told) = world.step(event) else {
+        return Ok(false);
+    };
+    let refused = plain.refusal(event)?;
+    let moved = plain.deliver(event)?;
+    let composed = plain.compose(
+        event,
+        told.composed,
+        world.to_viewer.len().saturating_sub(before),
+    )?;
+    Ok(
+        told.refused == refused
+            && told.moved == moved
+            && composed
+            && world.to_server.len() == plain.to_server.len()
+            && world.to_viewer.len() == plain.to_viewer.len()
+            && plain.shows(world.picture()),
+    )
+}
+
+/// How many updates arrive whole in so many events; `None` where the two differ.
+pub(super) fn updates_of(
+    world: &mut World,
+    plain: &mut Plain,
+    alloc: Global,
+    lot: &mut Lot,
+    count: u32,
+) -> Result<Option<u32>, AllocError> {
+    for _ in 0..count {
+        let event = lot.event(alloc, plain.width, plain.height)?;
+        if !is_alike(world, plain, &event)? {
+            return Ok(None);
+        }
+    }
+    Ok(Some(plain.updates))
+}
