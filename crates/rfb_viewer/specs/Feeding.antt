@@ -1,9 +1,10 @@
 -- What a viewer makes of bytes that it is fed.
-use Rattle.std.specs.Prelude.{◌≡◌, ◌≢◌, ℕ, List, Option, Ok}
+use Rattle.std.specs.Prelude.{◌≡◌, ◌≢◌, ℕ, Bool, true, false, List, Option, Some, None, Ok}
 use Rattle.rfb_wire.specs.stream.End.{FedBy, RefusedBy, RunsOutBy, StepsBy}
 use Rattle.rfb_viewer.specs.declared.fault.ViewerFault.{ViewerFault}
 use Rattle.rfb_viewer.specs.declared.fault.ViewerFault.TheVariants.{NoMemory}
 use Rattle.rfb_viewer.specs.declared.event.ViewerEvent.{ViewerEvent}
+use Rattle.rfb_viewer.specs.declared.event.ViewerEvent.TheVariants.{UpdateDone}
 use Rattle.rfb_viewer.specs.declared.viewer.Viewer.{Viewer}
 use Rattle.rfb_viewer.specs.Told.{seen}
 use Rattle.rfb_viewer.specs.Viewer.{Viewing, viewer, AsksMemory}
@@ -13,6 +14,11 @@ use Rattle.rfb_viewer.specs.Standing.{StandsFor}
 -- the grammar has it
 abbrev pub StepsOn : Viewer → List ℕ → Option ViewerEvent → Viewer → Type 0
 StepsOn old bytes event new = (viewing : Viewing) → StepsBy (viewer viewing) (StandsFor viewing) old bytes (Ok (seen event)) new
+
+-- the event of data that end an update, or do not
+abbrev pub end_event : Bool → Option ViewerEvent
+end_event true = Some UpdateDone
+end_event false = None
 
 -- it takes bytes, all of which it used
 abbrev pub TakesBy : Viewer → List ℕ → Option ViewerEvent → Viewer → Type 0

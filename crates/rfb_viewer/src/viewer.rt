@@ -43,6 +43,7 @@ impl Viewer {
     ghost use Rattle.rfb_viewer.specs.Viewer.{Viewing, viewer, first_viewer, AsksMemory};
     ghost use Rattle.rfb_viewer.specs.Standing.{StandsFor, viewing_with, fault_of, making_of};
     ghost use Rattle.rfb_viewer.specs.Feeding.{StepsOn, RefusesBy, StarvesBy};
+    ghost use Rattle.rfb_viewer.specs.Progress.{IsElsewhere};
     ghost use Rattle.rfb_viewer.specs.Failing.{KeepsPicture, KeepsReason};
 
     /// A viewer that was fed nothing. It goes up to version `limit`, asks for the screen alone where
@@ -105,22 +106,36 @@ impl Viewer {
         }
         let mut used = 0;
         while used < bytes.len() {
-            let fed = self.take(&bytes[used..])?;
-            used += fed.used;
-            if fed.event.is_some() {
-                return Ok(Fed {
-                    used,
-                    event: fed.event,
-                });
+            if let Progress::Data { .. } = self.progress {
+                let painted = self.take_data(&bytes[used..])?;
+                used += painted.used;
+                if painted.ends_update {
+                    return Ok(Fed {
+                        used,
+                        event: Some(ViewerEvent::UpdateDone),
+                    });
+                }
+            } else {
+                let fed = self.take(&bytes[used..])?;
+                used += fed.used;
+                if fed.event.is_some() {
+                    return Ok(Fed {
+                        used,
+                        event: fed.event,
+                    });
+                }
             }
         }
         Ok(Fed { used, event: None })
     }
 
-    // Takes bytes of the server's next item, as many of it as there are.
+    // Takes bytes of the server's next item but a rectangle's data, as many of it as there are. It is
+    // not inlined, since data that come byte by byte need none of it.
+    #[inline(never)]
     fn take(&mut self, bytes: &[u8]) -> Result<Fed<ViewerEvent>, ViewerFault>
         requires some { 0 < length bytes.now }
         requires going { fault_of self.old ≡ None }
+        requires elsewhere { IsElsewhere self.old.progress }
         ensures used { IfOk result (λ fed. (0 < fed.used) × (fed.used ≤ length bytes.now)) }
         ensures going { IfOk result (λ fed. fault_of self.new ≡ None) }
         ensures steps { IfOk result (λ fed.
@@ -136,10 +151,9 @@ impl Viewer {
             Progress::Handshake => self.greet(bytes),
             Progress::Head(_) => self.take_head(bytes),
             Progress::RectHead { .. } => self.take_rect_head(bytes),
-            Progress::Data { .. } => self.take_data(bytes),
             Progress::Colours { .. } => Ok(self.skip_colours(bytes)),
             Progress::CutText { .. } => Ok(self.take_text(bytes)),
-            Progress::Failed(_) => unreachable!(),
+            Progress::Data { .. } | Progress::Failed(_) => unreachable!(),
         }
     }
 }

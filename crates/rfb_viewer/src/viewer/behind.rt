@@ -3,6 +3,7 @@
 ghost use Rattle.std.specs.Prelude.{◌≡◌, ◌<◌, ℕ, IfOk, IfErr};
 ghost use Rattle.rfb_wire.specs.declared.server_head.ServerHead.TheVariants.{ColourMap, CutText};
 ghost use Rattle.rfb_viewer.specs.Told.{seen};
+ghost use Rattle.rfb_viewer.specs.Feeding.{end_event};
 ghost use Rattle.rfb_viewer.specs.Steps.{progress_behind, told_behind, request_behind, AsksBehind};
 ghost use Rattle.rfb_viewer.specs.Steps.{progress_past, told_past, request_past};
 
@@ -70,6 +71,20 @@ pub(crate) fn behind_rectangles(left: u16, request: Request) -> Behind
             event: None,
         },
     }
+}
+
+/// Goes on where so many rectangles are left of an update: whether it has ended. It is not inlined,
+/// since data that come byte by byte need none of it.
+#[inline(never)]
+pub(crate) fn go_on(progress: &mut Progress, request: &mut Request, left: u16) -> bool
+    ensures progress { progress.new ≡ progress_past left }
+    ensures request { request.new ≡ request_past left request.old }
+    ensures told { seen (end_event result) ≡ told_past left }
+{
+    let behind = behind_rectangles(left, *request);
+    *progress = behind.progress;
+    *request = behind.request;
+    left == 0
 }
 
 // Behind the head of SetColorMapEntries with so many colours.

@@ -8,7 +8,7 @@ use crate::event::ViewerEvent;
 use crate::fault::ViewerFault;
 use crate::gather::gather;
 use crate::viewer::Viewer;
-use crate::viewer::behind::behind_rectangles;
+use crate::viewer::behind::{behind_rectangles, go_on};
 use crate::viewer::progress::{Progress, RECT_HEAD_PART};
 use rfb_codec::Painter;
 use rfb_hello::Fed;
@@ -17,10 +17,19 @@ use rfb_wire::{Read, RectHead};
 // How many bytes a rectangle's head has, RFC 6143 section 7.6.1.
 const RECT_HEAD_SIZE: usize = 12;
 
+/// What was taken of a rectangle's data.
+#[derive(Clone, Copy)]
+pub(crate) struct Taken {
+    /// How many bytes.
+    pub(crate) used: usize,
+    /// Whether they end the update.
+    pub(crate) ends_update: bool,
+}
+
 impl Viewer {
     ghost use Rattle.rfb_viewer.specs.declared.viewer.progress.Progress.{Progress};
     ghost use Rattle.rfb_viewer.specs.Standing.{fault_of, making_of};
-    ghost use Rattle.rfb_viewer.specs.Feeding.{StepsOn, RefusesBy, StarvesBy};
+    ghost use Rattle.rfb_viewer.specs.Feeding.{StepsOn, RefusesBy, StarvesBy, end_event};
     ghost use Rattle.rfb_viewer.specs.Failing.{KeepsPicture, KeepsReason};
 
     // Takes bytes of a rectangle's head, and behind it those of its data.
@@ -80,14 +89,15 @@ impl Viewer {
     }
 
     // Takes bytes of a rectangle's data, and paints them piece by piece.
-    pub(super) fn take_data(&mut self, bytes: &[u8]) -> Result<Fed<ViewerEvent>, ViewerFault>
+    pub(super) fn take_data(&mut self, bytes: &[u8]) -> Result<Taken, ViewerFault>
         requires some { 0 < length bytes.now }
         requires data { (more : ℕ) × (painter : UnderWay)
             × (self.old.progress ≡ Progress.Data more painter) }
-        ensures used { IfOk result (λ fed. (0 < fed.used) × (fed.used ≤ length bytes.now)) }
-        ensures going { IfOk result (λ fed. fault_of self.new ≡ None) }
-        ensures steps { IfOk result (λ fed.
-            StepsOn self.old (take fed.used bytes.now) fed.event self.new) }
+        ensures used { IfOk result (λ taken.
+            (0 < taken.used) × (taken.used ≤ length bytes.now)) }
+        ensures going { IfOk result (λ taken. fault_of self.new ≡ None) }
+        ensures steps { IfOk result (λ taken.
+            StepsOn self.old (take taken.used bytes.now) (end_event taken.ends_update) self.new) }
         ensures fault { IfErr result (RefusesBy self.old bytes.now) }
         ensures memory { IfErr result (StarvesBy self.old bytes.now) }
         ensures picture { IfErr result (λ fault. KeepsPicture fault self.old bytes.now self.new) }
@@ -108,14 +118,12 @@ impl Viewer {
         };
         let used = painted.used;
         if !painted.done {
-            return Ok(Fed { used, event: None });
+            return Ok(Taken {
+                used,
+                ends_update: false,
+            });
         }
-        let behind = behind_rectangles(more, self.request);
-        self.progress = behind.progress;
-        self.request = behind.request;
-        Ok(Fed {
-            used,
-            event: behind.event,
-        })
+        let ends_update = go_on(&mut self.progress, &mut self.request, more);
+        Ok(Taken { used, ends_update })
     }
 }

@@ -1,14 +1,15 @@
-use Rattle.std.proofs.Common.{refl, ◌≡◌, ◌∙◌, ◌≤◌, sym, subst, ℕ, List, length, take, drop, length-drop, Option, None, arith}
+use Rattle.std.proofs.Common.{refl, ◌≡◌, ◌∙◌, ◌≤◌, sym, subst, ℕ, List, length, take, drop, length-drop, Option, Some, None, Bool, arith}
 use Rattle.std.proofs.lemmas.List.{take_rest}
 use Rattle.std.proofs.lemmas.Result.{err_from_is_err_and}
 use Rattle.rfb_wire.specs.stream.End.{RefusedBy, RunsOutBy}
 use Rattle.rfb_wire.proofs.stream_laws.FeedLaws.{fed_step, refused_later, runs_out_later}
 use Rattle.rfb_hello.proofs.ServerHelloLemmas.{none_told, some_told}
 use Rattle.rfb_viewer.specs.declared.event.ViewerEvent.{ViewerEvent}
-use Rattle.rfb_viewer.specs.Told.{seen}
+use Rattle.rfb_viewer.specs.declared.event.ViewerEvent.TheVariants.{UpdateDone}
+use Rattle.rfb_viewer.specs.Told.{seen, UpdateDone as Done}
 use Rattle.rfb_viewer.specs.Viewer.{viewer, AsksMemory}
 use Rattle.rfb_viewer.specs.Standing.{StandsFor}
-use Rattle.rfb_viewer.specs.Feeding.{StepsOn}
+use Rattle.rfb_viewer.specs.Feeding.{StepsOn, end_event}
 use Rattle.rfb_viewer.proofs.ViewerLaws.{viewer_machine}
 use Rattle.rfb_viewer.proofs.FeedLemmas.{starts, not_failed}
 use Rattle.rfb_viewer.specs.Failing.{KeepsPicture, KeepsReason}
@@ -22,7 +23,7 @@ loop-used-init c =
 
 pub returns-in_err-fed : goal.returns-in_err-fed
 returns-in_err-fed c =
-    let p = err_from_is_err_and c.from_residual.result c.from_residual.ensures.1 in
+    let p = err_from_is_err_and c.from_residual-in_err-fed.result c.from_residual-in_err-fed.ensures.1 in
     let began = c.loop-used.invariant.began in
     let rest = take_rest c.args.bytes.now c.loop-used.used in
     let fault = c.in_err-fed.field-0.0 in
@@ -39,6 +40,28 @@ returns-in_err-fed c =
       picture = λ none. ends_later fault c.args.self.now c.loop-used.self c.take.new.self c.loop-used.used c.args.bytes.now c.loop-used.invariant.fed (subst (λ (xs : List ℕ). KeepsPicture fault c.loop-used.self xs c.take.new.self) rest c.in_err-fed.ensures.picture);
       reason = λ none. kept_later fault c.args.self.now c.loop-used.self c.take.new.self c.loop-used.used c.args.bytes.now c.loop-used.invariant.fed (subst (λ (xs : List ℕ). KeepsReason fault c.loop-used.self xs c.take.new.self) rest c.in_err-fed.ensures.reason);
       fails = c.in_err-fed.ensures.fails;
+      failed = λ f h. absurd cc;
+    })
+
+pub returns-in_err-painted : goal.returns-in_err-painted
+returns-in_err-painted c =
+    let p = err_from_is_err_and c.from_residual.result c.from_residual.ensures.1 in
+    let began = c.loop-used.invariant.began in
+    let rest = take_rest c.args.bytes.now c.loop-used.used in
+    let fault = c.in_err-painted.field-0.0 in
+    rw (p.1, p.2) (record {
+      used = tt;
+      all = tt;
+      some = tt;
+      fed = tt;
+      made = c.take_data.ensures.made ∙ c.loop-used.invariant.made;
+      fault = λ other viewing. refused_later (viewer viewing) (viewer_machine viewing) (StandsFor viewing) c.args.self.now c.loop-used.self c.loop-used.used c.args.bytes.now fault (c.loop-used.invariant.fed viewing)
+          (subst (λ (xs : List ℕ). RefusedBy (viewer viewing) (StandsFor viewing) c.loop-used.self xs fault) rest (c.in_err-painted.ensures.fault other viewing));
+      memory = λ wants viewing. runs_out_later (viewer viewing) (viewer_machine viewing) (AsksMemory viewing) (StandsFor viewing) c.args.self.now c.loop-used.self c.loop-used.used c.args.bytes.now (c.loop-used.invariant.fed viewing)
+          (subst (λ (xs : List ℕ). RunsOutBy (viewer viewing) (AsksMemory viewing) (StandsFor viewing) c.loop-used.self xs) rest (c.in_err-painted.ensures.memory wants viewing));
+      picture = λ none. ends_later fault c.args.self.now c.loop-used.self c.take_data.new.self c.loop-used.used c.args.bytes.now c.loop-used.invariant.fed (subst (λ (xs : List ℕ). KeepsPicture fault c.loop-used.self xs c.take_data.new.self) rest c.in_err-painted.ensures.picture);
+      reason = λ none. kept_later fault c.args.self.now c.loop-used.self c.take_data.new.self c.loop-used.used c.args.bytes.now c.loop-used.invariant.fed (subst (λ (xs : List ℕ). KeepsReason fault c.loop-used.self xs c.take_data.new.self) rest c.in_err-painted.ensures.reason);
+      fails = c.in_err-painted.ensures.fails;
       failed = λ f h. absurd cc;
     })
 
@@ -79,4 +102,41 @@ loop-used-preserved c =
       fed = λ viewing.
           let steps = subst (λ (e : Option ViewerEvent). StepsOn c.loop-used.self (take fed.used (drop c.loop-used.used c.args.bytes.now)) e c.take.new.self) none (subst (λ (xs : List ℕ). StepsOn c.loop-used.self (take fed.used xs) fed.event c.take.new.self) rest c.in_ok-fed.ensures.steps) in
           fed_step (viewer viewing) (viewer_machine viewing) (StandsFor viewing) c.args.self.now c.loop-used.self c.take.new.self c.loop-used.used fed.used c.args.bytes.now None (c.loop-used.invariant.fed viewing) (steps viewing);
+    }
+
+pub returns-then-painted : goal.returns-then-painted
+returns-then-painted c =
+    let began = c.loop-used.invariant.began in
+    let rest = take_rest c.args.bytes.now c.loop-used.used in
+    let painted = c.in_ok-painted.painted in
+    let within : painted.used ≤ length (drop c.loop-used.used c.args.bytes.now) = rw rest at c.in_ok-painted.ensures.used.1 in
+    record {
+      used = omega (arith, length-drop c.loop-used.used c.args.bytes.now, within, c.loop-used.invariant.within);
+      all = λ none. absurd (some_told (Some UpdateDone) refl none);
+      some = λ any. omega (arith, c.in_ok-painted.ensures.used.0);
+      made = c.take_data.ensures.made ∙ c.loop-used.invariant.made;
+      fed = λ viewing.
+          let steps = subst (λ (ends : Bool). StepsOn c.loop-used.self (take painted.used (drop c.loop-used.used c.args.bytes.now)) (end_event ends) c.take_data.new.self) c.if-painted.true (subst (λ (xs : List ℕ). StepsOn c.loop-used.self (take painted.used xs) (end_event painted.ends_update) c.take_data.new.self) rest c.in_ok-painted.ensures.steps) in
+          fed_step (viewer viewing) (viewer_machine viewing) (StandsFor viewing) c.args.self.now c.loop-used.self c.take_data.new.self c.loop-used.used painted.used c.args.bytes.now (Some Done) (c.loop-used.invariant.fed viewing) (steps viewing);
+      fault = tt;
+      memory = tt;
+      picture = tt;
+      reason = tt;
+      fails = tt;
+      failed = λ f h. absurd cc;
+    }
+
+pub loop-used-preserved-else-painted : goal.loop-used-preserved-else-painted
+loop-used-preserved-else-painted c =
+    let rest = take_rest c.args.bytes.now c.loop-used.used in
+    let painted = c.in_ok-painted.painted in
+    let within : painted.used ≤ length (drop c.loop-used.used c.args.bytes.now) = rw rest at c.in_ok-painted.ensures.used.1 in
+    record {
+      within = omega (arith, length-drop c.loop-used.used c.args.bytes.now, within, c.loop-used.invariant.within);
+      began = c.loop-used.invariant.began;
+      going = c.in_ok-painted.ensures.going;
+      made = c.take_data.ensures.made ∙ c.loop-used.invariant.made;
+      fed = λ viewing.
+          let steps = subst (λ (ends : Bool). StepsOn c.loop-used.self (take painted.used (drop c.loop-used.used c.args.bytes.now)) (end_event ends) c.take_data.new.self) c.if-painted.false (subst (λ (xs : List ℕ). StepsOn c.loop-used.self (take painted.used xs) (end_event painted.ends_update) c.take_data.new.self) rest c.in_ok-painted.ensures.steps) in
+          fed_step (viewer viewing) (viewer_machine viewing) (StandsFor viewing) c.args.self.now c.loop-used.self c.take_data.new.self c.loop-used.used painted.used c.args.bytes.now None (c.loop-used.invariant.fed viewing) (steps viewing);
     }

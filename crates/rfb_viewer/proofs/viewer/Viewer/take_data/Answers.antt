@@ -31,9 +31,9 @@ pub returns-clause-steps : goal.returns-clause-steps
 returns-clause-steps c = λ viewing.
     let bytes = c.args.bytes.now in
     let done : c.in-Ok.painted.done ≡ true = not_true c.in-Ok.painted.done c.if-not-painted.false in
-    rw (c.behind_rectangles-behind.ensures.told)
+    rw (c.go_on-ends_update.ensures.told)
     (paint_done viewing c.args.self.now _ c.in-Data.more c.in-Data.painter c.feed.new.self c.in-Some.picture c.feed.new.picture (take c.in-Ok.painted.used bytes) c.in-Data.is c.in-Some.is (c.in-Ok.ensures.done done)
-    (record { hello = refl; form = refl; encodings = refl; limit = refl; progress_is = c.behind_rectangles-behind.ensures.progress; request_is = c.behind_rectangles-behind.ensures.request; picture_is = refl }))
+    (record { hello = refl; form = refl; encodings = refl; limit = refl; progress_is = c.go_on-ends_update.ensures.progress; request_is = c.go_on-ends_update.ensures.request; picture_is = refl }))
 
 pub returns-in-Err-clause-picture : goal.returns-in-Err-clause-picture
 returns-in-Err-clause-picture c =
