@@ -33,83 +33,92 @@ fn fails(viewer: &mut Viewer, slices: [&[u8]; 3], wanted: ViewerFault) -> bool {
         && fails_at_last(viewer, last, wanted)
 }
 
+// Slices that end in a fault, the fault, and the colour of both places before it.
+const FAULTS: [([&[u8]; 3], ViewerFault, Colour); 13] = [
+    // A subrectangle that is one place too wide; one whose sum of 16 bits wraps.
+    (
+        [
+            ONE,
+            RRE_HEAD,
+            b"\xFF\xFF\xFF\xFF\x10\x20\0\x02\0\0\0\x01\0\x01",
+        ],
+        ViewerFault::SubrectOutside,
+        TEN,
+    ),
+    (
+        [ONE, RRE_HEAD, b"\0\0\0\x01\x10\x20\xFF\xFF\0\0\0\x02\0\x01"],
+        ViewerFault::SubrectOutside,
+        TEN,
+    ),
+    // Rectangles that leave the screen, and an encoding that is not known, which is judged first.
+    (
+        [ONE, &[], b"\0\x01\0\0\0\x02\0\x01\0\0\0\0"],
+        ViewerFault::RectOutside,
+        BLACK,
+    ),
+    (
+        [ONE, &[], b"\0\0\0\x02\0\0\0\0\0\0\0\0"],
+        ViewerFault::RectOutside,
+        BLACK,
+    ),
+    (
+        [ONE, &[], b"\0\x01\0\0\0\x02\0\x01\0\0\0\x10"],
+        ViewerFault::UnknownEncoding(16),
+        BLACK,
+    ),
+    (
+        [ONE, &[], b"\0\0\0\0\0\x02\0\x01\xFF\xFF\xFF\x21"],
+        ViewerFault::UnknownEncoding(-223),
+        BLACK,
+    ),
+    (
+        [ONE, COPY_HEAD, b"\0\x01\0\0"],
+        ViewerFault::SourceOutside,
+        BLACK,
+    ),
+    // Masks of a first tile without a background.
+    ([ONE, HEXTILE_HEAD, b"\0"], ViewerFault::NoBackground, BLACK),
+    (
+        [ONE, HEXTILE_HEAD, b"\x08"],
+        ViewerFault::NoBackground,
+        BLACK,
+    ),
+    (
+        [ONE, HEXTILE_HEAD, b"\x1C"],
+        ViewerFault::NoBackground,
+        BLACK,
+    ),
+    (
+        [ONE, HEXTILE_HEAD, b"\x16"],
+        ViewerFault::BothColourBits,
+        BLACK,
+    ),
+    (
+        [ONE, HEXTILE_HEAD, b"\x0A"],
+        ViewerFault::NoForeground,
+        BLACK,
+    ),
+    // A subrectangle that leaves its tile.
+    (
+        [ONE, HEXTILE_HEAD, b"\x0E\x10\x20\x01\x10\x10"],
+        ViewerFault::SubrectOutside,
+        BLACK,
+    ),
+];
+
+// Whether a viewer of 2 by 1 places fails so, and then shows that colour.
+fn fails_showing(alloc: Global, slices: [&[u8]; 3], wanted: ViewerFault, shown: Colour) -> bool {
+    let mut viewer = ready(alloc, Format::bgr233(), HELLO_2_BY_1);
+    fails(&mut viewer, slices, wanted) && shows_row(&viewer, &[shown, shown])
+}
+
 #[test]
 fn a_fault_is_told_at_the_last_byte_of_its_piece(rt: HostRuntime) {
-    let rows: [([&[u8]; 3], ViewerFault, Colour); 13] = [
-        // A subrectangle that is one place too wide; one whose sum of 16 bits wraps.
-        (
-            [
-                ONE,
-                RRE_HEAD,
-                b"\xFF\xFF\xFF\xFF\x10\x20\0\x02\0\0\0\x01\0\x01",
-            ],
-            ViewerFault::SubrectOutside,
-            TEN,
-        ),
-        (
-            [ONE, RRE_HEAD, b"\0\0\0\x01\x10\x20\xFF\xFF\0\0\0\x02\0\x01"],
-            ViewerFault::SubrectOutside,
-            TEN,
-        ),
-        // Rectangles that leave the screen, and an encoding that is not known, which is judged first.
-        (
-            [ONE, &[], b"\0\x01\0\0\0\x02\0\x01\0\0\0\0"],
-            ViewerFault::RectOutside,
-            BLACK,
-        ),
-        (
-            [ONE, &[], b"\0\0\0\x02\0\0\0\0\0\0\0\0"],
-            ViewerFault::RectOutside,
-            BLACK,
-        ),
-        (
-            [ONE, &[], b"\0\x01\0\0\0\x02\0\x01\0\0\0\x10"],
-            ViewerFault::UnknownEncoding(16),
-            BLACK,
-        ),
-        (
-            [ONE, &[], b"\0\0\0\0\0\x02\0\x01\xFF\xFF\xFF\x21"],
-            ViewerFault::UnknownEncoding(-223),
-            BLACK,
-        ),
-        (
-            [ONE, COPY_HEAD, b"\0\x01\0\0"],
-            ViewerFault::SourceOutside,
-            BLACK,
-        ),
-        // Masks of a first tile without a background.
-        ([ONE, HEXTILE_HEAD, b"\0"], ViewerFault::NoBackground, BLACK),
-        (
-            [ONE, HEXTILE_HEAD, b"\x08"],
-            ViewerFault::NoBackground,
-            BLACK,
-        ),
-        (
-            [ONE, HEXTILE_HEAD, b"\x1C"],
-            ViewerFault::NoBackground,
-            BLACK,
-        ),
-        (
-            [ONE, HEXTILE_HEAD, b"\x16"],
-            ViewerFault::BothColourBits,
-            BLACK,
-        ),
-        (
-            [ONE, HEXTILE_HEAD, b"\x0A"],
-            ViewerFault::NoForeground,
-            BLACK,
-        ),
-        // A subrectangle that leaves its tile.
-        (
-            [ONE, HEXTILE_HEAD, b"\x0E\x10\x20\x01\x10\x10"],
-            ViewerFault::SubrectOutside,
-            BLACK,
-        ),
-    ];
-    for (slices, wanted, shown) in rows {
-        let mut viewer = ready(rt.alloc(), Format::bgr233(), HELLO_2_BY_1);
-        assert!(rt; fails(&mut viewer, slices, wanted), "{wanted:?}");
-        assert!(rt; shows_row(&viewer, &[shown, shown]));
+    for (slices, wanted, shown) in FAULTS {
+        assert!(rt;
+            fails_showing(rt.alloc(), slices, wanted, shown),
+            "{wanted:?}"
+        );
     }
 }
 
@@ -131,7 +140,7 @@ fn a_background_ends_with_its_rectangle(rt: HostRuntime) {
     assert!(rt; takes(&mut viewer, b"\x06\x10\x20", 3));
     assert!(rt; shows_row(&viewer, &[TEN, TEN]));
     let fault = ViewerFault::NoBackground;
-    assert!(rt; fails(&mut viewer, [HEXTILE_HEAD, &[], b"\x08"], fault));
+    assert!(rt; fails(&mut viewer, [HEXTILE_HEAD, &[], b"\0"], fault));
     assert!(rt; shows_row(&viewer, &[TEN, TEN]));
 }
 
