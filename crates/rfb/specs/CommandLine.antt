@@ -65,7 +65,8 @@ WritesShown world before after =
     (picture : Grid Colour) × (shown_by world ≡ Some picture) × Appends before after (pixmap picture)
 
 -- the same of the world that steps lead to
-abbrev pub WritesPlayed : Size → Option Wants → List Numbered → Option (List ℕ) → Option (List ℕ) → Type 0
+abbrev pub WritesPlayed : Size → Option Wants → List Numbered → Option (List ℕ) →
+    Option (List ℕ) → Type 0
 WritesPlayed size wants steps before after =
     (world : World) × IsPlayed size wants steps world × WritesShown world before after
 

@@ -1,6 +1,6 @@
 //! Which lines a script may have.
 
-use super::calls::{LEFT_PLACE_FILLED, run};
+use super::calls::{FILL_LEFT_PLACE, LEFT_PLACE_FILLED, run};
 use std::test::Fail;
 
 // Lines that are bad wherever they stand after the first, each for one reason.
@@ -176,13 +176,17 @@ fn the_first_bad_line_is_told_by_its_number(rt: HostRuntime) -> Result<(), Fail>
 #[test]
 fn each_spelling_of_a_script_is_read(rt: HostRuntime) {
     for script in [
-        b"screen 2 1\nfill 0 0 1 1 FF8001\nsettle\nrequest full 0 0 2 1\nsettle\ncompose\nsettle\n".as_slice(),
-        b"screen 2 1\nfill 0 0 1 1 ff8001\nsettle\nrequest full 0 0 2 1\nsettle\ncompose\nsettle".as_slice(),
+        FILL_LEFT_PLACE,
+        b"screen 2 1\nfill 0 0 1 1 ff8001\nsettle\nrequest full 0 0 2 1
+settle\ncompose\nsettle"
+            .as_slice(),
         b"\n\nscreen 0000000002 01\n\nfill 00 0000000000 0000000001 001 fF8001\n\n\nsettle
 request full 000 0 02 1\nsettle\ncompose\nsettle\n\n\n"
             .as_slice(),
         // The viewer's line says what holds without it, or names an encoding again.
-        b"screen 2 1\nviewer rgb888 raw\nfill 0 0 1 1 FF8001\nsettle\nrequest full 0 0 2 1\nsettle\ncompose\nsettle\n".as_slice(),
+        b"screen 2 1\nviewer rgb888 raw\nfill 0 0 1 1 FF8001\nsettle
+request full 0 0 2 1\nsettle\ncompose\nsettle\n"
+            .as_slice(),
         b"screen 2 1\n\nviewer rgb888 hextile rre raw rre\nfill 0 0 1 1 FF8001\nsettle
 request inc 0 0 2 1\nsettle\ncompose\nsettle\n"
             .as_slice(),
