@@ -4,6 +4,7 @@
 mod calls;
 mod cuts;
 mod encodings;
+mod faults;
 mod handshakes;
 mod hostile;
 mod long_texts;

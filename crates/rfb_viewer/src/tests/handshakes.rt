@@ -113,103 +113,114 @@ fn a_name_of_no_bytes_and_one_past_the_limit(rt: HostRuntime) {
     }
 }
 
+// A width and a height, and why they are refused.
+const SCREENS: [(&[u8; 4], Option<ViewerFault>); 5] = [
+    (b"\xFF\xFF\xFF\xFF", Some(ViewerFault::ScreenTooLarge)),
+    (b"\0\x19\0\x29", Some(ViewerFault::ScreenTooLarge)),
+    (b"\0\0\0\x01", Some(ViewerFault::ScreenEmpty)),
+    (b"\xFF\xFF\0\0", Some(ViewerFault::ScreenEmpty)),
+    (b"\0\x20\0\x20", None),
+];
+
+// Whether ServerInit with this size is taken up to its last byte but one, and judged at that.
+fn is_judged(viewer: &mut Viewer, size: &[u8], wanted: Option<ViewerFault>) -> bool {
+    takes(viewer, size, 4)
+        && takes(viewer, &INIT[4..23], 19)
+        && fault_at(viewer, b"\x01") == wanted
+        && viewer.picture().is_some() == wanted.is_none()
+}
+
 #[test]
 fn a_screen_is_judged_at_its_last_byte_before_the_name(rt: HostRuntime) {
-    let rows: [(&[u8; 4], Option<ViewerFault>); 5] = [
-        (b"\xFF\xFF\xFF\xFF", Some(ViewerFault::ScreenTooLarge)),
-        (b"\0\x19\0\x29", Some(ViewerFault::ScreenTooLarge)),
-        (b"\0\0\0\x01", Some(ViewerFault::ScreenEmpty)),
-        (b"\xFF\xFF\0\0", Some(ViewerFault::ScreenEmpty)),
-        (b"\0\x20\0\x20", None),
-    ];
-    for (size, wanted) in rows {
+    for (size, wanted) in SCREENS {
         let mut viewer = up_to(rt.alloc(), Version::V38);
-        assert!(rt; answers(&mut viewer, b"RFB 003.003\n", b"RFB 003.003\n"));
-        assert!(rt; answers(&mut viewer, b"\0\0\0\x01", b"\x01"));
-        assert!(rt; takes(&mut viewer, size, 4));
-        assert!(rt; takes(&mut viewer, &INIT[4..23], 19));
-        assert_eq!(rt; fault_at(&mut viewer, b"\x01"), wanted);
-        assert_eq!(rt; viewer.picture().is_some(), wanted.is_none());
+        let judged = answers(&mut viewer, b"RFB 003.003\n", b"RFB 003.003\n")
+            && answers(&mut viewer, b"\0\0\0\x01", b"\x01")
+            && is_judged(&mut viewer, size, wanted);
+        assert!(rt; judged, "{wanted:?}");
     }
+}
+
+// A server's version, its security that refuses, the fault, and what is kept of the reason.
+const REFUSALS: [(&[u8], &[u8], ViewerFault, &[u8]); 6] = [
+    (
+        b"RFB 003.008\n",
+        b"\x01\x02",
+        ViewerFault::NoneNotOffered,
+        b"",
+    ),
+    (
+        b"RFB 003.003\n",
+        b"\0\0\0\x02",
+        ViewerFault::NoneNotOffered,
+        b"",
+    ),
+    (
+        b"RFB 003.003\n",
+        b"\0\0\0\x03",
+        ViewerFault::BadSecurityWord,
+        b"",
+    ),
+    (
+        b"RFB 003.003\n",
+        b"\0\0\0\0\0\0\0\x02No",
+        ViewerFault::Refused(2),
+        b"No",
+    ),
+    (
+        b"RFB 003.008\n",
+        b"\0\0\0\0\0",
+        ViewerFault::Refused(0),
+        b"",
+    ),
+    (
+        b"RFB 003.007\n",
+        b"\0\0\0\0\x05Never",
+        ViewerFault::Refused(5),
+        b"Neve",
+    ),
+];
+
+// Whether all but the last byte is taken, and then it tells this fault for good, with that reason.
+fn refuses(viewer: &mut Viewer, bytes: &[u8], wanted: ViewerFault, reason: &[u8]) -> bool {
+    let last = bytes.len().saturating_sub(1);
+    let (front, back) = bytes.split_at(last);
+    takes(viewer, front, last)
+        && viewer.reason().is_empty()
+        && fault_at(viewer, back) == Some(wanted)
+        && fault_at(viewer, b"\0") == Some(wanted)
+        && fault_at(viewer, b"") == Some(wanted)
+        && viewer.reason() == reason
 }
 
 #[test]
 fn a_server_without_none_and_one_that_refuses(rt: HostRuntime) {
-    let rows: [(&[u8], &[u8], ViewerFault, &[u8]); 6] = [
-        (
-            b"RFB 003.008\n",
-            b"\x01\x02",
-            ViewerFault::NoneNotOffered,
-            b"",
-        ),
-        (
-            b"RFB 003.003\n",
-            b"\0\0\0\x02",
-            ViewerFault::NoneNotOffered,
-            b"",
-        ),
-        (
-            b"RFB 003.003\n",
-            b"\0\0\0\x03",
-            ViewerFault::BadSecurityWord,
-            b"",
-        ),
-        (
-            b"RFB 003.003\n",
-            b"\0\0\0\0\0\0\0\x02No",
-            ViewerFault::Refused(2),
-            b"No",
-        ),
-        (
-            b"RFB 003.008\n",
-            b"\0\0\0\0\0",
-            ViewerFault::Refused(0),
-            b"",
-        ),
-        (
-            b"RFB 003.007\n",
-            b"\0\0\0\0\x05Never",
-            ViewerFault::Refused(5),
-            b"Neve",
-        ),
-    ];
-    for (text, bytes, wanted, reason) in rows {
+    for (text, bytes, wanted, reason) in REFUSALS {
         let mut viewer = up_to(rt.alloc(), Version::V38);
-        assert!(rt; answers(&mut viewer, text, text));
-        let last = bytes.len().saturating_sub(1);
-        let (front, back) = bytes.split_at(last);
-        assert!(rt; takes(&mut viewer, front, last));
-        assert!(rt; viewer.reason().is_empty());
-        assert_eq!(rt; fault_at(&mut viewer, back), Some(wanted));
-        assert_eq!(rt; fault_at(&mut viewer, b""), Some(wanted));
-        assert_eq!(rt; viewer.reason(), reason);
+        let refused = answers(&mut viewer, text, text)
+            && refuses(&mut viewer, bytes, wanted, reason);
+        assert!(rt; refused, "{wanted:?}");
     }
 }
 
+// A result that is no success, its fault, and what is kept of the reason.
+const FAILURES: [(&[u8], ViewerFault, &[u8]); 2] = [
+    (
+        b"\0\0\0\x01\0\0\0\x02No",
+        ViewerFault::SecurityFailed(2),
+        b"No",
+    ),
+    (b"\0\0\0\x07\0\0\0\0", ViewerFault::SecurityFailed(0), b""),
+];
+
 #[test]
 fn a_failed_result_has_a_reason(rt: HostRuntime) {
-    let rows: [(&[u8], &[u8], ViewerFault, &[u8]); 2] = [
-        (
-            b"\0\0\0\x01\0\0\0\x02N",
-            b"o",
-            ViewerFault::SecurityFailed(2),
-            b"No",
-        ),
-        (
-            b"\0\0\0\x07\0\0\0",
-            b"\0",
-            ViewerFault::SecurityFailed(0),
-            b"",
-        ),
-    ];
-    for (front, back, wanted, reason) in rows {
+    for (bytes, wanted, reason) in FAILURES {
         let mut viewer = up_to(rt.alloc(), Version::V38);
-        assert!(rt; answers(&mut viewer, b"RFB 003.008\n", b"RFB 003.008\n"));
-        assert!(rt; answers(&mut viewer, b"\x01\x01", b"\x01"));
-        assert!(rt; takes(&mut viewer, front, front.len()));
-        assert_eq!(rt; fault_at(&mut viewer, back), Some(wanted));
-        assert_eq!(rt; fault_at(&mut viewer, b"\0"), Some(wanted));
-        assert_eq!(rt; viewer.reason(), reason);
+        let failed = answers(&mut viewer, b"RFB 003.008\n", b"RFB 003.008\n")
+            && answers(&mut viewer, b"\x01\x01", b"\x01")
+            && refuses(&mut viewer, bytes, wanted, reason);
+        assert!(rt; failed, "{wanted:?}");
     }
 }
 
@@ -217,11 +228,13 @@ fn a_failed_result_has_a_reason(rt: HostRuntime) {
 fn a_text_that_is_no_version_is_refused_at_its_last_byte(rt: HostRuntime) {
     for text in [b"RFB 3.8\n....", b"RFB 003.00x\n", b"RFB 003.008\0"] {
         let mut viewer = up_to(rt.alloc(), Version::V38);
-        assert!(rt; takes(&mut viewer, &text[..11], 11));
-        assert_eq!(rt;
-            fault_at(&mut viewer, &text[11..]),
-            Some(ViewerFault::BadVersion)
-        );
-        assert!(rt; viewer.picture().is_none());
+        assert!(rt; is_no_version(&mut viewer, text));
     }
+}
+
+// Whether eleven bytes are taken, and the twelfth is refused.
+fn is_no_version(viewer: &mut Viewer, text: &[u8; 12]) -> bool {
+    takes(viewer, &text[..11], 11)
+        && fault_at(viewer, &text[11..]) == Some(ViewerFault::BadVersion)
+        && viewer.picture().is_none()
 }

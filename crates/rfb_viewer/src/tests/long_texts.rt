@@ -31,13 +31,25 @@ fn takes_three_mib(viewer: &mut Viewer, alloc: Global) -> Result<bool, AllocErro
 // ServerInit of a screen of 1 by 1 whose name has 4,294,967,295 bytes.
 const LONGEST_NAME: &[u8] = b"\0\x01\0\x01................\xFF\xFF\xFF\xFF";
 
+// Whether the handshake is taken up to that ServerInit, and there is a screen then.
+fn is_named(viewer: &mut Viewer) -> bool {
+    taken(viewer, &HELLO_1_BY_1[..16]) == 12
+        && taken(viewer, &HELLO_1_BY_1[12..16]) == 4
+        && takes(viewer, LONGEST_NAME, 24)
+        && shows_row(viewer, &[BLACK])
+}
+
+// Whether all of the handshake is taken.
+fn is_greeted(viewer: &mut Viewer) -> bool {
+    taken(viewer, HELLO_1_BY_1) == 12
+        && taken(viewer, &HELLO_1_BY_1[12..]) == 4
+        && taken(viewer, &HELLO_1_BY_1[16..]) == 24
+}
+
 #[test]
 fn the_longest_name_is_taken_slice_by_slice(rt: HostRuntime) -> Result<(), AllocError> {
     let mut viewer = with_long_texts(rt.alloc());
-    assert_eq!(rt; taken(&mut viewer, &HELLO_1_BY_1[..16]), 12);
-    assert_eq!(rt; taken(&mut viewer, &HELLO_1_BY_1[12..16]), 4);
-    assert!(rt; takes(&mut viewer, LONGEST_NAME, 24));
-    assert!(rt; shows_row(&viewer, &[BLACK]));
+    assert!(rt; is_named(&mut viewer));
     assert!(rt; takes_three_mib(&mut viewer, rt.alloc())?);
     Ok(())
 }
@@ -45,9 +57,7 @@ fn the_longest_name_is_taken_slice_by_slice(rt: HostRuntime) -> Result<(), Alloc
 #[test]
 fn the_longest_text_is_taken_slice_by_slice(rt: HostRuntime) -> Result<(), AllocError> {
     let mut viewer = with_long_texts(rt.alloc());
-    assert_eq!(rt; taken(&mut viewer, HELLO_1_BY_1), 12);
-    assert_eq!(rt; taken(&mut viewer, &HELLO_1_BY_1[12..]), 4);
-    assert_eq!(rt; taken(&mut viewer, &HELLO_1_BY_1[16..]), 24);
+    assert!(rt; is_greeted(&mut viewer));
     assert!(rt; takes(&mut viewer, b"\x03\0\0\0\xFF\xFF\xFF\xFF", 8));
     assert!(rt; takes_three_mib(&mut viewer, rt.alloc())?);
     Ok(())
@@ -75,9 +85,7 @@ fn a_text_at_the_limit_is_kept_whole(rt: HostRuntime) -> Result<(), AllocError> 
     let mut viewer = with_long_texts(rt.alloc());
     let mut text = Vec::new(rt.alloc());
     text.resize(1_048_576, b't')?;
-    assert_eq!(rt; taken(&mut viewer, HELLO_1_BY_1), 12);
-    assert_eq!(rt; taken(&mut viewer, &HELLO_1_BY_1[12..]), 4);
-    assert_eq!(rt; taken(&mut viewer, &HELLO_1_BY_1[16..]), 24);
+    assert!(rt; is_greeted(&mut viewer));
     assert!(rt; takes(&mut viewer, b"\x03\0\0\0\0\x10\0\0", 8));
     assert!(rt; tells_whole(&mut viewer, &text));
     Ok(())

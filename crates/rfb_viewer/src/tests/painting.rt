@@ -41,25 +41,38 @@ const TILES: &[u8] = b"\0\0\0\x01\0\0\0\0\0\x11\0\x01\0\0\0\x05";
 
 const SUBRECTS: &[u8] = b"\0\0\0\x01\0\0\0\0\0\x11\0\x01\0\0\0\x02";
 
+// Whether each byte is taken and pending, and none of 17 black places changes.
+fn keeps_black(viewer: &mut Viewer, bytes: &[u8]) -> bool {
+    let mut good = true;
+    for (byte, pending) in bytes.chunks(1).zip(1..6usize) {
+        good &= takes(viewer, byte, 1)
+            && viewer.pending() == pending
+            && shows_row(viewer, &[BLACK; 17]);
+    }
+    good
+}
+
+// Whether the last byte shows the first tile, and the next one, which has the background of the first, the
+// second tile.
+fn shows_both(viewer: &mut Viewer) -> bool {
+    let mut first = [TEN; 17];
+    first[0] = TWENTY;
+    first[16] = BLACK;
+    let mut both = first;
+    both[16] = TEN;
+    takes(viewer, b"\0", 1)
+        && viewer.pending() == 0
+        && shows_row(viewer, &first)
+        && ends_update(viewer, b"\0\x02", 1)
+        && shows_row(viewer, &both)
+}
+
 #[test]
 fn a_tile_is_shown_at_its_last_byte(rt: HostRuntime) {
     let mut viewer = ready(rt.alloc(), Format::bgr233(), HELLO_17_BY_1);
     assert!(rt; takes(&mut viewer, TILES, 16));
-    for (byte, pending) in b"\x1A\x10\x01\x20\0".chunks(1).zip(1..6usize) {
-        assert!(rt; takes(&mut viewer, byte, 1));
-        assert_eq!(rt; viewer.pending(), pending);
-        assert!(rt; shows_row(&viewer, &[BLACK; 17]));
-    }
-    assert!(rt; takes(&mut viewer, b"\0", 1));
-    assert_eq!(rt; viewer.pending(), 0);
-    let mut row = [TEN; 17];
-    row[0] = TWENTY;
-    row[16] = BLACK;
-    assert!(rt; shows_row(&viewer, &row));
-    // The second tile has the background of the first.
-    assert!(rt; ends_update(&mut viewer, b"\0\x02", 1));
-    row[16] = TEN;
-    assert!(rt; shows_row(&viewer, &row));
+    assert!(rt; keeps_black(&mut viewer, b"\x1A\x10\x01\x20\0"));
+    assert!(rt; shows_both(&mut viewer));
 }
 
 // Subrectangles of one place at x-position 3, again and again.
