@@ -23,8 +23,8 @@ refusal_if false fault more = more
 abbrev pub is_requestable : UpdatePoint → Rect → Bool
 is_requestable p rect = nat_lt 0 rect.w && nat_lt 0 rect.h && is_on_screen p.width p.height rect
 
--- so many rectangles are left, and these bytes came of the next item: the stream stands inside an update,
--- from its type byte on
+-- so many rectangles are left, and these bytes came of the next item: the stream stands inside an
+-- update, from its type byte on
 abbrev pub is_inside : ℕ → List ℕ → Bool
 is_inside zero [] = false
 is_inside zero (first ∷ rest) = first == 0
@@ -38,12 +38,14 @@ call_refused (Second p) = None
 -- a request waits for the one before it too, and its area is judged last
 abbrev pub request_refused : ServerAt → Bool → Rect → Option CallFault
 request_refused (First point) outstanding rect = Some NotReady
-request_refused (Second p) outstanding rect = refusal_if outstanding Busy (refusal_if (not (is_requestable p rect)) AreaOutside None)
+request_refused (Second p) outstanding rect =
+    refusal_if outstanding Busy (refusal_if (not (is_requestable p rect)) AreaOutside None)
 
 -- a format waits for a request too, and for the end of an update
 abbrev pub format_refused : ServerAt → Bool → List ℕ → Option CallFault
 format_refused (First point) outstanding prefix = Some NotReady
-format_refused (Second p) outstanding prefix = refusal_if (outstanding || is_inside p.left prefix) Busy None
+format_refused (Second p) outstanding prefix =
+    refusal_if (outstanding || is_inside p.left prefix) Busy None
 
 abbrev pub call_refusal : ViewerState → Option CallFault
 call_refusal s = call_refused s.point

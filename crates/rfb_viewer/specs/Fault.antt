@@ -11,7 +11,8 @@ use Rattle.rfb_hello.specs.declared.fault.HelloFault.TheVariants.{BadVersion as 
 use Rattle.rfb_viewer.specs.declared.fault.ViewerFault.{ViewerFault}
 use Rattle.rfb_viewer.specs.declared.fault.ViewerFault.TheVariants.{UnknownMessage, UnknownEncoding, RectOutside, SubrectOutside, NoBackground, NoForeground, BothColourBits, SourceOutside, BadVersion, NoneNotOffered, Refused, BadSecurityWord, SecurityFailed, ScreenEmpty, ScreenTooLarge, NoMemory}
 
--- of the handshake's faults the second and the third are a client's, and never come of a server's bytes
+-- of the handshake's faults the second and the third are a client's, and never come of a server's
+-- bytes
 abbrev pub fault_of_hello : HelloFault → ViewerFault
 fault_of_hello Version = BadVersion
 fault_of_hello High = BadVersion

@@ -10,10 +10,12 @@ use Rattle.rfb_viewer.specs.Told.{seen}
 use Rattle.rfb_viewer.specs.Viewer.{Viewing, viewer, AsksMemory}
 use Rattle.rfb_viewer.specs.Standing.{StandsFor}
 
--- it steps by bytes of one item, all of which it used: what it tells, and what it then stands for, are as
--- the grammar has it
+-- it steps by bytes of one item, all of which it used: what it tells, and what it then stands for,
+-- are as the grammar has it
 abbrev pub StepsOn : Viewer → List ℕ → Option ViewerEvent → Viewer → Type 0
-StepsOn old bytes event new = (viewing : Viewing) → StepsBy (viewer viewing) (StandsFor viewing) old bytes (Ok (seen event)) new
+StepsOn old bytes event new =
+    (viewing : Viewing) →
+    StepsBy (viewer viewing) (StandsFor viewing) old bytes (Ok (seen event)) new
 
 -- the event of data that end an update, or do not
 abbrev pub end_event : Bool → Option ViewerEvent
@@ -22,12 +24,17 @@ end_event false = None
 
 -- it takes bytes, all of which it used
 abbrev pub TakesBy : Viewer → List ℕ → Option ViewerEvent → Viewer → Type 0
-TakesBy old bytes event new = (viewing : Viewing) → FedBy (viewer viewing) (StandsFor viewing) old bytes (seen event) new
+TakesBy old bytes event new =
+    (viewing : Viewing) → FedBy (viewer viewing) (StandsFor viewing) old bytes (seen event) new
 
 -- bytes are at fault
 abbrev pub RefusesBy : Viewer → List ℕ → ViewerFault → Type 0
-RefusesBy old bytes fault = fault ≢ NoMemory → (viewing : Viewing) → RefusedBy (viewer viewing) (StandsFor viewing) old bytes fault
+RefusesBy old bytes fault =
+    fault ≢ NoMemory → (viewing : Viewing) →
+    RefusedBy (viewer viewing) (StandsFor viewing) old bytes fault
 
 -- bytes lead to where memory is asked for
 abbrev pub StarvesBy : Viewer → List ℕ → ViewerFault → Type 0
-StarvesBy old bytes fault = fault ≡ NoMemory → (viewing : Viewing) → RunsOutBy (viewer viewing) (AsksMemory viewing) (StandsFor viewing) old bytes
+StarvesBy old bytes fault =
+    fault ≡ NoMemory → (viewing : Viewing) →
+    RunsOutBy (viewer viewing) (AsksMemory viewing) (StandsFor viewing) old bytes

@@ -26,7 +26,8 @@ number_bytes encodings = flat_map encoding_bytes encodings
 
 -- SetEncodings, section 7.5.2, with its list in that order
 abbrev pub encodings_message : List Encoding → List ℕ
-encodings_message encodings = client_head_bytes (SetEncodings (length encodings)) ++ number_bytes encodings
+encodings_message encodings =
+    client_head_bytes (SetEncodings (length encodings)) ++ number_bytes encodings
 
 -- FramebufferUpdateRequest, section 7.5.3
 abbrev pub request_message : Bool → Rect → List ℕ
@@ -44,7 +45,7 @@ pointer_message buttons x y = client_head_bytes (Pointer buttons x y)
 abbrev pub text_message : List ℕ → List ℕ
 text_message text = client_head_bytes (CutText (length text)) ++ text
 
--- what a viewer sends once the handshake is done: the format that it wants, and the encodings that it
--- takes
+-- what a viewer sends once the handshake is done: the format that it wants, and the encodings that
+-- it takes
 abbrev pub ready_bytes : PixelFormat → List Encoding → List ℕ
 ready_bytes form encodings = format_message form ++ encodings_message encodings

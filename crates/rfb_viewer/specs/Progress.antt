@@ -44,7 +44,8 @@ IsElsewhere (Failed fault) = Unit {0}
 -- the bytes are the beginning of a message's head, and not all of it
 abbrev pub IsHeadBegun : List ℕ → Type 0
 IsHeadBegun [] = Unit {0}
-IsHeadBegun (first ∷ rest) = (size : ℕ) × (server_head_size first ≡ Some size) × (length (first ∷ rest) < size)
+IsHeadBegun (first ∷ rest) =
+    (size : ℕ) × (server_head_size first ≡ Some size) × (length (first ∷ rest) < size)
 
 -- the bytes are a SetColorMapEntries of which so many bytes are missing behind the next one
 pub record AreColoursBegun (more : ℕ) (prefix : List ℕ) : Type 0 where
@@ -56,9 +57,10 @@ pub record AreColoursBegun (more : ℕ) (prefix : List ℕ) : Type 0 where
   pub head_is : SpellsColourMap first count head
   pub missing : length colours + (more + 1) ≡ count * 6
 
--- the bytes are a ServerCutText of so many bytes of which so many are missing behind the next one, and
--- this is kept of it
-pub record IsTextBegun (text_limit text_length more : ℕ) (kept : KeptText) (prefix : List ℕ) : Type 0 where
+-- the bytes are a ServerCutText of so many bytes of which so many are missing behind the next one,
+-- and this is kept of it
+pub record IsTextBegun (text_limit text_length more : ℕ) (kept : KeptText)
+    (prefix : List ℕ) : Type 0 where
   pub head : List ℕ
   pub text : List ℕ
   pub prefix_is : prefix ≡ head ++ text
@@ -74,12 +76,14 @@ IsScreenAt AwaitsVersion picture = picture ≡ None
 IsScreenAt (AwaitsSecurity version) picture = picture ≡ None
 IsScreenAt (AwaitsResult version) picture = picture ≡ None
 IsScreenAt (AwaitsInit version) picture = picture ≡ None
-IsScreenAt (AwaitsName version width height name_length) picture = picture ≡ Some (uniform width height black)
+IsScreenAt (AwaitsName version width height name_length) picture =
+    picture ≡ Some (uniform width height black)
 IsScreenAt (Begun version width height) picture = picture ≡ Some (uniform width height black)
 
--- the handshake is done, and no reason was given; updates are in the viewer's format, on a screen of the
--- picture's size; so many rectangles are left of the update that the point stands in
-pub record IsReadyAt (viewer : Viewer) (p : UpdatePoint) (picture : Option (Grid Colour)) (left : ℕ) : Type 0 where
+-- the handshake is done, and no reason was given; updates are in the viewer's format, on a screen
+-- of the picture's size; so many rectangles are left of the update that the point stands in
+pub record IsReadyAt (viewer : Viewer) (p : UpdatePoint) (picture : Option (Grid Colour))
+    (left : ℕ) : Type 0 where
   pub closed : is_open viewer.hello ≡ false
   pub unreasoned : reason_of viewer.hello ≡ no_text
   pub form_is : p.form ≡ viewer.format
@@ -89,9 +93,10 @@ pub record IsReadyAt (viewer : Viewer) (p : UpdatePoint) (picture : Option (Grid
   pub columns : screen.width ≡ p.width
   pub rows : screen.height ≡ p.height
 
--- the bytes are a rectangle's head and data that are not whole; what is stored shows the whole pieces of
--- these over the picture before the rectangle
-pub record IsPainting (viewer : Viewer) (p : UpdatePoint) (painter : UnderWay) (before : Grid Colour) (prefix : List ℕ) : Type 0 where
+-- the bytes are a rectangle's head and data that are not whole; what is stored shows the whole
+-- pieces of these over the picture before the rectangle
+pub record IsPainting (viewer : Viewer) (p : UpdatePoint) (painter : UnderWay)
+    (before : Grid Colour) (prefix : List ℕ) : Type 0 where
   pub head : RectHead
   pub front : List ℕ
   pub body : List ℕ
@@ -107,19 +112,31 @@ pub record IsPainting (viewer : Viewer) (p : UpdatePoint) (painter : UnderWay) (
 abbrev pub Stores : Viewer → Option (Grid Colour) → Type 0
 Stores viewer picture = viewer.picture ≡ picture
 
--- so much progress stands for that point, that picture and that prefix; one that has failed stands for
--- none
-abbrev pub ProgressStandsFor : Viewing → Viewer → Progress → ServerAt → Option (Grid Colour) → List ℕ → Type 0
-ProgressStandsFor viewing viewer Handshake (First point) picture prefix = HelloStandsFor viewing.hello viewer.hello point prefix × (is_open viewer.hello ≡ true) × (viewer.format ≡ viewing.form) × Stores viewer picture × IsScreenAt point picture
+-- so much progress stands for that point, that picture and that prefix; one that has failed stands
+-- for none
+abbrev pub ProgressStandsFor : Viewing → Viewer → Progress → ServerAt → Option (Grid Colour) →
+    List ℕ → Type 0
+ProgressStandsFor viewing viewer Handshake (First point) picture prefix =
+    HelloStandsFor viewing.hello viewer.hello point prefix × (is_open viewer.hello ≡ true)
+    × (viewer.format ≡ viewing.form) × Stores viewer picture × IsScreenAt point picture
 ProgressStandsFor viewing viewer Handshake (Second p) picture prefix = ⊥
 ProgressStandsFor viewing viewer (Head bytes) (First point) picture prefix = ⊥
-ProgressStandsFor viewing viewer (Head bytes) (Second p) picture prefix = IsReadyAt viewer p picture 0 × Stores viewer picture × (prefix ≡ bytes.items) × IsHeadBegun bytes.items
+ProgressStandsFor viewing viewer (Head bytes) (Second p) picture prefix =
+    IsReadyAt viewer p picture 0 × Stores viewer picture × (prefix ≡ bytes.items)
+    × IsHeadBegun bytes.items
 ProgressStandsFor viewing viewer (RectHeadPart more head) (First point) picture prefix = ⊥
-ProgressStandsFor viewing viewer (RectHeadPart more head) (Second p) picture prefix = IsReadyAt viewer p picture (more + 1) × Stores viewer picture × (prefix ≡ head.items) × (length head.items < 12)
+ProgressStandsFor viewing viewer (RectHeadPart more head) (Second p) picture prefix =
+    IsReadyAt viewer p picture (more + 1) × Stores viewer picture × (prefix ≡ head.items)
+    × (length head.items < 12)
 ProgressStandsFor viewing viewer (Data more painter) (First point) picture prefix = ⊥
-ProgressStandsFor viewing viewer (Data more painter) (Second p) picture prefix = (ready : IsReadyAt viewer p picture (more + 1)) × IsPainting viewer p painter ready.screen prefix
+ProgressStandsFor viewing viewer (Data more painter) (Second p) picture prefix =
+    (ready : IsReadyAt viewer p picture (more + 1))
+    × IsPainting viewer p painter ready.screen prefix
 ProgressStandsFor viewing viewer (Colours more) (First point) picture prefix = ⊥
-ProgressStandsFor viewing viewer (Colours more) (Second p) picture prefix = IsReadyAt viewer p picture 0 × Stores viewer picture × AreColoursBegun more prefix
+ProgressStandsFor viewing viewer (Colours more) (Second p) picture prefix =
+    IsReadyAt viewer p picture 0 × Stores viewer picture × AreColoursBegun more prefix
 ProgressStandsFor viewing viewer (CutText text_length more kept) (First point) picture prefix = ⊥
-ProgressStandsFor viewing viewer (CutText text_length more kept) (Second p) picture prefix = IsReadyAt viewer p picture 0 × Stores viewer picture × IsTextBegun viewing.hello.text_limit text_length more kept prefix
+ProgressStandsFor viewing viewer (CutText text_length more kept) (Second p) picture prefix =
+    IsReadyAt viewer p picture 0 × Stores viewer picture
+    × IsTextBegun viewing.hello.text_limit text_length more kept prefix
 ProgressStandsFor viewing viewer (Failed fault) point picture prefix = ⊥

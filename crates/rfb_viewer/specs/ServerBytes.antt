@@ -1,5 +1,5 @@
--- All that a server sends, RFC 6143 sections 7.1 to 7.6: its handshake, and then its messages, those
--- of updates with their rectangles.
+-- All that a server sends, RFC 6143 sections 7.1 to 7.6: its handshake, and then its messages,
+-- those of updates with their rectangles.
 use Rattle.std.specs.Prelude.{ℕ, zero, suc, ◌==◌, Bool, false, List, [], ◌∷◌, Option, Some, None}
 use Rattle.rfb_pixel.specs.Format.{PixelFormat}
 use Rattle.rfb_wire.specs.stream.Reading.{Says}
@@ -28,17 +28,20 @@ FromServer = Stage ServerItem UpdateItem
 abbrev pub first_between : PixelFormat → ℕ → ℕ → UpdatePoint
 first_between form width height = record { width = width; height = height; form = form; left = 0 }
 
--- ServerInit leads to the messages where no name follows; where one does, that leads there; no other
--- step does
+-- ServerInit leads to the messages where no name follows; where one does, that leads there; no
+-- other step does
 abbrev pub to_updates : PixelFormat → ServerPoint → ServerItem → Option UpdatePoint
-to_updates form (AwaitsInit version) (ServerInit width height zero) = Some (first_between form width height)
+to_updates form (AwaitsInit version) (ServerInit width height zero) =
+    Some (first_between form width height)
 to_updates form (AwaitsInit version) (ServerInit width height (suc n)) = None
-to_updates form (AwaitsName version width height name_length) (Name text) = Some (first_between form width height)
+to_updates form (AwaitsName version width height name_length) (Name text) =
+    Some (first_between form width height)
 to_updates form point item = None
 
--- the handshake, with a viewer of that setup, and the messages behind it, where the viewer sets that
--- format first
-abbrev pub server_two : PixelFormat → ViewerSetup → Two ServerPoint ServerItem HelloFault UpdatePoint UpdateItem UpdateFault ViewerFault
+-- the handshake, with a viewer of that setup, and the messages behind it, where the viewer sets
+-- that format first
+abbrev pub server_two : PixelFormat → ViewerSetup →
+    Two ServerPoint ServerItem HelloFault UpdatePoint UpdateItem UpdateFault ViewerFault
 server_two form setup = record {
   first = server_handshake setup.limit setup.max_places;
   leads = to_updates form;
@@ -53,14 +56,15 @@ server_bytes form setup = sequel (server_two form setup)
 
 -- what its bytes say at each point
 abbrev pub server_bytes_say : PixelFormat → ViewerSetup → ServerAt → Says FromServer ViewerFault
-server_bytes_say form setup = sequel_says (server_two form setup) (server_item_says setup.max_places) update_says
+server_bytes_say form setup =
+    sequel_says (server_two form setup) (server_item_says setup.max_places) update_says
 
 -- how many of its bytes are pending: those of the item under way behind its last whole piece
 abbrev pub server_bytes_pending : ServerAt → List ℕ → ℕ
 server_bytes_pending at bytes = pending_in server_handshake_pending update_pending at bytes
 
--- it stands between two messages: the handshake is done, no update is under way, and nothing came of the
--- next item
+-- it stands between two messages: the handshake is done, no update is under way, and nothing came
+-- of the next item
 abbrev pub is_between : ServerAt → List ℕ → Bool
 is_between (First point) bytes = false
 is_between (Second p) [] = p.left == 0

@@ -1,5 +1,5 @@
--- What a viewer shows: the picture, and of a rectangle under way the whole pieces that came, over the
--- picture before it.
+-- What a viewer shows: the picture, and of a rectangle under way the whole pieces that came, over
+-- the picture before it.
 use Rattle.std.specs.Prelude.{◌≡◌, ℕ, ◌<◌, List, ◌++◌, length, Option, Some, ◌⊎◌}
 use Rattle.rfb_pixel.specs.declared.colour.Colour.{Colour}
 use Rattle.rfb_picture.specs.Grid.{Grid}
@@ -30,7 +30,8 @@ abbrev pub ShowsAt : ServerAt → Option (Grid Colour) → List ℕ → Option (
 ShowsAt (First point) picture prefix stored = stored ≡ picture
 ShowsAt (Second p) picture prefix stored =
     (HasNoData p prefix × (stored ≡ picture))
-    ⊎ ((before now : Grid Colour) × (picture ≡ Some before) × (stored ≡ Some now) × ShowsPieces p prefix before now)
+    ⊎ ((before now : Grid Colour) × (picture ≡ Some before) × (stored ≡ Some now)
+    × ShowsPieces p prefix before now)
 
 -- what is stored shows a state, where these bytes came of the next item
 abbrev pub Shows : ViewerState → List ℕ → Option (Grid Colour) → Type 0

@@ -20,7 +20,9 @@ has_screen (Some picture) = true
 -- the rectangle that is painted lies on the screen, and its data have not ended
 abbrev pub holds_data : UnderWay → Option (Grid Colour) → Bool
 holds_data painter None = false
-holds_data painter (Some picture) = is_on_screen picture.width picture.height painter.rect && not (is_ended painter.rect painter.stage)
+holds_data painter (Some picture) =
+    is_on_screen picture.width picture.height painter.rect
+    && not (is_ended painter.rect painter.stage)
 
 -- the handshake goes on in its end, and behind it there is a screen
 abbrev pub is_sound : ViewerHello → Progress → Option (Grid Colour) → Bool
@@ -57,7 +59,8 @@ is_updating (Failed fault) = false
 -- the area has a place, and lies on the screen
 abbrev pub is_shown : Option (Grid Colour) → Rect → Bool
 is_shown None rect = false
-is_shown (Some picture) rect = nat_lt 0 rect.w && nat_lt 0 rect.h && is_on_screen picture.width picture.height rect
+is_shown (Some picture) rect =
+    nat_lt 0 rect.w && nat_lt 0 rect.h && is_on_screen picture.width picture.height rect
 
 -- the bytes end between two messages
 abbrev pub is_idle : Progress → Bool

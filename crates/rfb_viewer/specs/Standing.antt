@@ -1,6 +1,6 @@
--- What a `Viewer` stands for: a state, and the bytes that came of the server's next item, fewer than it
--- has. Between two items what it stores is the picture; of a rectangle under way it shows the whole
--- pieces that came.
+-- What a `Viewer` stands for: a state, and the bytes that came of the server's next item, fewer
+-- than it has. Between two items what it stores is the picture; of a rectangle under way it shows
+-- the whole pieces that came.
 use Rattle.std.specs.Prelude.{◌≡◌, ℕ, Bool, true, false, List, Option}
 use Rattle.rfb_pixel.specs.declared.colour.Colour.{Colour}
 use Rattle.rfb_pixel.specs.Format.{PixelFormat}
@@ -19,7 +19,12 @@ use Rattle.rfb_viewer.specs.Progress.{ProgressStandsFor, fault_in}
 -- what a viewer is made with
 abbrev pub viewing_with : PixelFormat → List Encoding → Version → Bool → ℕ → ℕ → Viewing
 viewing_with form encodings limit shared max_places text_limit = record {
-  hello = record { limit = limit; shared = shared; max_places = max_places; text_limit = text_limit };
+  hello = record {
+    limit = limit;
+    shared = shared;
+    max_places = max_places;
+    text_limit = text_limit;
+  };
   form = form;
   encodings = encodings;
 }
@@ -29,7 +34,8 @@ is_outstanding Answered = false
 is_outstanding Outstanding = true
 
 -- a viewer stands for a state and a prefix
-pub record StandsFor (viewing : Viewing) (viewer : Viewer) (s : ViewerState) (prefix : List ℕ) : Type 0 where
+pub record StandsFor (viewing : Viewing) (viewer : Viewer) (s : ViewerState)
+    (prefix : List ℕ) : Type 0 where
   pub setup_is : setup_of viewer.hello ≡ viewing.hello
   pub limit_is : viewer.text_limit ≡ viewing.hello.text_limit
   pub encodings_are : viewer.encodings.items ≡ viewing.encodings
@@ -57,4 +63,9 @@ pub record Making : Type 0 where
   pub text_limit : ℕ
 
 abbrev pub making_of : Viewer → Making
-making_of viewer = record { hello = setup_of viewer.hello; encodings = viewer.encodings.items; text_limit = viewer.text_limit }
+making_of viewer =
+    record {
+      hello = setup_of viewer.hello;
+      encodings = viewer.encodings.items;
+      text_limit = viewer.text_limit;
+    }

@@ -1,5 +1,5 @@
--- What a viewer goes on with behind a message's head, behind a rectangle, and where a handshake tells the
--- screen.
+-- What a viewer goes on with behind a message's head, behind a rectangle, and where a handshake
+-- tells the screen.
 use Rattle.std.specs.Prelude.{ℕ, zero, suc, ◌+◌, ◌*◌, ◌<◌, [], Option, Some, None}
 use Rattle.rfb_pixel.specs.declared.colour.Colour.{Colour}
 use Rattle.rfb_picture.specs.Grid.{Grid, uniform}
@@ -38,7 +38,8 @@ progress_behind text_limit (ColourMap first zero) = at_message
 progress_behind text_limit (ColourMap first (suc more)) = Colours (more * 6 + 5)
 progress_behind text_limit BellHead = at_message
 progress_behind text_limit (CutTextHead zero) = at_message
-progress_behind text_limit (CutTextHead (suc more)) = CutTextPart (suc more) more (kept_of text_limit (suc more) [])
+progress_behind text_limit (CutTextHead (suc more)) =
+    CutTextPart (suc more) more (kept_of text_limit (suc more) [])
 
 -- a head alone may be all of its message
 abbrev pub told_behind : ServerHead → Option ViewerTold

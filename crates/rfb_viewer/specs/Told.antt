@@ -7,8 +7,9 @@ use Rattle.rfb_hello.specs.declared.step.ViewerStep.TheVariants.{Reply as ReplyS
 use Rattle.rfb_viewer.specs.declared.event.ViewerEvent.{ViewerEvent}
 use Rattle.rfb_viewer.specs.declared.event.ViewerEvent.TheVariants.{Reply as ReplyEvent, Ready as ReadyEvent, UpdateDone as UpdateDoneEvent, Bell as BellEvent, CutText as CutTextEvent, ColourMapSkipped as ColourMapSkippedEvent}
 
--- an answer that is to be sent; the last one, with as much of the screen's name as is kept and how many
--- bytes it has; the end of an update; a bell; a text, likewise; a colour map, which is not kept
+-- an answer that is to be sent; the last one, with as much of the screen's name as is kept and how
+-- many bytes it has; the end of an update; a bell; a text, likewise; a colour map, which is not
+-- kept
 pub data ViewerTold : Type 0 where
   Reply : (bytes : List ℕ) → ViewerTold
   Ready : (bytes : List ℕ) → (name : List ℕ) → (name_length : ℕ) → ViewerTold
@@ -31,12 +32,13 @@ abbrev pub seen : Option ViewerEvent → Option ViewerTold
 seen None = None
 seen (Some event) = Some (event_told event)
 
--- what is told of a step of the handshake, where these bytes are sent at its end: of the screen nothing,
--- and the version is the handshake's own matter
+-- what is told of a step of the handshake, where these bytes are sent at its end: of the screen
+-- nothing, and the version is the handshake's own matter
 abbrev pub step_told : List ℕ → ViewerStep → Option ViewerTold
 step_told bytes (ReplyStep reply) = Some (Reply reply.items)
 step_told bytes (Screen width height) = None
-step_told bytes (ReadyStep width height version name name_length) = Some (Ready bytes name.bytes name_length)
+step_told bytes (ReadyStep width height version name name_length) =
+    Some (Ready bytes name.bytes name_length)
 
 -- the item is the last of an update: a head that counts no rectangles, or the last rectangle
 abbrev pub is_last : UpdatePoint → UpdateItem → Bool
@@ -56,5 +58,6 @@ abbrev pub item_told : ℕ → UpdatePoint → UpdateItem → Option ViewerTold
 item_told text_limit p (Message (FramebufferUpdate rectangles)) = done_told (rectangles == 0)
 item_told text_limit p (Message (SetColorMapEntries first colors)) = Some ColourMapSkipped
 item_told text_limit p (Message BellMessage) = Some Bell
-item_told text_limit p (Message (ServerCutText text)) = Some (CutText (take text_limit text) (length text))
+item_told text_limit p (Message (ServerCutText text)) =
+    Some (CutText (take text_limit text) (length text))
 item_told text_limit p (Rectangle head body) = done_told (p.left == 1)

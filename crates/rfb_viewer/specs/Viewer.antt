@@ -17,16 +17,16 @@ use Rattle.rfb_viewer.specs.ServerBytes.{ServerAt, FromServer, server_two, serve
 use Rattle.rfb_viewer.specs.Messages.{ready_bytes}
 use Rattle.rfb_viewer.specs.Told.{ViewerTold, step_told, is_last, item_told}
 
--- what a viewer was made with: its end of the handshake, and the format and the encodings that it asks
--- for at its end
+-- what a viewer was made with: its end of the handshake, and the format and the encodings that it
+-- asks for at its end
 pub record Viewing : Type 0 where
   pub hello : ViewerSetup
   pub form : PixelFormat
   pub encodings : List Encoding
 
 -- where the server's bytes stand; the picture, once there is a screen; and whether a request is
--- outstanding. The format in force stands in the point, and before the messages it is the one that the
--- viewer was made with
+-- outstanding. The format in force stands in the point, and before the messages it is the one that
+-- the viewer was made with
 pub record ViewerState : Type 0 where
   pub point : ServerAt
   pub picture : Option (Grid Colour)
@@ -78,7 +78,9 @@ shows viewing s item = record {
 
 -- an item of the part that the point belongs to is told of as that part has it
 abbrev pub told_at : Viewing → ServerAt → FromServer → Option ViewerTold
-told_at viewing (First point) (First step) = event_as (step_told (ready_bytes viewing.form viewing.encodings)) (handshake_tells viewing.hello point step)
+told_at viewing (First point) (First step) =
+    event_as (step_told (ready_bytes viewing.form viewing.encodings))
+    (handshake_tells viewing.hello point step)
 told_at viewing (First point) (Second item) = None
 told_at viewing (Second p) (First step) = None
 told_at viewing (Second p) (Second item) = item_told viewing.hello.text_limit p item
@@ -106,7 +108,8 @@ first_viewer = record { point = First AwaitsVersion; picture = None; outstanding
 -- at a good ServerInit for the screen, and for a name that has bytes
 abbrev pub AsksForScreen : ℕ → List ℕ → Type 0
 AsksForScreen max_places bytes =
-    (width height name_length : ℕ) × SpellsServerInit width height name_length bytes × IsAdmitted max_places width height
+    (width height name_length : ℕ) × SpellsServerInit width height name_length bytes
+    × IsAdmitted max_places width height
 
 -- in the handshake so, and at the last byte of a reason's length above 0
 abbrev pub AsksInHandshake : ViewerSetup → ServerPoint → List ℕ → Type 0
@@ -115,7 +118,8 @@ AsksInHandshake setup point bytes = AsksForReason point bytes
 
 -- between two messages at the last byte of a text's length above 0
 abbrev pub AsksForText : UpdatePoint → List ℕ → Type 0
-AsksForText p bytes = (p.left ≡ 0) × (text_length : ℕ) × SpellsServerCutText text_length bytes × (0 < text_length)
+AsksForText p bytes =
+    (p.left ≡ 0) × (text_length : ℕ) × SpellsServerCutText text_length bytes × (0 < text_length)
 
 abbrev pub AsksAt : ViewerSetup → ServerAt → List ℕ → Type 0
 AsksAt setup (First point) bytes = AsksInHandshake setup point bytes

@@ -2,7 +2,8 @@
 
 use arrayvec::ArrayVec;
 
-/// How many bytes an answer of the handshake has at most: a ProtocolVersion, RFC 6143 section 7.1.1.
+/// How many bytes an answer of the handshake has at most: a ProtocolVersion, RFC 6143 section
+/// 7.1.1.
 pub const MAX_ANSWER: usize = 12;
 
 /// How many bytes the last answer has at most: SetPixelFormat, and SetEncodings with four numbers,
@@ -14,8 +15,9 @@ pub const MAX_READY: usize = 40;
 pub enum ViewerEvent {
     /// Bytes that are to be sent to the server.
     Reply(ArrayVec<u8, MAX_ANSWER>),
-    /// The handshake is done: the last bytes to be sent, SetPixelFormat and SetEncodings; as much of
-    /// the screen's name as is kept, which is the caller's from here on, and how many bytes it had.
+    /// The handshake is done: the last bytes to be sent, SetPixelFormat and SetEncodings; as much
+    /// of the screen's name as is kept, which is the caller's from here on, and how many bytes it
+    /// had.
     Ready {
         reply: ArrayVec<u8, MAX_READY>,
         name: Vec<u8>,
@@ -25,8 +27,8 @@ pub enum ViewerEvent {
     UpdateDone,
     /// Bell, section 7.6.3.
     Bell,
-    /// ServerCutText, section 7.6.4: as much of the text as is kept, which is the caller's from here
-    /// on, and how many bytes it had.
+    /// ServerCutText, section 7.6.4: as much of the text as is kept, which is the caller's from
+    /// here on, and how many bytes it had.
     CutText {
         kept: Vec<u8>,
         length: u32,

@@ -63,7 +63,8 @@ pub enum ViewerFault {
 }
 
 impl ViewerFault {
-    // The fault of a handshake. Of its faults two are a client's, and never come of a server's bytes.
+    // The fault of a handshake. Of its faults two are a client's, and never come of a server's
+    // bytes.
     pub(crate) fn of_hello(fault: HelloFault) -> ViewerFault
         ensures { result ≡ fault_of_hello fault }
     {

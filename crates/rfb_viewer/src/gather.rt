@@ -36,8 +36,8 @@ pub(crate) fn gather<const PART: usize, const SIZE: usize>(
     (missing, Some(whole))
 }
 
-/// Takes a byte of a message's head, which comes behind the part: the head, if it is whole now; else
-/// the byte is kept.
+/// Takes a byte of a message's head, which comes behind the part: the head, if it is whole now;
+/// else the byte is kept.
 pub(crate) fn read_head(part: &mut ArrayVec<u8, 7>, byte: u8) -> Read<ServerHead>
     ensures kept { IfMore result (λ n. part.new.items ≡ part.old.items ++ byte ∷ []) }
     ensures more { IfMore result (λ n.

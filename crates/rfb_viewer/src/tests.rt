@@ -1,5 +1,5 @@
-//! Tests of a viewer that is fed what servers send. Streams, answers and colours were worked out by hand
-//! from RFC 6143.
+//! Tests of a viewer that is fed what servers send. Streams, answers and colours were worked out by
+//! hand from RFC 6143.
 
 mod calls;
 mod cuts;

@@ -21,8 +21,8 @@ use rfb_pixel::{Colour, Format};
 use rfb_wire::Encoding;
 use std::alloc::Global;
 
-/// A viewer of one server. The owner feeds it what the server sends, sends the server what it answers
-/// and what calls on it answer, and shows its picture.
+/// A viewer of one server. The owner feeds it what the server sends, sends the server what it
+/// answers and what calls on it answer, and shows its picture.
 #[derive(Drop)]
 pub struct Viewer {
     alloc: Global,
@@ -46,10 +46,10 @@ impl Viewer {
     ghost use Rattle.rfb_viewer.specs.Progress.{IsElsewhere};
     ghost use Rattle.rfb_viewer.specs.Failing.{KeepsPicture, KeepsReason};
 
-    /// A viewer that was fed nothing. It goes up to version `limit`, asks for the screen alone where
-    /// it is not `shared`, admits a screen of `max_places` places, and keeps `text_limit` bytes of
-    /// each text. Once the handshake is done it asks for updates in `format`, in one of `encodings`,
-    /// the best first. It takes no memory.
+    /// A viewer that was fed nothing. It goes up to version `limit`, asks for the screen alone
+    /// where it is not `shared`, admits a screen of `max_places` places, and keeps `text_limit`
+    /// bytes of each text. Once the handshake is done it asks for updates in `format`, in one of
+    /// `encodings`, the best first. It takes no memory.
     pub fn new(
         alloc: Global,
         format: Format,
@@ -75,9 +75,9 @@ impl Viewer {
         }
     }
 
-    /// Takes bytes of the server's, up to the last of its first item that is told of, or all. A fault
-    /// is told at its last byte, and by every later call, which take nothing. `NoMemory` comes only
-    /// where the screen is made, and at the length of a text.
+    /// Takes bytes of the server's, up to the last of its first item that is told of, or all. A
+    /// fault is told at its last byte, and by every later call, which take nothing. `NoMemory`
+    /// comes only where the screen is made, and at the length of a text.
     pub fn feed(&mut self, bytes: &[u8]) -> Result<Fed<ViewerEvent>, ViewerFault>
         // What was taken, what it was, and what is left.
         ensures used { IfOk result (λ fed. fed.used ≤ length bytes.now) }
@@ -129,8 +129,8 @@ impl Viewer {
         Ok(Fed { used, event: None })
     }
 
-    // Takes bytes of the server's next item but a rectangle's data, as many of it as there are. It is
-    // not inlined, since data that come byte by byte need none of it.
+    // Takes bytes of the server's next item but a rectangle's data, as many of it as there are. It
+    // is not inlined, since data that come byte by byte need none of it.
     #[inline(never)]
     fn take(&mut self, bytes: &[u8]) -> Result<Fed<ViewerEvent>, ViewerFault>
         requires some { 0 < length bytes.now }

@@ -207,7 +207,8 @@ fn a_format_is_set_between_an_update_and_the_next_request(rt: HostRuntime) {
     assert!(rt; is_shown_in_a_new_format(&mut viewer));
 }
 
-// Inside an update that nobody asked for no format is set. A request is sent, and answered by its end.
+// Inside an update that nobody asked for no format is set. A request is sent, and answered by its
+// end.
 #[test]
 fn an_update_that_nobody_asked_for_answers_a_request(rt: HostRuntime) {
     let mut viewer = ready(rt.alloc(), Format::rgb888(), HELLO_1_BY_1);
@@ -225,7 +226,8 @@ fn is_begun(viewer: &mut Viewer) -> bool {
     good
 }
 
-// Whether a request is sent inside the update, none behind it, and the next one behind the last byte.
+// Whether a request is sent inside the update, none behind it, and the next one behind the last
+// byte.
 fn answers_a_request(viewer: &mut Viewer) -> bool {
     request_fault(viewer, ONE).is_none()
         && request_fault(viewer, ONE) == Some(CallFault::Busy)

@@ -1,10 +1,11 @@
-//! Servers' streams whole, byte by byte, in two slices, and damaged: what is told and shown doesn't depend
-//! on the cut.
+//! Servers' streams whole, byte by byte, in two slices, and damaged: what is told and shown doesn't
+//! depend on the cut.
 
 use super::*;
 
 // Handshakes of each version and messages behind them, all of a viewer at bgr233: updates of each
-// encoding, a text above its limit and one of no bytes, colours, bells; refusals; faults in an update.
+// encoding, a text above its limit and one of no bytes, colours, bells; refusals; faults in an
+// update.
 const SERVERS: [&[u8]; 9] = [
     b"RFB 003.008\n\x03\x10\x02\x01\0\0\0\0\0\x02\0\x01\x20\x18\0\x01\0\xFF\0\xFF\0\xFF\x10\x08\0\0\0\0\0\0\0\x01t\0\0\0\x01\0\0\0\0\0\x02\0\x01\0\0\0\0\x27\x10\x02",
     b"RFB 003.007\n\x01\x01\0\x02\0\x01\x20\x18\0\x01\0\xFF\0\xFF\0\xFF\x10\x08\0\0\0\0\0\0\0\0\x03\0\0\0\0\0\0\x05ABCDE\x02\x03\0\0\0\0\0\0\0\x01\0\0\x05\0\x01\x01\x02\x03\x04\x05\x06",
@@ -17,8 +18,8 @@ const SERVERS: [&[u8]; 9] = [
     b"RFB 003.003\n\0\0\0\x01\0\x01\0\x01................\0\0\0\0\0\0\0\x01\0\0\0\0\0\x01\0\x01\0\0\0\x01\0\x01\0\0",
 ];
 
-// Feeds a slice that stands behind so many bytes: writes each event with the number of bytes up to it, and
-// a fault. Whether no fault came.
+// Feeds a slice that stands behind so many bytes: writes each event with the number of bytes up to
+// it, and a fault. Whether no fault came.
 fn feed_all(
     viewer: &mut Viewer,
     alloc: Global,

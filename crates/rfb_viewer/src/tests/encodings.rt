@@ -1,5 +1,5 @@
-//! An update of all four encodings in each of three formats, cut at every byte: what is shown is what a
-//! plain decoder makes of the bytes so far.
+//! An update of all four encodings in each of three formats, cut at every byte: what is shown is
+//! what a plain decoder makes of the bytes so far.
 
 use super::plain::{Pixels, SIDE, shown_after};
 use super::*;
@@ -19,8 +19,8 @@ const UPDATE: [Part; 24] = [
     // Raw of 3 by 2 at (1, 0).
     Given(b"\0\x01\0\0\0\x03\0\x02\0\0\0\0"),
     Fresh(6),
-    // Hextile of all: two subrectangles of one foreground, the second over the first; two with pixels of
-    // their own; a raw tile; one of the foreground and the background that came first.
+    // Hextile of all: two subrectangles of one foreground, the second over the first; two with
+    // pixels of their own; a raw tile; one of the foreground and the background that came first.
     Given(b"\0\0\0\0\0\x12\0\x12\0\0\0\x05\x0E"),
     Fresh(2),
     Given(b"\x02\x12\x33\x24\x51\x18\x02"),
@@ -87,8 +87,8 @@ fn shows_all(
     Ok(same)
 }
 
-// Whether slices, the first of such a size and the others of another, show at each cut what they should,
-// and the last one ends the update.
+// Whether slices, the first of such a size and the others of another, show at each cut what they
+// should, and the last one ends the update.
 fn shows_at_cuts(
     viewer: &mut Viewer,
     alloc: Global,

@@ -27,8 +27,8 @@ fn is_reply(event: &Option<ViewerEvent>, wanted: &[u8]) -> bool {
     }
 }
 
-// Whether all of the bytes are taken, and the viewer is ready then: what it answers, the name and its
-// length.
+// Whether all of the bytes are taken, and the viewer is ready then: what it answers, the name and
+// its length.
 fn is_ready_at(viewer: &mut Viewer, bytes: &[u8], name: &[u8], length: u32) -> bool {
     match viewer.feed(bytes) {
         Ok(Fed { used, event }) => used == bytes.len() && is_ready(&event, name, length),
@@ -139,6 +139,18 @@ fn a_screen_is_judged_at_its_last_byte_before_the_name(rt: HostRuntime) {
             && is_judged(&mut viewer, size, wanted);
         assert!(rt; judged, "{wanted:?}");
     }
+}
+
+// The most places that a server can tell, where 4,096 by 4,096 are admitted.
+#[test]
+fn the_largest_screen_is_refused_before_it_takes_memory(rt: HostRuntime) {
+    let (alloc, format) = (rt.alloc(), Format::rgb888());
+    let limit = Version::V38;
+    let mut viewer = Viewer::new(alloc, format, ArrayVec::new(), limit, true, 16_777_216, 4);
+    assert_eq!(rt; taken(&mut viewer, b"RFB 003.003\n"), 12);
+    assert_eq!(rt; taken(&mut viewer, b"\0\0\0\x01"), 4);
+    let size = b"\xFF\xFF\xFF\xFF";
+    assert!(rt; is_judged(&mut viewer, size, Some(ViewerFault::ScreenTooLarge)));
 }
 
 // A server's version, its security that refuses, the fault, and what is kept of the reason.

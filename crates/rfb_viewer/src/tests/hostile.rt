@@ -1,4 +1,5 @@
-//! What a hostile server sends behind the handshake: the fault, its byte, and the pieces shown before it.
+//! What a hostile server sends behind the handshake: the fault, its byte, and the pieces shown
+//! before it.
 
 use super::*;
 use crate::ViewerFault;
@@ -17,7 +18,8 @@ const RRE_HEAD: &[u8] = b"\0\0\0\0\0\x02\0\x01\0\0\0\x02";
 
 const HEXTILE_HEAD: &[u8] = b"\0\0\0\0\0\x02\0\x01\0\0\0\x05";
 
-// Whether all but the last byte is taken, and then it tells this fault, also when it is fed nothing.
+// Whether all but the last byte is taken, and then it tells this fault, also when it is fed
+// nothing.
 fn fails_at_last(viewer: &mut Viewer, bytes: &[u8], wanted: ViewerFault) -> bool {
     let (front, back) = bytes.split_at(bytes.len().saturating_sub(1));
     takes(viewer, front, front.len())
@@ -162,7 +164,8 @@ fn a_mask_is_judged_before_what_follows_it(rt: HostRuntime) {
     }
 }
 
-// The first rectangle stays when the second is refused, and of that one the pixels before the fault.
+// The first rectangle stays when the second is refused, and of that one the pixels before the
+// fault.
 #[test]
 fn what_came_before_a_fault_stays(rt: HostRuntime) {
     let mut viewer = ready(rt.alloc(), Format::bgr233(), HELLO_2_BY_1);

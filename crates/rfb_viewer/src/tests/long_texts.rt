@@ -1,4 +1,5 @@
-//! A name and a text of all the bytes that a length can tell: their first MiB is kept, the rest taken.
+//! A name and a text of all the bytes that a length can tell: their first MiB is kept, the rest
+//! taken.
 
 use super::*;
 use crate::ViewerFault;
@@ -91,8 +92,8 @@ fn a_text_at_the_limit_is_kept_whole(rt: HostRuntime) -> Result<(), AllocError> 
     Ok(())
 }
 
-// The screen, the name and a text take memory. Where it is refused, that is told once more, and else all is
-// taken.
+// The screen, the name and a text take memory. Where it is refused, that is told once more, and
+// else all is taken.
 #[test]
 fn want_of_memory_is_told_for_good(rt: HostRuntime) {
     let mut viewer = viewer(rt.alloc(), Format::rgb888(), Version::V38);

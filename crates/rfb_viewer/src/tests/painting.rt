@@ -52,8 +52,8 @@ fn keeps_black(viewer: &mut Viewer, bytes: &[u8]) -> bool {
     good
 }
 
-// Whether the last byte shows the first tile, and the next one, which has the background of the first, the
-// second tile.
+// Whether the last byte shows the first tile, and the next one, which has the background of the
+// first, the second tile.
 fn shows_both(viewer: &mut Viewer) -> bool {
     let mut first = [TEN; 17];
     first[0] = TWENTY;
@@ -84,8 +84,8 @@ fn subrects(alloc: Global, count: usize) -> Result<Vec<u8>, AllocError> {
     Ok(parts)
 }
 
-// Of the most subrectangles that a count can tell, the first million. Slices of 4,000 bytes cut them at
-// each of their nine bytes.
+// Of the most subrectangles that a count can tell, the first million. Slices of 4,000 bytes cut
+// them at each of their nine bytes.
 #[test]
 fn a_million_subrectangles_are_taken_as_they_come(rt: HostRuntime) -> Result<(), AllocError> {
     let parts = subrects(rt.alloc(), 450)?;

@@ -2,8 +2,8 @@
 
 use super::*;
 
-// Whether so many bytes are pending behind each byte of a stream, and no message has begun behind its last
-// one alone.
+// Whether so many bytes are pending behind each byte of a stream, and no message has begun behind
+// its last one alone.
 fn keeps(viewer: &mut Viewer, stream: &[u8], wanted: &[usize]) -> bool {
     let mut good = stream.len() == wanted.len();
     for (byte, pending) in stream.chunks(1).zip(wanted) {

@@ -1,5 +1,6 @@
-//! A plain decoder of one update, written from RFC 6143, sections 7.6.1 and 7.7. It is given all bytes
-//! that came, begins with the first of them each time, and stops at the first piece that is not whole.
+//! A plain decoder of one update, written from RFC 6143, sections 7.6.1 and 7.7. It is given all
+//! bytes that came, begins with the first of them each time, and stops at the first piece that is
+//! not whole.
 
 use rfb_pixel::Colour;
 use std::alloc::{AllocError, Global};
@@ -7,8 +8,8 @@ use std::alloc::{AllocError, Global};
 /// How wide and how high the picture is.
 pub const SIDE: usize = 18;
 
-/// A pixel format, little-endian: how many bytes a pixel has, and the maximum and the unit of its red, its
-/// green and its blue.
+/// A pixel format, little-endian: how many bytes a pixel has, and the maximum and the unit of its
+/// red, its green and its blue.
 #[derive(Clone, Copy)]
 pub struct Pixels {
     pub size: usize,

@@ -30,8 +30,8 @@ impl Viewer {
     ghost use Rattle.rfb_viewer.specs.Standing.{StandsFor, fault_of, picture_of};
 
     /// FramebufferUpdateRequest, section 7.5.3: asks for the area, what has changed of it or all of
-    /// it. The request is outstanding until the next `UpdateDone`. `NotReady` before the handshake is
-    /// done and once the viewer has failed; else `Busy` where a request is outstanding; else
+    /// it. The request is outstanding until the next `UpdateDone`. `NotReady` before the handshake
+    /// is done and once the viewer has failed; else `Busy` where a request is outstanding; else
     /// `AreaOutside` where the area has no place or leaves the screen. A refusal changes nothing.
     pub fn request(&mut self, incremental: bool, rect: Rect) -> Result<[u8; 10], CallFault>
         // Which message it is.
@@ -150,9 +150,9 @@ impl Viewer {
         Ok(bytes_of(&ClientHead::Pointer { buttons, x, y }.spell()))
     }
 
-    /// ClientCutText, section 7.5.6: appends the message with this text, of at most 1,048,576 bytes,
-    /// to the caller's buffer. `NotReady` as for `request`; else `NoMemory` where the buffer cannot
-    /// grow. Either leaves the buffer as it was.
+    /// ClientCutText, section 7.5.6: appends the message with this text, of at most 1,048,576
+    /// bytes, to the caller's buffer. `NotReady` as for `request`; else `NoMemory` where the buffer
+    /// cannot grow. Either leaves the buffer as it was.
     pub fn cut_text(&self, text: &[u8], out: &mut Vec<u8>) -> Result<(), TextFault>
         requires few { length text.now ≤ 1048576 }
         ensures sent { IfOk result (λ _. out.new.items ≡ out.old.items ++ text_message text.now) }

@@ -1,4 +1,5 @@
-//! What a viewer lends and tells: its picture, the server's reason, and how far the bytes have come.
+//! What a viewer lends and tells: its picture, the server's reason, and how far the bytes have
+//! come.
 
 ghost use Rattle.std.specs.Prelude.{◌≡◌, ◌≢◌, ◌≤◌, ℕ, List, [], false, None, option_copied};
 ghost use Rattle.rfb_viewer.specs.ServerBytes.{is_between, server_bytes_pending};
@@ -27,8 +28,8 @@ impl Viewer {
         self.picture.as_ref()
     }
 
-    /// What is kept of the reason that the server gave, after `Refused` and `SecurityFailed`; before
-    /// a fault no bytes. What they are encoded in is the server's matter.
+    /// What is kept of the reason that the server gave, after `Refused` and `SecurityFailed`;
+    /// before a fault no bytes. What they are encoded in is the server's matter.
     pub fn reason(&self) -> &[u8]
         ensures value { result.now ≡ reason_of self.now }
         ensures none { (viewing : Viewing) (s : ViewerState) (prefix : List ℕ)

@@ -9,8 +9,8 @@ use arrayvec::ArrayVec;
 use rfb_codec::Painter;
 use rfb_hello::Text;
 
-/// How many bytes come before the last of the longest head of a server message: of ServerCutText, RFC
-/// 6143 section 7.6.4.
+/// How many bytes come before the last of the longest head of a server message: of ServerCutText,
+/// RFC 6143 section 7.6.4.
 pub(crate) const HEAD_PART: usize = 7;
 
 /// How many bytes come before the last of a rectangle's head, section 7.6.1.
