@@ -13,7 +13,7 @@ use Rattle.rfb_viewer.specs.declared.viewer.Viewer.{Viewer}
 use Rattle.rfb_viewer.specs.Viewer.{first_viewer}
 use Rattle.rfb_viewer.specs.Standing.{StandsFor as ViewerStandsFor, picture_of, fault_of as fault_of_viewer}
 use Rattle.rfb_session.specs.declared.event.Event.{Event}
-use Rattle.rfb_session.specs.declared.event.Event.TheVariants.{CutText, ToServer, ToViewer}
+use Rattle.rfb_session.specs.declared.event.Event.TheVariants.{Fill, Put, Copy, Hint, CutText, ToServer, ToViewer}
 use Rattle.rfb_session.specs.declared.told.Told.{Told}
 use Rattle.rfb_session.specs.declared.world.World.{World}
 use Rattle.rfb_session.specs.Latest.{composing_in}
@@ -134,6 +134,14 @@ LosesAs old event told new = Unit {0}
 abbrev pub HasFewBytes : Event → Type 0
 HasFewBytes (CutText text) = length text.items ≤ 1048576
 HasFewBytes event = Unit {0}
+
+-- a drawing, or a hint
+abbrev pub IsDrawing : Event → Type 0
+IsDrawing (Fill rect colour) = Unit {0}
+IsDrawing (Put x y row) = Unit {0}
+IsDrawing (Copy rect sx sy) = Unit {0}
+IsDrawing (Hint rect sx sy) = Unit {0}
+IsDrawing event = ⊥
 
 -- ---- runs
 

@@ -2,7 +2,7 @@
 
 ghost use Rattle.std.specs.Prelude.{◌≡◌, ◌≢◌, ◌≤◌, ◌<◌, ◌+◌, ℕ, List, [], length, drop, Ok, Err};
 ghost use Rattle.std.specs.Prelude.{true, false, Some, None, All, option_copied};
-ghost use Rattle.std.specs.Prelude.{IfOk, OnOk, OnErr, IsErr};
+ghost use Rattle.std.specs.Prelude.{IfOk, OnOk, OnErr, IsOk, IsErr};
 ghost use Rattle.rfb_server.specs.Standing.{screen_of};
 ghost use Rattle.rfb_session.specs.Latest.{HasRoom};
 
@@ -44,7 +44,8 @@ impl World {
     ghost use Rattle.rfb_session.specs.World.{StandsFor, AreFresh, first_network};
     ghost use Rattle.rfb_session.specs.World.{is_closed, shown_by};
     ghost use Rattle.rfb_session.specs.Network.{Network};
-    ghost use Rattle.rfb_session.specs.World.{Does, LosesAs, HasFewBytes, Reaches, NeitherFailed};
+    ghost use Rattle.rfb_session.specs.World.{Does, LosesAs, HasFewBytes, IsDrawing};
+    ghost use Rattle.rfb_session.specs.World.{Reaches, NeitherFailed};
     ghost use Rattle.rfb_session.specs.Headline.{IsHeadline, ShowsKnown, ShowsLatest, due_picture};
 
     /// A world of two fresh ends: nothing was fed to them, and the server's screen may be drawn on.
@@ -82,6 +83,8 @@ impl World {
         ensures kept { IfOk result (λ told. told.refused ≢ None → self.new ≡ self.old) }
         ensures lost { IfOk result (λ told. LosesAs self.old event.now told self.new) }
 
+        // A drawing and a hint take no memory.
+        ensures free { IsDrawing event.now → is_closed self.old ≡ false → IsOk result }
         // Want of memory closes it for good.
         ensures closes { OnErr result (is_closed self.new ≡ true) }
         ensures closed { is_closed self.old ≡ true → IsErr result × (self.new ≡ self.old) }
@@ -143,6 +146,7 @@ impl World {
         ensures does { IfOk result (λ told. Does self.old event.now told self.new) }
         ensures kept { IfOk result (λ told. told.refused ≢ None → self.new ≡ self.old) }
         ensures lost { IfOk result (λ told. LosesAs self.old event.now told self.new) }
+        ensures free { IsDrawing event.now → IsOk result }
     {
         match event {
             Event::Fill(rect, colour) => Ok(self.fill(*rect, *colour)),

@@ -2,7 +2,7 @@ use Rattle.std.proofs.Common.{Result, Ok, Err, IfOk, sym, subst}
 use Rattle.rfb_session.specs.declared.event.Event.{Event}
 use Rattle.rfb_session.specs.declared.told.NoMemory.{NoMemory}
 use Rattle.rfb_session.specs.declared.told.Told.{Told}
-use Rattle.rfb_session.specs.World.{Does, LosesAs}
+use Rattle.rfb_session.specs.World.{Does, LosesAs, IsDrawing}
 use Rattle.rfb_session.proofs.world.World.happen.Goals as goal
 
 nothing : (result : Result Told NoMemory) → IfOk result (λ told. Unit {0})
@@ -145,3 +145,39 @@ pub returns-in-ToViewer-clause-lost : goal.returns-in-ToViewer-clause-lost
 returns-in-ToViewer-clause-lost c =
     subst (λ (event : Event). IfOk c.move_to_viewer.result
     (λ told. LosesAs c.args.self.now event told c.move_to_viewer.new.self)) (sym c.in-ToViewer.is) c.move_to_viewer.ensures.lost
+
+pub returns-in-Request-clause-free : goal.returns-in-Request-clause-free
+returns-in-Request-clause-free c =
+    λ drawing. absurd (subst (λ (event : Event). IsDrawing event) c.in-Request.is drawing)
+
+pub returns-in-SetFormat-clause-free : goal.returns-in-SetFormat-clause-free
+returns-in-SetFormat-clause-free c =
+    λ drawing. absurd (subst (λ (event : Event). IsDrawing event) c.in-SetFormat.is drawing)
+
+pub returns-in-SetEncodings-clause-free : goal.returns-in-SetEncodings-clause-free
+returns-in-SetEncodings-clause-free c =
+    λ drawing. absurd (subst (λ (event : Event). IsDrawing event) c.in-SetEncodings.is drawing)
+
+pub returns-in-Key-clause-free : goal.returns-in-Key-clause-free
+returns-in-Key-clause-free c =
+    λ drawing. absurd (subst (λ (event : Event). IsDrawing event) c.in-Key.is drawing)
+
+pub returns-in-Pointer-clause-free : goal.returns-in-Pointer-clause-free
+returns-in-Pointer-clause-free c =
+    λ drawing. absurd (subst (λ (event : Event). IsDrawing event) c.in-Pointer.is drawing)
+
+pub returns-in-CutText-clause-free : goal.returns-in-CutText-clause-free
+returns-in-CutText-clause-free c =
+    λ drawing. absurd (subst (λ (event : Event). IsDrawing event) c.in-CutText.is drawing)
+
+pub returns-in-Compose-clause-free : goal.returns-in-Compose-clause-free
+returns-in-Compose-clause-free c =
+    λ drawing. absurd (subst (λ (event : Event). IsDrawing event) c.in-Compose.is drawing)
+
+pub returns-in-ToServer-clause-free : goal.returns-in-ToServer-clause-free
+returns-in-ToServer-clause-free c =
+    λ drawing. absurd (subst (λ (event : Event). IsDrawing event) c.in-ToServer.is drawing)
+
+pub returns-in-ToViewer-clause-free : goal.returns-in-ToViewer-clause-free
+returns-in-ToViewer-clause-free c =
+    λ drawing. absurd (subst (λ (event : Event). IsDrawing event) c.in-ToViewer.is drawing)
