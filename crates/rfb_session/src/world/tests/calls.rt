@@ -1,4 +1,4 @@
-//! Calls and drawings one by one: what is taken, how the rest is refused, and how long messages are.
+//! Calls and drawings: what is taken, how the rest is refused, and how long messages are.
 
 ghost use Rattle.std.specs.Prelude.{◌≤◌, IfOk};
 ghost use Rattle.rfb_session.specs.World.{HasFewBytes};

@@ -200,7 +200,8 @@ impl Places {
         right
     }
 
-    /// Whether a picture shows what it showed; or, in an update of Raw, what it showed or is to show.
+    /// Whether a picture shows what it showed; or, in an update of Raw, what it showed or is to
+    /// show.
     pub(super) fn are_shown(&self, picture: &Picture<Colour>, in_update: bool) -> bool {
         let mut right = true;
         for place in &self.list {

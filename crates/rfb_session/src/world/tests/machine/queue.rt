@@ -1,4 +1,4 @@
-//! The messages in flight one way, in order, and how many bytes of the first of them have been moved.
+//! The messages in flight one way, and how many bytes of the first of them have been moved.
 
 use rfb_picture::Rect;
 use rfb_pixel::Format;
