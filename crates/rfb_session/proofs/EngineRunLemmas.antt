@@ -1,26 +1,26 @@
 -- Runs of an engine, one after another.
 use Rattle.std.proofs.Common.{◌≡◌, ℕ, ◌+◌, List, [], ◌∷◌, ◌++◌, Option, refl, sym, ap, ◌∙◌, subst, append_assoc, append-nil, arith}
 use Rattle.rfb_wire.specs.stream.End.{FedBy}
-use Rattle.rfb_session.specs.EngineRun.{Step, Fed, Did, Driven, Runs, RunsOn, fed_at, fed_in, sent_in, updates_in}
+use Rattle.rfb_session.specs.EngineRun.{Step, Fed, Did, Driven, Runs, Ran, RunsOn, fed_at, fed_in, sent_in, updates_in}
 
-counted : (all b m n : ℕ) → all ≡ b + m → all + n ≡ b + (m + n)
+pub counted : (all b m n : ℕ) → all ≡ b + m → all + n ≡ b + (m + n)
 counted all b m n is = omega (arith, is)
 
-none_more : (b : ℕ) → b ≡ b + 0
+pub none_more : (b : ℕ) → b ≡ b + 0
 none_more b = omega arith
 
-only_one : (n : ℕ) → n ≡ 0 + n
+pub only_one : (n : ℕ) → n ≡ 0 + n
 only_one n = omega arith
 
 module _ {E A : Type 0} where
-  fed_append : (before more : List (Step E A)) → fed_in (more ++ before) ≡ fed_in before ++ fed_in more
+  pub fed_append : (before more : List (Step E A)) → fed_in (more ++ before) ≡ fed_in before ++ fed_in more
   fed_append before [] = sym (append-nil (fed_in before))
   fed_append before (step ∷ more) =
       ap (λ (l : List ℕ). l ++ fed_at step) (fed_append before more)
       ∙ append_assoc (fed_in before) (fed_in more) (fed_at step)
 
 module _ {V C S P I F E A : Type 0} where
-  runs_append : (d : Driven V C S P I F E A) (made : C) (s t u : S) (prefix mid rest : List ℕ)
+  pub runs_append : (d : Driven V C S P I F E A) (made : C) (s t u : S) (prefix mid rest : List ℕ)
       (before more : List (Step E A)) → Runs d made s prefix before t mid →
       Runs d made t mid more u rest → Runs d made s prefix (more ++ before) u rest
   runs_append d made s t u prefix mid rest before [] one two =
@@ -29,14 +29,14 @@ module _ {V C S P I F E A : Type 0} where
   runs_append d made s t u prefix mid rest before (step ∷ more) one two =
       (two.0, two.1, runs_append d made s t two.0 prefix mid two.1 before more one two.2, two.3)
 
-  sent_append : (d : Driven V C S P I F E A) (before more : List (Step E A)) →
+  pub sent_append : (d : Driven V C S P I F E A) (before more : List (Step E A)) →
       sent_in d (more ++ before) ≡ sent_in d before ++ sent_in d more
   sent_append d before [] = sym (append-nil (sent_in d before))
   sent_append d before (step ∷ more) =
       ap (λ (l : List ℕ). l ++ d.sends step) (sent_append d before more)
       ∙ append_assoc (sent_in d before) (sent_in d more) (d.sends step)
 
-  updates_append : (d : Driven V C S P I F E A) (before more : List (Step E A)) →
+  pub updates_append : (d : Driven V C S P I F E A) (before more : List (Step E A)) →
       updates_in d (more ++ before) ≡ updates_in d before + updates_in d more
   updates_append d before [] = none_more (updates_in d before)
   updates_append d before (step ∷ more) =
@@ -56,28 +56,37 @@ module _ {V C S P I F E A : Type 0} where
     updates_are = refl;
   }
 
-  -- a run behind a run
-  pub ran_then : (d : Driven V C S P I F E A) (old mid new : V) (fed sent more_fed more_sent : List ℕ)
-      (n m : ℕ) → RunsOn d old fed sent n mid → RunsOn d mid more_fed more_sent m new →
-      RunsOn d old (fed ++ more_fed) (sent ++ more_sent) (n + m) new
-  ran_then d old mid new fed sent more_fed more_sent n m one two = λ made s prefix stands.
-      let a = one made s prefix stands in
-      let b = two made a.state a.rest a.stands in
+  -- steps behind steps
+  abbrev pub joined : (d : Driven V C S P I F E A) (made : C) (s : S) (prefix : List ℕ) (mid new : V)
+      (fed sent more_fed more_sent all_fed all_sent : List ℕ) (n m k : ℕ) →
+      all_fed ≡ fed ++ more_fed → all_sent ≡ sent ++ more_sent → k ≡ n + m →
+      (a : Ran d made s prefix mid fed sent n) →
+      Ran d made a.state a.rest new more_fed more_sent m → Ran d made s prefix new all_fed all_sent k
+  joined d made s prefix mid new fed sent more_fed more_sent all_fed all_sent n m k feds sents counts a b =
       record {
         steps = b.steps ++ a.steps;
         state = b.state;
         rest = b.rest;
         runs = runs_append d made s a.state b.state prefix a.rest b.rest a.steps b.steps a.runs b.runs;
         stands = b.stands;
-        fed_is = ap (λ (l : List ℕ). l ++ more_fed) a.fed_is
+        fed_is = feds ∙ ap (λ (l : List ℕ). l ++ more_fed) a.fed_is
             ∙ ap (λ (l : List ℕ). fed_in a.steps ++ l) b.fed_is ∙ sym (fed_append a.steps b.steps);
-        sent_is = ap (λ (l : List ℕ). l ++ more_sent) a.sent_is
+        sent_is = sents ∙ ap (λ (l : List ℕ). l ++ more_sent) a.sent_is
             ∙ ap (λ (l : List ℕ). sent_in d a.steps ++ l) b.sent_is
             ∙ sym (sent_append d a.steps b.steps);
-        updates_are = ap (λ (k : ℕ). k + m) a.updates_are
-            ∙ ap (λ (k : ℕ). updates_in d a.steps + k) b.updates_are
+        updates_are = counts ∙ ap (λ (x : ℕ). x + m) a.updates_are
+            ∙ ap (λ (x : ℕ). updates_in d a.steps + x) b.updates_are
             ∙ sym (updates_append d a.steps b.steps);
       }
+
+  -- a run behind a run
+  pub ran_then : (d : Driven V C S P I F E A) (old mid new : V) (fed sent more_fed more_sent : List ℕ)
+      (n m : ℕ) → RunsOn d old fed sent n mid → RunsOn d mid more_fed more_sent m new →
+      RunsOn d old (fed ++ more_fed) (sent ++ more_sent) (n + m) new
+  ran_then d old mid new fed sent more_fed more_sent n m one two = λ made s prefix stands.
+      let a = one made s prefix stands in
+      joined d made s prefix mid new fed sent more_fed more_sent (fed ++ more_fed)
+      (sent ++ more_sent) n m (n + m) refl refl refl a (two made a.state a.rest a.stands)
 
   -- a call that fed the end
   pub ran_fed : (d : Driven V C S P I F E A) (old new : V) (bytes : List ℕ) (event : Option E) →

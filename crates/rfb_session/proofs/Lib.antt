@@ -27,3 +27,5 @@ pub mod WrittenLemmas
 pub mod PixmapLemmas
 pub mod EngineRunLemmas
 pub mod PlayLemmas
+pub mod ServeLemmas
+pub mod ServingLemmas

@@ -170,7 +170,7 @@ over : (fed ys xs : List ℕ) (n : ℕ) → xs ≡ fed ++ ys → n ≤ length fe
 over fed ys xs n is many few =
     omega (arith, many, few, ap (λ (l : List ℕ). length l) is, length-append fed ys)
 
-none_left : (unread left : Option (List ℕ)) (fed bytes : List ℕ) (n : ℕ) → Consumes unread left fed →
+pub none_left : (unread left : Option (List ℕ)) (fed bytes : List ℕ) (n : ℕ) → Consumes unread left fed →
     n ≤ length fed → unread ≡ Some bytes → length bytes < n → IsAtEnd left
 none_left unread left fed bytes n read many is few =
     by left (subst (λ (u : Option (List ℕ)). Consumes u left fed) is read)

@@ -14,3 +14,4 @@ pub mod Pixmap
 pub mod EngineRun
 pub mod Watching
 pub mod Playing
+pub mod ServeEngine

@@ -4,13 +4,17 @@ mod device;
 mod fault;
 mod pixmap;
 mod playing;
+mod scene;
 mod sending;
+mod serving;
 mod tally;
 
 pub use device::{Sink, Source};
 pub use fault::{Device, EngineFault};
 pub use pixmap::ppm;
 pub use playing::play;
+pub use scene::Scene;
+pub use serving::serve;
 pub use tally::Tally;
 
 // How many bytes one read asks for.

@@ -14,7 +14,7 @@ pub mod law;
 mod told;
 mod world;
 
-pub use engine::{Device, EngineFault, Sink, Source, Tally, play, ppm};
+pub use engine::{Device, EngineFault, Scene, Sink, Source, Tally, play, ppm, serve};
 pub use event::Event;
 pub use told::{NoMemory, Refused, Told};
 pub use world::World;

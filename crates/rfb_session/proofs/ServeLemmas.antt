@@ -1,0 +1,254 @@
+-- What an engine does with a server, call by call.
+use Rattle.std.proofs.Common.{◌≡◌, ◌≢◌, ℕ, zero, suc, ◌+◌, ◌-◌, ◌*◌, ◌&&◌, Bool, true, false, List, [], ◌∷◌, ◌++◌, Option, Some, length, take, drop, refl, sym, ap, ◌∙◌, subst, append_assoc, append-nil, take-append-drop, slice_index_or, replicate}
+use Rattle.std.specs.Io.KnownBytes.{Appends}
+use Rattle.std.proofs.KnownBytes.{Appends-nil, Appends-trans}
+use Rattle.rfb_pixel.specs.declared.colour.Colour.{Colour}
+use Rattle.rfb_picture.specs.Grid.{Grid, uniform, at_or}
+use Rattle.rfb_picture.specs.Area.{Places, nothing, asked_at}
+use Rattle.rfb_wire.specs.stream.End.{FedBy, RefusedBy, RunsOutBy}
+use Rattle.rfb_server.specs.declared.fault.ServerFault.{ServerFault}
+use Rattle.rfb_server.specs.declared.fault.ServerFault.TheVariants.{NoMemory}
+use Rattle.rfb_server.specs.declared.event.ServerEvent.{ServerEvent}
+use Rattle.rfb_server.specs.declared.server.Server.{Server}
+use Rattle.rfb_server.specs.Told.{seen}
+use Rattle.rfb_server.specs.Server.{Serving, ServerState, server, AsksMemory}
+use Rattle.rfb_server.specs.Standing.{StandsFor, Draws, Keeps as KeepsServer, with_screen, screen_of, fault_of}
+use Rattle.rfb_server.specs.Composing.{Composes}
+use Rattle.rfb_server.specs.Updating.{Updates, StaysUnsent}
+use Rattle.rfb_session.specs.declared.engine.fault.EngineFault.{EngineFault}
+use Rattle.rfb_session.specs.declared.engine.fault.EngineFault.TheVariants.{Server as ServerEnded, Viewer as ViewerEnded, Truncated, Device, NoMemory as EngineNoMemory}
+use Rattle.rfb_session.specs.Devices.{AppendsBeginning}
+use Rattle.rfb_session.specs.InFlight.{server_reply}
+use Rattle.rfb_session.specs.EngineRun.{Did}
+use Rattle.rfb_session.specs.ServeEngine.{Composed, Drawn, server_driven, ServerRuns, IsIdle, RunsToIdle, IsHeard, IsCutOff, IsEnded, StopsHearing}
+use Rattle.rfb_session.proofs.WrittenLemmas.{rest_is, then_stopped}
+use Rattle.rfb_session.proofs.EngineRunLemmas.{ran_none, ran_then, ran_fed, ran_did}
+
+-- ---- when no update is due
+
+none_at : (n i : ℕ) → slice_index_or (replicate n false) i false ≡ false
+none_at zero i = refl
+none_at (suc n) zero = refl
+none_at (suc n) (suc i) = none_at n i
+
+none_asked : (w h x y : ℕ) → at_or (uniform w h false) x y false ≡ false
+unfolding uniform
+none_asked w h x y = none_at (h * w) (y * w + x)
+
+first_holds : (a b : Bool) → (a && b) ≡ true → a ≡ true
+first_holds true b e = refl
+first_holds false b e = e
+
+never : false ≡ true → ⊥
+never e = absurd cc
+
+-- where nothing is asked
+idle_empty : (s : ServerState) (area : Places) → s.area ≡ nothing area → IsIdle s
+idle_empty s area is due =
+    let none : asked_at s.area due.x due.y ≡ false =
+    ap (λ (a : Places). asked_at a due.x due.y) is
+    ∙ none_asked area.asked.width area.asked.height due.x due.y in
+    let some : asked_at s.area due.x due.y ≡ true = first_holds (asked_at s.area due.x due.y) _ due.needs in
+    never (sym none ∙ some)
+
+-- ---- one update
+
+-- nothing has changed where none was due
+same_state : (s : ServerState) (screen : Grid Colour) → s.screen ≡ screen → with_screen screen s ≡ s
+same_state s screen is = subst (λ (g : Grid Colour). with_screen g s ≡ s) is refl
+
+pub kept_stands : (old new : Server) → KeepsServer old new → (serving : Serving) (s : ServerState) (prefix : List ℕ) →
+    StandsFor serving old s prefix → StandsFor serving new s prefix
+kept_stands old new kept serving s prefix stands =
+    subst (λ (t : ServerState). StandsFor serving new t prefix)
+    (same_state s (screen_of old) stands.screen_is) (kept.stands serving s prefix stands)
+
+pub kept_runs : (old new : Server) → KeepsServer old new → ServerRuns old [] [] 0 new
+kept_runs old new kept = λ serving s prefix stands. record {
+  steps = [];
+  state = s;
+  rest = prefix;
+  runs = (refl, refl);
+  stands = kept_stands old new kept serving s prefix stands;
+  fed_is = refl;
+  sent_is = refl;
+  updates_are = refl;
+}
+
+pub unsent_idle : (old new : Server) (out after : List ℕ) → StaysUnsent old new out after →
+    RunsToIdle old [] [] 0 new
+unfolding kept_runs
+unsent_idle old new out after unsent = λ serving s prefix stands.
+    (kept_runs old new unsent.kept serving s prefix stands, unsent.not_due serving s prefix stands)
+
+-- an update that was composed
+pub composed_runs : (old new : Server) (out after : List ℕ) → Updates old new out after → out ≡ [] →
+    ServerRuns old [] after 1 new
+composed_runs old new out after updates none =
+    ran_did server_driven old new (Composed after) (λ serving s prefix stands.
+    let one = updates.sent serving s prefix stands in
+    let bytes_are : one.bytes ≡ after = sym (one.appended ∙ ap (λ (l : List ℕ). l ++ one.bytes) none) in (
+      one.behind,
+      (
+        one.due,
+        one.copies,
+        one.blocks,
+        subst (λ (b : List ℕ). Composes s one.behind b one.copies one.blocks) bytes_are one.composes,
+      ),
+      one.stands,
+    ))
+
+-- and a screen that was drawn on behind it
+pub drawn_idle : (old mid new : Server) (out after : List ℕ) → Updates old mid out after → out ≡ [] →
+    Draws (screen_of new) mid new → RunsToIdle old [] after 1 new
+drawn_idle old mid new out after updates none draws = λ serving s prefix stands.
+    let one = updates.sent serving s prefix stands in
+    let bytes_are : one.bytes ≡ after = sym (one.appended ∙ ap (λ (l : List ℕ). l ++ one.bytes) none) in
+    let composes = subst (λ (b : List ℕ). Composes s one.behind b one.copies one.blocks) bytes_are one.composes in (
+      record {
+        steps = Did (Drawn (screen_of new)) ∷ Did (Composed after) ∷ [];
+        state = with_screen (screen_of new) one.behind;
+        rest = prefix;
+        runs = (
+          one.behind,
+          prefix,
+          (s, prefix, (refl, refl), ((one.due, one.copies, one.blocks, composes), refl)),
+          (refl, refl),
+        );
+        stands = draws.stands serving one.behind prefix one.stands;
+        fed_is = refl;
+        sent_is = sym (append-nil after);
+        updates_are = refl;
+      },
+      idle_empty (with_screen (screen_of new) one.behind) s.area one.composes.emptied,
+    )
+
+-- ---- bytes that are heard
+
+pub record Heard (old : Server) (bytes rest : List ℕ) (before after : Option (List ℕ)) (now : Server) : Type 0 where
+  pub fed : List ℕ
+  pub sent : List ℕ
+  pub bytes_are : bytes ≡ fed ++ rest
+  pub runs : ServerRuns old fed sent 0 now
+  pub wrote : Appends before after sent
+
+pub heard_none : (old : Server) (bytes : List ℕ) (before : Option (List ℕ)) → Heard old bytes bytes before before old
+heard_none old bytes before = record {
+  fed = [];
+  sent = [];
+  bytes_are = refl;
+  runs = ran_none server_driven old;
+  wrote = Appends-nil before;
+}
+
+-- one call, which took some bytes
+pub call_heard : (old new : Server) (bytes : List ℕ) (used : ℕ) (event : Option ServerEvent)
+    (before after : Option (List ℕ)) (answer : List ℕ) →
+    ((serving : Serving) → FedBy (server serving) (StandsFor serving) old (take used bytes) (seen event) new) →
+    answer ≡ server_reply (seen event) → Appends before after answer →
+    IsHeard old (take used bytes) before after new
+call_heard old new bytes used event before after answer fed is wrote = record {
+  sent = server_reply (seen event);
+  runs = ran_fed server_driven old new (take used bytes) (seen event) fed;
+  wrote = subst (λ (l : List ℕ). Appends before after l) is wrote;
+}
+
+pub call_cut : (old new : Server) (bytes : List ℕ) (used : ℕ) (event : Option ServerEvent)
+    (before after : Option (List ℕ)) (answer : List ℕ) →
+    ((serving : Serving) → FedBy (server serving) (StandsFor serving) old (take used bytes) (seen event) new) →
+    answer ≡ server_reply (seen event) → AppendsBeginning before after answer →
+    IsCutOff old bytes before after new
+call_cut old new bytes used event before after answer fed is begun = record {
+  fed = take used bytes;
+  later = drop used bytes;
+  sent = server_reply (seen event);
+  bytes_are = sym (take-append-drop used bytes);
+  runs = ran_fed server_driven old new (take used bytes) (seen event) fed;
+  wrote = subst (λ (l : List ℕ). AppendsBeginning before after l) is begun;
+}
+
+pub call_ended : (old new : Server) (bytes : List ℕ) (before : Option (List ℕ)) (fault : ServerFault) →
+    fault_of new ≡ Some fault →
+    (fault ≢ NoMemory → (serving : Serving) → RefusedBy (server serving) (StandsFor serving) old bytes fault) →
+    (fault ≡ NoMemory → (serving : Serving) → RunsOutBy (server serving) AsksMemory (StandsFor serving) old bytes) →
+    IsEnded old bytes before before fault new
+call_ended old new bytes before fault fails refused starved = record {
+  fed = [];
+  slice = bytes;
+  sent = [];
+  last = old;
+  bytes_are = refl;
+  runs = ran_none server_driven old;
+  wrote = Appends-nil before;
+  ends = record { fails = fails; refused = refused; starved = starved };
+}
+
+-- calls behind one another
+pub heard_more : (old : Server) (bytes rest : List ℕ) (before mid after : Option (List ℕ)) (last : Server)
+    (used : ℕ) (new : Server) → Heard old bytes rest before mid last →
+    IsHeard last (take used rest) mid after new →
+    Heard old bytes (take (length rest - used) (drop used rest)) before after new
+heard_more old bytes rest before mid after last used new was more = record {
+  fed = was.fed ++ take used rest;
+  sent = was.sent ++ more.sent;
+  bytes_are = was.bytes_are
+      ∙ ap (λ (l : List ℕ). was.fed ++ l) (sym (take-append-drop used rest))
+      ∙ sym (append_assoc was.fed (take used rest) (drop used rest))
+      ∙ ap (λ (l : List ℕ). (was.fed ++ take used rest) ++ l) (sym (rest_is rest used));
+  runs = ran_then server_driven old last new was.fed was.sent (take used rest) more.sent 0 0
+      was.runs more.runs;
+  wrote = Appends-trans before mid after was.sent more.sent was.wrote more.wrote;
+}
+
+pub heard_all : (old : Server) (bytes rest : List ℕ) (before after : Option (List ℕ)) (now : Server) →
+    Heard old bytes rest before after now → rest ≡ [] → IsHeard old bytes before after now
+heard_all old bytes rest before after now was none = record {
+  sent = was.sent;
+  runs = subst (λ (l : List ℕ). ServerRuns old l was.sent 0 now)
+      (sym (was.bytes_are ∙ ap (λ (l : List ℕ). was.fed ++ l) none ∙ append-nil was.fed)) was.runs;
+  wrote = was.wrote;
+}
+
+-- a beginning of an answer was written behind the others
+pub begun_behind : (before mid after : Option (List ℕ)) (sent answer : List ℕ) → Appends before mid sent →
+    AppendsBeginning mid after answer → AppendsBeginning before after (sent ++ answer)
+begun_behind before mid after sent answer wrote begun =
+    then_stopped before mid after (sent ++ answer) answer
+    (record { done = sent; parts = refl; appended = wrote }) begun
+
+all_parts : (bytes fed rest more slice : List ℕ) → bytes ≡ fed ++ rest → rest ≡ more ++ slice →
+    bytes ≡ (fed ++ more) ++ slice
+all_parts bytes fed rest more slice is parts =
+    is ∙ ap (λ (l : List ℕ). fed ++ l) parts ∙ sym (append_assoc fed more slice)
+
+-- why it stops behind calls
+pub hearing_stops : (old : Server) (bytes rest : List ℕ) (before mid after : Option (List ℕ)) (last : Server)
+    (failed_before failed_mid failed : ℕ) (fault : EngineFault) (new : Server) →
+    Heard old bytes rest before mid last → failed_mid ≡ failed_before →
+    StopsHearing last rest mid after failed_mid failed fault new →
+    StopsHearing old bytes before after failed_before failed fault new
+hearing_stops old bytes rest before mid after last fb fm failed (ServerEnded fault) new was same stops = record {
+  fed = was.fed ++ stops.fed;
+  slice = stops.slice;
+  sent = was.sent ++ stops.sent;
+  last = stops.last;
+  bytes_are = all_parts bytes was.fed rest stops.fed stops.slice was.bytes_are stops.bytes_are;
+  runs = ran_then server_driven old last stops.last was.fed was.sent stops.fed stops.sent 0 0 was.runs stops.runs;
+  wrote = Appends-trans before mid after was.sent stops.sent was.wrote stops.wrote;
+  ends = stops.ends;
+}
+hearing_stops old bytes rest before mid after last fb fm failed Device new was same stops =
+    let cut = stops.1 in (
+      subst (λ (k : ℕ). failed ≡ k + 1) same stops.0,
+      record {
+        fed = was.fed ++ cut.fed;
+        later = cut.later;
+        sent = was.sent ++ cut.sent;
+        bytes_are = all_parts bytes was.fed rest cut.fed cut.later was.bytes_are cut.bytes_are;
+        runs = ran_then server_driven old last new was.fed was.sent cut.fed cut.sent 0 0 was.runs cut.runs;
+        wrote = begun_behind before mid after was.sent cut.sent was.wrote cut.wrote;
+      },
+    )
+hearing_stops old bytes rest before mid after last fb fm failed (ViewerEnded fault) new was same stops = stops
+hearing_stops old bytes rest before mid after last fb fm failed Truncated new was same stops = stops
+hearing_stops old bytes rest before mid after last fb fm failed EngineNoMemory new was same stops = stops

@@ -1,0 +1,185 @@
+//! A server run over a reader and a writer.
+
+ghost use Rattle.std.specs.Prelude.{◌≡◌, ◌<◌, ◌+◌, ◌-◌, ◌^◌, ◌≤◌, [], length, take, true, false, IfOk, IfErr, OnOk};
+ghost use Rattle.rfb_server.specs.Told.{seen};
+ghost use Rattle.rfb_session.specs.InFlight.{server_reply as reply_of_server};
+ghost use Rattle.rfb_session.specs.ServeEngine.{AllServed, GoesOn, IsHeard, IsUpdated, ServerBetween};
+ghost use Rattle.rfb_session.specs.ServeEngine.{StopsHearing, StopsServing, StopsUpdating};
+
+use crate::engine::READ_SIZE;
+use crate::engine::device::{Sink, Source};
+use crate::engine::fault::EngineFault;
+use crate::engine::scene::Scene;
+use crate::engine::sending::send;
+use rfb_server::{Server, ServerEvent};
+use std::alloc::Global;
+
+/// Runs a fresh server, whose screen may be drawn on: writes its greeting, and then reads, feeds it
+/// what comes and writes its answers, until `source` ends. After each read it composes once; an
+/// update is written, and then the scene draws. It tells how many updates there were, as many as a
+/// `u64` has. It gives `Truncated` where the bytes end inside a message or the handshake, `Device`
+/// where a read or a write fails, `NoMemory` where there is none for an update, and the server's
+/// fault where that ends. But for that the server stands as the bytes and drawings left it.
+pub fn serve<R: Source, W: Sink, S: Scene>(
+    alloc: Global,
+    source: &mut R,
+    sink: &mut W,
+    server: &mut Server,
+    scene: &mut S,
+) -> Result<u64, EngineFault>
+    requires readable { R.failed source.old < 2 ^ 64 - 1 }
+    requires writable { W.failed sink.old < 2 ^ 64 - 1 }
+    ensures served { IfOk result (λ updates. GoesOn (λ front. AllServed
+        (R.unread source.old) (R.unread source.new) (W.written sink.old) (W.written sink.new)
+        front server.old updates server.new) server.old) }
+    ensures between { OnOk result (ServerBetween server.new true) }
+    ensures none_failed { OnOk result ((R.failed source.new ≡ R.failed source.old)
+        × (W.failed sink.new ≡ W.failed sink.old)) }
+    ensures stopped { IfErr result (λ fault. GoesOn (λ front. StopsServing
+        (R.unread source.old) (R.unread source.new) (R.failed source.old) (R.failed source.new)
+        (W.written sink.old) (W.written sink.new) (W.failed sink.old) (W.failed sink.new)
+        front server.old fault server.new) server.old) }
+{
+    let greeting = server.greeting();
+    match send(&greeting, sink) {
+        Ok(()) => {}
+        Err(_) => return Err(EngineFault::Device),
+    }
+    match serve_all(alloc, source, sink, server, scene) {
+        Ok(updates) => {
+            if server.between() {
+                Ok(updates)
+            } else {
+                Err(EngineFault::Truncated)
+            }
+        }
+        Err(fault) => Err(fault),
+    }
+}
+
+// Does so behind the greeting.
+fn serve_all<R: Source, W: Sink, S: Scene>(
+    alloc: Global,
+    source: &mut R,
+    sink: &mut W,
+    server: &mut Server,
+    scene: &mut S,
+) -> Result<u64, EngineFault>
+    requires readable { R.failed source.old < 2 ^ 64 - 1 }
+    requires writable { W.failed sink.old < 2 ^ 64 - 1 }
+    ensures served { IfOk result (λ updates. AllServed
+        (R.unread source.old) (R.unread source.new) (W.written sink.old) (W.written sink.new)
+        [] server.old updates server.new) }
+    ensures none_failed { OnOk result ((R.failed source.new ≡ R.failed source.old)
+        × (W.failed sink.new ≡ W.failed sink.old)) }
+    ensures stopped { IfErr result (λ fault. StopsServing
+        (R.unread source.old) (R.unread source.new) (R.failed source.old) (R.failed source.new)
+        (W.written sink.old) (W.written sink.new) (W.failed sink.old) (W.failed sink.new)
+        [] server.old fault server.new) }
+{
+    let mut part = [0; READ_SIZE];
+    let mut out = Vec::new(alloc);
+    let mut updates: u64 = 0;
+    for _turn in 0..u64::MAX {
+        let Ok(count) = source.read(&mut part) else {
+            return Err(EngineFault::Device);
+        };
+        if count == 0 {
+            return Ok(updates);
+        }
+        match hear(&part[..count], sink, server) {
+            Ok(()) => {}
+            Err(fault) => return Err(fault),
+        }
+        match update(&mut out, sink, server, scene) {
+            Ok(more) => updates = updates.saturating_add(more),
+            Err(fault) => return Err(fault),
+        }
+    }
+    Ok(updates)
+}
+
+// Feeds a server all of these bytes, and writes each answer as it comes.
+fn hear<W: Sink>(bytes: &[u8], sink: &mut W, server: &mut Server) -> Result<(), EngineFault>
+    requires countable { W.failed sink.old < 2 ^ 64 - 1 }
+    ensures heard { OnOk result
+        (IsHeard server.old bytes.now (W.written sink.old) (W.written sink.new) server.new) }
+    ensures none_failed { OnOk result (W.failed sink.new ≡ W.failed sink.old) }
+    ensures stopped { IfErr result (λ fault. StopsHearing server.old bytes.now
+        (W.written sink.old) (W.written sink.new) (W.failed sink.old) (W.failed sink.new)
+        fault server.new) }
+{
+    let mut rest = bytes;
+    while !rest.is_empty() {
+        match hear_some(rest, sink, server) {
+            Ok(used) => rest = &rest[used..],
+            Err(fault) => return Err(fault),
+        }
+    }
+    Ok(())
+}
+
+// Feeds a server of these bytes what it takes at once, writes its answer, and tells how many it took.
+fn hear_some<W: Sink>(bytes: &[u8], sink: &mut W, server: &mut Server) -> Result<usize, EngineFault>
+    requires countable { W.failed sink.old < 2 ^ 64 - 1 }
+    requires some { 0 < length bytes.now }
+    ensures used { IfOk result (λ used. (0 < used) × (used ≤ length bytes.now)) }
+    ensures heard { IfOk result (λ used. IsHeard server.old (take used bytes.now)
+        (W.written sink.old) (W.written sink.new) server.new) }
+    ensures none_failed { OnOk result (W.failed sink.new ≡ W.failed sink.old) }
+    ensures stopped { IfErr result (λ fault. StopsHearing server.old bytes.now
+        (W.written sink.old) (W.written sink.new) (W.failed sink.old) (W.failed sink.new)
+        fault server.new) }
+{
+    match server.feed(bytes) {
+        Ok(fed) => match send(reply(&fed.event), sink) {
+            Ok(()) => Ok(fed.used),
+            Err(_) => Err(EngineFault::Device),
+        },
+        Err(fault) => Err(EngineFault::Server(fault)),
+    }
+}
+
+// Composes an update, if one is due, writes it and has the scene draw; and tells how many there were,
+// one or none.
+fn update<W: Sink, S: Scene>(
+    out: &mut Vec<u8>,
+    sink: &mut W,
+    server: &mut Server,
+    scene: &mut S,
+) -> Result<u64, EngineFault>
+    requires countable { W.failed sink.old < 2 ^ 64 - 1 }
+    ensures updated { IfOk result (λ updates. IsUpdated server.old
+        (W.written sink.old) (W.written sink.new) updates server.new) }
+    ensures none_failed { OnOk result (W.failed sink.new ≡ W.failed sink.old) }
+    ensures stopped { IfErr result (λ fault. StopsUpdating server.old
+        (W.written sink.old) (W.written sink.new) (W.failed sink.old) (W.failed sink.new)
+        fault server.new) }
+{
+    out.clear();
+    match server.compose(out) {
+        Ok(true) => match send(out, sink) {
+            Ok(()) => {
+                scene.draw(server);
+                Ok(1)
+            }
+            Err(_) => Err(EngineFault::Device),
+        },
+        Ok(false) => Ok(0),
+        Err(_) => Err(EngineFault::NoMemory),
+    }
+}
+
+// The bytes that are sent for what a server tells.
+fn reply(event: &Option<ServerEvent>) -> &[u8]
+    ensures { result.now ≡ reply_of_server (seen event.now) }
+{
+    match event {
+        Some(ServerEvent::Reply(reply)) => reply.as_slice(),
+        Some(ServerEvent::Ready { reply, .. }) => reply.as_slice(),
+        Some(ServerEvent::Key { .. })
+        | Some(ServerEvent::Pointer { .. })
+        | Some(ServerEvent::CutText { .. })
+        | None => &[],
+    }
+}
