@@ -1,5 +1,5 @@
 -- The text of ClientCutText, slice by slice.
-use Rattle.std.proofs.Common.{◌≡◌, ℕ, ◌+◌, ◌<◌, ◌≤◌, List, [], ◌++◌, Option, Some, Ok, None, Bool, true, false, nat_le, length, take, min, refl, sym, ap, subst, ◌∙◌, append_assoc, length-append, arith}
+use Rattle.std.proofs.Common.{◌≡◌, ℕ, ◌+◌, ◌<◌, ◌≤◌, List, [], ◌++◌, Some, Ok, None, Bool, true, false, nat_le, length, take, min, refl, sym, ap, subst, ◌∙◌, append_assoc, length-append, arith}
 use Rattle.std.proofs.lemmas.Bool.Decides.{nat_tests}
 use Rattle.std.proofs.lemmas.List.{take-append-le, take_all, length-take-le}
 use Rattle.rfb_pixel.specs.declared.colour.Colour.{Colour}
@@ -7,7 +7,6 @@ use Rattle.rfb_picture.specs.Grid.{Grid}
 use Rattle.rfb_wire.specs.stream.Reading.{More}
 use Rattle.rfb_wire.specs.stream.Sequel.{First, Second}
 use Rattle.rfb_wire.specs.stream.End.{StepsBy}
-use Rattle.rfb_wire.specs.ClientHead.{SpellsClientCutText}
 use Rattle.rfb_wire.specs.ClientMessage.{ClientCutText}
 use Rattle.rfb_wire.specs.ClientStream.{client_message}
 use Rattle.rfb_wire.proofs.WaitLaws.{client_text_waits}
@@ -17,7 +16,7 @@ use Rattle.rfb_hello.specs.declared.server_hello.ServerHello.{ServerHello}
 use Rattle.rfb_server.specs.declared.session.Session.{Session}
 use Rattle.rfb_server.specs.declared.session.progress.Progress.TheVariants.{Head, CutText as CutTextPart}
 use Rattle.rfb_server.specs.ClientBytes.{ClientAt}
-use Rattle.rfb_server.specs.Told.{ServerTold, CutText}
+use Rattle.rfb_server.specs.Told.{CutText}
 use Rattle.rfb_server.specs.Server.{Serving, ServerState, server}
 use Rattle.rfb_server.specs.Progress.{ProgressStandsFor, IsTextBegun}
 use Rattle.rfb_server.specs.Standing.{SessionStandsFor}

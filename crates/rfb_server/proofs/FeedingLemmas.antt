@@ -1,6 +1,5 @@
 -- What a step by bytes of one message is of a server, and what a session keeps at each.
-use Rattle.std.proofs.Common.{◌≡◌, ◌≢◌, ℕ, List, [], ◌++◌, Option, Some, None, Result, Ok, Err, refl, sym, ap, subst, ◌∙◌, append-nil}
-use Rattle.std.specs.Prelude.{⊤}
+use Rattle.std.proofs.Common.{◌≡◌, ℕ, List, [], ◌++◌, Option, None, Result, Ok, Err, refl, sym, ap, subst, ◌∙◌, append-nil}
 use Rattle.rfb_pixel.specs.declared.colour.Colour.{Colour}
 use Rattle.rfb_pixel.specs.Format.{PixelFormat}
 use Rattle.rfb_picture.specs.declared.rect.Rect.{Rect}
@@ -26,7 +25,7 @@ use Rattle.rfb_server.specs.Fault.{fault_of_message}
 use Rattle.rfb_server.specs.ClientBytes.{ClientAt, FromClient, client_bytes}
 use Rattle.rfb_server.specs.Told.{ServerTold, message_told}
 use Rattle.rfb_server.specs.Server.{Serving, ServerState, server, serves, message_acts, item_told, AsksMemory}
-use Rattle.rfb_server.specs.Progress.{ProgressStandsFor, IsHeadBegun}
+use Rattle.rfb_server.specs.Progress.{ProgressStandsFor}
 use Rattle.rfb_server.specs.Standing.{SessionStandsFor}
 use Rattle.rfb_server.specs.Sessions.{KeepsUp, BeginsMessage, BeginsList, IsAskedFor, HasFormat}
 

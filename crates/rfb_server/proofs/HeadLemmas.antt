@@ -1,12 +1,12 @@
 -- Heads of a client's messages that are gathered: which bytes are the beginning of one, and which a whole one.
-use Rattle.std.proofs.Common.{◌≡◌, ◌≢◌, ℕ, zero, suc, ◌+◌, ◌-◌, ◌<◌, ◌≤◌, Bool, true, false, List, [], ◌∷◌, ◌++◌, Option, Some, None, nat_lt, length, take, drop, replicate, slice_index, min, refl, sym, ap, subst, ◌∙◌, length-append, arith}
+use Rattle.std.proofs.Common.{◌≡◌, ℕ, zero, suc, ◌+◌, ◌-◌, ◌<◌, ◌≤◌, true, List, [], ◌∷◌, ◌++◌, Option, Some, None, length, take, replicate, min, refl, sym, ap, subst, ◌∙◌, length-append, arith}
 use Rattle.std.proofs.lemmas.Bool.Decides.{nat_tests}
-use Rattle.std.proofs.lemmas.List.{length-replicate, length-take-le, take-take, take_all}
+use Rattle.std.proofs.lemmas.List.{length-replicate, length-take-le, take-take}
 use Rattle.std.proofs.Math.Seq.{take-append-add}
 use Rattle.rfb_wire.specs.declared.fault.WireFault.{WireFault}
 use Rattle.rfb_wire.specs.declared.fault.WireFault.TheVariants.{UnknownMessage, UnknownEncoding, RectOutside}
 use Rattle.rfb_wire.specs.declared.client_head.ClientHead.{ClientHead}
-use Rattle.rfb_wire.specs.stream.Heads.{Misses, BeginsNone}
+use Rattle.rfb_wire.specs.stream.Heads.{Misses}
 use Rattle.rfb_wire.specs.Heads.{IsUnknown}
 use Rattle.rfb_wire.specs.ClientHead.{SpellsClientHead, client_head_size}
 use Rattle.rfb_wire.specs.ClientMessage.{FaultsClientMessage, UnknownType}

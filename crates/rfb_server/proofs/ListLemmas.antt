@@ -1,12 +1,12 @@
 -- The list of SetEncodings, number by number.
-use Rattle.std.proofs.Common.{◌≡◌, ℕ, ℤ, zero, suc, pos, negsuc, ◌+◌, ◌*◌, ◌<◌, List, [], ◌∷◌, ◌++◌, Option, Some, None, Ok, length, refl, sym, ap, subst, ◌∙◌, append_assoc, append-nil, length-append, arith}
+use Rattle.std.proofs.Common.{◌≡◌, ℕ, ℤ, zero, suc, pos, negsuc, ◌+◌, ◌*◌, ◌<◌, List, [], ◌∷◌, ◌++◌, Some, None, Ok, length, refl, sym, ap, subst, ◌∙◌, append_assoc, append-nil, length-append, arith}
 use Rattle.rfb_pixel.specs.declared.colour.Colour.{Colour}
 use Rattle.rfb_picture.specs.Grid.{Grid}
 use Rattle.arrayvec.specs.ArrayVec.{ArrayVec}
 use Rattle.rfb_wire.specs.declared.encoding.Encoding.{Encoding}
 use Rattle.rfb_wire.specs.declared.encoding.Encoding.TheVariants.{Raw, CopyRect, Rre, Hextile}
 use Rattle.rfb_wire.specs.Encoding.{number_of, IsNoEncoding}
-use Rattle.rfb_wire.specs.RectStream.{encoding_numbered, encoding_of}
+use Rattle.rfb_wire.specs.RectStream.{encoding_of}
 use Rattle.rfb_wire.specs.Fields.{s32_at}
 use Rattle.rfb_wire.specs.stream.Reading.{Listed, More}
 use Rattle.rfb_wire.specs.stream.Sequel.{First, Second}

@@ -1,5 +1,5 @@
 -- Messages that are whole with their head, and what follows the others' heads.
-use Rattle.std.proofs.Common.{◌≡◌, ◌≢◌, ℕ, ℤ, zero, suc, ◌+◌, ◌*◌, ◌<◌, not, Bool, true, List, [], ◌∷◌, ◌++◌, Option, Some, None, Ok, Err, length, take, min, refl, sym, ap, subst, ◌∙◌, append-nil, arith}
+use Rattle.std.proofs.Common.{◌≡◌, ℕ, ℤ, zero, suc, ◌+◌, ◌<◌, not, Bool, true, List, [], ◌++◌, Option, Some, None, Ok, Err, length, take, min, refl, sym, ap, subst, ◌∙◌, append-nil, arith}
 use Rattle.std.proofs.lemmas.List.{take_all}
 use Rattle.rfb_pixel.specs.declared.colour.Colour.{Colour}
 use Rattle.rfb_pixel.specs.declared.fault.FormatFault.{FormatFault}
@@ -20,7 +20,7 @@ use Rattle.rfb_hello.specs.ServerEnd.{as_reply}
 use Rattle.rfb_hello.specs.ServerStanding.{setup_of}
 use Rattle.rfb_hello.specs.KeptText.{KeptText, kept_of}
 use Rattle.rfb_server.specs.declared.session.Session.{Session}
-use Rattle.rfb_server.specs.declared.session.progress.Progress.TheVariants.{Head, Encodings, CutText as CutTextPart}
+use Rattle.rfb_server.specs.declared.session.progress.Progress.TheVariants.{Head, CutText as CutTextPart}
 use Rattle.rfb_server.specs.Fault.{fault_of_format, fault_of_message}
 use Rattle.rfb_server.specs.Record.{forgotten}
 use Rattle.rfb_server.specs.Told.{ServerTold, Key, Pointer, CutText, message_told}

@@ -1,17 +1,13 @@
 -- A server is an end of two streams, and is fed as the ends of its parts.
-use Rattle.std.proofs.Common.{◌≡◌, ℕ, List, ◌++◌, Option, Some, None, refl, sym, subst, ap, ◌∙◌}
-use Rattle.std.specs.Prelude.{⊤}
-use Rattle.rfb_wire.specs.stream.End.{Machine, IsMachine, Takes}
-use Rattle.rfb_wire.specs.stream.Sequel.{Stage, First, Second}
-use Rattle.rfb_wire.specs.stream.Both.{event_as, first_point, end_at, GoesAsFirst, GoesAsSecond, TakesAsFirst}
-use Rattle.rfb_wire.specs.ClientMessage.{ClientMessage, ClientFault}
-use Rattle.rfb_wire.specs.ClientStream.{client_stream}
+use Rattle.std.proofs.Common.{◌≡◌, Option, Some, None, refl, sym, ap, ◌∙◌}
+use Rattle.rfb_wire.specs.stream.Sequel.{First, Second}
+use Rattle.rfb_wire.specs.stream.Both.{event_as, first_point, GoesAsFirst, GoesAsSecond}
+use Rattle.rfb_wire.specs.ClientMessage.{ClientMessage}
 use Rattle.rfb_wire.proofs.stream_laws.BothLaws.{at_first}
-use Rattle.rfb_hello.specs.declared.version.Version.TheVariants.{V33, V37, V38}
-use Rattle.rfb_hello.specs.ClientHandshake.{ClientPoint, AwaitsVersion, AwaitsChoice, AwaitsInit, Begun, ClientItem, ProtocolVersion, SecurityType, ClientInit, client_handshake}
+use Rattle.rfb_hello.specs.ClientHandshake.{ClientPoint, AwaitsVersion, AwaitsChoice, AwaitsInit, Begun, ClientItem, ProtocolVersion, SecurityType, ClientInit}
 use Rattle.rfb_hello.specs.declared.step.ServerStep.{ServerStep}
 use Rattle.rfb_hello.specs.ServerEnd.{ServerSetup, server_end, server_tells as handshake_tells}
-use Rattle.rfb_server.specs.ClientBytes.{ClientAt, FromClient, client_two, client_bytes, to_messages}
+use Rattle.rfb_server.specs.ClientBytes.{ClientAt, client_two, to_messages}
 use Rattle.rfb_server.specs.Told.{ServerTold, step_told, message_told}
 use Rattle.rfb_server.specs.Server.{Serving, ServerState, serves, server, item_told, server_tells, messages_end, behind_handshake}
 use Rattle.rfb_server.proofs.ServerLaws.{server_machine}

@@ -1,13 +1,13 @@
 -- What a session takes of a slice, item by item.
-use Rattle.std.proofs.Common.{◌≡◌, ◌≢◌, ℕ, ◌+◌, ◌*◌, ◌<◌, ◌==◌, Bool, true, false, List, [], ◌∷◌, ◌++◌, Option, Some, None, is_some, Result, Ok, Err, length, take, refl, sym, ap, subst, ◌∙◌, append-nil, length-append, arith}
+use Rattle.std.proofs.Common.{◌≡◌, ◌≢◌, ℕ, ◌+◌, ◌*◌, ◌<◌, ◌==◌, true, false, List, [], ◌∷◌, ◌++◌, Option, Some, None, is_some, Result, Ok, Err, length, take, refl, sym, ap, ◌∙◌, length-append, arith}
 use Rattle.rfb_pixel.specs.declared.colour.Colour.{Colour}
 use Rattle.rfb_picture.specs.Grid.{Grid}
 use Rattle.rfb_wire.specs.stream.Reading.{Next, More, Bad}
 use Rattle.rfb_wire.specs.stream.Parts.{named}
 use Rattle.rfb_wire.specs.stream.Sequel.{First, Second}
-use Rattle.rfb_wire.specs.stream.End.{FedBy, RefusedBy, RunsOutBy, StepsBy, acts}
+use Rattle.rfb_wire.specs.stream.End.{RefusedBy, acts}
 use Rattle.rfb_wire.specs.ClientMessage.{ClientMessage, ClientFault, BadFormat, UnknownType}
-use Rattle.rfb_wire.specs.ClientStream.{client_message, client_stream}
+use Rattle.rfb_wire.specs.ClientStream.{client_message}
 use Rattle.rfb_wire.proofs.stream_laws.PartLaws.{piece_short}
 use Rattle.rfb_wire.proofs.stream_laws.PendingLaws.{length-pieces, head_pending}
 use Rattle.rfb_wire.proofs.PendingLaws.{numbers_pending, client_text_pending}
@@ -39,15 +39,14 @@ use Rattle.rfb_server.specs.declared.session.progress.Progress.{Progress}
 use Rattle.rfb_server.specs.declared.session.progress.Progress.TheVariants.{Handshake, Head, Encodings, CutText, Failed}
 use Rattle.rfb_server.specs.Fault.{fault_of_hello, fault_of_message}
 use Rattle.rfb_server.specs.ClientBytes.{ClientAt, client_bytes, client_bytes_pending, is_between}
-use Rattle.rfb_server.specs.Told.{ServerTold, seen, answer_told}
-use Rattle.rfb_server.specs.Server.{Serving, ServerState, server, AsksMemory}
+use Rattle.rfb_server.specs.Told.{seen}
+use Rattle.rfb_server.specs.Server.{Serving, server, AsksMemory}
 use Rattle.rfb_server.specs.Progress.{ProgressStandsFor, IsHeadBegun, fault_in, is_idle}
 use Rattle.rfb_server.specs.Standing.{SessionStandsFor}
 use Rattle.rfb_server.specs.Feeding.{StepsAs, RunsOutAs, FeedsAs, RefusesAs, StarvesAs}
 use Rattle.rfb_server.specs.Sessions.{KeepsUp}
-use Rattle.rfb_server.proofs.ServerLaws.{client_bytes_spelled, client_bytes_laws, server_machine}
+use Rattle.rfb_server.proofs.ServerLaws.{client_bytes_spelled, server_machine}
 use Rattle.rfb_server.proofs.HeadLemmas.{begun_misses}
-use Rattle.rfb_server.proofs.FeedingLemmas.{up_same}
 
 -- ---- a session waits for more
 

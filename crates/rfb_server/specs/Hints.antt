@@ -1,4 +1,4 @@
--- The hints that a server keeps: copies that its owner spoke of, which a viewer may be told to make.
+-- The hints that a server keeps: copies that its owner spoke of, and a viewer may be told to make.
 use Rattle.std.specs.Prelude.{List, [], ◌∷◌, ◌++◌}
 use Rattle.circular_buffer.specs.Buffer.{keep_last}
 use Rattle.rfb_server.specs.declared.hint.Hint.{Hint}

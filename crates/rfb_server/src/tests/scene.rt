@@ -8,7 +8,7 @@ use rfb_picture::Rect;
 use rfb_pixel::{Colour, Format};
 use std::alloc::{AllocError, Global};
 
-/// What is done to a server, or what holds of it. A step that is refused, or does not hold, is wrong.
+/// What is done to a server, or what holds of it. One that is refused, or does not hold, is wrong.
 #[derive(Clone, Copy)]
 pub(super) enum Step<'a> {
     /// The client sends bytes of which at most one event is told.

@@ -1,6 +1,4 @@
-use Rattle.std.proofs.Common.{rules, ◌≡◌, ◌∙◌, ◌<◌, ℕ, List, [], length, min, refl, sym, ap, arith}
-use Rattle.rfb_wire.specs.ClientHead.{SpellsClientCutText}
-use Rattle.rfb_hello.specs.KeptText.{KeptText}
+use Rattle.std.proofs.Common.{rules, ◌≡◌, refl}
 use Rattle.rfb_server.proofs.MessageLemmas.{text_none, text_begins, text_asks}
 use Rattle.rfb_server.proofs.session.Session.begin_text.Goals as goal
 

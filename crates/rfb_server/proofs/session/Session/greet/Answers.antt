@@ -1,5 +1,4 @@
-use Rattle.std.proofs.Common.{refl, sym, ap, ◌∙◌}
-use Rattle.rfb_server.specs.Progress.{progress_behind}
+use Rattle.std.proofs.Common.{refl, ◌∙◌}
 use Rattle.rfb_server.proofs.GreetLemmas.{partial_behind, goes_behind, done_behind, greets, greets_not}
 use Rattle.rfb_server.proofs.SliceLemmas.{never_starved}
 use Rattle.rfb_server.proofs.session.Session.greet.Goals as goal

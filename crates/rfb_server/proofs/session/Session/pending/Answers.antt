@@ -1,5 +1,5 @@
 use Rattle.rfb_server.proofs.FeedingLemmas.{here}
-use Rattle.rfb_server.proofs.SliceLemmas.{hello_pending, part_pending, number_pending, text_pending}
+use Rattle.rfb_server.proofs.SliceLemmas.{hello_pending, part_pending, number_pending}
 use Rattle.std.proofs.Common.{◌∙◌, ◌≡◌, rules, length}
 use Rattle.rfb_server.proofs.session.Session.pending.Goals as goal
 

@@ -1,4 +1,4 @@
-use Rattle.std.proofs.Common.{◌≡◌, ◌∙◌, ◌++◌, List, ℕ, length, take, refl, sym, ap, subst, Ok, None}
+use Rattle.std.proofs.Common.{◌++◌, take, refl, sym}
 use Rattle.rfb_wire.specs.ClientHead.{SpellsClientHead}
 use Rattle.rfb_server.proofs.FeedingLemmas.{steps_from, starved_from}
 use Rattle.rfb_server.proofs.MessageLemmas.{head_part, type_refused}

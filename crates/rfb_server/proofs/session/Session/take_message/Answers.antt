@@ -1,4 +1,4 @@
-use Rattle.std.proofs.Common.{◌≡◌, ◌∙◌, sym}
+use Rattle.std.proofs.Common.{sym}
 use Rattle.rfb_server.proofs.MessageLemmas.{format_taken, format_refused, list_begins, request_taken, key_told, pointer_told}
 use Rattle.rfb_server.proofs.session.Session.take_message.Goals as goal
 

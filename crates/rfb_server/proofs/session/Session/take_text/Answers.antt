@@ -1,6 +1,5 @@
-use Rattle.std.proofs.Common.{rules, ◌≡◌, ◌∙◌, ◌++◌, ◌+◌, ◌-◌, ◌<◌, ◌≤◌, ℕ, List, [], length, take, refl, sym, ap, arith, Some, Ok}
+use Rattle.std.proofs.Common.{◌≡◌, ◌∙◌, ◌++◌, ◌-◌, ℕ, List, length, take, refl, ap, arith}
 use Rattle.std.proofs.lemmas.List.{length-take-le, take_all}
-use Rattle.rfb_hello.specs.KeptText.{KeptText}
 use Rattle.rfb_hello.specs.ServerEnd.{as_reply}
 use Rattle.rfb_server.specs.declared.session.progress.Progress.TheVariants.{Head}
 use Rattle.rfb_server.proofs.CutTextLemmas.{text_part, text_told}

@@ -1,7 +1,6 @@
-use Rattle.std.proofs.Common.{rules, ◌≡◌, ◌∙◌, ◌++◌, ◌-◌, ◌≤◌, ◌<◌, List, ℕ, length, take, min, refl, sym, ap, subst, true, arith}
+use Rattle.std.proofs.Common.{rules, ◌≡◌, ◌∙◌, ◌++◌, ◌-◌, ◌≤◌, List, ℕ, length, take, min, refl, sym, ap, subst, true, arith}
 use Rattle.std.proofs.lemmas.List.{take_all}
 use Rattle.rfb_wire.specs.ClientHead.{SpellsClientHead}
-use Rattle.rfb_wire.specs.stream.Heads.{Misses}
 use Rattle.rfb_wire.specs.Heads.{IsUnknown}
 use Rattle.rfb_server.specs.Progress.{is_head_begun}
 use Rattle.rfb_server.proofs.HeadLemmas.{begun_short, gathered_more, gathered_got, bad_type}
