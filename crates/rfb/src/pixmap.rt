@@ -39,7 +39,7 @@ pub fn write_pixmap<W: Write>(
     waiting.reserve(BYTES_PER_WRITE + row)?;
     for y in 0..height {
         make_room(row, &mut waiting, output)?;
-        append_components(picture.row(0, y, width), &mut waiting);
+        waiting = with_components(picture.row(0, y, width), waiting);
     }
     write_whole(&waiting, output)?;
     output.flush()
@@ -101,17 +101,19 @@ fn write_some<'a, W: Write>(bytes: &'a [u8], output: &mut W) -> io::Result<&'a [
     }
 }
 
-// Appends the components of each colour, red first, one colour after the other. There is room for
-// them.
-fn append_components(colours: &[Colour], bytes: &mut Vec<u8>)
-    requires { vec_len bytes.old + 3 * length colours.now ≤ vec_capacity bytes.old }
-    ensures items { bytes.new.items ≡ bytes.old.items ++ components colours.now }
-    ensures len { vec_len bytes.new ≡ vec_len bytes.old + 3 * length colours.now }
-    ensures room { vec_capacity bytes.new ≡ vec_capacity bytes.old }
+// The bytes, and behind them the components of each colour, red first, one colour after the other.
+// There is room for them. The vector is handed over and back, since one that is lent has its
+// pointer and its length read and written for each byte.
+fn with_components(colours: &[Colour], mut bytes: Vec<u8>) -> Vec<u8>
+    requires { vec_len bytes + 3 * length colours.now ≤ vec_capacity bytes }
+    ensures items { result.items ≡ bytes.items ++ components colours.now }
+    ensures len { vec_len result ≡ vec_len bytes + 3 * length colours.now }
+    ensures room { vec_capacity result ≡ vec_capacity bytes }
 {
     for colour in colours {
         bytes.push_reserved(colour.r);
         bytes.push_reserved(colour.g);
         bytes.push_reserved(colour.b);
     }
+    bytes
 }

@@ -27,8 +27,8 @@ loop-y-preserved g c =
       row_is = l.invariant.row_is;
       width_is = l.invariant.width_is;
       height_is = l.invariant.height_is;
-      room = omega (arith, l.invariant.room, c.append_components.ensures.room, c.make_room.ensures.capacity);
-      gathered = gathered_more picture l.y old new c.make_room.new.waiting.items c.append_components.new.bytes.items c.row.result.now c.width-width.result so_far l.invariant.width_is c.row.ensures.value c.append_components.ensures.items;
+      room = omega (arith, l.invariant.room, c.with_components-waiting.ensures.room, c.make_room.ensures.capacity);
+      gathered = gathered_more picture l.y old new c.make_room.new.waiting.items c.with_components-waiting.result.items c.row.result.now c.width-width.result so_far l.invariant.width_is c.row.ensures.value c.with_components-waiting.ensures.items;
     }
 
 pub returns-in_err-write-clause-stopped : goal.returns-in_err-write-clause-stopped

@@ -1,7 +1,7 @@
 use Rattle.std.proofs.Common.{◌≡◌, ◌+◌, ◌*◌, ◌++◌, take, vec_len}
 use Rattle.std.specs.Vec.{vec_capacity}
 use Rattle.rfb.specs.Pixmap.{components}
-use Rattle.rfb.proofs.pixmap.append_components.Given as goal
+use Rattle.rfb.proofs.pixmap.with_components.Given as goal
 
 abbrev pub invariant-loop-colour : goal.invariant-loop-colour
 invariant-loop-colour l = record {
