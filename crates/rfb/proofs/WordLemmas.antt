@@ -1,34 +1,40 @@
 -- Words of a line that are numbers.
-use Rattle.std.proofs.Common.{◌≡◌, ◌∙◌, ap, MatchOption, MatchResult, Some, Result, Ok, Err, Bor, false, length, ℕ, ◌<◌, ◌≤◌, ◌^◌, List, rules, arith}
-use Rattle.std.proofs.lemmas.Str.{IsUtf8-from_ascii}
-use Rattle.std.proofs.lemmas.Str.Ascii.{IsAscii-from_reads}
-use Rattle.std.proofs.lemmas.Str.Parse.{IsNumeralModel, numerals_by_value, tells_by_index}
-use Rattle.std.specs.Result.{OkIff, is_ok, result_ok}
-use Rattle.std.specs.Str.{IsUtf8}
-use Rattle.std.specs.Str.Parse.{digits_value}
-use Rattle.rfb.specs.Number.{IsCount, IsDigits, IsNumber}
+use Rattle.std.proofs.Common.{◌≡◌, ◌∙◌, ◌==◌, Bool, true, false, sym, ap, zero, suc, length, ℕ, ◌+◌, ◌*◌, ◌-◌, ◌<◌, ◌≤◌, ◌^◌, List, [], ◌∷◌, ◌++◌, refl, take, arith}
+use Rattle.std.proofs.lemmas.Str.{digit_value_digit}
+use Rattle.std.proofs.lemmas.Str.Parse.{IsNumeralModel, digits_value_short, numerals_by_value, tells_by_index, tells_digits}
+use Rattle.std.specs.Char.{digit_value}
+use Rattle.std.specs.Int.{IsInRange}
+use Rattle.std.specs.Str.Parse.{AllDigits, digits_value, digits_value_after}
+use Rattle.rfb.specs.Number.{IsDigits}
 
 pub digits : IsNumeralModel IsDigits (digits_value 10)
 digits = numerals_by_value _ tells_by_index
 
--- Digits are text.
-pub utf8_digits : (word : List ℕ) → IsDigits word → IsUtf8 word
-utf8_digits word all = IsUtf8-from_ascii word (IsAscii-from_reads word (length word) (omega arith) (λ k within. omega (arith, all k within)))
+all_digits : IsNumeralModel (AllDigits 10) (digits_value 10)
+all_digits = numerals_by_value _ tells_digits
 
-pub no_text : {A E : Type 0} (P : A → Type 0) (Q : E → Type 0) (word : List ℕ) (r : Result A E) → MatchResult r P (λ e. ¬ (IsUtf8 word) × Q e) → false ≡ is_ok r → ¬ (IsUtf8 word)
-no_text P Q word (Ok a) cases failed = absurd (cc)
-no_text P Q word (Err e) cases failed = cases.0
+-- one digit more
+pub all_more : (ds : List ℕ) (c : ℕ) → AllDigits 10 ds → IsInRange 48 57 c → AllDigits 10 (ds ++ c ∷ [])
+all_more [] c all range = (omega (arith, digit_value_digit c range, range), tt)
+all_more (d ∷ ds) c all range = (all.0, all_more ds c all.1 range)
 
-pub same_text : {E : Type 0} (Q : E → Type 0) (word : List ℕ) (r : Result (Bor (List ℕ)) E) (text : Bor (List ℕ)) → MatchResult r (λ s. (s.now ≡ word) × IsUtf8 word) Q → Some text ≡ result_ok r → text.now ≡ word
-same_text Q word (Ok s) text cases same = let e : text ≡ s = cc in ap (λ (x : Bor (List ℕ)). x.now) e ∙ cases.0
-same_text Q word (Err e) text cases same = absurd (cc)
+after_more : (n : ℕ) (ds : List ℕ) (c : ℕ) → digits_value_after 10 n (ds ++ c ∷ []) ≡ digits_value_after 10 n ds * 10 + digit_value c
+after_more n [] c = refl
+after_more n (d ∷ ds) c = after_more (n * 10 + digit_value d) ds c
 
--- What `parse` answers to digits, few enough, is the word's number.
-pub number_of : {E : Type 0} (word : List ℕ) (r : Result ℕ E) → OkIff r ((0 < length word) × (digits_value 10 word < 2 ^ 16)) (digits_value 10 word) → IsDigits word → length word ≤ 10 → MatchOption (result_ok r) (¬ (IsNumber word)) (λ n. IsNumber word × (n ≡ digits_value 10 word))
-number_of word (Ok n) fits digits short = ((digits, omega arith, short, fits.0.1), fits.1)
-number_of word (Err e) fits digits short = λ number. fits (omega (arith, number.1), number.3)
+pub value_more : (word ds : List ℕ) (i c v r : ℕ) → take (i + 1) word ≡ ds ++ c ∷ [] → v ≡ digits_value 10 ds → IsInRange 48 57 c → r ≡ c - 48 → 10 * v + r ≡ digits_value 10 (take (i + 1) word)
+value_more word ds i c v r more is range digit =
+    omega (arith, ap (λ (l : List ℕ). digits_value 10 l) more, after_more 0 ds c, digit_value_digit c range, is, digit)
 
--- What `parse` answers to digits, few enough, is the word's count.
-pub count_of : {E : Type 0} (word : List ℕ) (r : Result ℕ E) → OkIff r ((0 < length word) × (digits_value 10 word < 2 ^ 32)) (digits_value 10 word) → IsDigits word → length word ≤ 10 → MatchOption (result_ok r) (¬ (IsCount word)) (λ n. IsCount word × (n ≡ digits_value 10 word))
-count_of word (Ok n) fits digits short = ((digits, omega arith, short, fits.0.1), fits.1)
-count_of word (Err e) fits digits short = λ number. fits (omega (arith, number.1), number.3)
+take_short : (i : ℕ) (xs : List ℕ) → length (take i xs) ≤ i
+take_short zero xs = omega arith
+take_short (suc i) [] = omega arith
+take_short (suc i) (x ∷ xs) = omega (arith, take_short i xs)
+
+-- nine digits have a value below 10 to the ninth
+pub below : (word : List ℕ) (i : ℕ) → AllDigits 10 (take i word) → i ≤ 9 → digits_value 10 (take i word) < 1000000000
+below word i all few = omega (arith, digits_value_short all_digits (take i word) 9 all (omega (arith, take_short i word, few)))
+
+pub not_none : (n : ℕ) (b : Bool) → b ≡ (n == 0) → b ≡ false → 1 ≤ n
+not_none zero b is fails = let e : true ≡ false = sym is ∙ fails in absurd (cc)
+not_none (suc n) b is fails = omega arith

@@ -7,6 +7,10 @@ use Rattle.std.specs.Str.Parse.{digits_value}
 abbrev pub IsDigits : List ℕ → Type 0
 IsDigits word = EachIndex word (λ k. IsInRange 48 57 (slice_index word k))
 
+-- The word is 1 to 10 decimal digits.
+abbrev pub AreFewDigits : List ℕ → Type 0
+AreFewDigits word = IsDigits word × (1 ≤ length word) × (length word ≤ 10)
+
 -- The word is 1 to 10 decimal digits, whose value is at most 65,535.
 abbrev pub IsNumber : List ℕ → Type 0
 IsNumber word =

@@ -1,10 +1,8 @@
 //! The numbers of a script.
 
-ghost use Rattle.std.specs.Prelude.{◌≡◌, ◌↔◌, IsTrue, MatchOption};
+ghost use Rattle.std.specs.Prelude.{◌≡◌, MatchOption};
 ghost use Rattle.std.specs.Str.Parse.{digits_value};
-ghost use Rattle.rfb.specs.Number.{IsCount, IsDigits, IsNumber};
-
-use std::str;
+ghost use Rattle.rfb.specs.Number.{AreFewDigits, IsCount, IsNumber};
 
 // More digits make a word no number, whatever their value.
 const DIGITS_MAX: usize = 10;
@@ -15,12 +13,7 @@ pub fn read_number(word: &[u8]) -> Option<u16>
     ensures { MatchOption result (¬ (IsNumber word.now))
         (λ n. IsNumber word.now × (n ≡ digits_value 10 word.now)) }
 {
-    // `parse` alone would take a plus sign, and any number of zeros.
-    if word.len() > DIGITS_MAX || !has_only_digits(word) {
-        return None;
-    }
-    let text = str::from_utf8(word).ok()?;
-    text.parse().ok()
+    u16::try_from(read_digits(word)?).ok()
 }
 
 /// The same up to 4,294,967,295.
@@ -28,15 +21,23 @@ pub fn read_count(word: &[u8]) -> Option<u32>
     ensures { MatchOption result (¬ (IsCount word.now))
         (λ n. IsCount word.now × (n ≡ digits_value 10 word.now)) }
 {
-    if word.len() > DIGITS_MAX || !has_only_digits(word) {
-        return None;
-    }
-    let digits = str::from_utf8(word).ok()?;
-    digits.parse().ok()
+    u32::try_from(read_digits(word)?).ok()
 }
 
-fn has_only_digits(word: &[u8]) -> bool
-    ensures { IsTrue result ↔ IsDigits word.now }
+// The same without a bound. `parse` would take a plus sign, and any number of zeros.
+fn read_digits(word: &[u8]) -> Option<u64>
+    ensures { MatchOption result (¬ (AreFewDigits word.now))
+        (λ n. AreFewDigits word.now × (n ≡ digits_value 10 word.now)) }
 {
-    word.iter().all(|byte| byte.is_ascii_digit())
+    if word.is_empty() || word.len() > DIGITS_MAX {
+        return None;
+    }
+    let mut value = 0;
+    for byte in word {
+        if !byte.is_ascii_digit() {
+            return None;
+        }
+        value = 10 * value + u64::from(*byte - b'0');
+    }
+    Some(value)
 }
