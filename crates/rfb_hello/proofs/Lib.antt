@@ -6,6 +6,7 @@ pub mod ServerHelloLemmas
 pub mod AnswerLaws
 mod HandshakeFacts
 pub mod TextLemmas
+pub mod KeptTextLaws
 pub mod ViewerReadingLaws
 pub mod ViewerHelloLemmas
 pub mod ViewerAnswerLaws

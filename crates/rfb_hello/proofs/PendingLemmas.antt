@@ -12,9 +12,11 @@ use Rattle.rfb_hello.specs.declared.viewer_hello.progress.Progress.{Progress}
 use Rattle.rfb_hello.specs.declared.viewer_hello.progress.Progress.TheVariants.{Version as VersionPart, Word, Count, Types, Result as ResultPart, ReasonLength, Reason, Init, Name, Done, Failed}
 use Rattle.rfb_hello.specs.ClientHandshake.{ClientPoint}
 use Rattle.rfb_hello.specs.ServerHandshake.{ServerPoint, AwaitsSecurity, AwaitsResult}
-use Rattle.rfb_hello.specs.ServerProgress.{ProgressStandsFor as ServerProgressStandsFor, part_in as server_part_in}
+use Rattle.rfb_hello.specs.ServerProgress.{ProgressStandsFor as ServerProgressStandsFor}
+use Rattle.rfb_hello.specs.inside.ServerPiece.{part_in as server_part_in}
 use Rattle.rfb_hello.specs.ViewerEnd.{OpensReason}
-use Rattle.rfb_hello.specs.ViewerProgress.{ProgressStandsFor, part_in}
+use Rattle.rfb_hello.specs.ViewerProgress.{ProgressStandsFor}
+use Rattle.rfb_hello.specs.inside.ViewerPiece.{part_in}
 use Rattle.rfb_hello.specs.Pending.{client_handshake_pending, server_handshake_pending, reason_pending, security_pending, types_pending}
 
 -- a part of a piece

@@ -1,5 +1,6 @@
 -- The server's end, step by step.
-use Rattle.std.proofs.Common.{◌≡◌, ℕ, ◌<◌, List, [], ◌∷◌, ◌++◌, Option, Some, None, is_some, true, false, Ok, Err, length, take, slice_index, refl, sym, subst, ◌∙◌, ap, append-nil, arith}
+use Rattle.std.proofs.Common.{◌≡◌, ℕ, ◌<◌, ◌≤◌, ◌&&◌, if◌then◌else◌, nat_le, Bool, List, [], ◌∷◌, ◌++◌, Option, Some, None, Result, is_some, true, false, Ok, Err, length, take, slice_index, refl, sym, subst, ◌∙◌, ap, append-nil, arith}
+use Rattle.std.proofs.lemmas.Bool.Decides.{nat_tests}
 use Rattle.rfb_wire.specs.stream.Reading.{Got, Bad}
 use Rattle.rfb_wire.specs.stream.End.{IsMachine, FedBy, RefusedBy, StepsBy}
 use Rattle.rfb_wire.proofs.stream_laws.RepeatLaws.{checked_reads}
@@ -7,16 +8,18 @@ use Rattle.rfb_wire.proofs.stream_laws.FeedLaws.{step_feeds, front_refuses}
 use Rattle.rfb_hello.specs.declared.version.Version.{Version}
 use Rattle.rfb_hello.specs.declared.version.Version.TheVariants.{V33, V37, V38}
 use Rattle.rfb_hello.specs.declared.fault.HelloFault.{HelloFault}
+use Rattle.rfb_hello.specs.declared.fault.HelloFault.TheVariants.{BadVersion, VersionTooHigh}
 use Rattle.rfb_hello.specs.declared.step.ServerStep.{ServerStep}
 use Rattle.rfb_hello.specs.declared.step.ServerStep.TheVariants.{Reply}
 use Rattle.rfb_hello.specs.declared.server_hello.ServerHello.{ServerHello}
 use Rattle.rfb_hello.specs.declared.server_hello.progress.Progress.{Progress}
 use Rattle.rfb_hello.specs.declared.server_hello.progress.Progress.TheVariants.{Version as VersionPart}
 use Rattle.arrayvec.specs.ArrayVec.{ArrayVec}
-use Rattle.rfb_hello.specs.Version.{version_of}
+use Rattle.rfb_hello.specs.Version.{is_version_text, minor_of, version_of}
 use Rattle.rfb_hello.specs.ClientHandshake.{AwaitsVersion, ProtocolVersion, behind_version, client_version_fault, client_item}
 use Rattle.rfb_hello.specs.ServerEnd.{ServerSetup, as_reply, security_bytes, server_end}
-use Rattle.rfb_hello.specs.ServerProgress.{ProgressStandsFor, progress_behind}
+use Rattle.rfb_hello.specs.ServerProgress.{ProgressStandsFor}
+use Rattle.rfb_hello.specs.inside.ServerPiece.{progress_behind}
 use Rattle.rfb_hello.specs.ServerStanding.{StandsFor, setup_of}
 use Rattle.rfb_hello.proofs.ClientHandshakeLaws.{client_handshake_laws}
 
@@ -52,6 +55,25 @@ stands_behind : (v : Version) → ProgressStandsFor (progress_behind v) (behind_
 stands_behind V33 = (refl, refl)
 stands_behind V37 = (refl, refl)
 stands_behind V38 = (refl, refl)
+
+-- the version that a text was read as
+pub version_read : (size is_text : Bool) (v w : Version) → ◌≡◌ {A = Result Version HelloFault} (Ok w) (if size && is_text then Ok v else Err BadVersion) → (is_text ≡ true) × (w ≡ v)
+version_read true true v w e = (refl, cc)
+version_read true false v w e = cc
+version_read false b v w e = cc
+
+-- and why another was not
+pub version_misread : (size is_text : Bool) (v : Version) (fault : HelloFault) → ◌≡◌ {A = Result Version HelloFault} (Err fault) (if size && is_text then Ok v else Err BadVersion) → size ≡ true → (is_text ≡ false) × (fault ≡ BadVersion)
+version_misread true true v fault e whole = cc
+version_misread true false v fault e whole = (refl, cc)
+version_misread false b v fault e whole = cc
+
+-- a version above the offer, and one within it
+pub version_above : (offer : Version) (text : List ℕ) → is_version_text text ≡ true → minor_of offer < minor_of (version_of text) → Some VersionTooHigh ≡ client_version_fault offer text
+version_above offer text is above = let no : nat_le (minor_of (version_of text)) (minor_of offer) ≡ false = grind (arith, nat_tests) in rw (is, no) refl
+
+pub version_within : (offer : Version) (text : List ℕ) → is_version_text text ≡ true → minor_of (version_of text) ≤ minor_of offer → None ≡ client_version_fault offer text
+version_within offer text is within = let yes_it_is : nat_le (minor_of (version_of text)) (minor_of offer) ≡ true = grind (arith, nat_tests) in rw (is, yes_it_is) refl
 
 -- the last bytes of a version
 pub version_told : (setup : ServerSetup) (old new : ServerHello) (text : ArrayVec ℕ) (unit all : List ℕ) → old.progress ≡ VersionPart text → all ≡ text.items ++ unit → length all ≡ 12 → client_version_fault old.offer all ≡ None → setup_of new ≡ setup_of old → new.progress ≡ progress_behind (version_of all) → StepsBy (server_end setup) (StandsFor setup) old unit (Ok (Some (Reply (as_reply (security_bytes (version_of all)))))) new

@@ -1,7 +1,5 @@
 -- The viewer's end, step by step.
-use Rattle.std.proofs.Common.{◌≡◌, ◌≢◌, ℕ, zero, suc, ◌+◌, ◌<◌, ◌≤◌, ◌||◌, ◌&&◌, if◌then◌else◌, Bool, true, false, List, [], ◌∷◌, ◌++◌, Option, Some, None, Result, Ok, Err, length, take, drop, min, nat_le, refl, sym, subst, ◌∙◌, ap, append-nil, append_assoc, length-append, arith}
-use Rattle.std.proofs.lemmas.Bool.Decides.{nat_tests}
-use Rattle.std.proofs.lemmas.List.{take-append-le, take_all, length-take-le}
+use Rattle.std.proofs.Common.{◌≡◌, ◌≢◌, ℕ, zero, suc, ◌+◌, ◌<◌, ◌||◌, if◌then◌else◌, Bool, true, false, List, [], ◌∷◌, ◌++◌, Option, Some, None, Result, Ok, Err, length, take, drop, min, refl, sym, subst, ◌∙◌, ap, append-nil, append_assoc, length-append, arith}
 use Rattle.rfb_wire.specs.Fields.{u16_at, u32_at}
 use Rattle.rfb_wire.specs.stream.Reading.{More, Got, Bad}
 use Rattle.rfb_wire.specs.stream.End.{IsMachine, FedBy, RunsOutBy, StepsBy}
@@ -25,11 +23,14 @@ use Rattle.rfb_hello.specs.KeptText.{KeptText, no_text, kept_of}
 use Rattle.rfb_hello.specs.ServerHandshake.{ServerPoint, AwaitsVersion, AwaitsSecurity, AwaitsInit, ServerItem, ProtocolVersion, SecurityTypes, ServerInit, IsWord, has_none, behind_types, behind_init, past_server_item}
 use Rattle.rfb_hello.specs.ServerReading.{name, security, screen_fault, server_item}
 use Rattle.rfb_hello.specs.ServerEnd.{as_reply}
-use Rattle.rfb_hello.specs.ViewerEnd.{ViewerSetup, viewer_end, viewer_tells, choice_bytes, told_of_init, fault_for, OpensReason, AsksMemory, AsksForReason}
-use Rattle.rfb_hello.specs.ViewerProgress.{ProgressStandsFor, fault_in, reason_in, progress_behind_version, progress_behind_types, progress_behind_init}
+use Rattle.rfb_hello.specs.ViewerEnd.{ViewerSetup, viewer_end, viewer_tells, choice_bytes, told_of_init, OpensReason, AsksMemory, AsksForReason}
+use Rattle.rfb_hello.specs.inside.ViewerPiece.{fault_for}
+use Rattle.rfb_hello.specs.ViewerProgress.{ProgressStandsFor, fault_in, reason_in}
+use Rattle.rfb_hello.specs.inside.ViewerPiece.{progress_behind_version, progress_behind_types, progress_behind_init}
 use Rattle.rfb_hello.specs.ViewerStanding.{StandsFor, setup_of, IsReasonKept, KeepsReason}
 use Rattle.rfb_hello.proofs.ServerStreamLaws.{server_handshake_laws, screen_admitted}
 use Rattle.rfb_hello.proofs.TextLemmas.{kept_none}
+use Rattle.rfb_hello.proofs.KeptTextLaws.{kept_on}
 use Rattle.rfb_hello.proofs.ViewerReadingLaws.{opened, reason_short, reason_more, reason_bad, types_next, types_more, types_good, types_bad, none_behind}
 
 pub viewer_machine : (setup : ViewerSetup) → IsMachine (viewer_end setup)
@@ -154,12 +155,6 @@ types_refused setup old new version more none unit was count is =
 
 -- ---- the version
 
--- the text that a version was made of
-pub text_of_version : (size_fits is_text : Bool) (v w : Version) → Some w ≡ (if size_fits && is_text then Some v else None) → (is_text ≡ true) × (w ≡ v)
-text_of_version true true v w e = (refl, cc)
-text_of_version true false v w e = cc
-text_of_version false b v w e = cc
-
 stands_behind_version : (limit : ℕ) (v : Version) → ProgressStandsFor limit (progress_behind_version v) (AwaitsSecurity v) []
 stands_behind_version limit V33 = (refl, refl, omega arith)
 stands_behind_version limit V37 = (refl, (λ (e : V37 ≡ V33). cc), refl)
@@ -243,30 +238,6 @@ length_told setup old cause part unit whole n more kept was is word count text s
     more_step setup old (ReasonLength cause part) (Reason cause n more kept) unit was (λ s prefix h.
     let all : prefix ++ unit ≡ h.0 ++ (whole ++ []) = behind_intro prefix h.0 part.items unit h.2 ∙ ap (λ (ys : List ℕ). h.0 ++ ys) (sym is ∙ sym (append-nil whole)) in
     rw all (opened setup.max_places cause s h.0 (whole ++ []) h.1 ∙ reason_more (λ n. fault_for cause n) n whole [] word (omega (arith, count)), (h.0, whole, [], h.1, refl, word, omega (arith, count), kept_is))) s prefix stands
-
--- what is kept of a text, when more of it has come
-kept_on : (limit n : ℕ) (text unit : List ℕ) → length (text ++ unit) ≤ n → take (min n limit) (take limit text ++ unit) ≡ take limit (text ++ unit)
-kept_on limit n text unit within = by (nat_le limit (length text)) (nat_le limit n) refl refl
-  where
-    some : length text ≤ n
-    some = let size = length-append text unit in omega (arith, size, within)
-
-    by : (a b : Bool) → nat_le limit (length text) ≡ a → nat_le limit n ≡ b → take (min n limit) (take limit text ++ unit) ≡ take limit (text ++ unit)
-    by true b e f =
-        let full : limit ≤ length text = grind (arith, nat_tests) in
-        let least : min n limit ≡ limit = omega (arith, full, some) in
-        let size : length (take limit text) ≡ limit = length-take-le limit text full in
-        rw least (take-append-le limit (take limit text) unit (omega (arith, size)) ∙ take_all limit (take limit text) (omega (arith, size)) ∙ sym (take-append-le limit text unit full))
-    by false true e f =
-        let short : length text ≤ limit = grind (arith, nat_tests) in
-        let small : limit ≤ n = grind (arith, nat_tests) in
-        let least : min n limit ≡ limit = omega (arith, small) in
-        rw (least, take_all limit text short) refl
-    by false false e f =
-        let short : length text ≤ limit = grind (arith, nat_tests) in
-        let large : n ≤ limit = grind (arith, nat_tests) in
-        let least : min n limit ≡ n = omega (arith, large) in
-        rw (least, take_all limit text short) (take_all n (text ++ unit) within ∙ sym (take_all limit (text ++ unit) (omega (arith, within, large))))
 
 pub reason_part : (setup : ViewerSetup) (old : ViewerHello) (cause : Cause) (n more left : ℕ) (kept now : KeptText) (unit : List ℕ) → old.progress ≡ Reason cause n more kept → length unit + left ≡ more → now ≡ record kept { bytes = take kept.room (kept.bytes ++ unit) } → StepsBy (viewer_end setup) (StandsFor setup) old unit (Ok None) (record old { progress = Reason cause n left now })
 reason_part setup old cause n more left kept now unit was count is =

@@ -12,7 +12,8 @@ use Rattle.rfb_hello.specs.declared.viewer_hello.progress.Cause.{Cause}
 use Rattle.rfb_hello.specs.declared.viewer_hello.progress.Cause.TheVariants.{Refused, SecurityFailed}
 use Rattle.rfb_hello.specs.ServerHandshake.{ServerPoint, AwaitsSecurity, AwaitsResult, ServerItem, SecurityTypes, IsWord, has_none}
 use Rattle.rfb_hello.specs.ServerReading.{reason, behind_word, behind_count, behind_result, security, server_item}
-use Rattle.rfb_hello.specs.ViewerEnd.{fault_for, OpensReason}
+use Rattle.rfb_hello.specs.ViewerEnd.{OpensReason}
+use Rattle.rfb_hello.specs.inside.ViewerPiece.{fault_for}
 
 module _ {A B F : Type 0} where
   -- behind so many bytes

@@ -14,3 +14,4 @@ pub mod ViewerStanding
 pub mod ToldOf
 pub mod Conversation
 pub mod Pending
+pub mod inside

@@ -1,7 +1,5 @@
 -- How far a server's handshake has come: what it stands for, and whether it goes on.
 use Rattle.std.specs.Prelude.{◌≡◌, ◌<◌, ℕ, List, [], length, Option, Some, None, Bool, true, false}
-use Rattle.rfb_hello.specs.declared.version.Version.{Version}
-use Rattle.rfb_hello.specs.declared.version.Version.TheVariants.{V33, V37, V38}
 use Rattle.rfb_hello.specs.declared.fault.HelloFault.{HelloFault}
 use Rattle.rfb_hello.specs.declared.server_hello.progress.Progress.{Progress}
 use Rattle.rfb_hello.specs.declared.server_hello.progress.Progress.TheVariants.{Version as VersionPart, Choice, Init, Done, Failed}
@@ -32,17 +30,3 @@ is_open (Choice version) = true
 is_open (Init version) = true
 is_open (Done version shared) = false
 is_open (Failed fault) = false
-
--- how many bytes have come of a piece that is not whole
-abbrev pub part_in : Progress → ℕ
-part_in (VersionPart text) = length text.items
-part_in (Choice version) = 0
-part_in (Init version) = 0
-part_in (Done version shared) = 0
-part_in (Failed fault) = 0
-
--- what comes next of a client that goes by this version
-abbrev pub progress_behind : Version → Progress
-progress_behind V33 = Init V33
-progress_behind V37 = Choice V37
-progress_behind V38 = Choice V38

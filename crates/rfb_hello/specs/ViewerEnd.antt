@@ -5,7 +5,6 @@ use Rattle.rfb_wire.specs.stream.End.{Machine}
 use Rattle.rfb_hello.specs.declared.version.Version.{Version}
 use Rattle.rfb_hello.specs.declared.version.Version.TheVariants.{V33, V37, V38}
 use Rattle.rfb_hello.specs.declared.fault.HelloFault.{HelloFault}
-use Rattle.rfb_hello.specs.declared.fault.HelloFault.TheVariants.{Refused as RefusedFault, SecurityFailed as FailedFault}
 use Rattle.rfb_hello.specs.declared.step.ViewerStep.{ViewerStep}
 use Rattle.rfb_hello.specs.declared.step.ViewerStep.TheVariants.{Reply, Screen, Ready}
 use Rattle.rfb_hello.specs.declared.viewer_hello.progress.Cause.{Cause}
@@ -68,11 +67,6 @@ viewer_end setup =
       act = past_server_item setup.limit;
       tells = viewer_tells setup;
     }
-
--- the fault that a reason of so many bytes is given for
-abbrev pub fault_for : Cause → ℕ → HelloFault
-fault_for Refused reason_length = RefusedFault reason_length
-fault_for SecurityFailed reason_length = FailedFault reason_length
 
 -- these bytes stand before a reason at that point: a word or a count of no types, or a
 -- SecurityResult that is not success

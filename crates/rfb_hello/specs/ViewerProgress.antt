@@ -1,7 +1,7 @@
 -- How far a viewer's handshake has come: what it stands for, and whether it goes on.
-use Rattle.std.specs.Prelude.{◌≡◌, ◌≢◌, ◌<◌, ◌+◌, ℕ, zero, suc, List, [], ◌∷◌, ◌++◌, length, Option, Some, None, Bool, true, false}
+use Rattle.std.specs.Prelude.{◌≡◌, ◌≢◌, ◌<◌, ◌+◌, ℕ, List, [], ◌∷◌, ◌++◌, length, Option, Some, None, Bool, true, false}
 use Rattle.rfb_hello.specs.declared.version.Version.{Version}
-use Rattle.rfb_hello.specs.declared.version.Version.TheVariants.{V33, V37, V38}
+use Rattle.rfb_hello.specs.declared.version.Version.TheVariants.{V33}
 use Rattle.rfb_hello.specs.declared.fault.HelloFault.{HelloFault}
 use Rattle.rfb_hello.specs.declared.viewer_hello.progress.Progress.{Progress}
 use Rattle.rfb_hello.specs.declared.viewer_hello.progress.Progress.TheVariants.{Version as VersionPart, Word, Count, Types, Result as ResultPart, ReasonLength, Reason, Init, Name, Done, Failed}
@@ -79,35 +79,3 @@ is_open (Init version part) = true
 is_open (Name version width height n more kept) = true
 is_open Done = false
 is_open (Failed fault kept) = false
-
--- how many bytes have come of a piece that is not whole
-abbrev pub part_in : Progress → ℕ
-part_in (VersionPart part) = length part.items
-part_in (Word part) = length part.items
-part_in (Count version) = 0
-part_in (Types version more none) = 0
-part_in (ResultPart version part) = length part.items
-part_in (ReasonLength cause part) = length part.items
-part_in (Reason cause n more kept) = 0
-part_in (Init version part) = length part.items
-part_in (Name version width height n more kept) = 0
-part_in Done = 0
-part_in (Failed fault kept) = 0
-
--- what comes next of a server with which a version is used
-abbrev pub progress_behind_version : Version → Progress
-progress_behind_version V33 = Word (record { items = [] })
-progress_behind_version V37 = Count V37
-progress_behind_version V38 = Count V38
-
--- of one that offered None in a list
-abbrev pub progress_behind_types : Version → Progress
-progress_behind_types V33 = Init V33 (record { items = [] })
-progress_behind_types V37 = Init V37 (record { items = [] })
-progress_behind_types V38 = ResultPart V38 (record { items = [] })
-
--- of one that told its screen, and how many bytes its name has
-abbrev pub progress_behind_init : ℕ → Version → ℕ → ℕ → ℕ → Progress
-progress_behind_init limit version width height zero = Done
-progress_behind_init limit version width height (suc n) =
-    Name version width height (suc n) n (kept_of limit (suc n) [])

@@ -1,9 +1,9 @@
 -- What a `ViewerHello` stands for: a setup, a point of the handshake, and the bytes that came of
 -- the server's next item, fewer than it has.
-use Rattle.std.specs.Prelude.{◌≡◌, ◌≢◌, ℕ, Bool, true, false, List, ◌++◌, Option, None, Some, Result, Err, length}
-use Rattle.rfb_wire.specs.stream.End.{RunsOutBy, StepsBy}
+use Rattle.std.specs.Prelude.{◌≡◌, ℕ, Bool, true, false, List, ◌++◌, Option, None, Some, length}
+use Rattle.rfb_wire.specs.stream.End.{RunsOutBy}
 use Rattle.rfb_hello.specs.declared.fault.HelloFault.{HelloFault}
-use Rattle.rfb_hello.specs.declared.fault.HelloFault.TheVariants.{Refused as RefusedFault, SecurityFailed as FailedFault, NoMemory}
+use Rattle.rfb_hello.specs.declared.fault.HelloFault.TheVariants.{Refused as RefusedFault, SecurityFailed as FailedFault}
 use Rattle.rfb_hello.specs.declared.step.ViewerStep.{ViewerStep}
 use Rattle.rfb_hello.specs.declared.step.ViewerStep.TheVariants.{Reply, Screen, Ready}
 use Rattle.rfb_hello.specs.declared.viewer_hello.progress.Cause.{Cause}
@@ -11,7 +11,7 @@ use Rattle.rfb_hello.specs.declared.viewer_hello.progress.Cause.TheVariants.{Ref
 use Rattle.rfb_hello.specs.declared.viewer_hello.ViewerHello.{ViewerHello}
 use Rattle.rfb_hello.specs.KeptText.{KeptText, no_text, kept_of}
 use Rattle.rfb_hello.specs.ServerHandshake.{ServerPoint, IsWord}
-use Rattle.rfb_hello.specs.ViewerEnd.{ViewerSetup, OpensReason, AsksMemory, viewer_end}
+use Rattle.rfb_hello.specs.ViewerEnd.{ViewerSetup, OpensReason, viewer_end}
 use Rattle.rfb_hello.specs.ViewerProgress.{ProgressStandsFor, fault_in, reason_in, is_open as goes_on}
 
 -- the setup that it was made with
@@ -48,19 +48,6 @@ goes_on_behind (Some (Ready width height version name name_length)) = false
 -- what is kept of the reason that it has failed for; without one nothing
 abbrev pub reason_of : ViewerHello → KeptText
 reason_of hello = reason_in hello.progress
-
--- what a step by bytes of one item answers, where memory is not wanting
-abbrev pub StepsAs : ViewerHello → List ℕ → Result (Option ViewerStep) HelloFault → ViewerHello →
-    Type 0
-StepsAs old bytes result new =
-    result ≢ Err NoMemory → (setup : ViewerSetup)
-    → StepsBy (viewer_end setup) (StandsFor setup) old bytes result new
-
--- where it is, the bytes have led to where it is asked for
-abbrev pub RunsOutAs : ViewerHello → List ℕ → Result (Option ViewerStep) HelloFault → Type 0
-RunsOutAs old bytes result =
-    result ≡ Err NoMemory → (setup : ViewerSetup)
-    → RunsOutBy (viewer_end setup) (AsksMemory setup) (StandsFor setup) old bytes
 
 -- a reason of so many bytes is whole at the last of these, and this is kept of its text
 abbrev pub IsReasonKept : ℕ → Cause → ℕ → KeptText → ServerPoint → List ℕ → Type 0

@@ -4,6 +4,7 @@
 mod fault;
 mod fed;
 pub mod law;
+mod pieces;
 mod server_hello;
 mod step;
 #[cfg(test)]

@@ -15,12 +15,11 @@ mod progress;
 
 use crate::fault::HelloFault;
 use crate::fed::Fed;
-use crate::server_hello::answers::{
-    SECURITY_NONE, append, behind_version, offered, reply_of, security,
-};
+use crate::pieces::{SECURITY_NONE, append, gather, reply_of};
+use crate::server_hello::answers::{behind_version, offered, security};
 use crate::server_hello::progress::Progress;
 use crate::step::{MAX_REPLY, ServerStep};
-use crate::version::{VERSION_SIZE, Version};
+use crate::version::{VERSION_PART, VERSION_SIZE, Version};
 use arrayvec::ArrayVec;
 use byteorder::{BigEndian, ByteOrder};
 use rfb_pixel::Format;
@@ -28,9 +27,9 @@ use rfb_pixel::Format;
 /// How many bytes the name of a screen has at most.
 pub const MAX_NAME: usize = 255;
 
-/// The server's end of a handshake: it is fed what the client sends, and tells what is to be
-/// answered. It offers one version, and security type None alone; it takes no memory.
-#[derive(Drop)]
+/// The server's end of a handshake. It is fed what the client sends, and returns what is to be
+/// sent back. It offers one version, and security type None alone. It takes no memory.
+#[derive(Debug, Drop)]
 pub struct ServerHello {
     offer: Version,
     width: u16,
@@ -40,10 +39,10 @@ pub struct ServerHello {
 }
 
 impl ServerHello {
-    /// An end that has sent nothing and was fed nothing. It goes up to version `offer`, and will
-    /// tell the screen's size and its name.
+    /// An end that has sent nothing and was fed nothing. It goes up to version `offer`; its
+    /// ServerInit will have the screen's size and its name, of at most 255 bytes.
     pub fn new(offer: Version, width: u16, height: u16, name: &[u8]) -> ServerHello
-        requires { length name.now ≤ 255 }
+        requires { length name.now ≤ MAX_NAME }
         ensures { StandsFor
             (record { offer = offer; width = width; height = height; name = name.now })
             result AwaitsVersion [] }
@@ -66,9 +65,9 @@ impl ServerHello {
         self.offer.text()
     }
 
-    /// Takes bytes of the client's, up to the last of its first item that is told of, or all. A
-    /// fault is told at its last byte, and by every later call, which take nothing. Once the
-    /// handshake is done no bytes are taken: they are the messages'.
+    /// Takes bytes of the client's: up to the last byte of the first item with an event, else all.
+    /// A fault is returned at its last byte, and by every later call; these take nothing. Once
+    /// the handshake is done no bytes are taken: they are messages.
     pub fn feed(&mut self, bytes: &[u8]) -> Result<Fed<ServerStep>, HelloFault>
         // What was taken, what it was, and what is left.
         ensures used { IfOk result (λ fed. fed.used ≤ length bytes.now) }
@@ -108,8 +107,8 @@ impl ServerHello {
         self.progress.is_open()
     }
 
-    /// How many bytes are pending: those of the client's next item that stand behind its last whole
-    /// piece. It keeps no others.
+    /// How many bytes are pending: those of the client's next item after its last whole piece. It
+    /// keeps no others.
     pub fn pending(&self) -> usize
         ensures value { (setup : ServerSetup) (point : ClientPoint) (prefix : List ℕ)
             → StandsFor setup self.now point prefix
@@ -163,18 +162,14 @@ impl ServerHello {
         let Progress::Version(text) = &mut self.progress else {
             unreachable!()
         };
-        let missing = VERSION_SIZE - text.len();
-        if bytes.len() < missing {
-            append(text, bytes);
-            return Ok((bytes.len(), None));
-        }
-        let mut whole = ArrayVec::<u8, VERSION_SIZE>::new();
-        append(&mut whole, text.as_slice());
-        append(&mut whole, &bytes[..missing]);
+        let (used, whole) = gather::<VERSION_PART, VERSION_SIZE>(text, bytes);
+        let Some(whole) = whole else {
+            return Ok((used, None));
+        };
         match offered(self.offer, whole.as_slice()) {
             Ok(version) => {
                 self.progress = behind_version(version);
-                Ok((missing, Some(ServerStep::Reply(security(version)))))
+                Ok((used, Some(ServerStep::Reply(security(version)))))
             }
             Err(fault) => Err(self.fail(fault)),
         }

@@ -1,19 +1,23 @@
-//! What the ends of a handshake tell.
+//! What happens at the ends of a handshake.
 
+use crate::server_hello::MAX_NAME;
 use crate::text::Text;
-use crate::version::Version;
+use crate::version::{VERSION_SIZE, Version};
 use arrayvec::ArrayVec;
 
-/// How many bytes an answer of the server has at most: ServerInit with a name of 255 bytes.
-pub const MAX_REPLY: usize = 279;
+/// How many bytes ServerInit has before the name, section 7.3.2.
+pub const INIT_SIZE: usize = 24;
 
-/// What a server's handshake tells.
+/// How many bytes an answer of the server has at most: ServerInit with the longest name.
+pub const MAX_REPLY: usize = INIT_SIZE + MAX_NAME;
+
+/// What happened at the last byte that a server's end took.
 #[derive(Debug, Drop, PartialEq, Eq)]
 pub enum ServerStep {
     /// Bytes that are to be sent to the client.
     Reply(ArrayVec<u8, MAX_REPLY>),
-    /// The handshake is done: the last bytes to be sent, ServerInit; the version that both ends
-    /// use; and whether the client shares the screen with others.
+    /// The handshake is done. `reply` is ServerInit, the last bytes to be sent; `version` is what
+    /// both ends use; `shared` says whether the client shares the screen with others.
     Ready {
         reply: ArrayVec<u8, MAX_REPLY>,
         version: Version,
@@ -22,20 +26,20 @@ pub enum ServerStep {
 }
 
 /// How many bytes an answer of the viewer has at most: a ProtocolVersion.
-pub const MAX_ANSWER: usize = 12;
+pub const MAX_ANSWER: usize = VERSION_SIZE;
 
-/// What a viewer's handshake tells.
+/// What happened at the last byte that a viewer's end took.
 #[derive(Debug, Drop)]
 pub enum ViewerStep {
     /// Bytes that are to be sent to the server.
     Reply(ArrayVec<u8, MAX_ANSWER>),
-    /// The screen's size, told before its name is read.
+    /// The screen's size, before its name is read.
     Screen {
         width: u16,
         height: u16,
     },
-    /// The handshake is done: the screen's size; the version that both ends use; as much of the
-    /// screen's name as is kept; and how many bytes the name had.
+    /// The handshake is done. `width` and `height` are the screen's, `version` is what both ends
+    /// use, `name` is as much of the screen's name as is kept, of `name_length` bytes.
     Ready {
         width: u16,
         height: u16,

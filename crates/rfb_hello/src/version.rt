@@ -1,7 +1,9 @@
 //! ProtocolVersion, RFC 6143 section 7.1.1.
 
-ghost use Rattle.std.specs.Prelude.{◌≡◌, ◌==◌, ◌+◌, ◌-◌, ◌*◌, ◌&&◌, length, Some, None, if◌then◌else◌};
+ghost use Rattle.std.specs.Prelude.{◌≡◌, ◌==◌, ◌+◌, ◌-◌, ◌*◌, ◌&&◌, length, Some, None, Ok, Err, if◌then◌else◌};
 ghost use Rattle.rfb_hello.specs.Version.{is_digit, is_version_text, minor_of, version_of, version_text};
+
+use crate::fault::HelloFault;
 
 /// A published version of the protocol.
 #[derive(Clone, Copy, Debug, PartialEq, Eq)]
@@ -16,6 +18,9 @@ pub enum Version {
 
 /// How many bytes a ProtocolVersion has.
 pub const VERSION_SIZE: usize = 12;
+
+/// How many bytes of one are kept at most until it is whole.
+pub const VERSION_PART: usize = VERSION_SIZE - 1;
 
 impl Version {
     /// The ProtocolVersion of this version: `RFB 003.003`, `RFB 003.007` or `RFB 003.008`, and a
@@ -40,19 +45,26 @@ impl Version {
             Version::V38 => 8,
         }
     }
+}
 
-    /// The version that a ProtocolVersion stands for: 3.7 and 3.8 for themselves, any other number
-    /// for 3.3. `None` where the bytes are not of the shape `RFB ddd.ddd` and a line feed.
-    pub fn of_text(text: &[u8]) -> Option<Version>
-        ensures { result ≡ (if length text.now == 12 && is_version_text text.now
-            then Some (version_of text.now) else None) }
-    {
+/// The version that a ProtocolVersion stands for: 3.7 and 3.8 for themselves, any other number for
+/// 3.3. `BadVersion` where the bytes are not of the shape `RFB ddd.ddd` and a line feed.
+impl TryFrom<&[u8]> for Version {
+    ghost use Rattle.rfb_hello.specs.declared.fault.HelloFault.TheVariants.{BadVersion};
+
+    type Error = HelloFault;
+
+    ghost try_from_gives = { λ text r. r ≡ (if length text.now == 12 && is_version_text text.now
+        then Ok (version_of text.now) else Err BadVersion) };
+
+    fn try_from(text: &[u8]) -> Result<Version, HelloFault> {
         let &[b'R', b'F', b'B', b' ', a, b, c, b'.', d, e, f, b'\n'] = text else {
-            return None;
+            return Err(HelloFault::BadVersion);
         };
-        let major = number(a, b, c)?;
-        let minor = number(d, e, f)?;
-        Some(match (major, minor) {
+        let (Some(major), Some(minor)) = (number(a, b, c), number(d, e, f)) else {
+            return Err(HelloFault::BadVersion);
+        };
+        Ok(match (major, minor) {
             (3, 8) => Version::V38,
             (3, 7) => Version::V37,
             _ => Version::V33,

@@ -6,11 +6,11 @@ ghost use Rattle.rfb_hello.specs.KeptText.{no_text};
 ghost use Rattle.rfb_hello.specs.ServerHandshake.{AwaitsVersion, ServerPoint};
 ghost use Rattle.rfb_hello.specs.Pending.{server_handshake_pending};
 ghost use Rattle.rfb_hello.specs.ViewerEnd.{ViewerSetup, viewer_end, AsksMemory};
-ghost use Rattle.rfb_hello.specs.ViewerStanding.{KeepsReason, RunsOutAs, StandsFor, StepsAs, fault_of, goes_on_behind, is_open, reason_of, setup_of};
+ghost use Rattle.rfb_hello.specs.ViewerStanding.{KeepsReason, StandsFor, fault_of, goes_on_behind, is_open, reason_of, setup_of};
+ghost use Rattle.rfb_hello.specs.inside.ViewerPiece.{TakesPiece};
 ghost use Rattle.rfb_hello.specs.declared.fault.HelloFault.TheVariants.{NoMemory};
 ghost use Rattle.rfb_hello.specs.declared.viewer_hello.progress.Progress.{Progress};
 
-mod pieces;
 mod progress;
 mod security;
 mod texts;
@@ -24,10 +24,10 @@ use crate::viewer_hello::progress::Progress;
 use arrayvec::ArrayVec;
 use std::alloc::Global;
 
-/// The viewer's end of a handshake: it is fed what the server sends, and tells what is to be
-/// answered, the screen's size and its name. It takes security type None alone. Memory is taken for
-/// a name or a reason alone, as much as is kept of it, once its length is known.
-#[derive(Drop)]
+/// The viewer's end of a handshake. It is fed what the server sends, and returns what is to be sent
+/// back, the screen's size and its name. It takes security type None alone. It takes memory for a
+/// name or a reason alone, as much as is kept of it, once its length is known.
+#[derive(Debug, Drop)]
 pub struct ViewerHello {
     alloc: Global,
     limit: Version,
@@ -67,10 +67,10 @@ impl ViewerHello {
         }
     }
 
-    /// Takes bytes of the server's, up to the last of its first item that is told of, or all. A
-    /// fault is told at its last byte, and by every later call, which take nothing; a refusal is
-    /// told at the last byte of its reason. Once the handshake is done no bytes are taken: they are
-    /// the messages'.
+    /// Takes bytes of the server's: up to the last byte of the first item with an event, else all.
+    /// A fault is returned at its last byte, and by every later call; these take nothing. A
+    /// refusal is returned at the last byte of its reason. Once the handshake is done no bytes are
+    /// taken: they are messages.
     pub fn feed(&mut self, bytes: &[u8]) -> Result<Fed<ViewerStep>, HelloFault>
         // What was taken, what it was, and what is left.
         ensures used { IfOk result (λ fed. fed.used ≤ length bytes.now) }
@@ -130,8 +130,8 @@ impl ViewerHello {
         self.progress.is_open()
     }
 
-    /// How many bytes are pending: those of the server's next item that stand behind its last whole
-    /// piece. It keeps no others, but the first bytes of a text.
+    /// How many bytes are pending: those of the server's next item after its last whole piece. It
+    /// keeps no others, but the first bytes of a text.
     pub fn pending(&self) -> usize
         ensures value { (setup : ViewerSetup) (point : ServerPoint) (prefix : List ℕ)
             → StandsFor setup self.now point prefix
@@ -142,20 +142,12 @@ impl ViewerHello {
         self.progress.part()
     }
 
-    // Takes bytes of the server's next item, as many of it as there are: how many these were, and
-    // what is told of it once it is whole.
+    // Takes bytes of the server's next item, as many of it as there are. Returns how many these
+    // were, and the item's event once it is whole.
     fn take(&mut self, bytes: &[u8]) -> (usize, Result<Option<ViewerStep>, HelloFault>)
         requires some { 0 < length bytes.now }
         requires open { is_open self.old ≡ true }
-        ensures used { (0 < result.0) × (result.0 ≤ length bytes.now) }
-        ensures open { IfOk result.1 (λ event. is_open self.new ≡ goes_on_behind event) }
-        ensures going { IfOk result.1 (λ event. fault_of self.new ≡ None) }
-        ensures fails { IfErr result.1 (λ fault. fault_of self.new ≡ Some fault) }
-        ensures steps { StepsAs self.old (take result.0 bytes.now) result.1 self.new }
-        ensures memory { RunsOutAs self.old (take result.0 bytes.now) result.1 }
-        ensures setup { setup_of self.new ≡ setup_of self.old }
-        ensures reason { IfErr result.1 (λ fault.
-            KeepsReason fault self.old (take result.0 bytes.now) self.new) }
+        ensures { TakesPiece self.old bytes.now result.0 result.1 self.new }
     {
         match self.progress {
             Progress::Version(_) => self.take_version(bytes),

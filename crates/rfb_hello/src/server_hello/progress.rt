@@ -1,17 +1,18 @@
 //! How far a server's handshake has come.
 
 ghost use Rattle.std.specs.Prelude.{◌≡◌, ◌≤◌, false};
-ghost use Rattle.rfb_hello.specs.ServerProgress.{is_open, part_in};
+ghost use Rattle.rfb_hello.specs.ServerProgress.{is_open};
+ghost use Rattle.rfb_hello.specs.inside.ServerPiece.{part_in};
 
 use crate::fault::HelloFault;
-use crate::version::Version;
+use crate::version::{VERSION_PART, Version};
 use arrayvec::ArrayVec;
 
 /// What the client's next bytes are.
-#[derive(Drop)]
+#[derive(Debug, Drop)]
 pub enum Progress {
     /// Its version: the bytes of it that have come, which are never all.
-    Version(ArrayVec<u8, 11>),
+    Version(ArrayVec<u8, VERSION_PART>),
     /// Its choice of a security type.
     Choice(Version),
     /// ClientInit.

@@ -1,12 +1,14 @@
 //! How far a viewer's handshake has come.
 
 ghost use Rattle.std.specs.Prelude.{◌≡◌, ◌≤◌, false};
-ghost use Rattle.rfb_hello.specs.ViewerEnd.{fault_for};
-ghost use Rattle.rfb_hello.specs.ViewerProgress.{is_open, part_in};
+ghost use Rattle.rfb_hello.specs.inside.ViewerPiece.{fault_for};
+ghost use Rattle.rfb_hello.specs.ViewerProgress.{is_open};
+ghost use Rattle.rfb_hello.specs.inside.ViewerPiece.{part_in};
 
 use crate::fault::HelloFault;
+use crate::pieces::{INIT_PART, WORD_PART};
 use crate::text::Text;
-use crate::version::Version;
+use crate::version::{VERSION_PART, Version};
 use arrayvec::ArrayVec;
 
 /// What a reason is sent for.
@@ -19,12 +21,12 @@ pub enum Cause {
 }
 
 /// What the server's next bytes are. A part of a piece is never all of it.
-#[derive(Drop)]
+#[derive(Debug, Drop)]
 pub enum Progress {
     /// Its version: the bytes of it that have come.
-    Version(ArrayVec<u8, 11>),
+    Version(ArrayVec<u8, VERSION_PART>),
     /// Its security type, as 3.3 has it: the bytes of the word that have come.
-    Word(ArrayVec<u8, 3>),
+    Word(ArrayVec<u8, WORD_PART>),
     /// The count of its security types, under 3.7 or 3.8.
     Count(Version),
     /// Its security types: how many come behind the next one, and whether None was among those
@@ -35,11 +37,11 @@ pub enum Progress {
         none: bool,
     },
     /// SecurityResult: the bytes of the word that have come.
-    Result(Version, ArrayVec<u8, 3>),
+    Result(Version, ArrayVec<u8, WORD_PART>),
     /// The length of a reason: the bytes of the word that have come.
     ReasonLength {
         cause: Cause,
-        part: ArrayVec<u8, 3>,
+        part: ArrayVec<u8, WORD_PART>,
     },
     /// A reason: its length, how many bytes come behind the next one, and what is kept of it.
     Reason {
@@ -49,7 +51,7 @@ pub enum Progress {
         kept: Text,
     },
     /// ServerInit up to the name: the bytes of it that have come.
-    Init(Version, ArrayVec<u8, 23>),
+    Init(Version, ArrayVec<u8, INIT_PART>),
     /// The name: the screen's size, the name's length, how many bytes come behind the next one, and
     /// what is kept of it.
     Name {

@@ -6,15 +6,16 @@ ghost use Rattle.arrayvec.specs.ArrayVec.{ArrayVec as Items};
 ghost use Rattle.rfb_wire.specs.stream.End.{StepsBy};
 ghost use Rattle.rfb_hello.specs.Version.{lower};
 ghost use Rattle.rfb_hello.specs.ViewerEnd.{ViewerSetup, viewer_end, choice_bytes, shared_flag};
-ghost use Rattle.rfb_hello.specs.ViewerStanding.{KeepsReason, RunsOutAs, StandsFor, StepsAs, fault_of, goes_on_behind, is_open, setup_of};
-ghost use Rattle.rfb_hello.specs.ViewerProgress.{progress_behind_version, progress_behind_types};
+ghost use Rattle.rfb_hello.specs.ViewerStanding.{StandsFor, is_open, setup_of};
+ghost use Rattle.rfb_hello.specs.inside.ViewerPiece.{TakesPiece};
+ghost use Rattle.rfb_hello.specs.inside.ViewerPiece.{progress_behind_version, progress_behind_types};
 ghost use Rattle.rfb_hello.specs.declared.viewer_hello.progress.Progress.{Progress};
 
 use crate::fault::HelloFault;
+use crate::pieces::{SECURITY_NONE, WORD_PART, WORD_SIZE, gather, has_none, reply_of};
 use crate::step::{MAX_ANSWER, ViewerStep};
-use crate::version::{VERSION_SIZE, Version};
+use crate::version::{VERSION_PART, VERSION_SIZE, Version};
 use crate::viewer_hello::ViewerHello;
-use crate::viewer_hello::pieces::{SECURITY_NONE, gather, has_none, reply_of};
 use crate::viewer_hello::progress::{Cause, Progress};
 use arrayvec::ArrayVec;
 use byteorder::{BigEndian, ByteOrder};
@@ -27,24 +28,16 @@ impl ViewerHello {
     ) -> (usize, Result<Option<ViewerStep>, HelloFault>)
         requires some { 0 < length bytes.now }
         requires open { (part : Items ℕ) × (self.old.progress ≡ Progress.Version part) }
-        ensures used { (0 < result.0) × (result.0 ≤ length bytes.now) }
-        ensures open { IfOk result.1 (λ event. is_open self.new ≡ goes_on_behind event) }
-        ensures going { IfOk result.1 (λ event. fault_of self.new ≡ None) }
-        ensures fails { IfErr result.1 (λ fault. fault_of self.new ≡ Some fault) }
-        ensures steps { StepsAs self.old (take result.0 bytes.now) result.1 self.new }
-        ensures memory { RunsOutAs self.old (take result.0 bytes.now) result.1 }
-        ensures setup { setup_of self.new ≡ setup_of self.old }
-        ensures reason { IfErr result.1 (λ fault.
-            KeepsReason fault self.old (take result.0 bytes.now) self.new) }
+        ensures { TakesPiece self.old bytes.now result.0 result.1 self.new }
     {
         let Progress::Version(part) = &mut self.progress else {
             unreachable!()
         };
-        let (used, whole) = gather::<11, VERSION_SIZE>(part, bytes);
+        let (used, whole) = gather::<VERSION_PART, VERSION_SIZE>(part, bytes);
         let Some(whole) = whole else {
             return (used, Ok(None));
         };
-        let Some(version) = Version::of_text(whole.as_slice()) else {
+        let Ok(version) = Version::try_from(whole.as_slice()) else {
             return (used, Err(self.fail(HelloFault::BadVersion)));
         };
         let version = lower(self.limit, version);
@@ -59,20 +52,12 @@ impl ViewerHello {
     ) -> (usize, Result<Option<ViewerStep>, HelloFault>)
         requires some { 0 < length bytes.now }
         requires open { (part : Items ℕ) × (self.old.progress ≡ Progress.Word part) }
-        ensures used { (0 < result.0) × (result.0 ≤ length bytes.now) }
-        ensures open { IfOk result.1 (λ event. is_open self.new ≡ goes_on_behind event) }
-        ensures going { IfOk result.1 (λ event. fault_of self.new ≡ None) }
-        ensures fails { IfErr result.1 (λ fault. fault_of self.new ≡ Some fault) }
-        ensures steps { StepsAs self.old (take result.0 bytes.now) result.1 self.new }
-        ensures memory { RunsOutAs self.old (take result.0 bytes.now) result.1 }
-        ensures setup { setup_of self.new ≡ setup_of self.old }
-        ensures reason { IfErr result.1 (λ fault.
-            KeepsReason fault self.old (take result.0 bytes.now) self.new) }
+        ensures { TakesPiece self.old bytes.now result.0 result.1 self.new }
     {
         let Progress::Word(part) = &mut self.progress else {
             unreachable!()
         };
-        let (used, whole) = gather::<3, 4>(part, bytes);
+        let (used, whole) = gather::<WORD_PART, WORD_SIZE>(part, bytes);
         let Some(whole) = whole else {
             return (used, Ok(None));
         };
@@ -117,15 +102,7 @@ impl ViewerHello {
         requires some { 0 < length bytes.now }
         requires open { (version : Version) × (more : ℕ) × (none : Bool)
             × (self.old.progress ≡ Progress.Types version more none) }
-        ensures used { (0 < result.0) × (result.0 ≤ length bytes.now) }
-        ensures open { IfOk result.1 (λ event. is_open self.new ≡ goes_on_behind event) }
-        ensures going { IfOk result.1 (λ event. fault_of self.new ≡ None) }
-        ensures fails { IfErr result.1 (λ fault. fault_of self.new ≡ Some fault) }
-        ensures steps { StepsAs self.old (take result.0 bytes.now) result.1 self.new }
-        ensures memory { RunsOutAs self.old (take result.0 bytes.now) result.1 }
-        ensures setup { setup_of self.new ≡ setup_of self.old }
-        ensures reason { IfErr result.1 (λ fault.
-            KeepsReason fault self.old (take result.0 bytes.now) self.new) }
+        ensures { TakesPiece self.old bytes.now result.0 result.1 self.new }
     {
         let Progress::Types {
             version,
@@ -158,20 +135,12 @@ impl ViewerHello {
         requires some { 0 < length bytes.now }
         requires open { (version : Version) × (part : Items ℕ)
             × (self.old.progress ≡ Progress.Result version part) }
-        ensures used { (0 < result.0) × (result.0 ≤ length bytes.now) }
-        ensures open { IfOk result.1 (λ event. is_open self.new ≡ goes_on_behind event) }
-        ensures going { IfOk result.1 (λ event. fault_of self.new ≡ None) }
-        ensures fails { IfErr result.1 (λ fault. fault_of self.new ≡ Some fault) }
-        ensures steps { StepsAs self.old (take result.0 bytes.now) result.1 self.new }
-        ensures memory { RunsOutAs self.old (take result.0 bytes.now) result.1 }
-        ensures setup { setup_of self.new ≡ setup_of self.old }
-        ensures reason { IfErr result.1 (λ fault.
-            KeepsReason fault self.old (take result.0 bytes.now) self.new) }
+        ensures { TakesPiece self.old bytes.now result.0 result.1 self.new }
     {
         let Progress::Result(version, part) = &mut self.progress else {
             unreachable!()
         };
-        let (used, whole) = gather::<3, 4>(part, bytes);
+        let (used, whole) = gather::<WORD_PART, WORD_SIZE>(part, bytes);
         let Some(whole) = whole else {
             return (used, Ok(None));
         };

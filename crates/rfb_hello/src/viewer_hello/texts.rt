@@ -5,17 +5,19 @@ ghost use Rattle.arrayvec.specs.ArrayVec.{ArrayVec as Items};
 ghost use Rattle.rfb_hello.specs.KeptText.{KeptText, kept_of};
 ghost use Rattle.rfb_hello.specs.ServerReading.{screen_fault};
 ghost use Rattle.rfb_hello.specs.ViewerEnd.{told_of_init};
-ghost use Rattle.rfb_hello.specs.ViewerStanding.{KeepsReason, RunsOutAs, StepsAs, fault_of, goes_on_behind, is_open, setup_of};
-ghost use Rattle.rfb_hello.specs.ViewerProgress.{progress_behind_init, is_open as goes_on};
+ghost use Rattle.rfb_hello.specs.ViewerStanding.{goes_on_behind};
+ghost use Rattle.rfb_hello.specs.inside.ViewerPiece.{TakesPiece};
+ghost use Rattle.rfb_hello.specs.ViewerProgress.{is_open as goes_on};
+ghost use Rattle.rfb_hello.specs.inside.ViewerPiece.{progress_behind_init};
 ghost use Rattle.rfb_hello.specs.declared.viewer_hello.progress.Progress.{Progress};
 ghost use Rattle.rfb_hello.specs.declared.viewer_hello.progress.Cause.{Cause};
 
 use crate::fault::HelloFault;
-use crate::step::ViewerStep;
+use crate::pieces::{INIT_PART, WORD_PART, WORD_SIZE, gather, read_text};
+use crate::step::{INIT_SIZE, ViewerStep};
 use crate::text::Text;
 use crate::version::Version;
 use crate::viewer_hello::ViewerHello;
-use crate::viewer_hello::pieces::{gather, read_text};
 use crate::viewer_hello::progress::{Cause, Progress};
 use byteorder::{BigEndian, ByteOrder};
 use std::alloc::AllocError;
@@ -30,20 +32,12 @@ impl ViewerHello {
         requires some { 0 < length bytes.now }
         requires open { (cause : Cause) × (part : Items ℕ)
             × (self.old.progress ≡ Progress.ReasonLength cause part) }
-        ensures used { (0 < result.0) × (result.0 ≤ length bytes.now) }
-        ensures open { IfOk result.1 (λ event. is_open self.new ≡ goes_on_behind event) }
-        ensures going { IfOk result.1 (λ event. fault_of self.new ≡ None) }
-        ensures fails { IfErr result.1 (λ fault. fault_of self.new ≡ Some fault) }
-        ensures steps { StepsAs self.old (take result.0 bytes.now) result.1 self.new }
-        ensures memory { RunsOutAs self.old (take result.0 bytes.now) result.1 }
-        ensures setup { setup_of self.new ≡ setup_of self.old }
-        ensures reason { IfErr result.1 (λ fault.
-            KeepsReason fault self.old (take result.0 bytes.now) self.new) }
+        ensures { TakesPiece self.old bytes.now result.0 result.1 self.new }
     {
         let Progress::ReasonLength { cause, part } = &mut self.progress else {
             unreachable!()
         };
-        let (used, whole) = gather::<3, 4>(part, bytes);
+        let (used, whole) = gather::<WORD_PART, WORD_SIZE>(part, bytes);
         let Some(whole) = whole else {
             return (used, Ok(None));
         };
@@ -72,15 +66,7 @@ impl ViewerHello {
         requires some { 0 < length bytes.now }
         requires open { (cause : Cause) × (n more : ℕ) × (kept : KeptText)
             × (self.old.progress ≡ Progress.Reason cause n more kept) }
-        ensures used { (0 < result.0) × (result.0 ≤ length bytes.now) }
-        ensures open { IfOk result.1 (λ event. is_open self.new ≡ goes_on_behind event) }
-        ensures going { IfOk result.1 (λ event. fault_of self.new ≡ None) }
-        ensures fails { IfErr result.1 (λ fault. fault_of self.new ≡ Some fault) }
-        ensures steps { StepsAs self.old (take result.0 bytes.now) result.1 self.new }
-        ensures memory { RunsOutAs self.old (take result.0 bytes.now) result.1 }
-        ensures setup { setup_of self.new ≡ setup_of self.old }
-        ensures reason { IfErr result.1 (λ fault.
-            KeepsReason fault self.old (take result.0 bytes.now) self.new) }
+        ensures { TakesPiece self.old bytes.now result.0 result.1 self.new }
     {
         let Progress::Reason { more, kept, .. } = &mut self.progress else {
             unreachable!()
@@ -111,20 +97,12 @@ impl ViewerHello {
         requires some { 0 < length bytes.now }
         requires open { (version : Version) × (part : Items ℕ)
             × (self.old.progress ≡ Progress.Init version part) }
-        ensures used { (0 < result.0) × (result.0 ≤ length bytes.now) }
-        ensures open { IfOk result.1 (λ event. is_open self.new ≡ goes_on_behind event) }
-        ensures going { IfOk result.1 (λ event. fault_of self.new ≡ None) }
-        ensures fails { IfErr result.1 (λ fault. fault_of self.new ≡ Some fault) }
-        ensures steps { StepsAs self.old (take result.0 bytes.now) result.1 self.new }
-        ensures memory { RunsOutAs self.old (take result.0 bytes.now) result.1 }
-        ensures setup { setup_of self.new ≡ setup_of self.old }
-        ensures reason { IfErr result.1 (λ fault.
-            KeepsReason fault self.old (take result.0 bytes.now) self.new) }
+        ensures { TakesPiece self.old bytes.now result.0 result.1 self.new }
     {
         let Progress::Init(version, part) = &mut self.progress else {
             unreachable!()
         };
-        let (used, whole) = gather::<23, 24>(part, bytes);
+        let (used, whole) = gather::<INIT_PART, INIT_SIZE>(part, bytes);
         let Some(whole) = whole else {
             return (used, Ok(None));
         };
@@ -190,15 +168,7 @@ impl ViewerHello {
         requires some { 0 < length bytes.now }
         requires open { (version : Version) × (width height n more : ℕ) × (kept : KeptText)
             × (self.old.progress ≡ Progress.Name version width height n more kept) }
-        ensures used { (0 < result.0) × (result.0 ≤ length bytes.now) }
-        ensures open { IfOk result.1 (λ event. is_open self.new ≡ goes_on_behind event) }
-        ensures going { IfOk result.1 (λ event. fault_of self.new ≡ None) }
-        ensures fails { IfErr result.1 (λ fault. fault_of self.new ≡ Some fault) }
-        ensures steps { StepsAs self.old (take result.0 bytes.now) result.1 self.new }
-        ensures memory { RunsOutAs self.old (take result.0 bytes.now) result.1 }
-        ensures setup { setup_of self.new ≡ setup_of self.old }
-        ensures reason { IfErr result.1 (λ fault.
-            KeepsReason fault self.old (take result.0 bytes.now) self.new) }
+        ensures { TakesPiece self.old bytes.now result.0 result.1 self.new }
     {
         let Progress::Name { more, kept, .. } = &mut self.progress else {
             unreachable!()
@@ -238,7 +208,7 @@ impl ViewerHello {
 
 // The fault of a screen, if it has one.
 fn screen_fault(max_places: u32, init: &[u8]) -> Option<HelloFault>
-    requires { length init.now ≡ 24 }
+    requires { length init.now ≡ INIT_SIZE }
     ensures { result ≡ screen_fault max_places init.now }
 {
     let width = BigEndian::read_u16(init);

@@ -46,13 +46,13 @@ pub returns-then-is_some : goal.returns-then-is_some
 returns-then-is_some c =
     let began = c.loop-used.invariant.began in
     let rest = take_rest c.args.bytes.now c.loop-used.used in
-    let within : c.take-n.result.0 ≤ length (drop c.loop-used.used c.args.bytes.now) = rw rest at c.take-n.ensures.used.1 in
+    let within : c.take-n.result.0 ≤ length (drop c.loop-used.used c.args.bytes.now) = rw rest at c.take-n.ensures.within in
     let was : c.take-n.result.1 ≡ Ok c.in_ok-event.event = c.in_ok-event.was in
     record {
       used = omega (arith, length-drop c.loop-used.used c.args.bytes.now, within, c.loop-used.invariant.within);
       all = λ none. absurd (some_told c.in_ok-event.event (sym c.is_some.ensures ∙ c.if-is_some.true) none);
-      some = λ is any. omega (arith, c.take-n.ensures.used.0);
-      ready = λ is. rw was at c.take-n.ensures.open;
+      some = λ is any. omega (arith, c.take-n.ensures.some);
+      ready = λ is. rw was at c.take-n.ensures.goes;
       setup = c.take-n.ensures.setup ∙ c.loop-used.invariant.setup;
       fed = λ setup.
           let steps = c.take-n.ensures.steps (λ e. cc) setup in
@@ -67,10 +67,10 @@ returns-then-is_some c =
 pub loop-used-preserved : goal.loop-used-preserved
 loop-used-preserved c =
     let rest = take_rest c.args.bytes.now c.loop-used.used in
-    let within : c.take-n.result.0 ≤ length (drop c.loop-used.used c.args.bytes.now) = rw rest at c.take-n.ensures.used.1 in
+    let within : c.take-n.result.0 ≤ length (drop c.loop-used.used c.args.bytes.now) = rw rest at c.take-n.ensures.within in
     let was : c.take-n.result.1 ≡ Ok c.in_ok-event.event = c.in_ok-event.was in
     let none : c.in_ok-event.event ≡ None = none_told c.in_ok-event.event (sym c.is_some.ensures ∙ c.if-is_some.false) in
-    let goes = rw was at c.take-n.ensures.open in
+    let goes = rw was at c.take-n.ensures.goes in
     record {
       within = omega (arith, length-drop c.loop-used.used c.args.bytes.now, within, c.loop-used.invariant.within);
       began = c.loop-used.invariant.began;

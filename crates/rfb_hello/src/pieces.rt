@@ -1,14 +1,24 @@
-//! Pieces of a handshake that come in slices.
+//! Pieces of a handshake that come in slices, and the bytes of short answers.
 
 ghost use Rattle.std.specs.Prelude.{◌≡◌, ◌≤◌, ◌<◌, ◌+◌, ◌++◌, length, take, true, false, IfSome, None};
 ghost use Rattle.arrayvec.specs.ArrayVec.{array_vec_len};
+ghost use Rattle.rfb_hello.specs.ServerEnd.{as_reply};
 ghost use Rattle.rfb_hello.specs.ServerHandshake.{has_none};
 
+use crate::step::INIT_SIZE;
 use crate::text::Text;
 use arrayvec::ArrayVec;
 
 /// The security type None, as 3.3 sends it and as a list has it, sections 7.1.2 and 7.2.1.
 pub const SECURITY_NONE: u8 = 1;
+
+/// How many bytes a word has: a SecurityResult, a length, and the security type of 3.3.
+pub const WORD_SIZE: usize = 4;
+
+/// How many bytes of a word, and of ServerInit up to the name, are kept at most until it is whole.
+pub const WORD_PART: usize = WORD_SIZE - 1;
+
+pub const INIT_PART: usize = INIT_SIZE - 1;
 
 /// Takes bytes of a piece of `SIZE` bytes, of which a part has come: how many these were, and the
 /// piece, if it is whole now.
@@ -68,15 +78,15 @@ pub fn has_none(types: &[u8]) -> bool
 /// A short answer.
 pub fn reply_of<const CAP: usize>(bytes: &[u8]) -> ArrayVec<u8, CAP>
     requires { length bytes.now ≤ CAP }
-    ensures { result.items ≡ bytes.now }
+    ensures { result ≡ as_reply bytes.now }
 {
     let mut reply = ArrayVec::new();
     append(&mut reply, bytes);
     reply
 }
 
-// Appends bytes for which there is room.
-fn append<const CAP: usize>(kept: &mut ArrayVec<u8, CAP>, bytes: &[u8])
+/// Appends bytes for which there is room.
+pub fn append<const CAP: usize>(kept: &mut ArrayVec<u8, CAP>, bytes: &[u8])
     requires { array_vec_len kept.old + length bytes.now ≤ CAP }
     ensures { kept.new.items ≡ kept.old.items ++ bytes.now }
 {
