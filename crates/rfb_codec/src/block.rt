@@ -140,7 +140,8 @@ impl Block {
     }
 }
 
-// Writes the pixels of the rectangle, row by row, over the first of these.
+// Writes the pixels of the rectangle, row by row, over the first of these. The format that most
+// screens are sent in is told apart, so that its loop is compiled for its shifts.
 fn pack_rows(pixels: &mut [u32; PLACES], format: &Format, picture: &Picture<Colour>, rect: Rect)
     requires held { Holds picture.now rect }
     requires columns { rect.w ≤ SIDE }
@@ -148,6 +149,23 @@ fn pack_rows(pixels: &mut [u32; PLACES], format: &Format, picture: &Picture<Colo
     ensures packed { PacksRows format.now picture.now rect rect.h
         (take (rect.h * rect.w) pixels.new) }
     ensures fits { ArePixels format.now (take (rect.h * rect.w) pixels.new) }
+{
+    if *format == Format::rgb888() {
+        pack_each_row(pixels, Format::rgb888(), picture, rect);
+    } else {
+        pack_each_row(pixels, *format, picture, rect);
+    }
+}
+
+// The same, by one loop for every format.
+#[inline(always)]
+fn pack_each_row(pixels: &mut [u32; PLACES], format: Format, picture: &Picture<Colour>, rect: Rect)
+    requires held { Holds picture.now rect }
+    requires columns { rect.w ≤ SIDE }
+    requires rows { rect.h ≤ SIDE }
+    ensures packed { PacksRows format picture.now rect rect.h
+        (take (rect.h * rect.w) pixels.new) }
+    ensures fits { ArePixels format (take (rect.h * rect.w) pixels.new) }
 {
     // It tells that the rectangle's lower edge fits 16 bits.
     let _rows = picture.height();

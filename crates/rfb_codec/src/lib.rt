@@ -17,6 +17,7 @@ mod subrect;
 #[cfg(test)]
 mod tests;
 
+pub use append::append_within;
 pub use block::{Block, PLACES, SIDE};
 pub use codec::Codec;
 pub use copy_rect::spell_source;

@@ -1,6 +1,6 @@
 //! A rectangle of an update, appended to the bytes that are to be sent.
 
-ghost use Rattle.std.specs.Prelude.{◌≡◌, ◌+◌, ◌≤◌, ◌++◌, length, vec_len};
+ghost use Rattle.std.specs.Prelude.{◌≡◌, ◌+◌, ◌≤◌, vec_len};
 ghost use Rattle.std.specs.Bool.{OnTrue, OnFalse};
 ghost use Rattle.std.specs.Vec.{vec_capacity};
 ghost use Rattle.rfb_wire.specs.declared.encoding.Encoding.TheVariants.{Raw as RawEncoding};
@@ -9,7 +9,7 @@ ghost use Rattle.rfb_codec.specs.Codec.{raw_of};
 ghost use Rattle.rfb_server.specs.Sending.{AppendsIn, SendsRect};
 ghost use Rattle.rfb_server.specs.Copying.{AppendsCopy};
 
-use rfb_codec::{Block, Codec, Hextile, Raw, Rre, spell_source};
+use rfb_codec::{Block, Codec, Hextile, Raw, Rre, append_within, spell_source};
 use rfb_picture::Rect;
 use rfb_pixel::Format;
 use rfb_wire::{Encoding, RectHead};
@@ -105,16 +105,4 @@ pub(crate) fn append_copy(rect: Rect, sx: u16, sy: u16, out: &mut Vec<u8>)
     };
     append_within(out, head.spell().as_slice());
     append_within(out, spell_source(sx, sy).as_slice());
-}
-
-/// Appends bytes for which there is room, so the vector keeps its memory.
-pub(crate) fn append_within(out: &mut Vec<u8>, bytes: &[u8])
-    requires { vec_len out.old + length bytes.now ≤ vec_capacity out.old }
-    ensures items { out.new.items ≡ out.old.items ++ bytes.now }
-    ensures len { vec_len out.new ≡ vec_len out.old + length bytes.now }
-    ensures room { vec_capacity out.new ≡ vec_capacity out.old }
-{
-    for byte in bytes {
-        out.push_reserved(*byte);
-    }
 }

@@ -14,9 +14,10 @@ ghost use Rattle.rfb_server.specs.Copying.{usable_hints};
 ghost use Rattle.rfb_server.specs.Composed.{is_ready, HasComposed, StaysIdle, IsSettled, IsCounted};
 
 use crate::cells::cell_at;
-use crate::sending::{COPY_SIZE, RECT_HEAD_SIZE, append_rect, append_within};
+use crate::sending::{COPY_SIZE, RECT_HEAD_SIZE, append_rect};
 use crate::session::Session;
 use crate::session::progress::Progress;
+use rfb_codec::append_within;
 use rfb_picture::{Picture, Rect};
 use rfb_pixel::Colour;
 use rfb_wire::ServerHead;

@@ -4,7 +4,7 @@ use Rattle.rfb_codec.proofs.append.append_within.Given as goal
 
 abbrev pub invariant-loop-byte : goal.invariant-loop-byte
 invariant-loop-byte l = record {
-  items : l.out.items ≡ l.fn.out.items ++ take l.byte-index l.bytes;
-  len : vec_len l.out ≡ vec_len l.fn.out + l.byte-index;
-  room : vec_capacity l.out ≡ vec_capacity l.fn.out;
+  items : l.taken.items ≡ l.fn.out.items ++ take l.byte-index l.bytes;
+  len : vec_len l.taken ≡ vec_len l.fn.out + l.byte-index;
+  room : vec_capacity l.taken ≡ vec_capacity l.fn.out;
 }
