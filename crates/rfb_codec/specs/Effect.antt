@@ -23,7 +23,8 @@ painted_by f rect (Bad fault) picture = picture
 unfoldable pub effect : UpdatePoint → UpdateItem → Grid Colour → Grid Colour
 effect p (Message message) picture = picture
 effect p (Rectangle head body) picture =
-    painted_by p.form head.rect (rect_data p.form p.width p.height head.rect head.encoding body) picture
+    painted_by p.form head.rect
+    (rect_data p.form p.width p.height head.rect head.encoding body) picture
 
 -- what items make of it, one after another. Where in the stream they stand does not matter, but
 -- for the screen's size and the format, which no item changes

@@ -1,5 +1,5 @@
-//! Hextile, RFC 6143 section 7.7.4: tiles of 16 by 16, each with colours of its own or with those of
-//! tiles before it.
+//! Hextile, RFC 6143 section 7.7.4: tiles of 16 by 16, each with colours of its own or with those
+//! of tiles before it.
 
 mod encode;
 pub mod layout;

@@ -33,12 +33,13 @@ pub struct Painted {
     pub done: bool,
 }
 
-/// A rectangle of an update whose data come in slices, RFC 6143 section 7.7: where it lies, the format
-/// of its pixels, and how far its data have come. The picture is the caller's, and is lent at each call.
+/// A rectangle of an update whose data come in slices, RFC 6143 section 7.7: where it lies, the
+/// format of its pixels, and how far its data have come. The picture is the caller's, and is lent
+/// at each call.
 ///
 /// Data are pieces: the source of a CopyRect, a pixel of Raw or of a raw tile, RRE's count with its
-/// background, a subrectangle of RRE, and a tile that is not raw. A painter shows each at its last byte,
-/// keeps the bytes of the piece under way, at most 1,535, and takes no memory.
+/// background, a subrectangle of RRE, and a tile that is not raw. A painter shows each at its last
+/// byte, keeps the bytes of the piece under way, at most 1,535, and takes no memory.
 #[derive(Drop)]
 pub struct Painter {
     rect: Rect,
@@ -55,16 +56,18 @@ impl Model for Painter {
 
     ghost Value = { UnderWay };
 
-    ghost view = { λ p. record { rect = p.rect; form = p.format; stage = p.stage; pending = p.pending.items } };
+    ghost view = { λ p.
+        record { rect = p.rect; form = p.format; stage = p.stage; pending = p.pending.items } };
 
     ghost invariant = { λ p. is_sound p.format p.rect p.stage (array_vec_len p.pending) ≡ true };
 }
 
 impl Painter {
-    /// The painter of a rectangle with this head, in the format that is in force there. It stands for
-    /// the picture as it is, and for no data.
+    /// The painter of a rectangle with this head, in the format that is in force there. It stands
+    /// for the picture as it is, and for no data.
     pub fn new(rect: Rect, encoding: Encoding, format: Format) -> Painter
-        ensures value { painting result ≡ record { rect = rect; encoding = encoding; form = format } }
+        ensures value { painting result ≡
+            record { rect = rect; encoding = encoding; form = format } }
         ensures fresh { result.pending ≡ [] }
         ensures stands { (picture : Grid Colour) → StandsFor result picture picture [] }
     {
@@ -78,13 +81,13 @@ impl Painter {
         }
     }
 
-    /// Takes bytes of the rectangle's data up to their last one, and paints each piece of them at its
-    /// last byte. A rectangle without data is painted at once, by the empty slice too.
+    /// Takes bytes of the rectangle's data up to their last one, and paints each piece of them at
+    /// its last byte. A rectangle without data is painted at once, by the empty slice too.
     ///
-    /// `SubrectOutside` at the last byte of a subrectangle that leaves the rectangle, or of a tile that
-    /// one leaves; `NoBackground`, `BothColourBits` and `NoForeground` at a tile's mask, in that order;
-    /// `SourceOutside` at the last byte of a source that leaves the picture. The picture then shows the
-    /// pieces before that one, and the painter is not fed again.
+    /// `SubrectOutside` at the last byte of a subrectangle that leaves the rectangle, or of a tile
+    /// that one leaves; `NoBackground`, `BothColourBits` and `NoForeground` at a tile's mask, in
+    /// that order; `SourceOutside` at the last byte of a source that leaves the picture. The
+    /// picture then shows the pieces before that one, and the painter is not fed again.
     pub fn feed(
         &mut self,
         bytes: &[u8],

@@ -1,5 +1,5 @@
--- What the parts of a painter promise: a step of it, from one stage to the next. No public clause reads
--- these words.
+-- What the parts of a painter promise: a step of it, from one stage to the next. No public clause
+-- reads these words.
 use Rattle.std.specs.Prelude.{◌≡◌, ℕ, ◌+◌, ◌*◌, ◌^◌, ◌<◌, ◌==◌, if◌then◌else◌, List, [], ◌∷◌, ◌++◌, length, Option, None, Result}
 use Rattle.rfb_pixel.specs.declared.colour.Colour.{Colour}
 use Rattle.rfb_pixel.specs.Format.{PixelFormat, size_of}

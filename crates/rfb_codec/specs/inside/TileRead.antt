@@ -18,13 +18,17 @@ use Rattle.rfb_codec.specs.Hextile.{tile_count, next_tile}
 -- so many values, one behind another, of so many bytes each
 abbrev pub values_in : {A : Type 0} → (List ℕ → A) → ℕ → ℕ → List ℕ → List A
 values_in value unit zero bytes = []
-values_in value unit (suc n) bytes = value (take unit bytes) ∷ values_in value unit n (drop unit bytes)
+values_in value unit (suc n) bytes =
+    value (take unit bytes) ∷ values_in value unit n (drop unit bytes)
 
 -- the tile that was found
 abbrev pub tile_in : PixelFormat → ℕ → ℕ → TileLayout → ℕ → ℕ → List ℕ → Tile
-tile_in f width height Raw list count bytes = RawTile (take (raw_length f width height) (drop list bytes))
-tile_in f width height (Plain background foreground) list count bytes = PlainTile background foreground (values_in place_of 2 count (drop list bytes))
-tile_in f width height (Colored background) list count bytes = ColoredTile background (values_in (colored_of f) (size_of f + 2) count (drop list bytes))
+tile_in f width height Raw list count bytes =
+    RawTile (take (raw_length f width height) (drop list bytes))
+tile_in f width height (Plain background foreground) list count bytes =
+    PlainTile background foreground (values_in place_of 2 count (drop list bytes))
+tile_in f width height (Colored background) list count bytes =
+    ColoredTile background (values_in (colored_of f) (size_of f + 2) count (drop list bytes))
 
 -- how many bytes its pixels or its subrectangles have
 abbrev pub list_length : PixelFormat → ℕ → ℕ → TileLayout → ℕ → ℕ
@@ -33,19 +37,25 @@ list_length f width height (Plain background foreground) count = count * 2
 list_length f width height (Colored background) count = count * (size_of f + 2)
 
 -- where it lies in the bytes
-pub record LiesIn (f : PixelFormat) (width height : ℕ) (read : TileRead) (bytes : List ℕ) : Type 0 where
+pub record LiesIn (f : PixelFormat) (width height : ℕ) (read : TileRead) (bytes : List ℕ)
+    : Type 0 where
   pub end : read.used ≡ read.list + list_length f width height read.layout read.count
   pub within : read.used ≤ length bytes
   pub some : 1 ≤ read.list
 
 -- the tile that was read, of these bytes
 abbrev pub tile_of_read : PixelFormat → ℕ → ℕ → TileRead → List ℕ → Tile
-tile_of_read f width height read bytes = tile_in f width height read.layout read.list read.count bytes
+tile_of_read f width height read bytes =
+    tile_in f width height read.layout read.list read.count bytes
 
 -- what is told of a tile is what the reading gives
-abbrev pub TellsTile : PixelFormat → ℕ → ℕ → List ℕ → Result (Option TileRead) PaintFault → Next Tile PaintFault → Type 0
+abbrev pub TellsTile : PixelFormat → ℕ → ℕ → List ℕ → Result (Option TileRead) PaintFault →
+    Next Tile PaintFault → Type 0
 TellsTile f width height bytes (Ok None) next = next ≡ More
-TellsTile f width height bytes (Ok (Some read)) next = (next ≡ Got (tile_of_read f width height read bytes) (drop read.used bytes)) × LiesIn f width height read bytes × AreInside width height (places_of (tile_of_read f width height read bytes))
+TellsTile f width height bytes (Ok (Some read)) next =
+    (next ≡ Got (tile_of_read f width height read bytes) (drop read.used bytes)) ×
+    LiesIn f width height read bytes ×
+    AreInside width height (places_of (tile_of_read f width height read bytes))
 TellsTile f width height bytes (Err fault) next = next ≡ Bad fault
 
 -- bytes that are not all of a tile are fewer than the longest has
@@ -73,7 +83,8 @@ sub_size f true = size_of f + 2
 -- the subrectangle behind so many others, where one without a pixel of its own has this foreground
 abbrev pub sub_behind : PixelFormat → ℕ → Bool → ℕ → List ℕ → Subrect
 sub_behind f foreground false n list = in_pixel foreground (place_of (take 2 (drop (n * 2) list)))
-sub_behind f foreground true n list = colored_of f (take (size_of f + 2) (drop (n * (size_of f + 2)) list))
+sub_behind f foreground true n list =
+    colored_of f (take (size_of f + 2) (drop (n * (size_of f + 2)) list))
 
 -- the subrectangles of a tile, where those without a pixel of their own have this foreground
 abbrev pub subs_in : PixelFormat → ℕ → Bool → ℕ → List ℕ → List Subrect
@@ -81,19 +92,24 @@ subs_in f foreground false count list = map (in_pixel foreground) (values_in pla
 subs_in f foreground true count list = values_in (colored_of f) (size_of f + 2) count list
 
 -- so many are there, and none of them leaves the tile
-pub record AreSubsInside (f : PixelFormat) (width height foreground : ℕ) (colored : Bool) (count : ℕ) (list : List ℕ) : Type 0 where
+pub record AreSubsInside (f : PixelFormat) (width height foreground : ℕ) (colored : Bool)
+    (count : ℕ) (list : List ℕ) : Type 0 where
   pub enough : count * sub_size f colored ≤ length list
-  pub inside : (n : ℕ) → n < count → IsOnScreen width height (sub_behind f foreground colored n list).rect
+  pub inside : (n : ℕ) → n < count →
+      IsOnScreen width height (sub_behind f foreground colored n list).rect
 
--- how many subrectangles there are, and where they begin: behind the byte at that place, if there is one
+-- how many subrectangles there are, and where they begin: behind the byte at that place, if there
+-- is one
 abbrev pub IsCount : Bool → ℕ → List ℕ → ℕ → ℕ → Type 0
 IsCount false at bytes count list = (count ≡ 0) × (list ≡ at)
-IsCount true at bytes count list = (count ≡ slice_index bytes at) × (list ≡ at + 1) × (at < length bytes)
+IsCount true at bytes count list =
+    (count ≡ slice_index bytes at) × (list ≡ at + 1) × (at < length bytes)
 
 -- so many places, each behind so many bytes of a pixel
 abbrev pub places_from : ℕ → ℕ → List ℕ → List Rect
 places_from skip zero list = []
-places_from skip (suc n) list = place_of (take 2 (drop skip list)) ∷ places_from skip n (drop (skip + 2) list)
+places_from skip (suc n) list =
+    place_of (take 2 (drop skip list)) ∷ places_from skip n (drop (skip + 2) list)
 
 -- ---- all tiles
 

@@ -1,4 +1,5 @@
-//! The data of each encoding, painted into a picture piece by piece from the slices that they come in.
+//! The data of each encoding, painted into a picture piece by piece from the slices that they come
+//! in.
 
 ghost use Rattle.std.specs.Prelude.{◌≡◌, ◌<◌, ◌≤◌, length, take, true, false, IfOk, IfErr, OnErr};
 ghost use Rattle.arrayvec.specs.ArrayVec.{array_vec_len};
@@ -28,8 +29,8 @@ pub fn is_ended(rect: Rect, stage: Stage) -> bool
     }
 }
 
-/// Takes bytes of the data up to their last one, piece by piece. On a fault nothing is pending. It is
-/// not inlined, since a byte that only joins those pending needs none of it.
+/// Takes bytes of the data up to their last one, piece by piece. On a fault nothing is pending. It
+/// is not inlined, since a byte that only joins those pending needs none of it.
 #[inline(never)]
 pub fn feed(
     format: Format,

@@ -16,9 +16,9 @@ use crate::painter::stage::{Place, Stage, Step};
 use rfb_picture::{Picture, Rect};
 use rfb_pixel::{Colour, Format};
 
-/// Paints pixels of a rectangle from a place on: the whole rows that the bytes begin with, or the whole
-/// pixels of its row, or the pending one at its last byte. Returns how many bytes it used, and the next
-/// place.
+/// Paints pixels of a rectangle from a place on: the whole rows that the bytes begin with, or the
+/// whole pixels of its row, or the pending one at its last byte. Returns how many bytes it used,
+/// and the next place.
 pub fn take_pixels(
     format: Format,
     rect: Rect,

@@ -23,7 +23,8 @@ use byteorder::{BigEndian, ByteOrder};
 use rfb_picture::{Picture, Rect};
 use rfb_pixel::{Colour, Format};
 
-/// Takes bytes of the number of subrectangles and of the background, which is painted at its last byte.
+/// Takes bytes of the number of subrectangles and of the background, which is painted at its last
+/// byte.
 #[inline(never)]
 pub fn take_head(
     format: Format,
@@ -64,8 +65,8 @@ pub fn take_head(
     }
 }
 
-/// Takes the whole subrectangles that the bytes begin with, or bytes of one, which is painted at its last
-/// byte. `SubrectOutside` where one leaves the rectangle.
+/// Takes the whole subrectangles that the bytes begin with, or bytes of one, which is painted at
+/// its last byte. `SubrectOutside` where one leaves the rectangle.
 #[inline(never)]
 pub fn take_subrect(
     format: Format,
@@ -113,8 +114,8 @@ pub fn take_subrect(
     })
 }
 
-// Takes the whole subrectangles that the bytes begin with, at most so many. `SubrectOutside` at the first
-// that leaves the rectangle.
+// Takes the whole subrectangles that the bytes begin with, at most so many. `SubrectOutside` at the
+// first that leaves the rectangle.
 fn take_whole(
     format: Format,
     rect: Rect,
@@ -197,7 +198,8 @@ fn draw_subrect(
     requires size { length bytes.now ≡ size_of format + 8 }
     ensures inside { OnOk result (IsOnScreen rect.w rect.h (subrect_of format bytes.now).rect) }
     ensures value { OnOk result (let part = subrect_of format bytes.now in
-        picture.new ≡ filled (moved_into rect part.rect) (colour_of format part.pixel) picture.old) }
+        picture.new ≡
+        filled (moved_into rect part.rect) (colour_of format part.pixel) picture.old) }
     ensures fault { IfErr result (λ fault. fault ≡ SubrectOutside) }
     ensures outside { OnErr result
         (IsOnScreen rect.w rect.h (subrect_of format bytes.now).rect → ⊥) }

@@ -1,5 +1,5 @@
-//! Tiles from the slices that they come in: one that is not raw at its last byte, and the mask of one that
-//! is.
+//! Tiles from the slices that they come in: one that is not raw at its last byte, and the mask of
+//! one that is.
 
 ghost use Rattle.std.specs.Prelude.{◌≡◌, ◌+◌, ◌<◌, ◌≤◌, [], ◌∷◌, length, take, slice_index, true, false, IfOk, IfErr, OnErr};
 ghost use Rattle.arrayvec.specs.ArrayVec.{array_vec_len};
@@ -21,8 +21,8 @@ use rfb_picture::{Picture, Rect};
 use rfb_pixel::{Colour, Format};
 
 /// Takes the tile that the bytes begin with, the mask of a raw one, or bytes of another, which is
-/// painted at its last byte. A mask is judged at its byte, and subrectangles that leave the tile at the
-/// tile's last byte.
+/// painted at its last byte. A mask is judged at its byte, and subrectangles that leave the tile at
+/// the tile's last byte.
 pub fn take_tile(
     format: Format,
     rect: Rect,
