@@ -12,6 +12,7 @@ use std::test::Fail;
 mod cuts;
 mod hextile;
 mod hostile;
+mod many;
 mod masks;
 mod pixels;
 

@@ -31,28 +31,68 @@ fn shown_at(end: usize, from: u16, places: u16, colour: Colour) -> Piece {
     }
 }
 
-// Data of a row at bgr233, and what they are made of.
+// Pixels of one byte or of four.
+#[derive(Clone, Copy)]
+enum Pixels {
+    Bgr233,
+    Rgb888,
+}
+
+fn format_of(pixels: Pixels) -> Format {
+    match pixels {
+        Pixels::Bgr233 => Format::bgr233(),
+        Pixels::Rgb888 => Format::rgb888(),
+    }
+}
+
+// Data of a rectangle of all of a picture, and what they are made of. Places are counted row by
+// row.
 #[derive(Clone, Copy)]
 struct Scene<'a> {
     encoding: Encoding,
+    pixels: Pixels,
     width: u16,
+    height: u16,
     data: &'a [u8],
     pieces: &'a [Piece],
 }
 
-// The row after so many bytes: each piece that is whole is laid over those before.
-fn row_after(alloc: Global, scene: Scene<'_>, bytes: usize) -> Result<Vec<Colour>, Fail> {
-    let mut row = Vec::new(alloc);
-    for x in 0..scene.width {
-        let mut shown = GREY;
-        for piece in scene.pieces.iter() {
-            if piece.end <= bytes && piece.from <= x && x - piece.from < piece.places {
-                shown = piece.colour;
+// Data of a row at bgr233.
+fn row_scene<'a>(encoding: Encoding, width: u16, data: &'a [u8], pieces: &'a [Piece]) -> Scene<'a> {
+    Scene {
+        encoding,
+        pixels: Pixels::Bgr233,
+        width,
+        height: 1,
+        data,
+        pieces,
+    }
+}
+
+// The colour of a place after so many bytes: each piece that is whole is laid over those before.
+fn colour_after(pieces: &[Piece], place: u32, bytes: usize) -> Colour {
+    let mut shown = GREY;
+    for piece in pieces.iter() {
+        let from = u32::from(piece.from);
+        if piece.end <= bytes && from <= place && place - from < u32::from(piece.places) {
+            shown = piece.colour;
+        }
+    }
+    shown
+}
+
+// Whether a picture shows what so many bytes of a scene give it.
+fn shows_after(picture: &Picture<Colour>, pieces: &[Piece], bytes: usize) -> bool {
+    let width = picture.width();
+    for y in 0..picture.height() {
+        for x in 0..width {
+            let place = u32::from(y) * u32::from(width) + u32::from(x);
+            if picture.at(x, y) != colour_after(pieces, place, bytes) {
+                return false;
             }
         }
-        row.push(shown)?;
     }
-    Ok(row)
+    true
 }
 
 // The bytes after the last piece that is whole.
@@ -66,55 +106,60 @@ fn pending_after(pieces: &[Piece], bytes: usize) -> usize {
     bytes.saturating_sub(last)
 }
 
-// Feeds slices of that size, behind a first one, to a painter of all of a row.
-fn in_slices(
-    rt: &impl Abort,
-    alloc: Global,
-    scene: Scene<'_>,
-    first: usize,
-    size: usize,
-) -> Result<(), Fail> {
-    let mut picture = Picture::new(alloc, scene.width, 1, GREY)?;
-    let row = Rect {
+// Whether a painter that is fed slices of that size, behind a first one, takes all of each, has
+// pending what it should and shows what it should after each, and is done after the last.
+fn in_slices(alloc: Global, scene: Scene<'_>, first: usize, size: usize) -> Result<bool, Fail> {
+    let mut picture = Picture::new(alloc, scene.width, scene.height, GREY)?;
+    let all = Rect {
         x: 0,
         y: 0,
         w: scene.width,
-        h: 1,
+        h: scene.height,
     };
-    let mut painter = Painter::new(row, scene.encoding, Format::bgr233());
-    let (data, width) = (scene.data, scene.width);
+    let mut painter = Painter::new(all, scene.encoding, format_of(scene.pixels));
+    let data = scene.data;
     let mut at = 0usize;
     let mut next = first;
     'slices: for _ in 0..100 {
         let end = data.len().min(at.saturating_add(next));
-        let answer = painter.feed(&data[at..end], &mut picture);
-        let ended = end == data.len();
-        let want = Painted {
-            used: end - at,
-            done: ended,
-        };
-        let shown = row_after(alloc, scene, end)?;
+        let done = end == data.len();
+        let used = end - at;
+        let told = painter.feed(&data[at..end], &mut picture) == Ok(Painted { used, done });
         let kept = painter.pending() == pending_after(scene.pieces, end);
-        let good = answer == Ok(want) && kept && picture.row(0, 0, width) == shown.as_slice();
-        assert!(rt; good, "after {end}");
-        if ended {
-            return Ok(());
+        let good = told && kept && shows_after(&picture, scene.pieces, end);
+        if done || !good {
+            return Ok(good);
         }
         at = end;
         next = size;
     }
-    assert!(rt; false);
-    Ok(())
+    Ok(false)
 }
 
-// Two slices cut at each place, and slices of one size.
-fn at_every_cut(rt: &impl Abort, alloc: Global, scene: Scene<'_>) -> Result<(), Fail> {
-    for cut in 0..scene.data.len() {
-        in_slices(rt, alloc, scene, cut, scene.data.len())?;
+// The same of two slices, cut at each place.
+fn in_two(alloc: Global, scene: Scene<'_>) -> Result<bool, Fail> {
+    let length = scene.data.len();
+    for cut in 0..length {
+        if !in_slices(alloc, scene, cut, length)? {
+            return Ok(false);
+        }
     }
+    Ok(true)
+}
+
+// The same of slices of one size.
+fn in_many(alloc: Global, scene: Scene<'_>) -> Result<bool, Fail> {
     for size in [1, 2, 3, 5, 7, 16] {
-        in_slices(rt, alloc, scene, size, size)?;
+        if !in_slices(alloc, scene, size, size)? {
+            return Ok(false);
+        }
     }
+    Ok(true)
+}
+
+fn at_every_cut(rt: &impl Abort, alloc: Global, scene: Scene<'_>) -> Result<(), Fail> {
+    let good = in_two(alloc, scene)? && in_many(alloc, scene)?;
+    assert!(rt; good);
     Ok(())
 }
 
@@ -126,24 +171,14 @@ fn raw_shows_each_pixel(rt: HostRuntime) -> Result<(), Fail> {
         shown_at(3, 2, 1, BLUE),
     ];
     let data = [0x07, 0x38, 0xC0];
-    let scene = Scene {
-        encoding: Encoding::Raw,
-        width: 3,
-        data: &data,
-        pieces: &pieces,
-    };
+    let scene = row_scene(Encoding::Raw, 3, &data, &pieces);
     at_every_cut(&rt, rt.alloc(), scene)
 }
 
 #[test]
 fn a_source_is_copied_at_its_last_byte(rt: HostRuntime) -> Result<(), Fail> {
     let pieces = [shown_at(4, 0, 3, GREY)];
-    let scene = Scene {
-        encoding: Encoding::CopyRect,
-        width: 3,
-        data: &COPY,
-        pieces: &pieces,
-    };
+    let scene = row_scene(Encoding::CopyRect, 3, &COPY, &pieces);
     at_every_cut(&rt, rt.alloc(), scene)
 }
 
@@ -154,32 +189,8 @@ fn rre_shows_its_background_and_then_each_subrectangle(rt: HostRuntime) -> Resul
         shown_at(14, 0, 2, RED),
         shown_at(23, 1, 2, GREEN),
     ];
-    let scene = Scene {
-        encoding: Encoding::Rre,
-        width: 3,
-        data: &LAST_WINS,
-        pieces: &pieces,
-    };
+    let scene = row_scene(Encoding::Rre, 3, &LAST_WINS, &pieces);
     at_every_cut(&rt, rt.alloc(), scene)
-}
-
-// The background comes with the head, and a subrectangle has nine bytes.
-#[test]
-fn a_background_is_shown_at_once_and_few_bytes_are_kept(rt: HostRuntime) -> Result<(), Fail> {
-    let mut picture = Picture::new(rt.alloc(), 17, 1, GREY)?;
-    let row = Rect {
-        x: 0,
-        y: 0,
-        w: 17,
-        h: 1,
-    };
-    let mut painter = Painter::new(row, Encoding::Rre, Format::bgr233());
-    let answer = painter.feed(&[0xFF, 0xFF, 0xFF, 0xFF, 0x10], &mut picture);
-    assert_eq!(rt; answer, more(5));
-    assert_eq!(rt; painter.pending(), 0);
-    assert!(rt; picture.width() == 17);
-    assert_eq!(rt; picture.row(0, 0, 17), [TEN; 17].as_slice());
-    Ok(())
 }
 
 #[test]
@@ -193,12 +204,7 @@ fn a_tile_is_shown_at_its_last_byte(rt: HostRuntime) -> Result<(), Fail> {
         shown_at(18, 32, 15, TEN),
         shown_at(18, 47, 1, TWENTY),
     ];
-    let scene = Scene {
-        encoding: Encoding::Hextile,
-        width: 48,
-        data: &THREE,
-        pieces: &pieces,
-    };
+    let scene = row_scene(Encoding::Hextile, 48, &THREE, &pieces);
     at_every_cut(&rt, rt.alloc(), scene)
 }
 
@@ -214,11 +220,61 @@ fn a_pixel_of_a_raw_tile_is_shown_at_once(rt: HostRuntime) -> Result<(), Fail> {
         shown_at(9, 17, 1, RED),
     ];
     let data = [0x1A, 0x10, 0x01, 0x20, 0x00, 0x00, 0x01, 0x30, 0x07];
+    let scene = row_scene(Encoding::Hextile, 18, &data, &pieces);
+    at_every_cut(&rt, rt.alloc(), scene)
+}
+
+// Pixels of four bytes: of two rows of Raw, of RRE, and of tiles, the second of which is raw.
+#[test]
+fn raw_shows_each_pixel_of_four_bytes_of_two_rows(rt: HostRuntime) -> Result<(), Fail> {
+    let pieces = [
+        shown_at(4, 0, 1, RED),
+        shown_at(8, 1, 1, GREEN),
+        shown_at(12, 2, 1, BLUE),
+        shown_at(16, 3, 1, BLACK),
+    ];
+    let data = [0, 0, 0xFF, 0, 0, 0xFF, 0, 0, 0xFF, 0, 0, 0, 0, 0, 0, 0];
     let scene = Scene {
-        encoding: Encoding::Hextile,
-        width: 18,
+        encoding: Encoding::Raw,
+        pixels: Pixels::Rgb888,
+        width: 2,
+        height: 2,
         data: &data,
         pieces: &pieces,
+    };
+    at_every_cut(&rt, rt.alloc(), scene)
+}
+
+#[test]
+fn rre_shows_parts_of_four_bytes_a_pixel(rt: HostRuntime) -> Result<(), Fail> {
+    let pieces = [shown_at(8, 0, 3, BLUE), shown_at(20, 1, 2, RED)];
+    let data = [
+        0, 0, 0, 1, 0xFF, 0, 0, 0, // U32 number-of-subrectangles, background-pixel-value
+        0, 0, 0xFF, 0, 0, 1, 0, 0, 0, 2, 0, 1, // red at x-position 1, width 2, height 1
+    ];
+    let scene = Scene {
+        pixels: Pixels::Rgb888,
+        ..row_scene(Encoding::Rre, 3, &data, &pieces)
+    };
+    at_every_cut(&rt, rt.alloc(), scene)
+}
+
+#[test]
+fn tiles_of_four_bytes_a_pixel_are_shown(rt: HostRuntime) -> Result<(), Fail> {
+    let pieces = [
+        shown_at(12, 0, 16, BLUE),
+        shown_at(12, 3, 2, GREEN),
+        shown_at(13, 0, 0, GREY),
+        shown_at(17, 16, 1, RED),
+        shown_at(21, 17, 1, BLACK),
+    ];
+    let data = [
+        0x1A, 0xFF, 0, 0, 0, 1, 0, 0xFF, 0, 0, 0x30, 0x10, // one coloured subrectangle
+        0x01, 0, 0, 0xFF, 0, 0, 0, 0, 0, // raw
+    ];
+    let scene = Scene {
+        pixels: Pixels::Rgb888,
+        ..row_scene(Encoding::Hextile, 18, &data, &pieces)
     };
     at_every_cut(&rt, rt.alloc(), scene)
 }
