@@ -10,7 +10,8 @@ use Rattle.std.proofs.Math.Nat.{mod-eq_of_lt}
 use Rattle.std.proofs.Math.Pow.{pow_mono}
 use Rattle.std.proofs.lemmas.Nat.{pow_below, pow_pos}
 use Rattle.std.proofs.lemmas.Bool.{cases_lt, eqb-true, leb-true, le-leb}
-use Rattle.rfb_pixel.specs.Channel.{HasWidth, IsField, IsMax, IsMaxOf, EndsWithin, max_of, is_max, width_of, is_apart, is_within, are_within, are_apart}
+use Rattle.rfb_pixel.specs.Channel.{IsField, IsMax, IsMaxOf, EndsWithin, max_of, is_max, width_of, is_apart, is_within, are_within, are_apart}
+use Rattle.rfb_pixel.specs.inside.Fields.{HasWidth}
 use Rattle.rfb_pixel.specs.Format.{PixelFormat, IsApart, IsFormat}
 use Rattle.rfb_pixel.specs.Reading.{AreBytes, Spells, number_at, field_at, red_at, green_at, blue_at, first_fault, fault_of_fields, Passes, IsFirstFault, format_bytes}
 use Rattle.rfb_pixel.proofs.ChannelLemmas.{ones_of_max, same_width, apart-passes, max-passes}

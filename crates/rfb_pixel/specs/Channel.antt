@@ -13,10 +13,6 @@ max_of c = 2 ^ c.width - 1
 abbrev pub IsInField : Channel → ℕ → Type 0
 IsInField c i = (c.shift ≤ i) × (i < c.shift + c.width)
 
--- the field has 1 to 16 bits
-abbrev pub HasWidth : Channel → Type 0
-HasWidth c = (1 ≤ c.width) × (c.width ≤ 16)
-
 -- the field has 1 to 16 bits, and lies in a pixel of so many bits
 abbrev pub IsField : ℕ → Channel → Type 0
 IsField bits c = (1 ≤ c.width) × (c.width ≤ 16) × (c.shift + c.width ≤ bits)

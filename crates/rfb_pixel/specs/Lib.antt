@@ -2,3 +2,4 @@ pub mod Channel
 pub mod Format
 pub mod Reading
 pub mod Rows
+pub mod inside

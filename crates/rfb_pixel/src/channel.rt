@@ -86,7 +86,7 @@ impl Channel {
     }
 }
 
-/// Whether the three fields lie in a pixel of so many bits.
+/// Whether the three fields lie in a pixel of `bits_per_pixel` bits.
 pub fn are_within(bits_per_pixel: u8, red: Channel, green: Channel, blue: Channel) -> bool
     ensures value { result ≡ are_within bits_per_pixel red green blue }
 {

@@ -3,7 +3,7 @@
 use thiserror::Error;
 
 /// What is wrong with a PIXEL_FORMAT, RFC 6143 section 7.4. The checks run in this order, and the
-/// first that fails is told.
+/// first that fails is the fault.
 #[derive(Clone, Copy, Debug, PartialEq, Eq, Error)]
 pub enum FormatFault {
     /// bits-per-pixel is not 8, 16 or 32.

@@ -9,13 +9,16 @@ ghost use Rattle.rfb_pixel.specs.Format.{IsColour, FieldsHold, IsOutsideFields, 
 ghost use Rattle.rfb_pixel.specs.Format.{KeepsColours, FieldsKept};
 ghost use Rattle.rfb_pixel.specs.Reading.{AreBytes, Spells, Passes, IsFirstFault, first_fault};
 ghost use Rattle.rfb_pixel.specs.Reading.{fault_of_fields, format_bytes};
-ghost use Rattle.rfb_pixel.specs.Channel.{HasWidth};
+ghost use Rattle.rfb_pixel.specs.inside.Fields.{HasWidth};
 
 use crate::channel::{Channel, are_apart, are_within};
 use crate::colour::Colour;
 use crate::fault::FormatFault;
 use byteorder::{BigEndian, ByteOrder, LittleEndian};
 use std::marker::Model;
+
+/// How many bytes a PIXEL_FORMAT has.
+pub const FORMAT_SIZE: usize = 16;
 
 /// A true-colour pixel format: 8, 16 or 32 bits, of which three fields carry red, green and blue.
 /// Every value is one that RFC 6143 allows; the fields lie in the pixel and share no bit.
@@ -104,10 +107,10 @@ impl Format {
         }
     }
 
-    /// The format that a PIXEL_FORMAT spells. A flag is true where it is not zero, depth is kept
-    /// and compared with bits-per-pixel alone, and padding is ignored. The first check that fails,
-    /// in the order of `FormatFault`, is the error.
-    pub fn read(bytes: &[u8; 16]) -> Result<Format, FormatFault>
+    /// The format that a PIXEL_FORMAT is. A flag is true where it is not zero, depth is kept and
+    /// compared with bits-per-pixel alone, and padding is ignored. The error is the first check
+    /// that fails, in the order of `FormatFault`.
+    pub fn read(bytes: &[u8; FORMAT_SIZE]) -> Result<Format, FormatFault>
         ensures found { IfOk result (λ f. Spells f bytes.now) }
         ensures fault { result_err result ≡ first_fault bytes.now }
     {
@@ -127,8 +130,8 @@ impl Format {
         Format::of_fields(bits_per_pixel, depth, bytes[2] != 0, red, green, blue)
     }
 
-    /// A law about `first_fault`, with nothing to run: where it tells a fault, that one's check
-    /// fails and each check before it passes; where it tells none, every check passes.
+    /// A law about `first_fault`, with nothing to run. Where it is a fault, that one's check fails
+    /// and each check before it passes; where it is none, every check passes.
     pub fn first_fault_is_of_the_first_check()
         ensures told { (bytes : List ℕ) (fault : FormatFault) → AreBytes bytes →
             first_fault bytes ≡ Some fault → IsFirstFault fault bytes }
@@ -136,7 +139,7 @@ impl Format {
             first_fault bytes ≡ None → Passes fault bytes }
     {}
 
-    /// A law about `format_bytes`, with nothing to run: they spell the format that they are of.
+    /// A law about `format_bytes`, with nothing to run: the bytes of a format encode it.
     pub fn bytes_of_a_format_spell_it()
         ensures { (f : PixelFormat) → IsFormat f → Spells f (format_bytes f) }
     {}
@@ -175,10 +178,9 @@ impl Format {
         })
     }
 
-    /// The PIXEL_FORMAT that spells this format, with flags of 0 or 1 and padding of
-    /// zeros. `read` takes it, and gives this format back. It also tells that the format
-    /// is one that RFC 6143 allows.
-    pub fn write(&self) -> [u8; 16]
+    /// The PIXEL_FORMAT of this format, with flags of 0 or 1 and padding of zeros. `read` takes it,
+    /// and gives this format back. Its contract also says that RFC 6143 allows the format.
+    pub fn write(&self) -> [u8; FORMAT_SIZE]
         ensures format { IsFormat self.now }
         ensures value { result ≡ format_bytes self.now }
         ensures spells { Spells self.now result }

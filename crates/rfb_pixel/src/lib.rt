@@ -15,5 +15,5 @@ mod rows;
 
 pub use colour::Colour;
 pub use fault::FormatFault;
-pub use format::Format;
+pub use format::{FORMAT_SIZE, Format};
 pub use rows::{first_diff, last_diff};
