@@ -5,3 +5,11 @@ use Rattle.rfb_picture.specs.declared.rect.Rect.{Rect}
 -- place (x, y) lies in the rectangle
 abbrev pub contains : Rect → ℕ → ℕ → Bool
 contains r x y = nat_le r.x x && nat_lt x (r.x + r.w) && nat_le r.y y && nat_lt y (r.y + r.h)
+
+-- the rectangle of this corner and this size
+abbrev pub rect : ℕ → ℕ → ℕ → ℕ → Rect
+rect x y w h = record { x = x; y = y; w = w; h = h }
+
+-- the rectangle of the same size, so many columns further to the right and rows further down
+abbrev pub moved_by : ℕ → ℕ → Rect → Rect
+moved_by x y r = rect (r.x + x) (r.y + y) r.w r.h

@@ -17,7 +17,7 @@ mod tests;
 /// them that are to be sent whole: whatever the client has there. Only an asked place is whole. It
 /// keeps its size; either may be 0. It owns two sets, `PlaceSet`: two bits for each place, and a
 /// few more for each row and for each cell of 64 by 64 places.
-#[derive(Drop)]
+#[derive(Debug, Drop)]
 pub struct Area {
     asked: PlaceSet,
     whole: PlaceSet,

@@ -16,7 +16,7 @@ use std::marker::Model;
 
 /// `height` rows of `width` places, each with a value of `T`. Place (0, 0) is at the top left. It
 /// owns its values, keeps its size, and has exactly one value for each place; either size may be 0.
-#[derive(Drop)]
+#[derive(Debug, Drop)]
 pub struct Picture<T> {
     width: u16,
     height: u16,

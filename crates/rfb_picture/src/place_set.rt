@@ -23,7 +23,7 @@ mod tests;
 /// either may be 0. It owns one bit for each place, up to 63 bits more for each row, and two bits,
 /// with up to 126 more for each row of them, for each cell of 64 by 64 places. By these a cell that
 /// is in the set whole, or has no place in it, needs no look at its places.
-#[derive(Drop)]
+#[derive(Debug, Drop)]
 pub struct PlaceSet {
     layers: Layers,
 }

@@ -15,7 +15,7 @@ use std::marker::Model;
 
 /// Marks of the places of a rectangle of that size, numbered from the top left. It keeps its size;
 /// either may be 0. It owns one bit for each place, and up to 63 bits more for each row.
-#[derive(Drop)]
+#[derive(Debug, Drop)]
 pub(crate) struct Plane {
     width: u16,
     height: u16,

@@ -10,7 +10,7 @@ use crate::rect::Rect;
 
 /// The marks of a set's places, and two for each of its cells: 64 by 64 places, fewer at the set's
 /// right and lower edge.
-#[derive(Drop)]
+#[derive(Debug, Drop)]
 pub(super) struct Layers {
     // The places that are in the set, where their cell is used and not full; else it says nothing.
     pub places: Plane,
