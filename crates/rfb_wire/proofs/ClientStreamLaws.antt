@@ -16,7 +16,7 @@ use Rattle.rfb_wire.specs.stream.Reading.{Says, Reads, Same, Listed}
 use Rattle.rfb_wire.specs.stream.Parts.{piece, done, and_then, valued, many, headed}
 use Rattle.rfb_wire.specs.stream.Grammar.{IsSpelled}
 use Rattle.rfb_wire.specs.ClientMessage.{ClientMessage, SetPixelFormat, SetEncodings, FramebufferUpdateRequest, KeyEvent, PointerEvent, ClientCutText, ClientFault, BadFormat, UnknownType, SpellsNumber, SpellsClientMessage, FaultsClientMessage, client_says, client_message_size}
-use Rattle.rfb_wire.specs.ClientStream.{client_head_of, format_of, format_fault, behind_head, client_message, client_stream}
+use Rattle.rfb_wire.specs.ClientStream.{client_head_of, format_of, format_fault, client_body, client_message, client_stream}
 use Rattle.rfb_wire.proofs.stream_laws.HeadLemmas.{begins_some}
 use Rattle.rfb_wire.proofs.ClientLemmas.{client-sizes, client-spelled}
 use Rattle.rfb_wire.proofs.stream_laws.PartLaws.{alone, piece_says, done_says, judged_says, then_says, piece_reads, done_reads, judged_reads, then_reads, same_reads}
@@ -141,7 +141,7 @@ behind_says (Pointer buttons x y) = done_says (PointerEvent buttons x y)
 behind_says (CutText text_length) =
     then_says (piece_says text_length) (λ text. done_says (ClientCutText text))
 
-behind_reads : (head : ClientHead) → Reads (behind_head head) (behind_says head)
+behind_reads : (head : ClientHead) → Reads (client_body head) (behind_says head)
 behind_reads (FormatHead bytes) =
     judged_reads (format_fault (first_fault bytes)) (SetPixelFormat (format_of bytes))
 behind_reads (EncodingsHead count) =
@@ -289,8 +289,8 @@ pub client_message_reads : Reads client_message client_says
 unfolding client_message
 client_message_reads =
     same_reads (and_then (headed client_head_size (λ first. UnknownType first) client_head_of)
-    behind_head) parts_say client_says client_same
-    (then_reads (headed client_head_size (λ first. UnknownType first) client_head_of) behind_head
+    client_body) parts_say client_says client_same
+    (then_reads (headed client_head_size (λ first. UnknownType first) client_head_of) client_body
     (headed_says SpellsClientHead (λ first. UnknownType first)) behind_says
     (headed_reads SpellsClientHead client_head_size (λ first. UnknownType first)
     client_head_of client_headed) behind_reads)

@@ -75,7 +75,7 @@ update : server_message (0 ∷ 0 ∷ 0 ∷ 1 ∷ 0 ∷ []) ≡ Got (FramebufferU
 unfolding server_message
 update = refl
 
--- a colour map of one color
+-- a colour map of one colour
 colour_map : server_message (1 ∷ 0 ∷ 0 ∷ 4 ∷ 0 ∷ 1 ∷ 255 ∷ 255 ∷ 1 ∷ 2 ∷ 0 ∷ 3 ∷ [])
     ≡ Got (SetColorMapEntries 4 (record { red = 65535; green = 258; blue = 3 } ∷ [])) []
 unfolding server_message

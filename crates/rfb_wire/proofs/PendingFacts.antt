@@ -1,5 +1,5 @@
 -- How many bytes are pending behind each front of an item, computed from the tables: a head is
--- pending until it is whole, then each number, color or byte of a text.
+-- pending until it is whole, then each number, colour or byte of a text.
 use Rattle.std.proofs.Common.{◌≡◌, ℕ, List, [], ◌∷◌, ◌++◌, refl}
 use Rattle.rfb_wire.specs.stream.Sequel.{First, Second}
 use Rattle.rfb_wire.specs.stream.Pending.{in_pieces, behind_pieces, pending_in}
@@ -42,7 +42,7 @@ cut_text = refl
 update : at_fronts server_pending [] (0 ∷ 0 ∷ 0 ∷ 1 ∷ []) ≡ 0 ∷ 1 ∷ 2 ∷ 3 ∷ []
 update = refl
 
--- SetColorMapEntries of two colors
+-- SetColorMapEntries of two colours
 colour_map : at_fronts server_pending []
     (1 ∷ 0 ∷ 0 ∷ 4 ∷ 0 ∷ 2 ∷ 255 ∷ 255 ∷ 1 ∷ 2 ∷ 0 ∷ 3 ∷ 0 ∷ 0 ∷ 0 ∷ 0 ∷ 0 ∷ 0 ∷ [])
     ≡ 0 ∷ 1 ∷ 2 ∷ 3 ∷ 4 ∷ 5 ∷ 0 ∷ 1 ∷ 2 ∷ 3 ∷ 4 ∷ 5 ∷ 0 ∷ 1 ∷ 2 ∷ 3 ∷ 4 ∷ 5 ∷ []

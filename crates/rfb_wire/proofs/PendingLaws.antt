@@ -7,7 +7,7 @@ use Rattle.rfb_wire.specs.ClientHead.{SpellsClientHead, SpellsSetEncodings, Spel
 use Rattle.rfb_wire.specs.ServerHead.{SpellsServerHead, SpellsColourMap, SpellsServerCutText, server_head_size}
 use Rattle.rfb_wire.specs.stream.Reading.{Listed}
 use Rattle.rfb_wire.specs.ClientMessage.{SpellsNumber}
-use Rattle.rfb_wire.specs.ServerMessage.{Color, SpellsColor}
+use Rattle.rfb_wire.specs.ServerMessage.{MapColour, SpellsMapColour}
 use Rattle.rfb_wire.specs.Pending.{client_piece_size, client_pending, server_piece_size, server_pending}
 use Rattle.rfb_wire.proofs.ClientLemmas.{client-spelled}
 use Rattle.rfb_wire.proofs.ServerLemmas.{server-spelled}
@@ -61,13 +61,13 @@ server_head_pending head (first ∷ rest) missing s some =
     head_pending server_head_size server_piece_size first (length (first ∷ (rest ++ missing))) rest
     size_is (omega (arith, length-append rest missing, some))
 
-pub colors_pending : (from count : ℕ) (colors : List Color) (head list rest : List ℕ) →
-    SpellsColourMap from count head → Listed SpellsColor colors list → length rest < 6 →
+pub colours_pending : (from count : ℕ) (colours : List MapColour) (head list rest : List ℕ) →
+    SpellsColourMap from count head → Listed SpellsMapColour colours list → length rest < 6 →
     server_pending (head ++ (list ++ rest)) ≡ length rest
-colors_pending from count colors head list rest s listed less =
+colours_pending from count colours head list rest s listed less =
     past_head server_head_size server_piece_size 1 6 head (list ++ rest) (omega arith) s.size
     s.message_type refl
-    ∙ pieces_pending SpellsColor 6 (λ color bytes is. is.size) colors list rest listed less
+    ∙ pieces_pending SpellsMapColour 6 (λ colour bytes is. is.size) colours list rest listed less
 
 pub server_text_pending : (count : ℕ) (head text : List ℕ) → SpellsServerCutText count head →
     server_pending (head ++ text) ≡ 0

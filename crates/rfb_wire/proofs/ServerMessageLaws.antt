@@ -7,7 +7,7 @@ use Rattle.rfb_wire.specs.declared.server_head.ServerHead.TheVariants.{Update, C
 use Rattle.rfb_wire.specs.ServerHead.{SpellsServerHead, server_head_size}
 use Rattle.rfb_wire.specs.stream.Reading.{Says, Reads, Same, Listed}
 use Rattle.rfb_wire.specs.stream.Parts.{piece, done, and_then, valued, many, headed}
-use Rattle.rfb_wire.specs.ServerMessage.{Color, ServerMessage, FramebufferUpdate, SetColorMapEntries, Bell, ServerCutText, ServerFault, UnknownType, SpellsColor, SpellsServerMessage, FaultsServerMessage, server_says, server_message_size, server_head_of, color_of, behind_head, server_message}
+use Rattle.rfb_wire.specs.ServerMessage.{MapColour, ServerMessage, FramebufferUpdate, SetColorMapEntries, Bell, ServerCutText, ServerFault, UnknownType, SpellsMapColour, SpellsServerMessage, FaultsServerMessage, server_says, server_message_size, server_head_of, map_colour_of, server_body, server_message}
 use Rattle.rfb_wire.proofs.stream_laws.HeadLemmas.{begins_some}
 use Rattle.rfb_wire.proofs.ServerLemmas.{server-sizes, server-spelled}
 use Rattle.rfb_wire.proofs.stream_laws.PartLaws.{alone, piece_says, done_says, then_says, piece_reads, done_reads, then_reads, same_reads}
@@ -33,25 +33,25 @@ server_headed = record {
 
 -- ---- what stands behind a head
 
--- a color of SetColorMapEntries
-abbrev color_says : Says Color ServerFault
-color_says = record { item = SpellsColor; fault = λ _ _. ⊥ }
+-- a colour of SetColorMapEntries
+abbrev colour_says : Says MapColour ServerFault
+colour_says = record { item = SpellsMapColour; fault = λ _ _. ⊥ }
 
-color_reads : Reads {F = ServerFault} (valued 6 color_of) color_says
-color_reads =
-    same_reads (valued 6 color_of) (valued_says 6 color_of) color_says same
-    (valued_reads 6 color_of)
+colour_reads : Reads {F = ServerFault} (valued 6 map_colour_of) colour_says
+colour_reads =
+    same_reads (valued 6 map_colour_of) (valued_says 6 map_colour_of) colour_says same
+    (valued_reads 6 map_colour_of)
   where
-    same : Same (valued_says 6 color_of) color_says
+    same : Same (valued_says 6 map_colour_of) colour_says
     same = record {
-      item = λ color bytes h. record {
+      item = λ colour bytes h. record {
         size = h.0;
-        red_is = sym (ap (λ (c : Color). c.red) h.1);
-        green_is = sym (ap (λ (c : Color). c.green) h.1);
-        blue_is = sym (ap (λ (c : Color). c.blue) h.1);
+        red_is = sym (ap (λ (c : MapColour). c.red) h.1);
+        green_is = sym (ap (λ (c : MapColour). c.green) h.1);
+        blue_is = sym (ap (λ (c : MapColour). c.blue) h.1);
       };
       fault = λ f bytes h. h;
-      item_back = λ color bytes h. (
+      item_back = λ colour bytes h. (
         h.size,
         λ k. record {
           red = sym h.red_is k;
@@ -66,18 +66,20 @@ color_reads =
 abbrev behind_says : ServerHead → Says ServerMessage ServerFault
 behind_says (Update count) = done_says (FramebufferUpdate count)
 behind_says (ColourMap first count) =
-    then_says (many_says count color_says) (λ colors. done_says (SetColorMapEntries first colors))
+    then_says (many_says count colour_says)
+    (λ colours. done_says (SetColorMapEntries first colours))
 behind_says BellHead = done_says Bell
 behind_says (CutText text_length) =
     then_says (piece_says text_length) (λ text. done_says (ServerCutText text))
 
-behind_reads : (head : ServerHead) → Reads (behind_head head) (behind_says head)
+behind_reads : (head : ServerHead) → Reads (server_body head) (behind_says head)
 behind_reads (Update count) = done_reads (FramebufferUpdate count)
 behind_reads (ColourMap first count) =
-    then_reads (many count (valued 6 color_of)) (λ colors. done (SetColorMapEntries first colors))
-    (many_says count color_says) (λ colors. done_says (SetColorMapEntries first colors))
-    (many_reads count (valued 6 color_of) color_says color_reads)
-    (λ colors. done_reads (SetColorMapEntries first colors))
+    then_reads (many count (valued 6 map_colour_of))
+    (λ colours. done (SetColorMapEntries first colours))
+    (many_says count colour_says) (λ colours. done_says (SetColorMapEntries first colours))
+    (many_reads count (valued 6 map_colour_of) colour_says colour_reads)
+    (λ colours. done_reads (SetColorMapEntries first colours))
 behind_reads BellHead = done_reads Bell
 behind_reads (CutText text_length) =
     then_reads (piece text_length) (λ text. done (ServerCutText text)) (piece_says text_length)
@@ -93,7 +95,7 @@ spells_item : (head : ServerHead) (m : ServerMessage) (bytes front back : List �
     bytes ≡ front ++ back → SpellsServerHead head front → (behind_says head).item m back →
     SpellsServerMessage m bytes
 spells_item (Update count) m bytes front back e s h = rw (h.0, alone bytes front back e h.1) s
-spells_item (ColourMap first count) m bytes front back e s (colors, one, two, split, many, is) =
+spells_item (ColourMap first count) m bytes front back e s (colours, one, two, split, many, is) =
     let all : back ≡ one = alone back one two split is.1 in
     rw is.0 (record {
       head = front;
@@ -134,13 +136,13 @@ item_back : (m : ServerMessage) (bytes : List ℕ) → SpellsServerMessage m byt
     parts_say.item m bytes
 item_back (FramebufferUpdate count) bytes s =
     (Update count, bytes, [], sym (append-nil bytes), s, (refl, refl))
-item_back (SetColorMapEntries first colors) bytes s = (
-  ColourMap first (length colors),
+item_back (SetColorMapEntries first colours) bytes s = (
+  ColourMap first (length colours),
   s.head,
   s.list,
   s.whole,
   s.head_is,
-  (colors, s.list, [], sym (append-nil s.list), (refl, s.listed), (refl, refl)),
+  (colours, s.list, [], sym (append-nil s.list), (refl, s.listed), (refl, refl)),
 )
 item_back Bell bytes s = (BellHead, bytes, [], sym (append-nil bytes), s, (refl, refl))
 item_back (ServerCutText text) bytes s = (
@@ -174,19 +176,20 @@ pub server_message_reads : Reads server_message server_says
 unfolding server_message
 server_message_reads =
     same_reads (and_then (headed server_head_size (λ first. UnknownType first) server_head_of)
-    behind_head) parts_say server_says server_same
-    (then_reads (headed server_head_size (λ first. UnknownType first) server_head_of) behind_head
+    server_body) parts_say server_says server_same
+    (then_reads (headed server_head_size (λ first. UnknownType first) server_head_of) server_body
     (headed_says SpellsServerHead (λ first. UnknownType first)) behind_says
     (headed_reads SpellsServerHead server_head_size (λ first. UnknownType first)
     server_head_of server_headed) behind_reads)
 
 -- ---- sizes
 
-length-colors : (colors : List Color) (bytes : List ℕ) → Listed SpellsColor colors bytes →
-    length bytes ≡ length colors * 6
-length-colors [] bytes h = rw h refl
-length-colors (c ∷ colors) bytes (front, back, e, s, more) =
-    let others = length-colors colors back more in
+length-colours : (colours : List MapColour) (bytes : List ℕ) →
+    Listed SpellsMapColour colours bytes →
+    length bytes ≡ length colours * 6
+length-colours [] bytes h = rw h refl
+length-colours (c ∷ colours) bytes (front, back, e, s, more) =
+    let others = length-colours colours back more in
     let all : length bytes ≡ length front + length back = ap length e ∙ length-append front back in
     omega (arith, s.size, others, all)
 
@@ -194,8 +197,8 @@ length-colors (c ∷ colors) bytes (front, back, e, s, more) =
 pub server_message_sized : (m : ServerMessage) (bytes : List ℕ) → SpellsServerMessage m bytes →
     (length bytes ≡ server_message_size m) × (0 < length bytes)
 server_message_sized (FramebufferUpdate count) bytes s = (s.size, omega (arith, s.size))
-server_message_sized (SetColorMapEntries first colors) bytes s =
-    let list = length-colors colors s.list s.listed in
+server_message_sized (SetColorMapEntries first colours) bytes s =
+    let list = length-colours colours s.list s.listed in
     let all : length bytes ≡ length s.head + length s.list =
     ap length s.whole ∙ length-append s.head s.list in
     (omega (arith, s.head_is.size, list, all), omega (arith, s.head_is.size, all))

@@ -12,8 +12,8 @@ use Rattle.rfb_wire.specs.Fields.{s32_at}
 use Rattle.rfb_wire.specs.stream.Reading.{More, Bad}
 use Rattle.rfb_wire.specs.stream.Parts.{piece, done, valued, many, headed}
 use Rattle.rfb_wire.specs.ClientMessage.{SetEncodings, ClientCutText, UnknownType}
-use Rattle.rfb_wire.specs.ClientStream.{client_head_of, behind_head, client_message}
-use Rattle.rfb_wire.specs.ServerMessage.{ServerFault, UnknownType as UnknownServerType, server_head_of, color_of, behind_head as behind_server_head, server_message}
+use Rattle.rfb_wire.specs.ClientStream.{client_head_of, client_body, client_message}
+use Rattle.rfb_wire.specs.ServerMessage.{ServerFault, UnknownType as UnknownServerType, server_head_of, map_colour_of, server_body, server_message}
 use Rattle.rfb_wire.specs.RectStream.{rect_head}
 use Rattle.rfb_wire.proofs.stream_laws.WaitLaws.{pieces_wait, headed_waits, behind_waits, first_waits}
 use Rattle.rfb_wire.proofs.stream_laws.PartLaws.{piece_short}
@@ -28,16 +28,16 @@ pub client_head_waits : (n : ℕ) (bytes : List ℕ) → Misses SpellsClientHead
     client_message bytes ≡ More
 unfolding client_message
 client_head_waits n bytes misses =
-    first_waits (headed client_head_size (λ first. UnknownType first) client_head_of) behind_head
+    first_waits (headed client_head_size (λ first. UnknownType first) client_head_of) client_body
     bytes (headed_waits SpellsClientHead client_head_size (λ first. UnknownType first)
     client_head_of client_headed n bytes misses)
 
 -- a whole head, and what follows is not
 pub client_waits : (head : ClientHead) (front rest : List ℕ) → SpellsClientHead head front →
-    behind_head head rest ≡ More → client_message (front ++ rest) ≡ More
+    client_body head rest ≡ More → client_message (front ++ rest) ≡ More
 unfolding client_message
 client_waits head front rest s more =
-    behind_waits (headed client_head_size (λ first. UnknownType first) client_head_of) behind_head
+    behind_waits (headed client_head_size (λ first. UnknownType first) client_head_of) client_body
     head (front ++ rest) rest
     ((headed_reads SpellsClientHead client_head_size (λ first. UnknownType first)
     client_head_of client_headed).only head front rest s) more
@@ -73,25 +73,25 @@ pub server_head_waits : (n : ℕ) (bytes : List ℕ) → Misses SpellsServerHead
 unfolding server_message
 server_head_waits n bytes misses =
     first_waits (headed server_head_size (λ first. UnknownServerType first) server_head_of)
-    behind_server_head bytes
+    server_body bytes
     (headed_waits SpellsServerHead server_head_size (λ first. UnknownServerType first)
     server_head_of server_headed n bytes misses)
 
 pub server_waits : (head : ServerHead) (front rest : List ℕ) → SpellsServerHead head front →
-    behind_server_head head rest ≡ More → server_message (front ++ rest) ≡ More
+    server_body head rest ≡ More → server_message (front ++ rest) ≡ More
 unfolding server_message
 server_waits head front rest s more =
     behind_waits (headed server_head_size (λ first. UnknownServerType first) server_head_of)
-    behind_server_head head (front ++ rest) rest
+    server_body head (front ++ rest) rest
     ((headed_reads SpellsServerHead server_head_size (λ first. UnknownServerType first)
     server_head_of server_headed).only head front rest s) more
 
--- SetColorMapEntries with fewer colors than its head tells
-pub colors_wait : (first count : ℕ) (front rest : List ℕ) → SpellsColourMap first count front →
+-- SetColorMapEntries with fewer colours than its head tells
+pub colours_wait : (first count : ℕ) (front rest : List ℕ) → SpellsColourMap first count front →
     length rest < count * 6 → server_message (front ++ rest) ≡ More
-colors_wait first count front rest s less =
+colours_wait first count front rest s less =
     server_waits (ColourMap first count) front rest s
-    (rw (pieces_wait {F = ServerFault} count 6 color_of [] rest less) refl)
+    (rw (pieces_wait {F = ServerFault} count 6 map_colour_of [] rest less) refl)
 
 -- ServerCutText with less text than its head tells
 pub server_text_waits : (text_length : ℕ) (front rest : List ℕ) →

@@ -46,22 +46,22 @@ abbrev pub format_fault : Option FormatFault → Option ClientFault
 format_fault None = None
 format_fault (Some fault) = Some (BadFormat fault)
 
--- what is read behind a head
-abbrev pub behind_head : ClientHead → Reading ClientMessage ClientFault
-behind_head (FormatHead bytes) =
+-- what is read after a head
+abbrev pub client_body : ClientHead → Reading ClientMessage ClientFault
+client_body (FormatHead bytes) =
     judged (format_fault (first_fault bytes)) (SetPixelFormat (format_of bytes))
-behind_head (EncodingsHead count) =
+client_body (EncodingsHead count) =
     and_then (many count (valued 4 (λ bytes. s32_at 0 bytes)))
     (λ numbers. done (SetEncodings numbers))
-behind_head (Request incremental rect) = done (FramebufferUpdateRequest incremental rect)
-behind_head (Key down key) = done (KeyEvent down key)
-behind_head (Pointer buttons x y) = done (PointerEvent buttons x y)
-behind_head (CutText text_length) = and_then (piece text_length) (λ text. done (ClientCutText text))
+client_body (Request incremental rect) = done (FramebufferUpdateRequest incremental rect)
+client_body (Key down key) = done (KeyEvent down key)
+client_body (Pointer buttons x y) = done (PointerEvent buttons x y)
+client_body (CutText text_length) = and_then (piece text_length) (λ text. done (ClientCutText text))
 
 -- a message
 unfoldable pub client_message : Reading ClientMessage ClientFault
 client_message =
-    and_then (headed client_head_size (λ first. UnknownType first) client_head_of) behind_head
+    and_then (headed client_head_size (λ first. UnknownType first) client_head_of) client_body
 
 -- the stream has one point, between two messages
 abbrev pub client_stream : Grammar ⊤ ClientMessage ClientFault

@@ -1,5 +1,5 @@
 -- The pieces of messages, RFC 6143 sections 7.5 and 7.6, whose bytes are pending until their last
--- is there: the head with its type byte, and behind it each number of SetEncodings, each color of
+-- is there: the head with its type byte, and behind it each number of SetEncodings, each colour of
 -- SetColorMapEntries and each byte of a text.
 use Rattle.std.specs.Prelude.{ℕ, ◌==◌, List, if◌then◌else◌}
 use Rattle.rfb_wire.specs.stream.Pending.{behind_piece, message_pending}
@@ -14,7 +14,7 @@ client_piece_size message_type = if message_type == 2 then 4 else 1
 abbrev pub client_pending : List ℕ → ℕ
 client_pending bytes = message_pending client_head_size client_piece_size bytes
 
--- behind a server's head: colors of SetColorMapEntries, or bytes of a text;
+-- behind a server's head: colours of SetColorMapEntries, or bytes of a text;
 -- other messages are all head
 abbrev pub server_piece_size : ℕ → ℕ
 server_piece_size message_type = if message_type == 1 then 6 else 1

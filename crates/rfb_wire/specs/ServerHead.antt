@@ -14,11 +14,11 @@ pub record SpellsUpdate (number_of_rectangles : ℕ) (bytes : List ℕ) : Type 0
   pub number_is : u16_at 2 bytes ≡ number_of_rectangles
 
 -- SetColorMapEntries up to its colours, section 7.6.2: one byte of padding after the type
-pub record SpellsColourMap (first_color number_of_colors : ℕ) (bytes : List ℕ) : Type 0 where
+pub record SpellsColourMap (first_colour number_of_colours : ℕ) (bytes : List ℕ) : Type 0 where
   pub size : length bytes ≡ 6
   pub message_type : u8_at 0 bytes ≡ 1
-  pub first_is : u16_at 2 bytes ≡ first_color
-  pub number_is : u16_at 4 bytes ≡ number_of_colors
+  pub first_is : u16_at 2 bytes ≡ first_colour
+  pub number_is : u16_at 4 bytes ≡ number_of_colours
 
 -- Bell, section 7.6.3
 pub record SpellsBell (bytes : List ℕ) : Type 0 where

@@ -10,16 +10,16 @@ use Rattle.rfb_wire.specs.stream.Reading.{Reading, Says, Listed}
 use Rattle.rfb_wire.specs.stream.Parts.{piece, done, and_then, valued, many, headed}
 
 -- an entry of a colour map, 16 bits each
-pub record Color : Type 0 where
+pub record MapColour : Type 0 where
   pub red : ℕ
   pub green : ℕ
   pub blue : ℕ
 
 -- a message: an update and how many rectangles follow, a colour map from its first
--- color on, a bell, or a text
+-- colour on, a bell, or a text
 pub data ServerMessage : Type 0 where
   FramebufferUpdate : (rectangles : ℕ) → ServerMessage
-  SetColorMapEntries : (first : ℕ) → (colors : List Color) → ServerMessage
+  SetColorMapEntries : (first : ℕ) → (colours : List MapColour) → ServerMessage
   Bell : ServerMessage
   ServerCutText : (text : List ℕ) → ServerMessage
 
@@ -27,20 +27,21 @@ pub data ServerMessage : Type 0 where
 pub data ServerFault : Type 0 where
   UnknownType : (message_type : ℕ) → ServerFault
 
--- a color of SetColorMapEntries
-pub record SpellsColor (color : Color) (bytes : List ℕ) : Type 0 where
+-- a colour of SetColorMapEntries
+pub record SpellsMapColour (colour : MapColour) (bytes : List ℕ) : Type 0 where
   pub size : length bytes ≡ 6
-  pub red_is : u16_at 0 bytes ≡ color.red
-  pub green_is : u16_at 2 bytes ≡ color.green
-  pub blue_is : u16_at 4 bytes ≡ color.blue
+  pub red_is : u16_at 0 bytes ≡ colour.red
+  pub green_is : u16_at 2 bytes ≡ colour.green
+  pub blue_is : u16_at 4 bytes ≡ colour.blue
 
--- SetColorMapEntries, section 7.6.2: the head tells how many colors follow
-pub record SpellsColorsMessage (first : ℕ) (colors : List Color) (bytes : List ℕ) : Type 0 where
+-- SetColorMapEntries, section 7.6.2: the head tells how many colours follow
+pub record SpellsColoursMessage (first : ℕ) (colours : List MapColour) (bytes : List ℕ) : Type
+    0 where
   pub head : List ℕ
   pub list : List ℕ
   pub whole : bytes ≡ head ++ list
-  pub head_is : SpellsColourMap first (length colors) head
-  pub listed : Listed SpellsColor colors list
+  pub head_is : SpellsColourMap first (length colours) head
+  pub listed : Listed SpellsMapColour colours list
 
 -- ServerCutText, section 7.6.4: the head tells how many bytes of text follow
 pub record SpellsServerTextMessage (text bytes : List ℕ) : Type 0 where
@@ -51,7 +52,8 @@ pub record SpellsServerTextMessage (text bytes : List ℕ) : Type 0 where
 -- the bytes are this message on the wire; of an update they are its head, and its rectangles follow
 abbrev pub SpellsServerMessage : ServerMessage → List ℕ → Type 0
 SpellsServerMessage (FramebufferUpdate rectangles) bytes = SpellsUpdate rectangles bytes
-SpellsServerMessage (SetColorMapEntries first colors) bytes = SpellsColorsMessage first colors bytes
+SpellsServerMessage (SetColorMapEntries first colours) bytes =
+    SpellsColoursMessage first colours bytes
 SpellsServerMessage Bell bytes = SpellsBell bytes
 SpellsServerMessage (ServerCutText text) bytes = SpellsServerTextMessage text bytes
 
@@ -67,7 +69,7 @@ server_says = record { item = SpellsServerMessage; fault = FaultsServerMessage }
 -- how many bytes a message has, of an update its head
 abbrev pub server_message_size : ServerMessage → ℕ
 server_message_size (FramebufferUpdate rectangles) = 4
-server_message_size (SetColorMapEntries first colors) = 6 + length colors * 6
+server_message_size (SetColorMapEntries first colours) = 6 + length colours * 6
 server_message_size Bell = 1
 server_message_size (ServerCutText text) = 8 + length text
 
@@ -79,19 +81,20 @@ server_head_of bytes =
     if message_type == 1 then ColourMap (u16_at 2 bytes) (u16_at 4 bytes) else
     if message_type == 2 then BellHead else CutText (u32_at 4 bytes)
 
--- the color that six bytes are
-abbrev pub color_of : List ℕ → Color
-color_of bytes = record { red = u16_at 0 bytes; green = u16_at 2 bytes; blue = u16_at 4 bytes }
+-- the colour that six bytes are
+abbrev pub map_colour_of : List ℕ → MapColour
+map_colour_of bytes = record { red = u16_at 0 bytes; green = u16_at 2 bytes; blue = u16_at 4 bytes }
 
--- what is read behind a head
-abbrev pub behind_head : ServerHead → Reading ServerMessage ServerFault
-behind_head (Update count) = done (FramebufferUpdate count)
-behind_head (ColourMap first count) =
-    and_then (many count (valued 6 color_of)) (λ colors. done (SetColorMapEntries first colors))
-behind_head BellHead = done Bell
-behind_head (CutText text_length) = and_then (piece text_length) (λ text. done (ServerCutText text))
+-- what is read after a head
+abbrev pub server_body : ServerHead → Reading ServerMessage ServerFault
+server_body (Update count) = done (FramebufferUpdate count)
+server_body (ColourMap first count) =
+    and_then (many count (valued 6 map_colour_of))
+    (λ colours. done (SetColorMapEntries first colours))
+server_body BellHead = done Bell
+server_body (CutText text_length) = and_then (piece text_length) (λ text. done (ServerCutText text))
 
 -- a message, or the head of an update
 unfoldable pub server_message : Reading ServerMessage ServerFault
 server_message =
-    and_then (headed server_head_size (λ first. UnknownType first) server_head_of) behind_head
+    and_then (headed server_head_size (λ first. UnknownType first) server_head_of) server_body

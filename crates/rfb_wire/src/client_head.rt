@@ -7,11 +7,12 @@ ghost use Rattle.rfb_wire.specs.Heads.{IfMore, IfGot, IfBad, IsUnknown};
 ghost use Rattle.rfb_wire.specs.ClientHead.{SpellsClientHead, client_head_bytes, client_head_size};
 
 use crate::fault::WireFault;
-use crate::fields::{Spelling, append, append_rect, append_u16, append_u32, read_rect};
+use crate::fields::{MAX_HEAD, Spelling, append, append_rect, append_u16, append_u32, read_rect};
 use crate::read::Read;
 use arrayvec::ArrayVec;
 use byteorder::{BigEndian, ByteOrder};
 use rfb_picture::Rect;
+use rfb_pixel::FORMAT_SIZE;
 
 const SET_PIXEL_FORMAT: u8 = 0;
 
@@ -30,7 +31,7 @@ const CLIENT_CUT_TEXT: u8 = 6;
 #[derive(Clone, Copy, Debug, PartialEq, Eq)]
 pub enum ClientHead {
     /// SetPixelFormat, section 7.5.1: the bytes of a PIXEL_FORMAT, which are not judged here.
-    SetPixelFormat([u8; 16]),
+    SetPixelFormat([u8; FORMAT_SIZE]),
     /// SetEncodings, section 7.5.2: how many encodings follow, four bytes each.
     SetEncodings(u16),
     /// FramebufferUpdateRequest, section 7.5.3. The rectangle may lie anywhere.
@@ -49,17 +50,18 @@ impl ClientHead {
     ghost use Rattle.rfb_wire.specs.declared.fault.WireFault.TheVariants.{UnknownMessage};
     ghost use Rattle.rfb_wire.specs.declared.read.Read.TheVariants.{More, Got, Bad};
 
-    /// The head that the bytes begin with. A type that no client message has is told at its byte;
-    /// no other byte is ever wrong. Flags are true where they are not zero, padding is ignored.
+    /// The head that the bytes begin with. A type that no client message has is refused at its
+    /// byte; no other byte is ever wrong. Flags are true where they are not zero, padding is
+    /// ignored.
     pub fn read(bytes: &[u8]) -> Read<ClientHead>
-        // What it tells is so.
+        // What it returns is so.
         ensures got { IfGot result (λ head used. (used ≤ length bytes.now) ×
             SpellsClientHead head (take used bytes.now)) }
         ensures more { IfMore result (λ n. Misses SpellsClientHead n bytes.now) }
         ensures bad { IfBad result (λ fault. IsUnknown SpellsClientHead fault bytes.now) }
 
-        // And it is told wherever it is so: of bytes that begin with a head, of none, of a front of
-        // a head, and of a type byte that no head has.
+        // And it is returned wherever it is so: for bytes that begin with a head, for none, for a
+        // prefix of a head, and for a type byte that no head has.
         ensures head { (head : ClientHead) (front rest : List ℕ) → bytes.now ≡ front ++ rest →
             SpellsClientHead head front → result ≡ Got head (length front) }
         ensures empty { bytes.now ≡ [] → result ≡ More 1 }
@@ -89,7 +91,7 @@ impl ClientHead {
     {
         match bytes[0] {
             SET_PIXEL_FORMAT => {
-                let mut format = [0; 16];
+                let mut format = [0; FORMAT_SIZE];
                 format.copy_from_slice(&bytes[4..]);
                 ClientHead::SetPixelFormat(format)
             }
@@ -114,7 +116,7 @@ impl ClientHead {
 
     /// The bytes of this head, with padding of zeros and flags of 1 or 0. `read` gives the head
     /// back, whatever follows them.
-    pub fn spell(&self) -> ArrayVec<u8, 20>
+    pub fn spell(&self) -> ArrayVec<u8, MAX_HEAD>
         ensures spells { SpellsClientHead self.now result.items }
         ensures value { result.items ≡ client_head_bytes self.now }
     {

@@ -1,7 +1,9 @@
 //! How the data of a rectangle are laid out, RFC 6143 section 7.7.
 
-ghost use Rattle.std.specs.Prelude.{◌≡◌, MatchOption};
+ghost use Rattle.std.specs.Prelude.{◌≡◌, IfOk, IfErr};
 ghost use Rattle.rfb_wire.specs.Encoding.{number_of, IsNoEncoding};
+
+use crate::fault::WireFault;
 
 /// An encoding of this project's, of those that RFC 6143 has. The default is Raw, which
 /// every viewer has to take.
@@ -30,18 +32,24 @@ impl Encoding {
             Encoding::Hextile => 5,
         }
     }
+}
 
-    /// The encoding of a number, or None where no encoding here has it.
-    pub fn of(number: i32) -> Option<Encoding>
-        ensures { MatchOption result (IsNoEncoding number)
-            (λ encoding. number_of encoding ≡ number) }
-    {
+/// The encoding of a number. `UnknownEncoding` where no encoding here has it.
+impl TryFrom<i32> for Encoding {
+    ghost use Rattle.rfb_wire.specs.declared.fault.WireFault.TheVariants.{UnknownEncoding};
+
+    type Error = WireFault;
+
+    ghost try_from_gives = { λ number r. IfOk r (λ encoding. number_of encoding ≡ number)
+        × IfErr r (λ fault. (fault ≡ UnknownEncoding number) × IsNoEncoding number) };
+
+    fn try_from(number: i32) -> Result<Encoding, WireFault> {
         match number {
-            0 => Some(Encoding::Raw),
-            1 => Some(Encoding::CopyRect),
-            2 => Some(Encoding::Rre),
-            5 => Some(Encoding::Hextile),
-            _ => None,
+            0 => Ok(Encoding::Raw),
+            1 => Ok(Encoding::CopyRect),
+            2 => Ok(Encoding::Rre),
+            5 => Ok(Encoding::Hextile),
+            _ => Err(WireFault::UnknownEncoding(number)),
         }
     }
 }

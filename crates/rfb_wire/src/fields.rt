@@ -9,25 +9,27 @@ use arrayvec::ArrayVec;
 use byteorder::{BigEndian, ByteOrder};
 use rfb_picture::Rect;
 
-/// The bytes of a head; the longest, SetPixelFormat, has 20.
-pub type Spelling = ArrayVec<u8, 20>;
+/// How many bytes the longest head has, that of SetPixelFormat.
+pub const MAX_HEAD: usize = 20;
+
+/// The bytes of a head.
+pub type Spelling = ArrayVec<u8, MAX_HEAD>;
 
 /// The rectangle that the bytes begin with.
 pub fn read_rect(bytes: &[u8]) -> Rect
     requires { 8 ≤ length bytes.now }
     ensures { IsRectAt 0 result bytes.now }
 {
-    Rect {
-        x: BigEndian::read_u16(bytes),
-        y: BigEndian::read_u16(&bytes[2..]),
-        w: BigEndian::read_u16(&bytes[4..]),
-        h: BigEndian::read_u16(&bytes[6..]),
-    }
+    let x = BigEndian::read_u16(bytes);
+    let y = BigEndian::read_u16(&bytes[2..]);
+    let w = BigEndian::read_u16(&bytes[4..]);
+    let h = BigEndian::read_u16(&bytes[6..]);
+    Rect::new(x, y, w, h)
 }
 
 /// Appends bytes for which there is room.
 pub fn append(spelling: &mut Spelling, bytes: &[u8])
-    requires { array_vec_len spelling.old + length bytes.now ≤ 20 }
+    requires { array_vec_len spelling.old + length bytes.now ≤ MAX_HEAD }
     ensures { spelling.new.items ≡ spelling.old.items ++ bytes.now }
 {
     match spelling.try_extend_from_slice(bytes) {
@@ -38,7 +40,7 @@ pub fn append(spelling: &mut Spelling, bytes: &[u8])
 
 /// Appends a U16.
 pub fn append_u16(spelling: &mut Spelling, number: u16)
-    requires { array_vec_len spelling.old + 2 ≤ 20 }
+    requires { array_vec_len spelling.old + 2 ≤ MAX_HEAD }
     ensures { spelling.new.items ≡ spelling.old.items ++ big_bytes 2 number }
 {
     let mut field = [0; 2];
@@ -48,7 +50,7 @@ pub fn append_u16(spelling: &mut Spelling, number: u16)
 
 /// Appends a U32.
 pub fn append_u32(spelling: &mut Spelling, number: u32)
-    requires { array_vec_len spelling.old + 4 ≤ 20 }
+    requires { array_vec_len spelling.old + 4 ≤ MAX_HEAD }
     ensures { spelling.new.items ≡ spelling.old.items ++ big_bytes 4 number }
 {
     let mut field = [0; 4];
@@ -58,7 +60,7 @@ pub fn append_u32(spelling: &mut Spelling, number: u32)
 
 /// Appends x-position, y-position, width and height.
 pub fn append_rect(spelling: &mut Spelling, rect: Rect)
-    requires { array_vec_len spelling.old + 8 ≤ 20 }
+    requires { array_vec_len spelling.old + 8 ≤ MAX_HEAD }
     ensures value { spelling.new.items ≡ spelling.old.items ++ rect_bytes rect }
     ensures read_back { IsRectAt 0 rect (rect_bytes rect) }
 {

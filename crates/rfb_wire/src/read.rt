@@ -1,15 +1,15 @@
-//! What reading from the front of a slice answers.
+//! What reading a head from the start of a slice returns.
 
 use crate::fault::WireFault;
 
-/// The answer of a reading. What it says of a front of the bytes, more bytes
-/// behind it do not change.
+/// What a reading returns. More bytes after those that it was given do not change a `Got` or a
+/// `Bad`.
 #[derive(Clone, Copy, Debug, PartialEq, Eq)]
 pub enum Read<T> {
-    /// The bytes are a front of a head, of which so many bytes are missing, one at least. For a
+    /// The bytes are a prefix of a head, which lacks this number of bytes, one at least. For a
     /// message without its type byte it is one.
     More(usize),
-    /// A head, and how many bytes of the slice spell it.
+    /// A head, and how many bytes of the slice it is encoded in.
     Got(T, usize),
     /// No head begins like this.
     Bad(WireFault),

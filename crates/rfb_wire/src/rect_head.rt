@@ -9,7 +9,7 @@ ghost use Rattle.rfb_wire.specs.RectHead.{SpellsRectHead, IsOnScreen, IsRectFaul
 
 use crate::encoding::Encoding;
 use crate::fault::WireFault;
-use crate::fields::{Spelling, append_rect, append_u32, read_rect};
+use crate::fields::{MAX_HEAD, Spelling, append_rect, append_u32, read_rect};
 use crate::read::Read;
 use arrayvec::ArrayVec;
 use byteorder::{BigEndian, ByteOrder};
@@ -34,14 +34,15 @@ impl RectHead {
     /// The head that the bytes begin with, of a rectangle on a screen of `width` by `height`. It is
     /// judged at its twelfth byte: first the encoding, then whether an edge passes the screen's.
     pub fn read(bytes: &[u8], width: u16, height: u16) -> Read<RectHead>
-        // What it tells is so.
+        // What it returns is so.
         ensures got { IfGot result (λ head used. (used ≤ length bytes.now) ×
             SpellsRectHead head (take used bytes.now) × IsOnScreen width height head.rect) }
         ensures more { IfMore result (λ n. (0 < n) × (length bytes.now + n ≡ 12)) }
         ensures bad { IfBad result (λ fault. IsRectFault width height fault bytes.now) }
 
-        // And it is told wherever it is so: of bytes that begin with a head on the screen, of fewer
-        // than a head's, of a number that no encoding has, and of a head that leaves the screen.
+        // And it is returned wherever it is so: for bytes that begin with a head on the screen, for
+        // fewer than twelve, for a number that no encoding has, and for a head that leaves the
+        // screen.
         ensures head { (head : RectHead) (front rest : List ℕ) → bytes.now ≡ front ++ rest →
             SpellsRectHead head front → IsOnScreen width height head.rect →
             result ≡ Got head (length front) }
@@ -56,8 +57,9 @@ impl RectHead {
             return Read::More(HEAD_SIZE - bytes.len());
         }
         let number = BigEndian::read_i32(&bytes[8..]);
-        let Some(encoding) = Encoding::of(number) else {
-            return Read::Bad(WireFault::UnknownEncoding(number));
+        let encoding = match Encoding::try_from(number) {
+            Ok(encoding) => encoding,
+            Err(fault) => return Read::Bad(fault),
         };
         let rect = read_rect(bytes);
         if !is_on_screen(rect, width, height) {
@@ -68,7 +70,7 @@ impl RectHead {
 
     /// The twelve bytes of this head. `read` gives the head back, whatever follows them, at every
     /// screen that the rectangle does not leave.
-    pub fn spell(&self) -> ArrayVec<u8, 20>
+    pub fn spell(&self) -> ArrayVec<u8, MAX_HEAD>
         ensures spells { SpellsRectHead self.now result.items }
         ensures value { result.items ≡ rect_head_bytes self.now }
     {

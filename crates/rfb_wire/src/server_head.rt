@@ -7,7 +7,7 @@ ghost use Rattle.rfb_wire.specs.Heads.{IfMore, IfGot, IfBad, IsUnknown};
 ghost use Rattle.rfb_wire.specs.ServerHead.{SpellsServerHead, server_head_bytes, server_head_size};
 
 use crate::fault::WireFault;
-use crate::fields::{Spelling, append, append_u16, append_u32};
+use crate::fields::{MAX_HEAD, Spelling, append, append_u16, append_u32};
 use crate::read::Read;
 use arrayvec::ArrayVec;
 use byteorder::{BigEndian, ByteOrder};
@@ -40,17 +40,17 @@ impl ServerHead {
     ghost use Rattle.rfb_wire.specs.declared.fault.WireFault.TheVariants.{UnknownMessage};
     ghost use Rattle.rfb_wire.specs.declared.read.Read.TheVariants.{More, Got, Bad};
 
-    /// The head that the bytes begin with. A type that no server message has is told at its byte;
-    /// no other byte is ever wrong. Padding is ignored.
+    /// The head that the bytes begin with. A type that no server message has is refused at its
+    /// byte; no other byte is ever wrong. Padding is ignored.
     pub fn read(bytes: &[u8]) -> Read<ServerHead>
-        // What it tells is so.
+        // What it returns is so.
         ensures got { IfGot result (λ head used. (used ≤ length bytes.now) ×
             SpellsServerHead head (take used bytes.now)) }
         ensures more { IfMore result (λ n. Misses SpellsServerHead n bytes.now) }
         ensures bad { IfBad result (λ fault. IsUnknown SpellsServerHead fault bytes.now) }
 
-        // And it is told wherever it is so: of bytes that begin with a head, of none, of a front of
-        // a head, and of a type byte that no head has.
+        // And it is returned wherever it is so: for bytes that begin with a head, for none, for a
+        // prefix of a head, and for a type byte that no head has.
         ensures head { (head : ServerHead) (front rest : List ℕ) → bytes.now ≡ front ++ rest →
             SpellsServerHead head front → result ≡ Got head (length front) }
         ensures empty { bytes.now ≡ [] → result ≡ More 1 }
@@ -92,7 +92,7 @@ impl ServerHead {
 
     /// The bytes of this head, with padding of zeros. `read` gives the head back, whatever follows
     /// them.
-    pub fn spell(&self) -> ArrayVec<u8, 20>
+    pub fn spell(&self) -> ArrayVec<u8, MAX_HEAD>
         ensures spells { SpellsServerHead self.now result.items }
         ensures value { result.items ≡ server_head_bytes self.now }
     {

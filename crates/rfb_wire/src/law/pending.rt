@@ -8,7 +8,7 @@ ghost use Rattle.rfb_wire.specs.ClientHead.{SpellsClientHead, SpellsSetEncodings
 ghost use Rattle.rfb_wire.specs.ClientHead.{SpellsClientCutText};
 ghost use Rattle.rfb_wire.specs.ServerHead.{SpellsServerHead, SpellsColourMap, SpellsServerCutText};
 ghost use Rattle.rfb_wire.specs.ClientMessage.{SpellsNumber};
-ghost use Rattle.rfb_wire.specs.ServerMessage.{Color, SpellsColor};
+ghost use Rattle.rfb_wire.specs.ServerMessage.{MapColour, SpellsMapColour};
 ghost use Rattle.rfb_wire.specs.Pending.{client_pending, server_pending};
 
 /// Of a client message the head is one piece, each number of SetEncodings one, and each byte of a
@@ -27,15 +27,15 @@ pub fn client_pending_follows_the_last_piece()
     ensures few { (bytes : List ℕ) → client_pending bytes ≤ length bytes }
 {}
 
-/// Of a server message the head is one piece, each color of SetColorMapEntries one, and each byte
+/// Of a server message the head is one piece, each colour of SetColorMapEntries one, and each byte
 /// of a text one. At most 7 bytes are pending, and no more than came.
 pub fn server_pending_follows_the_last_piece()
     ensures none { server_pending [] ≡ 0 }
     ensures head { (head : ServerHeadValue) (bytes missing : List ℕ) →
         SpellsServerHead head (bytes ++ missing) → 0 < length missing →
         server_pending bytes ≡ length bytes }
-    ensures color { (first count : ℕ) (colors : List Color) (head list rest : List ℕ) →
-        SpellsColourMap first count head → Listed SpellsColor colors list → length rest < 6 →
+    ensures colour { (first count : ℕ) (colours : List MapColour) (head list rest : List ℕ) →
+        SpellsColourMap first count head → Listed SpellsMapColour colours list → length rest < 6 →
         server_pending (head ++ (list ++ rest)) ≡ length rest }
     ensures text { (count : ℕ) (head text : List ℕ) →
         SpellsServerCutText count head → server_pending (head ++ text) ≡ 0 }

@@ -24,12 +24,12 @@ pub fn client_messages_wait_for_their_last_byte()
         client_message (first ∷ rest) ≡ Bad (UnknownType first) }
 {}
 
-/// A server message waits for the bytes that its head misses, for each color that its head tells
+/// A server message waits for the bytes that its head misses, for each colour that its head tells
 /// of, and for all of its text. A type that no server message has is a fault at once.
 pub fn server_messages_wait_for_their_last_byte()
     ensures head { (n : ℕ) (bytes : List ℕ) →
         Misses SpellsServerHead n bytes → server_message bytes ≡ More }
-    ensures colors { (first count : ℕ) (head rest : List ℕ) → SpellsColourMap first count head →
+    ensures colours { (first count : ℕ) (head rest : List ℕ) → SpellsColourMap first count head →
         length rest < count * 6 → server_message (head ++ rest) ≡ More }
     ensures text { (text_length : ℕ) (head rest : List ℕ) → SpellsServerCutText text_length head →
         length rest < text_length → server_message (head ++ rest) ≡ More }

@@ -69,7 +69,7 @@ fn an_encoding_has_its_number(rt: HostRuntime) {
         (Encoding::Hextile, 5),
     ] {
         assert_eq!(rt; encoding.number(), number);
-        assert_eq!(rt; Encoding::of(number), Some(encoding));
+        assert_eq!(rt; Encoding::try_from(number), Ok(encoding));
     }
-    assert_eq!(rt; Encoding::of(3), None);
+    assert_eq!(rt; Encoding::try_from(3), Err(WireFault::UnknownEncoding(3)));
 }

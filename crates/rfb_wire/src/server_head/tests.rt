@@ -5,7 +5,7 @@ use super::*;
 // FramebufferUpdate: type, padding, number-of-rectangles.
 const UPDATE_OF_ONE_RECTANGLE: [u8; 4] = [0, 0, 0, 1];
 
-// SetColorMapEntries: type, padding, first-color, number-of-colors.
+// SetColorMapEntries: type, padding, first-colour, number-of-colours.
 const TWO_COLOURS_FROM_258: [u8; 6] = [1, 0, 1, 2, 0, 2];
 
 // ServerCutText: type, padding, length.
