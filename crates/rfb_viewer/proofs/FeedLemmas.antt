@@ -7,7 +7,7 @@ use Rattle.rfb_wire.specs.stream.Parts.{named}
 use Rattle.rfb_wire.specs.stream.Sequel.{First, Second}
 use Rattle.rfb_wire.specs.stream.End.{FedBy}
 use Rattle.rfb_wire.proofs.stream_laws.FeedLaws.{fed_start}
-use Rattle.rfb_wire.proofs.WaitLaws.{colors_wait, server_text_waits}
+use Rattle.rfb_wire.proofs.WaitLaws.{colours_wait, server_text_waits}
 use Rattle.rfb_codec.specs.UpdateStream.{UpdateItem, UpdateFault, UpdatePoint, update_stream}
 use Rattle.rfb_codec.proofs.UpdateWaitLaws.{message_waits, rect_short}
 use Rattle.rfb_hello.specs.declared.fault.HelloFault.{HelloFault}
@@ -48,7 +48,7 @@ waits_at viewing v (Colours more) (First point) g prefix h = absurd h
 waits_at viewing v (Colours more) (Second q) g prefix h =
     let b = h.2 in
     let missing = b.missing in
-    rw b.prefix_is (second_waits viewing q (b.head ++ b.colours) (message_waits q (b.head ++ b.colours) h.0.left_is (colors_wait b.first b.count b.head b.colours b.head_is (omega (arith, missing)))))
+    rw b.prefix_is (second_waits viewing q (b.head ++ b.colours) (message_waits q (b.head ++ b.colours) h.0.left_is (colours_wait b.first b.count b.head b.colours b.head_is (omega (arith, missing)))))
 waits_at viewing v (CutText n more kept) (First point) g prefix h = absurd h
 waits_at viewing v (CutText n more kept) (Second q) g prefix h =
     let b = h.2 in

@@ -1,7 +1,6 @@
 -- What a viewer makes of messages: their heads, colours and texts.
-use Rattle.std.proofs.Common.{◌≡◌, ℕ, zero, suc, ◌+◌, ◌*◌, ◌<◌, ◌≤◌, ◌==◌, Bool, true, false, List, [], ◌∷◌, ◌++◌, Option, Some, None, Ok, Err, if◌then◌else◌, length, take, drop, min, nat_le, refl, sym, subst, ◌∙◌, ap, arith, length-append, append-nil, append_assoc, take-append-drop, length-drop}
-use Rattle.std.proofs.lemmas.Bool.Decides.{nat_tests}
-use Rattle.std.proofs.lemmas.List.{take-append-le, take_all, length-take-le}
+use Rattle.std.proofs.Common.{◌≡◌, ℕ, zero, suc, ◌+◌, ◌*◌, ◌<◌, ◌≤◌, ◌==◌, Bool, false, List, [], ◌∷◌, ◌++◌, Option, Some, None, Ok, Err, if◌then◌else◌, length, take, drop, min, refl, sym, subst, ◌∙◌, ap, arith, length-append, append-nil, append_assoc, take-append-drop, length-drop}
+use Rattle.std.proofs.lemmas.List.{length-take-le}
 use Rattle.arrayvec.specs.ArrayVec.{ArrayVec}
 use Rattle.rfb_pixel.specs.declared.colour.Colour.{Colour}
 use Rattle.rfb_picture.specs.Grid.{Grid}
@@ -12,15 +11,16 @@ use Rattle.rfb_wire.specs.declared.fault.WireFault.TheVariants.{UnknownMessage, 
 use Rattle.rfb_wire.specs.Heads.{IsUnknown}
 use Rattle.rfb_wire.specs.ServerHead.{SpellsServerHead, SpellsColourMap, SpellsServerCutText}
 use Rattle.rfb_wire.specs.stream.Reading.{More, Got, Listed}
-use Rattle.rfb_wire.specs.ServerMessage.{Color, ServerMessage, FramebufferUpdate, SetColorMapEntries, Bell, ServerCutText, UnknownType, SpellsColor, SpellsServerMessage, color_of, server_message}
+use Rattle.rfb_wire.specs.ServerMessage.{MapColour, ServerMessage, FramebufferUpdate, SetColorMapEntries, Bell, ServerCutText, UnknownType, SpellsMapColour, SpellsServerMessage, map_colour_of, server_message}
 use Rattle.rfb_wire.specs.stream.Sequel.{First, Second}
 use Rattle.rfb_wire.specs.stream.End.{StepsBy, RunsOutBy}
 use Rattle.rfb_wire.proofs.ServerMessageLaws.{server_message_reads}
-use Rattle.rfb_wire.proofs.WaitLaws.{colors_wait, server_text_waits, server_type_faults}
+use Rattle.rfb_wire.proofs.WaitLaws.{colours_wait, server_text_waits, server_type_faults}
 use Rattle.rfb_codec.specs.UpdateStream.{UpdatePoint, UpdateItem, Message, InMessage, update_stream}
 use Rattle.rfb_codec.proofs.UpdateWaitLaws.{past_left, message_got, message_waits, message_bad}
 use Rattle.rfb_codec.proofs.EffectLaws.{effect_message}
 use Rattle.rfb_hello.specs.KeptText.{KeptText, kept_of}
+use Rattle.rfb_hello.proofs.KeptTextLaws.{kept_on}
 use Rattle.rfb_viewer.specs.declared.viewer.Viewer.{Viewer}
 use Rattle.rfb_viewer.specs.declared.viewer.progress.Progress.{Progress}
 use Rattle.rfb_viewer.specs.declared.viewer.progress.Progress.TheVariants.{Head, Colours, CutText}
@@ -42,41 +42,17 @@ got_message message bytes s = subst (λ (ys : List ℕ). server_message ys ≡ G
 -- ---- colours
 
 -- so many bytes are so many colours
-are_colours : (count : ℕ) (bytes : List ℕ) → length bytes ≡ count * 6 → (colors : List Color) × (length colors ≡ count) × Listed SpellsColor colors bytes
+are_colours : (count : ℕ) (bytes : List ℕ) → length bytes ≡ count * 6 → (colors : List MapColour) × (length colors ≡ count) × Listed SpellsMapColour colors bytes
 are_colours zero [] size = ([], refl, refl)
 are_colours zero (byte ∷ bytes) size = absurd (omega (arith, size))
 are_colours (suc count) bytes size =
     let few : 6 ≤ length bytes = omega (arith, size) in
     let rest = are_colours count (drop 6 bytes) (omega (arith, size, length-drop 6 bytes)) in
-    let one : SpellsColor (color_of (take 6 bytes)) (take 6 bytes) = record { size = length-take-le 6 bytes few; red_is = refl; green_is = refl; blue_is = refl } in
+    let one : SpellsMapColour (map_colour_of (take 6 bytes)) (take 6 bytes) = record { size = length-take-le 6 bytes few; red_is = refl; green_is = refl; blue_is = refl } in
     let count_is = rest.1 in
-    (color_of (take 6 bytes) ∷ rest.0, omega (arith, count_is), (take 6 bytes, drop 6 bytes, sym (take-append-drop 6 bytes), one, rest.2))
+    (map_colour_of (take 6 bytes) ∷ rest.0, omega (arith, count_is), (take 6 bytes, drop 6 bytes, sym (take-append-drop 6 bytes), one, rest.2))
 
 -- ---- texts of which the first bytes are kept
-
--- bytes behind those that are kept
-kept_on : (limit n : ℕ) (text unit : List ℕ) → length (text ++ unit) ≤ n → take (min n limit) (take limit text ++ unit) ≡ take limit (text ++ unit)
-kept_on limit n text unit within = by (nat_le limit (length text)) (nat_le limit n) refl refl
-  where
-    some : length text ≤ n
-    some = let size = length-append text unit in omega (arith, size, within)
-
-    by : (a b : Bool) → nat_le limit (length text) ≡ a → nat_le limit n ≡ b → take (min n limit) (take limit text ++ unit) ≡ take limit (text ++ unit)
-    by true b e f =
-        let full : limit ≤ length text = grind (arith, nat_tests) in
-        let least : min n limit ≡ limit = omega (arith, full, some) in
-        let size : length (take limit text) ≡ limit = length-take-le limit text full in
-        rw least (take-append-le limit (take limit text) unit (omega (arith, size)) ∙ take_all limit (take limit text) (omega (arith, size)) ∙ sym (take-append-le limit text unit full))
-    by false true e f =
-        let short : length text ≤ limit = grind (arith, nat_tests) in
-        let small : limit ≤ n = grind (arith, nat_tests) in
-        let least : min n limit ≡ limit = omega (arith, small) in
-        rw (least, take_all limit text short) refl
-    by false false e f =
-        let short : length text ≤ limit = grind (arith, nat_tests) in
-        let large : n ≤ limit = grind (arith, nat_tests) in
-        let least : min n limit ≡ n = omega (arith, large) in
-        rw (least, take_all limit text short) (take_all n (text ++ unit) within ∙ sym (take_all limit (text ++ unit) (omega (arith, within, large))))
 
 kept_joined : (limit n : ℕ) (text unit : List ℕ) (kept now : KeptText) → kept ≡ kept_of limit n text → now ≡ record kept { bytes = take kept.room (kept.bytes ++ unit) } → length (text ++ unit) ≤ n → now ≡ kept_of limit n (text ++ unit)
 kept_joined limit n text unit kept now is made within = made ∙ rw is (ap (λ (ys : List ℕ). record { room = min n limit; bytes = ys }) (kept_on limit n text unit within))
@@ -168,7 +144,7 @@ module _ (viewing : Viewing) (old new : Viewer) where
       let h = at_head viewing old part s.point s.picture prefix (here viewing old (Head part) s prefix was stands) in
       let front = part.items ++ unit in
       let all : prefix ++ unit ≡ front = ap (λ (ys : List ℕ). ys ++ unit) h.4 in
-      let waits : server_message (front ++ []) ≡ More = colors_wait first (suc more) front [] (spelled h.5) (omega arith) in (
+      let waits : server_message (front ++ []) ≡ More = colours_wait first (suc more) front [] (spelled h.5) (omega arith) in (
         h.0,
         h.1,
         rw all (message_waits h.0 front h.2.left_is (subst (λ (ys : List ℕ). server_message ys ≡ More) (append-nil front) waits)),
@@ -234,7 +210,7 @@ module _ (viewing : Viewing) (old new : Viewer) where
       let long = length-append b.colours unit in (
         h.0,
         h.1,
-        rw all (message_waits h.0 (b.head ++ (b.colours ++ unit)) h.2.left_is (colors_wait b.first b.count b.head (b.colours ++ unit) b.head_is (omega (arith, missing, long, count)))),
+        rw all (message_waits h.0 (b.head ++ (b.colours ++ unit)) h.2.left_is (colours_wait b.first b.count b.head (b.colours ++ unit) b.head_is (omega (arith, missing, long, count)))),
         rw all (part_stands s prefix (b.head ++ (b.colours ++ unit)) h.0 (Colours left) stands h.1 h.2 h.3 made (λ ready stored. (ready, stored, record { head = b.head; colours = b.colours ++ unit; first = b.first; count = b.count; prefix_is = refl; head_is = b.head_is; missing = omega (arith, missing, long, count) }))),
       ))
 

@@ -74,7 +74,7 @@ impl Session {
 fn add_number(list: &mut EncodingList, number: i32)
     ensures { list.new ≡ with_encoding list.old (encoding_of number) }
 {
-    if let Some(encoding) = Encoding::of(number) {
+    if let Ok(encoding) = Encoding::try_from(number) {
         list.add(encoding);
     }
 }

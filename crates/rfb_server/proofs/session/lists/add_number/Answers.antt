@@ -7,5 +7,5 @@ use Rattle.rfb_server.proofs.session.lists.add_number.Goals as goal
 
 pub returns-in_default : goal.returns-in_default
 returns-in_default c =
-    let none : IsNoEncoding c.args.number = subst IsNoEncoding (to_z-of_z w32 c.args.number (search rules)) (rw c.in_default.is at c.of.ensures) in
+    let none : IsNoEncoding c.args.number = subst IsNoEncoding (to_z-of_z w32 c.args.number (search rules)) c.in_default.ensures.1.1 in
     rw (encoding_none c.args.number none) refl
