@@ -12,4 +12,4 @@ rect x y w h = record { x = x; y = y; w = w; h = h }
 
 -- the rectangle of the same size, so many columns further to the right and rows further down
 abbrev pub moved_by : ℕ → ℕ → Rect → Rect
-moved_by x y r = rect (r.x + x) (r.y + y) r.w r.h
+moved_by x y r = rect (x + r.x) (y + r.y) r.w r.h

@@ -25,10 +25,10 @@ impl Rect {
     /// So a part of a rectangle, which counts from that one's corner, becomes places of a picture.
     #[inline]
     pub fn moved_by(self, x: u16, y: u16) -> Rect
-        requires columns { self.x + x < 2 ^ 16 }
-        requires rows { self.y + y < 2 ^ 16 }
+        requires columns { x + self.x < 2 ^ 16 }
+        requires rows { y + self.y < 2 ^ 16 }
         ensures { result ≡ moved_by x y self }
     {
-        Rect::new(self.x + x, self.y + y, self.w, self.h)
+        Rect::new(x + self.x, y + self.y, self.w, self.h)
     }
 }

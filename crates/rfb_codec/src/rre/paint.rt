@@ -214,11 +214,7 @@ fn draw_subrect(
     {
         return Err(PaintFault::SubrectOutside);
     }
-    let places = Rect {
-        x: rect.x + part.rect.x,
-        y: rect.y + part.rect.y,
-        ..part.rect
-    };
+    let places = part.rect.moved_by(rect.x, rect.y);
     fill(places, format.unpack(part.pixel), picture);
     Ok(())
 }

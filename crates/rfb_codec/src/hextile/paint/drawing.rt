@@ -120,11 +120,7 @@ fn draw_each(
     for n in 0..count {
         let part = sub_at(format, foreground, colored, n, list);
         let colour = colour_at(format, colored, own, part.pixel);
-        let places = Rect {
-            x: rect.x + part.rect.x,
-            y: rect.y + part.rect.y,
-            ..part.rect
-        };
+        let places = part.rect.moved_by(rect.x, rect.y);
         fill_part(places, colour, picture);
     }
 }

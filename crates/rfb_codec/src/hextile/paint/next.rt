@@ -77,10 +77,5 @@ pub fn places_of_tile(rect: Rect, tile: usize) -> Rect
     ensures row { rect.y ≤ result.y × result.y + result.h ≤ rect.y + rect.h }
     ensures some { (0 < result.w) × (0 < result.h) }
 {
-    let part = tile_rect(rect.w, rect.h, tile);
-    Rect {
-        x: rect.x + part.x,
-        y: rect.y + part.y,
-        ..part
-    }
+    tile_rect(rect.w, rect.h, tile).moved_by(rect.x, rect.y)
 }

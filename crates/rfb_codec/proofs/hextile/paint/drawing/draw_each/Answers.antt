@@ -1,5 +1,6 @@
 use Rattle.std.proofs.Common.{◌≡◌, ◌∙◌, ◌++◌, ◌∷◌, [], List, false, ap, sym, subst, arith}
 use Rattle.rfb_pixel.specs.Format.{colour_of}
+use Rattle.rfb_picture.specs.declared.rect.Rect.{Rect}
 use Rattle.rfb_picture.specs.Grid.{filled}
 use Rattle.rfb_picture.proofs.GridLemmas.{whole-changed}
 use Rattle.rfb_wire.specs.RectHead.{IsOnScreen}
@@ -19,7 +20,7 @@ fill_part-requires c =
     let screen : IsOnScreen c.loop-n.picture.width c.loop-n.picture.height rect = rw (c.loop-n.invariant.width, c.loop-n.invariant.height) c.requires.place.inside in
     record {
       whole = rw c.loop-n.invariant.shown (whole-changed _ c.args.picture.now c.requires.place.whole);
-      inside = moved_inside rect c.sub_at-part.result.rect c.loop-n.picture.width c.loop-n.picture.height screen on;
+      inside = rw c.moved_by-places.ensures (moved_inside rect c.sub_at-part.result.rect c.loop-n.picture.width c.loop-n.picture.height screen on);
       columns = rw c.loop-n.invariant.width c.requires.place.columns;
       rows = rw c.loop-n.invariant.height c.requires.place.rows;
     }
@@ -44,6 +45,7 @@ loop-n-preserved c =
     record {
       shown =
           c.fill_part.ensures.value
+          ∙ ap (λ (r : Rect). filled r c.colour_at-colour.result c.loop-n.picture) c.moved_by-places.ensures
           ∙ ap (λ k. filled (moved rect s.rect) k c.loop-n.picture) c.colour_at-colour.ensures
           ∙ ap (λ g. filled (moved rect s.rect) (colour_of f s.pixel) g) c.loop-n.invariant.shown
           ∙ over_filled f rect c.args.background subs s before c.requires.place.whole on
