@@ -49,19 +49,62 @@ fn fed(
     Painter::new(rect, encoding, format).feed(bytes, picture)
 }
 
-// Whether data at bgr233 end after so many of the bytes.
-fn ends_after(
-    picture: &mut Picture<Colour>,
+// Whether a picture has these colours, row by row.
+fn has(picture: &Picture<Colour>, shown: &[Colour]) -> bool {
+    let width = picture.width();
+    let height = picture.height();
+    for y in 0..height {
+        for x in 0..width {
+            let place = usize::from(y) * usize::from(width) + usize::from(x);
+            if shown.get(place) != Some(&picture.at(x, y)) {
+                return false;
+            }
+        }
+    }
+    shown.len() == usize::from(height) * usize::from(width)
+}
+
+// A rectangle of a picture that was all of one colour.
+#[derive(Clone, Copy)]
+struct Ground {
+    width: u16,
+    height: u16,
+    colour: Colour,
     rect: Rect,
+}
+
+// Whether a new painter answers so to data, and the picture then has these colours.
+fn paints(
+    alloc: Global,
+    ground: Ground,
     encoding: Encoding,
-    bytes: &[u8],
-    used: usize,
-) -> bool
-    requires { Holds picture.old rect }
-    ensures width { picture.new.width ≡ picture.old.width }
-    ensures height { picture.new.height ≡ picture.old.height }
-{
-    fed(picture, rect, encoding, Format::bgr233(), bytes) == done(used)
+    format: Format,
+    data: &[u8],
+    answer: Result<Painted, PaintFault>,
+    shown: &[Colour],
+) -> Result<bool, Fail> {
+    let mut picture = Picture::new(alloc, ground.width, ground.height, ground.colour)?;
+    if !picture.holds(ground.rect) {
+        return Ok(false);
+    }
+    let told = fed(&mut picture, ground.rect, encoding, format, data);
+    Ok(told == answer && has(&picture, shown))
+}
+
+// A rectangle of all of a row.
+fn row_of(width: u16, colour: Colour) -> Ground {
+    let rect = Rect {
+        x: 0,
+        y: 0,
+        w: width,
+        h: 1,
+    };
+    Ground {
+        width,
+        height: 1,
+        colour,
+        rect,
+    }
 }
 
 // CopyRect to the last three of four places, from the first on.
@@ -92,67 +135,100 @@ fn a_copy_reads_the_source_as_it_stood(rt: HostRuntime) -> Result<(), Fail> {
         Format::rgb888(),
         &COPY,
     );
-    assert_eq!(rt; answer, done(4));
-    assert_eq!(rt; picture.row(0, 0, 4), [RED, RED, GREEN, BLUE].as_slice());
+    assert!(rt; answer == done(4) && has(&picture, &[RED, RED, GREEN, BLUE]));
     Ok(())
 }
 
 #[test]
 fn the_last_subrectangle_wins(rt: HostRuntime) -> Result<(), Fail> {
-    let mut picture = Picture::new(rt.alloc(), 3, 1, BLUE)?;
-    let rect = Rect {
-        x: 0,
-        y: 0,
-        w: 3,
-        h: 1,
-    };
-    let answer = fed(
-        &mut picture,
-        rect,
+    let good = paints(
+        rt.alloc(),
+        row_of(3, BLUE),
         Encoding::Rre,
         Format::bgr233(),
         &LAST_WINS,
-    );
-    assert_eq!(rt; answer, done(23));
-    assert_eq!(rt; picture.row(0, 0, 3), [RED, GREEN, GREEN].as_slice());
+        done(23),
+        &[RED, GREEN, GREEN],
+    )?;
+    assert!(rt; good);
     Ok(())
 }
 
 // A rectangle that is not at the picture's corner, over another colour.
 #[test]
 fn subrectangles_are_placed_in_their_rectangle(rt: HostRuntime) -> Result<(), Fail> {
-    let mut picture = Picture::new(rt.alloc(), 4, 3, RED)?;
-    let rect = Rect {
-        x: 1,
-        y: 1,
-        w: 2,
-        h: 2,
+    let ground = Ground {
+        width: 4,
+        height: 3,
+        colour: RED,
+        rect: Rect {
+            x: 1,
+            y: 1,
+            w: 2,
+            h: 2,
+        },
     };
     let data = [0, 0, 0, 1, 0xC0, 0x38, 0, 1, 0, 1, 0, 1, 0, 1];
-    let answer = fed(&mut picture, rect, Encoding::Rre, Format::bgr233(), &data);
-    assert_eq!(rt; answer, done(14));
-    assert_eq!(rt; picture.row(0, 0, 4), [RED, RED, RED, RED].as_slice());
-    assert_eq!(rt; picture.row(0, 1, 4), [RED, BLUE, BLUE, RED].as_slice());
-    assert_eq!(rt; picture.row(0, 2, 4), [RED, BLUE, GREEN, RED].as_slice());
+    let shown = [
+        RED, RED, RED, RED, //
+        RED, BLUE, BLUE, RED, //
+        RED, BLUE, GREEN, RED,
+    ];
+    let format = Format::bgr233();
+    let good = paints(
+        rt.alloc(),
+        ground,
+        Encoding::Rre,
+        format,
+        &data,
+        done(14),
+        &shown,
+    )?;
+    assert!(rt; good);
     Ok(())
 }
 
-// At the picture's edge each has the data of no place: none of Raw, a source, a
-// background, and no tiles.
+// Whether data at bgr233 of a rectangle without places, at the edge of two by one, end after so
+// many of the bytes and paint nothing.
+fn paints_nothing(
+    alloc: Global,
+    x: u16,
+    w: u16,
+    encoding: Encoding,
+    data: &[u8],
+    used: usize,
+) -> Result<bool, Fail> {
+    let ground = Ground {
+        width: 2,
+        height: 1,
+        colour: GREEN,
+        rect: Rect { x, y: 1, w, h: 0 },
+    };
+    let shown = [GREEN, GREEN];
+    paints(
+        alloc,
+        ground,
+        encoding,
+        Format::bgr233(),
+        data,
+        done(used),
+        &shown,
+    )
+}
+
+// Each has the data of no place: none of Raw, a source, a background, and no tiles.
 #[test]
 fn an_empty_rectangle_paints_nothing(rt: HostRuntime) -> Result<(), Fail> {
     for (x, w) in [(2, 0), (0, 2)] {
-        let rect = Rect { x, y: 1, w, h: 0 };
-        let mut picture = Picture::new(rt.alloc(), 2, 1, GREEN)?;
-        assert!(rt; picture.holds(rect));
-        assert!(rt; ends_after(&mut picture, rect, Encoding::Raw, &[], 0));
-        let source = [0, 0, 0, 1, 0xFF];
-        assert!(rt; ends_after(&mut picture, rect, Encoding::CopyRect, &source, 4));
-        let head = [0, 0, 0, 0, 0x07, 0xFF];
-        assert!(rt; ends_after(&mut picture, rect, Encoding::Rre, &head, 5));
-        assert!(rt; ends_after(&mut picture, rect, Encoding::Hextile, &[], 0));
-        assert!(rt; ends_after(&mut picture, rect, Encoding::Hextile, &[0xFF], 0));
-        assert_eq!(rt; picture.row(0, 0, 2), [GREEN, GREEN].as_slice());
+        for (encoding, data, used) in [
+            (Encoding::Raw, [].as_slice(), 0),
+            (Encoding::CopyRect, &[0, 0, 0, 1, 0xFF], 4),
+            (Encoding::Rre, &[0, 0, 0, 0, 0x07, 0xFF], 5),
+            (Encoding::Hextile, &[], 0),
+            (Encoding::Hextile, &[0xFF], 0),
+        ] {
+            assert!(rt; paints_nothing(rt.alloc(), x, w, encoding, data, used)?);
+        }
     }
     Ok(())
 }

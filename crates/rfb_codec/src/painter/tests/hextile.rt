@@ -38,7 +38,7 @@ pub fn painted(
 }
 
 // So many places of each colour in turn.
-fn row_of(alloc: Global, runs: &[(u16, Colour)]) -> Result<Vec<Colour>, Fail> {
+fn places_of(alloc: Global, runs: &[(u16, Colour)]) -> Result<Vec<Colour>, Fail> {
     let mut row = Vec::new(alloc);
     for (places, colour) in runs {
         row.resize(row.len().saturating_add(usize::from(*places)), *colour)?;
@@ -54,11 +54,20 @@ fn shows(
     data: &[u8],
     runs: &[(u16, Colour)],
 ) -> Result<(), Fail> {
-    let want = row_of(alloc, runs)?;
+    let want = places_of(alloc, runs)?;
     let width = u16::try_from(want.len()).unwrap_or(0);
-    let (answer, row) = painted(alloc, width, format, data)?;
-    assert_eq!(rt; answer, done(data.len()));
-    assert_eq!(rt; row, want);
+    let ground = row_of(width, RED);
+    let answer = done(data.len());
+    let good = paints(
+        alloc,
+        ground,
+        Encoding::Hextile,
+        format,
+        data,
+        answer,
+        want.as_slice(),
+    )?;
+    assert!(rt; good);
     Ok(())
 }
 
@@ -214,13 +223,19 @@ fn tiles_are_placed_in_their_rectangle(rt: HostRuntime) -> Result<(), Fail> {
         Format::bgr233(),
         &data,
     );
-    assert_eq!(rt; answer, done(12));
-    for y in 0..19 {
-        for x in 0..19 {
-            assert_eq!(rt; picture.at(x, y), placed(x, y), "at {x}, {y}");
+    assert!(rt; answer == done(12) && are_placed(&picture));
+    Ok(())
+}
+
+fn are_placed(picture: &Picture<Colour>) -> bool {
+    for y in 0..picture.height() {
+        for x in 0..picture.width() {
+            if picture.at(x, y) != placed(x, y) {
+                return false;
+            }
         }
     }
-    Ok(())
+    true
 }
 
 // The subrectangle lies at column 1 and row 2 of the first tile, three wide and four high.

@@ -3,12 +3,23 @@
 use super::*;
 
 // Four pixels go into the last two columns and rows of three by three.
-const PART: Rect = Rect {
-    x: 1,
-    y: 1,
-    w: 2,
-    h: 2,
+const PART: Ground = Ground {
+    width: 3,
+    height: 3,
+    colour: GREEN,
+    rect: Rect {
+        x: 1,
+        y: 1,
+        w: 2,
+        h: 2,
+    },
 };
+
+const PART_SHOWN: [Colour; 9] = [
+    GREEN, GREEN, GREEN, //
+    GREEN, RED, GREEN, //
+    GREEN, BLUE, BLACK,
+];
 
 // Red, green, blue and black.
 const AT_RGB888: [u8; 16] = [
@@ -39,12 +50,17 @@ fn raw_pixels_have_the_size_and_byte_order_of_the_format(rt: HostRuntime) -> Res
         (Format::bgr233(), AT_BGR233.as_slice()),
         (big_endian, AT_BIG_ENDIAN.as_slice()),
     ] {
-        let mut picture = Picture::new(rt.alloc(), 3, 3, GREEN)?;
-        let answer = fed(&mut picture, PART, Encoding::Raw, format, data);
-        assert_eq!(rt; answer, done(data.len()));
-        assert_eq!(rt; picture.row(0, 0, 3), [GREEN, GREEN, GREEN].as_slice());
-        assert_eq!(rt; picture.row(0, 1, 3), [GREEN, RED, GREEN].as_slice());
-        assert_eq!(rt; picture.row(0, 2, 3), [GREEN, BLUE, BLACK].as_slice());
+        let answer = done(data.len());
+        let good = paints(
+            rt.alloc(),
+            PART,
+            Encoding::Raw,
+            format,
+            data,
+            answer,
+            &PART_SHOWN,
+        )?;
+        assert!(rt; good);
     }
     Ok(())
 }
@@ -69,33 +85,32 @@ fn pixels_of_a_tile_have_the_size_and_byte_order_of_the_format(
         assert!(rt; false);
         return Ok(());
     };
-    red_and_green(
-        &rt,
-        rt.alloc(),
-        Format::rgb565(),
-        &[1, 0x00, 0xF8, 0xE0, 0x07],
-    )?;
-    red_and_green(&rt, rt.alloc(), big_endian, &[1, 0xF8, 0x00, 0x07, 0xE0])?;
     for tile in TILES_AT_RGB565 {
-        red_and_green(&rt, rt.alloc(), Format::rgb565(), &tile)?;
+        assert!(rt; are_red_and_green(rt.alloc(), Format::rgb565(), &tile)?);
     }
     for tile in TILES_AT_BIG_ENDIAN {
-        red_and_green(&rt, rt.alloc(), big_endian, &tile)?;
+        assert!(rt; are_red_and_green(rt.alloc(), big_endian, &tile)?);
+    }
+    for (format, tile) in [
+        (Format::rgb565(), [1, 0x00, 0xF8, 0xE0, 0x07]),
+        (big_endian, [1, 0xF8, 0x00, 0x07, 0xE0]),
+    ] {
+        assert!(rt; are_red_and_green(rt.alloc(), format, &tile)?);
     }
     Ok(())
 }
 
-// A tile of two places shows them.
-fn red_and_green(rt: &impl Abort, alloc: Global, format: Format, tile: &[u8]) -> Result<(), Fail> {
-    let mut picture = Picture::new(alloc, 2, 1, BLUE)?;
-    let rect = Rect {
-        x: 0,
-        y: 0,
-        w: 2,
-        h: 1,
-    };
-    let answer = fed(&mut picture, rect, Encoding::Hextile, format, tile);
-    assert_eq!(rt; answer, done(tile.len()));
-    assert_eq!(rt; picture.row(0, 0, 2), [RED, GREEN].as_slice());
-    Ok(())
+// Whether a tile of two places shows them.
+fn are_red_and_green(alloc: Global, format: Format, tile: &[u8]) -> Result<bool, Fail> {
+    let answer = done(tile.len());
+    let shown = [RED, GREEN];
+    paints(
+        alloc,
+        row_of(2, BLUE),
+        Encoding::Hextile,
+        format,
+        tile,
+        answer,
+        &shown,
+    )
 }
