@@ -118,9 +118,9 @@ const LAST_WINS: [u8; 23] = [
     0x38, 0, 1, 0, 0, 0, 2, 0, 1, // green at x-position 1
 ];
 
-#[test]
-fn a_copy_reads_the_source_as_it_stood(rt: HostRuntime) -> Result<(), Fail> {
-    let mut picture = Picture::new(rt.alloc(), 4, 1, BLACK)?;
+// Whether the last three of four places have what the first three had.
+fn is_copied(alloc: Global) -> Result<bool, Fail> {
+    let mut picture = Picture::new(alloc, 4, 1, BLACK)?;
     picture.put_row(0, 0, &[RED, GREEN, BLUE, BLACK]);
     let rect = Rect {
         x: 1,
@@ -135,7 +135,12 @@ fn a_copy_reads_the_source_as_it_stood(rt: HostRuntime) -> Result<(), Fail> {
         Format::rgb888(),
         &COPY,
     );
-    assert!(rt; answer == done(4) && has(&picture, &[RED, RED, GREEN, BLUE]));
+    Ok(answer == done(4) && has(&picture, &[RED, RED, GREEN, BLUE]))
+}
+
+#[test]
+fn a_copy_reads_the_source_as_it_stood(rt: HostRuntime) -> Result<(), Fail> {
+    assert!(rt; is_copied(rt.alloc())?);
     Ok(())
 }
 
@@ -217,18 +222,25 @@ fn paints_nothing(
 }
 
 // Each has the data of no place: none of Raw, a source, a background, and no tiles.
-#[test]
-fn an_empty_rectangle_paints_nothing(rt: HostRuntime) -> Result<(), Fail> {
-    for (x, w) in [(2, 0), (0, 2)] {
-        for (encoding, data, used) in [
-            (Encoding::Raw, [].as_slice(), 0),
-            (Encoding::CopyRect, &[0, 0, 0, 1, 0xFF], 4),
-            (Encoding::Rre, &[0, 0, 0, 0, 0x07, 0xFF], 5),
-            (Encoding::Hextile, &[], 0),
-            (Encoding::Hextile, &[0xFF], 0),
-        ] {
-            assert!(rt; paints_nothing(rt.alloc(), x, w, encoding, data, used)?);
+fn paints_nothing_at(alloc: Global, x: u16, w: u16) -> Result<bool, Fail> {
+    for (encoding, data, used) in [
+        (Encoding::Raw, [].as_slice(), 0),
+        (Encoding::CopyRect, &[0, 0, 0, 1, 0xFF], 4),
+        (Encoding::Rre, &[0, 0, 0, 0, 0x07, 0xFF], 5),
+        (Encoding::Hextile, &[], 0),
+        (Encoding::Hextile, &[0xFF], 0),
+    ] {
+        if !paints_nothing(alloc, x, w, encoding, data, used)? {
+            return Ok(false);
         }
     }
+    Ok(true)
+}
+
+#[test]
+fn an_empty_rectangle_paints_nothing(rt: HostRuntime) -> Result<(), Fail> {
+    let corner = paints_nothing_at(rt.alloc(), 2, 0)?;
+    let row = paints_nothing_at(rt.alloc(), 0, 2)?;
+    assert!(rt; corner && row);
     Ok(())
 }

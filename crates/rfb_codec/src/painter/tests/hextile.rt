@@ -204,9 +204,8 @@ fn bits_without_effect_are_accepted(rt: HostRuntime) -> Result<(), Fail> {
 }
 
 // Two by two tiles, row by row; but for the first they are one place wide, one high, or both.
-#[test]
-fn tiles_are_placed_in_their_rectangle(rt: HostRuntime) -> Result<(), Fail> {
-    let mut picture = Picture::new(rt.alloc(), 19, 19, RED)?;
+fn places_tiles(alloc: Global) -> Result<bool, Fail> {
+    let mut picture = Picture::new(alloc, 19, 19, RED)?;
     let rect = Rect {
         x: 1,
         y: 1,
@@ -223,7 +222,12 @@ fn tiles_are_placed_in_their_rectangle(rt: HostRuntime) -> Result<(), Fail> {
         Format::bgr233(),
         &data,
     );
-    assert!(rt; answer == done(12) && are_placed(&picture));
+    Ok(answer == done(12) && are_placed(&picture))
+}
+
+#[test]
+fn tiles_are_placed_in_their_rectangle(rt: HostRuntime) -> Result<(), Fail> {
+    assert!(rt; places_tiles(rt.alloc())?);
     Ok(())
 }
 

@@ -29,23 +29,39 @@ fn a_count_is_no_fault(rt: HostRuntime) -> Result<(), Fail> {
     Ok(())
 }
 
+const OUTSIDE: [[u8; 14]; 4] = [
+    // Its right edge is at 3, its lower edge at 2, and its right edge at 65,537.
+    [0xFF, 0xFF, 0xFF, 0xFF, 0x10, 0x20, 0, 2, 0, 0, 0, 1, 0, 1],
+    [0xFF, 0xFF, 0xFF, 0xFF, 0x10, 0x20, 0, 0, 0, 1, 0, 1, 0, 1],
+    [
+        0xFF, 0xFF, 0xFF, 0xFF, 0x10, 0x20, 0xFF, 0xFF, 0, 0, 0, 2, 0, 1,
+    ],
+    // No place, past the right edge.
+    [0xFF, 0xFF, 0xFF, 0xFF, 0x10, 0x20, 0, 3, 0, 0, 0, 0, 0, 0],
+];
+
+// Whether data are waited with up to their last byte, and refused there.
+fn is_refused_at_the_end(alloc: Global, data: &[u8; 14]) -> Result<bool, Fail> {
+    for n in 0..14 {
+        if !answers(alloc, &data[..n], more(n))? {
+            return Ok(false);
+        }
+    }
+    answers(alloc, data, Err(PaintFault::SubrectOutside))
+}
+
+fn are_refused_at_the_end(alloc: Global) -> Result<bool, Fail> {
+    for data in OUTSIDE {
+        if !is_refused_at_the_end(alloc, &data)? {
+            return Ok(false);
+        }
+    }
+    Ok(true)
+}
+
 #[test]
 fn a_subrectangle_outside_is_told_at_its_last_byte(rt: HostRuntime) -> Result<(), Fail> {
-    for data in [
-        // Its right edge is at 3, its lower edge at 2, and its right edge at 65,537.
-        [0xFF, 0xFF, 0xFF, 0xFF, 0x10, 0x20, 0, 2, 0, 0, 0, 1, 0, 1],
-        [0xFF, 0xFF, 0xFF, 0xFF, 0x10, 0x20, 0, 0, 0, 1, 0, 1, 0, 1],
-        [
-            0xFF, 0xFF, 0xFF, 0xFF, 0x10, 0x20, 0xFF, 0xFF, 0, 0, 0, 2, 0, 1,
-        ],
-        // No place, past the right edge.
-        [0xFF, 0xFF, 0xFF, 0xFF, 0x10, 0x20, 0, 3, 0, 0, 0, 0, 0, 0],
-    ] {
-        for n in 0..14 {
-            assert!(rt; answers(rt.alloc(), &data[..n], more(n))?);
-        }
-        assert!(rt; answers(rt.alloc(), &data, Err(PaintFault::SubrectOutside))?);
-    }
+    assert!(rt; are_refused_at_the_end(rt.alloc())?);
     Ok(())
 }
 
@@ -62,17 +78,23 @@ fn is_source_refused(alloc: Global, source: &[u8]) -> Result<bool, Fail> {
     Ok(answer == Err(PaintFault::SourceOutside) && has(&picture, &[GREEN, BLUE]))
 }
 
+fn are_sources_refused(alloc: Global) -> Result<bool, Fail> {
+    for source in [[0, 1, 0, 0], [0, 0, 0, 1], [0xFF, 0xFF, 0, 0]] {
+        if !is_source_refused(alloc, &source)? {
+            return Ok(false);
+        }
+    }
+    Ok(true)
+}
+
 #[test]
 fn a_source_outside_is_refused(rt: HostRuntime) -> Result<(), Fail> {
-    for source in [[0, 1, 0, 0], [0, 0, 0, 1], [0xFF, 0xFF, 0, 0]] {
-        assert!(rt; is_source_refused(rt.alloc(), &source)?);
-    }
+    assert!(rt; are_sources_refused(rt.alloc())?);
     Ok(())
 }
 
-// By its corner, which may stand at the edges and not beyond them.
-#[test]
-fn the_source_of_an_empty_rectangle_is_judged(rt: HostRuntime) -> Result<(), Fail> {
+// Whether a source is refused for a rectangle without places at the corner of two by one.
+fn is_corner_refused(alloc: Global, source: &[u8]) -> Result<bool, Fail> {
     let corner = Ground {
         rect: Rect {
             x: 2,
@@ -84,17 +106,23 @@ fn the_source_of_an_empty_rectangle_is_judged(rt: HostRuntime) -> Result<(), Fai
     };
     let format = Format::rgb888();
     let fault = Err(PaintFault::SourceOutside);
-    for data in [[0, 3, 0, 0], [0, 0, 0, 2]] {
-        let good = paints(
-            rt.alloc(),
-            corner,
-            Encoding::CopyRect,
-            format,
-            &data,
-            fault,
-            &[RED, RED],
-        )?;
-        assert!(rt; good);
-    }
+    let shown = [RED, RED];
+    paints(
+        alloc,
+        corner,
+        Encoding::CopyRect,
+        format,
+        source,
+        fault,
+        &shown,
+    )
+}
+
+// By its corner, which may stand at the edges and not beyond them.
+#[test]
+fn the_source_of_an_empty_rectangle_is_judged(rt: HostRuntime) -> Result<(), Fail> {
+    let column = is_corner_refused(rt.alloc(), &[0, 3, 0, 0])?;
+    let row = is_corner_refused(rt.alloc(), &[0, 0, 0, 2])?;
+    assert!(rt; column && row);
     Ok(())
 }
