@@ -15,3 +15,4 @@ pub mod TakenLemmas
 pub mod CoverLemmas
 pub mod AreaLemmas
 pub mod NextCellLemmas
+pub mod SpanLemmas

@@ -1,5 +1,5 @@
 -- The next open cell of a set, row by row, and the places of a cell by its number.
-use Rattle.std.proofs.Common.{List, length, refl, ℕ, Bool, true, false, ◌≡◌, ◌⊎◌, ◌+◌, ◌*◌, ◌/◌, ◌%◌, ◌<◌, ◌≤◌, ◌||◌, Option, Some, None, ◌∙◌, arith, inl, inr}
+use Rattle.std.proofs.Common.{List, length, refl, ℕ, Bool, true, false, ◌≡◌, ◌⊎◌, ◌+◌, ◌*◌, ◌/◌, ◌%◌, ◌<◌, ◌≤◌, ◌&&◌, ◌||◌, Option, Some, None, ◌∙◌, arith, inl, inr}
 use Rattle.std.proofs.lemmas.Bool.{cases_lt, cases_eq}
 use Rattle.std.proofs.lemmas.Nat.{mul-add-lt, same_from_place, div-add-mod', mod_below}
 use Rattle.std.proofs.Math.Nat.{mul_comm, mul-le-mul_right, div-mul-le_self, le_of_mul-le-mul_right}
@@ -11,13 +11,13 @@ use Rattle.rfb_picture.specs.Box.{is_in}
 use Rattle.rfb_picture.specs.Edges.{IsEdges}
 use Rattle.rfb_picture.specs.Places.{NoneInRow, IsNext, AreRowsClear}
 use Rattle.rfb_picture.specs.Cells.{cells_in, in_column, in_row}
-use Rattle.rfb_picture.specs.CellOrder.{NoneInCells, HasPlaceIn, HasNextCell}
-use Rattle.rfb_picture.specs.PlaceSet.{in_set, layered, NoneOpen, IsNextOpen}
+use Rattle.rfb_picture.specs.CellOrder.{NoneInCells, HasPlaceIn, HasNextCell, HasCandidate}
+use Rattle.rfb_picture.specs.PlaceSet.{in_set, layered, IsLayers, NoneOpen, IsNextOpen, HasNextOpen}
 use Rattle.rfb_picture.specs.Plane.{AreUnused, IsPlane, plane}
 use Rattle.rfb_picture.proofs.GridLemmas.{contains_true, contains_row}
 use Rattle.rfb_picture.proofs.PlaneLemmas.{at-plane, column_below, same_across}
 use Rattle.rfb_picture.proofs.TakenWordLemmas.{none_in_word}
-use Rattle.rfb_picture.proofs.PlaceSetLemmas.{at-layered}
+use Rattle.rfb_picture.proofs.PlaceSetLemmas.{at-layered, cell_below}
 
 -- ---- open cells, row by row
 
@@ -165,6 +165,34 @@ next-layered l from (Some cell) next =
             ∙ here.marked;
       };
     }
+
+shut : (f u p : Bool) → (f || u) ≡ false → (f || (u && p)) ≡ false
+shut true u p e = absurd cc
+shut false true p e = absurd cc
+shut false false p e = refl
+
+-- the next open cell may have a place of the set, and none before it has one
+pub open-layered : (l : Layers) (from : ℕ) (found : Option ℕ) →
+    IsLayers l →
+    HasNextOpen l from found →
+    HasCandidate (is_in (layered l)) l.places.width l.places.height from found
+open-layered l from None sound none = λ x y p q low high.
+    let i = cell_below x l.places.width l.full.width sound.full_wide p in
+    let j = cell_below y l.places.height l.full.height sound.full_high q in
+    at-layered l x y false p q
+    ∙ shut (is_in l.full (x / 64) (y / 64)) (is_in l.used (x / 64) (y / 64)) (is_in l.places x y)
+    (none (x / 64) (y / 64) i j (rw sound.full_wide low)
+    (rw (sound.full_wide, sound.full_high) high))
+open-layered l from (Some cell) sound next = record {
+  after = next.after;
+  is_cell = rw (← sound.full_wide, ← sound.full_high) next.is_cell;
+  none = λ x y p q low high.
+      let i = cell_below x l.places.width l.full.width sound.full_wide p in
+      let j = cell_below y l.places.height l.full.height sound.full_high q in
+      at-layered l x y false p q
+      ∙ shut (is_in l.full (x / 64) (y / 64)) (is_in l.used (x / 64) (y / 64)) (is_in l.places x y)
+      (next.none (x / 64) (y / 64) i j (rw sound.full_wide low) (rw sound.full_wide high));
+}
 
 -- ---- rows of words
 

@@ -1,13 +1,13 @@
 -- What a set has after places of another were taken away, by cells.
-use Rattle.std.proofs.Common.{ℕ, Bool, true, false, ◌≡◌, ◌+◌, ◌/◌, ◌<◌, ◌&&◌, ◌||◌, not, refl, sym, ◌∙◌, arith, nat_eq, nat_lt, inl, inr}
-use Rattle.std.proofs.lemmas.Bool.{cases_Bool, cases_eq}
+use Rattle.std.proofs.Common.{ℕ, Bool, true, false, ◌≡◌, ◌+◌, ◌/◌, ◌<◌, ◌≤◌, ◌&&◌, ◌||◌, not, refl, sym, ◌∙◌, arith, nat_eq, nat_lt, inl, inr}
+use Rattle.std.proofs.lemmas.Bool.{cases_Bool, cases_lt}
 use Rattle.std.proofs.lemmas.Bool.Decides.{nat_tests}
 use Rattle.rfb_picture.specs.declared.rect.Rect.{Rect}
 use Rattle.rfb_picture.specs.declared.place_set.layers.Layers.{Layers}
 use Rattle.rfb_picture.specs.Rect.{contains}
 use Rattle.rfb_picture.specs.Grid.{filled}
 use Rattle.rfb_picture.specs.Box.{is_in}
-use Rattle.rfb_picture.specs.Places.{without, without_in, NoneInRow}
+use Rattle.rfb_picture.specs.Places.{without, without_in, AreRowsClear}
 use Rattle.rfb_picture.specs.Cells.{cell_at, one_cell, in_column, in_row}
 use Rattle.rfb_picture.specs.PlaceSet.{in_set, in_part, layered, IsLayers, AreAlike, IsSpread, HasLost}
 use Rattle.rfb_picture.proofs.GridLemmas.{contains_true, contains_row, width-changed, height-changed, whole-changed, at-changed, at-filled}
@@ -49,31 +49,57 @@ rows_more row other old mid new first second = record {
 }
 
 -- one row more, of which the other set uses no cell
-pub rows_skipped : (row : ℕ) (other old new : Layers) →
+either_off : (b : Bool) → (b || b) ≡ false → b ≡ false
+either_off true e = absurd cc
+either_off false e = refl
+
+-- before the first row nothing is lost
+pub none_lost : (other old : Layers) → IsLayers old → HasLost (λ _ j. nat_lt j 0) other old old
+none_lost other old sound = record {
+  sound = sound;
+  alike = (refl, refl);
+  each = λ x y p q.
+      let none : nat_lt (y / 64) 0 ≡ false = grind (arith, nat_tests) in
+      rw (none, and_true) refl;
+}
+
+-- rows in which the other uses no cell lose nothing
+pub rows_passed : (row next : ℕ) (other old new : Layers) →
     IsLayers other →
     AreAlike old other →
-    NoneInRow (is_in other.used) row 0 other.used.width →
+    row ≤ next →
+    AreRowsClear (λ i j. is_in other.used i j || is_in other.used i j) other.used.width row next →
     HasLost (λ _ j. nat_lt j row) other old new →
-    HasLost (λ _ j. nat_lt j (row + 1)) other old new
-rows_skipped row other old new sound alike none lost = record {
+    HasLost (λ _ j. nat_lt j next) other old new
+rows_passed row next other old new sound alike order none lost = record {
   sound = lost.sound;
   alike = lost.alike;
   each = λ x y p q.
       let i = cell_below x other.places.width other.used.width sound.used_wide (rw (← alike.0) p) in
       let was = lost.each x y p q in
-      elim (cases_eq (y / 64) row) [
-        | inl here ↦
-            let off : is_in other.used (x / 64) (y / 64) ≡ false =
-            rw here (none (x / 64) (omega arith) i) in
-            let now = no_part (nat_lt (y / 64) (row + 1)) (is_in other.full (x / 64) (y / 64)) _
-            (is_in other.places x y) off in
-            let before =
-            no_part (nat_lt (y / 64) row) (is_in other.full (x / 64) (y / 64)) _
-            (is_in other.places x y) off in
-            rw now (rw before at was)
-        | inr apart ↦
-            let same : nat_lt (y / 64) (row + 1) ≡ nat_lt (y / 64) row = grind (arith, nat_tests) in
-            rw same was
+      elim (cases_lt (y / 64) row) [
+        | inl above ↦
+            let before : nat_lt (y / 64) row ≡ true = grind (arith, nat_tests) in
+            elim (cases_lt (y / 64) next) [
+              | inl still ↦
+                  let now : nat_lt (y / 64) next ≡ true = grind (arith, nat_tests) in
+                  rw now (rw before at was)
+              | inr no_more ↦ absurd (omega arith)
+            ]
+        | inr below ↦
+            let before : nat_lt (y / 64) row ≡ false = grind (arith, nat_tests) in
+            let kept = rw before at was in
+            elim (cases_lt (y / 64) next) [
+              | inl here ↦
+                  let off : is_in other.used (x / 64) (y / 64) ≡ false =
+                  either_off (is_in other.used (x / 64) (y / 64))
+                  (none (x / 64) (y / 64) i below here) in
+                  rw (no_part (nat_lt (y / 64) next) (is_in other.full (x / 64) (y / 64)) _
+                  (is_in other.places x y) off) kept
+              | inr after ↦
+                  let now : nat_lt (y / 64) next ≡ false = grind (arith, nat_tests) in
+                  rw now kept
+            ]
       ];
 }
 

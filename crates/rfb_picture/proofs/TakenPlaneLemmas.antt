@@ -9,7 +9,7 @@ use Rattle.rfb_picture.specs.declared.rect.Rect.{Rect}
 use Rattle.rfb_picture.specs.Rect.{contains}
 use Rattle.rfb_picture.specs.Grid.{Holds, changed, filled}
 use Rattle.rfb_picture.specs.Box.{is_in}
-use Rattle.rfb_picture.specs.Plane.{has_bit, has_at, has_place, plane, IsPlane}
+use Rattle.rfb_picture.specs.Plane.{has_bit, has_at, has_place, plane, IsPlane, MarksWithin}
 use Rattle.rfb_picture.specs.Places.{AllMarked, without, without_in, NoneInRow, IsNext}
 use Rattle.rfb_picture.specs.Cells.{cell_at, one_cell}
 use Rattle.rfb_picture.proofs.GridLemmas.{contains_true, at-changed, width-changed, height-changed, whole-changed}
@@ -89,23 +89,32 @@ plane-removed w h across old x y sound p q =
 
 -- ---- without another set's places
 
--- words without the bits of others, of a set of one size
-pub plane-taken : (w h across ow oh oacross : ℕ) (old new other : List ℕ) →
+-- words without the bits of others, of a set of one size, in the rows that had marks
+pub plane-taken : (w h across ow oh oacross first last : ℕ) (old new other : List ℕ) →
     IsPlane w h across old →
     IsPlane ow oh oacross other →
     w ≡ ow →
     h ≡ oh →
-    ((k y i : ℕ) → k < across → y < h → i < 64 →
-    has_at new across y k i ≡ (has_at old across y k i && not (has_at other across y k i))) →
+    MarksWithin w h across old first last →
+    ((k y i : ℕ) → k < across → i < 64 →
+    has_at new across y k i
+    ≡ (has_at old across y k i
+    && not ((nat_le first y && nat_lt y last) && has_at other across y k i))) →
     plane w h across new ≡ without (plane ow oh oacross other) (plane w h across old)
-plane-taken w h across ow oh oacross old new other sound sound_too wide high each =
+plane-taken w h across ow oh oacross first last old new other sound sound_too wide high within each =
     let same = same_across w h across old oh oacross other sound (rw wide sound_too) in
     plane-each (λ x y was. was && not (is_in (plane ow oh oacross other) x y)) w h across old new
     (λ x y p q.
     let there = at-plane ow oh oacross other x y false (rw (← wide) p) (rw (← high) q) in
-    let here = each (x / 64) y (x % 64) (column_below w h across old x sound p) q
+    let here = each (x / 64) y (x % 64) (column_below w h across old x sound p)
     (mod_below x 64 (omega arith)) in
-    rw (there, ← same) here)
+    elim (cases_Bool (has_at old across y (x / 64) (x % 64))) [
+      | inl e ↦
+          let (low, below) = within x y p q e in
+          let test : (nat_le first y && nat_lt y last) ≡ true = grind (arith, nat_tests) in
+          rw (there, ← same) (rw test at here)
+      | inr e ↦ rw e (rw e at here)
+    ])
 
 -- and of a cell of it alone
 pub plane-cell_taken : (w h across ow oh oacross column row bottom : ℕ) (old new other : List ℕ) →

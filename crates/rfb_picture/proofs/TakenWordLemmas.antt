@@ -105,23 +105,20 @@ one_row_taken words first other across column top row k y i p q small_i l small 
     ]
 
 -- with the words of one column more
-pub one_column_taken : (rows column k y : ℕ) (now before first o : Bool) →
-    y < rows →
-    before ≡ (first && not (nat_lt k column && o)) →
-    now ≡ (before && not ((nat_eq k column && (nat_le 0 y && nat_lt y rows)) && o)) →
-    now ≡ (first && not (nat_lt k (column + 1) && o))
-one_column_taken rows column k y now before first o l was here =
+pub one_column_taken : (column k : ℕ) (t now before first o : Bool) →
+    before ≡ (first && not ((nat_lt k column && t) && o)) →
+    now ≡ (before && not ((nat_eq k column && t) && o)) →
+    now ≡ (first && not ((nat_lt k (column + 1) && t) && o))
+one_column_taken column k t now before first o was here =
     elim (cases_eq k column) [
       | inl e ↦
           let old : nat_lt k column ≡ false = grind (arith, nat_tests) in
           let new : nat_lt k (column + 1) ≡ true = grind (arith, nat_tests) in
-          let test : (nat_eq k column && (nat_le 0 y && nat_lt y rows)) ≡ true =
-          grind (arith, nat_tests) in
+          let test : nat_eq k column ≡ true = grind (arith, nat_tests) in
           rw new (here ∙ (rw (was, old, test, and_true) refl))
       | inr other ↦
           let same : nat_lt k (column + 1) ≡ nat_lt k column = grind (arith, nat_tests) in
-          let test : (nat_eq k column && (nat_le 0 y && nat_lt y rows)) ≡ false =
-          grind (arith, nat_tests) in
+          let test : nat_eq k column ≡ false = grind (arith, nat_tests) in
           rw same (here ∙ (rw (was, test, and_true) refl))
     ]
 

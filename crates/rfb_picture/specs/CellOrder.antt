@@ -49,3 +49,15 @@ HasNextOfBoth p q width height from found =
     MatchOption found
     (NoneInCells (λ x y. p x y && q x y) width height from (cells_in width * cells_in height))
     (λ cell. IsNextOfBoth p q width height from cell)
+
+-- it is a cell from one number on, and no cell before it has a marked place; it need have none
+pub record IsCandidate (p : ℕ → ℕ → Bool) (width height from cell : ℕ) : Type 0 where
+  pub after : from ≤ cell
+  pub is_cell : cell < cells_in width * cells_in height
+  pub none : NoneInCells p width height from cell
+
+-- that cell is one, or no cell from that number on has a marked place
+abbrev pub HasCandidate : (ℕ → ℕ → Bool) → ℕ → ℕ → ℕ → Option ℕ → Type 0
+HasCandidate p width height from found =
+    MatchOption found (NoneInCells p width height from (cells_in width * cells_in height))
+    (λ cell. IsCandidate p width height from cell)

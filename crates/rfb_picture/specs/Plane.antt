@@ -66,11 +66,13 @@ ColumnLost across column from to other old new =
     ≡ (has_at old across y k i
     && not (in_words column from to k y && has_at other across y k i))
 
--- so did each word of the first rows
-abbrev pub RowsLost : ℕ → ℕ → List ℕ → List ℕ → List ℕ → Type 0
-RowsLost across rows other old new =
-    (k y i : ℕ) → k < across → y < rows → i < 64 →
-    has_at new across y k i ≡ (has_at old across y k i && not (has_at other across y k i))
+-- so did each word of the rows from the first up to another
+abbrev pub RowsLost : ℕ → ℕ → ℕ → List ℕ → List ℕ → List ℕ → Type 0
+RowsLost across from to other old new =
+    (k y i : ℕ) → k < across → i < 64 →
+    has_at new across y k i
+    ≡ (has_at old across y k i
+    && not ((nat_le from y && nat_lt y to) && has_at other across y k i))
 
 -- the words from one number up to another have no bit, in both of two lists
 abbrev pub AreUnused : List ℕ → List ℕ → ℕ → ℕ → Type 0
@@ -93,3 +95,15 @@ pub record IsPlane (width height across : ℕ) (words : List ℕ) : Type 0 where
   pub room : width ≤ across * 64
   pub least : across * 64 < width + 64
   pub size : length words ≡ height * across
+
+-- each row that has a mark is one from the first up to the last
+abbrev pub MarksWithin : ℕ → ℕ → ℕ → List ℕ → ℕ → ℕ → Type 0
+MarksWithin width height across words first last =
+    (x y : ℕ) → x < width → y < height → has_place words across x y ≡ true →
+    (first ≤ y) × (y < last)
+
+-- a plane, and the rows that its marks are in
+pub record IsSpanned (width height across : ℕ) (words : List ℕ) (first last : ℕ) : Type 0 where
+  pub sound : IsPlane width height across words
+  pub low : last ≤ height
+  pub within : MarksWithin width height across words first last

@@ -1,6 +1,6 @@
 //! A set of the places of a picture.
 
-ghost use Rattle.std.specs.Prelude.{◌≡◌, ◌↔◌, ◌%◌, ◌<◌, false, true, IfOk, IsTrue};
+ghost use Rattle.std.specs.Prelude.{◌≡◌, ◌↔◌, ◌%◌, ◌<◌, ◌&&◌, false, true, IfOk, IsTrue};
 
 use crate::plane::Plane;
 use crate::rect::Rect;
@@ -47,7 +47,7 @@ impl PlaceSet {
     ghost use Rattle.rfb_picture.specs.Grid.{IsGrid, Holds, at_or, filled, uniform};
     ghost use Rattle.rfb_picture.specs.Box.{is_in, HasBox};
     ghost use Rattle.rfb_picture.specs.Cells.{IsOfCells};
-    ghost use Rattle.rfb_picture.specs.CellOrder.{HasNextCell, HasNextOfBoth};
+    ghost use Rattle.rfb_picture.specs.CellOrder.{HasNextCell, HasNextOfBoth, HasCandidate};
     ghost use Rattle.rfb_picture.specs.Places.{AllMarked, HasRowBits, without};
 
     /// The set with no place, of a picture of `width` by `height` places. It asks for room for all
@@ -164,6 +164,33 @@ impl PlaceSet {
             at = next;
         }
         None
+    }
+
+    /// A cell from number `from` on that may have a place of the set and of `other`, of the same
+    /// size, by the marks of cells alone: no cell before it has a place that is in both. `None`
+    /// where no cell has one. It looks at no place, so it costs less than `next_cell_of_both`.
+    pub fn next_open_of_both(&self, other: &PlaceSet, from: usize) -> Option<usize>
+        requires width { self.now.width ≡ other.now.width }
+        requires height { self.now.height ≡ other.now.height }
+        ensures { HasCandidate (λ x y. is_in self.now x y && is_in other.now x y)
+            self.now.width self.now.height from result }
+    {
+        let mut at = from;
+        while let Some(here) = self.next_open(at) {
+            let there = other.next_open(here)?;
+            if there == here {
+                return Some(here);
+            }
+            at = there;
+        }
+        None
+    }
+
+    // The same of one set.
+    fn next_open(&self, from: usize) -> Option<usize>
+        ensures { HasCandidate (is_in self.now) self.now.width self.now.height from result }
+    {
+        self.layers.next_open(from)
     }
 
     /// Puts the places of the rectangle into the set.

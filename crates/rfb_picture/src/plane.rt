@@ -24,6 +24,9 @@ pub(crate) struct Plane {
     // Row after row; of a row each word has 64 places, the lowest bit the leftmost. As a
     // boxed slice they can't grow.
     words: BoxedSlice<u64>,
+    // Each row that has a mark is one from `first` up to `last`, so others need no look.
+    first: u16,
+    last: u16,
 }
 
 impl Model for Plane {
@@ -31,7 +34,7 @@ impl Model for Plane {
     ghost use Rattle.std.specs.Coded.{coded_bool};
     ghost use Rattle.std.specs.Box.{boxed_slice_items};
     ghost use Rattle.rfb_picture.specs.Grid.{Grid, grid_code};
-    ghost use Rattle.rfb_picture.specs.Plane.{plane, IsPlane};
+    ghost use Rattle.rfb_picture.specs.Plane.{plane, IsSpanned};
 
     ghost Value = { Grid Bool };
 
@@ -39,7 +42,8 @@ impl Model for Plane {
 
     ghost view = { λ s. plane s.width s.height s.across (boxed_slice_items s.words) };
 
-    ghost invariant = { λ s. IsPlane s.width s.height s.across (boxed_slice_items s.words) };
+    ghost invariant = { λ s.
+        IsSpanned s.width s.height s.across (boxed_slice_items s.words) s.first s.last };
 }
 
 impl Plane {
@@ -65,6 +69,8 @@ impl Plane {
             height,
             across,
             words: words.into_boxed_slice(),
+            first: height,
+            last: 0,
         })
     }
 
@@ -172,8 +178,14 @@ impl Plane {
         if self.across == 0 {
             return self.height;
         }
-        let from = usize::from(y) * self.across;
-        (next_used(&self.words, &other.words, from) / self.across) as u16
+        let last = self.last.max(other.last);
+        if y >= last {
+            return self.height;
+        }
+        let first = y.max(self.first.min(other.first)).min(last);
+        let from = usize::from(first) * self.across;
+        let to = usize::from(last) * self.across;
+        (next_used(&self.words, &other.words, from, to) / self.across) as u16
     }
 
     /// Marks the places of the rectangle.
@@ -184,6 +196,8 @@ impl Plane {
         ensures height { self.new.height ≡ self.old.height }
     {
         add_places(&mut self.words, self.across, rect);
+        self.first = self.first.min(rect.y);
+        self.last = self.last.max(rect.y + rect.h);
     }
 
     /// Takes the marks from the places of the cell, which are those of one word in each of 64 rows.
@@ -251,8 +265,21 @@ impl Plane {
             &mut self.words,
             &other.words,
             self.across,
-            usize::from(self.height),
+            usize::from(self.first),
+            usize::from(self.last),
         );
+        self.pass_empty_rows();
+    }
+
+    // The first row that may have a mark is the first whose words have a bit.
+    fn pass_empty_rows(&mut self)
+        ensures { self.new ≡ self.old }
+    {
+        if self.first < self.last && self.across > 0 {
+            let from = usize::from(self.first) * self.across;
+            let to = usize::from(self.last) * self.across;
+            self.first = (next_used(&self.words, &self.words, from, to) / self.across) as u16;
+        }
     }
 
     /// Takes all marks.
@@ -262,6 +289,8 @@ impl Plane {
         ensures height { self.new.height ≡ self.old.height }
     {
         self.words.fill(0);
+        self.first = self.height;
+        self.last = 0;
     }
 
     /// Becomes a copy of `other`, which is of the same size and stays the caller's.
@@ -271,5 +300,7 @@ impl Plane {
         ensures { self.new ≡ other.now }
     {
         self.words.copy_from_slice(&other.words);
+        self.first = other.first;
+        self.last = other.last;
     }
 }

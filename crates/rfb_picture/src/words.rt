@@ -75,14 +75,23 @@ pub(crate) fn take_column(
     }
 }
 
-/// The same for each word of the first `rows` rows.
-pub(crate) fn take_places(words: &mut [u64], other: &[u64], across: usize, rows: usize)
-    requires rows { rows * across ≤ length words.old }
-    requires others { rows * across ≤ length other.now }
-    ensures { RowsLost across rows other.now words.old words.new }
+/// The same for each word of the rows from `top` up to `bottom`.
+pub(crate) fn take_places(
+    words: &mut [u64],
+    other: &[u64],
+    across: usize,
+    top: usize,
+    bottom: usize,
+)
+    requires rows { bottom * across ≤ length words.old }
+    requires others { bottom * across ≤ length other.now }
+    ensures { RowsLost across top bottom other.now words.old words.new }
 {
+    if top >= bottom {
+        return;
+    }
     for column in 0..across {
-        take_column(words, other, across, column, 0, rows);
+        take_column(words, other, across, column, top, bottom);
     }
 }
 
@@ -153,21 +162,21 @@ pub(crate) fn next_place(
     None
 }
 
-/// The number of the first word from number `from` on that has a bit here or in `other`, which has
-/// as many words; how many there are where none has.
+/// The number of the first word from number `from` up to number `to` that has a bit here or in
+/// `other`, which has as many words; `to` where none has.
 #[inline]
-pub(crate) fn next_used(words: &[u64], other: &[u64], from: usize) -> usize
+pub(crate) fn next_used(words: &[u64], other: &[u64], from: usize, to: usize) -> usize
     requires alike { length words.now ≡ length other.now }
-    requires within { from ≤ length words.now }
-    ensures bounds { (from ≤ result) × (result ≤ length words.now) }
+    requires within { (from ≤ to) × (to ≤ length words.now) }
+    ensures bounds { (from ≤ result) × (result ≤ to) }
     ensures none { AreUnused words.now other.now from result }
 {
-    for at in from..words.len() {
+    for at in from..to {
         if words[at] != 0 || other[at] != 0 {
             return at;
         }
     }
-    words.len()
+    to
 }
 
 /// The bits of word `column` for the places from column `from` up to column `to`.

@@ -28,8 +28,8 @@ impl Layers {
         None
     }
 
-    // The number of the first one from number `from` on that is full or used.
-    fn next_open(&self, from: usize) -> Option<usize>
+    /// The number of the first one from number `from` on that is full or used.
+    pub(super) fn next_open(&self, from: usize) -> Option<usize>
         requires sound { IsLayers self.now }
         ensures { HasNextOpen self.now from result }
     {

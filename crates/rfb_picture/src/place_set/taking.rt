@@ -17,11 +17,11 @@ impl Layers {
         requires alike { AreAlike self.old other.now }
         ensures { HasLost (λ _ _. true) other.now self.old self.new }
     {
-        for row in 0..other.used.height() {
-            match other.used.next(0, row) {
-                None => {}
-                Some(_) => self.take_row(other, row),
-            }
+        let rows = other.used.height();
+        let mut row = other.used.next_row_of_either(&other.used, 0);
+        while row < rows {
+            self.take_row(other, row);
+            row = other.used.next_row_of_either(&other.used, row + 1);
         }
     }
 

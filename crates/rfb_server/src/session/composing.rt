@@ -122,11 +122,11 @@ impl Session {
         room
     }
 
-    // The number of the first cell from number `from` on that has marked places and asked ones.
+    // The number of the first cell from number `from` on that may have marked places and asked ones.
     fn next_cell(&self, from: usize) -> Option<usize>
         ensures { HasNext self.now from result }
     {
-        self.marks.next_cell_of_both(self.area.asked(), from)
+        self.marks.next_open_of_both(self.area.asked(), from)
     }
 
     // How many bytes a rectangle in the cell takes at most.

@@ -1,4 +1,4 @@
-use Rattle.std.proofs.Common.{◌≡◌, ℕ, ◌<◌, ◌&&◌, not, nat_lt}
+use Rattle.std.proofs.Common.{◌≡◌, ℕ, ◌<◌, ◌&&◌, not, nat_le, nat_lt}
 use Rattle.rfb_picture.specs.Plane.{has_at}
 use Rattle.rfb_picture.proofs.words.take_places.Given as goal
 
@@ -7,8 +7,7 @@ abbrev pub invariant-loop-column : goal.invariant-loop-column
 invariant-loop-column l =
     (k y i : ℕ) →
     k < l.across →
-    y < l.rows →
     i < 64 →
     has_at l.words l.across y k i
     ≡ (has_at l.initial.words l.across y k i
-    && not (nat_lt k l.column && has_at l.other l.across y k i))
+    && not ((nat_lt k l.column && (nat_le l.top y && nat_lt y l.bottom)) && has_at l.other l.across y k i))

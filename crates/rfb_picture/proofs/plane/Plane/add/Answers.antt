@@ -8,5 +8,5 @@ returns-clause-value c =
     let len : length c.add_places.new.words ≡ c.self.inside.words.items.len = omega arith in
     rw (with_items_is c.self.inside.words.items c.add_places.new.words len, ← c.self.view_is)
     (plane-filled c.self.inside.width c.self.inside.height c.self.inside.across
-    c.self.inside.words.items.items c.add_places.new.words c.args.rect c.self.invariant
+    c.self.inside.words.items.items c.add_places.new.words c.args.rect c.self.invariant.sound
     (rw c.deref_mut.ensures.value at c.add_places.ensures))

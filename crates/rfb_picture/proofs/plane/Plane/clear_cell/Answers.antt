@@ -9,7 +9,7 @@ returns-clause-value c =
     rw (with_items_is c.self.inside.words.items c.clear_column.new.words len, ← c.self.view_is)
     (plane-cell_cleared c.self.inside.width c.self.inside.height c.self.inside.across
     c.self.inside.words.items.items c.clear_column.new.words c.args.column c.args.row
-    c.min-bottom.result c.self.invariant
+    c.min-bottom.result c.self.invariant.sound
     (rw (c.from-top.ensures, c.from.ensures) at c.min-bottom.ensures)
     (rw (
       c.from-top.ensures,

@@ -12,9 +12,9 @@ copy_from_slice-requires c =
     let across =
     same_across c.self.inside.width c.self.inside.height c.self.inside.across
     c.self.inside.words.items.items c.other.inside.height c.other.inside.across
-    c.other.inside.words.items.items c.self.invariant (rw wide c.other.invariant) in
-    let size = c.self.invariant.size in
-    let size_too = c.other.invariant.size in
+    c.other.inside.words.items.items c.self.invariant.sound (rw wide c.other.invariant.sound) in
+    let size = c.self.invariant.sound.size in
+    let size_too = c.other.invariant.sound.size in
     let product : c.self.inside.height * c.self.inside.across
     ≡ c.other.inside.height * c.other.inside.across = rw (high, across) refl in
     omega arith
@@ -28,7 +28,7 @@ returns c =
     let across =
     same_across c.self.inside.width c.self.inside.height c.self.inside.across
     c.self.inside.words.items.items c.other.inside.height c.other.inside.across
-    c.other.inside.words.items.items c.self.invariant (rw wide c.other.invariant) in
+    c.other.inside.words.items.items c.self.invariant.sound (rw wide c.other.invariant.sound) in
     let len : length c.copy_from_slice.new.self ≡ c.self.inside.words.items.len = omega arith in
     rw (
       with_items_is c.self.inside.words.items c.copy_from_slice.new.self len,

@@ -3,8 +3,8 @@ use Rattle.rfb_picture.proofs.PlaneLemmas.{edges-plane}
 use Rattle.rfb_picture.proofs.plane.Plane.edges_in.Goals as goal
 
 pub edges_in-requires-clause-small : goal.edges_in-requires-clause-small
-edges_in-requires-clause-small c = let least = c.self.invariant.least in let narrow =
-    c.self.invariant.narrow in omega arith
+edges_in-requires-clause-small c = let least = c.self.invariant.sound.least in let narrow =
+    c.self.invariant.sound.narrow in omega arith
 
 pub returns : goal.returns
 returns c =

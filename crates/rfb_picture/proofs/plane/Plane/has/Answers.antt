@@ -10,7 +10,7 @@ overflow_mul-from c =
     let column = rw (← c.self.view_is) at c.requires.column in
     let row = rw (← c.self.view_is) at c.requires.row in
     let within =
-    place_word_below _ _ c.self.inside.across _ c.args.x c.args.y c.self.invariant column row in
+    place_word_below _ _ c.self.inside.across _ c.args.x c.args.y c.self.invariant.sound column row in
     rw c.from.ensures (omega arith)
 
 pub overflow_add-from : goal.overflow_add-from
@@ -18,7 +18,7 @@ overflow_add-from c =
     let column = rw (← c.self.view_is) at c.requires.column in
     let row = rw (← c.self.view_is) at c.requires.row in
     let within =
-    place_word_below _ _ c.self.inside.across _ c.args.x c.args.y c.self.invariant column row in
+    place_word_below _ _ c.self.inside.across _ c.args.x c.args.y c.self.invariant.sound column row in
     rw (c.from.ensures, c.from-2.ensures) (omega arith)
 
 pub index-word-requires : goal.index-word-requires
@@ -26,7 +26,7 @@ index-word-requires c =
     let column = rw (← c.self.view_is) at c.requires.column in
     let row = rw (← c.self.view_is) at c.requires.row in
     let within =
-    place_word_below _ _ c.self.inside.across _ c.args.x c.args.y c.self.invariant column row in
+    place_word_below _ _ c.self.inside.across _ c.args.x c.args.y c.self.invariant.sound column row in
     rw (c.from.ensures, c.from-2.ensures) (omega arith)
 
 pub returns : goal.returns
@@ -34,7 +34,7 @@ returns c =
     let column = rw (← c.self.view_is) at c.requires.column in
     let row = rw (← c.self.view_is) at c.requires.row in
     let within =
-    place_word_below _ _ c.self.inside.across _ c.args.x c.args.y c.self.invariant column row in
+    place_word_below _ _ c.self.inside.across _ c.args.x c.args.y c.self.invariant.sound column row in
     let is = rw (c.from.ensures, c.from-2.ensures) at c.index-word.ensures in
     let read = get_or_read c.self.inside.words.items.items
     (c.args.y * c.self.inside.across + c.args.x / 64) c.index-word.result.now within is 0 in

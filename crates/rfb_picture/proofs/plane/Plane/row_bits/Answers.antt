@@ -10,7 +10,7 @@ returns c =
     let column = rw (← c.self.view_is) at c.requires.column in
     let row = rw (← c.self.view_is) at c.requires.row in
     let within =
-    place_word_below _ _ c.self.inside.across _ c.args.x c.args.y c.self.invariant column row in
+    place_word_below _ _ c.self.inside.across _ c.args.x c.args.y c.self.invariant.sound column row in
     let index = c.args.y * c.self.inside.across + c.args.x / 64 in
     let is = rw (c.from.ensures, c.from-column.ensures) at c.index-word.ensures in
     let read : c.index-word.result.now ≡ slice_index_or c.self.inside.words.items.items index 0 =

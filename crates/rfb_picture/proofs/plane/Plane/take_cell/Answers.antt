@@ -18,7 +18,7 @@ returns-clause-value c =
     (plane-cell_taken c.self.inside.width c.self.inside.height c.self.inside.across
     c.other.inside.width c.other.inside.height c.other.inside.across c.args.column c.args.row
     c.min-bottom.result c.self.inside.words.items.items c.take_column.new.words
-    c.other.inside.words.items.items c.self.invariant c.other.invariant wide high
+    c.other.inside.words.items.items c.self.invariant.sound c.other.invariant.sound wide high
     (rw (c.from-top.ensures, c.from.ensures) at c.min-bottom.ensures)
     (rw (
       c.from-top.ensures,

@@ -2,7 +2,7 @@ use Rattle.std.proofs.Common.{◌≡◌, ◌&&◌, ◌*◌, ◌<◌, ◌≤◌, 
 use Rattle.std.specs.Int.{div_ceil}
 use Rattle.rfb_picture.specs.Grid.{Grid}
 use Rattle.rfb_picture.specs.Box.{is_in}
-use Rattle.rfb_picture.specs.CellOrder.{NoneInCells, HasNextOfBoth}
+use Rattle.rfb_picture.specs.CellOrder.{NoneInCells, HasCandidate}
 use Rattle.rfb_server.specs.declared.session.Session.{Session}
 use Rattle.rfb_server.specs.Sends.{NoneMayNeed, HasNext}
 use Rattle.rfb_server.proofs.session.Session.next_cell.Goals as goal
@@ -11,7 +11,7 @@ none_here : (s : Session) (n m : ℕ) → NoneInCells (λ x y. is_in s.marks x y
 none_here s n m none = λ x y p q l u.
     none x y (rw (s.alike.marks_wide) p) (rw (s.alike.marks_high) q) (rw (s.alike.marks_wide) l) (rw (s.alike.marks_wide) u)
 
-next_here : (s : Session) (n : ℕ) (found : Option ℕ) → HasNextOfBoth (is_in s.marks) (is_in s.area.asked) s.marks.width s.marks.height n found → HasNext s n found
+next_here : (s : Session) (n : ℕ) (found : Option ℕ) → HasCandidate (λ x y. is_in s.marks x y && is_in s.area.asked x y) s.marks.width s.marks.height n found → HasNext s n found
 next_here s n None none =
     let all : div_ceil s.marks.width 64 * div_ceil s.marks.height 64 ≡ div_ceil s.known.width 64 * div_ceil s.known.height 64 = rw (s.alike.marks_wide, s.alike.marks_high) refl in
     subst (λ (m : ℕ). NoneMayNeed s n m) all (none_here s n (div_ceil s.marks.width 64 * div_ceil s.marks.height 64) none)
@@ -24,5 +24,5 @@ next_here s n (Some cell) next = record {
 pub returns : goal.returns
 returns c =
     let s = c.args.self.now in
-    next_here s c.args.from c.next_cell_of_both.result
-    (subst (λ (g : Grid Bool). HasNextOfBoth (is_in s.marks) (is_in g) s.marks.width s.marks.height c.args.from c.next_cell_of_both.result) c.asked.ensures c.next_cell_of_both.ensures)
+    next_here s c.args.from c.next_open_of_both.result
+    (subst (λ (g : Grid Bool). HasCandidate (λ x y. is_in s.marks x y && is_in g x y) s.marks.width s.marks.height c.args.from c.next_open_of_both.result) c.asked.ensures c.next_open_of_both.ensures)

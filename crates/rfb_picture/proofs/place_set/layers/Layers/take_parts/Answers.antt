@@ -1,18 +1,26 @@
-use Rattle.rfb_picture.proofs.TakenLemmas.{rows_more, rows_skipped}
-use Rattle.rfb_picture.proofs.place_set.layers.Layers.take_parts.Goals.{in-None, in-Some}
+use Rattle.std.proofs.Common.{◌≤◌, ◌+◌, arith}
+use Rattle.rfb_picture.proofs.TakenLemmas.{rows_more, rows_passed, none_lost}
 use Rattle.rfb_picture.proofs.place_set.layers.Layers.take_parts.Goals as goal
+
+pub loop-row-init : goal.loop-row-init
+loop-row-init c =
+    let old = c.args.self.now in
+    let next = c.next_row_of_either-row in
+    record {
+      lost = rows_passed 0 next.result c.args.other.now old old c.requires.sound_other
+          c.requires.alike next.ensures.bounds.0 next.ensures.none (none_lost c.args.other.now old c.requires.sound);
+      within = omega (arith, next.ensures.bounds.1, c.height-rows.ensures);
+    }
 
 pub loop-row-preserved : goal.loop-row-preserved
 loop-row-preserved c =
-    let row = c.loop-row.row in
     let old = c.args.self.now in
-    elim c.match-next.branch [
-      | in-None w ↦
-          rw w.self-is
-          (rows_skipped row c.args.other.now old c.loop-row.self c.requires.sound_other
-          c.requires.alike w.in-None.ensures c.loop-row.invariant)
-      | in-Some w ↦
-          rw w.self-is
-          (rows_more row c.args.other.now old c.loop-row.self w.take_row.new.self
-          c.loop-row.invariant w.take_row.ensures)
-    ]
+    let row = c.loop-row.row in
+    let next = c.next_row_of_either-row-in-loop-row in
+    let taken = rows_more row c.args.other.now old c.loop-row.self c.take_row.new.self
+    c.loop-row.invariant.lost c.take_row.ensures in
+    record {
+      lost = rows_passed (row + 1) next.result c.args.other.now old c.take_row.new.self
+          c.requires.sound_other c.requires.alike next.ensures.bounds.0 next.ensures.none taken;
+      within = omega (arith, next.ensures.bounds.1, c.height-rows.ensures);
+    }
