@@ -76,6 +76,16 @@ within-passed w h across words first last n sound few none within =
       | inr after ↦ (after, below)
     ]
 
+-- where none is left, they are in any rows
+pub within-none : (w h across : ℕ) (words : List ℕ) (first last n m : ℕ) →
+    last ≤ first →
+    MarksWithin w h across words first last →
+    MarksWithin w h across words n m
+within-none w h across words first last n m empty within =
+    λ x y p q e.
+    let (low, below) = within x y p q e in
+    absurd (omega arith)
+
 -- a row that the marks are not in has none
 no_mark : (w h across : ℕ) (words : List ℕ) (first last x y : ℕ) →
     MarksWithin w h across words first last →

@@ -271,14 +271,21 @@ impl Plane {
         self.pass_empty_rows();
     }
 
-    // The first row that may have a mark is the first whose words have a bit.
+    // The first row that may have a mark is the first whose words have a bit; where none has one,
+    // no row may.
     fn pass_empty_rows(&mut self)
         ensures { self.new ≡ self.old }
     {
         if self.first < self.last && self.across > 0 {
             let from = usize::from(self.first) * self.across;
             let to = usize::from(self.last) * self.across;
-            self.first = (next_used(&self.words, &self.words, from, to) / self.across) as u16;
+            let row = (next_used(&self.words, &self.words, from, to) / self.across) as u16;
+            if row < self.last {
+                self.first = row;
+            } else {
+                self.first = self.height;
+                self.last = 0;
+            }
         }
     }
 
