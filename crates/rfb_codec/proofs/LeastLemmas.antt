@@ -1,5 +1,5 @@
 -- Bytes of a tile that is not raw, fewer than it has at least: the tile waits for more.
-use Rattle.std.proofs.Common.{◌≡◌, bit_and, ℕ, ◌+◌, ◌-◌, ◌*◌, ◌<◌, ◌≤◌, nat_le, if◌then◌else◌, List, [], ◌∷◌, ◌++◌, Bool, true, false, Option, Some, None, length, take, drop, slice_index, refl, sym, subst, ◌∙◌, ap, arith, inl, inr, length-drop, length-append}
+use Rattle.std.proofs.Common.{◌≡◌, ℕ, ◌+◌, ◌-◌, ◌*◌, ◌<◌, ◌≤◌, nat_le, if◌then◌else◌, List, ◌++◌, Bool, true, false, Option, Some, None, length, take, drop, slice_index, refl, sym, ◌∙◌, ap, arith, inl, inr, length-drop, length-append}
 use Rattle.std.proofs.lemmas.List.{drop-drop, get_or_append_left}
 use Rattle.std.proofs.lemmas.Bool.{cases_lt}
 use Rattle.std.proofs.lemmas.Bool.Decides.{nat_tests}
@@ -7,9 +7,8 @@ use Rattle.rfb_pixel.specs.Format.{PixelFormat, size_of, pixel_number}
 use Rattle.rfb_wire.specs.Fields.{u8_at}
 use Rattle.rfb_wire.specs.stream.Reading.{More, Got}
 use Rattle.rfb_wire.specs.stream.Parts.{valued, optional}
-use Rattle.rfb_codec.specs.declared.fault.PaintFault.{PaintFault}
 use Rattle.rfb_codec.specs.Tile.{is_raw, background_specified, foreground_specified, any_subrects, subrects_colored, tile_colour, place_of, colored_of, counted, behind_mask}
-use Rattle.rfb_codec.specs.inside.TileRead.{IsCount, sub_size, colour_size, colours_end, list_end, least_size}
+use Rattle.rfb_codec.specs.inside.TileRead.{sub_size, colour_size, colours_end, list_end, least_size}
 use Rattle.rfb_codec.proofs.PaintTileLemmas.{valued_got, valued_short, counted_short}
 
 -- ---- colours

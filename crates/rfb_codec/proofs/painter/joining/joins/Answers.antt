@@ -2,7 +2,7 @@ use Rattle.std.proofs.Common.{◌≡◌, ◌+◌, ◌<◌, false, length, arith}
 use Rattle.std.proofs.lemmas.Bool.Decides.{nat_tests}
 use Rattle.rfb_codec.specs.Stage.{is_ended}
 use Rattle.rfb_codec.specs.inside.Step.{piece_size}
-use Rattle.rfb_codec.proofs.JoinLemmas.{joined, joined_sound}
+use Rattle.rfb_codec.proofs.JoinLemmas.{joined}
 use Rattle.rfb_codec.proofs.painter.joining.joins.Goals as goal
 
 pub returns-then-len-piece_size-clause-joins : goal.returns-then-len-piece_size-clause-joins
