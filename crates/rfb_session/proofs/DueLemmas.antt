@@ -1,33 +1,26 @@
 -- Where an update is due, and what holds of a link once it has joined the items in flight.
-use Rattle.std.proofs.Common.{◌≡◌, ℕ, false, List, [], ◌∷◌, ◌++◌, map, Option, Some, None, ◌⊎◌, inl, inr, refl, sym, ap, ◌∙◌, subst, append-nil, append_assoc}
+use Rattle.std.proofs.Common.{◌≡◌, ℕ, false, List, [], ◌∷◌, ◌++◌, map, Option, Some, refl, sym, ap, ◌∙◌, subst}
 use Rattle.rfb_pixel.specs.declared.colour.Colour.{Colour}
 use Rattle.rfb_pixel.specs.Format.{PixelFormat}
-use Rattle.rfb_picture.specs.Grid.{Grid, at_or}
+use Rattle.rfb_picture.specs.Grid.{Grid}
 use Rattle.rfb_picture.specs.Area.{Places}
-use Rattle.rfb_picture.proofs.GridLemmas.{width-uniform, height-uniform}
-use Rattle.rfb_wire.specs.stream.Sequel.{First, Second, past_in}
+use Rattle.rfb_wire.specs.stream.Sequel.{Second, past_in}
 use Rattle.rfb_wire.specs.stream.End.{acts}
-use Rattle.rfb_wire.specs.ClientMessage.{SetPixelFormat, SetEncodings, FramebufferUpdateRequest, KeyEvent, PointerEvent, ClientCutText}
 use Rattle.rfb_codec.specs.UpdateStream.{UpdatePoint, UpdateItem, left_behind, update_stream}
 use Rattle.rfb_codec.specs.Effect.{effect, effects, IsAlike, Agrees}
 use Rattle.rfb_codec.specs.WholeUpdate.{update_of}
 use Rattle.rfb_codec.proofs.EffectLaws.{effects_left}
-use Rattle.rfb_server.specs.ClientBytes.{FromClient}
-use Rattle.rfb_server.specs.Server.{Serving, ServerState, item_acts, serves, server}
 use Rattle.rfb_server.specs.Request.{needs_sending}
 use Rattle.rfb_server.specs.Composing.{Part, sent_as, between, Composes, IsDue}
 use Rattle.rfb_server.proofs.ComposingLaws.{shows_screen}
 use Rattle.rfb_viewer.specs.ServerBytes.{ServerAt, FromServer, server_two}
 use Rattle.rfb_viewer.specs.Viewer.{ViewerState, viewer, shows, picture_behind, effect_on}
-use Rattle.rfb_session.specs.Link.{Ends, SessionState, server_of, session_of, Composing, Link}
-use Rattle.rfb_session.specs.Answers.{viewer_answers, viewer_replies, server_answers, server_replies}
-use Rattle.rfb_session.specs.Headline.{IsUnknown, ShowsKnown, ShowsLatest}
-use Rattle.rfb_session.specs.LinkSteps.{ComposesOn, MovesToViewer, MovesToServer}
-use Rattle.rfb_session.proofs.QueueLemmas.{IsRest, update_rest, forgotten_unknown, IsUnasked, none_unasked}
+use Rattle.rfb_session.specs.Link.{Ends, SessionState, server_of, Link}
+use Rattle.rfb_session.specs.Headline.{ShowsKnown, ShowsLatest}
+use Rattle.rfb_session.specs.LinkSteps.{ComposesOn}
+use Rattle.rfb_session.proofs.QueueLemmas.{IsRest, update_rest, IsUnasked, none_unasked}
 use Rattle.rfb_session.proofs.PhaseLemmas.{Core, core, Meets, Awaits, Phase, Greeting, Versioned, Typed, Choosing37, Choosing38, Chosen, Sharing, Begun, Named, Idling, Asking, Held, Sent, meets_as}
-use Rattle.rfb_session.proofs.ShowingLemmas.{shown, phase_shown}
-use Rattle.rfb_session.proofs.ServedLemmas.{served, phase_served, no_answer}
-use Rattle.rfb_session.proofs.HoldsLemmas.{due, Holds, unknown_shows}
+use Rattle.rfb_session.proofs.HoldsLemmas.{due, Holds}
 
 past_effects : (p : UpdatePoint) (item : UpdateItem) (items : List UpdateItem)
     (picture : Grid Colour) → effects (update_stream.past p item) items picture

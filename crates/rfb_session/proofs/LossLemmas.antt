@@ -1,5 +1,5 @@
 -- Bytes that reach an end that has failed have no effect.
-use Rattle.std.proofs.Common.{◌≡◌, ℕ, ◌+◌, List, drop, drop-drop, refl, sym, ap, ◌∙◌}
+use Rattle.std.proofs.Common.{ℕ, ◌+◌, List, drop, drop-drop, refl, ap, ◌∙◌}
 use Rattle.rfb_session.specs.declared.world.World.{World}
 use Rattle.rfb_session.specs.World.{LosesToViewer, LosesToServer}
 

@@ -1,27 +1,21 @@
 -- Where a link stands at all times: in a step of the handshake, or behind it by who has the one
 -- request that can be outstanding.
-use Rattle.std.proofs.Common.{◌≡◌, ℕ, suc, Bool, true, false, List, [], ◌∷◌, ◌++◌, map, length, Option, Some, None, if◌then◌else◌, refl, sym, ap, ◌∙◌, subst, append-nil}
+use Rattle.std.proofs.Common.{◌≡◌, ℕ, true, false, List, [], ◌∷◌, map, Option, Some, None, ◌∙◌}
 use Rattle.rfb_pixel.specs.declared.colour.Colour.{Colour}
-use Rattle.rfb_picture.specs.Grid.{Grid, IsGrid, uniform}
-use Rattle.rfb_picture.proofs.GridLemmas.{width-uniform, height-uniform, whole-uniform}
-use Rattle.rfb_wire.specs.stream.Sequel.{First, Second, past_in}
-use Rattle.rfb_codec.specs.UpdateStream.{UpdatePoint, UpdateItem, update_stream}
-use Rattle.rfb_codec.specs.Effect.{effect}
-use Rattle.rfb_codec.proofs.EffectLaws.{effect_picture}
+use Rattle.rfb_picture.specs.Grid.{Grid, IsGrid}
+use Rattle.rfb_wire.specs.stream.Sequel.{First, Second}
+use Rattle.rfb_codec.specs.UpdateStream.{UpdatePoint}
 use Rattle.rfb_hello.specs.declared.version.Version.{Version}
-use Rattle.rfb_hello.specs.declared.version.Version.TheVariants.{V33, V37, V38}
-use Rattle.rfb_hello.specs.Version.{lower}
+use Rattle.rfb_hello.specs.declared.version.Version.TheVariants.{V37, V38}
 use Rattle.rfb_hello.specs.ClientHandshake.{AwaitsVersion as AwaitsClientVersion, AwaitsChoice, AwaitsInit as AwaitsClientInit, ProtocolVersion as ClientVersion, SecurityType, ClientInit, behind_version}
-use Rattle.rfb_hello.specs.ServerHandshake.{ServerPoint, AwaitsVersion, AwaitsSecurity, AwaitsResult, AwaitsInit, AwaitsName, ServerItem, ProtocolVersion, SecurityResult, ServerInit, Name}
-use Rattle.rfb_hello.specs.ServerAnswers.{types_asked, init_asked, name_asked}
+use Rattle.rfb_hello.specs.ServerHandshake.{ServerPoint, AwaitsVersion, AwaitsSecurity, AwaitsResult, AwaitsInit, AwaitsName, ProtocolVersion, SecurityResult, Name}
+use Rattle.rfb_hello.specs.ServerAnswers.{types_asked, init_asked}
 use Rattle.rfb_server.specs.ClientBytes.{ClientAt, FromClient}
-use Rattle.rfb_viewer.specs.ServerBytes.{ServerAt, FromServer, server_two, first_between}
-use Rattle.rfb_viewer.specs.Told.{is_last}
-use Rattle.rfb_viewer.specs.Viewer.{ViewerState, shows, picture_behind, effect_on, ends_update, black}
+use Rattle.rfb_viewer.specs.ServerBytes.{FromServer}
+use Rattle.rfb_viewer.specs.Viewer.{ViewerState}
 use Rattle.rfb_session.specs.Link.{Ends, SessionState, Composing, Link}
-use Rattle.rfb_session.specs.Answers.{ready_messages, viewer_answers}
 use Rattle.rfb_session.specs.Headline.{IsUnknown}
-use Rattle.rfb_session.proofs.QueueLemmas.{AreMere, AreLater, AskOnce, form_behind, mere_forms, all_later, IsRest, form_kept, width_kept, height_kept, last_leaves_none, IsUnasked}
+use Rattle.rfb_session.proofs.QueueLemmas.{AreMere, AreLater, AskOnce, form_behind, IsRest, IsUnasked}
 
 -- a link but for the bytes of items that have been moved
 pub record Core : Type 0 where

@@ -1,7 +1,7 @@
 -- Where a link stands once an item has reached the viewer.
-use Rattle.std.proofs.Common.{◌≡◌, ℕ, suc, Bool, true, false, List, [], ◌∷◌, ◌++◌, map, length, Option, Some, None, if◌then◌else◌, refl, sym, ap, ◌∙◌, subst, append-nil}
+use Rattle.std.proofs.Common.{◌≡◌, ℕ, suc, Bool, true, false, List, [], ◌∷◌, ◌++◌, map, length, Option, Some, if◌then◌else◌, refl, sym, ap, ◌∙◌, subst, append-nil}
 use Rattle.rfb_pixel.specs.declared.colour.Colour.{Colour}
-use Rattle.rfb_picture.specs.Grid.{Grid, IsGrid, uniform}
+use Rattle.rfb_picture.specs.Grid.{Grid, uniform}
 use Rattle.rfb_picture.proofs.GridLemmas.{width-uniform, height-uniform, whole-uniform}
 use Rattle.rfb_wire.specs.stream.Sequel.{First, Second, past_in}
 use Rattle.rfb_codec.specs.UpdateStream.{UpdatePoint, UpdateItem, update_stream}
@@ -10,18 +10,17 @@ use Rattle.rfb_codec.proofs.EffectLaws.{effect_picture}
 use Rattle.rfb_hello.specs.declared.version.Version.{Version}
 use Rattle.rfb_hello.specs.declared.version.Version.TheVariants.{V33, V37, V38}
 use Rattle.rfb_hello.specs.Version.{lower}
-use Rattle.rfb_hello.specs.ClientHandshake.{AwaitsVersion as AwaitsClientVersion, AwaitsChoice, AwaitsInit as AwaitsClientInit, ProtocolVersion as ClientVersion, SecurityType, ClientInit, behind_version}
-use Rattle.rfb_hello.specs.ServerHandshake.{ServerPoint, AwaitsVersion, AwaitsSecurity, AwaitsResult, AwaitsInit, AwaitsName, ServerItem, ProtocolVersion, SecurityResult, ServerInit, Name}
-use Rattle.rfb_hello.specs.ServerAnswers.{types_asked, init_asked, name_asked}
+use Rattle.rfb_hello.specs.ClientHandshake.{behind_version}
+use Rattle.rfb_hello.specs.ServerHandshake.{ServerPoint, AwaitsSecurity, AwaitsResult, AwaitsInit, AwaitsName, ServerItem, ServerInit, Name}
+use Rattle.rfb_hello.specs.ServerAnswers.{types_asked, name_asked}
 use Rattle.rfb_server.specs.ClientBytes.{ClientAt, FromClient}
 use Rattle.rfb_viewer.specs.ServerBytes.{ServerAt, FromServer, server_two, first_between}
 use Rattle.rfb_viewer.specs.Told.{is_last}
-use Rattle.rfb_viewer.specs.Viewer.{ViewerState, shows, picture_behind, effect_on, ends_update, black}
-use Rattle.rfb_session.specs.Link.{Ends, SessionState, Composing, Link}
+use Rattle.rfb_viewer.specs.Viewer.{shows, picture_behind, effect_on, ends_update, black}
+use Rattle.rfb_session.specs.Link.{Ends}
 use Rattle.rfb_session.specs.Answers.{ready_messages, viewer_answers}
-use Rattle.rfb_session.specs.Headline.{IsUnknown}
-use Rattle.rfb_session.proofs.QueueLemmas.{AreMere, AreLater, AskOnce, form_behind, mere_forms, all_later, IsRest, form_kept, width_kept, height_kept, last_leaves_none, IsUnasked}
-use Rattle.rfb_session.proofs.PhaseLemmas.{Core, core, HasPicture, Stands, Meets, Idles, Asks, Awaits, Sends, shared_init, Phase, Greeting, Versioned, Typed, Choosing37, Choosing38, Chosen, Sharing, Begun, Named, Idling, Asking, Held, Sent, first_is, none_first, meets_as}
+use Rattle.rfb_session.proofs.QueueLemmas.{AreMere, AreLater, form_behind, mere_forms, all_later, IsRest, form_kept, width_kept, height_kept, last_leaves_none}
+use Rattle.rfb_session.proofs.PhaseLemmas.{Core, HasPicture, Stands, Meets, Sends, Phase, Greeting, Versioned, Typed, Choosing37, Choosing38, Chosen, Sharing, Begun, Named, Idling, Asking, Held, Sent, first_is, none_first}
 
 abbrev pub shown : Ends → Core → FromServer → List FromServer → Core
 shown e c item rest = record c {
