@@ -25,6 +25,11 @@ ends_for width height = record {
   viewing = viewing_with rgb888 (Raw ∷ []) V38 true 16777216 1024;
 }
 
+-- a fresh world of these ends, with a black screen
+abbrev pub IsMade : ℕ → ℕ → World → Type 0
+IsMade width height world = StandsFor (ends_for width height) world
+    (first_network (ends_for width height) (uniform width height black))
+
 -- the events led from a fresh world with a black screen to a network that the world stands for;
 -- neither end has failed, and the headline holds of it
 abbrev pub Played : ℕ → ℕ → List Event → World → Type 0

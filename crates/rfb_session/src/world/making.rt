@@ -21,7 +21,7 @@ const MAX_PLACES: u32 = 16_777_216;
 
 impl World {
     ghost use Rattle.rfb_session.specs.World.{HasFewBytes};
-    ghost use Rattle.rfb_session.specs.Played.{Played};
+    ghost use Rattle.rfb_session.specs.Played.{Played, IsMade};
 
     /// A world of two ends of version 3.8 after these events: a server with a black screen that is
     /// named `rfb`, and a viewer that asks for Raw at rgb888. It rests on no premise but memory.
@@ -36,6 +36,17 @@ impl World {
         requires few { All HasFewBytes events.now }
         ensures { IfOk result (λ world. Played width height events.now world) }
     {
+        let mut world = World::made(alloc, width, height)?;
+        world.run(events)?;
+        Ok(world)
+    }
+
+    // Those two ends, before any event.
+    fn made(alloc: Global, width: u16, height: u16) -> Result<World, NoMemory>
+        requires columns { (1 ≤ width) × (width ≤ 4096) }
+        requires rows { (1 ≤ height) × (height ≤ 4096) }
+        ensures { IfOk result (λ world. IsMade width height world) }
+    {
         let server = Server::new(alloc, width, height, b"rfb", Version::V38, TEXT_LIMIT)?;
         let mut encodings = ArrayVec::new();
         encodings.push(Encoding::Raw);
@@ -48,8 +59,7 @@ impl World {
             MAX_PLACES,
             TEXT_LIMIT,
         );
-        let mut world = World::new(alloc, server, viewer)?;
-        world.run(events)?;
+        let world = World::new(alloc, server, viewer)?;
         Ok(world)
     }
 }
