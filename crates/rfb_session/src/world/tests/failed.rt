@@ -30,24 +30,34 @@ fn moves(world: &mut World) -> [usize; 4] {
     [viewer, server, world.to_viewer.len(), world.to_server.len()]
 }
 
+// A world whose viewer was fed no version, and whether that failed.
+fn of_a_failed_viewer(alloc: Global) -> Result<(bool, World), AllocError> {
+    let server = server_of(alloc)?;
+    let mut viewer = viewer_of(alloc);
+    let failed = viewer.feed(&NO_VERSION).is_err();
+    let world = World::new(alloc, server, viewer)?;
+    Ok((failed, world))
+}
+
+// The same of its server.
+fn of_a_failed_server(alloc: Global) -> Result<(bool, World), AllocError> {
+    let mut server = server_of(alloc)?;
+    let failed = server.feed(&NO_VERSION).is_err();
+    let world = World::new(alloc, server, viewer_of(alloc))?;
+    Ok((failed, world))
+}
+
 #[test]
 fn bytes_to_a_viewer_that_has_failed_are_lost(rt: HostRuntime) -> Result<(), AllocError> {
-    let server = server_of(rt.alloc())?;
-    let mut viewer = viewer_of(rt.alloc());
-    let failed = viewer.feed(&NO_VERSION).is_err();
-    assert!(rt; failed);
-    let mut world = World::new(rt.alloc(), server, viewer)?;
-    assert_eq!(rt; moves(&mut world), [12, 0, 0, 0]);
+    let (failed, mut world) = of_a_failed_viewer(rt.alloc())?;
+    assert_eq!(rt; (failed, moves(&mut world)), (true, [12, 0, 0, 0]));
     Ok(())
 }
 
 #[test]
 fn bytes_to_a_server_that_has_failed_are_lost(rt: HostRuntime) -> Result<(), AllocError> {
-    let mut server = server_of(rt.alloc())?;
-    let failed = server.feed(&NO_VERSION).is_err();
-    assert!(rt; failed);
-    let mut world = World::new(rt.alloc(), server, viewer_of(rt.alloc()))?;
+    let (failed, mut world) = of_a_failed_server(rt.alloc())?;
     // The version of each.
-    assert_eq!(rt; moves(&mut world), [12, 12, 0, 0]);
+    assert_eq!(rt; (failed, moves(&mut world)), (true, [12, 12, 0, 0]));
     Ok(())
 }
