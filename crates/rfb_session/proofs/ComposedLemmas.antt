@@ -4,7 +4,6 @@ use Rattle.rfb_pixel.specs.declared.colour.Colour.{Colour}
 use Rattle.rfb_pixel.specs.Format.{PixelFormat}
 use Rattle.rfb_picture.specs.Grid.{Grid}
 use Rattle.rfb_picture.specs.Area.{Places}
-use Rattle.rfb_server.specs.declared.server.Server.{Server}
 use Rattle.rfb_server.specs.Server.{ServerState}
 use Rattle.rfb_server.specs.Standing.{StandsFor as ServerStandsFor, screen_of}
 use Rattle.rfb_server.specs.Composing.{Composes}
@@ -20,15 +19,6 @@ use Rattle.rfb_session.specs.LinkSteps.{ComposesOn, update_items}
 use Rattle.rfb_session.specs.World.{Does, AsksFor, FormatIs}
 use Rattle.rfb_session.proofs.NetworkLemmas.{reached_holds}
 use Rattle.rfb_session.proofs.SentLemmas.{composed_flies}
-
--- a server's areas have its screen's size
-pub asked_sized : (server : Server) →
-    (server.session.area.asked.width ≡ (screen_of server).width)
-    × (server.session.area.asked.height ≡ (screen_of server).height)
-asked_sized server = (
-  server.session.alike.area_wide ∙ sym server.alike.columns,
-  server.session.alike.area_high ∙ sym server.alike.rows,
-)
 
 -- an update was composed, and what it answered was noted
 pub composed_does : (old new : World) (told : Told) (asked : Places) (form : PixelFormat) →
@@ -146,13 +136,10 @@ idle_does old new told stays noted viewer to_server closed none taken not =
 
 -- the places that are asked before a composing, where there is room for them
 pub asks_noted : (w : World) (asked kept : Places) → AsksFor w.server asked →
+    asked.asked.width ≡ (screen_of w.server).width →
+    asked.asked.height ≡ (screen_of w.server).height →
     (w.latest.asked.asked.width ≡ asked.asked.width →
     w.latest.asked.asked.height ≡ asked.asked.height → kept ≡ asked) → AsksFor w.server kept
-asks_noted w asked kept asks keeps = λ serving s prefix stands.
-    let is : asked ≡ w.server.session.area = asks serving s prefix stands ∙ stands.area_is in
-    let sized = asked_sized w.server in
-    let wide : w.latest.asked.asked.width ≡ asked.asked.width =
-    w.room.asked_columns ∙ sym sized.0 ∙ ap (λ (a : Places). a.asked.width) (sym is) in
-    let high : w.latest.asked.asked.height ≡ asked.asked.height =
-    w.room.asked_rows ∙ sym sized.1 ∙ ap (λ (a : Places). a.asked.height) (sym is) in
-    keeps wide high ∙ asks serving s prefix stands
+asks_noted w asked kept asks wide high keeps = λ serving s prefix stands.
+    keeps (w.room.asked_columns ∙ sym wide) (w.room.asked_rows ∙ sym high)
+    ∙ asks serving s prefix stands

@@ -4,7 +4,6 @@ use Rattle.std.proofs.lemmas.Bool.{cases_lt}
 use Rattle.rfb_pixel.specs.declared.colour.Colour.{Colour}
 use Rattle.rfb_picture.specs.declared.rect.Rect.{Rect}
 use Rattle.rfb_picture.specs.Grid.{Grid, Holds, changed}
-use Rattle.rfb_picture.proofs.GridLemmas.{width-changed, height-changed}
 use Rattle.rfb_server.specs.declared.fault.Outside.{Outside as OutsideFault}
 use Rattle.rfb_server.specs.declared.server.Server.{Server}
 use Rattle.rfb_server.specs.Standing.{Draws as ServerDraws, Keeps, screen_of, HoldsBoth}
@@ -16,6 +15,7 @@ use Rattle.rfb_session.specs.Link.{Ends}
 use Rattle.rfb_session.specs.Network.{Network, Draws}
 use Rattle.rfb_session.specs.Told.{RefusesUnless, refused_by}
 use Rattle.rfb_session.specs.World.{StandsFor, HasSameLink}
+use Rattle.rfb_session.proofs.SizeLemmas.{width-changed, height-changed}
 
 -- whether a rectangle lies on the screen is one or the other
 pub held_or_not : (rect : Rect) (g : Grid Colour) → Holds g rect ⊎ (Holds g rect → ⊥)

@@ -3,7 +3,6 @@ use Rattle.std.proofs.Common.{◌≡◌, ℕ, List, [], ◌∷◌, ◌++◌, Opt
 use Rattle.rfb_pixel.specs.declared.colour.Colour.{Colour}
 use Rattle.rfb_pixel.specs.Format.{PixelFormat}
 use Rattle.rfb_picture.specs.Grid.{Grid, at_or}
-use Rattle.rfb_picture.proofs.GridLemmas.{width-uniform, height-uniform}
 use Rattle.rfb_wire.specs.stream.Sequel.{First, Second}
 use Rattle.rfb_wire.specs.stream.End.{acts}
 use Rattle.rfb_wire.specs.ClientMessage.{SetPixelFormat, SetEncodings, FramebufferUpdateRequest, KeyEvent, PointerEvent, ClientCutText}
@@ -19,6 +18,7 @@ use Rattle.rfb_session.proofs.QueueLemmas.{forgotten_unknown}
 use Rattle.rfb_session.proofs.PhaseLemmas.{Core, core, Phase, Greeting, Versioned, Typed, Choosing37, Choosing38, Chosen, Sharing, Begun, Named, Idling, Asking, Held, Sent}
 use Rattle.rfb_session.proofs.ShowingLemmas.{shown, phase_shown}
 use Rattle.rfb_session.proofs.ServedLemmas.{served, phase_served, no_answer}
+use Rattle.rfb_session.proofs.SizeLemmas.{width-uniform, height-uniform}
 
 -- what the viewer shows once all that is in flight has reached it
 abbrev pub due : Ends → Core → Option (Grid Colour)

@@ -18,7 +18,7 @@ pub mod ChannelLemmas
 pub mod DrawnLemmas
 pub mod ComposedLemmas
 pub mod CalledLemmas
-pub mod EndFacts
+pub mod SizeLemmas
 pub mod RunLemmas
 pub mod PlayedLemmas
 pub mod ShownLemmas

@@ -2,7 +2,6 @@
 use Rattle.std.proofs.Common.{◌≡◌, ℕ, List, [], ◌∷◌, map, None, inl, inr, refl, sym, ap, ◌∙◌, subst}
 use Rattle.rfb_pixel.specs.declared.colour.Colour.{Colour}
 use Rattle.rfb_picture.specs.Grid.{Grid, changed}
-use Rattle.rfb_picture.proofs.GridLemmas.{width-changed, height-changed, width-uniform, height-uniform}
 use Rattle.rfb_wire.specs.ClientMessage.{SetEncodings as EncodingsMessage, KeyEvent, PointerEvent, ClientCutText}
 use Rattle.rfb_wire.specs.Encoding.{number_of}
 use Rattle.rfb_wire.specs.stream.Sequel.{First, Second}
@@ -20,6 +19,7 @@ use Rattle.rfb_session.proofs.PhaseLemmas.{Core, core, Phase, Greeting, Versione
 use Rattle.rfb_session.proofs.HoldsLemmas.{Holds, holds_to_viewer, holds_to_server}
 use Rattle.rfb_session.proofs.DueLemmas.{holds_composed}
 use Rattle.rfb_session.proofs.CallLemmas.{holds_mere, holds_request, holds_format}
+use Rattle.rfb_session.proofs.SizeLemmas.{width-changed, height-changed, width-uniform, height-uniform}
 
 -- each step of a link
 pub link_holds : (e : Ends) (screen : Grid Colour) (old new : Link) (event : LinkEvent) →

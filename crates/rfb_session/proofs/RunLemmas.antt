@@ -1,5 +1,7 @@
 -- Runs of a world: step after step, and what holds behind them.
 use Rattle.std.proofs.Common.{List, [], ◌∷◌, ◌++◌, refl, subst}
+use Rattle.rfb_server.proofs.ServerLaws.{server_going}
+use Rattle.rfb_viewer.proofs.ViewerLaws.{viewer_going}
 use Rattle.rfb_session.specs.declared.event.Event.{Event}
 use Rattle.rfb_session.specs.declared.told.Told.{Told}
 use Rattle.rfb_session.specs.declared.world.World.{World}
@@ -7,7 +9,6 @@ use Rattle.rfb_session.specs.Link.{Ends}
 use Rattle.rfb_session.specs.Network.{Network, StepsAll, IsReached}
 use Rattle.rfb_session.specs.World.{StandsFor, Does, Reaches, NeitherFailed}
 use Rattle.rfb_session.proofs.WorldLemmas.{steps_last}
-use Rattle.rfb_session.proofs.EndFacts.{server_goes_on, viewer_goes_on}
 
 -- a network, and nothing said of it
 abbrev pub Any : Ends → Network → Type 0
@@ -41,8 +42,8 @@ run_more old mid new events event told runs does = λ e n made reached stands.
 -- a world that stands for a network has not failed
 pub neither_failed : (e : Ends) (w : World) (n : Network) → StandsFor e w n → NeitherFailed w
 neither_failed e w n stands = (
-  server_goes_on e.serving w.server _ _ stands.carries.server_is,
-  viewer_goes_on e.viewing w.viewer _ _ stands.carries.viewer_is,
+  server_going e.serving w.server _ _ stands.carries.server_is,
+  viewer_going e.viewing w.viewer _ _ stands.carries.viewer_is,
 )
 
 -- what holds of all that is reached holds behind a run

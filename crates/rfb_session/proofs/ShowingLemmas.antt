@@ -2,7 +2,6 @@
 use Rattle.std.proofs.Common.{◌≡◌, ℕ, suc, Bool, true, false, List, [], ◌∷◌, ◌++◌, map, length, Option, Some, if◌then◌else◌, refl, sym, ap, ◌∙◌, subst, append-nil}
 use Rattle.rfb_pixel.specs.declared.colour.Colour.{Colour}
 use Rattle.rfb_picture.specs.Grid.{Grid, uniform}
-use Rattle.rfb_picture.proofs.GridLemmas.{width-uniform, height-uniform, whole-uniform}
 use Rattle.rfb_wire.specs.stream.Sequel.{First, Second, past_in}
 use Rattle.rfb_codec.specs.UpdateStream.{UpdatePoint, UpdateItem, update_stream}
 use Rattle.rfb_codec.specs.Effect.{effect}
@@ -21,6 +20,7 @@ use Rattle.rfb_session.specs.Link.{Ends}
 use Rattle.rfb_session.specs.Answers.{ready_messages, viewer_answers}
 use Rattle.rfb_session.proofs.QueueLemmas.{AreMere, AreLater, form_behind, mere_forms, all_later, IsRest, form_kept, width_kept, height_kept, last_leaves_none}
 use Rattle.rfb_session.proofs.PhaseLemmas.{Core, HasPicture, Stands, Meets, Sends, Phase, Greeting, Versioned, Typed, Choosing37, Choosing38, Chosen, Sharing, Begun, Named, Idling, Asking, Held, Sent, first_is, none_first}
+use Rattle.rfb_session.proofs.SizeLemmas.{width-uniform, height-uniform, whole-uniform}
 
 abbrev pub shown : Ends → Core → FromServer → List FromServer → Core
 shown e c item rest = record c {
