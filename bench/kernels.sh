@@ -1,18 +1,16 @@
 #!/usr/bin/env bash
-# Prints how many instructions single calls of the low crates and of the codecs need. They are made by tests that this adds to copies
-# of the crates (kernels/*.txt), which are proved and built there. Needs valgrind.
+# Prints how many instructions single calls of the low crates and of the codecs need. They are made by
+# tests that this adds to copies of the crates (kernels/*.txt), which are proved and built there.
+# Needs valgrind.
 set -euo pipefail
 cd "$(dirname "$0")/.."
-copy=$(mktemp -d)
-trap 'rm -rf "$copy"' EXIT
-mkdir "$copy/crates"
-cp crates.txt HANDLES "$copy"
-cp -r crates/rfb_pixel crates/rfb_picture crates/rfb_wire crates/rfb_codec "$copy/crates"
-sed -i '/^rfb_pixel:\|^rfb_picture:\|^rfb_wire:\|^rfb_codec:/!d' "$copy/crates.txt"
+. bench/scratch.sh
+low_crates
 cat bench/kernels/rfb_picture.txt >> "$copy/crates/rfb_picture/src/tests.rt"
 cat bench/kernels/rfb_pixel.txt >> "$copy/crates/rfb_pixel/src/format/tests.rt"
 cat bench/kernels/rfb_codec.txt >> "$copy/crates/rfb_codec/src/codec/tests.rt"
-# The test's own look at the pixels, which else is left out where nothing is encoded after it, is kept in both sides of a difference.
+# The test's own look at the pixels, which else is left out where nothing is encoded after it, is kept
+# in both sides of a difference.
 sed -i 's/^fn fits(/#[inline(never)]\n&/' "$copy/crates/rfb_codec/src/codec/tests.rt"
 cat bench/kernels/rfb_codec_decode.txt >> "$copy/crates/rfb_codec/src/painter/tests.rt"
 for crate in rfb_pixel rfb_picture rfb_codec; do

@@ -1,26 +1,16 @@
 #!/usr/bin/env bash
-# Prints what `Painter::feed` needs for a whole picture of fill lines (office.fills.gz, or the file that is named) in slices:
-# instructions a place, and of slices of one byte also a byte. The cells are those of our own encoders; `foreign` is all lines as
-# subrectangles of one RRE rectangle. The program (slices/main.txt) is proved and built over copies of the crates, some ten minutes
-# without their `out/`. Needs valgrind and Python.
+# Prints what `Painter::feed` needs for a whole picture of fill lines (office.fills.gz, or the file
+# that is named) in slices: instructions a place, and of slices of one byte also a byte. The cells
+# are those of our own encoders; `foreign` is all lines as subrectangles of one RRE rectangle. The
+# program (slices/main.txt) is proved and built over copies of the crates, some ten minutes without
+# their `out/`. Needs valgrind and Python.
 set -euo pipefail
 cd "$(dirname "$0")/.."
-fills=$(realpath "${1:-bench/office.fills.gz}")
-copy=$(mktemp -d)
-trap 'rm -rf "$copy"' EXIT
-mkdir -p "$copy/crates/slices/src" "$copy/crates/slices/proofs/feed_all"
-cp HANDLES "$copy"
-cp -r crates/rfb_pixel crates/rfb_picture crates/rfb_wire crates/rfb_codec "$copy/crates"
-sed '/^rfb_pixel:\|^rfb_picture:\|^rfb_wire:\|^rfb_codec:/!d' crates.txt > "$copy/crates.txt"
-echo 'slices: rfb_pixel rfb_picture rfb_wire rfb_codec byteorder anyhow' >> "$copy/crates.txt"
-cp bench/slices/main.txt "$copy/crates/slices/src/main.rt"
+. bench/scratch.sh
+program slices 'rfb_pixel rfb_picture rfb_wire rfb_codec byteorder anyhow' \
+  "${1:-bench/office.fills.gz}"
+mkdir -p "$copy/crates/slices/proofs/feed_all"
 cp bench/slices/Invariants.txt "$copy/crates/slices/proofs/feed_all/Invariants.antt"
-python3 - "$fills" > "$copy/fills" <<'END'
-import gzip, struct, sys
-for line in gzip.open(sys.argv[1], "rt"):
-    word, *rest = line.split()
-    sys.stdout.buffer.write(struct.pack(">4H", *map(int, rest[:4])) + bytes.fromhex(rest[4]) + b"\0")
-END
 cd "$copy/crates/slices"
 rt run < /dev/null > build.log 2>&1 || true # it ends with a fault, since it has nothing to read
 codecs=(Raw RRE Hextile foreign)
@@ -28,12 +18,15 @@ formats=(rgb888 rgb565 bgr233)
 
 # codec, format and size of slices
 measure() {
-  python3 -c "import struct, sys; sys.stdout.buffer.write(bytes([$1, $2, 1, 0]) + struct.pack('>H', $3))" > head
-  cat head "$copy/fills" > input
+  local told head="bytes([$1, $2, 1, 0]) + struct.pack('>H', $3)"
+  python3 -c "import struct, sys; sys.stdout.buffer.write($head)" | cat - "$copy/fills" > input
   told=$(out/slices < input)
-  valgrind --tool=callgrind --callgrind-out-file=/dev/null --toggle-collect='*feed_all*' out/slices < input 2>&1 \
-    | awk -v what="${codecs[$1]} at ${formats[$2]}, slices of $3" -v told="$told" \
-      '/Collected/ {split(told, t); printf "%s: %.2f a place, %.1f a byte; %s\n", what, $4 / 2073600, $4 / t[6], told}'
+  valgrind --tool=callgrind --callgrind-out-file=/dev/null --toggle-collect='*feed_all*' \
+    out/slices < input 2>&1 \
+    | awk -v what="${codecs[$1]} at ${formats[$2]}, slices of $3" -v told="$told" '/Collected/ {
+        split(told, t)
+        printf "%s: %.2f a place, %.1f a byte; %s\n", what, $4 / 2073600, $4 / t[6], told
+      }'
 }
 
 for format in 0 1 2; do

@@ -1,0 +1,30 @@
+# Sourced by the scripts that prove and build over copies of the low crates.
+
+# Makes the folder $copy, with copies of these crates. It goes when the script ends.
+low_crates() {
+  copy=$(mktemp -d)
+  trap 'rm -rf "$copy"' EXIT
+  mkdir "$copy/crates"
+  cp HANDLES "$copy"
+  cp -a crates/rfb_pixel crates/rfb_picture crates/rfb_wire crates/rfb_codec "$copy/crates"
+  grep '^rfb_pixel:\|^rfb_picture:\|^rfb_wire:\|^rfb_codec:' crates.txt > "$copy/crates.txt"
+}
+
+# program NAME LIBRARIES FILE: the same with the crate NAME, whose program is bench/NAME/main.txt,
+# and `fills`, the fill lines of the gzipped FILE: of each its four numbers, two bytes each, the
+# three bytes of its colour, and a 0.
+program() {
+  local lines
+  lines=$(realpath "$3")
+  low_crates
+  echo "$1: $2" >> "$copy/crates.txt"
+  mkdir -p "$copy/crates/$1/src"
+  cp "bench/$1/main.txt" "$copy/crates/$1/src/main.rt"
+  python3 - "$lines" > "$copy/fills" <<'END'
+import gzip, struct, sys
+for line in gzip.open(sys.argv[1], "rt"):
+    word, *rest = line.split()
+    place = struct.pack(">4H", *map(int, rest[:4]))
+    sys.stdout.buffer.write(place + bytes.fromhex(rest[4]) + b"\0")
+END
+}
