@@ -7,8 +7,7 @@ use Rattle.std.proofs.Math.Nat.{mul-le-mul_right, mul-le-mul_left}
 use Rattle.rfb_pixel.specs.Format.{PixelFormat, size_of}
 use Rattle.rfb_picture.specs.declared.rect.Rect.{Rect}
 use Rattle.rfb_picture.specs.Rect.{contains}
-use Rattle.rfb_picture.specs.Grid.{Grid}
-use Rattle.rfb_picture.specs.Box.{is_in, IsClear, IsTight, IsBox}
+use Rattle.rfb_picture.specs.Box.{IsTight}
 use Rattle.rfb_picture.proofs.GridLemmas.{contains_true, contains_row}
 use Rattle.rfb_server.specs.Cells.{cell_of, IsCell}
 use Rattle.rfb_server.specs.Sends.{sum_below, IsCost, AreCosts}
@@ -111,40 +110,30 @@ module _ (width height across : ℕ) (p : ℕ → ℕ → Bool) (form : PixelFor
       let (f, g, h, i) = contains_true cell x y there in
       that.all x y (omega (arith, is.held)) (omega (arith, is.held)) (is.inside x y there)
 
-  module _ (marks : Grid Bool) (marked : (x y : ℕ) → p x y ≡ true → is_in marks x y ≡ true) where
-    -- nothing marked costs nothing
-    pub cost_clear : (n : ℕ) (other cell : Rect) → IsCell width height across n other → IsCell width height across n cell →
-        IsClear (is_in marks) other.x (other.x + other.w) other.y (other.y + other.h) → IsCost p form cell 0
-    cost_clear n other cell that is clear = λ r tight a b c d.
-        let (j, inside, m) = tight.left in
-        let (f, g, h, i) = contains_true other r.x j (edge n cell other r r.x j is that a b c d inside) in
-        absurd (both_ways (is_in marks r.x j) (clear r.x j f g h i) (marked r.x j m))
+  -- a rectangle whose edges have such a place is no larger than the cell that it lies in
+  in_cell : (n : ℕ) (other cell r : Rect) → IsCell width height across n other → IsCell width height across n cell →
+      IsTight p r → cell.x ≤ r.x → r.x + r.w ≤ cell.x + cell.w → cell.y ≤ r.y → r.y + r.h ≤ cell.y + cell.h →
+      (r.w ≤ other.w) × (r.h ≤ other.h)
+  in_cell n other cell r that is tight a b c d =
+      let (j0, c0, m0) = tight.left in
+      let (j1, c1, m1) = tight.right in
+      let (i2, c2, m2) = tight.top in
+      let (i3, c3, m3) = tight.bottom in
+      let l = contains_true other r.x j0 (edge n cell other r r.x j0 is that a b c d c0) in
+      let g = contains_true other (r.x + r.w - 1) j1 (edge n cell other r (r.x + r.w - 1) j1 is that a b c d c1) in
+      let t = contains_true other i2 r.y (edge n cell other r i2 r.y is that a b c d c2) in
+      let u = contains_true other i3 (r.y + r.h - 1) (edge n cell other r i3 (r.y + r.h - 1) is that a b c d c3) in
+      (omega (arith, l, g), omega (arith, t, u))
 
-    -- a rectangle whose edges are marked lies in the marked zone of the cell
-    in_zone : (n : ℕ) (other cell zone r : Rect) → IsCell width height across n other → IsCell width height across n cell →
-        IsBox (is_in marks) other zone → IsTight p r →
-        cell.x ≤ r.x → r.x + r.w ≤ cell.x + cell.w → cell.y ≤ r.y → r.y + r.h ≤ cell.y + cell.h →
-        (r.w ≤ zone.w) × (r.h ≤ zone.h)
-    in_zone n other cell zone r that is box tight a b c d =
-        let (j0, c0, m0) = tight.left in
-        let (j1, c1, m1) = tight.right in
-        let (i2, c2, m2) = tight.top in
-        let (i3, c3, m3) = tight.bottom in
-        let l = contains_true zone r.x j0 (box.holds r.x j0 (edge n cell other r r.x j0 is that a b c d c0) (marked r.x j0 m0)) in
-        let g = contains_true zone (r.x + r.w - 1) j1 (box.holds (r.x + r.w - 1) j1 (edge n cell other r (r.x + r.w - 1) j1 is that a b c d c1) (marked (r.x + r.w - 1) j1 m1)) in
-        let t = contains_true zone i2 r.y (box.holds i2 r.y (edge n cell other r i2 r.y is that a b c d c2) (marked i2 r.y m2)) in
-        let u = contains_true zone i3 (r.y + r.h - 1) (box.holds i3 (r.y + r.h - 1) (edge n cell other r i3 (r.y + r.h - 1) is that a b c d c3) (marked i3 (r.y + r.h - 1) m3)) in
-        (omega (arith, l, g), omega (arith, t, u))
-
-    pub cost_zone : (n : ℕ) (other cell zone : Rect) → IsCell width height across n other → IsCell width height across n cell →
-        IsBox (is_in marks) other zone → IsCost p form cell (12 + zone.h * zone.w * size_of form)
-    cost_zone n other cell zone that is box = λ r tight a b c d.
-        let (w, h) = in_zone n other cell zone r that is box tight a b c d in
-        let rows : r.h * r.w ≤ zone.h * r.w = mul-le-mul_right r.w h in
-        let columns : zone.h * r.w ≤ zone.h * zone.w = mul-le-mul_left zone.h w in
-        let all : r.h * r.w ≤ zone.h * zone.w = omega arith in
-        let bytes : r.h * r.w * size_of form ≤ zone.h * zone.w * size_of form = mul-le-mul_right (size_of form) all in
-        omega arith
+  pub cost_cell : (n : ℕ) (other cell : Rect) → IsCell width height across n other → IsCell width height across n cell →
+      IsCost p form cell (12 + other.h * other.w * size_of form)
+  cost_cell n other cell that is = λ r tight a b c d.
+      let (w, h) = in_cell n other cell r that is tight a b c d in
+      let rows : r.h * r.w ≤ other.h * r.w = mul-le-mul_right r.w h in
+      let columns : other.h * r.w ≤ other.h * other.w = mul-le-mul_left other.h w in
+      let all : r.h * r.w ≤ other.h * other.w = omega arith in
+      let bytes : r.h * r.w * size_of form ≤ other.h * other.w * size_of form = mul-le-mul_right (size_of form) all in
+      omega arith
 
   -- where all cells cost nothing no place is such
   pub none_without_room : (cost : ℕ → ℕ) (n : ℕ) (cell : Rect) (x y : ℕ) → AreCosts width height across p form n cost → sum_below cost n ≤ 0 →

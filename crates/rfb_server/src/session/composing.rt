@@ -104,8 +104,8 @@ impl Session {
         self.hints.clear();
     }
 
-    // How many bytes the rectangles of cells take at most, by what is marked and asked: none where
-    // no place is both.
+    // How many bytes the rectangles of cells take at most, by the cells that may have marked places
+    // and asked ones: none where no place is both.
     fn room(&self) -> usize
         ensures enough { IsEnough self.now (div_ceil self.now.known.width 64)
             (div_ceil self.now.known.width 64 * div_ceil self.now.known.height 64) result }
@@ -129,9 +129,8 @@ impl Session {
         self.marks.next_open_of_both(self.area.asked(), from)
     }
 
-    // How many bytes a rectangle in the cell takes at most.
+    // How many bytes a rectangle in the cell takes at most: as many as all of the cell.
     fn cost_of(&self, cell: Rect) -> usize
-        requires held { Holds self.now.known cell }
         requires sides { (cell.w ≤ 64) × (cell.h ≤ 64) }
         ensures enough { (across n : ℕ) (other : Rect)
             → IsCell self.now.known.width self.now.known.height across n cell
@@ -139,13 +138,8 @@ impl Session {
             → IsCostIn self.now other result }
         ensures bound { result ≤ 16396 }
     {
-        match self.marks.bounds_in(cell) {
-            None => 0,
-            Some(zone) => {
-                let places = usize::from(zone.h) * usize::from(zone.w);
-                RECT_HEAD_SIZE + places * self.format.size()
-            }
-        }
+        let places = usize::from(cell.h) * usize::from(cell.w);
+        RECT_HEAD_SIZE + places * self.format.size()
     }
 
     // Sends what of each cell needs sending, and tells how many rectangles that makes. There is

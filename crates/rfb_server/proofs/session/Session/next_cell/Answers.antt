@@ -1,4 +1,4 @@
-use Rattle.std.proofs.Common.{◌≡◌, ◌&&◌, ◌*◌, ◌<◌, ◌≤◌, ℕ, Bool, Option, Some, None, refl, subst}
+use Rattle.std.proofs.Common.{◌≡◌, ◌&&◌, ◌*◌, ℕ, Bool, Option, Some, None, refl, subst}
 use Rattle.std.specs.Int.{div_ceil}
 use Rattle.rfb_picture.specs.Grid.{Grid}
 use Rattle.rfb_picture.specs.Box.{is_in}

@@ -1,4 +1,4 @@
-use Rattle.std.proofs.Common.{◌≡◌, ◌+◌, ◌*◌, ◌<◌, ◌≤◌, ℕ, refl, subst, arith, ◌∙◌}
+use Rattle.std.proofs.Common.{◌≡◌, ◌+◌, ◌*◌, ◌<◌, ℕ, refl, subst, arith, ◌∙◌}
 use Rattle.std.specs.Int.{div_ceil}
 use Rattle.rfb_server.specs.Cells.{IsCell}
 use Rattle.rfb_server.specs.Sends.{IsCost, AppendsCells, NoneMayNeed, may_need}
