@@ -1,37 +1,91 @@
 #!/usr/bin/env bash
-# Refuses the program one allocation in each run, as `rt try --fail-alloc` counts them. Such a run must end
-# with status 1, print nothing on standard output, and end its standard error with the one line
-# 'fault 30 NoMemory'; or end as a run does where none is refused, if it had no such allocation or could do
-# without it.
+# Runs a program, named by its path, on the calls of .ci/program, and refuses it one allocation in
+# each run: the first, the second, and so on to the last. Such a run must end with status 1, print
+# nothing on standard output, and end its standard error with the line 'fault 30 NoMemory'; or end as
+# a run does where none is refused, if it could do without it. A command that prints as it goes,
+# `serve` or `view`, may have printed a beginning.
 #
-#   .ci/memory.sh FIRST LAST     the numbers of the first and the last allocation to refuse
+#   .ci/memory.sh crates/rfb/out/rfb
 #
-# It is no part of the gate: `rt try` builds the program anew for each run, which takes half a minute.
+# Calls whose memory or output is limited, or whose input is made up, are left out. It needs a C
+# compiler, for malloc and realloc in the place of libc's, so it is no part of the gate.
 # The last line is 'N passed, M failed'.
 set -u
 export LC_ALL=C
-cd "$(dirname "$0")/../crates/rfb" || exit 2
+calls=$(cd "$(dirname "$0")" && pwd)/program
+program=$(realpath "$1")
 room=$(mktemp -d)
 trap 'rm -rf "$room"' EXIT
-first=$1 last=$2
 
-passed=0 refused=0 failed=0
-for ((number = first; number <= last; number++)); do
-    status=0
-    rt try --fail-alloc "$number" -- script < stdin > "$room/stdout" 2> "$room/all" || status=$?
-    # What `rt try` itself tells is left out.
-    grep -vE '^(rt: |allocations: |interpreter: |checked: |run=)' "$room/all" > "$room/stderr"
-    if [ "$status" = 0 ] && cmp -s "$room/stdout" stdout; then
-        passed=$((passed + 1))
-    elif [ "$status" = 1 ] && [ ! -s "$room/stdout" ] \
-        && [ "$(tail -n 1 "$room/stderr")" = "fault 30 NoMemory" ]; then
-        passed=$((passed + 1)) refused=$((refused + 1))
-    else
-        failed=$((failed + 1))
-        echo "with allocation $number refused its status is $status, and standard error is:"
-        cat "$room/stderr"
-    fi
+# The call numbered by REFUSE fails, and makes the file named by REFUSED.
+cat > "$room/refuse.c" <<'END'
+#include <errno.h>
+#include <fcntl.h>
+#include <stdlib.h>
+#include <unistd.h>
+void *__libc_malloc(size_t);
+void *__libc_realloc(void *, size_t);
+static long left;
+static const char *mark;
+__attribute__((constructor)) static void begin(void) {
+    const char *number = getenv("REFUSE");
+    left = number ? atol(number) : 0;
+    mark = getenv("REFUSED");
+}
+static int refused(void) {
+    if (left == 0 || --left != 0) return 0;
+    int file = open(mark, O_CREAT | O_WRONLY, 0600);
+    if (file >= 0) close(file);
+    errno = ENOMEM;
+    return 1;
+}
+void *malloc(size_t size) { return refused() ? NULL : __libc_malloc(size); }
+void *realloc(void *at, size_t size) { return refused() ? NULL : __libc_realloc(at, size); }
+END
+cc -shared -fPIC -o "$room/refuse.so" "$room/refuse.c" || exit 2
+
+# The file of a call, or nothing.
+file() { if [ -e "$1" ]; then echo "$1"; else echo /dev/null; fi; }
+
+# Runs the call $1 with allocation $2 refused; its outputs and its status go to files named $3.
+run() {
+    local words status=0
+    mapfile -t words < "$(file "$1/args")"
+    REFUSE=$2 REFUSED="$room/refused" LD_PRELOAD="$room/refuse.so" timeout 60 \
+        "$program" "${words[@]}" < "$(file "$1/stdin")" > "$room/$3.out" 2> "$room/$3.err" || status=$?
+    echo "$status" > "$room/$3.status"
+}
+
+same() { cmp -s "$room/one.$1" "$room/all.$1"; }
+
+# Whether what one run printed is nothing, or a beginning where the call $1 prints as it goes.
+is_beginning() {
+    [ -s "$room/one.out" ] || return 0
+    grep -qxE 'serve|view' "$(file "$1/args")" || return 1
+    cmp -s -n "$(stat -c %s "$room/one.out")" "$room/one.out" "$room/all.out"
+}
+
+passed=0 failed=0
+for call in "$calls"/*/; do
+    call=${call%/} name=$(basename "$call") refused=0
+    if [ -e "$call/memory" ] || [ -e "$call/device" ] || [ -e "$call/more" ]; then continue; fi
+    run "$call" 0 all
+    for ((number = 1; ; number++)); do
+        rm -f "$room/refused"
+        run "$call" "$number" one
+        [ -e "$room/refused" ] || break
+        if same status && same out && same err; then
+            passed=$((passed + 1))
+        elif [ "$(cat "$room/one.status")" = 1 ] && is_beginning "$call" \
+            && [ "$(tail -n 1 "$room/one.err")" = "fault 30 NoMemory" ]; then
+            passed=$((passed + 1)) refused=$((refused + 1))
+        else
+            failed=$((failed + 1))
+            echo "$name with allocation $number refused: status $(cat "$room/one.status")"
+            cat "$room/one.err"
+        fi
+    done
+    echo "$name: $((number - 1)) allocations, $refused of them told as want of memory"
 done
-echo "$refused of them told as want of memory"
 echo "$passed passed, $failed failed"
 [ "$failed" = 0 ] && [ "$passed" != 0 ]
