@@ -1,5 +1,5 @@
--- What an engine did with its end: bytes that the end was fed, in turn with acts of the engine's own,
--- as a list of steps that each further step makes longer.
+-- What an engine did with its end: bytes that the end was fed, in turn with acts of the engine's
+-- own, as a list of steps that each further step makes longer.
 use Rattle.std.specs.Prelude.{◌≡◌, ℕ, ◌+◌, List, [], ◌∷◌, ◌++◌, Option}
 use Rattle.rfb_wire.specs.stream.End.{Machine, Takes}
 
@@ -8,8 +8,8 @@ pub data Step (E A : Type 0) : Type 0 where
   Fed : (bytes : List ℕ) → (event : Option E) → Step E A
   Did : (act : A) → Step E A
 
--- an end as engines run it: what it was made with, and by that its machine; what it stands for; what
--- an act makes of a state; what is sent at a step; and how many updates a step is the end of
+-- an end as engines run it: what it was made with, and by that its machine; what it stands for;
+-- what an act makes of a state; what is sent at a step; and how many updates a step is the end of
 pub record Driven (V C S P I F E A : Type 0) : Type 1 where
   pub machine : C → Machine S P I F E
   pub stands : C → V → S → List ℕ → Type 0
@@ -30,7 +30,8 @@ module _ {E A : Type 0} where
 module _ {V C S P I F E A : Type 0} where
   -- one step, from a state and the bytes that came of the next item to others
   abbrev pub StepsTo : Driven V C S P I F E A → C → S → List ℕ → Step E A → S → List ℕ → Type 0
-  StepsTo d made s prefix (Fed bytes event) t rest = Takes (d.machine made) s prefix bytes event t rest
+  StepsTo d made s prefix (Fed bytes event) t rest =
+      Takes (d.machine made) s prefix bytes event t rest
   StepsTo d made s prefix (Did act) t rest = d.does s act t × (rest ≡ prefix)
 
   -- steps one after another, the latest of which stands first in the list
@@ -49,8 +50,8 @@ module _ {V C S P I F E A : Type 0} where
   updates_in d [] = 0
   updates_in d (step ∷ before) = updates_in d before + d.updates step
 
-  -- steps lead from a state and a prefix to one that the end then stands for: it was fed those bytes,
-  -- those are sent, and so many updates ended
+  -- steps lead from a state and a prefix to one that the end then stands for: it was fed those
+  -- bytes, those are sent, and so many updates ended
   pub record Ran (d : Driven V C S P I F E A) (made : C) (s : S) (prefix : List ℕ) (new : V)
       (fed sent : List ℕ) (updates : ℕ) : Type 0 where
     pub steps : List (Step E A)

@@ -12,21 +12,24 @@ abbrev pub most : ℕ → ℕ
 most n = min n (2 ^ 64 - 1)
 
 -- the viewer was fed what was read
-pub record Played (unread left : Option (List ℕ)) (old : Viewer) (updates : ℕ) (new : Viewer) : Type 0 where
+pub record Played (unread left : Option (List ℕ)) (old : Viewer) (updates : ℕ)
+    (new : Viewer) : Type 0 where
   pub fed : List ℕ
   pub sent : List ℕ
   pub read : Consumes unread left fed
   pub runs : ViewerRuns old fed sent updates new
 
 -- it was fed all that there was, if that is known and has fewer than 2 ^ 64 - 1 bytes
-pub record AllPlayed (unread left : Option (List ℕ)) (old : Viewer) (told : ℕ) (new : Viewer) : Type 0 where
+pub record AllPlayed (unread left : Option (List ℕ)) (old : Viewer) (told : ℕ)
+    (new : Viewer) : Type 0 where
   pub updates : ℕ
   pub told_is : told ≡ most updates
   pub played : Played unread left old updates new
   pub ended : (bytes : List ℕ) → unread ≡ Some bytes → length bytes < 2 ^ 64 - 1 → IsAtEnd left
 
 -- the viewer was fed the first bytes of what was read, and ended at the next ones
-pub record PlayedUntil (unread left : Option (List ℕ)) (old : Viewer) (fault : ViewerFault) (new : Viewer) : Type 0 where
+pub record PlayedUntil (unread left : Option (List ℕ)) (old : Viewer) (fault : ViewerFault)
+    (new : Viewer) : Type 0 where
   pub fed : List ℕ
   pub slice : List ℕ
   pub sent : List ℕ
@@ -36,9 +39,10 @@ pub record PlayedUntil (unread left : Option (List ℕ)) (old : Viewer) (fault :
   pub runs : ViewerRuns old fed sent updates last
   pub ends : EndsBy fault last slice new
 
--- why it stops: the bytes ended where they must not; a read failed, which was counted; or the viewer
--- ended
-abbrev pub StopsPlaying : Option (List ℕ) → Option (List ℕ) → ℕ → ℕ → Viewer → EngineFault → Viewer → Type 0
+-- why it stops: the bytes ended where they must not; a read failed, which was counted; or the
+-- viewer ended
+abbrev pub StopsPlaying : Option (List ℕ) → Option (List ℕ) → ℕ → ℕ → Viewer → EngineFault →
+    Viewer → Type 0
 StopsPlaying unread left failed_before failed old Truncated new =
     (told : ℕ) × AllPlayed unread left old told new × StandsBetween new false
 StopsPlaying unread left failed_before failed old Device new =

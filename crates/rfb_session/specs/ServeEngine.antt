@@ -1,5 +1,5 @@
--- What an engine did with a server: bytes that it was fed, updates that it composed, and screens that
--- it was given.
+-- What an engine did with a server: bytes that it was fed, updates that it composed, and screens
+-- that it was given.
 use Rattle.std.specs.Prelude.{◌≡◌, ◌≢◌, ℕ, ◌<◌, ◌+◌, ◌-◌, ◌^◌, Bool, false, List, [], ◌++◌, length, Option, Some}
 use Rattle.std.specs.Io.KnownBytes.{Appends, Consumes, IsAtEnd}
 use Rattle.rfb_pixel.specs.declared.colour.Colour.{Colour}
@@ -28,7 +28,8 @@ pub data ServerAct : Type 0 where
 
 -- what they make of a state
 abbrev pub Serves : ServerState → ServerAct → ServerState → Type 0
-Serves s (Composed bytes) t = IsDue s × (copies blocks : List Part) × Composes s t bytes copies blocks
+Serves s (Composed bytes) t =
+    IsDue s × (copies blocks : List Part) × Composes s t bytes copies blocks
 Serves s (Drawn screen) t = t ≡ with_screen screen s
 
 -- the server's answers are sent, and its updates
@@ -43,7 +44,8 @@ updates_composed (Did (Composed bytes)) = 1
 updates_composed (Did (Drawn screen)) = 0
 
 -- a server as engines run it
-abbrev pub server_driven : Driven Server Serving ServerState ClientAt FromClient ServerFault ServerTold ServerAct
+abbrev pub server_driven :
+    Driven Server Serving ServerState ClientAt FromClient ServerFault ServerTold ServerAct
 server_driven = record {
   machine = server;
   stands = StandsFor;
@@ -78,7 +80,8 @@ RunsFromIdle old fed sent updates new =
     IsIdle s → Ran server_driven serving s prefix new fed sent updates
 
 -- it ended at these bytes: by a fault of theirs, or because it asked for memory there
-pub record ServerEndsBy (fault : ServerFault) (old : Server) (slice : List ℕ) (new : Server) : Type 0 where
+pub record ServerEndsBy (fault : ServerFault) (old : Server) (slice : List ℕ)
+    (new : Server) : Type 0 where
   pub fails : fault_of new ≡ Some fault
   pub refused : fault ≢ TextNoMemory → (serving : Serving) →
       RefusedBy (server serving) (StandsFor serving) old slice fault
@@ -94,13 +97,15 @@ ServerBetween now between =
 -- ---- one read
 
 -- all of its bytes were fed, and all answers were written
-pub record IsHeard (old : Server) (bytes : List ℕ) (before after : Option (List ℕ)) (new : Server) : Type 0 where
+pub record IsHeard (old : Server) (bytes : List ℕ) (before after : Option (List ℕ))
+    (new : Server) : Type 0 where
   pub sent : List ℕ
   pub runs : ServerRuns old bytes sent 0 new
   pub wrote : Appends before after sent
 
 -- some of them were fed, and an answer was not written whole
-pub record IsCutOff (old : Server) (bytes : List ℕ) (before after : Option (List ℕ)) (new : Server) : Type 0 where
+pub record IsCutOff (old : Server) (bytes : List ℕ) (before after : Option (List ℕ))
+    (new : Server) : Type 0 where
   pub fed : List ℕ
   pub later : List ℕ
   pub sent : List ℕ
@@ -109,7 +114,8 @@ pub record IsCutOff (old : Server) (bytes : List ℕ) (before after : Option (Li
   pub wrote : AppendsBeginning before after sent
 
 -- some of them were fed, all answers were written, and the server ended at the others
-pub record IsEnded (old : Server) (bytes : List ℕ) (before after : Option (List ℕ)) (fault : ServerFault) (new : Server) : Type 0 where
+pub record IsEnded (old : Server) (bytes : List ℕ) (before after : Option (List ℕ))
+    (fault : ServerFault) (new : Server) : Type 0 where
   pub fed : List ℕ
   pub slice : List ℕ
   pub sent : List ℕ
@@ -119,8 +125,10 @@ pub record IsEnded (old : Server) (bytes : List ℕ) (before after : Option (Lis
   pub wrote : Appends before after sent
   pub ends : ServerEndsBy fault last slice new
 
-abbrev pub StopsHearing : Server → List ℕ → Option (List ℕ) → Option (List ℕ) → ℕ → ℕ → EngineFault → Server → Type 0
-StopsHearing old bytes before after failed_before failed (ServerEnded fault) new = IsEnded old bytes before after fault new
+abbrev pub StopsHearing : Server → List ℕ → Option (List ℕ) → Option (List ℕ) → ℕ → ℕ →
+    EngineFault → Server → Type 0
+StopsHearing old bytes before after failed_before failed (ServerEnded fault) new =
+    IsEnded old bytes before after fault new
 StopsHearing old bytes before after failed_before failed Device new =
     (failed ≡ failed_before + 1) × IsCutOff old bytes before after new
 StopsHearing old bytes before after failed_before failed (Viewer fault) new = ⊥
@@ -128,13 +136,15 @@ StopsHearing old bytes before after failed_before failed Truncated new = ⊥
 StopsHearing old bytes before after failed_before failed NoMemory new = ⊥
 
 -- so many updates were composed, one or none, and written; and none is due then
-pub record IsUpdated (old : Server) (before after : Option (List ℕ)) (updates : ℕ) (new : Server) : Type 0 where
+pub record IsUpdated (old : Server) (before after : Option (List ℕ)) (updates : ℕ)
+    (new : Server) : Type 0 where
   pub sent : List ℕ
   pub runs : RunsToIdle old [] sent updates new
   pub wrote : Appends before after sent
 
 -- one was composed and not written whole; or there was no memory for one, and nothing has changed
-abbrev pub StopsUpdating : Server → Option (List ℕ) → Option (List ℕ) → ℕ → ℕ → EngineFault → Server → Type 0
+abbrev pub StopsUpdating : Server → Option (List ℕ) → Option (List ℕ) → ℕ → ℕ → EngineFault →
+    Server → Type 0
 StopsUpdating old before after failed_before failed Device new =
     (failed ≡ failed_before + 1) × (sent : List ℕ) × ServerRuns old [] sent 1 new
     × AppendsBeginning before after sent
@@ -146,9 +156,10 @@ StopsUpdating old before after failed_before failed Truncated new = ⊥
 
 -- ---- all reads
 
--- it was fed all that there was, if that is known and has fewer than 2 ^ 64 - 1 bytes; all answers and
--- updates were written behind the front; and no update is due then
-pub record AllServed (unread left : Option (List ℕ)) (before after : Option (List ℕ)) (front : List ℕ) (old : Server) (told : ℕ) (new : Server) : Type 0 where
+-- it was fed all that there was, if that is known and has fewer than 2 ^ 64 - 1 bytes; all answers
+-- and updates were written behind the front; and no update is due then
+pub record AllServed (unread left before after : Option (List ℕ)) (front : List ℕ)
+    (old : Server) (told : ℕ) (new : Server) : Type 0 where
   pub fed : List ℕ
   pub sent : List ℕ
   pub updates : ℕ
@@ -159,7 +170,8 @@ pub record AllServed (unread left : Option (List ℕ)) (before after : Option (L
   pub ended : (bytes : List ℕ) → unread ≡ Some bytes → length bytes < 2 ^ 64 - 1 → IsAtEnd left
 
 -- it was fed the first bytes of what was read, and a beginning of what it sent was written
-pub record ServedSome (unread left : Option (List ℕ)) (before after : Option (List ℕ)) (front : List ℕ) (old : Server) (new : Server) : Type 0 where
+pub record ServedSome (unread left before after : Option (List ℕ)) (front : List ℕ)
+    (old new : Server) : Type 0 where
   pub fed : List ℕ
   pub later : List ℕ
   pub sent : List ℕ
@@ -168,8 +180,10 @@ pub record ServedSome (unread left : Option (List ℕ)) (before after : Option (
   pub runs : RunsFromIdle old fed sent updates new
   pub wrote : AppendsBeginning before after (front ++ sent)
 
--- it was fed the first bytes of what was read, all that it sent was written, and it ended at the next
-pub record ServedUntil (unread left : Option (List ℕ)) (before after : Option (List ℕ)) (front : List ℕ) (old : Server) (fault : ServerFault) (new : Server) : Type 0 where
+-- it was fed the first bytes of what was read, all that it sent was written, and it ended at the
+-- next
+pub record ServedUntil (unread left before after : Option (List ℕ)) (front : List ℕ)
+    (old : Server) (fault : ServerFault) (new : Server) : Type 0 where
   pub fed : List ℕ
   pub slice : List ℕ
   pub sent : List ℕ
@@ -192,15 +206,17 @@ pub record GoesOn (Behind : List ℕ → Type 0) (old : Server) : Type 0 where
   pub greeting_is : IsGreeting old greeting
   pub goes_on : Behind greeting
 
--- why serving stops, behind that front: the bytes ended where they must not; a read or a write failed,
--- which was counted; the server ended; or there was no memory for an update
-abbrev pub StopsServing : Option (List ℕ) → Option (List ℕ) → ℕ → ℕ → Option (List ℕ) → Option (List ℕ) → ℕ → ℕ → List ℕ → Server → EngineFault → Server → Type 0
+-- why serving stops, behind that front: the bytes ended where they must not; a read or a write
+-- failed, which was counted; the server ended; or there was no memory for an update
+abbrev pub StopsServing : Option (List ℕ) → Option (List ℕ) → ℕ → ℕ → Option (List ℕ) →
+    Option (List ℕ) → ℕ → ℕ → List ℕ → Server → EngineFault → Server → Type 0
 StopsServing unread left failing failed before after stuck stopped front old Truncated new =
     (told : ℕ) × AllServed unread left before after front old told new × ServerBetween new false
 StopsServing unread left failing failed before after stuck stopped front old Device new =
     (failed + stopped ≡ failing + stuck + 1) × ServedSome unread left before after front old new
 StopsServing unread left failing failed before after stuck stopped front old NoMemory new =
     ServedSome unread left before after front old new
-StopsServing unread left failing failed before after stuck stopped front old (ServerEnded fault) new =
+StopsServing unread left failing failed before after stuck stopped front old (ServerEnded fault)
+    new =
     ServedUntil unread left before after front old fault new
 StopsServing unread left failing failed before after stuck stopped front old (Viewer fault) new = ⊥
