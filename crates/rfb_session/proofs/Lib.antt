@@ -29,3 +29,5 @@ pub mod EngineRunLemmas
 pub mod PlayLemmas
 pub mod ServeLemmas
 pub mod ServingLemmas
+pub mod ViewLemmas
+pub mod LookLemmas

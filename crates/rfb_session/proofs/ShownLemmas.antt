@@ -16,7 +16,7 @@ use Rattle.rfb_session.specs.Network.{Network}
 use Rattle.rfb_session.specs.World.{StandsFor}
 
 -- with no byte of the next item it shows the picture
-shown_whole : (at : ServerAt) (picture stored : Option (Grid Colour)) →
+pub shown_whole : (at : ServerAt) (picture stored : Option (Grid Colour)) →
     ShowsAt at picture [] stored → stored ≡ picture
 shown_whole (First point) picture stored is = is
 shown_whole (Second p) picture stored (inl whole) = whole.1

@@ -15,3 +15,5 @@ pub mod EngineRun
 pub mod Watching
 pub mod Playing
 pub mod ServeEngine
+pub mod ViewEngine
+pub mod Looking

@@ -1,5 +1,8 @@
 -- What an engine did with a viewer: bytes that it was fed, and requests.
-use Rattle.std.specs.Prelude.{◌≡◌, ◌≢◌, ℕ, ◌+◌, ◌-◌, ◌^◌, Bool, min, List, ◌++◌, Option, Some, None}
+use Rattle.std.specs.Prelude.{◌≡◌, ◌≢◌, ℕ, ◌+◌, ◌-◌, ◌^◌, Bool, min, List, [], ◌++◌, Option, Some, None}
+use Rattle.rfb_pixel.specs.declared.colour.Colour.{Colour}
+use Rattle.rfb_picture.specs.Grid.{Grid}
+use Rattle.rfb_picture.specs.Rect.{rect}
 use Rattle.rfb_wire.specs.stream.End.{RefusedBy, RunsOutBy}
 use Rattle.rfb_picture.specs.declared.rect.Rect.{Rect}
 use Rattle.rfb_viewer.specs.declared.fault.ViewerFault.{ViewerFault}
@@ -14,19 +17,28 @@ use Rattle.rfb_viewer.specs.Messages.{request_message}
 use Rattle.rfb_session.specs.InFlight.{viewer_reply}
 use Rattle.rfb_session.specs.EngineRun.{Step, Fed, Did, Driven, RunsOn}
 
--- a request that an engine makes
-pub record Asking : Type 0 where
-  pub incremental : Bool
-  pub rect : Rect
+-- what an engine does with a viewer: a request for the area; or none, where the viewer refuses one
+pub data ViewerAct : Type 0 where
+  Asked : (incremental : Bool) → (area : Rect) → ViewerAct
+  PassedOver : (incremental : Bool) → ViewerAct
 
--- it is one that the viewer accepts
-abbrev pub Asks : ViewerState → Asking → ViewerState → Type 0
-Asks s asking t = (request_refusal s asking.rect ≡ None) × (t ≡ requested s)
+-- the whole screen; before there is one, an area without a place
+abbrev pub whole_area : Option (Grid Colour) → Rect
+whole_area None = rect 0 0 0 0
+whole_area (Some screen) = rect 0 0 screen.width screen.height
+
+-- each request is for the whole screen, and is made exactly where the viewer accepts it
+abbrev pub Asks : ViewerState → ViewerAct → ViewerState → Type 0
+Asks s (Asked incremental area) t =
+    (area ≡ whole_area s.picture) × (request_refusal s area ≡ None) × (t ≡ requested s)
+Asks s (PassedOver incremental) t =
+    (request_refusal s (whole_area s.picture) ≢ None) × (t ≡ s)
 
 -- the viewer's answers are sent, and the engine's requests
-abbrev pub viewer_sends : Step ViewerTold Asking → List ℕ
+abbrev pub viewer_sends : Step ViewerTold ViewerAct → List ℕ
 viewer_sends (Fed bytes event) = viewer_reply event
-viewer_sends (Did asking) = request_message asking.incremental asking.rect
+viewer_sends (Did (Asked incremental area)) = request_message incremental area
+viewer_sends (Did (PassedOver incremental)) = []
 
 -- an update ends where its end is told
 abbrev pub ends_told : Option ViewerTold → ℕ
@@ -38,12 +50,13 @@ ends_told (Some Bell) = 0
 ends_told (Some (CutText kept text_length)) = 0
 ends_told (Some ColourMapSkipped) = 0
 
-abbrev pub updates_ended : Step ViewerTold Asking → ℕ
+abbrev pub updates_ended : Step ViewerTold ViewerAct → ℕ
 updates_ended (Fed bytes event) = ends_told event
-updates_ended (Did asking) = 0
+updates_ended (Did act) = 0
 
 -- a viewer as engines run it
-abbrev pub viewer_driven : Driven Viewer Viewing ViewerState ServerAt FromServer ViewerFault ViewerTold Asking
+abbrev pub viewer_driven :
+    Driven Viewer Viewing ViewerState ServerAt FromServer ViewerFault ViewerTold ViewerAct
 viewer_driven = record {
   machine = viewer;
   stands = StandsFor;
@@ -57,7 +70,8 @@ abbrev pub ViewerRuns : Viewer → List ℕ → List ℕ → ℕ → Viewer → 
 ViewerRuns old fed sent updates new = RunsOn viewer_driven old fed sent updates new
 
 -- it ended at these bytes: by a fault of theirs, or because it asked for memory there
-pub record EndsBy (fault : ViewerFault) (old : Viewer) (slice : List ℕ) (new : Viewer) : Type 0 where
+pub record EndsBy (fault : ViewerFault) (old : Viewer) (slice : List ℕ)
+    (new : Viewer) : Type 0 where
   pub fails : fault_of new ≡ Some fault
   pub refused : fault ≢ NoMemory → (viewing : Viewing) →
       RefusedBy (viewer viewing) (StandsFor viewing) old slice fault
@@ -65,7 +79,8 @@ pub record EndsBy (fault : ViewerFault) (old : Viewer) (slice : List ℕ) (new :
       RunsOutBy (viewer viewing) (AsksMemory viewing) (StandsFor viewing) old slice
 
 -- a run over the first of some bytes, and then the viewer ended at those behind them
-pub record EndsWithin (old : Viewer) (bytes : List ℕ) (fault : ViewerFault) (new : Viewer) : Type 0 where
+pub record EndsWithin (old : Viewer) (bytes : List ℕ) (fault : ViewerFault)
+    (new : Viewer) : Type 0 where
   pub fed : List ℕ
   pub slice : List ℕ
   pub sent : List ℕ

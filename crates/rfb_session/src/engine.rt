@@ -2,12 +2,14 @@
 
 mod device;
 mod fault;
+mod nowhere;
 mod pixmap;
 mod playing;
 mod scene;
 mod sending;
 mod serving;
 mod tally;
+mod viewing;
 
 pub use device::{Sink, Source};
 pub use fault::{Device, EngineFault};
@@ -16,6 +18,7 @@ pub use playing::play;
 pub use scene::Scene;
 pub use serving::serve;
 pub use tally::Tally;
+pub use viewing::{view, view_recording};
 
 // How many bytes one read asks for.
 const READ_SIZE: usize = 4096;

@@ -11,10 +11,13 @@ mod engine;
 mod event;
 mod latest;
 pub mod law;
+mod reply;
 mod told;
 mod world;
 
-pub use engine::{Device, EngineFault, Scene, Sink, Source, Tally, play, ppm, serve};
+pub use engine::{
+    Device, EngineFault, Scene, Sink, Source, Tally, play, ppm, serve, view, view_recording,
+};
 pub use event::Event;
 pub use told::{NoMemory, Refused, Told};
 pub use world::World;

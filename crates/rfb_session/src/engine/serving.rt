@@ -1,8 +1,6 @@
 //! A server run over a reader and a writer.
 
 ghost use Rattle.std.specs.Prelude.{◌≡◌, ◌<◌, ◌+◌, ◌-◌, ◌^◌, ◌≤◌, [], length, take, true, false, IfOk, IfErr, OnOk};
-ghost use Rattle.rfb_server.specs.Told.{seen};
-ghost use Rattle.rfb_session.specs.InFlight.{server_reply as reply_of_server};
 ghost use Rattle.rfb_session.specs.ServeEngine.{AllServed, GoesOn, IsHeard, IsUpdated, ServerBetween};
 ghost use Rattle.rfb_session.specs.ServeEngine.{StopsHearing, StopsServing, StopsUpdating};
 
@@ -11,7 +9,8 @@ use crate::engine::device::{Sink, Source};
 use crate::engine::fault::EngineFault;
 use crate::engine::scene::Scene;
 use crate::engine::sending::send;
-use rfb_server::{Server, ServerEvent};
+use crate::reply::server_reply;
+use rfb_server::Server;
 use std::alloc::Global;
 
 /// Runs a fresh server, whose screen may be drawn on: writes its greeting, and then reads, feeds it
@@ -119,7 +118,8 @@ fn hear<W: Sink>(bytes: &[u8], sink: &mut W, server: &mut Server) -> Result<(), 
     Ok(())
 }
 
-// Feeds a server of these bytes what it takes at once, writes its answer, and tells how many it took.
+// Feeds a server of these bytes what it takes at once, writes its answer, and tells how many it
+// took.
 fn hear_some<W: Sink>(bytes: &[u8], sink: &mut W, server: &mut Server) -> Result<usize, EngineFault>
     requires countable { W.failed sink.old < 2 ^ 64 - 1 }
     requires some { 0 < length bytes.now }
@@ -132,7 +132,7 @@ fn hear_some<W: Sink>(bytes: &[u8], sink: &mut W, server: &mut Server) -> Result
         fault server.new) }
 {
     match server.feed(bytes) {
-        Ok(fed) => match send(reply(&fed.event), sink) {
+        Ok(fed) => match send(server_reply(&fed.event), sink) {
             Ok(()) => Ok(fed.used),
             Err(_) => Err(EngineFault::Device),
         },
@@ -140,8 +140,8 @@ fn hear_some<W: Sink>(bytes: &[u8], sink: &mut W, server: &mut Server) -> Result
     }
 }
 
-// Composes an update, if one is due, writes it and has the scene draw; and tells how many there were,
-// one or none.
+// Composes an update, if one is due, writes it and has the scene draw; and tells how many there
+// were, one or none.
 fn update<W: Sink, S: Scene>(
     out: &mut Vec<u8>,
     sink: &mut W,
@@ -167,19 +167,5 @@ fn update<W: Sink, S: Scene>(
         },
         Ok(false) => Ok(0),
         Err(_) => Err(EngineFault::NoMemory),
-    }
-}
-
-// The bytes that are sent for what a server tells.
-fn reply(event: &Option<ServerEvent>) -> &[u8]
-    ensures { result.now ≡ reply_of_server (seen event.now) }
-{
-    match event {
-        Some(ServerEvent::Reply(reply)) => reply.as_slice(),
-        Some(ServerEvent::Ready { reply, .. }) => reply.as_slice(),
-        Some(ServerEvent::Key { .. })
-        | Some(ServerEvent::Pointer { .. })
-        | Some(ServerEvent::CutText { .. })
-        | None => &[],
     }
 }

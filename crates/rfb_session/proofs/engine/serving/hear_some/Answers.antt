@@ -5,14 +5,14 @@ pub returns-in-Ok-send-clause-heard : goal.returns-in-Ok-send-clause-heard
 returns-in-Ok-send-clause-heard g c =
     call_heard c.args.server.now c.feed.new.self c.args.bytes.now c.in-Ok.fed.used
     c.in-Ok.fed.event (g.W.Sink.written c.args.sink.now) (g.W.Sink.written c.send.new.sink)
-    c.reply.result.now c.in-Ok.ensures.fed c.reply.ensures c.in-Ok-send.ensures.done
+    c.server_reply.result.now c.in-Ok.ensures.fed c.server_reply.ensures c.in-Ok-send.ensures.done
 
 pub returns-in-Ok-clause-stopped : goal.returns-in-Ok-clause-stopped
 returns-in-Ok-clause-stopped g c = (
   c.in-Err-send.ensures.one_failed,
   call_cut c.args.server.now c.feed.new.self c.args.bytes.now c.in-Ok.fed.used
       c.in-Ok.fed.event (g.W.Sink.written c.args.sink.now) (g.W.Sink.written c.send.new.sink)
-      c.reply.result.now c.in-Ok.ensures.fed c.reply.ensures c.in-Err-send.ensures.stopped,
+      c.server_reply.result.now c.in-Ok.ensures.fed c.server_reply.ensures c.in-Err-send.ensures.stopped,
 )
 
 pub returns-clause-stopped : goal.returns-clause-stopped

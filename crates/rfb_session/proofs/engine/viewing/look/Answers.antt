@@ -1,0 +1,40 @@
+use Rattle.std.proofs.Common.{◌<◌, ◌+◌, ◌∙◌, refl, arith, rules}
+use Rattle.rfb_session.proofs.LookLemmas.{looking_none, looking_more, looking_stops}
+use Rattle.rfb_session.proofs.engine.viewing.look.Goals as goal
+
+pub loop-left-init : goal.loop-left-init
+loop-left-init g c = record {
+  looks = looking_none c.args.viewer.now c.args.bytes.now c.args.before
+      (g.W.Sink.written c.args.sink.now) (g.K.Sink.written c.args.kept.now) c.requires.wanted;
+  none_unwritten = refl;
+  none_unkept = refl;
+}
+
+pub loop-left-preserved : goal.loop-left-preserved
+loop-left-preserved g c =
+    let l = c.loop-left in
+    let some : 0 < l.left = search rules in
+    record {
+      looks = looking_more c.args.viewer.now c.args.bytes.now l.rest.now c.args.before l.left
+          c.in-Ok.fewer (g.W.Sink.written c.args.sink.now) (g.W.Sink.written l.sink)
+          (g.W.Sink.written c.look_once.new.sink) (g.K.Sink.written c.args.kept.now)
+          (g.K.Sink.written l.kept) (g.K.Sink.written c.look_once.new.kept) l.viewer
+          c.in-Ok.used c.look_once.new.viewer l.invariant.looks some c.in-Ok.ensures.looked;
+      none_unwritten = c.in-Ok.ensures.none_failed.0 ∙ l.invariant.none_unwritten;
+      none_unkept = c.in-Ok.ensures.none_failed.1 ∙ l.invariant.none_unkept;
+    }
+
+pub returns-in-Err-clause-stopped : goal.returns-in-Err-clause-stopped
+returns-in-Err-clause-stopped g c =
+    let l = c.loop-left in
+    let some : 0 < l.left = search rules in
+    looking_stops c.args.viewer.now c.args.bytes.now l.rest.now c.args.before l.left
+    (g.W.Sink.written c.args.sink.now) (g.W.Sink.written l.sink)
+    (g.W.Sink.written c.look_once.new.sink) (g.K.Sink.written c.args.kept.now)
+    (g.K.Sink.written l.kept) (g.K.Sink.written c.look_once.new.kept) l.viewer
+    (g.W.Sink.failed c.args.sink.now + g.K.Sink.failed c.args.kept.now)
+    (g.W.Sink.failed l.sink + g.K.Sink.failed l.kept)
+    (g.W.Sink.failed c.look_once.new.sink + g.K.Sink.failed c.look_once.new.kept)
+    c.in-Err.fault c.look_once.new.viewer l.invariant.looks some
+    (omega (arith, l.invariant.none_unwritten, l.invariant.none_unkept))
+    c.in-Err.ensures.stopped

@@ -1,0 +1,52 @@
+use Rattle.std.proofs.Common.{[], refl, take, arith}
+use Rattle.std.proofs.KnownBytes.{Appends-nil}
+use Rattle.rfb_viewer.specs.Told.{seen}
+use Rattle.rfb_session.proofs.ViewLemmas.{turn_none, call_looks, call_unanswered, call_unkept, begun_anyway}
+use Rattle.rfb_session.proofs.engine.viewing.look_once.Goals as goal
+
+pub returns-in-Ok-answer-clause-looked : goal.returns-in-Ok-answer-clause-looked
+returns-in-Ok-answer-clause-looked g c =
+    call_looks c.args.viewer.now c.feed.new.self c.answer.new.viewer
+    (take c.in-Ok.fed.used c.args.bytes.now) (seen c.in-Ok.fed.event) c.args.left
+    c.in-Ok-answer.fewer (g.W.Sink.written c.args.sink.now) (g.W.Sink.written c.answer.new.sink)
+    (g.K.Sink.written c.args.kept.now) (g.K.Sink.written c.send.new.sink) c.in-Ok.ensures.fed
+    c.in-Ok-send.ensures.done c.in-Ok-answer.ensures.answered
+
+pub returns-in-Ok-send-clause-stopped : goal.returns-in-Ok-send-clause-stopped
+returns-in-Ok-send-clause-stopped g c = (
+  omega (arith, c.in-Err-answer.ensures.one_failed, c.in-Ok-send.ensures.none_failed),
+  call_unanswered c.args.viewer.now c.feed.new.self c.answer.new.viewer c.args.bytes.now
+      c.in-Ok.fed.used (seen c.in-Ok.fed.event) (g.W.Sink.written c.args.sink.now)
+      (g.W.Sink.written c.answer.new.sink) (g.K.Sink.written c.args.kept.now)
+      (g.K.Sink.written c.send.new.sink) c.in-Ok.ensures.fed c.in-Ok-send.ensures.done
+      c.in-Err-answer.ensures.stopped,
+)
+
+pub returns-in-Ok-clause-stopped : goal.returns-in-Ok-clause-stopped
+returns-in-Ok-clause-stopped g c = (
+  omega (arith, c.in-Err-send.ensures.one_failed),
+  call_unkept c.args.viewer.now c.feed.new.self c.args.bytes.now c.in-Ok.fed.used
+      (seen c.in-Ok.fed.event) (g.W.Sink.written c.args.sink.now)
+      (g.K.Sink.written c.args.kept.now) (g.K.Sink.written c.send.new.sink)
+      c.in-Ok.ensures.fed c.in-Err-send.ensures.stopped,
+)
+
+pub returns-clause-stopped : goal.returns-clause-stopped
+returns-clause-stopped g c = record {
+  fed = [];
+  slice = c.args.bytes.now;
+  sent = [];
+  updates = 0;
+  last = c.args.viewer.now;
+  bytes_are = refl;
+  runs = turn_none c.args.viewer.now;
+  wrote = Appends-nil (g.W.Sink.written c.args.sink.now);
+  kept = begun_anyway c.send-in-Err.result (g.K.Sink.written c.args.kept.now)
+      (g.K.Sink.written c.send-in-Err.new.sink) c.args.bytes.now c.send-in-Err.ensures.done
+      c.send-in-Err.ensures.stopped;
+  ends = record {
+    fails = c.in-Err.ensures.fails;
+    refused = c.in-Err.ensures.fault;
+    starved = c.in-Err.ensures.memory;
+  };
+}

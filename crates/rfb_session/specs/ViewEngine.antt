@@ -1,0 +1,122 @@
+-- What an engine did with a viewer that it asks for updates: bytes that it was fed, and requests in
+-- turn with them.
+use Rattle.std.specs.Prelude.{◌≡◌, ℕ, ◌<◌, ◌+◌, ◌-◌, ◌^◌, Bool, true, false, List, [], ◌∷◌, ◌++◌, length, Option, Some, None, ⊤}
+use Rattle.std.specs.Io.KnownBytes.{Appends, Consumes, IsAtEnd}
+use Rattle.rfb_viewer.specs.declared.fault.ViewerFault.{ViewerFault}
+use Rattle.rfb_viewer.specs.declared.viewer.Viewer.{Viewer}
+use Rattle.rfb_viewer.specs.Told.{ViewerTold, Reply, Ready, UpdateDone, Bell, CutText, ColourMapSkipped}
+use Rattle.rfb_viewer.specs.Viewer.{Viewing, ViewerState}
+use Rattle.rfb_viewer.specs.Standing.{StandsFor}
+use Rattle.rfb_session.specs.declared.engine.fault.EngineFault.{EngineFault}
+use Rattle.rfb_session.specs.declared.engine.fault.EngineFault.TheVariants.{Server, Viewer as ViewerEnded, Truncated, Device, NoMemory}
+use Rattle.rfb_session.specs.Devices.{AppendsBeginning}
+use Rattle.rfb_session.specs.EngineRun.{Step, Fed, Did, Ran}
+use Rattle.rfb_session.specs.Watching.{ViewerAct, Asked, PassedOver, viewer_driven, EndsBy}
+
+-- ---- requests in turn
+
+-- what is due once this was told: all of the screen where the handshake is done, and behind an
+-- update what has changed
+abbrev pub due_behind : Option ViewerTold → Option Bool
+due_behind None = None
+due_behind (Some (Reply bytes)) = None
+due_behind (Some (Ready bytes name name_length)) = Some false
+due_behind (Some UpdateDone) = Some true
+due_behind (Some Bell) = None
+due_behind (Some (CutText kept text_length)) = None
+due_behind (Some ColourMapSkipped) = None
+
+-- the same behind steps the latest of which stands first
+abbrev pub due : List (Step ViewerTold ViewerAct) → Option Bool
+due [] = None
+due (Fed bytes event ∷ before) = due_behind event
+due (Did act ∷ before) = None
+
+abbrev pub is_incremental : ViewerAct → Bool
+is_incremental (Asked incremental area) = incremental
+is_incremental (PassedOver incremental) = incremental
+
+-- a request comes where it is due and nowhere else, and until it came nothing more is fed
+abbrev pub AsksInTurn : List (Step ViewerTold ViewerAct) → Type 0
+AsksInTurn [] = ⊤
+AsksInTurn (Fed bytes event ∷ before) = AsksInTurn before × (due before ≡ None)
+AsksInTurn (Did act ∷ before) = AsksInTurn before × (due before ≡ Some (is_incremental act))
+
+-- it was fed these bytes, these are sent, so many updates ended, and it became that one, whatever
+-- it stood for; requests came in turn, and this one is due then
+abbrev pub RunsInTurn : Viewer → List ℕ → List ℕ → ℕ → Option Bool → Viewer → Type 0
+RunsInTurn old fed sent updates asks new =
+    (viewing : Viewing) (s : ViewerState) (prefix : List ℕ) → StandsFor viewing old s prefix →
+    (r : Ran viewer_driven viewing s prefix new fed sent updates)
+    × AsksInTurn r.steps × (due r.steps ≡ asks)
+
+-- ---- why it stops
+
+-- so many updates ended, and it was fed no byte behind the last; all that is sent was written, and
+-- all that it was fed was kept
+pub record HasViewed (unread left before after blank copied : Option (List ℕ)) (old : Viewer)
+    (updates : ℕ) (new : Viewer) : Type 0 where
+  pub fed : List ℕ
+  pub later : List ℕ
+  pub sent : List ℕ
+  pub read : Consumes unread left (fed ++ later)
+  pub runs : RunsInTurn old fed sent updates (Some true) new
+  pub wrote : Appends before after sent
+  pub kept : Appends blank copied fed
+
+-- it was fed all that there was, if that is known and has fewer than 2 ^ 64 - 1 bytes; fewer
+-- updates ended, and no request is due
+pub record HasMissed (unread left before after blank copied : Option (List ℕ)) (old : Viewer)
+    (updates : ℕ) (new : Viewer) : Type 0 where
+  pub fed : List ℕ
+  pub sent : List ℕ
+  pub ended : ℕ
+  pub fewer : ended < updates
+  pub read : Consumes unread left fed
+  pub all : (bytes : List ℕ) → unread ≡ Some bytes → length bytes < 2 ^ 64 - 1 → IsAtEnd left
+  pub runs : RunsInTurn old fed sent ended None new
+  pub wrote : Appends before after sent
+  pub kept : Appends blank copied fed
+
+-- it was fed the first bytes of what was read; beginnings of what is sent and of what it was fed
+-- were written and kept
+pub record ViewedSome (unread left before after blank copied : Option (List ℕ)) (old new : Viewer)
+    : Type 0 where
+  pub fed : List ℕ
+  pub later : List ℕ
+  pub sent : List ℕ
+  pub updates : ℕ
+  pub asks : Option Bool
+  pub read : Consumes unread left (fed ++ later)
+  pub runs : RunsInTurn old fed sent updates asks new
+  pub wrote : AppendsBeginning before after sent
+  pub kept : AppendsBeginning blank copied fed
+
+-- it was fed the first bytes of what was read, all that is sent was written, and it ended at the
+-- next
+pub record ViewedUntil (unread left before after blank copied : Option (List ℕ)) (old : Viewer)
+    (fault : ViewerFault) (new : Viewer) : Type 0 where
+  pub fed : List ℕ
+  pub slice : List ℕ
+  pub sent : List ℕ
+  pub updates : ℕ
+  pub last : Viewer
+  pub read : Consumes unread left (fed ++ slice)
+  pub runs : RunsInTurn old fed sent updates None last
+  pub wrote : Appends before after sent
+  pub kept : AppendsBeginning blank copied (fed ++ slice)
+  pub ends : EndsBy fault last slice new
+
+-- the bytes ended before so many updates had; a read or a write failed, which was counted; or the
+-- viewer ended
+abbrev pub StopsViewing : Option (List ℕ) → Option (List ℕ) → Option (List ℕ) → Option (List ℕ) →
+    Option (List ℕ) → Option (List ℕ) → ℕ → ℕ → Viewer → ℕ → EngineFault → Viewer → Type 0
+StopsViewing unread left before after blank copied failing failed old updates Truncated new =
+    HasMissed unread left before after blank copied old updates new
+StopsViewing unread left before after blank copied failing failed old updates Device new =
+    (failed ≡ failing + 1) × ViewedSome unread left before after blank copied old new
+StopsViewing unread left before after blank copied failing failed old updates
+    (ViewerEnded fault) new =
+    ViewedUntil unread left before after blank copied old fault new
+StopsViewing unread left before after blank copied failing failed old updates (Server fault) new = ⊥
+StopsViewing unread left before after blank copied failing failed old updates NoMemory new = ⊥

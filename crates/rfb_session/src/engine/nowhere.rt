@@ -1,0 +1,24 @@
+//! A writer that keeps nothing.
+
+ghost use Rattle.std.specs.Prelude.{None};
+
+use crate::engine::device::Sink;
+use std::io;
+
+// Takes all bytes, and tells none of them.
+#[derive(Drop)]
+pub(crate) struct Nowhere;
+
+impl Sink for Nowhere {
+    ghost written = { λ n. None };
+
+    ghost failed = { λ n. 0 };
+
+    fn write(&mut self, buf: &[u8]) -> io::Result<usize> {
+        Ok(buf.len())
+    }
+
+    fn failures(&self) -> u64 {
+        0
+    }
+}

@@ -1,0 +1,110 @@
+//! What a viewer tells, answered, and requests where they are due.
+
+ghost use Rattle.std.specs.Prelude.{◌≡◌, ◌≤◌, ◌<◌, ◌+◌, ◌-◌, ◌^◌, [], List, ℕ, IfOk, OnOk, OnErr};
+ghost use Rattle.rfb_viewer.specs.Standing.{StandsFor};
+ghost use Rattle.rfb_viewer.specs.Told.{seen};
+ghost use Rattle.rfb_viewer.specs.Viewer.{Viewing, ViewerState};
+ghost use Rattle.rfb_session.specs.Looking.{HasAsked, IsAnswered, IsCutInAnswer, IsCutInAsking};
+ghost use Rattle.rfb_session.specs.ViewEngine.{due_behind};
+ghost use Rattle.rfb_session.specs.Watching.{ends_told, whole_area};
+
+use crate::engine::device::Sink;
+use crate::engine::fault::Device;
+use crate::engine::sending::send;
+use crate::reply::viewer_reply;
+use rfb_picture::Rect;
+use rfb_viewer::{Viewer, ViewerEvent};
+
+// Writes what a viewer answers and the request that is due then, unless no further update is looked
+// for; and tells how many are.
+pub(super) fn answer<W: Sink>(
+    event: &Option<ViewerEvent>,
+    left: u32,
+    sink: &mut W,
+    viewer: &mut Viewer,
+) -> Result<u32, Device>
+    requires countable { W.failed sink.old < 2 ^ 64 - 1 }
+    requires wanted { 0 < left }
+    ensures answered { IfOk result (λ fewer. IsAnswered viewer.old (seen event.now) left fewer
+        (W.written sink.old) (W.written sink.new) viewer.new) }
+    ensures stopped { OnErr result (IsCutInAnswer viewer.old (seen event.now)
+        (W.written sink.old) (W.written sink.new) viewer.new) }
+    ensures none_failed { OnOk result (W.failed sink.new ≡ W.failed sink.old) }
+    ensures one_failed { OnErr result (W.failed sink.new ≡ W.failed sink.old + 1) }
+{
+    match send(viewer_reply(event), sink) {
+        Ok(()) => {}
+        Err(_) => return Err(Device),
+    }
+    let fewer = left - ended(event);
+    if fewer == 0 {
+        return Ok(0);
+    }
+    match due(event) {
+        Some(incremental) => match ask(incremental, sink, viewer) {
+            Ok(()) => Ok(fewer),
+            Err(_) => Err(Device),
+        },
+        None => Ok(fewer),
+    }
+}
+
+// Asks for the whole screen, and writes the request. Where the viewer refuses it there is nothing
+// to write.
+fn ask<W: Sink>(incremental: bool, sink: &mut W, viewer: &mut Viewer) -> Result<(), Device>
+    requires countable { W.failed sink.old < 2 ^ 64 - 1 }
+    ensures asked { OnOk result (HasAsked incremental viewer.old
+        (W.written sink.old) (W.written sink.new) viewer.new) }
+    ensures stopped { OnErr result (IsCutInAsking incremental viewer.old
+        (W.written sink.old) (W.written sink.new) viewer.new) }
+    ensures none_failed { OnOk result (W.failed sink.new ≡ W.failed sink.old) }
+    ensures one_failed { OnErr result (W.failed sink.new ≡ W.failed sink.old + 1) }
+{
+    let area = screen(viewer);
+    match viewer.request(incremental, area) {
+        Ok(request) => send(&request, sink),
+        Err(_) => Ok(()),
+    }
+}
+
+// The whole screen; before there is one, an area without a place.
+fn screen(viewer: &Viewer) -> Rect
+    ensures { (viewing : Viewing) (s : ViewerState) → StandsFor viewing viewer.now s []
+        → result ≡ whole_area s.picture }
+{
+    match viewer.picture() {
+        Some(picture) => Rect::new(0, 0, picture.width(), picture.height()),
+        None => Rect::new(0, 0, 0, 0),
+    }
+}
+
+// How many updates end with it.
+fn ended(event: &Option<ViewerEvent>) -> u32
+    ensures told { result ≡ ends_told (seen event.now) }
+    ensures few { result ≤ 1 }
+{
+    match event {
+        Some(ViewerEvent::UpdateDone) => 1,
+        Some(ViewerEvent::Reply(_))
+        | Some(ViewerEvent::Ready { .. })
+        | Some(ViewerEvent::Bell)
+        | Some(ViewerEvent::CutText { .. })
+        | Some(ViewerEvent::ColourMapSkipped)
+        | None => 0,
+    }
+}
+
+// Whether a request is due then, and whether it is one for what has changed.
+fn due(event: &Option<ViewerEvent>) -> Option<bool>
+    ensures { result ≡ due_behind (seen event.now) }
+{
+    match event {
+        Some(ViewerEvent::Ready { .. }) => Some(false),
+        Some(ViewerEvent::UpdateDone) => Some(true),
+        Some(ViewerEvent::Reply(_))
+        | Some(ViewerEvent::Bell)
+        | Some(ViewerEvent::CutText { .. })
+        | Some(ViewerEvent::ColourMapSkipped)
+        | None => None,
+    }
+}
