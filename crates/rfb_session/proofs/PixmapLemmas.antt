@@ -1,5 +1,5 @@
 -- The bytes of a pixmap's places, one row after the other.
-use Rattle.std.proofs.Common.{◌≡◌, ℕ, ◌+◌, ◌*◌, List, [], ◌∷◌, ◌++◌, length, take, take-add, drop, refl, ap, sym, ◌∙◌, arith}
+use Rattle.std.proofs.Common.{◌≡◌, ℕ, ◌+◌, ◌-◌, ◌*◌, List, [], ◌∷◌, ◌++◌, length, length-drop, take, take-add, drop, refl, ap, sym, ◌∙◌, arith}
 use Rattle.std.proofs.Common.{Option, subst, append-nil, append_assoc, take-append-drop}
 use Rattle.std.proofs.lemmas.List.{take_all}
 use Rattle.std.specs.Io.KnownBytes.{Appends}
@@ -98,28 +98,35 @@ components_split before colours n =
     ∙ ap (λ (l : List ℕ). before ++ l) (components-append (take n colours) (drop n colours))
     ∙ sym (append_assoc before (components (take n colours)) (components (drop n colours)))
 
--- a colour's components wait behind the others, once there is room
-pub gathered_colour : (old mid new : Option (List ℕ)) (before waiting roomy one two three : List ℕ)
-    (colours now : List Colour) (colour : Colour) → AppendsUpTo old mid (before ++ components colours) waiting →
-    AppendsUpTo mid new waiting roomy → one ≡ roomy ++ colour.r ∷ [] → two ≡ one ++ colour.g ∷ [] →
-    three ≡ two ++ colour.b ∷ [] → now ≡ colours ++ colour ∷ [] →
-    AppendsUpTo old new (before ++ components now) three
-gathered_colour old mid new before waiting roomy one two three colours now colour so_far room r g b is =
-    let text : List ℕ = before ++ components colours in
-    let ready : AppendsUpTo old new text roomy = then_written old mid new text waiting roomy so_far room in
-    let all : AppendsUpTo old new (((text ++ colour.r ∷ []) ++ colour.g ∷ []) ++ colour.b ∷ [])
-    (((roomy ++ colour.r ∷ []) ++ colour.g ∷ []) ++ colour.b ∷ []) =
-    more_waits old new ((text ++ colour.r ∷ []) ++ colour.g ∷ []) ((roomy ++ colour.r ∷ []) ++ colour.g ∷ []) (colour.b ∷ [])
-    (more_waits old new (text ++ colour.r ∷ []) (roomy ++ colour.r ∷ []) (colour.g ∷ [])
-    (more_waits old new text roomy (colour.r ∷ []) ready)) in
-    let parts : ((text ++ colour.r ∷ []) ++ colour.g ∷ []) ++ colour.b ∷ [] ≡ before ++ components now =
-    three_more text (text ++ colour.r ∷ []) ((text ++ colour.r ∷ []) ++ colour.g ∷ [])
-    (((text ++ colour.r ∷ []) ++ colour.g ∷ []) ++ colour.b ∷ []) before colours now colour refl refl refl refl is in
-    let items : three ≡ ((roomy ++ colour.r ∷ []) ++ colour.g ∷ []) ++ colour.b ∷ [] =
-    b ∙ ap (λ (l : List ℕ). l ++ colour.b ∷ []) g
-    ∙ ap (λ (l : List ℕ). (l ++ colour.g ∷ []) ++ colour.b ∷ []) r in
+-- the components of some colours more wait behind the others, once there is room
+pub gathered_piece : (old mid new : Option (List ℕ)) (before waiting roomy bytes slice text : List ℕ)
+    (colours piece now : List Colour) → AppendsUpTo old mid (before ++ components colours) waiting →
+    AppendsUpTo mid new waiting roomy → bytes ≡ components piece → slice ≡ bytes → text ≡ roomy ++ slice →
+    colours ++ piece ≡ now → AppendsUpTo old new (before ++ components now) text
+gathered_piece old mid new before waiting roomy bytes slice text colours piece now so_far room put lent all is =
+    let parts : (before ++ components colours) ++ components piece ≡ before ++ components now =
+    append_assoc before (components colours) (components piece)
+    ∙ ap (λ (l : List ℕ). before ++ l) (sym (components-append colours piece))
+    ∙ ap (λ (l : List Colour). before ++ components l) is in
+    let items : text ≡ roomy ++ components piece = all ∙ ap (λ (l : List ℕ). roomy ++ l) (lent ∙ put) in
     subst (λ (l : List ℕ). AppendsUpTo old new (before ++ components now) l) (sym items)
-    (subst (λ (l : List ℕ). AppendsUpTo old new l (((roomy ++ colour.r ∷ []) ++ colour.g ∷ []) ++ colour.b ∷ [])) parts all)
+    (subst (λ (l : List ℕ). AppendsUpTo old new l (roomy ++ components piece)) parts
+    (more_waits old new (before ++ components colours) roomy (components piece)
+    (then_written old mid new (before ++ components colours) waiting roomy so_far room)))
+
+-- the next sixteen, and all that are left
+pub sixteen_more : (colours : List Colour) (n : ℕ) →
+    take n colours ++ take (n + 16 - n) (drop n colours) ≡ take (n + 16) colours
+sixteen_more colours n =
+    let e : n + 16 - n ≡ 16 = omega arith in
+    rw (e, take-add) refl
+
+pub rest_more : (colours : List Colour) (n : ℕ) →
+    take n colours ++ take (length colours - n) (drop n colours) ≡ colours
+rest_more colours n =
+    ap (λ (l : List Colour). take n colours ++ l)
+    (take_all (length colours - n) (drop n colours) (omega (arith, length-drop n colours)))
+    ∙ take-append-drop n colours
 
 -- where it stops at some colour, a beginning of all was written
 pub gathering_stopped : (old mid new : Option (List ℕ)) (before waiting : List ℕ) (colours : List Colour) (n : ℕ) →

@@ -1,6 +1,6 @@
 //! Pictures as portable pixmaps (PPM), the files of Netpbm.
 
-ghost use Rattle.std.specs.Prelude.{◌≡◌, ◌≤◌, ◌<◌, ◌+◌, ◌-◌, ◌^◌, ◌++◌, length, OnOk, OnErr};
+ghost use Rattle.std.specs.Prelude.{◌≡◌, ◌≤◌, ◌<◌, ◌+◌, ◌-◌, ◌*◌, ◌^◌, ◌++◌, length, OnOk, OnErr};
 ghost use Rattle.std.specs.Io.KnownBytes.{Appends};
 ghost use Rattle.arrayvec.specs.ArrayVec.{array_vec_len};
 ghost use Rattle.rfb_session.specs.Devices.{AppendsBeginning, AppendsUpTo};
@@ -16,6 +16,13 @@ use rfb_pixel::Colour;
 
 // How many bytes wait for a write, at most.
 const ROOM: usize = 8192;
+
+// How many colours are taken at once. Where their number is known beforehand, the compiler moves
+// sixteen bytes at a time.
+const PIECE: usize = 16;
+
+// The bytes of so many.
+const PIECE_BYTES: usize = 48;
 
 /// Writes a picture as PPM: the header `P6`, the width and the height, the largest component, then
 /// three bytes a place, row by row from the top. All is written where it gives `Ok`; where it gives
@@ -79,19 +86,38 @@ fn gather<W: Sink>(
     ensures none_failed { OnOk result (W.failed sink.new ≡ W.failed sink.old) }
     ensures one_failed { OnErr result (W.failed sink.new ≡ W.failed sink.old + 1) }
 {
-    for colour in colours {
+    let mut start = 0;
+    while colours.len() - start >= PIECE {
+        let end = start + PIECE;
         make_room(waiting, sink)?;
-        waiting.push(colour.r);
-        waiting.push(colour.g);
-        waiting.push(colour.b);
+        append(components_of(&colours[start..end]).as_slice(), waiting);
+        start = end;
     }
+    make_room(waiting, sink)?;
+    append(components_of(&colours[start..]).as_slice(), waiting);
     Ok(())
 }
 
-// Writes what waits, where there is no room for the components of a colour.
+// The components of each colour, red first.
+#[inline(always)]
+fn components_of(colours: &[Colour]) -> ArrayVec<u8, PIECE_BYTES>
+    requires { length colours.now ≤ PIECE }
+    ensures items { result.items ≡ components colours.now }
+    ensures len { array_vec_len result ≡ 3 * length colours.now }
+{
+    let mut bytes = ArrayVec::new();
+    for colour in colours {
+        bytes.push(colour.r);
+        bytes.push(colour.g);
+        bytes.push(colour.b);
+    }
+    bytes
+}
+
+// Writes what waits, where there is no room for the components of a piece.
 fn make_room<W: Sink>(waiting: &mut ArrayVec<u8, ROOM>, sink: &mut W) -> Result<(), Device>
     requires countable { W.failed sink.old < 2 ^ 64 - 1 }
-    ensures room { OnOk result (array_vec_len waiting.new + 3 ≤ 8192) }
+    ensures room { OnOk result (array_vec_len waiting.new + 48 ≤ 8192) }
     ensures done { OnOk result (AppendsUpTo (W.written sink.old) (W.written sink.new)
         waiting.old.items waiting.new.items) }
     ensures stopped { OnErr result (AppendsBeginning (W.written sink.old) (W.written sink.new)
@@ -99,7 +125,7 @@ fn make_room<W: Sink>(waiting: &mut ArrayVec<u8, ROOM>, sink: &mut W) -> Result<
     ensures none_failed { OnOk result (W.failed sink.new ≡ W.failed sink.old) }
     ensures one_failed { OnErr result (W.failed sink.new ≡ W.failed sink.old + 1) }
 {
-    if waiting.remaining_capacity() >= 3 {
+    if waiting.remaining_capacity() >= PIECE_BYTES {
         return Ok(());
     }
     send(waiting.as_slice(), sink)?;
