@@ -4,7 +4,7 @@ use Rattle.std.specs.Prelude.{◌≡◌, ℕ, ◌+◌, ◌*◌, ◌/◌, ◌<◌
 use Rattle.rfb_picture.specs.declared.rect.Rect.{Rect}
 use Rattle.rfb_picture.specs.Rect.{contains}
 
--- the number of a place's cell, where a row has so many cells
+-- the number of a place's cell, where a row has `across` cells
 abbrev pub cell_of : ℕ → ℕ → ℕ → ℕ
 cell_of across x y = y / 64 * across + x / 64
 
@@ -14,4 +14,5 @@ pub record IsCell (width height across index : ℕ) (cell : Rect) : Type 0 where
   pub held : (cell.x + cell.w ≤ width) × (cell.y + cell.h ≤ height)
   pub sides : (cell.w ≤ 64) × (cell.h ≤ 64)
   pub inside : (x y : ℕ) → contains cell x y ≡ true → cell_of across x y ≡ index
-  pub all : (x y : ℕ) → x < width → y < height → cell_of across x y ≡ index → contains cell x y ≡ true
+  pub all : (x y : ℕ) → x < width → y < height → cell_of across x y ≡ index →
+      contains cell x y ≡ true

@@ -28,7 +28,8 @@ to_messages (AwaitsInit version) (ClientInit shared) = Some tt
 to_messages point item = None
 
 -- the handshake, where the server has offered a version, and the messages behind it
-abbrev pub client_two : Version → Two ClientPoint ClientItem HelloFault ⊤ ClientMessage ClientFault ServerFault
+abbrev pub client_two : Version →
+    Two ClientPoint ClientItem HelloFault ⊤ ClientMessage ClientFault ServerFault
 client_two offer = record {
   first = client_handshake offer;
   leads = to_messages;
@@ -47,7 +48,8 @@ client_bytes_say offer = sequel_says (client_two offer) (client_item_says offer)
 
 -- how many of its bytes are pending: those of the item under way behind its last whole piece
 abbrev pub client_bytes_pending : ClientAt → List ℕ → ℕ
-client_bytes_pending at bytes = pending_in client_handshake_pending (λ _ others. client_pending others) at bytes
+client_bytes_pending at bytes =
+    pending_in client_handshake_pending (λ _ others. client_pending others) at bytes
 
 -- the bytes end between two messages, behind the handshake
 abbrev pub is_between : ClientAt → List ℕ → Bool

@@ -21,7 +21,8 @@ is_ready (CutText text_length left kept) = true
 is_ready (Failed fault) = false
 
 -- an update was due and was appended, and no hint is kept; the rest of the session is as it was
-pub record HasComposed (screen : Grid Colour) (old new : Session) (before after : List ℕ) : Type 0 where
+pub record HasComposed (screen : Grid Colour) (old new : Session)
+    (before after : List ℕ) : Type 0 where
   pub ready : is_ready old.progress ≡ true
   pub due : IsDue (state_of screen old)
   pub bytes : List ℕ
@@ -35,7 +36,8 @@ pub record HasComposed (screen : Grid Colour) (old new : Session) (before after 
   pub hints : new.hints.items ≡ []
 
 -- no update was due, and nothing was appended
-pub record StaysIdle (screen : Grid Colour) (old new : Session) (before after : List ℕ) : Type 0 where
+pub record StaysIdle (screen : Grid Colour) (old new : Session)
+    (before after : List ℕ) : Type 0 where
   pub not_due : is_ready old.progress ≡ true → IsDue (state_of screen old) → ⊥
   pub appended : after ≡ before
   pub same : IsSame old new
@@ -53,7 +55,9 @@ pub record IsSettled (old new : Session) : Type 0 where
   pub marks : new.marks ≡ without old.area.asked old.marks
   pub hints : new.hints.items ≡ []
 
--- the head of an update without rectangles, which stands there, has become that of an update with so many
+-- the head of an update without rectangles, which stands at `at`, has become that of an update with
+-- `count` rectangles
 abbrev pub IsCounted : ℕ → ℕ → List ℕ → List ℕ → Type 0
-IsCounted at count old new = (before bytes : List ℕ) → length before ≡ at → old ≡ before ++ (0 ∷ 0 ∷ 0 ∷ 0 ∷ bytes) →
+IsCounted at count old new = (before bytes : List ℕ) → length before ≡ at →
+    old ≡ before ++ (0 ∷ 0 ∷ 0 ∷ 0 ∷ bytes) →
     (head : List ℕ) × SpellsUpdate count head × (new ≡ before ++ (head ++ bytes))

@@ -39,7 +39,8 @@ between s = record { width = s.screen.width; height = s.screen.height; form = s.
 -- the data say that under that head
 abbrev pub HasItsData : ServerState → Part → Type 0
 HasItsData s part =
-    SpellsData s.form s.screen.width s.screen.height part.head.rect part.head.encoding part.contents part.body
+    SpellsData s.form s.screen.width s.screen.height
+    part.head.rect part.head.encoding part.contents part.body
 
 -- Raw may always be sent, and another encoding where the viewer listed it
 abbrev pub may_send : List Encoding → Encoding → Bool
@@ -66,12 +67,12 @@ all_moved (move ∷ moves) s = all_moved moves (moved move s)
 abbrev pub is_right : ServerState → ℕ → ℕ → Bool
 is_right s x y = not (differs (wanted s x y) (recorded s x y))
 
--- how many of so many places of row y are marked, from column x on
+-- how many of the `w` places of row y from column x on are marked
 abbrev pub count_row : (ℕ → ℕ → Bool) → ℕ → ℕ → ℕ → ℕ
 count_row p x y zero = 0
 count_row p x y (suc w) = count_row p x y w + (if p (x + w) y then 1 else 0)
 
--- how many places of so many columns and rows are marked, from (x, y) on
+-- how many of the places of `w` columns and `h` rows from (x, y) on are marked
 abbrev pub count_rows : (ℕ → ℕ → Bool) → ℕ → ℕ → ℕ → ℕ → ℕ
 count_rows p x y w zero = 0
 count_rows p x y w (suc h) = count_rows p x y w h + count_row p x (y + h) w
@@ -84,7 +85,8 @@ count_in p rect = count_rows p rect.x rect.y rect.w rect.h
 pub record IsGain (s : ServerState) (move : Move) : Type 0 where
   pub on_screen : Holds s.screen move.to
   pub source_on_screen : Holds s.screen (moved_to move.sx move.sy move.to)
-  pub source_known : (x y : ℕ) → contains (moved_to move.sx move.sy move.to) x y ≡ true → (pixel : ℕ) × (recorded s x y ≡ Some pixel)
+  pub source_known : (x y : ℕ) → contains (moved_to move.sx move.sy move.to) x y ≡ true →
+      (pixel : ℕ) × (recorded s x y ≡ Some pixel)
   pub more_right : count_in (is_right s) move.to < count_in (is_right (moved move s)) move.to
 
 -- each is a gain, by the record that those before it leave
@@ -138,14 +140,17 @@ HaveTheirData s (part ∷ parts) = HasItsData s part × HaveTheirData s parts
 
 -- a composing: the state before it and behind it, the bytes that were appended, and the rectangles
 -- that these are, first those that are copied
-pub record Composes (old new : ServerState) (bytes : List ℕ) (copies blocks : List Part) : Type 0 where
+pub record Composes (old new : ServerState) (bytes : List ℕ)
+    (copies blocks : List Part) : Type 0 where
   -- the bytes are one update in the server's format, with these rectangles, all on the screen
-  pub is_update : ReadsAll update_stream (between old) bytes (update_of (map sent_as (copies ++ blocks))) []
+  pub is_update :
+      ReadsAll update_stream (between old) bytes (update_of (map sent_as (copies ++ blocks))) []
   pub data_are : HaveTheirData old (copies ++ blocks)
   -- a picture that agreed with the record agrees, once it is updated, with the new one
   pub agrees : (picture : Grid Colour) → IsGrid picture → IsAlike picture old.known →
       Agrees old.form picture old.known →
-      Agrees old.form (effects (between old) (update_of (map sent_as (copies ++ blocks))) picture) new.known
+      Agrees old.form
+      (effects (between old) (update_of (map sent_as (copies ++ blocks))) picture) new.known
   -- each asked place is recorded with the wanted pixel
   pub answered : (x y : ℕ) → IsPlace old x y → is_asked old x y ≡ true →
       recorded new x y ≡ Some (wanted old x y)

@@ -20,26 +20,30 @@ use Rattle.rfb_server.specs.Request.{wanted_at, recorded, is_asked, is_whole, di
 use Rattle.rfb_server.specs.Composing.{Part, Move, sent_as, between, all_moved, IsGain, AllGain, AreCopies, HaveTheirData, IsPlace, is_in_some}
 use Rattle.rfb_server.specs.Sends.{state_of}
 
--- what the place of a rectangle has the wanted pixel by, if it takes over what is known of the place
+-- whether a place of a rectangle has the wanted pixel, if it takes over what is known of the place
 -- that lies as far from (sx, sy)
 abbrev pub is_right_from : Grid Colour → Grid (Option ℕ) → PixelFormat → Rect → ℕ → ℕ → ℕ → ℕ → Bool
 is_right_from screen known form to sx sy x y =
     not (differs (wanted_at screen form x y) (at_or known (sx + (x - to.x)) (sy + (y - to.y)) None))
 
 -- the bytes are these copies, which gain places and leave that known
-pub record Copies (s : ServerState) (moves : List Move) (copies : List Part) (known : Grid (Option ℕ)) (bytes : List ℕ) : Type 0 where
+pub record Copies (s : ServerState) (moves : List Move) (copies : List Part)
+    (known : Grid (Option ℕ)) (bytes : List ℕ) : Type 0 where
   pub moved_is : all_moved moves s ≡ record s { known = known }
   pub whole : IsGrid known
   pub alike : IsAlike s.known known
   pub spelled : SpellsRectangles (between s) (map sent_as copies) bytes
   pub data_are : HaveTheirData s copies
-  pub agrees : (picture : Grid Colour) → IsGrid picture → IsAlike picture s.known → Agrees s.form picture s.known →
+  pub agrees : (picture : Grid Colour) → IsGrid picture → IsAlike picture s.known →
+      Agrees s.form picture s.known →
       Agrees s.form (effects (between s) (map item_of (map sent_as copies)) picture) known
   pub copies_are : AreCopies moves copies
   pub copies_listed : moves ≢ [] → is_listed CopyRect s.encodings ≡ true
   pub gains : AllGain s moves
-  pub free : (x y : ℕ) → IsPlace s x y → is_in_some copies x y ≡ true → (is_asked s x y ≡ true) × (is_whole s x y ≡ false)
-  pub others : (x y : ℕ) → IsPlace s x y → is_in_some copies x y ≡ false → at_or known x y None ≡ recorded s x y
+  pub free : (x y : ℕ) → IsPlace s x y → is_in_some copies x y ≡ true →
+      (is_asked s x y ≡ true) × (is_whole s x y ≡ false)
+  pub others : (x y : ℕ) → IsPlace s x y → is_in_some copies x y ≡ false →
+      at_or known x y None ≡ recorded s x y
 
 -- ---- a session's hints
 
@@ -72,15 +76,16 @@ pub record AppendsCopy (rect : Rect) (sx sy : ℕ) (old new : List ℕ) : Type 0
   pub appended : new ≡ old ++ bytes
   pub copied : IsCopied rect sx sy bytes
 
--- by some hint the viewer is told to copy, or nothing has changed
+-- the bytes of a copy were appended, which some hint names, or nothing has changed
 abbrev pub SendsHint : Bool → Grid Colour → Session → Session → List ℕ → List ℕ → Type 0
 SendsHint true screen old new before after =
     (hint : Hint) × IsUseful screen old hint × AppendsCopy hint.to hint.sx hint.sy before after ×
     (new.known ≡ copied hint.to hint.sx hint.sy old.known)
 SendsHint false screen old new before after = (new.known ≡ old.known) × (after ≡ before)
 
--- the bytes of copies were appended, and so many of them
-pub record AppendsCopies (screen : Grid Colour) (old new : Session) (before after : List ℕ) (count : ℕ) : Type 0 where
+-- the bytes of `count` copies were appended
+pub record AppendsCopies (screen : Grid Colour) (old new : Session) (before after : List ℕ)
+    (count : ℕ) : Type 0 where
   pub moves : List Move
   pub copies : List Part
   pub bytes : List ℕ
@@ -90,4 +95,5 @@ pub record AppendsCopies (screen : Grid Colour) (old new : Session) (before afte
 
 -- how many hints a session may use: all that it keeps, where the viewer listed CopyRect
 abbrev pub usable_hints : Session → ℕ
-usable_hints session = if is_listed CopyRect session.encodings then length session.hints.items else 0
+usable_hints session =
+    if is_listed CopyRect session.encodings then length session.hints.items else 0

@@ -30,7 +30,8 @@ known_among (number ∷ numbers) list = known_among numbers (with_encoding list 
 -- how often the list has the encoding
 abbrev pub times_listed : Encoding → List Encoding → ℕ
 times_listed encoding [] = 0
-times_listed encoding (other ∷ list) = (if is_same encoding other then 1 else 0) + times_listed encoding list
+times_listed encoding (other ∷ list) =
+    (if is_same encoding other then 1 else 0) + times_listed encoding list
 
 -- the list has no encoding twice
 abbrev pub IsEachOnce : List Encoding → Type 0

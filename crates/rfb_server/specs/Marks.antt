@@ -24,7 +24,8 @@ pub record AreAlike (known : Grid (Option ℕ)) (area : Places) (marks : Grid Bo
   pub rows : known.height ≤ 4096
 
 -- a place that is not marked is known to have the wanted pixel, and is not whole
-pub record IsCaughtUp (screen : Grid Colour) (known : Grid (Option ℕ)) (area : Places) (form : PixelFormat) (marks : Grid Bool) : Type 0 where
+pub record IsCaughtUp (screen : Grid Colour) (known : Grid (Option ℕ)) (area : Places)
+    (form : PixelFormat) (marks : Grid Bool) : Type 0 where
   pub right : (x y : ℕ) → x < marks.width → y < marks.height → is_in marks x y ≡ false →
       at_or known x y None ≡ Some (wanted_at screen form x y)
   pub not_whole : (x y : ℕ) → x < marks.width → y < marks.height → is_in marks x y ≡ false →

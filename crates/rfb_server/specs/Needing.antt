@@ -37,7 +37,8 @@ pub record IsEnd (p : ℕ → ℕ → Bool) (y from to column : ℕ) : Type 0 wh
 -- the least rectangle that holds the marked places of the zone, if it has some
 abbrev pub HasBox : (ℕ → ℕ → Bool) → Rect → Option Rect → Type 0
 HasBox p zone found =
-    MatchOption found (IsClear p zone.x (zone.x + zone.w) zone.y (zone.y + zone.h)) (λ r. IsBox p zone r)
+    MatchOption found (IsClear p zone.x (zone.x + zone.w) zone.y (zone.y + zone.h))
+    (λ r. IsBox p zone r)
 
 -- the rows of the zone above row y
 abbrev pub rows_above : Rect → ℕ → Rect

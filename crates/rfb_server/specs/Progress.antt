@@ -19,11 +19,13 @@ use Rattle.rfb_server.specs.Server.{Serving}
 -- the bytes are the beginning of a message's head, and not all of it
 abbrev pub IsHeadBegun : List ℕ → Type 0
 IsHeadBegun [] = Unit {0}
-IsHeadBegun (first ∷ rest) = (size : ℕ) × (client_head_size first ≡ Some size) × (length (first ∷ rest) < size)
+IsHeadBegun (first ∷ rest) =
+    (size : ℕ) × (client_head_size first ≡ Some size) × (length (first ∷ rest) < size)
 
--- the bytes are a SetEncodings of which so many numbers are missing: its head, the numbers that are
--- whole, and the bytes of the next one; these encodings are known among the numbers
-pub record IsListBegun (left : ℕ) (number : List ℕ) (list : List Encoding) (prefix : List ℕ) : Type 0 where
+-- the bytes are a SetEncodings of which `left` numbers are missing: its head, the numbers that are
+-- whole, and the bytes of the next one. These encodings are known among the numbers
+pub record IsListBegun (left : ℕ) (number : List ℕ) (list : List Encoding)
+    (prefix : List ℕ) : Type 0 where
   pub head : List ℕ
   pub units : List ℕ
   pub numbers : List ℤ
@@ -34,9 +36,10 @@ pub record IsListBegun (left : ℕ) (number : List ℕ) (list : List Encoding) (
   pub short : length number < 4
   pub list_is : list ≡ known_among numbers []
 
--- the bytes are a ClientCutText of which so many bytes are missing: its head, and a text of which
--- the first ones are kept, with room for as many as are to be
-pub record IsTextBegun (text_limit text_length left : ℕ) (kept : KeptText) (prefix : List ℕ) : Type 0 where
+-- the bytes are a ClientCutText of which `left` bytes are missing: its head, and a text of which
+-- the first bytes are kept. There is room for all that are to be kept
+pub record IsTextBegun (text_limit text_length left : ℕ) (kept : KeptText)
+    (prefix : List ℕ) : Type 0 where
   pub head : List ℕ
   pub text : List ℕ
   pub prefix_is : prefix ≡ head ++ text
@@ -46,7 +49,7 @@ pub record IsTextBegun (text_limit text_length left : ℕ) (kept : KeptText) (pr
   pub room : kept.room ≡ min text_length text_limit
   pub kept_is : kept.bytes ≡ take text_limit text
 
--- so many bytes are fewer than a head has, if there is one
+-- `count` bytes are fewer than a head has, if there is one
 abbrev pub is_less : ℕ → Option ℕ → Bool
 is_less count None = false
 is_less count (Some size) = nat_lt count size
@@ -71,14 +74,18 @@ progress_behind false = Head (as_reply [])
 
 -- so much progress stands for that point and that prefix; one that has failed stands for none
 abbrev pub ProgressStandsFor : Serving → ServerHello → Progress → ClientAt → List ℕ → Type 0
-ProgressStandsFor serving hello Handshake (First point) prefix = HelloStandsFor serving.hello hello point prefix × (is_open hello ≡ true)
+ProgressStandsFor serving hello Handshake (First point) prefix =
+    HelloStandsFor serving.hello hello point prefix × (is_open hello ≡ true)
 ProgressStandsFor serving hello Handshake (Second between) prefix = ⊥
 ProgressStandsFor serving hello (Head bytes) (First point) prefix = ⊥
-ProgressStandsFor serving hello (Head bytes) (Second between) prefix = (prefix ≡ bytes.items) × IsHeadBegun bytes.items
+ProgressStandsFor serving hello (Head bytes) (Second between) prefix =
+    (prefix ≡ bytes.items) × IsHeadBegun bytes.items
 ProgressStandsFor serving hello (Encodings left number list) (First point) prefix = ⊥
-ProgressStandsFor serving hello (Encodings left number list) (Second between) prefix = IsListBegun left number.items list prefix
+ProgressStandsFor serving hello (Encodings left number list) (Second between) prefix =
+    IsListBegun left number.items list prefix
 ProgressStandsFor serving hello (CutText text_length left kept) (First point) prefix = ⊥
-ProgressStandsFor serving hello (CutText text_length left kept) (Second between) prefix = IsTextBegun serving.text_limit text_length left kept prefix
+ProgressStandsFor serving hello (CutText text_length left kept) (Second between) prefix =
+    IsTextBegun serving.text_limit text_length left kept prefix
 ProgressStandsFor serving hello (Failed fault) point prefix = ⊥
 
 -- nothing came of a message, and the handshake is done

@@ -35,7 +35,8 @@ TellsKnown known area = (x y : ℕ) → x < known.width → y < known.height →
 -- at each place of the set its pixel is known, and at no other
 unfoldable pub record_of : Grid ℕ → Grid Bool → Grid (Option ℕ)
 record_of pixels known =
-    changed (λ x y old. if is_in known x y then Some (at_or pixels x y 0) else None) (forgotten pixels)
+    changed (λ x y old. if is_in known x y then Some (at_or pixels x y 0) else None)
+    (forgotten pixels)
 
 -- both have one size
 pub record IsRecord (pixels : Grid ℕ) (known : Places) : Type 0 where

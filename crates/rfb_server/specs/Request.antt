@@ -18,7 +18,8 @@ differs pixel (Some old) = not (old == pixel)
 -- a place needs sending if it is asked, and is whole, unknown or known to have another pixel
 abbrev pub needs_at : Grid Colour → Grid (Option ℕ) → Places → PixelFormat → ℕ → ℕ → Bool
 needs_at screen known area form x y =
-    asked_at area x y && (whole_at area x y || differs (wanted_at screen form x y) (at_or known x y None))
+    asked_at area x y &&
+    (whole_at area x y || differs (wanted_at screen form x y) (at_or known x y None))
 
 -- ---- the same of a state
 

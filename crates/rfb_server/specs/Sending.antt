@@ -11,7 +11,8 @@ use Rattle.rfb_codec.specs.Codec.{raw_of}
 
 -- the bytes are a rectangle in that encoding, whose data are the block's pixels, on a screen of any
 -- size
-pub record IsCoded (f : PixelFormat) (rect : Rect) (encoding : Encoding) (block : Grid ℕ) (bytes : List ℕ) : Type 0 where
+pub record IsCoded (f : PixelFormat) (rect : Rect) (encoding : Encoding)
+    (block : Grid ℕ) (bytes : List ℕ) : Type 0 where
   pub head : List ℕ
   pub body : List ℕ
   pub whole : bytes ≡ head ++ body
@@ -20,11 +21,13 @@ pub record IsCoded (f : PixelFormat) (rect : Rect) (encoding : Encoding) (block 
   pub short : length bytes ≤ 12 + raw_of f block
 
 -- such bytes were appended, in this encoding
-pub record AppendsIn (f : PixelFormat) (rect : Rect) (encoding : Encoding) (block : Grid ℕ) (old new : List ℕ) : Type 0 where
+pub record AppendsIn (f : PixelFormat) (rect : Rect) (encoding : Encoding)
+    (block : Grid ℕ) (old new : List ℕ) : Type 0 where
   pub bytes : List ℕ
   pub appended : new ≡ old ++ bytes
   pub coded : IsCoded f rect encoding block bytes
 
 -- they were appended in that encoding or in Raw
 abbrev pub SendsRect : PixelFormat → Rect → Encoding → Grid ℕ → List ℕ → List ℕ → Type 0
-SendsRect f rect encoding block old new = AppendsIn f rect encoding block old new ⊎ AppendsIn f rect Raw block old new
+SendsRect f rect encoding block old new =
+    AppendsIn f rect encoding block old new ⊎ AppendsIn f rect Raw block old new

@@ -34,9 +34,10 @@ pub record IsKept (old new : Session) : Type 0 where
   pub marks : new.marks ≡ old.marks
   pub hints : new.hints ≡ old.hints
 
--- the bytes are a rectangle with the pixels of the screen, in an encoding that may be sent, and these
--- pixels are known from then on
-pub record SendsPixels (screen : Grid Colour) (form : PixelFormat) (encodings : List Encoding) (rect : Rect) (known now : Grid (Option ℕ)) (bytes : List ℕ) : Type 0 where
+-- the bytes are a rectangle with the pixels of the screen, in an encoding that may be sent, and
+-- these pixels are known from then on
+pub record SendsPixels (screen : Grid Colour) (form : PixelFormat) (encodings : List Encoding)
+    (rect : Rect) (known now : Grid (Option ℕ)) (bytes : List ℕ) : Type 0 where
   pub block : Grid ℕ
   pub encoding : Encoding
   pub sized : IsSized rect.w rect.h block
@@ -48,15 +49,18 @@ pub record SendsPixels (screen : Grid Colour) (form : PixelFormat) (encodings : 
   pub alike : IsAlike known now
 
 -- such bytes are appended
-pub record AppendsPixels (screen : Grid Colour) (rect : Rect) (old new : Session) (before after : List ℕ) : Type 0 where
+pub record AppendsPixels (screen : Grid Colour) (rect : Rect) (old new : Session)
+    (before after : List ℕ) : Type 0 where
   pub bytes : List ℕ
   pub appended : after ≡ before ++ bytes
   pub sent : SendsPixels screen old.format old.encodings rect old.known new.known bytes
 
--- of a cell the least rectangle that needs sending is appended, or there is none and nothing changes
+-- of a cell the least rectangle that needs sending is appended; or there is none, and nothing
+-- changes
 abbrev pub SendsCell : Bool → Grid Colour → Rect → Session → Session → List ℕ → List ℕ → Type 0
 SendsCell true screen cell old new before after =
-    (rect : Rect) × IsBox (needs_of screen old) cell rect × AppendsPixels screen rect old new before after
+    (rect : Rect) × IsBox (needs_of screen old) cell rect ×
+    AppendsPixels screen rect old new before after
 SendsCell false screen cell old new before after =
     HasBox (needs_of screen old) cell None × (new.known ≡ old.known) × (after ≡ before)
 
@@ -74,7 +78,8 @@ state_of screen session = record {
 }
 
 -- the bytes are these rectangles, which take care of the first cells and leave that known
-pub record Sends (across n : ℕ) (s : ServerState) (known : Grid (Option ℕ)) (parts : List Part) (bytes : List ℕ) : Type 0 where
+pub record Sends (across n : ℕ) (s : ServerState) (known : Grid (Option ℕ))
+    (parts : List Part) (bytes : List ℕ) : Type 0 where
   pub whole : IsGrid known
   pub alike : IsAlike s.known known
   pub few : length parts ≤ n
@@ -82,17 +87,21 @@ pub record Sends (across n : ℕ) (s : ServerState) (known : Grid (Option ℕ)) 
   pub spelled : SpellsRectangles (between s) (map sent_as parts) bytes
   pub data_are : HaveTheirData s parts
   pub blocks_are : AreBlocksOf s parts
-  pub agrees : (picture : Grid Colour) → IsGrid picture → IsAlike picture s.known → Agrees s.form picture s.known →
+  pub agrees : (picture : Grid Colour) → IsGrid picture → IsAlike picture s.known →
+      Agrees s.form picture s.known →
       Agrees s.form (effects (between s) (map item_of (map sent_as parts)) picture) known
   pub answered : (x y : ℕ) → IsPlace s x y → cell_of across x y < n → is_asked s x y ≡ true →
       at_or known x y None ≡ Some (wanted s x y)
   pub others : (x y : ℕ) → IsPlace s x y →
       (at_or known x y None ≡ recorded s x y) ⊎ (at_or known x y None ≡ Some (wanted s x y))
-  pub later : (x y : ℕ) → IsPlace s x y → n ≤ cell_of across x y → at_or known x y None ≡ recorded s x y
-  pub renewed : (x y : ℕ) → IsPlace s x y → cell_of across x y < n → is_whole s x y ≡ true → is_in_some parts x y ≡ true
+  pub later : (x y : ℕ) → IsPlace s x y → n ≤ cell_of across x y →
+      at_or known x y None ≡ recorded s x y
+  pub renewed : (x y : ℕ) → IsPlace s x y → cell_of across x y < n → is_whole s x y ≡ true →
+      is_in_some parts x y ≡ true
 
--- such bytes are appended, and so many rectangles
-pub record AppendsCells (across n : ℕ) (screen : Grid Colour) (old new : Session) (before after : List ℕ) (count : ℕ) : Type 0 where
+-- such bytes are appended, which are `count` rectangles
+pub record AppendsCells (across n : ℕ) (screen : Grid Colour) (old new : Session)
+    (before after : List ℕ) (count : ℕ) : Type 0 where
   pub parts : List Part
   pub bytes : List ℕ
   pub appended : after ≡ before ++ bytes
@@ -101,7 +110,7 @@ pub record AppendsCells (across n : ℕ) (screen : Grid Colour) (old new : Sessi
 
 -- ---- room
 
--- the sum of the first so many of some costs
+-- the sum of the first costs
 abbrev pub sum_below : (ℕ → ℕ) → ℕ → ℕ
 sum_below cost zero = 0
 sum_below cost (suc n) = sum_below cost n + cost n
@@ -110,8 +119,8 @@ sum_below cost (suc n) = sum_below cost n + cost n
 abbrev pub may_need : Grid Bool → Places → ℕ → ℕ → Bool
 may_need marks area x y = is_in marks x y && asked_at area x y
 
--- the cost of a cell is at least that of a rectangle in it whose edges all have such a place, as its
--- head and its pixels by themselves take room
+-- the cost of a cell is at least that of a rectangle in it whose edges all have such a place: the
+-- room of a head, and of the rectangle's pixels by themselves
 abbrev pub IsCost : (ℕ → ℕ → Bool) → PixelFormat → Rect → ℕ → Type 0
 IsCost p form cell cost = (r : Rect) → IsTight p r →
     cell.x ≤ r.x → r.x + r.w ≤ cell.x + cell.w → cell.y ≤ r.y → r.y + r.h ≤ cell.y + cell.h →
@@ -121,15 +130,16 @@ IsCost p form cell cost = (r : Rect) → IsTight p r →
 abbrev pub IsCostIn : Session → Rect → ℕ → Type 0
 IsCostIn session cell cost = IsCost (may_need session.marks session.area) session.format cell cost
 
--- so it is for each of the first so many cells
+-- so it is for each of the first `n` cells
 abbrev pub AreCosts : ℕ → ℕ → ℕ → (ℕ → ℕ → Bool) → PixelFormat → ℕ → (ℕ → ℕ) → Type 0
 AreCosts width height across p form n cost = (i : ℕ) (cell : Rect) → i < n →
     IsCell width height across i cell → IsCost p form cell (cost i)
 
--- so much room is enough for the first so many cells
+-- `room` is enough for the first `n` cells
 pub record IsEnough (session : Session) (across n room : ℕ) : Type 0 where
   pub cost : ℕ → ℕ
-  pub costs : AreCosts session.known.width session.known.height across (may_need session.marks session.area) session.format n cost
+  pub costs : AreCosts session.known.width session.known.height across
+      (may_need session.marks session.area) session.format n cost
   pub sum_is : sum_below cost n ≤ room
 
 -- ---- the cells that are looked at
@@ -137,7 +147,8 @@ pub record IsEnough (session : Session) (across n room : ℕ) : Type 0 where
 -- no place of the cells from one number up to another is marked and asked
 abbrev pub NoneMayNeed : Session → ℕ → ℕ → Type 0
 NoneMayNeed session n m = (x y : ℕ) → x < session.known.width → y < session.known.height →
-    n ≤ cell_of (div_ceil session.known.width 64) x y → cell_of (div_ceil session.known.width 64) x y < m →
+    n ≤ cell_of (div_ceil session.known.width 64) x y →
+    cell_of (div_ceil session.known.width 64) x y < m →
     may_need session.marks session.area x y ≡ false
 
 -- the cell is one of the screen's, and no cell from a number on and before it has such a place
@@ -149,5 +160,6 @@ pub record IsNext (session : Session) (n cell : ℕ) : Type 0 where
 -- that cell comes next, or there is no such place any more
 abbrev pub HasNext : Session → ℕ → Option ℕ → Type 0
 HasNext session n found =
-    MatchOption found (NoneMayNeed session n (div_ceil session.known.width 64 * div_ceil session.known.height 64))
+    MatchOption found
+    (NoneMayNeed session n (div_ceil session.known.width 64 * div_ceil session.known.height 64))
     (λ cell. IsNext session n cell)

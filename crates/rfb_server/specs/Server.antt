@@ -42,7 +42,8 @@ pub record ServerState : Type 0 where
 abbrev pub message_acts : ServerState → ClientMessage → ServerState
 message_acts s (SetPixelFormat format) = record s { form = format; known = forgotten s.known }
 message_acts s (SetEncodings numbers) = record s { encodings = known_among numbers [] }
-message_acts s (FramebufferUpdateRequest incremental rect) = record s { area = added rect (not incremental) s.area }
+message_acts s (FramebufferUpdateRequest incremental rect) =
+    record s { area = added rect (not incremental) s.area }
 message_acts s (KeyEvent down key) = s
 message_acts s (PointerEvent buttons x y) = s
 message_acts s (ClientCutText text) = s
@@ -54,11 +55,12 @@ item_acts s (Second message) = message_acts s message
 
 -- what an item makes of a state
 abbrev pub serves : Serving → ServerState → FromClient → ServerState
-serves serving s item = record (item_acts s item) { point = past_in (client_two serving.hello.offer) s.point item }
+serves serving s item =
+    record (item_acts s item) { point = past_in (client_two serving.hello.offer) s.point item }
 
--- ---- what is told of it
+-- ---- what a server tells of it
 
--- an item of the part that the point belongs to is told of as that part has it
+-- of an item of the part that the point belongs to a server tells what that part has it tell
 abbrev pub item_told : Serving → ClientAt → FromClient → Option ServerTold
 item_told serving (First point) (First step) = step_told (handshake_tells serving.hello point step)
 item_told serving (First point) (Second message) = None
@@ -96,7 +98,8 @@ behind_handshake (Second between) s = Some s
 -- memory is asked for once the length of a text is known that has bytes
 abbrev pub AsksMemory : ServerState → List ℕ → Type 0
 AsksMemory s bytes =
-    (s.point ≡ Second tt) × (text_length : ℕ) × SpellsClientCutText text_length bytes × (0 < text_length)
+    (s.point ≡ Second tt) ×
+    (text_length : ℕ) × SpellsClientCutText text_length bytes × (0 < text_length)
 
 -- a screen begins black
 abbrev pub black : Colour

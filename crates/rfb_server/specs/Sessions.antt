@@ -30,7 +30,8 @@ pub record IsSame (old new : Session) : Type 0 where
 
 -- each place is marked
 abbrev pub IsUnseen : Session → Type 0
-IsUnseen session = (x y : ℕ) → x < session.known.width → y < session.known.height → is_in session.marks x y ≡ true
+IsUnseen session = (x y : ℕ) → x < session.known.width → y < session.known.height →
+    is_in session.marks x y ≡ true
 
 -- the rectangle is marked too
 pub record IsMarked (rect : Rect) (old new : Session) : Type 0 where
@@ -70,17 +71,17 @@ pub record BeginsMessage (old new : Session) : Type 0 where
   pub marks : new.marks ≡ old.marks
   pub hints : new.hints ≡ old.hints
 
--- so many numbers of a list come next; without any the list is there, with no encoding
+-- that many numbers of a list come next. Without any the list is whole, with no encoding
 abbrev pub progress_of_list : ℕ → Progress
 progress_of_list zero = Head (as_reply [])
 progress_of_list (suc n) = Encodings (suc n) (as_reply []) []
 
--- the list of a session, where so many numbers of a new one come next
+-- the list of a session, where that many numbers of a new one come next
 abbrev pub encodings_behind : ℕ → List Encoding → List Encoding
 encodings_behind zero list = []
 encodings_behind (suc n) list = list
 
--- a list of so many numbers begins
+-- a list of `count` numbers begins
 pub record BeginsList (count : ℕ) (old new : Session) : Type 0 where
   pub hello : new.hello ≡ old.hello
   pub progress : new.progress ≡ progress_of_list count

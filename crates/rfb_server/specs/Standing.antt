@@ -21,7 +21,8 @@ serving_with offer width height name text_limit = record {
 }
 
 -- a session, and the screen that it is about, stand for a state and a prefix
-pub record SessionStandsFor (serving : Serving) (screen : Grid Colour) (session : Session) (s : ServerState) (prefix : List ℕ) : Type 0 where
+pub record SessionStandsFor (serving : Serving) (screen : Grid Colour) (session : Session)
+    (s : ServerState) (prefix : List ℕ) : Type 0 where
   pub setup_is : setup_of session.hello ≡ serving.hello
   pub limit_is : session.text_limit ≡ serving.text_limit
   pub progress_is : ProgressStandsFor serving session.hello session.progress s.point prefix
@@ -35,7 +36,7 @@ pub record SessionStandsFor (serving : Serving) (screen : Grid Colour) (session 
 abbrev pub StandsFor : Serving → Server → ServerState → List ℕ → Type 0
 StandsFor serving server s prefix = SessionStandsFor serving server.screen server.session s prefix
 
--- ---- what is told of a server, whether it has failed or not
+-- ---- what a server has, whether it has failed or not
 
 -- its screen
 abbrev pub screen_of : Server → Grid Colour
@@ -47,7 +48,8 @@ fault_of server = fault_in server.session.progress
 
 -- what it was made with
 abbrev pub serving_of : Server → Serving
-serving_of server = record { hello = setup_of server.session.hello; text_limit = server.session.text_limit }
+serving_of server =
+    record { hello = setup_of server.session.hello; text_limit = server.session.text_limit }
 
 -- ---- drawings
 
@@ -55,7 +57,7 @@ serving_of server = record { hello = setup_of server.session.hello; text_limit =
 abbrev pub with_screen : Grid Colour → ServerState → ServerState
 with_screen screen s = record s { screen = screen }
 
--- so many places of row y, from column x on
+-- `n` places of row y, from column x on
 abbrev pub row_from : ℕ → ℕ → ℕ → Rect
 row_from x y n = record { x = x; y = y; w = n; h = 1 }
 

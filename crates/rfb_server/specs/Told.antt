@@ -30,17 +30,18 @@ seen None = None
 seen (Some event) = Some (event_told event)
 
 -- the same of an answer
-abbrev pub answer_told : Result (Option ServerEvent) ServerFault → Result (Option ServerTold) ServerFault
+abbrev pub answer_told :
+    Result (Option ServerEvent) ServerFault → Result (Option ServerTold) ServerFault
 answer_told (Ok event) = Ok (seen event)
 answer_told (Err fault) = Err fault
 
--- what is told of a step of the handshake: its version is the handshake's own matter
+-- what a server tells of a step of the handshake: its version is the handshake's own matter
 abbrev pub step_told : Option ServerStep → Option ServerTold
 step_told None = None
 step_told (Some (ReplyStep reply)) = Some (Reply reply.items)
 step_told (Some (ReadyStep reply version shared)) = Some (Ready reply.items shared)
 
--- what is told of a message, where texts are kept up to so many bytes
+-- what a server tells of a message, where up to `text_limit` bytes of a text are kept
 abbrev pub message_told : ℕ → ClientMessage → Option ServerTold
 message_told text_limit (SetPixelFormat format) = None
 message_told text_limit (SetEncodings numbers) = None

@@ -7,7 +7,8 @@ use Rattle.rfb_server.specs.Composing.{Part, Composes, IsDue}
 
 -- one composing of what a server stood for, which was due: its bytes were appended, and the server
 -- stands for what it leaves
-pub record HasSent (serving : Serving) (s : ServerState) (prefix : List ℕ) (new : Server) (before after : List ℕ) : Type 0 where
+pub record HasSent (serving : Serving) (s : ServerState) (prefix : List ℕ) (new : Server)
+    (before after : List ℕ) : Type 0 where
   pub due : IsDue s
   pub behind : ServerState
   pub bytes : List ℕ

@@ -32,8 +32,8 @@ pub fn a_server_is_a_machine()
     ensures { (serving : Serving) → IsMachine (server serving) }
 {}
 
-/// A server is fed the handshake as the handshake's end is, and messages as an end of messages alone:
-/// so what these ends take, refuse or want memory for, the server does.
+/// A server is fed the handshake as the handshake's end is, and messages as an end of messages
+/// alone: so what these ends take, refuse or want memory for, the server does.
 pub fn a_server_is_fed_as_the_ends_of_its_parts()
     ensures handshake { (serving : Serving) → GoesAsFirst (client_two serving.hello.offer)
         (server serving) (server_end serving.hello) (λ s. first_point s.point)

@@ -166,8 +166,8 @@ impl Server {
     /// and does not have, and tells whether it did: exactly where the handshake is done, the server
     /// has not failed, and such a place is there. Behind an update nothing is asked any more. `out`
     /// stays the caller's; what was in it stays in front. Room is asked for once, before anything
-    /// changes: at most 260 bytes, and 12 and its pixels' bytes for each cell of 64 by 64 places that
-    /// holds an asked place. Where there is none it gives the error, and nothing changes.
+    /// changes: at most 260 bytes, and 12 and its pixels' bytes for each cell of 64 by 64 places
+    /// that holds an asked place. Where there is none it gives the error, and nothing changes.
     pub fn compose(&mut self, out: &mut Vec<u8>) -> Result<bool, AllocError>
         ensures appended { (bytes : List ℕ) × (out.new.items ≡ out.old.items ++ bytes) }
         ensures composed { IfOk result (λ did. did ≡ true →
@@ -184,10 +184,11 @@ impl Server {
         self.session.compose(&self.screen, out)
     }
 
-    /// Takes bytes of the client's, up to the last of its first item that is told of, or all: a step
-    /// of the handshake, a key, the pointer or a text. Formats, lists and requests change the server
-    /// at their last byte, and are not told. A client's fault is told at its last byte, and want of
-    /// memory for a text at its length; every later call answers it again, and takes nothing. Up to
+    /// Takes bytes of the client's, up to the last of its first item that makes an event, or all.
+    /// Events are steps of the handshake, keys, the pointer and texts. Formats, lists and requests
+    /// change the server at their last byte, and make no event. A client's fault comes at its last
+    /// byte, and want of memory for a text at its length. Every later call gives the fault again,
+    /// and takes nothing. Up to
     /// 19 bytes are kept of what is under way, and of one text as much as fits its limit.
     pub fn feed(&mut self, bytes: &[u8]) -> Result<Fed<ServerEvent>, ServerFault>
         // What was taken, what it was, and what is left.

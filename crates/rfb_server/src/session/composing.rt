@@ -8,7 +8,8 @@ ghost use Rattle.rfb_picture.specs.Grid.{Holds};
 ghost use Rattle.rfb_codec.specs.Raw.{raw_length};
 ghost use Rattle.rfb_server.specs.Needing.{IsAbout};
 ghost use Rattle.rfb_server.specs.Cells.{IsCell};
-ghost use Rattle.rfb_server.specs.Sends.{IsKept, AppendsPixels, SendsCell, AppendsCells, IsCostIn, IsEnough, HasNext};
+ghost use Rattle.rfb_server.specs.Sends.{IsKept, AppendsPixels, SendsCell, AppendsCells};
+ghost use Rattle.rfb_server.specs.Sends.{IsCostIn, IsEnough, HasNext};
 ghost use Rattle.rfb_server.specs.Sessions.{IsSame};
 ghost use Rattle.rfb_server.specs.Copying.{usable_hints};
 ghost use Rattle.rfb_server.specs.Composed.{is_ready, HasComposed, StaysIdle, IsSettled, IsCounted};
@@ -122,7 +123,7 @@ impl Session {
         room
     }
 
-    // The number of the first cell from number `from` on that may have marked places and asked ones.
+    // The number of the first cell from number `from` on that may have marked and asked places.
     fn next_cell(&self, from: usize) -> Option<usize>
         ensures { HasNext self.now from result }
     {

@@ -1,6 +1,7 @@
 //! What a session takes of a slice of its client's bytes.
 
-ghost use Rattle.std.specs.Prelude.{◌≡◌, ◌≢◌, ◌≤◌, ◌<◌, ℕ, List, length, take, None, Some, IfOk, IfErr};
+ghost use Rattle.std.specs.Prelude.{◌≡◌, ◌≢◌, ◌≤◌, ◌<◌, ℕ, List, length, take};
+ghost use Rattle.std.specs.Prelude.{None, Some, IfOk, IfErr};
 ghost use Rattle.rfb_pixel.specs.declared.colour.Colour.{Colour};
 ghost use Rattle.rfb_picture.specs.Grid.{Grid};
 ghost use Rattle.std.specs.Result.{result_err};
@@ -18,7 +19,7 @@ use crate::session::progress::Progress;
 use rfb_hello::Fed;
 
 impl Session {
-    /// Takes bytes of the client's, up to the last of its first item that is told of, or all.
+    /// Takes bytes of the client's, up to the last of its first item that makes an event, or all.
     pub(crate) fn feed(&mut self, bytes: &[u8]) -> Result<Fed<ServerEvent>, ServerFault>
         requires going { fault_in self.old.progress ≡ None }
         ensures used { IfOk result (λ fed. fed.used ≤ length bytes.now) }

@@ -19,8 +19,8 @@ impl Session {
     ghost use Rattle.rfb_server.specs.Sessions.{KeepsUp};
     ghost use Rattle.rfb_server.specs.Feeding.{FeedsAs, RefusesAs, StarvesAs};
 
-    // Takes bytes of the client's handshake, up to the last of its first step that is told of, or
-    // all. Bytes behind the handshake are the messages'.
+    // Takes bytes of the client's handshake, up to the last of its first step that makes an
+    // event, or all. Bytes behind the handshake are the messages'.
     pub(crate) fn greet(&mut self, bytes: &[u8]) -> Result<Fed<ServerEvent>, ServerFault>
         requires handshake { self.old.progress ≡ Progress.Handshake }
         requires open { is_open self.old.hello ≡ true }

@@ -20,7 +20,7 @@ use rfb_wire::Encoding;
 use std::mem;
 
 impl Session {
-    // So many numbers come next; with none of them the list is there.
+    // `count` numbers come next; without any the list is whole.
     pub(super) fn begin_list(&mut self, count: u16)
         ensures { BeginsList count self.old self.new }
     {

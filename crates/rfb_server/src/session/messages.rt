@@ -19,8 +19,8 @@ use rfb_pixel::Format;
 use rfb_wire::{ClientHead, Read};
 
 impl Session {
-    // Takes bytes of a message's head: how many these were, and what is told of it once it is
-    // whole.
+    // Takes bytes of a message's head: how many these were, and what the message answers once its
+    // head is whole.
     pub(super) fn take_head(
         &mut self,
         bytes: &[u8],

@@ -1,4 +1,4 @@
-//! What is told of a step of the handshake.
+//! The event of a step of the handshake.
 
 ghost use Rattle.std.specs.Prelude.{◌≡◌};
 ghost use Rattle.rfb_server.specs.Told.{seen, step_told};

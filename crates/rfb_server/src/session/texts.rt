@@ -20,8 +20,8 @@ use std::alloc::AllocError;
 use std::mem;
 
 impl Session {
-    // A text of so many bytes comes next; it asks for room for as many as are kept. One without
-    // bytes is there.
+    // A text of `length` bytes comes next; it asks for room for as many as are kept. One without
+    // bytes is whole.
     pub(super) fn begin_text(&mut self, length: u32) -> Result<Option<ServerEvent>, ServerFault>
         requires { (part : Items ℕ) × (self.old.progress ≡ Progress.Head part) }
         ensures steps { (part : Items ℕ) (unit : List ℕ) → self.old.progress ≡ Progress.Head part
@@ -51,14 +51,14 @@ impl Session {
         Ok(None)
     }
 
-    // A text with room for as much as is kept of so many bytes.
+    // A text with room for as much as is kept of `length` bytes.
     fn text_of(&self, length: u32) -> Result<Text, AllocError>
         ensures { IfOk result (λ text. text ≡ kept_of self.now.text_limit length []) }
     {
         Text::with_room(self.alloc, length.min(self.text_limit) as usize)
     }
 
-    // Takes bytes of a text: how many these were, and what is told of it once it is whole.
+    // Takes bytes of a text: how many these were, and the event that it makes once it is whole.
     pub(super) fn take_text(&mut self, bytes: &[u8]) -> (usize, Option<ServerEvent>)
         requires some { 0 < length bytes.now }
         requires text { (n left : ℕ) × (kept : KeptText)
