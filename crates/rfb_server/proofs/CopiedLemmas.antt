@@ -14,12 +14,12 @@ use Rattle.rfb_server.specs.declared.session.Session.{Session}
 use Rattle.rfb_server.specs.Encodings.{is_listed}
 use Rattle.rfb_server.specs.Server.{ServerState}
 use Rattle.rfb_server.specs.Request.{wanted_at, is_asked, is_whole}
-use Rattle.rfb_server.specs.Marks.{AreAlike}
-use Rattle.rfb_server.specs.Needing.{IsAbout}
-use Rattle.rfb_server.specs.Sessions.{IsSame, IsMarked}
+use Rattle.rfb_server.specs.inside.Marks.{AreAlike}
+use Rattle.rfb_server.specs.inside.Needing.{IsAbout}
+use Rattle.rfb_server.specs.inside.Sessions.{IsSame, IsMarked}
 use Rattle.rfb_server.specs.Composing.{Part, IsGain}
-use Rattle.rfb_server.specs.Sends.{IsKept, state_of}
-use Rattle.rfb_server.specs.Copying.{IsFree, SendsHint, AppendsCopies, move_of, usable_hints}
+use Rattle.rfb_server.specs.inside.Sends.{IsKept, state_of}
+use Rattle.rfb_server.specs.inside.Copying.{IsFree, SendsHint, AppendsCopies, move_of, usable_hints}
 use Rattle.rfb_server.proofs.MarksLemmas.{caught_drawn}
 use Rattle.rfb_server.proofs.CopyingLemmas.{copies_start, copies_more}
 

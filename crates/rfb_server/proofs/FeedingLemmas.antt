@@ -27,7 +27,7 @@ use Rattle.rfb_server.specs.Told.{ServerTold, message_told}
 use Rattle.rfb_server.specs.Server.{Serving, ServerState, server, serves, message_acts, item_told, AsksMemory}
 use Rattle.rfb_server.specs.Progress.{ProgressStandsFor}
 use Rattle.rfb_server.specs.Standing.{SessionStandsFor}
-use Rattle.rfb_server.specs.Sessions.{KeepsUp, BeginsMessage, BeginsList, IsAskedFor, HasFormat}
+use Rattle.rfb_server.specs.inside.Sessions.{KeepsUp, BeginsMessage, BeginsList, IsAskedFor, HasFormat}
 
 -- ---- what is kept
 

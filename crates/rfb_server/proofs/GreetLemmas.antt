@@ -29,7 +29,7 @@ use Rattle.rfb_server.specs.Told.{step_told}
 use Rattle.rfb_server.specs.Server.{Serving, ServerState, server, serves}
 use Rattle.rfb_server.specs.Progress.{ProgressStandsFor, is_partial, progress_behind}
 use Rattle.rfb_server.specs.Standing.{SessionStandsFor}
-use Rattle.rfb_server.specs.Sessions.{IsGreeted}
+use Rattle.rfb_server.specs.inside.Sessions.{IsGreeted}
 use Rattle.rfb_server.proofs.ServerLaws.{client_bytes_laws}
 
 -- ---- points of the handshake

@@ -13,8 +13,8 @@ use Rattle.rfb_codec.specs.Effect.{IsAlike}
 use Rattle.rfb_server.specs.declared.session.Session.{Session}
 use Rattle.rfb_server.specs.Server.{black}
 use Rattle.rfb_server.specs.Request.{wanted_at}
-use Rattle.rfb_server.specs.Marks.{AreAlike, IsCaughtUp, IsSameOutside}
-use Rattle.rfb_server.specs.Sessions.{IsMarked}
+use Rattle.rfb_server.specs.inside.Marks.{AreAlike, IsCaughtUp, IsSameOutside}
+use Rattle.rfb_server.specs.inside.Sessions.{IsMarked}
 
 -- more marks are of the same places
 pub alike_marked : (known : Grid (Option ℕ)) (area : Places) (marks now : Grid Bool) (rect : Rect) →

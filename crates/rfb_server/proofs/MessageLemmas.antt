@@ -29,7 +29,7 @@ use Rattle.rfb_server.specs.ClientBytes.{ClientAt}
 use Rattle.rfb_server.specs.Progress.{ProgressStandsFor, IsHeadBegun, is_head_begun}
 use Rattle.rfb_server.proofs.HeadLemmas.{begun_is, begun_misses}
 use Rattle.rfb_server.specs.Standing.{SessionStandsFor}
-use Rattle.rfb_server.specs.Sessions.{BeginsMessage, BeginsList, IsAskedFor, HasFormat, KeepsUp}
+use Rattle.rfb_server.specs.inside.Sessions.{BeginsMessage, BeginsList, IsAskedFor, HasFormat, KeepsUp}
 use Rattle.rfb_server.proofs.FeedingLemmas.{IsStill, IsActed, in_head, stands_on, steps_more, steps_told, steps_bad, steps_starved, up_begun, up_then, up_asked, up_format, up_list}
 
 -- ---- messages without more than a head

@@ -11,7 +11,7 @@ use Rattle.rfb_picture.specs.Area.{asked_at}
 use Rattle.rfb_picture.proofs.GridLemmas.{contains_true, contains_row}
 use Rattle.rfb_server.specs.declared.session.Session.{Session}
 use Rattle.rfb_server.specs.Request.{wanted_at, differs}
-use Rattle.rfb_server.specs.Needing.{IsAbout, IsFirst, IsEnd, HasBox, needs_of, rows_above}
+use Rattle.rfb_server.specs.inside.Needing.{IsAbout, IsFirst, IsEnd, HasBox, needs_of, rows_above}
 
 -- ---- marks
 

@@ -18,9 +18,9 @@ use Rattle.rfb_codec.specs.WholeUpdate.{item_of, SpellsRectangles}
 use Rattle.rfb_codec.proofs.EffectLaws.{effect_painted, effects_picture, agrees_placed}
 use Rattle.rfb_server.specs.Server.{ServerState, black}
 use Rattle.rfb_server.specs.Request.{wanted_at, wanted, recorded, is_asked, is_whole, differs, needs_at, needs_sending}
-use Rattle.rfb_server.specs.Cells.{cell_of, IsCell}
+use Rattle.rfb_server.specs.inside.Cells.{cell_of, IsCell}
 use Rattle.rfb_server.specs.Composing.{Part, sent_as, between, IsPlace, HasItsData, HaveTheirData, IsBlockOf, AreBlocksOf, is_in_some}
-use Rattle.rfb_server.specs.Sends.{SendsPixels, Sends}
+use Rattle.rfb_server.specs.inside.Sends.{SendsPixels, Sends}
 
 -- ---- what needs no sending
 

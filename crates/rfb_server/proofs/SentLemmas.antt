@@ -16,11 +16,11 @@ use Rattle.rfb_codec.specs.Raw.{raw_length}
 use Rattle.rfb_codec.specs.Effect.{IsAlike, IsRecorded}
 use Rattle.rfb_server.specs.declared.session.Session.{Session}
 use Rattle.rfb_server.specs.Request.{wanted_at, differs}
-use Rattle.rfb_server.specs.Marks.{AreAlike, IsCaughtUp}
-use Rattle.rfb_server.specs.Needing.{IsAbout, needs_of}
+use Rattle.rfb_server.specs.inside.Marks.{AreAlike, IsCaughtUp}
+use Rattle.rfb_server.specs.inside.Needing.{IsAbout, needs_of}
 use Rattle.rfb_server.specs.Composing.{may_send}
-use Rattle.rfb_server.specs.Sending.{SendsRect}
-use Rattle.rfb_server.specs.Sends.{SendsPixels, AppendsPixels, may_need}
+use Rattle.rfb_server.specs.inside.Sending.{SendsRect}
+use Rattle.rfb_server.specs.inside.Sends.{SendsPixels, AppendsPixels, may_need}
 use Rattle.rfb_server.proofs.NeedingLemmas.{needed_marked}
 use Rattle.rfb_server.proofs.SendsLemmas.{noted_at}
 

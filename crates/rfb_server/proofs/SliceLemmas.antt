@@ -43,8 +43,8 @@ use Rattle.rfb_server.specs.Told.{seen}
 use Rattle.rfb_server.specs.Server.{Serving, server, AsksMemory}
 use Rattle.rfb_server.specs.Progress.{ProgressStandsFor, IsHeadBegun, fault_in, is_idle}
 use Rattle.rfb_server.specs.Standing.{SessionStandsFor}
-use Rattle.rfb_server.specs.Feeding.{StepsAs, RunsOutAs, FeedsAs, RefusesAs, StarvesAs}
-use Rattle.rfb_server.specs.Sessions.{KeepsUp}
+use Rattle.rfb_server.specs.inside.Feeding.{StepsAs, RunsOutAs, FeedsAs, RefusesAs, StarvesAs}
+use Rattle.rfb_server.specs.inside.Sessions.{KeepsUp}
 use Rattle.rfb_server.proofs.ServerLaws.{client_bytes_spelled, server_machine}
 use Rattle.rfb_server.proofs.HeadLemmas.{begun_misses}
 

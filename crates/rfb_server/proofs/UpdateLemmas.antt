@@ -17,12 +17,12 @@ use Rattle.rfb_codec.specs.Effect.{IsAlike}
 use Rattle.rfb_server.specs.declared.session.Session.{Session}
 use Rattle.rfb_server.specs.Server.{ServerState}
 use Rattle.rfb_server.specs.Request.{wanted, wanted_at, recorded, is_asked, is_whole, differs}
-use Rattle.rfb_server.specs.Marks.{AreAlike, IsCaughtUp}
-use Rattle.rfb_server.specs.Needing.{IsAbout, needs_of}
+use Rattle.rfb_server.specs.inside.Marks.{AreAlike, IsCaughtUp}
+use Rattle.rfb_server.specs.inside.Needing.{IsAbout, needs_of}
 use Rattle.rfb_server.specs.Composing.{Part, Move, IsDue, Composes}
-use Rattle.rfb_server.specs.Sends.{IsKept, Sends, state_of, AppendsCells, IsEnough, may_need}
-use Rattle.rfb_server.specs.Copying.{Copies, AppendsCopies}
-use Rattle.rfb_server.specs.Composed.{is_ready, HasComposed, StaysIdle, IsSettled, IsCounted}
+use Rattle.rfb_server.specs.inside.Sends.{IsKept, Sends, state_of, AppendsCells, IsEnough, may_need}
+use Rattle.rfb_server.specs.inside.Copying.{Copies, AppendsCopies}
+use Rattle.rfb_server.specs.inside.Composed.{is_ready, HasComposed, StaysIdle, IsSettled, IsCounted}
 use Rattle.rfb_server.proofs.NeedingLemmas.{differs_not}
 use Rattle.rfb_server.proofs.SentCells.{kept_then, quiet_unless}
 use Rattle.rfb_server.proofs.CellLemmas.{place_cell}

@@ -15,10 +15,10 @@ use Rattle.rfb_server.specs.ClientBytes.{ClientAt}
 use Rattle.rfb_server.specs.Server.{Serving, ServerState}
 use Rattle.rfb_server.specs.Progress.{ProgressStandsFor, fault_in}
 use Rattle.rfb_server.specs.Standing.{SessionStandsFor, Keeps}
-use Rattle.rfb_server.specs.Sessions.{IsSame}
+use Rattle.rfb_server.specs.inside.Sessions.{IsSame}
 use Rattle.rfb_server.specs.Composing.{Composes, IsDue}
-use Rattle.rfb_server.specs.Sends.{state_of}
-use Rattle.rfb_server.specs.Composed.{is_ready, HasComposed, StaysIdle}
+use Rattle.rfb_server.specs.inside.Sends.{state_of}
+use Rattle.rfb_server.specs.inside.Composed.{is_ready, HasComposed, StaysIdle}
 use Rattle.rfb_server.specs.Updating.{Updates, StaysUnsent}
 
 -- a session that is ready stands between messages, or in one

@@ -6,16 +6,8 @@ pub mod Encodings
 pub mod Server
 pub mod Request
 pub mod Composing
-pub mod Marks
 pub mod Progress
 pub mod Standing
 pub mod Hints
-pub mod Sessions
-pub mod Sending
-pub mod Cells
-pub mod Needing
-pub mod Sends
-pub mod Composed
 pub mod Updating
-pub mod Feeding
-pub mod Copying
+pub mod inside

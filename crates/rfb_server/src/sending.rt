@@ -6,8 +6,8 @@ ghost use Rattle.std.specs.Vec.{vec_capacity};
 ghost use Rattle.rfb_wire.specs.declared.encoding.Encoding.TheVariants.{Raw as RawEncoding};
 ghost use Rattle.rfb_codec.specs.Pixels.{HasPixels, IsSized};
 ghost use Rattle.rfb_codec.specs.Codec.{raw_of};
-ghost use Rattle.rfb_server.specs.Sending.{AppendsIn, SendsRect};
-ghost use Rattle.rfb_server.specs.Copying.{AppendsCopy};
+ghost use Rattle.rfb_server.specs.inside.Sending.{AppendsIn, SendsRect};
+ghost use Rattle.rfb_server.specs.inside.Copying.{AppendsCopy};
 
 use rfb_codec::{Block, Codec, Hextile, Raw, Rre, append_within, spell_source};
 use rfb_picture::Rect;

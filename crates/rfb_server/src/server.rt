@@ -4,7 +4,7 @@ ghost use Rattle.std.specs.Prelude.{◌≡◌, ◌≢◌, ◌≤◌, ◌<◌, �
 ghost use Rattle.std.specs.Prelude.{true, false, Some, None, Ok, IfOk, IfErr, OnOk, OnErr, IsErr};
 ghost use Rattle.rfb_picture.specs.Grid.{IsGrid};
 ghost use Rattle.rfb_codec.specs.Effect.{IsAlike};
-ghost use Rattle.rfb_server.specs.Marks.{IsCaughtUp};
+ghost use Rattle.rfb_server.specs.inside.Marks.{IsCaughtUp};
 
 use crate::event::ServerEvent;
 use crate::fault::{Outside, ServerFault};

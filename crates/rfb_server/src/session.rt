@@ -2,7 +2,7 @@
 
 ghost use Rattle.std.specs.Prelude.{◌≡◌, ◌≤◌, ◌<◌, [], length, IfOk, true};
 ghost use Rattle.rfb_picture.specs.Grid.{Holds, filled};
-ghost use Rattle.rfb_server.specs.Marks.{AreAlike};
+ghost use Rattle.rfb_server.specs.inside.Marks.{AreAlike};
 ghost use Rattle.rfb_server.specs.Progress.{is_partial};
 
 mod asking;
@@ -57,10 +57,10 @@ impl Session {
     ghost use Rattle.rfb_picture.specs.Grid.{Grid, uniform};
     ghost use Rattle.rfb_server.specs.Server.{black, first_server};
     ghost use Rattle.rfb_server.specs.Standing.{SessionStandsFor, serving_with};
-    ghost use Rattle.rfb_server.specs.Marks.{IsCaughtUp, IsSameOutside};
+    ghost use Rattle.rfb_server.specs.inside.Marks.{IsCaughtUp, IsSameOutside};
     ghost use Rattle.rfb_hello.specs.Version.{version_text};
     ghost use Rattle.rfb_hello.specs.ServerStanding.{setup_of};
-    ghost use Rattle.rfb_server.specs.Sessions.{IsUnseen, IsMarked, IsHinted};
+    ghost use Rattle.rfb_server.specs.inside.Sessions.{IsUnseen, IsMarked, IsHinted};
     ghost use Rattle.rfb_server.specs.Record.{ShowsKnown, TellsKnown};
 
     /// A session that was fed nothing, over a black screen of that size. It asks for all the memory

@@ -9,7 +9,7 @@ use rfb_picture::Rect;
 use rfb_pixel::Format;
 
 impl Session {
-    ghost use Rattle.rfb_server.specs.Sessions.{IsAskedFor, HasFormat};
+    ghost use Rattle.rfb_server.specs.inside.Sessions.{IsAskedFor, HasFormat};
 
     /// FramebufferUpdateRequest, RFC 6143 section 7.5.3: the viewer asks for the part of the
     /// rectangle that lies on the screen, for whatever it has there if the request is not

@@ -2,10 +2,10 @@
 
 ghost use Rattle.std.specs.Prelude.{◌≡◌, ◌+◌, ◌*◌, ◌≤◌, vec_len};
 ghost use Rattle.std.specs.Vec.{vec_capacity};
-ghost use Rattle.rfb_server.specs.Needing.{IsAbout};
-ghost use Rattle.rfb_server.specs.Sessions.{IsSame};
-ghost use Rattle.rfb_server.specs.Sends.{IsKept};
-ghost use Rattle.rfb_server.specs.Copying.{SendsHint, AppendsCopies, usable_hints};
+ghost use Rattle.rfb_server.specs.inside.Needing.{IsAbout};
+ghost use Rattle.rfb_server.specs.inside.Sessions.{IsSame};
+ghost use Rattle.rfb_server.specs.inside.Sends.{IsKept};
+ghost use Rattle.rfb_server.specs.inside.Copying.{SendsHint, AppendsCopies, usable_hints};
 
 use crate::hint::Hint;
 use crate::sending::append_copy;

@@ -9,8 +9,8 @@ ghost use Rattle.rfb_server.specs.ClientBytes.{client_bytes_pending};
 ghost use Rattle.rfb_server.specs.Server.{Serving, ServerState};
 ghost use Rattle.rfb_server.specs.Progress.{fault_in, is_idle};
 ghost use Rattle.rfb_server.specs.Standing.{SessionStandsFor};
-ghost use Rattle.rfb_server.specs.Sessions.{KeepsUp};
-ghost use Rattle.rfb_server.specs.Feeding.{FeedsAs, RefusesAs, StarvesAs};
+ghost use Rattle.rfb_server.specs.inside.Sessions.{KeepsUp};
+ghost use Rattle.rfb_server.specs.inside.Feeding.{FeedsAs, RefusesAs, StarvesAs};
 
 use crate::event::ServerEvent;
 use crate::fault::ServerFault;

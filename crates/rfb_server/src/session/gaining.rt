@@ -6,8 +6,8 @@ ghost use Rattle.rfb_picture.specs.Grid.{Holds, at_or};
 ghost use Rattle.rfb_codec.specs.RectData.{moved_to};
 ghost use Rattle.rfb_server.specs.Request.{wanted_at, differs};
 ghost use Rattle.rfb_server.specs.Composing.{count_row, count_in};
-ghost use Rattle.rfb_server.specs.Needing.{IsAbout};
-ghost use Rattle.rfb_server.specs.Copying.{IsFree, IsUseful, is_right_from};
+ghost use Rattle.rfb_server.specs.inside.Needing.{IsAbout};
+ghost use Rattle.rfb_server.specs.inside.Copying.{IsFree, IsUseful, is_right_from};
 
 use crate::hint::Hint;
 use crate::session::Session;

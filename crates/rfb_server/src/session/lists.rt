@@ -7,8 +7,8 @@ ghost use Rattle.rfb_wire.specs.RectStream.{encoding_of};
 ghost use Rattle.rfb_server.specs.declared.session.progress.Progress.{Progress};
 ghost use Rattle.rfb_server.specs.Encodings.{with_encoding};
 ghost use Rattle.rfb_server.specs.Progress.{fault_in};
-ghost use Rattle.rfb_server.specs.Sessions.{BeginsList, KeepsUp};
-ghost use Rattle.rfb_server.specs.Feeding.{StepsAs};
+ghost use Rattle.rfb_server.specs.inside.Sessions.{BeginsList, KeepsUp};
+ghost use Rattle.rfb_server.specs.inside.Feeding.{StepsAs};
 
 use crate::encodings::EncodingList;
 use crate::session::Session;

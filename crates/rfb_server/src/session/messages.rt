@@ -6,8 +6,8 @@ ghost use Rattle.arrayvec.specs.ArrayVec.{ArrayVec as Items};
 ghost use Rattle.rfb_wire.specs.ClientHead.{SpellsClientHead};
 ghost use Rattle.rfb_server.specs.declared.session.progress.Progress.{Progress};
 ghost use Rattle.rfb_server.specs.Progress.{fault_in};
-ghost use Rattle.rfb_server.specs.Sessions.{BeginsMessage, KeepsUp};
-ghost use Rattle.rfb_server.specs.Feeding.{StepsAs, RunsOutAs};
+ghost use Rattle.rfb_server.specs.inside.Sessions.{BeginsMessage, KeepsUp};
+ghost use Rattle.rfb_server.specs.inside.Feeding.{StepsAs, RunsOutAs};
 
 use crate::event::ServerEvent;
 use crate::fault::ServerFault;

@@ -2,7 +2,8 @@
 
 ghost use Rattle.std.specs.Prelude.{◌≡◌, ◌+◌, ◌<◌, ◌≤◌, true};
 ghost use Rattle.rfb_picture.specs.Grid.{Holds};
-ghost use Rattle.rfb_server.specs.Needing.{IsAbout, IsFirst, IsEnd, HasBox, needs_of, rows_above};
+ghost use Rattle.rfb_server.specs.inside.Needing.{IsAbout, IsFirst, IsEnd, HasBox};
+ghost use Rattle.rfb_server.specs.inside.Needing.{needs_of, rows_above};
 
 use crate::session::Session;
 use rfb_picture::{Picture, Rect};

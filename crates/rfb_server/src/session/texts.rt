@@ -7,8 +7,8 @@ ghost use Rattle.rfb_wire.specs.ClientHead.{SpellsClientCutText};
 ghost use Rattle.rfb_hello.specs.KeptText.{KeptText, kept_of};
 ghost use Rattle.rfb_server.specs.declared.session.progress.Progress.{Progress};
 ghost use Rattle.rfb_server.specs.Progress.{fault_in};
-ghost use Rattle.rfb_server.specs.Sessions.{KeepsUp};
-ghost use Rattle.rfb_server.specs.Feeding.{StepsAs, RunsOutAs};
+ghost use Rattle.rfb_server.specs.inside.Sessions.{KeepsUp};
+ghost use Rattle.rfb_server.specs.inside.Feeding.{StepsAs, RunsOutAs};
 
 use crate::event::ServerEvent;
 use crate::fault::ServerFault;

@@ -1,5 +1,5 @@
-//! What a server composes, against a plain model of the rule: drawings, hints, requests, formats and
-//! lists are drawn by lot, and each update has to be the model's, byte by byte.
+//! What a server composes, against a plain model of the rule: drawings, hints, requests, formats
+//! and lists are drawn by lot, and each update has to be the model's, byte by byte.
 
 mod boxes;
 mod copies;

@@ -2,7 +2,7 @@ use Rattle.std.proofs.Common.{◌≡◌, refl, ap}
 use Rattle.circular_buffer.specs.Buffer.{Buffer}
 use Rattle.rfb_server.specs.declared.hint.Hint.{Hint}
 use Rattle.std.proofs.lemmas.Result.{IfOk-weaker, IfErr-weaker}
-use Rattle.rfb_server.specs.Sessions.{IsSame}
+use Rattle.rfb_server.specs.inside.Sessions.{IsSame}
 use Rattle.rfb_server.proofs.UpdatingLemmas.{updates, stays, keeps, failed_unready, appends}
 use Rattle.rfb_server.proofs.server.Server.compose.Goals as goal
 

@@ -2,7 +2,7 @@ use Rattle.std.proofs.Common.{◌*◌, ℕ, refl, sym, subst}
 use Rattle.std.specs.Int.{div_ceil}
 use Rattle.rfb_server.specs.Server.{ServerState}
 use Rattle.rfb_server.specs.Composing.{IsDue}
-use Rattle.rfb_server.specs.Sends.{IsEnough}
+use Rattle.rfb_server.specs.inside.Sends.{IsEnough}
 use Rattle.rfb_server.proofs.CopiedLemmas.{state_same}
 use Rattle.rfb_server.proofs.UpdateLemmas.{nothing_due}
 use Rattle.rfb_server.proofs.session.Session.compose.Goals as goal

@@ -1,4 +1,4 @@
-use Rattle.rfb_server.specs.Sends.{may_need}
+use Rattle.rfb_server.specs.inside.Sends.{may_need}
 use Rattle.rfb_server.proofs.RoomLemmas.{cost_cell}
 use Rattle.rfb_server.proofs.session.Session.cost_of.Goals as goal
 

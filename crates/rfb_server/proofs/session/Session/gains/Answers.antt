@@ -1,7 +1,7 @@
 use Rattle.rfb_picture.specs.Grid.{Holds}
 use Rattle.rfb_codec.specs.RectData.{moved_to}
-use Rattle.rfb_server.specs.Sends.{state_of}
-use Rattle.rfb_server.specs.Copying.{move_of}
+use Rattle.rfb_server.specs.inside.Sends.{state_of}
+use Rattle.rfb_server.specs.inside.Copying.{move_of}
 use Rattle.rfb_server.proofs.CountLemmas.{gain_is}
 use Rattle.rfb_server.proofs.session.Session.gains.Goals as goal
 

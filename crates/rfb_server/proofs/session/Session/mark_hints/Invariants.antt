@@ -1,6 +1,6 @@
 use Rattle.std.proofs.Common.{◌≡◌}
-use Rattle.rfb_server.specs.Needing.{IsAbout}
-use Rattle.rfb_server.specs.Sessions.{IsSame}
+use Rattle.rfb_server.specs.inside.Needing.{IsAbout}
+use Rattle.rfb_server.specs.inside.Sessions.{IsSame}
 use Rattle.rfb_server.proofs.session.Session.mark_hints.Given as goal
 
 -- all but marks is as it was

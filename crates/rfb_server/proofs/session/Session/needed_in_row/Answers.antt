@@ -1,5 +1,5 @@
 use Rattle.std.proofs.Common.{◌+◌, arith, subst, ℕ}
-use Rattle.rfb_server.specs.Needing.{IsFirst, needs_of}
+use Rattle.rfb_server.specs.inside.Needing.{IsFirst, needs_of}
 use Rattle.rfb_server.proofs.NeedingLemmas.{row_clear, row_first}
 use Rattle.rfb_server.proofs.session.Session.needed_in_row.Goals as goal
 

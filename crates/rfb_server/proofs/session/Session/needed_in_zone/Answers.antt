@@ -1,5 +1,5 @@
 use Rattle.std.proofs.Common.{arith}
-use Rattle.rfb_server.specs.Needing.{needs_of}
+use Rattle.rfb_server.specs.inside.Needing.{needs_of}
 use Rattle.rfb_server.proofs.NeedingLemmas.{no_rows, all_rows}
 use Rattle.rfb_server.proofs.session.Session.needed_in_zone.Goals as goal
 

@@ -1,4 +1,4 @@
-use Rattle.rfb_server.specs.Needing.{HasBox, needs_of, rows_above}
+use Rattle.rfb_server.specs.inside.Needing.{HasBox, needs_of, rows_above}
 use Rattle.rfb_server.proofs.session.Session.needed_in_zone.Given as goal
 
 -- the rows so far

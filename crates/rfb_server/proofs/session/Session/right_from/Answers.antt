@@ -1,5 +1,5 @@
 use Rattle.std.proofs.Common.{refl, arith}
-use Rattle.rfb_server.specs.Copying.{is_right_from}
+use Rattle.rfb_server.specs.inside.Copying.{is_right_from}
 use Rattle.rfb_server.proofs.CountLemmas.{rows_more}
 use Rattle.rfb_server.proofs.session.Session.right_from.Goals as goal
 

@@ -1,6 +1,6 @@
 use Rattle.std.proofs.Common.{◌≡◌, ◌*◌, ◌≤◌}
 use Rattle.rfb_server.specs.Composing.{count_rows}
-use Rattle.rfb_server.specs.Copying.{is_right_from}
+use Rattle.rfb_server.specs.inside.Copying.{is_right_from}
 use Rattle.rfb_server.proofs.session.Session.right_from.Given as goal
 
 -- the count is that of the rows so far

@@ -1,5 +1,5 @@
 use Rattle.std.proofs.Common.{◌≡◌, ◌+◌, ◌-◌, refl, sym, arith}
-use Rattle.rfb_server.specs.Copying.{is_right_from}
+use Rattle.rfb_server.specs.inside.Copying.{is_right_from}
 use Rattle.rfb_server.proofs.CountLemmas.{byte_is, at_most, row_more}
 use Rattle.rfb_server.proofs.session.Session.right_in_row.Goals as goal
 

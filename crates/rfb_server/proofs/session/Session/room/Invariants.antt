@@ -1,6 +1,6 @@
 use Rattle.std.proofs.Common.{◌≤◌, ◌*◌, ◌-◌}
 use Rattle.std.specs.Int.{div_ceil}
-use Rattle.rfb_server.specs.Sends.{IsEnough}
+use Rattle.rfb_server.specs.inside.Sends.{IsEnough}
 use Rattle.rfb_server.proofs.session.Session.room.Given as goal
 
 -- the room is enough for the cells so far

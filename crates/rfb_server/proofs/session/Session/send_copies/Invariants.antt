@@ -1,8 +1,8 @@
 use Rattle.std.proofs.Common.{◌≡◌, ◌≤◌, ◌*◌, ◌+◌, vec_len}
 use Rattle.std.specs.Vec.{vec_capacity}
-use Rattle.rfb_server.specs.Needing.{IsAbout}
-use Rattle.rfb_server.specs.Sends.{IsKept}
-use Rattle.rfb_server.specs.Copying.{AppendsCopies}
+use Rattle.rfb_server.specs.inside.Needing.{IsAbout}
+use Rattle.rfb_server.specs.inside.Sends.{IsKept}
+use Rattle.rfb_server.specs.inside.Copying.{AppendsCopies}
 use Rattle.rfb_server.proofs.session.Session.send_copies.Given as goal
 
 -- the copies so far were sent, and there is room for the others

@@ -1,5 +1,5 @@
 use Rattle.std.proofs.Common.{arith}
-use Rattle.rfb_server.specs.Needing.{needs_of}
+use Rattle.rfb_server.specs.inside.Needing.{needs_of}
 use Rattle.rfb_server.proofs.NeedingLemmas.{row_wider, row_within, row_none}
 use Rattle.rfb_server.proofs.session.Session.with_row.Goals as goal
 

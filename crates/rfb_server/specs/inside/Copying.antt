@@ -18,7 +18,7 @@ use Rattle.rfb_server.specs.declared.session.Session.{Session}
 use Rattle.rfb_server.specs.Server.{ServerState}
 use Rattle.rfb_server.specs.Request.{wanted_at, recorded, is_asked, is_whole, differs}
 use Rattle.rfb_server.specs.Composing.{Part, Move, sent_as, between, all_moved, IsGain, AllGain, AreCopies, HaveTheirData, IsPlace, is_in_some}
-use Rattle.rfb_server.specs.Sends.{state_of}
+use Rattle.rfb_server.specs.inside.Sends.{state_of}
 
 -- whether a place of a rectangle has the wanted pixel, if it takes over what is known of the place
 -- that lies as far from (sx, sy)

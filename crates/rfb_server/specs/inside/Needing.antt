@@ -7,7 +7,7 @@ use Rattle.rfb_picture.specs.Box.{IsClear, IsBox}
 use Rattle.rfb_picture.specs.Places.{NoneInRow}
 use Rattle.rfb_codec.specs.Effect.{IsAlike}
 use Rattle.rfb_server.specs.Request.{needs_at}
-use Rattle.rfb_server.specs.Marks.{IsCaughtUp}
+use Rattle.rfb_server.specs.inside.Marks.{IsCaughtUp}
 use Rattle.rfb_server.specs.declared.session.Session.{Session}
 
 -- the session is about that screen, and has marked where it may differ from what was sent

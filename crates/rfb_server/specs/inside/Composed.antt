@@ -9,8 +9,8 @@ use Rattle.rfb_server.specs.declared.session.Session.{Session}
 use Rattle.rfb_server.specs.declared.session.progress.Progress.{Progress}
 use Rattle.rfb_server.specs.declared.session.progress.Progress.TheVariants.{Handshake, Head, Encodings, CutText, Failed}
 use Rattle.rfb_server.specs.Composing.{Part, Composes, IsDue}
-use Rattle.rfb_server.specs.Sessions.{IsSame}
-use Rattle.rfb_server.specs.Sends.{state_of}
+use Rattle.rfb_server.specs.inside.Sessions.{IsSame}
+use Rattle.rfb_server.specs.inside.Sends.{state_of}
 
 -- the handshake is done, and no fault has come
 abbrev pub is_ready : Progress → Bool

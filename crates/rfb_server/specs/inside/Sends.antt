@@ -16,9 +16,9 @@ use Rattle.rfb_codec.specs.WholeUpdate.{item_of, SpellsRectangles}
 use Rattle.rfb_server.specs.declared.session.Session.{Session}
 use Rattle.rfb_server.specs.Server.{ServerState}
 use Rattle.rfb_server.specs.Request.{wanted, recorded, is_asked, is_whole}
-use Rattle.rfb_server.specs.Needing.{HasBox, needs_of}
-use Rattle.rfb_server.specs.Sending.{IsCoded}
-use Rattle.rfb_server.specs.Cells.{cell_of, IsCell}
+use Rattle.rfb_server.specs.inside.Needing.{HasBox, needs_of}
+use Rattle.rfb_server.specs.inside.Sending.{IsCoded}
+use Rattle.rfb_server.specs.inside.Cells.{cell_of, IsCell}
 use Rattle.rfb_server.specs.Composing.{Part, sent_as, between, may_send, is_in_some, IsPlace, HaveTheirData, AreBlocksOf}
 
 -- ---- one rectangle
