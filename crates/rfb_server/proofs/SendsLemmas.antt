@@ -267,6 +267,7 @@ module _ (across : ℕ) (s : ServerState) where
         block = sent.block;
         contents_are = refl;
         may_be_sent = sent.may_be_sent;
+        chosen = sent.chosen;
         tight = record {
           some = box.tight.some;
           left = let (j, c, e) = box.tight.left in (j, c, same_need rect.x j c e);

@@ -19,6 +19,7 @@ use Rattle.rfb_server.specs.Request.{wanted_at, differs}
 use Rattle.rfb_server.specs.inside.Marks.{AreAlike, IsCaughtUp}
 use Rattle.rfb_server.specs.inside.Needing.{IsAbout, needs_of}
 use Rattle.rfb_server.specs.Composing.{may_send}
+use Rattle.rfb_server.specs.Encodings.{preferred}
 use Rattle.rfb_server.specs.inside.Sending.{SendsRect}
 use Rattle.rfb_server.specs.inside.Sends.{SendsPixels, AppendsPixels, may_need}
 use Rattle.rfb_server.proofs.NeedingLemmas.{needed_marked}
@@ -58,13 +59,13 @@ alike_sent known now area marks whole size alike = record {
 
 -- what was appended, in the encoding or in Raw
 pub appends_pixels : (screen : Grid Colour) (form : PixelFormat) (encodings : List Encoding) (rect : Rect) (encoding : Encoding) (block : Grid ℕ) (known now : Grid (Option ℕ)) (before after : List ℕ) →
-    may_send encodings encoding ≡ true → IsSized rect.w rect.h block → PacksRect form screen rect block → IsRecorded rect block known now → IsGrid now → IsAlike known now →
+    encoding ≡ preferred encodings → may_send encodings encoding ≡ true → IsSized rect.w rect.h block → PacksRect form screen rect block → IsRecorded rect block known now → IsGrid now → IsAlike known now →
     SendsRect form rect encoding block before after →
     (bytes : List ℕ) × (after ≡ before ++ bytes) × SendsPixels screen form encodings rect known now bytes
-appends_pixels screen form encodings rect encoding block known now before after may sized packed noted whole alike (inl a) =
-    (a.bytes, a.appended, record { block = block; encoding = encoding; sized = sized; packed = packed; coded = a.coded; may_be_sent = may; noted = noted; whole = whole; alike = alike })
-appends_pixels screen form encodings rect encoding block known now before after may sized packed noted whole alike (inr a) =
-    (a.bytes, a.appended, record { block = block; encoding = Raw; sized = sized; packed = packed; coded = a.coded; may_be_sent = refl; noted = noted; whole = whole; alike = alike })
+appends_pixels screen form encodings rect encoding block known now before after first may sized packed noted whole alike (inl a) =
+    (a.bytes, a.appended, record { block = block; encoding = encoding; sized = sized; packed = packed; coded = a.coded; may_be_sent = may; chosen = inl first; noted = noted; whole = whole; alike = alike })
+appends_pixels screen form encodings rect encoding block known now before after first may sized packed noted whole alike (inr a) =
+    (a.bytes, a.appended, record { block = block; encoding = Raw; sized = sized; packed = packed; coded = a.coded; may_be_sent = refl; chosen = inr refl; noted = noted; whole = whole; alike = alike })
 
 -- how long it is
 pub length_sent : (screen : Grid Colour) (rect : Rect) (old new : Session) (before after : List ℕ) → AppendsPixels screen rect old new before after →

@@ -16,7 +16,7 @@ use Rattle.rfb_codec.specs.RectData.{RectData, Pixels, Source, SpellsData, moved
 use Rattle.rfb_codec.specs.UpdateStream.{UpdatePoint, update_stream}
 use Rattle.rfb_codec.specs.Effect.{effects, IsAlike, Agrees}
 use Rattle.rfb_codec.specs.WholeUpdate.{SentRect, update_of}
-use Rattle.rfb_server.specs.Encodings.{is_same, is_listed}
+use Rattle.rfb_server.specs.Encodings.{is_same, is_listed, preferred}
 use Rattle.rfb_server.specs.Server.{ServerState}
 use Rattle.rfb_server.specs.Request.{wanted, recorded, is_asked, is_whole, differs, needs_sending}
 
@@ -45,6 +45,10 @@ HasItsData s part =
 -- Raw may always be sent, and another encoding where the viewer listed it
 abbrev pub may_send : List Encoding → Encoding → Bool
 may_send encodings encoding = is_same encoding Raw || is_listed encoding encodings
+
+-- pixels go in the first listed encoding that brings pixels, or in Raw
+abbrev pub IsForPixels : List Encoding → Encoding → Type 0
+IsForPixels encodings encoding = (encoding ≡ preferred encodings) ⊎ (encoding ≡ Raw)
 
 -- ---- rectangles that are copied
 
@@ -109,12 +113,13 @@ AreCopies (move ∷ moves) (part ∷ parts) = IsCopy move part × AreCopies move
 
 -- ---- rectangles whose pixels are sent
 
--- the part brings pixels, in an encoding that the viewer takes; its first and last row and column
--- have a place each that needs sending
+-- the part brings pixels, in the first encoding for pixels that the viewer listed or in Raw; its
+-- first and last row and column have a place each that needs sending
 pub record IsBlockOf (s : ServerState) (part : Part) : Type 0 where
   pub block : Grid ℕ
   pub contents_are : part.contents ≡ Pixels block
   pub may_be_sent : may_send s.encodings part.head.encoding ≡ true
+  pub chosen : IsForPixels s.encodings part.head.encoding
   pub tight : IsTight (needs_sending s) part.head.rect
 
 -- each of these is one

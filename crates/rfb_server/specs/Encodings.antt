@@ -27,6 +27,14 @@ abbrev pub known_among : List ℤ → List Encoding → List Encoding
 known_among [] list = list
 known_among (number ∷ numbers) list = known_among numbers (with_encoding list (encoding_of number))
 
+-- the encoding of pixels: the first listed one that brings pixels, and Raw where there is none
+abbrev pub preferred : List Encoding → Encoding
+preferred [] = Raw
+preferred (Raw ∷ list) = Raw
+preferred (CopyRect ∷ list) = preferred list
+preferred (Rre ∷ list) = Rre
+preferred (Hextile ∷ list) = Hextile
+
 -- how often the list has the encoding
 abbrev pub times_listed : Encoding → List Encoding → ℕ
 times_listed encoding [] = 0

@@ -30,7 +30,7 @@ impl Model for EncodingList {
 
 impl EncodingList {
     ghost use Rattle.rfb_wire.specs.declared.encoding.Encoding.TheVariants.{CopyRect};
-    ghost use Rattle.rfb_server.specs.Encodings.{is_listed, with_encoding};
+    ghost use Rattle.rfb_server.specs.Encodings.{is_listed, preferred, with_encoding};
     ghost use Rattle.rfb_server.specs.Composing.{may_send};
 
     /// No encoding is listed.
@@ -66,6 +66,7 @@ impl EncodingList {
     /// The encoding that pixels are to be sent in: the first listed one that brings pixels, and Raw
     /// where there is none.
     pub(crate) fn preferred(&self) -> Encoding
+        ensures first { result ≡ preferred self.now }
         ensures sendable { may_send self.now result ≡ true }
         ensures pixels { is_same result CopyRect ≡ false }
     {

@@ -19,7 +19,7 @@ use Rattle.rfb_server.specs.Request.{wanted, recorded, is_asked, is_whole}
 use Rattle.rfb_server.specs.inside.Needing.{HasBox, needs_of}
 use Rattle.rfb_server.specs.inside.Sending.{IsCoded}
 use Rattle.rfb_server.specs.inside.Cells.{cell_of, IsCell}
-use Rattle.rfb_server.specs.Composing.{Part, sent_as, between, may_send, is_in_some, IsPlace, HaveTheirData, AreBlocksOf}
+use Rattle.rfb_server.specs.Composing.{Part, sent_as, between, may_send, IsForPixels, is_in_some, IsPlace, HaveTheirData, AreBlocksOf}
 
 -- ---- one rectangle
 
@@ -44,6 +44,7 @@ pub record SendsPixels (screen : Grid Colour) (form : PixelFormat) (encodings : 
   pub packed : PacksRect form screen rect block
   pub coded : IsCoded form rect encoding block bytes
   pub may_be_sent : may_send encodings encoding ≡ true
+  pub chosen : IsForPixels encodings encoding
   pub noted : IsRecorded rect block known now
   pub whole : IsGrid now
   pub alike : IsAlike known now

@@ -19,5 +19,5 @@ returns-clause-sent c =
     let s = c.args.self.now in
     let size : IsAlike s.known c.take.new.self = record { columns = sym c.take.ensures.width; rows = sym c.take.ensures.height } in
     let a = appends_pixels c.args.screen.now s.format s.encodings c.args.rect c.preferred-encoding.result c.take.new.block s.known c.take.new.self c.args.out.now.items c.append_rect.new.out.items
-    c.preferred-encoding.ensures.sendable c.take.ensures.sized c.take.ensures.packed c.take.ensures.recorded c.take.ensures.whole size c.append_rect.ensures.sent in
+    c.preferred-encoding.ensures.first c.preferred-encoding.ensures.sendable c.take.ensures.sized c.take.ensures.packed c.take.ensures.recorded c.take.ensures.whole size c.append_rect.ensures.sent in
     record { bytes = a.0; appended = a.1; sent = a.2 }
