@@ -41,7 +41,7 @@ use Rattle.rfb_viewer.specs.declared.viewer.progress.Progress.TheVariants.{Hands
 use Rattle.rfb_viewer.specs.Fault.{fault_of_hello, fault_of_wire, fault_of_paint}
 use Rattle.rfb_viewer.specs.ServerBytes.{ServerAt, FromServer, server_bytes}
 use Rattle.rfb_viewer.specs.Viewer.{Viewing, ViewerState, viewer, AsksMemory}
-use Rattle.rfb_viewer.specs.Steps.{AsksBehind}
+use Rattle.rfb_viewer.specs.inside.Steps.{AsksBehind}
 use Rattle.rfb_viewer.specs.Progress.{IsHeadBegun, IsScreenAt}
 use Rattle.rfb_viewer.specs.Standing.{StandsFor, picture_of}
 use Rattle.rfb_viewer.specs.Failing.{LeadsToReason, IsReasonAt, KeepsNone, KeepsReason, ShowsLast, EndsAt, KeepsPicture}

@@ -32,7 +32,7 @@ use Rattle.rfb_hello.proofs.ServerStreamLaws.{server_handshake_spelled}
 use Rattle.rfb_hello.proofs.ToldOfLaws.{screen_at, viewer_ready_at}
 use Rattle.rfb_viewer.specs.declared.fault.ViewerFault.{ViewerFault}
 use Rattle.rfb_viewer.specs.declared.fault.ViewerFault.TheVariants.{NoMemory}
-use Rattle.rfb_viewer.specs.Sound.{is_sound}
+use Rattle.rfb_viewer.specs.inside.Sound.{is_sound}
 use Rattle.rfb_viewer.specs.declared.viewer.Viewer.{Viewer}
 use Rattle.rfb_viewer.specs.declared.viewer.progress.Progress.{Progress}
 use Rattle.rfb_viewer.specs.declared.viewer.progress.Progress.TheVariants.{Handshake}
@@ -43,7 +43,7 @@ use Rattle.rfb_viewer.specs.Told.{ViewerTold, Reply as ReplyTold, Ready as Ready
 use Rattle.rfb_viewer.specs.Viewer.{Viewing, ViewerState, viewer, shows, told_at, picture_behind, screen_behind, ends_update, black, AsksInHandshake, AsksAt, AsksMemory}
 use Rattle.rfb_viewer.specs.Progress.{ProgressStandsFor, Stores, IsScreenAt}
 use Rattle.rfb_viewer.specs.Standing.{StandsFor, is_outstanding}
-use Rattle.rfb_viewer.specs.Steps.{at_message, screen_or}
+use Rattle.rfb_viewer.specs.inside.Steps.{at_message, screen_or}
 use Rattle.rfb_viewer.proofs.MessageLemmas.{here}
 
 -- ---- each step of a handshake is told of

@@ -28,7 +28,7 @@ use Rattle.rfb_viewer.specs.declared.viewer.Viewer.{Viewer}
 use Rattle.rfb_viewer.specs.declared.viewer.progress.Progress.{Progress}
 use Rattle.rfb_viewer.specs.declared.viewer.progress.Progress.TheVariants.{Handshake, Head, RectHead, Data, Colours, CutText, Failed}
 use Rattle.rfb_viewer.specs.ServerBytes.{ServerAt, is_between, server_bytes_pending}
-use Rattle.rfb_viewer.specs.Sound.{is_idle}
+use Rattle.rfb_viewer.specs.inside.Sound.{is_idle}
 use Rattle.rfb_viewer.specs.Viewer.{Viewing}
 use Rattle.rfb_viewer.specs.Showing.{ShowsPieces, ShowsAt}
 use Rattle.rfb_viewer.specs.Progress.{ProgressStandsFor, IsHeadBegun, IsPainting, fault_in}

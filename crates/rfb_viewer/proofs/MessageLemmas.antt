@@ -31,7 +31,7 @@ use Rattle.rfb_viewer.specs.Told.{ViewerTold, ColourMapSkipped, CutText as CutTe
 use Rattle.rfb_viewer.specs.Viewer.{Viewing, ViewerState, viewer, shows, AsksAt, AsksMemory}
 use Rattle.rfb_viewer.specs.Progress.{ProgressStandsFor, IsReadyAt, Stores, IsHeadBegun, AreColoursBegun, IsTextBegun}
 use Rattle.rfb_viewer.specs.Standing.{StandsFor, is_outstanding}
-use Rattle.rfb_viewer.specs.Steps.{at_message, progress_past, told_past, request_past, progress_behind, told_behind, request_behind, AsksBehind}
+use Rattle.rfb_viewer.specs.inside.Steps.{at_message, progress_past, told_past, request_past, progress_behind, told_behind, request_behind, AsksBehind}
 use Rattle.rfb_viewer.proofs.StepLemmas.{IsMade, made_stands, ready_same, more_step, got_step, bad_step, past_stands, past_progress, past_request, past_told}
 use Rattle.rfb_viewer.proofs.HeadLemmas.{begun_waits}
 

@@ -27,7 +27,7 @@ use Rattle.rfb_viewer.specs.Told.{ViewerTold}
 use Rattle.rfb_viewer.specs.Viewer.{Viewing, ViewerState, viewer, shows}
 use Rattle.rfb_viewer.specs.Progress.{fault_in, ProgressStandsFor, IsReadyAt, Stores, IsPainting}
 use Rattle.rfb_viewer.specs.Standing.{StandsFor}
-use Rattle.rfb_viewer.specs.Steps.{progress_past, told_past, request_past}
+use Rattle.rfb_viewer.specs.inside.Steps.{progress_past, told_past, request_past}
 use Rattle.rfb_viewer.proofs.StepLemmas.{IsMade, made_stands, ready_same, more_step, got_step, bad_step, past_stands, past_progress, past_request, past_told, one_left}
 use Rattle.rfb_viewer.proofs.MessageLemmas.{here}
 
@@ -250,6 +250,13 @@ head_all whole used head size within s =
     let long : length (take used whole) ≡ used = length-take-le used whole within in
     let twelve = s.size in
     subst (λ (ys : List ℕ). SpellsRectHead head ys) (take_all used whole (omega (arith, size, long, twelve))) s
+
+-- data are told to be taken by one painter, and have one number of rectangles behind them
+pub same_painter : (m n : ℕ) (p q : UnderWay) → Data m p ≡ Data n q → p ≡ q
+same_painter m n p q e = cc
+
+pub same_count : (m n : ℕ) (p q : UnderWay) → Data m p ≡ Data n q → m ≡ n
+same_count m n p q e = cc
 
 pub not_false : (b : Bool) → not b ≡ true → b ≡ false
 not_false true e = absurd cc

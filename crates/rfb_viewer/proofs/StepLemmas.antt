@@ -20,7 +20,7 @@ use Rattle.rfb_viewer.specs.Told.{ViewerTold, is_last, item_told, done_told}
 use Rattle.rfb_viewer.specs.Viewer.{Viewing, ViewerState, viewer, shows, told_at, picture_behind, effect_on, ends_update}
 use Rattle.rfb_viewer.specs.Progress.{ProgressStandsFor, IsReadyAt}
 use Rattle.rfb_viewer.specs.Standing.{StandsFor, is_outstanding}
-use Rattle.rfb_viewer.specs.Steps.{progress_past, told_past, request_past}
+use Rattle.rfb_viewer.specs.inside.Steps.{progress_past, told_past, request_past}
 
 -- ---- a viewer that is made of another
 

@@ -4,10 +4,8 @@ pub mod Messages
 pub mod Told
 pub mod Viewer
 pub mod Calls
-pub mod Sound
 pub mod Progress
 pub mod Standing
-pub mod Steps
 pub mod Showing
 pub mod Failing
-pub mod Feeding
+pub mod inside

@@ -29,16 +29,6 @@ fault_in (Colours more) = None
 fault_in (CutText text_length more kept) = None
 fault_in (Failed fault) = Some fault
 
--- no rectangle's data are under way
-abbrev pub IsElsewhere : Progress → Type 0
-IsElsewhere Handshake = Unit {0}
-IsElsewhere (Head bytes) = Unit {0}
-IsElsewhere (RectHeadPart more head) = Unit {0}
-IsElsewhere (Data more painter) = ⊥
-IsElsewhere (Colours more) = Unit {0}
-IsElsewhere (CutText text_length more kept) = Unit {0}
-IsElsewhere (Failed fault) = Unit {0}
-
 -- ---- items under way
 
 -- the bytes are the beginning of a message's head, and not all of it

@@ -1,7 +1,6 @@
 //! The messages that a viewer sends, as bytes, RFC 6143 section 7.5.
 
-ghost use Rattle.std.specs.Prelude.{◌≡◌, ◌≤◌, ◌++◌, ◌+◌, length, map, vec_len, OnOk, OnErr};
-ghost use Rattle.std.specs.Vec.{vec_capacity};
+ghost use Rattle.std.specs.Prelude.{◌≡◌, ◌≤◌, ◌++◌, length, map, OnOk, OnErr};
 ghost use Rattle.rfb_wire.specs.Encoding.{number_of};
 ghost use Rattle.rfb_wire.specs.ClientMessage.{SpellsClientMessage, SetPixelFormat, SetEncodings};
 ghost use Rattle.rfb_viewer.specs.Messages.{format_message, encodings_message, ready_bytes};
@@ -11,6 +10,7 @@ use crate::event::MAX_READY;
 use crate::gather::append;
 use arrayvec::ArrayVec;
 use byteorder::{BigEndian, ByteOrder};
+use rfb_codec::append_within;
 use rfb_pixel::Format;
 use rfb_wire::{ClientHead, Encoding};
 use std::alloc::AllocError;
@@ -61,17 +61,4 @@ pub(crate) fn append_text(text: &[u8], out: &mut Vec<u8>) -> Result<(), AllocErr
     append_within(out, head.as_slice());
     append_within(out, text);
     Ok(())
-}
-
-// Appends bytes for which there is room.
-fn append_within(out: &mut Vec<u8>, bytes: &[u8])
-    requires { vec_len out.old + length bytes.now ≤ vec_capacity out.old }
-    ensures items { out.new.items ≡ out.old.items ++ bytes.now }
-    ensures len { vec_len out.new ≡ vec_len out.old + length bytes.now }
-    ensures room { vec_capacity out.old ≤ vec_capacity out.new }
-{
-    match out.extend_from_slice(bytes) {
-        Ok(()) => {}
-        Err(_) => unreachable!(),
-    }
 }

@@ -1,7 +1,7 @@
 //! A viewer: a picture, and how far the server's bytes have come.
 
 ghost use Rattle.std.specs.Prelude.{◌≡◌, ◌≢◌, ◌≤◌, ◌<◌, ℕ, List, [], length, take, true, IfOk, IfErr, None, Some};
-ghost use Rattle.rfb_viewer.specs.Sound.{is_sound};
+ghost use Rattle.rfb_viewer.specs.inside.Sound.{is_sound};
 
 mod behind;
 mod calls;
@@ -42,8 +42,8 @@ impl Viewer {
     ghost use Rattle.rfb_viewer.specs.Told.{seen};
     ghost use Rattle.rfb_viewer.specs.Viewer.{Viewing, viewer, first_viewer, AsksMemory};
     ghost use Rattle.rfb_viewer.specs.Standing.{StandsFor, viewing_with, fault_of, making_of};
-    ghost use Rattle.rfb_viewer.specs.Feeding.{StepsOn, RefusesBy, StarvesBy};
-    ghost use Rattle.rfb_viewer.specs.Progress.{IsElsewhere};
+    ghost use Rattle.rfb_viewer.specs.inside.Feeding.{StepsOn, RefusesBy, StarvesBy};
+    ghost use Rattle.rfb_viewer.specs.inside.Sound.{IsElsewhere};
     ghost use Rattle.rfb_viewer.specs.Failing.{KeepsPicture, KeepsReason};
 
     /// A viewer that was fed nothing. It goes up to version `limit`, asks for the screen alone

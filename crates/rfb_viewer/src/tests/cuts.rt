@@ -1,12 +1,13 @@
 //! Servers' streams whole, byte by byte, in two slices, and damaged: what is told and shown doesn't
 //! depend on the cut.
 
+use super::hostile::FAULTS;
 use super::*;
 
-// Handshakes of each version and messages behind them, all of a viewer at bgr233: updates of each
-// encoding, a text above its limit and one of no bytes, colours, bells; refusals; faults in an
+// Handshakes of each version and messages behind them, of a viewer that is at bgr233: updates of
+// each encoding, a text above its limit and one of no bytes, colours, bells; refusals; faults in an
 // update.
-const SERVERS: [&[u8]; 9] = [
+const SERVERS: [&[u8]; 13] = [
     b"RFB 003.008\n\x03\x10\x02\x01\0\0\0\0\0\x02\0\x01\x20\x18\0\x01\0\xFF\0\xFF\0\xFF\x10\x08\0\0\0\0\0\0\0\x01t\0\0\0\x01\0\0\0\0\0\x02\0\x01\0\0\0\0\x27\x10\x02",
     b"RFB 003.007\n\x01\x01\0\x02\0\x01\x20\x18\0\x01\0\xFF\0\xFF\0\xFF\x10\x08\0\0\0\0\0\0\0\0\x03\0\0\0\0\0\0\x05ABCDE\x02\x03\0\0\0\0\0\0\0\x01\0\0\x05\0\x01\x01\x02\x03\x04\x05\x06",
     b"RFB 003.889\n\0\0\0\x01\0\x11\0\x01................\0\0\0\0\0\0\0\x02\0\0\0\0\0\x11\0\x01\0\0\0\x05\x1A\x10\x01\x20\0\0\x02\x30\0\x01\0\0\0\x10\0\x01\0\0\0\x01\0\0\0\0\0\0\0\0",
@@ -16,6 +17,20 @@ const SERVERS: [&[u8]; 9] = [
     b"RFB 003.003\n\0\0\0\x01\0\x02\0\x01................\0\0\0\0\0\0\0\x02\0\0\0\0\0\x02\0\x01\0\0\0\x02\xFF\xFF\xFF\xFF\x10\x20\0\x02\0\0\0\x01\0\x01",
     b"RFB 003.003\n\0\0\0\x01\0\x02\0\x01................\0\0\0\0\0\0\0\x02\0\0\0\0\0\x02\0\x01\0\0\0\x05\x0E\x10\x20\x01\x10\0\0\0\0\0\0\x02\0\x01\0\0\0\x05\x08",
     b"RFB 003.003\n\0\0\0\x01\0\x01\0\x01................\0\0\0\0\0\0\0\x01\0\0\0\0\0\x01\0\x01\0\0\0\x01\0\x01\0\0",
+    // Masks of a second tile: both colour bits, and subrectangles without a foreground.
+    b"RFB 003.003\n\0\0\0\x01\0\x11\0\x01................\0\0\0\0\0\0\0\x01\0\0\0\0\0\x11\0\x01\0\0\0\x05\x02\x10\x1C",
+    b"RFB 003.003\n\0\0\0\x01\0\x11\0\x01................\0\0\0\0\0\0\0\x01\0\0\0\0\0\x11\0\x01\0\0\0\x05\x02\x10\x08",
+    // A screen of more places than are admitted, and one of none.
+    b"RFB 003.003\n\0\0\0\x01\xFF\xFF\xFF\xFF................\0\0\0\0",
+    b"RFB 003.003\n\0\0\0\x01\0\0\0\x01................\0\0\0\0",
+];
+
+// The same of a viewer that is at rgb888 up to the end of its first update: updates of Raw, the
+// second at bgr233; of two tiles; of Raw and of a copy that overlaps its source.
+const WIDE_SERVERS: [&[u8]; 3] = [
+    b"RFB 003.008\n\x01\x01\0\0\0\0\0\x01\0\x01\x20\x18\0\x01\0\xFF\0\xFF\0\xFF\x10\x08\0\0\0\0\0\0\0\x01t\0\0\0\x01\0\0\0\0\0\x01\0\x01\0\0\0\0\x01\x80\xFF\0\0\0\0\x01\0\0\0\0\0\x01\0\x01\0\0\0\0\x27",
+    b"RFB 003.003\n\0\0\0\x01\0\x11\0\x01................\0\0\0\0\0\0\0\x01\0\0\0\0\0\x11\0\x01\0\0\0\x05\x02\x01\x80\xFF\0\0",
+    b"RFB 003.003\n\0\0\0\x01\0\x04\0\x01................\0\0\0\0\0\0\0\x02\0\0\0\0\0\x04\0\x01\0\0\0\0\x01\x02\x03\0\x04\x05\x06\0\x07\x08\x09\0\x0A\x0B\x0C\0\0\x01\0\0\0\x03\0\x01\0\0\0\x01\0\0\0\0",
 ];
 
 // Feeds a slice that stands behind so many bytes: writes each event with the number of bytes up to
@@ -41,6 +56,9 @@ fn feed_all(
         at = at.saturating_add(used);
         if let Some(event) = event {
             log.push_str(&format!(in alloc; "{at} {event:?}\n")?)?;
+            if let ViewerEvent::UpdateDone = event {
+                let _bytes = viewer.set_format(Format::bgr233());
+            }
         }
         if rest.is_empty() {
             return Ok(true);
@@ -83,9 +101,15 @@ fn show(viewer: &Viewer, alloc: Global, log: &mut String) -> Result<(), AllocErr
     Ok(())
 }
 
-// What a viewer tells of a stream, and what it shows at its end.
-fn told(alloc: Global, stream: &[u8], first: usize, size: usize) -> Result<String, AllocError> {
-    let mut viewer = viewer(alloc, Format::bgr233(), Version::V38);
+// What a viewer that begins in this format tells of a stream, and what it shows at its end.
+fn told(
+    alloc: Global,
+    format: Format,
+    stream: &[u8],
+    first: usize,
+    size: usize,
+) -> Result<String, AllocError> {
+    let mut viewer = viewer(alloc, format, Version::V38);
     let mut log = String::new(alloc);
     feed_slices(&mut viewer, alloc, stream, first, size, &mut log)?;
     show(&viewer, alloc, &mut log)?;
@@ -93,35 +117,27 @@ fn told(alloc: Global, stream: &[u8], first: usize, size: usize) -> Result<Strin
 }
 
 // Whether a stream is told byte by byte as it is told whole.
-fn is_told_byte_by_byte(alloc: Global, stream: &[u8]) -> Result<bool, AllocError> {
-    let whole = told(alloc, stream, stream.len(), 1)?;
-    let bytes = told(alloc, stream, 1, 1)?;
+fn is_told_byte_by_byte(alloc: Global, format: Format, stream: &[u8]) -> Result<bool, AllocError> {
+    let whole = told(alloc, format, stream, stream.len(), 1)?;
+    let bytes = told(alloc, format, stream, 1, 1)?;
     Ok(bytes.as_str() == whole.as_str())
 }
 
-// Whether it is told in two slices, cut at each place, as it is told whole.
-fn is_told_in_halves(alloc: Global, stream: &[u8]) -> Result<bool, AllocError> {
-    let whole = told(alloc, stream, stream.len(), 1)?;
-    let mut good = true;
+// Whether it is told byte by byte and in two slices, cut at each place, as it is told whole.
+fn is_told_at_cuts(alloc: Global, format: Format, stream: &[u8]) -> Result<bool, AllocError> {
+    let whole = told(alloc, format, stream, stream.len(), 1)?;
+    let mut good = is_told_byte_by_byte(alloc, format, stream)?;
     for cut in 0..stream.len() {
-        let halves = told(alloc, stream, cut, stream.len())?;
+        let halves = told(alloc, format, stream, cut, stream.len())?;
         good &= halves.as_str() == whole.as_str();
     }
     Ok(good)
 }
 
-#[test]
-fn what_is_told_does_not_depend_on_the_cut(rt: HostRuntime) -> Result<(), AllocError> {
-    for stream in SERVERS {
-        assert!(rt; is_told_byte_by_byte(rt.alloc(), stream)?);
-        assert!(rt; is_told_in_halves(rt.alloc(), stream)?);
-    }
-    Ok(())
-}
-
-// The same of a stream in which one byte is another.
-fn is_told_damaged(
+// Whether it is told byte by byte as whole where its byte at this place is another.
+fn is_told_with(
     alloc: Global,
+    format: Format,
     stream: &[u8],
     place: usize,
     damage: u8,
@@ -130,16 +146,48 @@ fn is_told_damaged(
     if let Some(byte) = damaged.get_mut(place) {
         *byte = damage;
     }
-    is_told_byte_by_byte(alloc, &damaged)
+    is_told_byte_by_byte(alloc, format, &damaged)
+}
+
+// The same where each byte in turn is 00, and FF.
+fn is_told_damaged(alloc: Global, format: Format, stream: &[u8]) -> Result<bool, AllocError> {
+    let mut good = true;
+    for place in 0..stream.len() {
+        good &= is_told_with(alloc, format, stream, place, 0)?;
+        good &= is_told_with(alloc, format, stream, place, 0xFF)?;
+    }
+    Ok(good)
+}
+
+// Whether a stream is told so at all cuts, and damaged.
+fn is_told(alloc: Global, format: Format, stream: &[u8]) -> Result<bool, AllocError> {
+    Ok(is_told_at_cuts(alloc, format, stream)? && is_told_damaged(alloc, format, stream)?)
 }
 
 #[test]
-fn nor_does_it_where_a_byte_is_damaged(rt: HostRuntime) -> Result<(), AllocError> {
+fn what_is_told_does_not_depend_on_the_cut(rt: HostRuntime) -> Result<(), AllocError> {
     for stream in SERVERS {
-        for place in 0..stream.len() {
-            assert!(rt; is_told_damaged(rt.alloc(), stream, place, 0)?);
-            assert!(rt; is_told_damaged(rt.alloc(), stream, place, 0xFF)?);
-        }
+        assert!(rt; is_told(rt.alloc(), Format::bgr233(), stream)?);
+    }
+    for stream in WIDE_SERVERS {
+        assert!(rt; is_told(rt.alloc(), Format::rgb888(), stream)?);
+    }
+    Ok(())
+}
+
+// A handshake of a screen of 2 by 1, and behind it an update that ends in a fault.
+fn is_fault_told(alloc: Global, slices: [&[u8]; 3]) -> Result<bool, AllocError> {
+    let mut stream = HELLO_2_BY_1.to_vec(alloc)?;
+    for slice in slices {
+        stream.extend_from_slice(slice)?;
+    }
+    is_told(alloc, Format::bgr233(), &stream)
+}
+
+#[test]
+fn nor_does_it_where_an_update_is_at_fault(rt: HostRuntime) -> Result<(), AllocError> {
+    for (slices, fault, _) in FAULTS {
+        assert!(rt; is_fault_told(rt.alloc(), slices)?, "{fault:?}");
     }
     Ok(())
 }

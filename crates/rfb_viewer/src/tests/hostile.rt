@@ -36,7 +36,7 @@ fn fails(viewer: &mut Viewer, slices: [&[u8]; 3], wanted: ViewerFault) -> bool {
 }
 
 // Slices that end in a fault, the fault, and the colour of both places before it.
-const FAULTS: [([&[u8]; 3], ViewerFault, Colour); 13] = [
+pub const FAULTS: [([&[u8]; 3], ViewerFault, Colour); 13] = [
     // A subrectangle that is one place too wide; one whose sum of 16 bits wraps.
     (
         [

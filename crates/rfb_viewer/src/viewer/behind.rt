@@ -1,11 +1,12 @@
-//! What a viewer goes on with behind a message's head, and behind a rectangle.
+//! What a viewer goes on with behind a message's head, and behind a rectangle. How far the bytes
+//! have come is changed where it stands: it has room for a painter, which a move would copy.
 
 ghost use Rattle.std.specs.Prelude.{◌≡◌, ◌<◌, ℕ, IfOk, IfErr};
 ghost use Rattle.rfb_wire.specs.declared.server_head.ServerHead.TheVariants.{ColourMap, CutText};
 ghost use Rattle.rfb_viewer.specs.Told.{seen};
-ghost use Rattle.rfb_viewer.specs.Feeding.{end_event};
-ghost use Rattle.rfb_viewer.specs.Steps.{progress_behind, told_behind, request_behind, AsksBehind};
-ghost use Rattle.rfb_viewer.specs.Steps.{progress_past, told_past, request_past};
+ghost use Rattle.rfb_viewer.specs.inside.Feeding.{end_event};
+ghost use Rattle.rfb_viewer.specs.inside.Steps.{progress_behind, told_behind, request_behind};
+ghost use Rattle.rfb_viewer.specs.inside.Steps.{AsksBehind, progress_past, told_past, request_past};
 
 use crate::event::ViewerEvent;
 use crate::viewer::progress::{Progress, Request};
@@ -17,59 +18,28 @@ use std::alloc::{AllocError, Global};
 // How many bytes a colour of SetColorMapEntries has, RFC 6143 section 7.6.2.
 const COLOUR_SIZE: u32 = 6;
 
-/// What the next bytes are, whether a request is outstanding, and what is told.
-#[derive(Drop)]
-pub(crate) struct Behind {
-    pub(crate) progress: Progress,
-    pub(crate) request: Request,
-    pub(crate) event: Option<ViewerEvent>,
-}
-
-/// Behind a message's head. A text takes memory for as much of it as is kept.
-pub(crate) fn behind_head(
+/// Goes on behind a message's head: what is told of it. A text takes memory for as much of it as is
+/// kept.
+pub(crate) fn go_on_behind(
+    head: ServerHead,
     alloc: Global,
     text_limit: u32,
-    head: ServerHead,
-    request: Request,
-) -> Result<Behind, AllocError>
-    ensures progress { IfOk result (λ behind.
-        behind.progress ≡ progress_behind text_limit head) }
-    ensures request { IfOk result (λ behind. behind.request ≡ request_behind head request) }
-    ensures told { IfOk result (λ behind. seen behind.event ≡ told_behind head) }
+    progress: &mut Progress,
+    request: &mut Request,
+) -> Result<Option<ViewerEvent>, AllocError>
+    ensures progress { IfOk result (λ event. progress.new ≡ progress_behind text_limit head) }
+    ensures request { IfOk result (λ event. request.new ≡ request_behind head request.old) }
+    ensures told { IfOk result (λ event. seen event ≡ told_behind head) }
     ensures asked { IfErr result (λ _. AsksBehind head) }
 {
     match head {
-        ServerHead::Update(count) => Ok(behind_rectangles(count, request)),
-        ServerHead::ColourMap { count, .. } => Ok(behind_colours(count, request)),
-        ServerHead::Bell => Ok(Behind {
-            progress: Progress::Head(ArrayVec::new()),
-            request,
-            event: Some(ViewerEvent::Bell),
-        }),
-        ServerHead::CutText(length) => behind_text(alloc, text_limit, length, request),
-    }
-}
-
-/// Where so many rectangles are left of an update.
-pub(crate) fn behind_rectangles(left: u16, request: Request) -> Behind
-    ensures progress { result.progress ≡ progress_past left }
-    ensures request { result.request ≡ request_past left request }
-    ensures told { seen result.event ≡ told_past left }
-{
-    match left.checked_sub(1) {
-        None => Behind {
-            progress: Progress::Head(ArrayVec::new()),
-            request: Request::Answered,
-            event: Some(ViewerEvent::UpdateDone),
-        },
-        Some(more) => Behind {
-            progress: Progress::RectHead {
-                more,
-                head: ArrayVec::new(),
-            },
-            request,
-            event: None,
-        },
+        ServerHead::Update(count) => Ok(end_of(go_on(progress, request, count))),
+        ServerHead::ColourMap { count, .. } => Ok(go_on_to_colours(progress, count)),
+        ServerHead::Bell => {
+            *progress = Progress::Head(ArrayVec::new());
+            Ok(Some(ViewerEvent::Bell))
+        }
+        ServerHead::CutText(length) => go_on_to_text(alloc, text_limit, progress, length),
     }
 }
 
@@ -81,64 +51,73 @@ pub(crate) fn go_on(progress: &mut Progress, request: &mut Request, left: u16) -
     ensures request { request.new ≡ request_past left request.old }
     ensures told { seen (end_event result) ≡ told_past left }
 {
-    let behind = behind_rectangles(left, *request);
-    *progress = behind.progress;
-    *request = behind.request;
-    left == 0
-}
-
-// Behind the head of SetColorMapEntries with so many colours.
-fn behind_colours(count: u16, request: Request) -> Behind
-    ensures progress { (text_limit first : ℕ) →
-        result.progress ≡ progress_behind text_limit (ColourMap first count) }
-    ensures request { result.request ≡ request }
-    ensures told { (first : ℕ) →
-        seen result.event ≡ told_behind (ColourMap first count) }
-{
-    match count.checked_sub(1) {
-        None => Behind {
-            progress: Progress::Head(ArrayVec::new()),
-            request,
-            event: Some(ViewerEvent::ColourMapSkipped),
-        },
-        Some(others) => Behind {
-            progress: Progress::Colours {
-                more: u32::from(others) * COLOUR_SIZE + (COLOUR_SIZE - 1),
-            },
-            request,
-            event: None,
-        },
+    match left.checked_sub(1) {
+        None => {
+            *progress = Progress::Head(ArrayVec::new());
+            *request = Request::Answered;
+            true
+        }
+        Some(more) => {
+            *progress = Progress::RectHead {
+                more,
+                head: ArrayVec::new(),
+            };
+            false
+        }
     }
 }
 
-// Behind the head of ServerCutText with so many bytes.
-fn behind_text(
+/// What is told where an update ends, or does not.
+pub(crate) fn end_of(ends_update: bool) -> Option<ViewerEvent>
+    ensures { result ≡ end_event ends_update }
+{
+    if ends_update {
+        Some(ViewerEvent::UpdateDone)
+    } else {
+        None
+    }
+}
+
+// Goes on behind the head of SetColorMapEntries with so many colours.
+fn go_on_to_colours(progress: &mut Progress, count: u16) -> Option<ViewerEvent>
+    ensures progress { (text_limit first : ℕ) →
+        progress.new ≡ progress_behind text_limit (ColourMap first count) }
+    ensures told { (first : ℕ) → seen result ≡ told_behind (ColourMap first count) }
+{
+    match count.checked_sub(1) {
+        None => {
+            *progress = Progress::Head(ArrayVec::new());
+            Some(ViewerEvent::ColourMapSkipped)
+        }
+        Some(others) => {
+            *progress = Progress::Colours {
+                more: u32::from(others) * COLOUR_SIZE + (COLOUR_SIZE - 1),
+            };
+            None
+        }
+    }
+}
+
+// Goes on behind the head of ServerCutText with so many bytes.
+fn go_on_to_text(
     alloc: Global,
     text_limit: u32,
+    progress: &mut Progress,
     length: u32,
-    request: Request,
-) -> Result<Behind, AllocError>
-    ensures progress { IfOk result (λ behind.
-        behind.progress ≡ progress_behind text_limit (CutText length)) }
-    ensures request { IfOk result (λ behind. behind.request ≡ request) }
-    ensures told { IfOk result (λ behind.
-        seen behind.event ≡ told_behind (CutText length)) }
+) -> Result<Option<ViewerEvent>, AllocError>
+    ensures progress { IfOk result (λ event.
+        progress.new ≡ progress_behind text_limit (CutText length)) }
+    ensures told { IfOk result (λ event. seen event ≡ told_behind (CutText length)) }
     ensures asked { IfErr result (λ _. 0 < length) }
 {
     let Some(more) = length.checked_sub(1) else {
-        return Ok(Behind {
-            progress: Progress::Head(ArrayVec::new()),
-            request,
-            event: Some(ViewerEvent::CutText {
-                kept: Vec::new(alloc),
-                length: 0,
-            }),
-        });
+        *progress = Progress::Head(ArrayVec::new());
+        return Ok(Some(ViewerEvent::CutText {
+            kept: Vec::new(alloc),
+            length: 0,
+        }));
     };
     let kept = Text::with_room(alloc, length.min(text_limit) as usize)?;
-    Ok(Behind {
-        progress: Progress::CutText { length, more, kept },
-        request,
-        event: None,
-    })
+    *progress = Progress::CutText { length, more, kept };
+    Ok(None)
 }

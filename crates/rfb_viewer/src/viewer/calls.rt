@@ -9,7 +9,7 @@ ghost use Rattle.rfb_viewer.specs.declared.fault.CallFault.TheVariants.{NotReady
 ghost use Rattle.rfb_viewer.specs.declared.fault.TextFault.TheVariants.{NotReady as TextNotReady};
 ghost use Rattle.rfb_viewer.specs.Messages.{format_message, encodings_message, request_message};
 ghost use Rattle.rfb_viewer.specs.Messages.{key_message, pointer_message, text_message};
-ghost use Rattle.rfb_viewer.specs.Sound.{is_ready, is_updating, is_shown};
+ghost use Rattle.rfb_viewer.specs.inside.Sound.{is_ready, is_updating, is_shown};
 ghost use Rattle.rfb_viewer.specs.Viewer.{Viewing, ViewerState};
 
 use crate::fault::{CallFault, TextFault};

@@ -1,7 +1,7 @@
 //! The handshake of a viewer.
 
 ghost use Rattle.std.specs.Prelude.{◌≡◌, ◌≤◌, ◌<◌, length, take, IfOk, IfErr, OnOk, OnErr, None, Some};
-ghost use Rattle.rfb_viewer.specs.Steps.{screen_or};
+ghost use Rattle.rfb_viewer.specs.inside.Steps.{screen_or};
 
 use crate::event::ViewerEvent;
 use crate::fault::ViewerFault;
@@ -20,7 +20,7 @@ const BLACK: Colour = Colour { r: 0, g: 0, b: 0 };
 impl Viewer {
     ghost use Rattle.rfb_viewer.specs.declared.viewer.progress.Progress.{Progress};
     ghost use Rattle.rfb_viewer.specs.Standing.{fault_of, making_of};
-    ghost use Rattle.rfb_viewer.specs.Feeding.{StepsOn, RefusesBy, StarvesBy};
+    ghost use Rattle.rfb_viewer.specs.inside.Feeding.{StepsOn, RefusesBy, StarvesBy};
     ghost use Rattle.rfb_viewer.specs.Failing.{KeepsPicture, KeepsReason};
 
     // Takes bytes of the server's handshake, up to the last of its next step, and makes the screen

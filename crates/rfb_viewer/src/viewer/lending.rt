@@ -4,7 +4,7 @@
 ghost use Rattle.std.specs.Prelude.{◌≡◌, ◌≢◌, ◌≤◌, ℕ, List, [], false, None, option_copied};
 ghost use Rattle.rfb_viewer.specs.ServerBytes.{is_between, server_bytes_pending};
 ghost use Rattle.rfb_viewer.specs.Showing.{Shows};
-ghost use Rattle.rfb_viewer.specs.Sound.{is_idle};
+ghost use Rattle.rfb_viewer.specs.inside.Sound.{is_idle};
 ghost use Rattle.rfb_viewer.specs.Viewer.{Viewing, ViewerState};
 
 use crate::viewer::Viewer;

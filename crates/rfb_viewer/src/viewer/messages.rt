@@ -8,7 +8,7 @@ use crate::event::ViewerEvent;
 use crate::fault::ViewerFault;
 use crate::gather::read_head;
 use crate::viewer::Viewer;
-use crate::viewer::behind::behind_head;
+use crate::viewer::behind::go_on_behind;
 use crate::viewer::progress::Progress;
 use arrayvec::ArrayVec;
 use rfb_hello::Fed;
@@ -18,7 +18,7 @@ use std::mem;
 impl Viewer {
     ghost use Rattle.rfb_viewer.specs.declared.viewer.progress.Progress.{Progress};
     ghost use Rattle.rfb_viewer.specs.Standing.{fault_of, making_of};
-    ghost use Rattle.rfb_viewer.specs.Feeding.{StepsOn, RefusesBy, StarvesBy};
+    ghost use Rattle.rfb_viewer.specs.inside.Feeding.{StepsOn, RefusesBy, StarvesBy};
     ghost use Rattle.rfb_viewer.specs.Failing.{KeepsPicture, KeepsReason};
 
     // Takes a byte of a message's head.
@@ -49,15 +49,16 @@ impl Viewer {
             Read::Got(head, _) => head,
             Read::Bad(fault) => return Err(self.progress.fail(ViewerFault::of_wire(fault))),
         };
-        let Ok(behind) = behind_head(self.alloc, self.text_limit, head, self.request) else {
+        let Ok(event) = go_on_behind(
+            head,
+            self.alloc,
+            self.text_limit,
+            &mut self.progress,
+            &mut self.request,
+        ) else {
             return Err(self.progress.fail(ViewerFault::NoMemory));
         };
-        self.progress = behind.progress;
-        self.request = behind.request;
-        Ok(Fed {
-            used: 1,
-            event: behind.event,
-        })
+        Ok(Fed { used: 1, event })
     }
 
     // Takes bytes of the colours of SetColorMapEntries, of which nothing is kept.

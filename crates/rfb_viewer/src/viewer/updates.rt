@@ -8,7 +8,7 @@ use crate::event::ViewerEvent;
 use crate::fault::ViewerFault;
 use crate::gather::gather;
 use crate::viewer::Viewer;
-use crate::viewer::behind::{behind_rectangles, go_on};
+use crate::viewer::behind::{end_of, go_on};
 use crate::viewer::progress::{Progress, RECT_HEAD_PART};
 use rfb_codec::Painter;
 use rfb_hello::Fed;
@@ -29,7 +29,7 @@ pub(crate) struct Taken {
 impl Viewer {
     ghost use Rattle.rfb_viewer.specs.declared.viewer.progress.Progress.{Progress};
     ghost use Rattle.rfb_viewer.specs.Standing.{fault_of, making_of};
-    ghost use Rattle.rfb_viewer.specs.Feeding.{StepsOn, RefusesBy, StarvesBy, end_event};
+    ghost use Rattle.rfb_viewer.specs.inside.Feeding.{StepsOn, RefusesBy, StarvesBy, end_event};
     ghost use Rattle.rfb_viewer.specs.Failing.{KeepsPicture, KeepsReason};
 
     // Takes bytes of a rectangle's head, and behind it those of its data.
@@ -68,23 +68,26 @@ impl Viewer {
             Read::Bad(fault) => return Err(self.progress.fail(ViewerFault::of_wire(fault))),
             Read::More(_) => unreachable!(),
         };
+        self.progress = Progress::Data {
+            more,
+            painter: Painter::new(head.rect, head.encoding, self.format),
+        };
+        let Progress::Data { painter, .. } = &mut self.progress else {
+            unreachable!()
+        };
         // A rectangle may have no data, and is then whole with its head.
-        let mut painter = Painter::new(head.rect, head.encoding, self.format);
         let painted = match painter.feed(&bytes[front..], picture) {
             Ok(painted) => painted,
             Err(fault) => return Err(self.progress.fail(ViewerFault::of_paint(fault))),
         };
         let used = front + painted.used;
         if !painted.done {
-            self.progress = Progress::Data { more, painter };
             return Ok(Fed { used, event: None });
         }
-        let behind = behind_rectangles(more, self.request);
-        self.progress = behind.progress;
-        self.request = behind.request;
+        let ends_update = go_on(&mut self.progress, &mut self.request, more);
         Ok(Fed {
             used,
-            event: behind.event,
+            event: end_of(ends_update),
         })
     }
 

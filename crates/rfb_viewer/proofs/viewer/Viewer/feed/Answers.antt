@@ -9,7 +9,7 @@ use Rattle.rfb_viewer.specs.declared.event.ViewerEvent.TheVariants.{UpdateDone}
 use Rattle.rfb_viewer.specs.Told.{seen, UpdateDone as Done}
 use Rattle.rfb_viewer.specs.Viewer.{viewer, AsksMemory}
 use Rattle.rfb_viewer.specs.Standing.{StandsFor}
-use Rattle.rfb_viewer.specs.Feeding.{StepsOn, end_event}
+use Rattle.rfb_viewer.specs.inside.Feeding.{StepsOn, end_event}
 use Rattle.rfb_viewer.proofs.ViewerLaws.{viewer_machine}
 use Rattle.rfb_viewer.proofs.FeedLemmas.{starts, not_failed}
 use Rattle.rfb_viewer.specs.Failing.{KeepsPicture, KeepsReason}

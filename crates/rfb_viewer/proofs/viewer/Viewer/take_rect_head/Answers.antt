@@ -1,13 +1,14 @@
-use Rattle.std.proofs.Common.{◌≡◌, ◌∙◌, ◌+◌, ◌++◌, ℕ, List, true, false, length, take, drop, refl, sym, subst, ap, arith, take-append-drop}
+use Rattle.std.proofs.Common.{◌≡◌, ◌∙◌, ◌+◌, ◌++◌, ℕ, List, true, false, [], length, take, drop, refl, sym, subst, ap, arith, take-append-drop}
 use Rattle.std.proofs.lemmas.List.{take_all, take_rest}
 use Rattle.rfb_wire.specs.stream.End.{RefusedBy}
 use Rattle.rfb_wire.proofs.stream_laws.FeedLaws.{take_add, front_refuses, step_refuses}
-use Rattle.rfb_codec.specs.UnderWay.{Waits, Paints, Refuses}
+use Rattle.rfb_codec.specs.UnderWay.{UnderWay, painting, StandsFor as PainterStandsFor, Waits, Paints, Refuses}
+use Rattle.rfb_viewer.specs.declared.viewer.progress.Progress.TheVariants.{Data}
 use Rattle.rfb_viewer.specs.Fault.{fault_of_wire, fault_of_paint}
 use Rattle.rfb_viewer.specs.Viewer.{viewer}
 use Rattle.rfb_viewer.specs.Standing.{StandsFor}
 use Rattle.rfb_viewer.proofs.ViewerLaws.{viewer_machine}
-use Rattle.rfb_viewer.proofs.RectLemmas.{IsOpened, rect_part, rect_bad, rect_more, rect_done, rect_fault, step_by, painting_same, head_all, not_false, not_true, past_going}
+use Rattle.rfb_viewer.proofs.RectLemmas.{IsOpened, rect_part, rect_bad, rect_more, rect_done, rect_fault, step_by, same_painter, same_count, painting_same, head_all, not_false, not_true, past_going}
 use Rattle.rfb_viewer.proofs.FailLemmas.{rect_head_ends, opened_ends, wire_keeps, paint_keeps}
 use Rattle.rfb_viewer.proofs.viewer.Viewer.take_rect_head.Goals as goal
 
@@ -35,24 +36,25 @@ returns-in-Err-clause-fault c = λ _ viewing.
     let whole = c.in-Some.whole.items in
     let slice : c.as_slice.result.now ≡ whole = c.as_slice.ensures.value in
     let got = rw (c.width-width.ensures.value, c.height-height.ensures, slice) at c.in-Got.ensures.got in
-    let opened : IsOpened viewing c.args.self.now c.args.self.now c.in-RectHead.more c.in-RectHead.head (take c.gather-front.result.0 c.args.bytes.now) whole c.in-Got.head c.in-Some-picture.picture c.new-painter.result = record {
+    let same : c.new.result ≡ c.in-Data.painter = same_painter _ _ c.new.result c.in-Data.painter c.in-Data.is in
+    let opened : IsOpened viewing c.args.self.now c.args.self.now c.in-RectHead.more c.in-RectHead.head (take c.gather-front.result.0 c.args.bytes.now) whole c.in-Got.head c.in-Some-picture.picture c.in-Data.painter = record {
       was = c.in-RectHead.is;
       whole_is = gathered.0;
       shown = c.in-Some-picture.is;
       spelled = head_all whole _ c.in-Got.head gathered.1 got.0 got.1;
       on_screen = got.2;
-      painting_is = c.new-painter.ensures.value;
-      fresh = c.new-painter.ensures.stands c.in-Some-picture.picture;
+      painting_is = ap painting (sym same) ∙ c.new.ensures.value;
+      fresh = subst (λ (p : UnderWay). PainterStandsFor p c.in-Some-picture.picture c.in-Some-picture.picture []) same (c.new.ensures.stands c.in-Some-picture.picture);
     } in
     let bytes = c.args.bytes.now in
     let front = c.gather-front.result.0 in
     let rest = take_rest bytes front in
-    let refuses : Refuses c.new-painter.result c.in-Some-picture.picture (drop front bytes) c.feed.new.picture c.in-Err.fault =
-    subst (λ (ys : List ℕ). Refuses c.new-painter.result c.in-Some-picture.picture ys c.feed.new.picture c.in-Err.fault) rest c.in-Err.ensures.fault in
+    let refuses : Refuses c.in-Data.painter c.in-Some-picture.picture (drop front bytes) c.feed.new.picture c.in-Err.fault =
+    subst (λ (ys : List ℕ). Refuses c.in-Data.painter c.in-Some-picture.picture ys c.feed.new.picture c.in-Err.fault) rest c.in-Err.ensures.fault in
     rw (c.fail-in-Err.ensures.value, c.of_paint.ensures)
     (subst (λ (ys : List ℕ). RefusedBy (viewer viewing) (StandsFor viewing) old ys (fault_of_paint c.in-Err.fault)) (take-append-drop front bytes)
     (step_refuses (viewer viewing) (StandsFor viewing) old old (take front bytes ++ drop front bytes) (fault_of_paint c.in-Err.fault)
-    (rect_fault viewing old old c.in-RectHead.more c.in-RectHead.head (take front bytes) whole (drop front bytes) c.in-Got.head c.in-Some-picture.picture c.feed.new.picture c.new-painter.result c.in-Err.fault opened refuses)))
+    (rect_fault viewing old old c.in-RectHead.more c.in-RectHead.head (take front bytes) whole (drop front bytes) c.in-Got.head c.in-Some-picture.picture c.feed.new.picture c.in-Data.painter c.in-Err.fault opened refuses)))
 
 pub returns-then-not-painted-clause-steps : goal.returns-then-not-painted-clause-steps
 returns-then-not-painted-clause-steps c = λ viewing.
@@ -60,14 +62,15 @@ returns-then-not-painted-clause-steps c = λ viewing.
     let whole = c.in-Some.whole.items in
     let slice : c.as_slice.result.now ≡ whole = c.as_slice.ensures.value in
     let got = rw (c.width-width.ensures.value, c.height-height.ensures, slice) at c.in-Got.ensures.got in
-    let opened : IsOpened viewing c.args.self.now c.args.self.now c.in-RectHead.more c.in-RectHead.head (take c.gather-front.result.0 c.args.bytes.now) whole c.in-Got.head c.in-Some-picture.picture c.new-painter.result = record {
+    let same : c.new.result ≡ c.in-Data.painter = same_painter _ _ c.new.result c.in-Data.painter c.in-Data.is in
+    let opened : IsOpened viewing c.args.self.now c.args.self.now c.in-RectHead.more c.in-RectHead.head (take c.gather-front.result.0 c.args.bytes.now) whole c.in-Got.head c.in-Some-picture.picture c.in-Data.painter = record {
       was = c.in-RectHead.is;
       whole_is = gathered.0;
       shown = c.in-Some-picture.is;
       spelled = head_all whole _ c.in-Got.head gathered.1 got.0 got.1;
       on_screen = got.2;
-      painting_is = c.new-painter.ensures.value;
-      fresh = c.new-painter.ensures.stands c.in-Some-picture.picture;
+      painting_is = ap painting (sym same) ∙ c.new.ensures.value;
+      fresh = subst (λ (p : UnderWay). PainterStandsFor p c.in-Some-picture.picture c.in-Some-picture.picture []) same (c.new.ensures.stands c.in-Some-picture.picture);
     } in
     let bytes = c.args.bytes.now in
     let front = c.gather-front.result.0 in
@@ -76,15 +79,15 @@ returns-then-not-painted-clause-steps c = λ viewing.
     let more : c.in-Ok.painted.done ≡ false = not_false c.in-Ok.painted.done c.if-not-painted.true in
     let all : used ≡ length (drop front bytes) = c.in-Ok.ensures.all more ∙ ap length rest in
     let some : take used (drop front bytes) ≡ drop front bytes = take_all used (drop front bytes) (omega (arith, all)) in
-    let waits : Waits c.new-painter.result c.in-Some-picture.picture (take used (drop front bytes)) c.feed.new.self c.feed.new.picture =
-    subst (λ (ys : List ℕ). Waits c.new-painter.result c.in-Some-picture.picture ys c.feed.new.self c.feed.new.picture) (rest ∙ sym some) (c.in-Ok.ensures.more more) in
+    let waits : Waits c.in-Data.painter c.in-Some-picture.picture (take used (drop front bytes)) c.feed.new.self c.feed.new.picture =
+    subst (λ (ys : List ℕ). Waits c.in-Data.painter c.in-Some-picture.picture ys c.feed.new.self c.feed.new.picture) (rest ∙ sym some) (c.in-Ok.ensures.more more) in
     step_by viewing c.args.self.now _ (take front bytes ++ take used (drop front bytes)) (take (front + used) bytes) _ (take_add front used bytes)
-    (rect_more viewing c.args.self.now _ c.in-RectHead.more c.in-RectHead.head (take front bytes) whole (take used (drop front bytes)) c.in-Got.head c.in-Some-picture.picture c.feed.new.picture c.new-painter.result c.feed.new.self (record { was = opened.was; whole_is = opened.whole_is; shown = opened.shown; spelled = opened.spelled; on_screen = opened.on_screen; painting_is = opened.painting_is; fresh = opened.fresh }) waits
-    (painting_same c.new-painter.result c.feed.new.self c.feed.ensures.rect c.feed.ensures.form c.feed.ensures.encoding)
-    (record { hello = refl; form = refl; encodings = refl; limit = refl; progress_is = refl; request_is = refl; picture_is = refl }))
+    (rect_more viewing c.args.self.now _ c.in-RectHead.more c.in-RectHead.head (take front bytes) whole (take used (drop front bytes)) c.in-Got.head c.in-Some-picture.picture c.feed.new.picture c.in-Data.painter c.feed.new.self (record { was = opened.was; whole_is = opened.whole_is; shown = opened.shown; spelled = opened.spelled; on_screen = opened.on_screen; painting_is = opened.painting_is; fresh = opened.fresh }) waits
+    (painting_same c.in-Data.painter c.feed.new.self c.feed.ensures.rect c.feed.ensures.form c.feed.ensures.encoding)
+    (record { hello = refl; form = refl; encodings = refl; limit = refl; progress_is = ap (λ (n : ℕ). Data n c.feed.new.self) (sym (same_count _ _ c.new.result c.in-Data.painter c.in-Data.is)); request_is = refl; picture_is = refl }))
 
 pub returns-clause-going : goal.returns-clause-going
-returns-clause-going c = rw (c.behind_rectangles-behind.ensures.progress) (past_going c.in-RectHead.more)
+returns-clause-going c = rw (c.go_on-ends_update.ensures.progress) (past_going c.in-RectHead.more)
 
 pub returns-clause-steps : goal.returns-clause-steps
 returns-clause-steps c = λ viewing.
@@ -92,26 +95,27 @@ returns-clause-steps c = λ viewing.
     let whole = c.in-Some.whole.items in
     let slice : c.as_slice.result.now ≡ whole = c.as_slice.ensures.value in
     let got = rw (c.width-width.ensures.value, c.height-height.ensures, slice) at c.in-Got.ensures.got in
-    let opened : IsOpened viewing c.args.self.now c.args.self.now c.in-RectHead.more c.in-RectHead.head (take c.gather-front.result.0 c.args.bytes.now) whole c.in-Got.head c.in-Some-picture.picture c.new-painter.result = record {
+    let same : c.new.result ≡ c.in-Data.painter = same_painter _ _ c.new.result c.in-Data.painter c.in-Data.is in
+    let opened : IsOpened viewing c.args.self.now c.args.self.now c.in-RectHead.more c.in-RectHead.head (take c.gather-front.result.0 c.args.bytes.now) whole c.in-Got.head c.in-Some-picture.picture c.in-Data.painter = record {
       was = c.in-RectHead.is;
       whole_is = gathered.0;
       shown = c.in-Some-picture.is;
       spelled = head_all whole _ c.in-Got.head gathered.1 got.0 got.1;
       on_screen = got.2;
-      painting_is = c.new-painter.ensures.value;
-      fresh = c.new-painter.ensures.stands c.in-Some-picture.picture;
+      painting_is = ap painting (sym same) ∙ c.new.ensures.value;
+      fresh = subst (λ (p : UnderWay). PainterStandsFor p c.in-Some-picture.picture c.in-Some-picture.picture []) same (c.new.ensures.stands c.in-Some-picture.picture);
     } in
     let bytes = c.args.bytes.now in
     let front = c.gather-front.result.0 in
     let rest = take_rest bytes front in
     let used = c.in-Ok.painted.used in
     let done : c.in-Ok.painted.done ≡ true = not_true c.in-Ok.painted.done c.if-not-painted.false in
-    let paints : Paints c.new-painter.result c.in-Some-picture.picture (take used (drop front bytes)) c.feed.new.self c.feed.new.picture =
-    subst (λ (ys : List ℕ). Paints c.new-painter.result c.in-Some-picture.picture (take used ys) c.feed.new.self c.feed.new.picture) rest (c.in-Ok.ensures.done done) in
-    rw (c.behind_rectangles-behind.ensures.told)
+    let paints : Paints c.in-Data.painter c.in-Some-picture.picture (take used (drop front bytes)) c.feed.new.self c.feed.new.picture =
+    subst (λ (ys : List ℕ). Paints c.in-Data.painter c.in-Some-picture.picture (take used ys) c.feed.new.self c.feed.new.picture) rest (c.in-Ok.ensures.done done) in
+    rw (c.end_of.ensures, c.go_on-ends_update.ensures.told)
     (step_by viewing c.args.self.now _ (take front bytes ++ take used (drop front bytes)) (take (front + used) bytes) _ (take_add front used bytes)
-    (rect_done viewing c.args.self.now _ c.in-RectHead.more c.in-RectHead.head (take front bytes) whole (take used (drop front bytes)) c.in-Got.head c.in-Some-picture.picture c.feed.new.picture c.new-painter.result c.feed.new.self (record { was = opened.was; whole_is = opened.whole_is; shown = opened.shown; spelled = opened.spelled; on_screen = opened.on_screen; painting_is = opened.painting_is; fresh = opened.fresh }) paints
-    (record { hello = refl; form = refl; encodings = refl; limit = refl; progress_is = c.behind_rectangles-behind.ensures.progress; request_is = c.behind_rectangles-behind.ensures.request; picture_is = refl })))
+    (rect_done viewing c.args.self.now _ c.in-RectHead.more c.in-RectHead.head (take front bytes) whole (take used (drop front bytes)) c.in-Got.head c.in-Some-picture.picture c.feed.new.picture c.in-Data.painter c.feed.new.self (record { was = opened.was; whole_is = opened.whole_is; shown = opened.shown; spelled = opened.spelled; on_screen = opened.on_screen; painting_is = opened.painting_is; fresh = opened.fresh }) paints
+    (record { hello = refl; form = refl; encodings = refl; limit = refl; progress_is = c.go_on-ends_update.ensures.progress; request_is = c.go_on-ends_update.ensures.request; picture_is = refl })))
 
 pub returns-in-Bad-clause-picture : goal.returns-in-Bad-clause-picture
 returns-in-Bad-clause-picture c =
@@ -138,20 +142,21 @@ returns-in-Err-clause-picture c =
     let bytes = c.args.bytes.now in
     let front = c.gather-front.result.0 in
     let rest = take_rest bytes front in
-    let refuses : Refuses c.new-painter.result c.in-Some-picture.picture (drop front bytes) c.feed.new.picture c.in-Err.fault =
-    subst (λ (ys : List ℕ). Refuses c.new-painter.result c.in-Some-picture.picture ys c.feed.new.picture c.in-Err.fault) rest c.in-Err.ensures.fault in
+    let refuses : Refuses c.in-Data.painter c.in-Some-picture.picture (drop front bytes) c.feed.new.picture c.in-Err.fault =
+    subst (λ (ys : List ℕ). Refuses c.in-Data.painter c.in-Some-picture.picture ys c.feed.new.picture c.in-Err.fault) rest c.in-Err.ensures.fault in
     rw (c.fail-in-Err.ensures.value, c.of_paint.ensures) (λ viewing.
-    let opened : IsOpened viewing old old c.in-RectHead.more c.in-RectHead.head (take front bytes) whole c.in-Got.head c.in-Some-picture.picture c.new-painter.result = record {
+    let same : c.new.result ≡ c.in-Data.painter = same_painter _ _ c.new.result c.in-Data.painter c.in-Data.is in
+    let opened : IsOpened viewing old old c.in-RectHead.more c.in-RectHead.head (take front bytes) whole c.in-Got.head c.in-Some-picture.picture c.in-Data.painter = record {
       was = c.in-RectHead.is;
       whole_is = gathered.0;
       shown = c.in-Some-picture.is;
       spelled = head_all whole _ c.in-Got.head gathered.1 got.0 got.1;
       on_screen = got.2;
-      painting_is = c.new-painter.ensures.value;
-      fresh = c.new-painter.ensures.stands c.in-Some-picture.picture;
+      painting_is = ap painting (sym same) ∙ c.new.ensures.value;
+      fresh = subst (λ (p : UnderWay). PainterStandsFor p c.in-Some-picture.picture c.in-Some-picture.picture []) same (c.new.ensures.stands c.in-Some-picture.picture);
     } in
-    opened_ends viewing old old c.in-RectHead.more c.in-RectHead.head (take front bytes) whole (drop front bytes) c.in-Got.head c.in-Some-picture.picture c.feed.new.picture c.new-painter.result c.in-Err.fault bytes (sym (take-append-drop front bytes)) opened refuses
-    (rect_fault viewing old old c.in-RectHead.more c.in-RectHead.head (take front bytes) whole (drop front bytes) c.in-Got.head c.in-Some-picture.picture c.feed.new.picture c.new-painter.result c.in-Err.fault opened refuses))
+    opened_ends viewing old old c.in-RectHead.more c.in-RectHead.head (take front bytes) whole (drop front bytes) c.in-Got.head c.in-Some-picture.picture c.feed.new.picture c.in-Data.painter c.in-Err.fault bytes (sym (take-append-drop front bytes)) opened refuses
+    (rect_fault viewing old old c.in-RectHead.more c.in-RectHead.head (take front bytes) whole (drop front bytes) c.in-Got.head c.in-Some-picture.picture c.feed.new.picture c.in-Data.painter c.in-Err.fault opened refuses))
 
 pub returns-in-Err-clause-reason : goal.returns-in-Err-clause-reason
 returns-in-Err-clause-reason c = rw (c.fail-in-Err.ensures.value, c.of_paint.ensures) (paint_keeps c.in-Err.fault c.args.self.now _ c.args.bytes.now refl)

@@ -71,3 +71,15 @@ is_idle (Data more painter) = false
 is_idle (Colours more) = false
 is_idle (CutText text_length more kept) = false
 is_idle (Failed fault) = false
+
+-- ---- what is taken next
+
+-- no rectangle's data are under way
+abbrev pub IsElsewhere : Progress → Type 0
+IsElsewhere Handshake = Unit {0}
+IsElsewhere (Head bytes) = Unit {0}
+IsElsewhere (RectHeadPart more head) = Unit {0}
+IsElsewhere (Data more painter) = ⊥
+IsElsewhere (Colours more) = Unit {0}
+IsElsewhere (CutText text_length more kept) = Unit {0}
+IsElsewhere (Failed fault) = Unit {0}

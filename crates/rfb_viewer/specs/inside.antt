@@ -1,0 +1,4 @@
+-- Words of private contracts. No public clause reads them, so a reader can skip them.
+pub mod Feeding
+pub mod Sound
+pub mod Steps
