@@ -17,10 +17,14 @@ use Rattle.rfb_viewer.specs.Viewer.{black}
 abbrev pub at_message : Progress
 at_message = Head (record { items = [] })
 
+-- a rectangle's head comes next, of which nothing came, and so many rectangles follow it
+abbrev pub at_rectangle : ℕ → Progress
+at_rectangle more = RectHead more (record { items = [] })
+
 -- where so many rectangles are left: the next one's head, or where none is the end of the update
 abbrev pub progress_past : ℕ → Progress
 progress_past zero = at_message
-progress_past (suc more) = RectHead more (record { items = [] })
+progress_past (suc more) = at_rectangle more
 
 abbrev pub told_past : ℕ → Option ViewerTold
 told_past zero = Some UpdateDone

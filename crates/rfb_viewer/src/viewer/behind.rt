@@ -10,7 +10,6 @@ ghost use Rattle.rfb_viewer.specs.inside.Steps.{AsksBehind, progress_past, told_
 
 use crate::event::ViewerEvent;
 use crate::viewer::progress::{Progress, Request};
-use arrayvec::ArrayVec;
 use rfb_hello::Text;
 use rfb_wire::ServerHead;
 use std::alloc::{AllocError, Global};
@@ -36,7 +35,7 @@ pub(crate) fn go_on_behind(
         ServerHead::Update(count) => Ok(end_of(go_on(progress, request, count))),
         ServerHead::ColourMap { count, .. } => Ok(go_on_to_colours(progress, count)),
         ServerHead::Bell => {
-            *progress = Progress::Head(ArrayVec::new());
+            progress.begin_message();
             Ok(Some(ViewerEvent::Bell))
         }
         ServerHead::CutText(length) => go_on_to_text(alloc, text_limit, progress, length),
@@ -53,15 +52,12 @@ pub(crate) fn go_on(progress: &mut Progress, request: &mut Request, left: u16) -
 {
     match left.checked_sub(1) {
         None => {
-            *progress = Progress::Head(ArrayVec::new());
+            progress.begin_message();
             *request = Request::Answered;
             true
         }
         Some(more) => {
-            *progress = Progress::RectHead {
-                more,
-                head: ArrayVec::new(),
-            };
+            progress.begin_rectangle(more);
             false
         }
     }
@@ -86,7 +82,7 @@ fn go_on_to_colours(progress: &mut Progress, count: u16) -> Option<ViewerEvent>
 {
     match count.checked_sub(1) {
         None => {
-            *progress = Progress::Head(ArrayVec::new());
+            progress.begin_message();
             Some(ViewerEvent::ColourMapSkipped)
         }
         Some(others) => {
@@ -111,7 +107,7 @@ fn go_on_to_text(
     ensures asked { IfErr result (λ _. 0 < length) }
 {
     let Some(more) = length.checked_sub(1) else {
-        *progress = Progress::Head(ArrayVec::new());
+        progress.begin_message();
         return Ok(Some(ViewerEvent::CutText {
             kept: Vec::new(alloc),
             length: 0,

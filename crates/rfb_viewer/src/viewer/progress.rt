@@ -3,6 +3,7 @@
 ghost use Rattle.std.specs.Prelude.{◌≡◌};
 ghost use Rattle.rfb_viewer.specs.declared.viewer.progress.Progress.{Progress};
 ghost use Rattle.rfb_viewer.specs.Standing.{is_outstanding};
+ghost use Rattle.rfb_viewer.specs.inside.Steps.{at_message, at_rectangle};
 
 use crate::fault::ViewerFault;
 use arrayvec::ArrayVec;
@@ -67,6 +68,26 @@ impl Request {
 }
 
 impl Progress {
+    /// Comes to a message's head. This and the next one are calls of their own, so each writes where
+    /// the progress stands, and makes no value that is moved there.
+    #[inline(never)]
+    pub(crate) fn begin_message(&mut self)
+        ensures { self.new ≡ at_message }
+    {
+        *self = Progress::Head(ArrayVec::new());
+    }
+
+    /// Comes to a rectangle's head, behind which so many rectangles follow.
+    #[inline(never)]
+    pub(crate) fn begin_rectangle(&mut self, more: u16)
+        ensures { self.new ≡ at_rectangle more }
+    {
+        *self = Progress::RectHead {
+            more,
+            head: ArrayVec::new(),
+        };
+    }
+
     /// Holds a fault from now on.
     pub(crate) fn fail(&mut self, fault: ViewerFault) -> ViewerFault
         ensures value { result ≡ fault }
