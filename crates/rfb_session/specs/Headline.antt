@@ -40,6 +40,12 @@ ShowsLatest None picture = Unit {0}
 ShowsLatest (Some c) None = ⊥
 ShowsLatest (Some c) (Some picture) = ShowsComposing c picture
 
+-- there is a latest composing, and it answered a place of its screen
+abbrev pub AnswersSome : Option Composing → Type 0
+AnswersSome None = ⊥
+AnswersSome (Some c) =
+    (x y : ℕ) × (x < c.screen.width) × (y < c.screen.height) × (asked_at c.area x y ≡ true)
+
 -- what holds of a link at all times
 pub record IsHeadline (e : Ends) (l : Link) : Type 0 where
   -- known places agree with the due picture

@@ -18,7 +18,7 @@ ghost use Rattle.rfb_viewer.specs.Calls.{format_refusal, formatted};
 ghost use Rattle.rfb_session.specs.Link.{Ends, Link, server_of, first_link};
 ghost use Rattle.rfb_session.specs.LinkSteps.{begun, calls, ComposesOn, MovesToViewer};
 ghost use Rattle.rfb_session.specs.LinkSteps.{MovesToServer, flight_to_viewer, flight_to_server};
-ghost use Rattle.rfb_session.specs.Headline.{IsHeadline};
+ghost use Rattle.rfb_session.specs.Headline.{IsHeadline, AnswersSome};
 ghost use Rattle.rfb_session.specs.Network.{Network, Steps, IsReached};
 ghost use Rattle.rfb_session.specs.Told.{Tells};
 ghost use Rattle.rfb_session.specs.declared.event.Event.{Event};
@@ -38,6 +38,13 @@ pub fn what_is_due_is_the_screen()
         IsReached e (record { screen = screen; link = first_link e }) }
     ensures holds { (e : Ends) (network : Network) →
         IsReached e network → IsHeadline e network.link }
+{}
+
+/// An update that is composed is noted with a place that it answers, so what is said of the area of
+/// the latest update is said of some place.
+pub fn the_latest_update_answers_a_place()
+    ensures { (screen : Grid Colour) (old new : Link) →
+        ComposesOn screen old new → AnswersSome new.latest }
 {}
 
 /// An event that is told as refused has changed nothing.
