@@ -15,14 +15,16 @@ use Rattle.rfb_viewer.specs.Viewer.{ViewerState}
 use Rattle.rfb_viewer.specs.Calls.{call_refusal, call_refused, request_refused, request_refusal, format_refusal, requested, formatted}
 use Rattle.rfb_viewer.specs.Standing.{StandsFor as ViewerStandsFor}
 use Rattle.rfb_session.specs.declared.latest.Latest.{Latest}
+use Rattle.rfb_session.specs.declared.told.Refused.{Refused}
 use Rattle.rfb_session.specs.declared.world.World.{World}
 use Rattle.rfb_session.specs.Latest.{composing_in}
 use Rattle.rfb_session.specs.Link.{Ends}
 use Rattle.rfb_session.specs.LinkSteps.{begun, calls}
 use Rattle.rfb_session.specs.InFlight.{Flight, Flies}
 use Rattle.rfb_session.specs.Network.{Network, IsReached}
-use Rattle.rfb_session.specs.World.{StandsFor, HasSameLink}
-use Rattle.rfb_session.proofs.DrawnLemmas.{same_stands}
+use Rattle.rfb_session.specs.Told.{refused_as}
+use Rattle.rfb_session.specs.World.{StandsFor}
+use Rattle.rfb_session.proofs.DrawnLemmas.{HasSameLink, same_stands}
 use Rattle.rfb_session.proofs.NetworkLemmas.{reached_holds}
 use Rattle.rfb_session.proofs.AnswerLemmas.{to_viewer_stream}
 use Rattle.rfb_session.proofs.SentLemmas.{called_flies, refusal_same}
@@ -167,3 +169,14 @@ message_taken e old new n message bytes stands reached none same spelled only =
     (sym same) stands.carries.viewer_is)
     (message_flies e old n stands n.link.viewer message bytes ready.0 reached ready.1 refl spelled)
     only
+
+-- ---- what is refused
+
+pub no_refusal : (refused : Refused) → Some refused ≡ None → ⊥
+no_refusal refused is = absurd cc
+
+-- a call that is taken is not one that is refused
+pub not_taken : (refusal : Option CallFault) (refused : Refused) → None ≡ refusal →
+    Some refused ≡ refused_as refusal → ⊥
+not_taken None refused none is = no_refusal refused is
+not_taken (Some fault) refused none is = absurd cc

@@ -1,10 +1,11 @@
 -- A composing of a world is one of its network.
-use Rattle.std.proofs.Common.{◌≡◌, Bool, true, false, ◌++◌, None, Some, inl, inr, refl, sym, ap, ◌∙◌, subst}
+use Rattle.std.proofs.Common.{◌≡◌, ℕ, List, Bool, true, false, ◌++◌, None, Some, inl, inr, refl, sym, ap, ◌∙◌, subst}
 use Rattle.rfb_pixel.specs.declared.colour.Colour.{Colour}
 use Rattle.rfb_pixel.specs.Format.{PixelFormat}
 use Rattle.rfb_picture.specs.Grid.{Grid}
 use Rattle.rfb_picture.specs.Area.{Places}
-use Rattle.rfb_server.specs.Server.{ServerState}
+use Rattle.rfb_server.specs.declared.server.Server.{Server}
+use Rattle.rfb_server.specs.Server.{Serving, ServerState}
 use Rattle.rfb_server.specs.Standing.{StandsFor as ServerStandsFor, screen_of}
 use Rattle.rfb_server.specs.Composing.{Composes}
 use Rattle.rfb_server.specs.Updating.{HasSent, Updates, StaysUnsent}
@@ -16,9 +17,21 @@ use Rattle.rfb_session.specs.declared.world.World.{World}
 use Rattle.rfb_session.specs.Latest.{composing_in}
 use Rattle.rfb_session.specs.Link.{Link, server_of, session_of}
 use Rattle.rfb_session.specs.LinkSteps.{ComposesOn, update_items}
-use Rattle.rfb_session.specs.World.{Does, AsksFor, FormatIs}
+use Rattle.rfb_session.specs.World.{Does}
 use Rattle.rfb_session.proofs.NetworkLemmas.{reached_holds}
 use Rattle.rfb_session.proofs.SentLemmas.{composed_flies}
+
+-- these places are asked of a server, whatever it stands for
+abbrev pub AsksFor : Server → Places → Type 0
+AsksFor server asked =
+    (serving : Serving) (s : ServerState) (prefix : List ℕ) →
+    ServerStandsFor serving server s prefix → asked ≡ s.area
+
+-- this is its format
+abbrev pub FormatIs : Server → PixelFormat → Type 0
+FormatIs server form =
+    (serving : Serving) (s : ServerState) (prefix : List ℕ) →
+    ServerStandsFor serving server s prefix → form ≡ s.form
 
 -- an update was composed, and what it answered was noted
 pub composed_does : (old new : World) (told : Told) (asked : Places) (form : PixelFormat) →

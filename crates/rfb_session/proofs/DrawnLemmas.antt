@@ -10,12 +10,21 @@ use Rattle.rfb_server.specs.Standing.{Draws as ServerDraws, Keeps, screen_of, Ho
 use Rattle.rfb_session.specs.declared.told.Refused.{Refused}
 use Rattle.rfb_session.specs.declared.world.World.{World}
 use Rattle.rfb_session.specs.declared.latest.Latest.{Latest}
-use Rattle.rfb_session.specs.Latest.{composing_in, HasRoom}
+use Rattle.rfb_session.specs.Latest.{composing_in}
+use Rattle.rfb_session.specs.inside.Room.{HasRoom}
 use Rattle.rfb_session.specs.Link.{Ends}
 use Rattle.rfb_session.specs.Network.{Network, Draws}
 use Rattle.rfb_session.specs.Told.{RefusesUnless, refused_by}
-use Rattle.rfb_session.specs.World.{StandsFor, HasSameLink}
+use Rattle.rfb_session.specs.World.{StandsFor}
 use Rattle.rfb_session.proofs.SizeLemmas.{width-changed, height-changed}
+
+-- all but the server is as it was
+pub record HasSameLink (old new : World) : Type 0 where
+  pub viewer : new.viewer ≡ old.viewer
+  pub to_server : new.to_server ≡ old.to_server
+  pub to_viewer : new.to_viewer ≡ old.to_viewer
+  pub latest : new.latest ≡ old.latest
+  pub closed : new.closed ≡ old.closed
 
 -- whether a rectangle lies on the screen is one or the other
 pub held_or_not : (rect : Rect) (g : Grid Colour) → Holds g rect ⊎ (Holds g rect → ⊥)

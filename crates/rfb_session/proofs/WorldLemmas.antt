@@ -24,7 +24,8 @@ use Rattle.rfb_session.specs.LinkSteps.{MovesToViewer, MovesToServer, flight_to_
 use Rattle.rfb_session.specs.InFlight.{viewer_reply, server_reply}
 use Rattle.rfb_session.specs.Carrying.{Carries}
 use Rattle.rfb_session.specs.Network.{Network, Steps, StepsAll, IsReached}
-use Rattle.rfb_session.specs.World.{StandsFor, AreFresh, first_network, Does, DeliversToViewer, DeliversToServer}
+use Rattle.rfb_session.specs.World.{StandsFor, AreFresh, first_network, Does}
+use Rattle.rfb_session.specs.inside.Delivering.{DeliversToViewer, DeliversToServer}
 use Rattle.rfb_session.proofs.NetworkLemmas.{reached_holds}
 use Rattle.rfb_session.proofs.FlightLemmas.{first_flies}
 use Rattle.rfb_session.proofs.MoveLemmas.{viewer_flight, server_flight, viewer_moves_join, server_moves_join}

@@ -5,8 +5,14 @@ use Rattle.rfb_wire.specs.Encoding.{number_of}
 use Rattle.rfb_wire.specs.ClientMessage.{SetPixelFormat, SetEncodings}
 use Rattle.rfb_wire.specs.stream.Sequel.{First, Second}
 use Rattle.rfb_hello.specs.Version.{lower}
-use Rattle.rfb_hello.specs.ClientHandshake.{ClientPoint, AwaitsVersion as AwaitsClientVersion, AwaitsChoice, AwaitsInit as AwaitsClientInit, ClientItem, ProtocolVersion as ClientVersion, SecurityType, ClientInit}
-use Rattle.rfb_hello.specs.ServerHandshake.{ServerPoint, AwaitsVersion, AwaitsSecurity, AwaitsResult, AwaitsInit, AwaitsName, ServerItem, ProtocolVersion, SecurityNone, SecurityTypes, SecurityResult, ServerInit, Name}
+use Rattle.rfb_hello.specs.ClientHandshake.{ClientPoint, AwaitsVersion as AwaitsClientVersion}
+use Rattle.rfb_hello.specs.ClientHandshake.{AwaitsChoice, AwaitsInit as AwaitsClientInit}
+use Rattle.rfb_hello.specs.ClientHandshake.{ClientItem, ProtocolVersion as ClientVersion}
+use Rattle.rfb_hello.specs.ClientHandshake.{SecurityType, ClientInit}
+use Rattle.rfb_hello.specs.ServerHandshake.{ServerPoint, AwaitsVersion, AwaitsSecurity}
+use Rattle.rfb_hello.specs.ServerHandshake.{AwaitsResult, AwaitsInit, AwaitsName, ServerItem}
+use Rattle.rfb_hello.specs.ServerHandshake.{ProtocolVersion, SecurityNone, SecurityTypes}
+use Rattle.rfb_hello.specs.ServerHandshake.{SecurityResult, ServerInit, Name}
 use Rattle.rfb_hello.specs.ServerAnswers.{types_asked, result_asked, init_asked}
 use Rattle.rfb_hello.specs.ViewerAnswers.{choice_asked}
 use Rattle.rfb_server.specs.ClientBytes.{ClientAt, FromClient}

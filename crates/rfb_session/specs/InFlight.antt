@@ -8,8 +8,10 @@ use Rattle.rfb_wire.specs.stream.Grammar.{ReadsAll, IsWithinFirst}
 use Rattle.rfb_hello.specs.Version.{version_text}
 use Rattle.rfb_hello.specs.ServerAnswers.{IsSetup}
 use Rattle.rfb_server.specs.Server.{ServerState}
-use Rattle.rfb_server.specs.Told.{ServerTold, Reply as ServerReply, Ready as ServerReady, Key, Pointer, CutText as ClientText}
-use Rattle.rfb_viewer.specs.Told.{ViewerTold, Reply, Ready, UpdateDone, Bell, CutText, ColourMapSkipped}
+use Rattle.rfb_server.specs.Told.{ServerTold, Reply as ServerReply, Ready as ServerReady, Key}
+use Rattle.rfb_server.specs.Told.{Pointer, CutText as ClientText}
+use Rattle.rfb_viewer.specs.Told.{ViewerTold, Reply, Ready, UpdateDone, Bell, CutText}
+use Rattle.rfb_viewer.specs.Told.{ColourMapSkipped}
 use Rattle.rfb_viewer.specs.Viewer.{ViewerState}
 use Rattle.rfb_session.specs.Link.{Ends, server_stream, viewer_stream, server_of, Link}
 use Rattle.rfb_session.specs.LinkSteps.{MovesToViewer, MovesToServer}

@@ -17,3 +17,4 @@ pub mod Playing
 pub mod ServeEngine
 pub mod ViewEngine
 pub mod Looking
+pub mod inside

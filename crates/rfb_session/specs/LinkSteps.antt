@@ -1,13 +1,16 @@
 -- The steps of a link, over the screen that its session is lent: calls of the viewer, composings,
 -- and deliveries of any number of bytes either way.
-use Rattle.std.specs.Prelude.{◌≡◌, ℕ, zero, suc, ◌+◌, min, Bool, List, [], ◌∷◌, ◌++◌, map, Option, Some, None, ◌⊎◌, ◌-◌}
+use Rattle.std.specs.Prelude.{◌≡◌, ℕ, zero, suc, ◌+◌, min, Bool, List, [], ◌∷◌, ◌++◌, map, Option}
+use Rattle.std.specs.Prelude.{Some, None, ◌⊎◌, ◌-◌}
 use Rattle.rfb_pixel.specs.declared.colour.Colour.{Colour}
 use Rattle.rfb_pixel.specs.Format.{PixelFormat}
 use Rattle.rfb_picture.specs.declared.rect.Rect.{Rect}
 use Rattle.rfb_picture.specs.Grid.{Grid}
 use Rattle.rfb_wire.specs.declared.encoding.Encoding.{Encoding}
 use Rattle.rfb_wire.specs.Encoding.{number_of}
-use Rattle.rfb_wire.specs.ClientMessage.{ClientMessage, SetPixelFormat, SetEncodings as EncodingsMessage, FramebufferUpdateRequest, KeyEvent, PointerEvent, ClientCutText}
+use Rattle.rfb_wire.specs.ClientMessage.{ClientMessage, SetPixelFormat}
+use Rattle.rfb_wire.specs.ClientMessage.{SetEncodings as EncodingsMessage, FramebufferUpdateRequest}
+use Rattle.rfb_wire.specs.ClientMessage.{KeyEvent, PointerEvent, ClientCutText}
 use Rattle.rfb_wire.specs.ServerMessage.{FramebufferUpdate}
 use Rattle.rfb_wire.specs.stream.Grammar.{sizes, IsWithinFirst}
 use Rattle.rfb_wire.specs.stream.Sequel.{First, Second}
@@ -20,8 +23,10 @@ use Rattle.rfb_server.specs.Composing.{Part, sent_as, Composes, IsDue}
 use Rattle.rfb_viewer.specs.declared.fault.CallFault.{CallFault}
 use Rattle.rfb_viewer.specs.ServerBytes.{FromServer}
 use Rattle.rfb_viewer.specs.Viewer.{ViewerState, viewer}
-use Rattle.rfb_viewer.specs.Calls.{call_refusal, request_refusal, format_refusal, requested, formatted}
-use Rattle.rfb_session.specs.Link.{Ends, server_stream, viewer_stream, SessionState, server_of, session_of, Link}
+use Rattle.rfb_viewer.specs.Calls.{call_refusal, request_refusal, format_refusal, requested}
+use Rattle.rfb_viewer.specs.Calls.{formatted}
+use Rattle.rfb_session.specs.Link.{Ends, server_stream, viewer_stream, SessionState, server_of}
+use Rattle.rfb_session.specs.Link.{session_of, Link}
 use Rattle.rfb_session.specs.Answers.{viewer_replies, server_replies}
 
 -- what happens on a link: the viewer's calls, a composing, and deliveries of at most so many bytes

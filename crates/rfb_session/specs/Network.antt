@@ -4,9 +4,16 @@ use Rattle.rfb_pixel.specs.declared.colour.Colour.{Colour}
 use Rattle.rfb_picture.specs.Grid.{Grid, Holds, filled, copied, with_row}
 use Rattle.rfb_server.specs.Standing.{row_from, HoldsBoth}
 use Rattle.rfb_session.specs.declared.event.Event.{Event}
-use Rattle.rfb_session.specs.declared.event.Event.TheVariants.{Fill, Put, Copy, Hint, Request, SetFormat, SetEncodings, Key, Pointer, CutText, Compose, ToServer, ToViewer}
+use Rattle.rfb_session.specs.declared.event.Event.TheVariants.{Fill, Put, Copy, Hint, Request}
+use Rattle.rfb_session.specs.declared.event.Event.TheVariants.{SetFormat, SetEncodings, Key}
+use Rattle.rfb_session.specs.declared.event.Event.TheVariants.{Pointer, CutText, Compose, ToServer}
+use Rattle.rfb_session.specs.declared.event.Event.TheVariants.{ToViewer}
 use Rattle.rfb_session.specs.Link.{Ends, Link, first_link}
-use Rattle.rfb_session.specs.LinkSteps.{LinkEvent, Request as OfRequest, SetFormat as OfFormat, SetEncodings as OfEncodings, Key as OfKey, Pointer as OfPointer, CutText as OfText, Compose as OfComposing, ToServer as OfServer, ToViewer as OfViewer, LinkSteps}
+use Rattle.rfb_session.specs.LinkSteps.{LinkEvent, Request as OfRequest, SetFormat as OfFormat}
+use Rattle.rfb_session.specs.LinkSteps.{SetEncodings as OfEncodings, Key as OfKey}
+use Rattle.rfb_session.specs.LinkSteps.{Pointer as OfPointer, CutText as OfText}
+use Rattle.rfb_session.specs.LinkSteps.{Compose as OfComposing, ToServer as OfServer}
+use Rattle.rfb_session.specs.LinkSteps.{ToViewer as OfViewer, LinkSteps}
 
 pub record Network : Type 0 where
   pub screen : Grid Colour

@@ -1,16 +1,23 @@
 -- What a step answers: how many bytes it moved, whether it was refused, whether it composed.
-use Rattle.std.specs.Prelude.{◌≡◌, ℕ, min, Bool, true, false, length, Option, Some, None, ◌⊎◌, ◌↔◌, Result, Ok, Err}
+use Rattle.std.specs.Prelude.{◌≡◌, ℕ, min, Bool, true, false, length, Option, Some, None, ◌⊎◌, ◌↔◌}
+use Rattle.std.specs.Prelude.{Result, Ok, Err}
 use Rattle.rfb_picture.specs.Grid.{Holds}
 use Rattle.rfb_server.specs.declared.fault.Outside.{Outside as OutsideFault}
 use Rattle.rfb_server.specs.Composing.{IsDue}
 use Rattle.rfb_server.specs.Standing.{row_from, HoldsBoth}
 use Rattle.rfb_viewer.specs.declared.fault.CallFault.{CallFault}
-use Rattle.rfb_viewer.specs.declared.fault.CallFault.TheVariants.{NotReady as CallNotReady, Busy as CallBusy, AreaOutside as CallOutside}
+use Rattle.rfb_viewer.specs.declared.fault.CallFault.TheVariants.{NotReady as CallNotReady}
+use Rattle.rfb_viewer.specs.declared.fault.CallFault.TheVariants.{Busy as CallBusy}
+use Rattle.rfb_viewer.specs.declared.fault.CallFault.TheVariants.{AreaOutside as CallOutside}
 use Rattle.rfb_viewer.specs.Calls.{call_refusal, request_refusal, format_refusal}
 use Rattle.rfb_session.specs.declared.event.Event.{Event}
-use Rattle.rfb_session.specs.declared.event.Event.TheVariants.{Fill, Put, Copy, Hint, Request, SetFormat, SetEncodings, Key, Pointer, CutText, Compose, ToServer, ToViewer}
+use Rattle.rfb_session.specs.declared.event.Event.TheVariants.{Fill, Put, Copy, Hint, Request}
+use Rattle.rfb_session.specs.declared.event.Event.TheVariants.{SetFormat, SetEncodings, Key}
+use Rattle.rfb_session.specs.declared.event.Event.TheVariants.{Pointer, CutText, Compose, ToServer}
+use Rattle.rfb_session.specs.declared.event.Event.TheVariants.{ToViewer}
 use Rattle.rfb_session.specs.declared.told.Refused.{Refused}
-use Rattle.rfb_session.specs.declared.told.Refused.TheVariants.{Outside, NotReady, Busy, AreaOutside}
+use Rattle.rfb_session.specs.declared.told.Refused.TheVariants.{Outside, NotReady, Busy}
+use Rattle.rfb_session.specs.declared.told.Refused.TheVariants.{AreaOutside}
 use Rattle.rfb_session.specs.declared.told.Told.{Told}
 use Rattle.rfb_session.specs.Link.{Ends, server_of, Link}
 use Rattle.rfb_session.specs.LinkSteps.{begun, flight_to_viewer, flight_to_server}

@@ -1,28 +1,32 @@
 -- What a `World` stands for: a screen, and a link over it.
-use Rattle.std.specs.Prelude.{◌≡◌, ℕ, ◌≤◌, min, Bool, false, List, [], length, drop, Option, None, Some}
+use Rattle.std.specs.Prelude.{◌≡◌, ◌≢◌, ℕ, ◌≤◌, min, Bool, false, List, [], length, drop, Option}
+use Rattle.std.specs.Prelude.{None, Some}
 use Rattle.rfb_pixel.specs.declared.colour.Colour.{Colour}
-use Rattle.rfb_pixel.specs.Format.{PixelFormat}
 use Rattle.rfb_picture.specs.Grid.{Grid}
-use Rattle.rfb_picture.specs.Area.{Places}
 use Rattle.rfb_server.specs.declared.fault.ServerFault.{ServerFault}
+use Rattle.rfb_server.specs.declared.fault.ServerFault.TheVariants.{NoMemory as ServerWants}
 use Rattle.rfb_server.specs.declared.server.Server.{Server}
-use Rattle.rfb_server.specs.Server.{Serving, ServerState, first_server}
-use Rattle.rfb_server.specs.Standing.{StandsFor as ServerStandsFor, with_screen, screen_of, fault_of as fault_of_server}
+use Rattle.rfb_server.specs.Server.{first_server}
+use Rattle.rfb_server.specs.Standing.{StandsFor as ServerStandsFor, with_screen, screen_of}
+use Rattle.rfb_server.specs.Standing.{fault_of as fault_of_server}
 use Rattle.rfb_viewer.specs.declared.fault.ViewerFault.{ViewerFault}
+use Rattle.rfb_viewer.specs.declared.fault.ViewerFault.TheVariants.{NoMemory as ViewerWants}
 use Rattle.rfb_viewer.specs.declared.viewer.Viewer.{Viewer}
 use Rattle.rfb_viewer.specs.Viewer.{first_viewer}
-use Rattle.rfb_viewer.specs.Standing.{StandsFor as ViewerStandsFor, picture_of, fault_of as fault_of_viewer}
+use Rattle.rfb_viewer.specs.Standing.{StandsFor as ViewerStandsFor, picture_of}
+use Rattle.rfb_viewer.specs.Standing.{fault_of as fault_of_viewer}
 use Rattle.rfb_session.specs.declared.event.Event.{Event}
-use Rattle.rfb_session.specs.declared.event.Event.TheVariants.{Fill, Put, Copy, Hint, CutText, ToServer, ToViewer}
+use Rattle.rfb_session.specs.declared.event.Event.TheVariants.{Fill, Put, Copy, Hint, CutText}
+use Rattle.rfb_session.specs.declared.event.Event.TheVariants.{ToServer, ToViewer}
+use Rattle.rfb_session.specs.declared.told.Refused.{Refused}
 use Rattle.rfb_session.specs.declared.told.Told.{Told}
 use Rattle.rfb_session.specs.declared.world.World.{World}
 use Rattle.rfb_session.specs.Latest.{composing_in}
-use Rattle.rfb_session.specs.Link.{Ends, Link, first_link}
-use Rattle.rfb_session.specs.LinkSteps.{MovesToViewer, MovesToServer}
+use Rattle.rfb_session.specs.Link.{Ends, first_link}
 use Rattle.rfb_session.specs.InFlight.{AreMade}
 use Rattle.rfb_session.specs.Carrying.{Carries}
 use Rattle.rfb_session.specs.Network.{Network, Steps, StepsAll, IsReached}
-use Rattle.rfb_session.specs.Told.{Tells}
+use Rattle.rfb_session.specs.Told.{RefusesAs, Tells}
 
 -- ---- what a world is
 
@@ -71,38 +75,6 @@ Does old event told new =
     (e : Ends) (n : Network) → AreMade e → IsReached e n → StandsFor e old n →
     (m : Network) × Steps e n event m × Tells e n event told × StandsFor e new m
 
--- all but the server is as it was
-pub record HasSameLink (old new : World) : Type 0 where
-  pub viewer : new.viewer ≡ old.viewer
-  pub to_server : new.to_server ≡ old.to_server
-  pub to_viewer : new.to_viewer ≡ old.to_viewer
-  pub latest : new.latest ≡ old.latest
-  pub closed : new.closed ≡ old.closed
-
--- these places are asked of a server, whatever it stands for
-abbrev pub AsksFor : Server → Places → Type 0
-AsksFor server asked =
-    (serving : Serving) (s : ServerState) (prefix : List ℕ) →
-    ServerStandsFor serving server s prefix → asked ≡ s.area
-
--- this is its format
-abbrev pub FormatIs : Server → PixelFormat → Type 0
-FormatIs server form =
-    (serving : Serving) (s : ServerState) (prefix : List ℕ) →
-    ServerStandsFor serving server s prefix → form ≡ s.form
-
--- so many bytes reach the viewer
-abbrev pub DeliversToViewer : World → ℕ → World → Type 0
-DeliversToViewer old count new =
-    (e : Ends) (n : Network) → AreMade e → IsReached e n → StandsFor e old n →
-    (l : Link) × MovesToViewer e n.link count l × StandsFor e new (record n { link = l })
-
--- so many bytes reach the server
-abbrev pub DeliversToServer : World → ℕ → World → Type 0
-DeliversToServer old count new =
-    (e : Ends) (n : Network) → AreMade e → IsReached e n → StandsFor e old n →
-    (l : Link) × MovesToServer e n.screen n.link count l × StandsFor e new (record n { link = l })
-
 -- so many bytes leave the channel to an end that has failed, and nothing else changes
 pub record LosesToViewer (old : World) (count : ℕ) (new : World) : Type 0 where
   pub to_viewer : new.to_viewer ≡ drop count old.to_viewer
@@ -142,6 +114,20 @@ IsDrawing (Put x y row) = Unit {0}
 IsDrawing (Copy rect sx sy) = Unit {0}
 IsDrawing (Hint rect sx sy) = Unit {0}
 IsDrawing event = ⊥
+
+-- the event is refused, of a network that the world stands for, reached from a fresh one
+abbrev pub IsRefused : World → Event → Type 0
+IsRefused world event =
+    (e : Ends) × (n : Network) × (refused : Refused)
+    × IsReached e n × StandsFor e world n × RefusesAs n event (Some refused)
+
+-- bytes on their way to an end that has failed, but for want of memory
+abbrev pub IsLost : World → Event → Type 0
+IsLost world (ToServer count) =
+    (fault : ServerFault) × (server_fault world ≡ Some fault) × (fault ≢ ServerWants)
+IsLost world (ToViewer count) =
+    (fault : ViewerFault) × (viewer_fault world ≡ Some fault) × (fault ≢ ViewerWants)
+IsLost world event = ⊥
 
 -- ---- runs
 

@@ -1,6 +1,6 @@
 //! Calls on a world's viewer: their messages are in flight to the server.
 
-ghost use Rattle.std.specs.Prelude.{◌≡◌, ◌≢◌, ◌≤◌, ℕ, length, false, None, Some, IfOk};
+ghost use Rattle.std.specs.Prelude.{◌≡◌, ◌≢◌, ◌≤◌, ℕ, length, false, None, Some, IfOk, IsOk};
 ghost use Rattle.rfb_session.specs.declared.event.Event.TheVariants.{Request, SetFormat};
 ghost use Rattle.rfb_session.specs.declared.event.Event.TheVariants.{SetEncodings, Key, Pointer};
 ghost use Rattle.rfb_session.specs.declared.event.Event.TheVariants.{CutText};
@@ -15,13 +15,14 @@ use rfb_viewer::{CallFault, TextFault};
 use rfb_wire::Encoding;
 
 impl World {
-    ghost use Rattle.rfb_session.specs.World.{Does};
+    ghost use Rattle.rfb_session.specs.World.{Does, IsRefused};
 
     // The viewer asks for an area.
     pub(super) fn request(&mut self, incremental: bool, rect: Rect) -> Result<Told, NoMemory>
         ensures does { IfOk result (λ told.
             Does self.old (Request incremental rect) told self.new) }
         ensures kept { IfOk result (λ told. told.refused ≢ None → self.new ≡ self.old) }
+        ensures spared { IsRefused self.old (Request incremental rect) → IsOk result }
     {
         match self.viewer.request(incremental, rect) {
             Ok(message) => {
@@ -36,6 +37,7 @@ impl World {
     pub(super) fn set_format(&mut self, format: Format) -> Result<Told, NoMemory>
         ensures does { IfOk result (λ told. Does self.old (SetFormat format) told self.new) }
         ensures kept { IfOk result (λ told. told.refused ≢ None → self.new ≡ self.old) }
+        ensures spared { IsRefused self.old (SetFormat format) → IsOk result }
     {
         match self.viewer.set_format(format) {
             Ok(message) => {
@@ -54,6 +56,7 @@ impl World {
         ensures does { IfOk result (λ told.
             Does self.old (SetEncodings encodings.now) told self.new) }
         ensures kept { IfOk result (λ told. told.refused ≢ None → self.new ≡ self.old) }
+        ensures spared { IsRefused self.old (SetEncodings encodings.now) → IsOk result }
     {
         match self.viewer.set_encodings(copy_of(encodings)) {
             Ok(message) => {
@@ -68,6 +71,7 @@ impl World {
     pub(super) fn key(&mut self, down: bool, key: u32) -> Result<Told, NoMemory>
         ensures does { IfOk result (λ told. Does self.old (Key down key) told self.new) }
         ensures kept { IfOk result (λ told. told.refused ≢ None → self.new ≡ self.old) }
+        ensures spared { IsRefused self.old (Key down key) → IsOk result }
     {
         match self.viewer.key(down, key) {
             Ok(message) => {
@@ -82,6 +86,7 @@ impl World {
     pub(super) fn pointer(&mut self, buttons: u8, x: u16, y: u16) -> Result<Told, NoMemory>
         ensures does { IfOk result (λ told. Does self.old (Pointer buttons x y) told self.new) }
         ensures kept { IfOk result (λ told. told.refused ≢ None → self.new ≡ self.old) }
+        ensures spared { IsRefused self.old (Pointer buttons x y) → IsOk result }
     {
         match self.viewer.pointer(buttons, x, y) {
             Ok(message) => {
@@ -97,6 +102,7 @@ impl World {
         requires few { length text.now.items ≤ 1048576 }
         ensures does { IfOk result (λ told. Does self.old (CutText text.now) told self.new) }
         ensures kept { IfOk result (λ told. told.refused ≢ None → self.new ≡ self.old) }
+        ensures spared { IsRefused self.old (CutText text.now) → IsOk result }
     {
         match self.to_server.send_text(&self.viewer, text) {
             Ok(()) => Ok(told_taken()),

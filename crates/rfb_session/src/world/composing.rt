@@ -1,13 +1,13 @@
 //! Composings, and what a world tells of a delivery.
 
-ghost use Rattle.std.specs.Prelude.{◌≡◌, ◌≢◌, ℕ, false, None, IfOk};
+ghost use Rattle.std.specs.Prelude.{◌≡◌, ◌≢◌, ℕ, false, None, IfOk, IsOk};
 ghost use Rattle.rfb_session.specs.declared.event.Event.TheVariants.{Compose, ToServer, ToViewer};
 
 use crate::told::{NoMemory, Told};
 use crate::world::World;
 
 impl World {
-    ghost use Rattle.rfb_session.specs.World.{Does, LosesAs};
+    ghost use Rattle.rfb_session.specs.World.{Does, LosesAs, IsLost};
 
     // The server composes an update, if one is due, and it is in flight then. What it was composed
     // of is noted.
@@ -32,6 +32,7 @@ impl World {
     pub(super) fn move_to_server(&mut self, count: u32) -> Result<Told, NoMemory>
         ensures does { IfOk result (λ told. Does self.old (ToServer count) told self.new) }
         ensures lost { IfOk result (λ told. LosesAs self.old (ToServer count) told self.new) }
+        ensures dropped { IsLost self.old (ToServer count) → IsOk result }
         ensures taken { IfOk result (λ told. told.refused ≡ None) }
     {
         let moved = self.to_server.len().min(count as usize);
@@ -43,6 +44,7 @@ impl World {
     pub(super) fn move_to_viewer(&mut self, count: u32) -> Result<Told, NoMemory>
         ensures does { IfOk result (λ told. Does self.old (ToViewer count) told self.new) }
         ensures lost { IfOk result (λ told. LosesAs self.old (ToViewer count) told self.new) }
+        ensures dropped { IsLost self.old (ToViewer count) → IsOk result }
         ensures taken { IfOk result (λ told. told.refused ≡ None) }
     {
         let moved = self.to_viewer.len().min(count as usize);

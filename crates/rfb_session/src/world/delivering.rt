@@ -1,7 +1,9 @@
 //! Bytes that arrive at an end.
 
 ghost use Rattle.std.specs.Prelude.{◌≡◌, ◌≢◌, ◌≤◌, ◌<◌, ◌+◌, ℕ, List, [], length, drop, Ok, Err};
-ghost use Rattle.std.specs.Prelude.{true, false, Some, None, IfOk, IfErr, OnOk, OnErr, IsErr};
+ghost use Rattle.std.specs.Prelude.{true, false, Some, None, IfOk, IfErr, OnOk, OnErr, IsErr, IsOk};
+ghost use Rattle.rfb_viewer.specs.declared.fault.ViewerFault.TheVariants.{NoMemory as ViewerWants};
+ghost use Rattle.rfb_server.specs.declared.fault.ServerFault.TheVariants.{NoMemory as ServerWants};
 
 use crate::told::NoMemory;
 use crate::world::World;
@@ -11,8 +13,9 @@ use rfb_viewer::{ViewerEvent, ViewerFault};
 impl World {
     ghost use Rattle.rfb_server.specs.declared.fault.ServerFault.{ServerFault};
     ghost use Rattle.rfb_viewer.specs.declared.fault.ViewerFault.{ViewerFault};
-    ghost use Rattle.rfb_session.specs.World.{DeliversToViewer, LosesToViewer, viewer_fault};
-    ghost use Rattle.rfb_session.specs.World.{DeliversToServer, LosesToServer, server_fault};
+    ghost use Rattle.rfb_session.specs.World.{LosesToViewer, viewer_fault};
+    ghost use Rattle.rfb_session.specs.World.{LosesToServer, server_fault};
+    ghost use Rattle.rfb_session.specs.inside.Delivering.{DeliversToViewer, DeliversToServer};
 
     // So many bytes reach the viewer, of those in flight to it. Its answers are in flight then.
     pub(super) fn deliver_to_viewer(&mut self, count: usize) -> Result<(), NoMemory>
@@ -20,6 +23,8 @@ impl World {
         ensures delivered { OnOk result (DeliversToViewer self.old count self.new) }
         ensures lost { (fault : ViewerFault) → viewer_fault self.old ≡ Some fault →
             OnOk result (LosesToViewer self.old count self.new) }
+        ensures dropped { (fault : ViewerFault) → viewer_fault self.old ≡ Some fault →
+            fault ≢ ViewerWants → IsOk result }
     {
         let mut left = count;
         while left > 0 {
@@ -38,6 +43,8 @@ impl World {
         ensures delivered { IfOk result (λ used. DeliversToViewer self.old used self.new) }
         ensures lost { (fault : ViewerFault) → viewer_fault self.old ≡ Some fault →
             IfOk result (λ used. LosesToViewer self.old used self.new) }
+        ensures dropped { (fault : ViewerFault) → viewer_fault self.old ≡ Some fault →
+            fault ≢ ViewerWants → IsOk result }
     {
         match self.viewer.feed(self.to_viewer.first(count)) {
             Ok(fed) => {
@@ -61,6 +68,8 @@ impl World {
         ensures delivered { OnOk result (DeliversToServer self.old count self.new) }
         ensures lost { (fault : ServerFault) → server_fault self.old ≡ Some fault →
             OnOk result (LosesToServer self.old count self.new) }
+        ensures dropped { (fault : ServerFault) → server_fault self.old ≡ Some fault →
+            fault ≢ ServerWants → IsOk result }
     {
         let mut left = count;
         while left > 0 {
@@ -79,6 +88,8 @@ impl World {
         ensures delivered { IfOk result (λ used. DeliversToServer self.old used self.new) }
         ensures lost { (fault : ServerFault) → server_fault self.old ≡ Some fault →
             IfOk result (λ used. LosesToServer self.old used self.new) }
+        ensures dropped { (fault : ServerFault) → server_fault self.old ≡ Some fault →
+            fault ≢ ServerWants → IsOk result }
     {
         match self.server.feed(self.to_server.first(count)) {
             Ok(fed) => {
@@ -98,7 +109,6 @@ impl World {
 }
 
 ghost use Rattle.rfb_viewer.specs.Told.{seen as seen_by_viewer};
-ghost use Rattle.rfb_viewer.specs.declared.fault.ViewerFault.TheVariants.{NoMemory as ViewerNoMemory};
 ghost use Rattle.rfb_session.specs.InFlight.{viewer_reply as reply_of_viewer};
 
 // The bytes that are sent for what a viewer tells.
@@ -118,13 +128,13 @@ fn viewer_reply(event: &Option<ViewerEvent>) -> &[u8]
 
 // Whether it is want of memory that the viewer has failed with.
 fn viewer_wants_memory(fault: ViewerFault) -> bool
-    ensures { result ≡ false → fault ≢ ViewerNoMemory }
+    ensures wants { result ≡ true → fault ≡ ViewerWants }
+    ensures other { result ≡ false → fault ≢ ViewerWants }
 {
     matches!(fault, ViewerFault::NoMemory)
 }
 
 ghost use Rattle.rfb_server.specs.Told.{seen as seen_by_server};
-ghost use Rattle.rfb_server.specs.declared.fault.ServerFault.TheVariants.{NoMemory as ServerNoMemory};
 ghost use Rattle.rfb_session.specs.InFlight.{server_reply as reply_of_server};
 
 // The bytes that are sent for what a server tells.
@@ -143,7 +153,8 @@ fn server_reply(event: &Option<ServerEvent>) -> &[u8]
 
 // Whether it is want of memory that the server has failed with.
 fn server_wants_memory(fault: ServerFault) -> bool
-    ensures { result ≡ false → fault ≢ ServerNoMemory }
+    ensures wants { result ≡ true → fault ≡ ServerWants }
+    ensures other { result ≡ false → fault ≢ ServerWants }
 {
     matches!(fault, ServerFault::NoMemory)
 }

@@ -1,8 +1,9 @@
-use Rattle.std.proofs.Common.{refl, ap, ◌∙◌}
+use Rattle.std.proofs.Common.{◌≡◌, None, refl, ap, ◌∙◌}
 use Rattle.rfb_wire.specs.ClientMessage.{ClientCutText}
+use Rattle.rfb_viewer.specs.Calls.{call_refusal}
 use Rattle.rfb_viewer.specs.Messages.{text_message}
 use Rattle.rfb_session.specs.Told.{refused_as}
-use Rattle.rfb_session.proofs.CalledLemmas.{message_taken}
+use Rattle.rfb_session.proofs.CalledLemmas.{message_taken, not_taken}
 use Rattle.rfb_session.proofs.world.World.cut_text.Goals as goal
 
 pub returns-in-Ok-clause-does : goal.returns-in-Ok-clause-does
@@ -28,3 +29,12 @@ returns-in-Ok-clause-does c = λ e n made reached stands.
       },
       one.2,
     )
+
+pub returns-in-Err-NoMemory-clause-spared : goal.returns-in-Err-NoMemory-clause-spared
+returns-in-Err-NoMemory-clause-spared c = λ refused.
+    let has = refused.4.carries in
+    let refusal = call_refusal refused.1.link.viewer in
+    let is : None ≡ refusal =
+    rw c.in-Err-NoMemory.field-0-is at (c.in-Err-NoMemory.ensures.refusal refused.0.viewing
+    refused.1.link.viewer has.viewer_has has.viewer_is) in
+    absurd (not_taken refusal refused.2 is refused.5)

@@ -1,7 +1,8 @@
-use Rattle.std.proofs.Common.{◌≡◌, ℕ, ◌+◌, ◌-◌, ◌≤◌, ◌<◌, length, length-drop, ap, ◌∙◌, subst, arith}
+use Rattle.std.proofs.Common.{◌≡◌, ℕ, ◌+◌, ◌-◌, ◌≤◌, ◌<◌, length, length-drop, refl, ap, ◌∙◌, subst, arith}
 use Rattle.rfb_server.specs.declared.server.Server.{Server}
 use Rattle.rfb_server.specs.Standing.{fault_of}
-use Rattle.rfb_session.specs.World.{DeliversToServer, LosesToServer}
+use Rattle.rfb_session.specs.inside.Delivering.{DeliversToServer}
+use Rattle.rfb_session.specs.World.{LosesToServer}
 use Rattle.rfb_session.proofs.LossLemmas.{no_server_loss, more_server_loss}
 use Rattle.rfb_session.proofs.WorldLemmas.{server_none, server_more}
 use Rattle.rfb_session.proofs.world.World.deliver_to_server.Goals as goal
@@ -60,4 +61,5 @@ returns c =
           was.delivered;
       lost = λ fault is. subst (λ (k : ℕ). LosesToServer c.args.self.now k c.loop-left.self) all
           (was.lost fault is);
+      dropped = λ fault is other. refl;
     }

@@ -1,6 +1,7 @@
 use Rattle.std.proofs.Common.{◌-◌, ◌≤◌, length, ◌≡◌, Some}
 use Rattle.rfb_server.specs.declared.fault.ServerFault.{ServerFault}
-use Rattle.rfb_session.specs.World.{DeliversToServer, LosesToServer, server_fault}
+use Rattle.rfb_session.specs.inside.Delivering.{DeliversToServer}
+use Rattle.rfb_session.specs.World.{LosesToServer, server_fault}
 use Rattle.rfb_session.proofs.world.World.deliver_to_server.Given as goal
 
 abbrev pub invariant-loop-left : goal.invariant-loop-left

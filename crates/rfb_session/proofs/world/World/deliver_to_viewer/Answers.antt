@@ -1,7 +1,8 @@
-use Rattle.std.proofs.Common.{◌≡◌, ℕ, ◌+◌, ◌-◌, ◌≤◌, ◌<◌, length, length-drop, ap, ◌∙◌, subst, arith}
+use Rattle.std.proofs.Common.{◌≡◌, ℕ, ◌+◌, ◌-◌, ◌≤◌, ◌<◌, length, length-drop, refl, ap, ◌∙◌, subst, arith}
 use Rattle.rfb_viewer.specs.declared.viewer.Viewer.{Viewer}
 use Rattle.rfb_viewer.specs.Standing.{fault_of}
-use Rattle.rfb_session.specs.World.{DeliversToViewer, LosesToViewer}
+use Rattle.rfb_session.specs.inside.Delivering.{DeliversToViewer}
+use Rattle.rfb_session.specs.World.{LosesToViewer}
 use Rattle.rfb_session.proofs.LossLemmas.{no_viewer_loss, more_viewer_loss}
 use Rattle.rfb_session.proofs.WorldLemmas.{viewer_none, viewer_more}
 use Rattle.rfb_session.proofs.world.World.deliver_to_viewer.Goals as goal
@@ -60,4 +61,5 @@ returns c =
           was.delivered;
       lost = λ fault is. subst (λ (k : ℕ). LosesToViewer c.args.self.now k c.loop-left.self) all
           (was.lost fault is);
+      dropped = λ fault is other. refl;
     }

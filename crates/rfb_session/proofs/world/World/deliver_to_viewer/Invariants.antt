@@ -1,6 +1,7 @@
 use Rattle.std.proofs.Common.{◌-◌, ◌≤◌, length, ◌≡◌, Some}
 use Rattle.rfb_viewer.specs.declared.fault.ViewerFault.{ViewerFault}
-use Rattle.rfb_session.specs.World.{DeliversToViewer, LosesToViewer, viewer_fault}
+use Rattle.rfb_session.specs.inside.Delivering.{DeliversToViewer}
+use Rattle.rfb_session.specs.World.{LosesToViewer, viewer_fault}
 use Rattle.rfb_session.proofs.world.World.deliver_to_viewer.Given as goal
 
 abbrev pub invariant-loop-left : goal.invariant-loop-left

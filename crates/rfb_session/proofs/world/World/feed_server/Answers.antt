@@ -15,7 +15,7 @@ pub returns-else-server_wants_memory-clause-delivered :
     goal.returns-else-server_wants_memory-clause-delivered
 returns-else-server_wants_memory-clause-delivered c =
     server_never c.args.self.now _ c.first.result.now c.args.count c.in-Err.fault c.first.ensures
-    (c.in-Err.ensures.fault (c.server_wants_memory.ensures c.if-server_wants_memory.false))
+    (c.in-Err.ensures.fault (c.server_wants_memory.ensures.other c.if-server_wants_memory.false))
 
 pub returns-else-server_wants_memory-clause-lost : goal.returns-else-server_wants_memory-clause-lost
 returns-else-server_wants_memory-clause-lost c = λ fault is. record {

@@ -15,7 +15,7 @@ pub returns-else-viewer_wants_memory-clause-delivered :
     goal.returns-else-viewer_wants_memory-clause-delivered
 returns-else-viewer_wants_memory-clause-delivered c =
     viewer_never c.args.self.now _ c.first.result.now c.args.count c.in-Err.fault c.first.ensures
-    (c.in-Err.ensures.fault (c.viewer_wants_memory.ensures c.if-viewer_wants_memory.false))
+    (c.in-Err.ensures.fault (c.viewer_wants_memory.ensures.other c.if-viewer_wants_memory.false))
 
 pub returns-else-viewer_wants_memory-clause-lost : goal.returns-else-viewer_wants_memory-clause-lost
 returns-else-viewer_wants_memory-clause-lost c = λ fault is. record {

@@ -2,7 +2,8 @@ use Rattle.std.proofs.Common.{Result, Ok, Err, IfOk, sym, subst}
 use Rattle.rfb_session.specs.declared.event.Event.{Event}
 use Rattle.rfb_session.specs.declared.told.NoMemory.{NoMemory}
 use Rattle.rfb_session.specs.declared.told.Told.{Told}
-use Rattle.rfb_session.specs.World.{Does, LosesAs, IsDrawing}
+use Rattle.rfb_session.specs.World.{Does, LosesAs, IsDrawing, IsRefused, IsLost}
+use Rattle.rfb_session.proofs.CalledLemmas.{no_refusal}
 use Rattle.rfb_session.proofs.world.World.happen.Goals as goal
 
 nothing : (result : Result Told NoMemory) → IfOk result (λ told. Unit {0})
@@ -181,3 +182,78 @@ returns-in-ToServer-clause-free c =
 pub returns-in-ToViewer-clause-free : goal.returns-in-ToViewer-clause-free
 returns-in-ToViewer-clause-free c =
     λ drawing. absurd (subst (λ (event : Event). IsDrawing event) c.in-ToViewer.is drawing)
+
+pub returns-in-Request-clause-spared : goal.returns-in-Request-clause-spared
+returns-in-Request-clause-spared c = λ refused. c.request.ensures.spared
+    (subst (λ (event : Event). IsRefused c.args.self.now event) c.in-Request.is refused)
+
+pub returns-in-SetFormat-clause-spared : goal.returns-in-SetFormat-clause-spared
+returns-in-SetFormat-clause-spared c = λ refused. c.set_format.ensures.spared
+    (subst (λ (event : Event). IsRefused c.args.self.now event) c.in-SetFormat.is refused)
+
+pub returns-in-SetEncodings-clause-spared : goal.returns-in-SetEncodings-clause-spared
+returns-in-SetEncodings-clause-spared c = λ refused. c.set_encodings.ensures.spared
+    (subst (λ (event : Event). IsRefused c.args.self.now event) c.in-SetEncodings.is refused)
+
+pub returns-in-Key-clause-spared : goal.returns-in-Key-clause-spared
+returns-in-Key-clause-spared c = λ refused. c.key.ensures.spared
+    (subst (λ (event : Event). IsRefused c.args.self.now event) c.in-Key.is refused)
+
+pub returns-in-Pointer-clause-spared : goal.returns-in-Pointer-clause-spared
+returns-in-Pointer-clause-spared c = λ refused. c.pointer.ensures.spared
+    (subst (λ (event : Event). IsRefused c.args.self.now event) c.in-Pointer.is refused)
+
+pub returns-in-CutText-clause-spared : goal.returns-in-CutText-clause-spared
+returns-in-CutText-clause-spared c = λ refused. c.cut_text.ensures.spared
+    (subst (λ (event : Event). IsRefused c.args.self.now event) c.in-CutText.is refused)
+
+pub returns-in-Compose-clause-spared : goal.returns-in-Compose-clause-spared
+returns-in-Compose-clause-spared c = λ refused.
+    let is = subst (λ (event : Event). IsRefused c.args.self.now event) c.in-Compose.is refused in
+    absurd (no_refusal is.2 is.5)
+
+pub returns-in-ToServer-clause-spared : goal.returns-in-ToServer-clause-spared
+returns-in-ToServer-clause-spared c = λ refused.
+    let is = subst (λ (event : Event). IsRefused c.args.self.now event) c.in-ToServer.is refused in
+    absurd (no_refusal is.2 is.5)
+
+pub returns-in-ToViewer-clause-spared : goal.returns-in-ToViewer-clause-spared
+returns-in-ToViewer-clause-spared c = λ refused.
+    let is = subst (λ (event : Event). IsRefused c.args.self.now event) c.in-ToViewer.is refused in
+    absurd (no_refusal is.2 is.5)
+
+pub returns-in-Request-clause-dropped : goal.returns-in-Request-clause-dropped
+returns-in-Request-clause-dropped c = λ lost.
+    absurd (subst (λ (event : Event). IsLost c.args.self.now event) c.in-Request.is lost)
+
+pub returns-in-SetFormat-clause-dropped : goal.returns-in-SetFormat-clause-dropped
+returns-in-SetFormat-clause-dropped c = λ lost.
+    absurd (subst (λ (event : Event). IsLost c.args.self.now event) c.in-SetFormat.is lost)
+
+pub returns-in-SetEncodings-clause-dropped : goal.returns-in-SetEncodings-clause-dropped
+returns-in-SetEncodings-clause-dropped c = λ lost.
+    absurd (subst (λ (event : Event). IsLost c.args.self.now event) c.in-SetEncodings.is lost)
+
+pub returns-in-Key-clause-dropped : goal.returns-in-Key-clause-dropped
+returns-in-Key-clause-dropped c = λ lost.
+    absurd (subst (λ (event : Event). IsLost c.args.self.now event) c.in-Key.is lost)
+
+pub returns-in-Pointer-clause-dropped : goal.returns-in-Pointer-clause-dropped
+returns-in-Pointer-clause-dropped c = λ lost.
+    absurd (subst (λ (event : Event). IsLost c.args.self.now event) c.in-Pointer.is lost)
+
+pub returns-in-CutText-clause-dropped : goal.returns-in-CutText-clause-dropped
+returns-in-CutText-clause-dropped c = λ lost.
+    absurd (subst (λ (event : Event). IsLost c.args.self.now event) c.in-CutText.is lost)
+
+pub returns-in-Compose-clause-dropped : goal.returns-in-Compose-clause-dropped
+returns-in-Compose-clause-dropped c = λ lost.
+    absurd (subst (λ (event : Event). IsLost c.args.self.now event) c.in-Compose.is lost)
+
+pub returns-in-ToServer-clause-dropped : goal.returns-in-ToServer-clause-dropped
+returns-in-ToServer-clause-dropped c = λ lost. c.move_to_server.ensures.dropped
+    (subst (λ (event : Event). IsLost c.args.self.now event) c.in-ToServer.is lost)
+
+pub returns-in-ToViewer-clause-dropped : goal.returns-in-ToViewer-clause-dropped
+returns-in-ToViewer-clause-dropped c = λ lost. c.move_to_viewer.ensures.dropped
+    (subst (λ (event : Event). IsLost c.args.self.now event) c.in-ToViewer.is lost)

@@ -2,7 +2,7 @@ use Rattle.std.proofs.Common.{refl, ap, ◌∙◌}
 use Rattle.rfb_wire.specs.ClientMessage.{FramebufferUpdateRequest}
 use Rattle.rfb_viewer.specs.Calls.{requested}
 use Rattle.rfb_session.specs.Told.{refused_as}
-use Rattle.rfb_session.proofs.CalledLemmas.{request_taken, refused}
+use Rattle.rfb_session.proofs.CalledLemmas.{request_taken, refused, not_taken}
 use Rattle.rfb_session.proofs.world.World.request.Goals as goal
 
 pub returns-in_ok-send-in-Ok-clause-does : goal.returns-in_ok-send-in-Ok-clause-does
@@ -46,3 +46,9 @@ returns-in-Err-clause-does c = λ e n made reached stands.
       },
       one.2,
     )
+
+pub returns-in_err-send-in-Ok-clause-spared : goal.returns-in_err-send-in-Ok-clause-spared
+returns-in_err-send-in-Ok-clause-spared c = λ refused.
+    let has = refused.4.carries in
+    let is = c.in-Ok.ensures.refusal refused.0.viewing refused.1.link.viewer has.viewer_has has.viewer_is in
+    absurd (not_taken _ refused.2 is refused.5)

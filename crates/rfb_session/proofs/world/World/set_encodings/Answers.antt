@@ -3,7 +3,7 @@ use Rattle.rfb_wire.specs.declared.encoding.Encoding.{Encoding}
 use Rattle.rfb_wire.specs.Encoding.{number_of}
 use Rattle.rfb_wire.specs.ClientMessage.{SetEncodings, SpellsClientMessage}
 use Rattle.rfb_session.specs.Told.{refused_as}
-use Rattle.rfb_session.proofs.CalledLemmas.{message_taken}
+use Rattle.rfb_session.proofs.CalledLemmas.{message_taken, not_taken}
 use Rattle.rfb_session.proofs.world.World.set_encodings.Goals as goal
 
 pub returns-in_ok-send-in-Ok-clause-does : goal.returns-in_ok-send-in-Ok-clause-does
@@ -33,3 +33,9 @@ returns-in_ok-send-in-Ok-clause-does c = λ e n made reached stands.
       },
       one.2,
     )
+
+pub returns-in_err-send-in-Ok-clause-spared : goal.returns-in_err-send-in-Ok-clause-spared
+returns-in_err-send-in-Ok-clause-spared c = λ refused.
+    let has = refused.4.carries in
+    let is = c.in-Ok.ensures.refusal refused.0.viewing refused.1.link.viewer has.viewer_has has.viewer_is in
+    absurd (not_taken _ refused.2 is refused.5)

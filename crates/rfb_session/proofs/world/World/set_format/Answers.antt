@@ -2,7 +2,7 @@ use Rattle.std.proofs.Common.{refl, ap, ◌∙◌}
 use Rattle.rfb_wire.specs.ClientMessage.{SetPixelFormat}
 use Rattle.rfb_viewer.specs.Calls.{formatted}
 use Rattle.rfb_session.specs.Told.{refused_as}
-use Rattle.rfb_session.proofs.CalledLemmas.{format_taken, format_same, refused}
+use Rattle.rfb_session.proofs.CalledLemmas.{format_taken, format_same, refused, not_taken}
 use Rattle.rfb_session.proofs.world.World.set_format.Goals as goal
 
 pub returns-in_ok-send-in-Ok-clause-does : goal.returns-in_ok-send-in-Ok-clause-does
@@ -47,3 +47,10 @@ returns-in-Err-clause-does c = λ e n made reached stands.
       },
       one.2,
     )
+
+pub returns-in_err-send-in-Ok-clause-spared : goal.returns-in_err-send-in-Ok-clause-spared
+returns-in_err-send-in-Ok-clause-spared c = λ refused.
+    let has = refused.4.carries in
+    let is = (c.in-Ok.ensures.refusal refused.0.viewing refused.1.link.viewer has.viewer_has has.viewer_is)
+    ∙ format_same refused.0 c.args.self.now refused.1 refused.4 refused.3 in
+    absurd (not_taken _ refused.2 is refused.5)

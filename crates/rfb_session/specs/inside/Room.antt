@@ -1,0 +1,12 @@
+-- The room of a `Latest`.
+use Rattle.std.specs.Prelude.{◌≡◌, ℕ}
+use Rattle.rfb_session.specs.declared.latest.Latest.{Latest}
+
+-- it has room for what is composed of a screen of that size
+pub record HasRoom (latest : Latest) (width height : ℕ) : Type 0 where
+  pub columns : latest.screen.width ≡ width
+  pub rows : latest.screen.height ≡ height
+  pub area_columns : latest.area.asked.width ≡ width
+  pub area_rows : latest.area.asked.height ≡ height
+  pub asked_columns : latest.asked.asked.width ≡ width
+  pub asked_rows : latest.asked.asked.height ≡ height
