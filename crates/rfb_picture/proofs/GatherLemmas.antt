@@ -6,8 +6,9 @@ use Rattle.std.proofs.Math.Nat.{one-mul, pow-suc}
 use Rattle.std.proofs.lemmas.Bool.{cases_lt, cases_eq, both_ways}
 use Rattle.std.proofs.lemmas.Nat.{leading_top, le-div, div_below, pow_pos}
 use Rattle.std.proofs.lemmas.Nat.Bits.{bit_at-trailing_zeros, bit_at_above, bit_at-zero}
-use Rattle.rfb_picture.specs.Plane.{has_bit, has_masked}
-use Rattle.rfb_picture.specs.Edges.{HasMark, IsFirstRow, IsLastRow, IsGathered}
+use Rattle.rfb_picture.specs.Places.{has_bit}
+use Rattle.rfb_picture.specs.inside.Plane.{has_masked}
+use Rattle.rfb_picture.specs.inside.Edges.{HasMark, IsFirstRow, IsLastRow, IsGathered}
 use Rattle.rfb_picture.proofs.WordLemmas.{has_bit-and}
 
 -- ---- one word

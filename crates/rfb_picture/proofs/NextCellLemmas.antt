@@ -8,12 +8,13 @@ use Rattle.rfb_picture.specs.declared.edges.Edges.{Edges}
 use Rattle.rfb_picture.specs.declared.place_set.layers.Layers.{Layers}
 use Rattle.rfb_picture.specs.Rect.{contains}
 use Rattle.rfb_picture.specs.Box.{is_in}
-use Rattle.rfb_picture.specs.Edges.{IsEdges}
-use Rattle.rfb_picture.specs.Places.{NoneInRow, IsNext, AreRowsClear}
-use Rattle.rfb_picture.specs.Cells.{cells_in, in_column, in_row}
-use Rattle.rfb_picture.specs.CellOrder.{NoneInCells, HasPlaceIn, HasNextCell, HasCandidate}
-use Rattle.rfb_picture.specs.PlaceSet.{in_set, layered, IsLayers, NoneOpen, IsNextOpen, HasNextOpen}
-use Rattle.rfb_picture.specs.Plane.{AreUnused, IsPlane, plane}
+use Rattle.rfb_picture.specs.inside.Edges.{IsEdges}
+use Rattle.rfb_picture.specs.Places.{NoneInRow}
+use Rattle.rfb_picture.specs.inside.Marks.{IsNext, AreRowsClear}
+use Rattle.rfb_picture.specs.CellOrder.{cells_in, NoneInCells, HasPlaceIn, HasNextCell, HasCandidate}
+use Rattle.rfb_picture.specs.inside.Cells.{in_column, in_row}
+use Rattle.rfb_picture.specs.inside.PlaceSet.{in_set, layered, IsLayers, NoneOpen, IsNextOpen, HasNextOpen}
+use Rattle.rfb_picture.specs.inside.Plane.{AreUnused, IsPlane, plane}
 use Rattle.rfb_picture.proofs.GridLemmas.{contains_true, contains_row}
 use Rattle.rfb_picture.proofs.PlaneLemmas.{at-plane, column_below, same_across}
 use Rattle.rfb_picture.proofs.TakenWordLemmas.{none_in_word}
@@ -51,7 +52,7 @@ row_none l from row start to begins room none before =
       ]
     ]
 
--- nor are those of rows behind it that are clear
+-- nor are those of rows after it that are clear
 pub rows_none : (l : Layers) (from row next : ℕ) →
     NoneOpen l from (row * l.full.width + l.full.width) →
     AreRowsClear (λ i j. is_in l.full i j || is_in l.used i j) l.full.width (row + 1) next →

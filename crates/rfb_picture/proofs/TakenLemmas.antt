@@ -7,9 +7,10 @@ use Rattle.rfb_picture.specs.declared.place_set.layers.Layers.{Layers}
 use Rattle.rfb_picture.specs.Rect.{contains}
 use Rattle.rfb_picture.specs.Grid.{filled}
 use Rattle.rfb_picture.specs.Box.{is_in}
-use Rattle.rfb_picture.specs.Places.{without, without_in, AreRowsClear}
-use Rattle.rfb_picture.specs.Cells.{cell_at, one_cell, in_column, in_row}
-use Rattle.rfb_picture.specs.PlaceSet.{in_set, in_part, layered, IsLayers, AreAlike, IsSpread, HasLost}
+use Rattle.rfb_picture.specs.Places.{without}
+use Rattle.rfb_picture.specs.inside.Marks.{without_in, AreRowsClear}
+use Rattle.rfb_picture.specs.inside.Cells.{cell_at, one_cell, in_column, in_row}
+use Rattle.rfb_picture.specs.inside.PlaceSet.{in_set, in_part, layered, IsLayers, AreAlike, IsSpread, HasLost}
 use Rattle.rfb_picture.proofs.GridLemmas.{contains_true, contains_row, width-changed, height-changed, whole-changed, at-changed, at-filled}
 use Rattle.rfb_picture.proofs.WordLemmas.{cases_place}
 use Rattle.rfb_picture.proofs.TakenWordLemmas.{and_true}

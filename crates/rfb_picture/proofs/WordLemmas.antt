@@ -8,7 +8,8 @@ use Rattle.std.proofs.lemmas.Nat.Bits.{bit_at_and, bit_at_or, bit_at-lt, bit_at_
 use Rattle.std.proofs.lemmas.List.{get_or-set_same, get_or-set_other}
 use Rattle.rfb_picture.specs.declared.rect.Rect.{Rect}
 use Rattle.rfb_picture.specs.Rect.{contains}
-use Rattle.rfb_picture.specs.Plane.{has_bit, has_at}
+use Rattle.rfb_picture.specs.Places.{has_bit}
+use Rattle.rfb_picture.specs.inside.Plane.{has_at}
 
 -- ---- one word
 

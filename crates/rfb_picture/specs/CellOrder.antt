@@ -1,9 +1,13 @@
 -- Cells in reading order, row by row from the top left, and the next of them in which a set has a
 -- place.
 use Rattle.std.specs.Prelude.{ℕ, Bool, true, false, ◌≡◌, ◌+◌, ◌*◌, ◌/◌, ◌<◌, ◌≤◌, ◌&&◌, Option, MatchOption}
-use Rattle.rfb_picture.specs.Cells.{cells_in}
+use Rattle.std.specs.Int.{div_ceil}
 
--- the number of a place's cell, where a row has so many cells
+-- how many cells a row of n places needs; the last may be smaller
+abbrev pub cells_in : ℕ → ℕ
+cells_in n = div_ceil n 64
+
+-- the number of a place's cell, where a row has that many cells
 abbrev pub cell_of : ℕ → ℕ → ℕ → ℕ
 cell_of across x y = y / 64 * across + x / 64
 

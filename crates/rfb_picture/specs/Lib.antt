@@ -1,12 +1,8 @@
 pub mod Rect
 pub mod Grid
 pub mod Loan
-pub mod Runs
-pub mod Plane
 pub mod Box
 pub mod Places
-pub mod Cells
 pub mod CellOrder
-pub mod PlaceSet
-pub mod Edges
 pub mod Area
+pub mod inside

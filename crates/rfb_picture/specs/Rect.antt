@@ -10,6 +10,6 @@ contains r x y = nat_le r.x x && nat_lt x (r.x + r.w) && nat_le r.y y && nat_lt 
 abbrev pub rect : ℕ → ℕ → ℕ → ℕ → Rect
 rect x y w h = record { x = x; y = y; w = w; h = h }
 
--- the rectangle of the same size, so many columns further to the right and rows further down
+-- the rectangle of the same size, x columns further to the right and y rows further down
 abbrev pub moved_by : ℕ → ℕ → Rect → Rect
 moved_by x y r = rect (x + r.x) (y + r.y) r.w r.h

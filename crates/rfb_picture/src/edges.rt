@@ -1,10 +1,10 @@
 //! The outermost of the places whose bits are set in rows of words.
 
 ghost use Rattle.std.specs.Prelude.{◌≡◌, ◌+◌, ◌*◌, ◌/◌, ◌^◌, ◌<◌, ◌≤◌, length};
-ghost use Rattle.rfb_picture.specs.Plane.{has_place, has_masked};
-ghost use Rattle.rfb_picture.specs.Edges.{edges_of, rect_of, HasEdges, JoinsTo};
-ghost use Rattle.rfb_picture.specs.Edges.{HasMark, HasFirstRow, IsLastRow};
-ghost use Rattle.rfb_picture.specs.Edges.{HasAllBits, HasNoOtherBits, HasGathered};
+ghost use Rattle.rfb_picture.specs.inside.Plane.{has_place, has_masked};
+ghost use Rattle.rfb_picture.specs.inside.Edges.{edges_of, rect_of, HasEdges, JoinsTo, HasMark};
+ghost use Rattle.rfb_picture.specs.inside.Edges.{HasFirstRow, IsLastRow, HasAllBits};
+ghost use Rattle.rfb_picture.specs.inside.Edges.{HasNoOtherBits, HasGathered};
 
 use crate::rect::Rect;
 use crate::words::columns_between;

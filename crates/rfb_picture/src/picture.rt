@@ -3,7 +3,7 @@
 ghost use Rattle.std.specs.Prelude.{◌≡◌, ℕ, ◌+◌, ◌*◌, ◌<◌, ◌≤◌, ◌↔◌, length, slice_index_or, IfOk};
 ghost use Rattle.std.specs.Prelude.{IsTrue};
 ghost use Rattle.std.specs.Borrow.{sem};
-ghost use Rattle.rfb_picture.specs.Runs.{RowsFilled, RunFilled, RunPut};
+ghost use Rattle.rfb_picture.specs.inside.Runs.{RowsFilled, RunFilled, RunPut};
 
 mod copying;
 #[cfg(test)]

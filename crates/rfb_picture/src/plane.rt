@@ -1,6 +1,7 @@
 //! A mark for each place of a picture, or for each of its cells.
 
-ghost use Rattle.std.specs.Prelude.{◌≡◌, ◌↔◌, ◌+◌, ◌*◌, ◌/◌, ◌%◌, ◌<◌, ◌≤◌, ◌||◌, false, true, IfOk};
+ghost use Rattle.std.specs.Prelude.{◌≡◌, ◌↔◌, ◌+◌, ◌*◌, ◌/◌, ◌%◌, ◌<◌, ◌≤◌, ◌||◌, false, true};
+ghost use Rattle.std.specs.Prelude.{IfOk};
 ghost use Rattle.std.specs.Prelude.{IsTrue};
 
 use crate::edges::{Edges, edges_in};
@@ -34,7 +35,7 @@ impl Model for Plane {
     ghost use Rattle.std.specs.Coded.{coded_bool};
     ghost use Rattle.std.specs.Box.{boxed_slice_items};
     ghost use Rattle.rfb_picture.specs.Grid.{Grid, grid_code};
-    ghost use Rattle.rfb_picture.specs.Plane.{plane, IsSpanned};
+    ghost use Rattle.rfb_picture.specs.inside.Plane.{plane, IsSpanned};
 
     ghost Value = { Grid Bool };
 
@@ -49,9 +50,10 @@ impl Model for Plane {
 impl Plane {
     ghost use Rattle.rfb_picture.specs.Grid.{IsGrid, Holds, at_or, filled, uniform};
     ghost use Rattle.rfb_picture.specs.Box.{is_in};
-    ghost use Rattle.rfb_picture.specs.Edges.{HasEdges};
-    ghost use Rattle.rfb_picture.specs.Cells.{cell_at, one_cell};
-    ghost use Rattle.rfb_picture.specs.Places.{AllMarked, HasRowBits, HasNext, AreRowsClear, without, without_in};
+    ghost use Rattle.rfb_picture.specs.inside.Edges.{HasEdges};
+    ghost use Rattle.rfb_picture.specs.inside.Cells.{cell_at, one_cell};
+    ghost use Rattle.rfb_picture.specs.Places.{AllMarked, HasRowBits, without};
+    ghost use Rattle.rfb_picture.specs.inside.Marks.{HasNext, AreRowsClear, without_in};
 
     /// No mark, at `width` by `height` places. It asks for room for all its bits, in one piece;
     /// where there is none it gives the error, and nothing is kept.

@@ -1,9 +1,11 @@
 //! Rows of words, each with a bit for 64 places: the lowest for the leftmost.
 
 ghost use Rattle.std.specs.Prelude.{◌≡◌, ◌↔◌, ◌+◌, ◌*◌, ◌^◌, ◌<◌, ◌≤◌, length, IsTrue};
-ghost use Rattle.rfb_picture.specs.Plane.{has_place, HasMasked, PlacesAdded, IsBetween};
-ghost use Rattle.rfb_picture.specs.Plane.{ColumnAdded, ColumnCleared, ColumnLost, RowsLost, AreUnused};
-ghost use Rattle.rfb_picture.specs.Places.{AllMarked, HasNext};
+ghost use Rattle.rfb_picture.specs.inside.Plane.{has_place, HasMasked, PlacesAdded, IsBetween};
+ghost use Rattle.rfb_picture.specs.inside.Plane.{ColumnAdded, ColumnCleared, ColumnLost, RowsLost};
+ghost use Rattle.rfb_picture.specs.inside.Plane.{AreUnused};
+ghost use Rattle.rfb_picture.specs.Places.{AllMarked};
+ghost use Rattle.rfb_picture.specs.inside.Marks.{HasNext};
 
 use crate::rect::Rect;
 

@@ -1,7 +1,7 @@
 //! Copies of rows within one list of places, which may lie over one another.
 
 ghost use Rattle.std.specs.Prelude.{◌+◌, ◌*◌, ◌≤◌, length};
-ghost use Rattle.rfb_picture.specs.Runs.{RowsCopied, RunCopied};
+ghost use Rattle.rfb_picture.specs.inside.Runs.{RowsCopied, RunCopied};
 
 use crate::rect::Rect;
 

@@ -2,8 +2,8 @@
 
 ghost use Rattle.std.specs.Prelude.{◌≡◌, ◌+◌, ◌-◌, ◌<◌, ◌≤◌};
 ghost use Rattle.rfb_picture.specs.Grid.{Holds};
-ghost use Rattle.rfb_picture.specs.Cells.{one_cell};
-ghost use Rattle.rfb_picture.specs.PlaceSet.{IsLayers, IsOpened};
+ghost use Rattle.rfb_picture.specs.inside.Cells.{one_cell};
+ghost use Rattle.rfb_picture.specs.inside.PlaceSet.{IsLayers, IsOpened};
 
 use crate::plane::Plane;
 use crate::rect::Rect;

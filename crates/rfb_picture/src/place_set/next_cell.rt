@@ -2,9 +2,8 @@
 
 ghost use Rattle.std.specs.Prelude.{◌≡◌, ◌+◌, ◌*◌, ◌<◌, true};
 ghost use Rattle.std.specs.Bool.{OnTrue, OnFalse};
-ghost use Rattle.rfb_picture.specs.CellOrder.{NoneInCells, HasPlaceIn, HasNextCell};
-ghost use Rattle.rfb_picture.specs.Cells.{cells_in};
-ghost use Rattle.rfb_picture.specs.PlaceSet.{in_set, IsLayers, HasNextOpen};
+ghost use Rattle.rfb_picture.specs.CellOrder.{NoneInCells, HasPlaceIn, HasNextCell, cells_in};
+ghost use Rattle.rfb_picture.specs.inside.PlaceSet.{in_set, IsLayers, HasNextOpen};
 
 use super::layers::Layers;
 use super::parts::{in_column, in_row};

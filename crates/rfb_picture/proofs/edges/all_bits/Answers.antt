@@ -1,6 +1,6 @@
 use Rattle.std.proofs.Common.{◌+◌, ◌*◌, slice_index_or, arith, inl, inr}
 use Rattle.std.proofs.lemmas.Bool.{cases_eq, or_cases, or_left, or_right}
-use Rattle.rfb_picture.specs.Plane.{has_bit}
+use Rattle.rfb_picture.specs.Places.{has_bit}
 use Rattle.rfb_picture.proofs.WordLemmas.{has_bit-or}
 use Rattle.rfb_picture.proofs.edges.all_bits.Goals as goal
 

@@ -1,5 +1,6 @@
 use Rattle.std.proofs.Common.{ℕ, true, ◌≡◌, ◌<◌, ◌≤◌}
-use Rattle.rfb_picture.specs.Plane.{has_bit, has_at}
+use Rattle.rfb_picture.specs.Places.{has_bit}
+use Rattle.rfb_picture.specs.inside.Plane.{has_at}
 use Rattle.rfb_picture.proofs.edges.all_bits.Given as goal
 
 -- the bits are those of the rows so far

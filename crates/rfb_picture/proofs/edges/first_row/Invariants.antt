@@ -1,5 +1,5 @@
-use Rattle.rfb_picture.specs.Plane.{has_masked}
-use Rattle.rfb_picture.specs.Edges.{NoMarks}
+use Rattle.rfb_picture.specs.inside.Plane.{has_masked}
+use Rattle.rfb_picture.specs.inside.Edges.{NoMarks}
 use Rattle.rfb_picture.proofs.edges.first_row.Given as goal
 
 -- the rows so far have no mark

@@ -1,5 +1,6 @@
 use Rattle.std.proofs.Common.{◌≡◌, ℕ, ◌<◌, ◌&&◌, ◌||◌, nat_eq, nat_le, nat_lt}
-use Rattle.rfb_picture.specs.Plane.{has_bit, has_at}
+use Rattle.rfb_picture.specs.Places.{has_bit}
+use Rattle.rfb_picture.specs.inside.Plane.{has_at}
 use Rattle.rfb_picture.proofs.words.add_column.Given as goal
 
 -- the rows so far have the mask's bits too

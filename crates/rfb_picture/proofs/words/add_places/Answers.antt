@@ -1,4 +1,5 @@
-use Rattle.rfb_picture.specs.Plane.{has_bit, has_at}
+use Rattle.rfb_picture.specs.Places.{has_bit}
+use Rattle.rfb_picture.specs.inside.Plane.{has_at}
 use Rattle.rfb_picture.proofs.WordLemmas.{one_column_more}
 use Rattle.rfb_picture.proofs.words.add_places.Goals as goal
 

@@ -1,5 +1,5 @@
 use Rattle.std.proofs.Common.{◌≡◌, ℕ, ◌<◌, ◌&&◌, false, nat_eq, nat_le, nat_lt, if◌then◌else◌}
-use Rattle.rfb_picture.specs.Plane.{has_at}
+use Rattle.rfb_picture.specs.inside.Plane.{has_at}
 use Rattle.rfb_picture.proofs.words.clear_column.Given as goal
 
 -- the rows so far have no bit in that word

@@ -1,5 +1,5 @@
 use Rattle.std.proofs.Common.{◌≡◌, ℕ, ◌<◌, ◌&&◌, not, nat_eq, nat_le, nat_lt}
-use Rattle.rfb_picture.specs.Plane.{has_at}
+use Rattle.rfb_picture.specs.inside.Plane.{has_at}
 use Rattle.rfb_picture.proofs.words.take_column.Given as goal
 
 -- the rows so far lost the other's bits

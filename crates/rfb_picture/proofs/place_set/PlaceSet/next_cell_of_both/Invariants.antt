@@ -1,7 +1,6 @@
 use Rattle.std.proofs.Common.{◌≤◌, ◌-◌, ◌*◌, ◌&&◌}
 use Rattle.rfb_picture.specs.Box.{is_in}
-use Rattle.rfb_picture.specs.Cells.{cells_in}
-use Rattle.rfb_picture.specs.CellOrder.{NoneInCells}
+use Rattle.rfb_picture.specs.CellOrder.{cells_in, NoneInCells}
 use Rattle.rfb_picture.proofs.place_set.PlaceSet.next_cell_of_both.Given as goal
 
 -- the cells so far have no place that is in both

@@ -2,7 +2,7 @@ use Rattle.std.proofs.Common.{false, ◌+◌, ◌*◌, ◌/◌, ◌%◌, arith, 
 use Rattle.rfb_picture.proofs.PlaneLemmas.{at-plane, place_word_below}
 use Rattle.std.proofs.lemmas.Nat.Bits.{shr_and_one}
 use Rattle.std.proofs.lemmas.List.{get_or_read}
-use Rattle.rfb_picture.specs.Plane.{has_bit}
+use Rattle.rfb_picture.specs.Places.{has_bit}
 use Rattle.rfb_picture.proofs.plane.Plane.has.Goals as goal
 
 pub overflow_mul-from : goal.overflow_mul-from

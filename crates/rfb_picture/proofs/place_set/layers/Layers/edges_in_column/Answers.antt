@@ -1,5 +1,5 @@
 use Rattle.std.proofs.Common.{arith}
-use Rattle.rfb_picture.specs.PlaceSet.{in_set}
+use Rattle.rfb_picture.specs.inside.PlaceSet.{in_set}
 use Rattle.rfb_picture.proofs.CellLemmas.{rows_done}
 use Rattle.rfb_picture.proofs.place_set.layers.Layers.edges_in_column.Goals as goal
 

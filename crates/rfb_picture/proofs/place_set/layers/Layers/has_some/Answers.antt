@@ -1,4 +1,4 @@
-use Rattle.rfb_picture.specs.PlaceSet.{in_set}
+use Rattle.rfb_picture.specs.inside.PlaceSet.{in_set}
 use Rattle.rfb_picture.proofs.NextCellLemmas.{place_in_cell, none_in_cell}
 use Rattle.rfb_picture.proofs.place_set.layers.Layers.has_some.Goals as goal
 

@@ -1,16 +1,12 @@
 -- Cells of a picture, each of 64 columns and 64 rows of places, fewer at its right and lower edge,
--- and rectangles by cells.
+-- and rectangles by cells. No public clause reads these words.
 use Rattle.std.specs.Prelude.{ℕ, Bool, ◌≡◌, ◌+◌, ◌-◌, ◌*◌, ◌/◌, ◌<◌, ◌≤◌, ◌&&◌, ◌||◌, nat_le, nat_lt, min, max}
-use Rattle.std.specs.Int.{div_ceil}
 use Rattle.rfb_picture.specs.declared.rect.Rect.{Rect}
 use Rattle.rfb_picture.specs.declared.place_set.parts.Parts.{Parts}
 use Rattle.rfb_picture.specs.Rect.{contains}
+use Rattle.rfb_picture.specs.CellOrder.{cells_in}
 
 -- ---- cells
-
--- how many cells so many places in a row need; the last may be smaller
-abbrev pub cells_in : ℕ → ℕ
-cells_in n = div_ceil n 64
 
 -- the places of cell (i, j)
 abbrev pub cell_at : ℕ → ℕ → Rect
@@ -52,15 +48,15 @@ in_row r j =
 
 -- ---- a rectangle by cells
 
--- place x of a row is one of so many from the first on
+-- place x of a row is one of the count places from the first on
 abbrev pub in_span : ℕ → ℕ → ℕ → Bool
 in_span first count x = nat_le first x && nat_lt x (first + count)
 
--- each place of cell i of a row of so many lies from one place up to another
+-- each place of cell i of a row of that size lies from one place up to another
 abbrev pub is_whole : ℕ → ℕ → ℕ → ℕ → Bool
 is_whole from to size i = nat_le from (i * 64) && nat_le (min (i * 64 + 64) size) to
 
--- if those places of a row of so many are any, they are all the places of their cells
+-- if those places of a row of that size are any, they are all the places of their cells
 abbrev pub IsOfCells : ℕ → ℕ → ℕ → Type 0
 IsOfCells first count size =
     0 < count → (x : ℕ) → x < size →
@@ -71,8 +67,8 @@ IsOfCells first count size =
 abbrev pub Ends : Rect → Rect → Type 0
 Ends r part = (part.x + part.w ≤ r.x + r.w) × (part.y + part.h ≤ r.y + r.h)
 
--- the inner part has the places of those cells that the rectangle has whole, of so many columns and
--- rows of places, and the parts have the rectangle's places
+-- the inner part has the places of those cells that the rectangle has whole, of that many columns
+-- and rows of places, and the parts have the rectangle's places
 pub record IsParts (width height : ℕ) (r : Rect) (p : Parts) : Type 0 where
   pub whole : (x y : ℕ) → x < width → y < height →
       contains p.inner x y

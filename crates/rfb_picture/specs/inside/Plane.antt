@@ -1,18 +1,15 @@
--- How a `Plane` holds which places are marked, as bits of words: a row is so many words across.
+-- How a `Plane` holds which places are marked, as bits of words: a row is `across` words wide. No
+-- public clause reads these words.
 use Rattle.std.specs.Prelude.{ℕ, Bool, true, false, List, ◌≡◌, ◌+◌, ◌*◌, ◌/◌, ◌%◌, ◌^◌, ◌<◌, ◌≤◌, ◌&&◌, ◌||◌, length, nat_eq, nat_le, nat_lt, not, slice_index_or, if◌then◌else◌}
-use Rattle.std.specs.Int.{bit_at}
 use Rattle.rfb_picture.specs.declared.rect.Rect.{Rect}
 use Rattle.rfb_picture.specs.Rect.{contains}
 use Rattle.rfb_picture.specs.Grid.{Grid, grid, changed, uniform}
+use Rattle.rfb_picture.specs.Places.{has_bit}
 
 -- the places of that width and height, each true where it is marked
 abbrev pub marked : ℕ → ℕ → (ℕ → ℕ → Bool) → Grid Bool
 marked width height mark =
     grid width height (changed (λ x y _. mark x y) (uniform width height false)).places
-
--- bit i of the word is set
-abbrev pub has_bit : ℕ → ℕ → Bool
-has_bit word i = nat_eq (bit_at word i) 1
 
 -- bit i of word k of row y is set
 abbrev pub has_at : List ℕ → ℕ → ℕ → ℕ → ℕ → Bool

@@ -1,21 +1,21 @@
 -- What the functions beneath a `Picture` do to its places, a list, row after row: what stands there
--- afterwards, or d where there is no such place.
+-- afterwards, or d where there is no such place. No public clause reads these words.
 use Rattle.std.specs.Prelude.{ℕ, List, ◌≡◌, ◌+◌, ◌-◌, ◌*◌, ◌<◌, ◌&&◌, Bool, nat_le, nat_lt, length, slice_index_or, if◌then◌else◌}
 use Rattle.rfb_picture.specs.declared.rect.Rect.{Rect}
 use Rattle.rfb_picture.specs.Rect.{contains}
 
--- place i is one of so many from the first on
+-- place i is one of the count places from the first on
 abbrev pub in_run : ℕ → ℕ → ℕ → Bool
 in_run start count i = nat_le start i && nat_lt i (start + count)
 
 module _ {X : Type 0} where
-  -- so many places from the first on have the value, and the others what they had
+  -- count places from the first on have the value, and the others what they had
   abbrev pub RunFilled : ℕ → ℕ → X → List X → List X → Type 0
   RunFilled start count value old new =
       (i : ℕ) (d : X) →
       slice_index_or new i d ≡ (if in_run start count i then value else slice_index_or old i d)
 
-  -- the rectangle's places have the value, and the others what they had, in rows of so many
+  -- the rectangle's places have the value, and the others what they had, in rows of that width
   abbrev pub RowsFilled : ℕ → Rect → X → List X → List X → Type 0
   RowsFilled width rect value old new =
       (x y : ℕ) (d : X) → x < width →
@@ -30,7 +30,7 @@ module _ {X : Type 0} where
       ≡ (if in_run start (length row) i then slice_index_or row (i - start) d
       else slice_index_or old i d)
 
-  -- so many places from one on have what those from another on had, and the others what they had
+  -- count places from one on have what those from another on had, and the others what they had
   abbrev pub RunCopied : ℕ → ℕ → ℕ → List X → List X → Type 0
   RunCopied from to count old new =
       (i : ℕ) (d : X) →
@@ -39,7 +39,7 @@ module _ {X : Type 0} where
       else slice_index_or old i d)
 
   -- the rectangle's places have what the rectangle of that size at (sx, sy) had, and the others
-  -- what they had, in rows of so many
+  -- what they had, in rows of that width
   abbrev pub RowsCopied : ℕ → Rect → ℕ → ℕ → List X → List X → Type 0
   RowsCopied width dst sx sy old new =
       (x y : ℕ) (d : X) → x < width →

@@ -1,11 +1,12 @@
--- The outermost of the marked places of a rectangle, on the way to the least
--- rectangle that holds them.
+-- The outermost of the marked places of a rectangle, on the way to the least rectangle that holds
+-- them. No public clause reads these words.
 use Rattle.std.specs.Prelude.{ℕ, Bool, true, false, List, Option, ◌≡◌, ◌+◌, ◌-◌, ◌^◌, ◌<◌, ◌≤◌, ◌||◌, MatchOption}
 use Rattle.rfb_picture.specs.declared.rect.Rect.{Rect}
 use Rattle.rfb_picture.specs.declared.edges.Edges.{Edges}
 use Rattle.rfb_picture.specs.declared.edges.Gathered.{Gathered}
 use Rattle.rfb_picture.specs.Rect.{contains}
-use Rattle.rfb_picture.specs.Plane.{has_bit, has_at}
+use Rattle.rfb_picture.specs.Places.{has_bit}
+use Rattle.rfb_picture.specs.inside.Plane.{has_at}
 
 -- the edges of a rectangle that has a place
 abbrev pub edges_of : Rect → Edges

@@ -1,12 +1,13 @@
 -- How a `PlaceSet` holds which places are in it: by marks of its places, and by marks of its cells.
+-- No public clause reads these words.
 use Rattle.std.specs.Prelude.{ℕ, Bool, true, ◌≡◌, ◌+◌, ◌*◌, ◌/◌, ◌^◌, ◌<◌, ◌≤◌, ◌&&◌, ◌||◌, not, false, Option, MatchOption}
 use Rattle.rfb_picture.specs.declared.rect.Rect.{Rect}
 use Rattle.rfb_picture.specs.declared.place_set.layers.Layers.{Layers}
 use Rattle.rfb_picture.specs.Rect.{contains}
 use Rattle.rfb_picture.specs.Grid.{Grid, IsGrid}
 use Rattle.rfb_picture.specs.Box.{is_in}
-use Rattle.rfb_picture.specs.Plane.{marked}
-use Rattle.rfb_picture.specs.Cells.{cells_in}
+use Rattle.rfb_picture.specs.inside.Plane.{marked}
+use Rattle.rfb_picture.specs.CellOrder.{cells_in}
 
 -- cell (i, j) is in the set whole, or its places' marks count
 abbrev pub is_open : Layers → ℕ → ℕ → Bool
