@@ -275,7 +275,7 @@ maxima-reason bytes k fits whole deep colour h =
           (passes-max blue (number_at-fits bytes 8 fits) maxima.2) m.1
     ]
 
--- the fault that is told is of the first check that fails
+-- the fault is of the first check that fails
 pub first_fault-reason : (bytes : List ℕ) (k : FormatFault) → AreBytes bytes →
     first_fault bytes ≡ Some k → IsFirstFault k bytes
 first_fault-reason bytes k fits h =
@@ -308,7 +308,7 @@ first_fault-reason bytes k fits h =
           ]
     ]
 
--- where nothing is told, a check that comes first passes, and the rest tells nothing
+-- where there is no fault, a check that comes first passes, and the rest has none
 none_of : (t : Bool) (fault : FormatFault) (rest : Option FormatFault) →
     (if t then Some fault else rest) ≡ None → (t ≡ false) × (rest ≡ None)
 none_of true fault rest h = absurd (cc h)
@@ -318,7 +318,7 @@ none_of false fault rest h = (refl, h)
 apart-means : (a b : Channel) → is_apart a b ≡ true → IsApart a b
 apart-means a b h = λ i here there. grind (arith, nat_tests)
 
--- where no fault is told, each check passes
+-- where there is no fault, each check passes
 pub first_fault-none : (bytes : List ℕ) (k : FormatFault) → AreBytes bytes →
     first_fault bytes ≡ None → Passes k bytes
 first_fault-none bytes k fits h =
@@ -372,7 +372,7 @@ max_of-small bits c ok =
     let some = pow_pos c.width in
     omega (arith, wide)
 
--- a flag is told by 0 or 1
+-- a flag is written as 0 or 1
 flag-is : (b : Bool) → not ((if b then 1 else 0) == 0) ≡ b
 flag-is true = refl
 flag-is false = refl

@@ -13,7 +13,7 @@ max_of c = 2 ^ c.width - 1
 abbrev pub IsInField : Channel → ℕ → Type 0
 IsInField c i = (c.shift ≤ i) × (i < c.shift + c.width)
 
--- the field has 1 to 16 bits, and lies in a pixel of so many bits
+-- the field has 1 to 16 bits, and lies in a pixel of that many bits
 abbrev pub IsField : ℕ → Channel → Type 0
 IsField bits c = (1 ≤ c.width) × (c.width ≤ 16) × (c.shift + c.width ≤ bits)
 
@@ -46,7 +46,7 @@ pub record IsMax (m : ℕ) : Type 0 where
   pub n : ℕ
   pub is : IsMaxOf m n
 
--- a field of this maximum, at this shift, ends within so many bits: shift plus N is at most that
+-- a field of this maximum, at this shift, ends within that many bits: shift plus N is at most that
 abbrev pub EndsWithin : ℕ → ℕ → ℕ → Type 0
 EndsWithin m shift bits = (n : ℕ) → IsMaxOf m n → shift + n ≤ bits
 
@@ -58,7 +58,7 @@ width_of m = count_ones m
 abbrev pub is_max : ℕ → Bool
 is_max m = not (m == 0) && m == 2 ^ width_of m - 1
 
--- the test that a field lies in a pixel of so many bits
+-- the test that a field lies in a pixel of that many bits
 abbrev pub is_within : ℕ → Channel → Bool
 is_within bits c = nat_le (c.shift + c.width) bits
 
@@ -66,7 +66,7 @@ is_within bits c = nat_le (c.shift + c.width) bits
 abbrev pub is_apart : Channel → Channel → Bool
 is_apart a b = nat_le (a.shift + a.width) b.shift || nat_le (b.shift + b.width) a.shift
 
--- the test that the three fields lie in a pixel of so many bits
+-- the test that the three fields lie in a pixel of that many bits
 abbrev pub are_within : ℕ → Channel → Channel → Channel → Bool
 are_within bits red green blue = is_within bits red && is_within bits green && is_within bits blue
 

@@ -15,7 +15,7 @@ pub record PixelFormat : Type 0 where
   pub green : Channel
   pub blue : Channel
 
--- the format of so many bits, that depth and byte order, and three fields
+-- the format of these bits, depth and byte order, and three fields
 abbrev pub pixel_format : ℕ → ℕ → Bool → Channel → Channel → Channel → PixelFormat
 pixel_format bits depth big_endian red green blue = record {
   bits_per_pixel = bits;

@@ -45,7 +45,7 @@ green_at bytes = field_at 6 11 bytes
 abbrev pub blue_at : List ℕ → Channel
 blue_at bytes = field_at 8 12 bytes
 
--- the first check that three fields fail in a pixel of so many bits, if there is one
+-- the first check that three fields fail in a pixel of that many bits, if there is one
 abbrev pub fault_of_fields : ℕ → Channel → Channel → Channel → Option FormatFault
 fault_of_fields bits red green blue =
     if not (are_within bits red green blue) then Some ShiftTooLarge else
