@@ -46,7 +46,7 @@ init_spelled max setup is = record {
   name_length_is = big_number-reads_back 4 (length setup.name) [] is.name_fits;
 }
 
--- the name, at the point behind ServerInit
+-- the name, at the point after ServerInit
 name_read : (limit : Version) (max : ℕ) (v : Version) (w h : ℕ) (name : List ℕ) → ReadsAll (server_handshake limit max) (behind_init v w h (length name)) name (name_asked name) []
 name_read limit max v w h [] = refl
 name_read limit max v w h (byte ∷ name) =

@@ -14,7 +14,7 @@ use Rattle.rfb_hello.specs.Conversation.{conversation, turns_behind_versions, ve
 use Rattle.rfb_hello.proofs.AnswerLaws.{greeting_read, init_read}
 use Rattle.rfb_hello.proofs.ViewerAnswerLaws.{greeting_answered}
 
--- behind ServerInit and the name
+-- after ServerInit and the name
 begun : (viewer : ViewerSetup) (v : Version) (w h : ℕ) (name : List ℕ) → acts (viewer_end viewer) (behind_init v w h (length name)) (name_asked name) ≡ Begun v w h
 begun viewer v w h [] = refl
 begun viewer v w h (byte ∷ name) = refl
@@ -29,7 +29,7 @@ last : (server : ServerSetup) (viewer : ViewerSetup) (v : Version) → IsSetup v
 last server viewer v is =
     (ap (λ (bytes : List ℕ). ByServer bytes) (append-nil (server_init_bytes server)), init_read server viewer.limit viewer.max_places v viewer.shared is, (ap (λ (bytes : List ℕ). ByViewer bytes) (quiet viewer v server.width server.height server.name), refl, begun viewer v server.width server.height server.name))
 
--- ClientInit, alone and behind a choice
+-- ClientInit, alone and after a choice
 init_heard : (offer v : Version) (shared : Bool) → ReadsAll (client_handshake offer) (AwaitsClientInit v) (shared_flag shared ∷ []) (ClientInit shared ∷ []) []
 init_heard offer v true = ([], refl, refl)
 init_heard offer v false = ([], refl, refl)
@@ -38,7 +38,7 @@ choice_heard : (offer v : Version) (shared : Bool) → ReadsAll (client_handshak
 choice_heard offer v true = (1 ∷ [], refl, ([], refl, refl))
 choice_heard offer v false = (0 ∷ [], refl, ([], refl, refl))
 
--- what stands behind the versions
+-- what stands after the versions
 behind : (v : Version) (server : ServerSetup) (viewer : ViewerSetup) → IsSetup viewer.max_places server → Converse server viewer (behind_version v) (AwaitsSecurity v) (ByServer (security_bytes v ++ [])) (turns_behind_versions v viewer.shared server) (ClientBegun v viewer.shared) (Begun v server.width server.height)
 behind V33 server viewer is = (refl, ([], refl, refl), (refl, init_heard server.offer V33 viewer.shared, last server viewer V33 is))
 behind V37 server viewer is = (refl, ([], refl, refl), (refl, choice_heard server.offer V37 viewer.shared, last server viewer V37 is))

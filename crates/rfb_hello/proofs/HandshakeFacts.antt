@@ -54,7 +54,7 @@ server_3_3 = (0 ∷ 0 ∷ 0 ∷ 1 ∷ init, refl, (init, refl, (116 ∷ [], refl
 unpublished : server_item 1 AwaitsVersion (82 ∷ 70 ∷ 66 ∷ 32 ∷ 48 ∷ 48 ∷ 51 ∷ 46 ∷ 56 ∷ 56 ∷ 57 ∷ 10 ∷ []) ≡ Got (ProtocolVersion V33) []
 unpublished = refl
 
--- a refusal is told at the last byte of its reason
+-- a refusal comes at the last byte of its reason
 refused : server_item 1 (AwaitsSecurity V38) (0 ∷ 0 ∷ 0 ∷ 0 ∷ 2 ∷ 78 ∷ 111 ∷ []) ≡ Bad (Refused 2)
 refused = refl
 
@@ -80,7 +80,7 @@ none_listed_last = refl
 bad_word : server_item 1 (AwaitsSecurity V33) (0 ∷ 0 ∷ 0 ∷ 3 ∷ []) ≡ Bad BadSecurityWord
 bad_word = refl
 
--- the rest of ServerInit, behind width and height
+-- the rest of ServerInit, after width and height
 abbrev rest : List ℕ
 rest = 32 ∷ 24 ∷ 0 ∷ 1 ∷ 0 ∷ 255 ∷ 0 ∷ 255 ∷ 0 ∷ 255 ∷ 16 ∷ 8 ∷ 0 ∷ 0 ∷ 0 ∷ 0 ∷ 0 ∷ 0 ∷ 0 ∷ 0 ∷ []
 

@@ -30,7 +30,7 @@ server_pending_is (ClientInitPart v) point prefix h = rw (h.0, h.1) refl
 server_pending_is (ServerDone v shared) point prefix h = rw h.0 refl
 server_pending_is (ServerFailed fault) point prefix h = absurd h
 
--- behind the bytes that stand before a reason
+-- after the bytes that stand before a reason
 opened_pending : (cause : Cause) (point : ServerPoint) (intro tail : List ℕ) → OpensReason cause point intro → server_handshake_pending point (intro ++ tail) ≡ reason_pending tail
 opened_pending Refused (AwaitsSecurity V33) intro tail h = past_piece 4 reason_pending intro tail h.0
 opened_pending Refused (AwaitsSecurity V37) intro tail h = ap (λ (ys : List ℕ). types_pending (ys ++ tail)) h
@@ -38,7 +38,7 @@ opened_pending Refused (AwaitsSecurity V38) intro tail h = ap (λ (ys : List ℕ
 opened_pending SecurityFailed (AwaitsResult v) intro tail h = past_piece 4 reason_pending intro tail h.2.0
 opened_pending cause point intro tail h = absurd h
 
--- before the count of the types, and behind it
+-- before the count of the types, and after it
 count_pending : (v : Version) → v ≢ V33 → security_pending v [] ≡ 0
 count_pending V33 not = absurd (not refl)
 count_pending V37 not = refl

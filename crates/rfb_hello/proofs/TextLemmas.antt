@@ -19,7 +19,7 @@ take_min n xs = by (nat_le (length xs) n) refl
         let some : min (length xs) n ≡ n = omega (arith, many) in
         rw some refl
 
--- bytes behind those that are kept, as many as there is room for
+-- bytes after those that are kept, as many as there is room for
 pub kept_more : (room : ℕ) (old bytes : List ℕ) → length old ≤ room → old ++ take (min (length bytes) (room - length old)) bytes ≡ take room (old ++ bytes)
 kept_more room old bytes within =
     let parts : room ≡ length old + (room - length old) = omega (arith, within) in

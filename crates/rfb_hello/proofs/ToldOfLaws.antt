@@ -1,4 +1,4 @@
--- What the steps `Screen` and `Ready` are told of.
+-- What the steps `Screen` and `Ready` come of.
 use Rattle.std.proofs.Common.{◌≡◌, ℕ, zero, suc, inl, inr, Bool, [], Some, refl, ap, sym, ◌∙◌, arith}
 use Rattle.arrayvec.specs.ArrayVec.{ArrayVec}
 use Rattle.rfb_hello.specs.declared.version.Version.{Version}

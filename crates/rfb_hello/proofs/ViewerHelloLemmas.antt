@@ -72,7 +72,7 @@ pub becomes : (setup : ViewerSetup) (old : ViewerHello) (unit there : List ℕ) 
 becomes setup old unit there result p q same is steps =
     subst (λ (x : Progress). StepsBy (viewer_end setup) (StandsFor setup) old there result (record old { progress = x })) (sym is) (subst (λ (u : List ℕ). StepsBy (viewer_end setup) (StandsFor setup) old u result (record old { progress = p })) (sym same) steps)
 
--- bytes of one piece behind a part of it
+-- bytes of one piece after a part of it
 joined : (prefix part unit whole : List ℕ) → prefix ≡ part → whole ≡ part ++ unit → prefix ++ unit ≡ whole
 joined prefix part unit whole is whole_is = ap (λ (ys : List ℕ). ys ++ unit) is ∙ sym whole_is
 
@@ -111,7 +111,7 @@ count_of_types setup old version more was =
     more_step setup old (Count version) (Types version more false) ((more + 1) ∷ []) was (λ s prefix h.
     rw (h.0, h.2) (types_next version (more + 1) [] h.1 ∙ types_more (more + 1) [] (omega arith), ([], refl, h.1, ap (λ (k : ℕ). k ∷ []) (omega arith), refl)))
 
--- types behind those that were seen
+-- types after those that were seen
 types_joined : (prefix seen unit : List ℕ) (n : ℕ) → prefix ≡ n ∷ seen → prefix ++ unit ≡ n ∷ (seen ++ unit)
 types_joined prefix seen unit n is = ap (λ (ys : List ℕ). ys ++ unit) is
 
@@ -201,7 +201,7 @@ init_asks setup old version part unit whole was is size good some s prefix stand
 
 -- ---- reasons
 
--- bytes behind the intro of a reason
+-- bytes after the intro of a reason
 behind_intro : (prefix intro part unit : List ℕ) → prefix ≡ intro ++ part → prefix ++ unit ≡ intro ++ (part ++ unit)
 behind_intro prefix intro part unit is = ap (λ (ys : List ℕ). ys ++ unit) is ∙ append_assoc intro part unit
 

@@ -16,7 +16,7 @@ use Rattle.rfb_hello.specs.ViewerEnd.{OpensReason}
 use Rattle.rfb_hello.specs.inside.ViewerPiece.{fault_for}
 
 module _ {A B F : Type 0} where
-  -- behind so many bytes
+  -- after n bytes
   pub valued_got : (n : ℕ) (value : List ℕ → A) (k : A → Reading B F) (front tail : List ℕ) → length front ≡ n → and_then (valued n value) k (front ++ tail) ≡ k (value front) tail
   valued_got n value k front tail size = rw (piece_only {F = F} n front tail size) refl
 
@@ -29,7 +29,7 @@ module _ {A B F : Type 0} where
 pub reason_short : (fault : ℕ → HelloFault) (part : List ℕ) → length part < 4 → reason fault part ≡ More
 reason_short fault part few = rw (piece_short {F = HelloFault} 4 part few) refl
 
--- behind the length of a reason
+-- after the length of a reason
 reason_at : (fault : ℕ → HelloFault) (n : ℕ) (word text : List ℕ) → IsWord n word → reason fault (word ++ text) ≡ and_then (piece n) (λ _. refused (fault n)) text
 reason_at fault n word text is =
     valued_got 4 (λ bytes. u32_at 0 bytes) (λ n. and_then (piece n) (λ _. refused (fault n))) word text is.0 ∙ ap (λ (k : ℕ). and_then {A = List ℕ} {B = ServerItem} {F = HelloFault} (piece k) (λ _. refused (fault k)) text) is.1
@@ -47,7 +47,7 @@ result_fails : (word : ℕ) (tail : List ℕ) → word ≢ 0 → behind_result w
 result_fails zero tail not = absurd (not refl)
 result_fails (suc word) tail not = refl
 
--- behind the bytes that stand before a reason
+-- after the bytes that stand before a reason
 pub opened : (max : ℕ) (cause : Cause) (point : ServerPoint) (intro tail : List ℕ) → OpensReason cause point intro → server_item max point (intro ++ tail) ≡ reason (λ n. fault_for cause n) tail
 opened max Refused (AwaitsSecurity V33) intro tail h = valued_got 4 (λ bytes. u32_at 0 bytes) behind_word intro tail h.0 ∙ ap (λ (k : ℕ). behind_word k tail) h.1
 opened max Refused (AwaitsSecurity V37) intro tail h = valued_got 1 (λ bytes. u8_at 0 bytes) behind_count intro tail (ap length h) ∙ ap (λ (xs : List ℕ). behind_count (u8_at 0 xs) tail) h

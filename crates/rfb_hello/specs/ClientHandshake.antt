@@ -11,7 +11,7 @@ use Rattle.rfb_hello.specs.declared.fault.HelloFault.{HelloFault}
 use Rattle.rfb_hello.specs.declared.fault.HelloFault.TheVariants.{BadVersion, VersionTooHigh, BadSecurityChoice}
 use Rattle.rfb_hello.specs.Version.{IsVersionText, SpellsVersion, is_version_text, version_of, minor_of}
 
--- where a client's bytes stand in the handshake, and behind it
+-- where a client's bytes stand in the handshake, and after it
 pub data ClientPoint : Type 0 where
   AwaitsVersion : ClientPoint
   AwaitsChoice : (version : Version) → ClientPoint
@@ -55,13 +55,13 @@ abbrev pub client_item_says : Version → ClientPoint → Says ClientItem HelloF
 client_item_says offer point =
     record { item = SpellsClientItem offer point; fault = FaultsClientItem offer point }
 
--- the point behind a version: 3.3 leaves no choice
+-- the point after a version: 3.3 leaves no choice
 abbrev pub behind_version : Version → ClientPoint
 behind_version V33 = AwaitsInit V33
 behind_version V37 = AwaitsChoice V37
 behind_version V38 = AwaitsChoice V38
 
--- the point behind a step
+-- the point after a step
 abbrev pub past_client_item : ClientPoint → ClientItem → ClientPoint
 past_client_item AwaitsVersion (ProtocolVersion version) = behind_version version
 past_client_item (AwaitsChoice version) SecurityType = AwaitsInit version
@@ -86,7 +86,7 @@ client_version_fault offer bytes =
 abbrev pub choice_fault : List ℕ → Option HelloFault
 choice_fault bytes = if u8_at 0 bytes == 1 then None else Some BadSecurityChoice
 
--- what is read at a point; behind ClientInit nothing is
+-- what is read at a point; after ClientInit nothing is
 abbrev pub client_item : Version → ClientPoint → Reading ClientItem HelloFault
 client_item offer AwaitsVersion =
     checked 12 (client_version_fault offer) (λ bytes. ProtocolVersion (version_of bytes))

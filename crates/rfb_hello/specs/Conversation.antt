@@ -39,7 +39,7 @@ types_turn = FromServer (SecurityTypes (1 ∷ []) ∷ []) (1 ∷ 1 ∷ [])
 abbrev pub result_turn : Turn
 result_turn = FromServer (SecurityResult ∷ []) (0 ∷ 0 ∷ 0 ∷ 0 ∷ [])
 
--- behind the versions. Under 3.3 the server decides the type, by a word, and ClientInit follows.
+-- after the versions. Under 3.3 the server decides the type, by a word, and ClientInit follows.
 -- Under 3.7 the viewer chooses, and sends ClientInit at once, since no SecurityResult comes for
 -- None. Under 3.8 it waits for that
 abbrev pub turns_behind_versions : Version → Bool → ServerSetup → List Turn
@@ -63,7 +63,7 @@ turns_behind_versions V38 shared setup =
 abbrev pub version_used : ServerSetup → ViewerSetup → Version
 version_used server viewer = lower viewer.limit server.offer
 
--- the whole: each end's version, and what stands behind these
+-- the whole: each end's version, and what stands after these
 abbrev pub conversation : ServerSetup → ViewerSetup → List Turn
 conversation server viewer =
     FromServer (ServerVersion server.offer ∷ []) (version_text server.offer)

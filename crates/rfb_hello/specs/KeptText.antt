@@ -1,12 +1,12 @@
 -- A text of which no more is kept than there is room for.
 use Rattle.std.specs.Prelude.{ℕ, List, [], take, min}
 
--- so many bytes at most, and those that are kept
+-- the most bytes that are kept of a text, and those that are
 pub record KeptText : Type 0 where
   pub room : ℕ
   pub bytes : List ℕ
 
--- what is kept of a text of so many bytes, of which these have come, under a limit
+-- what is kept of a text of that length, of which these have come, under a limit
 abbrev pub kept_of : ℕ → ℕ → List ℕ → KeptText
 kept_of limit size text = record { room = min size limit; bytes = take limit text }
 

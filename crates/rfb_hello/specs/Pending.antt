@@ -1,4 +1,4 @@
--- Pending bytes of a handshake: those that stand behind the last whole piece. Pieces are a
+-- Pending bytes of a handshake: those that stand after the last whole piece. Pieces are a
 -- version's text, the word of 3.3, the count of the security types and each of these, the word of
 -- SecurityResult, the length of a reason and each byte of it, ServerInit up to the name and each
 -- byte of that; a client's are its version's text, its choice and ClientInit.
@@ -20,13 +20,13 @@ client_handshake_pending (ClientBegun version shared) bytes = 0
 abbrev pub reason_pending : List ℕ → ℕ
 reason_pending bytes = behind_piece 4 (in_pieces 1) bytes
 
--- of a list of security types: its count, and each type, or behind a count of none a reason
+-- of a list of security types: its count, and each type, or after a count of none a reason
 abbrev pub types_pending : List ℕ → ℕ
 types_pending [] = 0
 types_pending (zero ∷ rest) = reason_pending rest
 types_pending (suc n ∷ rest) = in_pieces 1 rest
 
--- of the security types: under 3.3 a word, and behind one that refuses a reason
+-- of the security types: under 3.3 a word, and after one that refuses a reason
 abbrev pub security_pending : Version → List ℕ → ℕ
 security_pending V33 bytes = behind_piece 4 reason_pending bytes
 security_pending V37 bytes = types_pending bytes

@@ -11,7 +11,7 @@ use Rattle.rfb_hello.specs.declared.fault.HelloFault.TheVariants.{BadVersion, No
 use Rattle.rfb_hello.specs.Version.{IsVersionText, SpellsVersion, lower}
 
 -- where a server's bytes stand in the handshake, with the version that both ends use and the
--- screen's size once they are known, and behind it
+-- screen's size once they are known, and after it
 pub data ServerPoint : Type 0 where
   AwaitsVersion : ServerPoint
   AwaitsSecurity : (version : Version) → ServerPoint
@@ -44,7 +44,7 @@ abbrev pub has_none : List ℕ → Bool
 has_none [] = false
 has_none (type ∷ types) = type == 1 || has_none types
 
--- a count, and so many security types, section 7.1.2
+-- a count, and as many security types, section 7.1.2
 pub record IsTypes (types bytes : List ℕ) : Type 0 where
   pub some : 0 < length types
   pub whole : bytes ≡ length types ∷ types
@@ -53,7 +53,7 @@ pub record IsTypes (types bytes : List ℕ) : Type 0 where
 abbrev pub IsWord : ℕ → List ℕ → Type 0
 IsWord word bytes = (length bytes ≡ 4) × (u32_at 0 bytes ≡ word)
 
--- a reason of so many bytes: its length, and then its text
+-- a reason of that length: its length, and then its text
 pub record IsReason (reason_length : ℕ) (bytes : List ℕ) : Type 0 where
   pub head : List ℕ
   pub text : List ℕ
@@ -61,7 +61,7 @@ pub record IsReason (reason_length : ℕ) (bytes : List ℕ) : Type 0 where
   pub head_is : IsWord reason_length head
   pub text_is : length text ≡ reason_length
 
--- a word, and behind it a reason
+-- a word, and after it a reason
 pub record IsWordWithReason (word reason_length : ℕ) (bytes : List ℕ) : Type 0 where
   pub head : List ℕ
   pub reason : List ℕ
@@ -101,7 +101,7 @@ SpellsServerItem max_places point step bytes = ⊥
 abbrev pub IsWithoutNone : List ℕ → Type 0
 IsWithoutNone bytes = (types : List ℕ) × IsTypes types bytes × (has_none types ≡ false)
 
--- a count of no types, and behind it a reason
+-- a count of no types, and after it a reason
 abbrev pub IsRefusal : ℕ → List ℕ → Type 0
 IsRefusal reason_length bytes =
     (reason : List ℕ) × (bytes ≡ 0 ∷ reason) × IsReason reason_length reason
@@ -136,18 +136,18 @@ abbrev pub server_item_says : ℕ → ServerPoint → Says ServerItem HelloFault
 server_item_says max_places point =
     record { item = SpellsServerItem max_places point; fault = FaultsServerItem max_places point }
 
--- the point behind the security types
+-- the point after the security types
 abbrev pub behind_types : Version → ServerPoint
 behind_types V33 = AwaitsInit V33
 behind_types V37 = AwaitsInit V37
 behind_types V38 = AwaitsResult V38
 
--- the point behind ServerInit: a name without bytes is not waited for
+-- the point after ServerInit: a name without bytes is not waited for
 abbrev pub behind_init : Version → ℕ → ℕ → ℕ → ServerPoint
 behind_init version width height zero = Begun version width height
 behind_init version width height (suc n) = AwaitsName version width height (suc n)
 
--- the point behind a step, where the viewer goes up to a version
+-- the point after a step, where the viewer goes up to a version
 abbrev pub past_server_item : Version → ServerPoint → ServerItem → ServerPoint
 past_server_item limit AwaitsVersion (ProtocolVersion version) =
     AwaitsSecurity (lower limit version)

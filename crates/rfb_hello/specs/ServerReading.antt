@@ -16,7 +16,7 @@ abbrev pub reason : (ℕ → HelloFault) → Reading ServerItem HelloFault
 reason fault =
     and_then (valued 4 (λ bytes. u32_at 0 bytes)) (λ n. and_then (piece n) (λ _. refused (fault n)))
 
--- behind the word that 3.3 has for a security type
+-- after the word that 3.3 has for a security type
 abbrev pub behind_word : ℕ → Reading ServerItem HelloFault
 behind_word zero = reason (λ n. Refused n)
 behind_word (suc zero) = done SecurityNone
@@ -27,23 +27,23 @@ behind_word (suc (suc (suc word))) = refused BadSecurityWord
 abbrev pub types_fault : List ℕ → Option HelloFault
 types_fault types = if has_none types then None else Some NoneNotOffered
 
--- behind the count of the types
+-- after the count of the types
 abbrev pub behind_count : ℕ → Reading ServerItem HelloFault
 behind_count zero = reason (λ n. Refused n)
 behind_count (suc n) = checked (suc n) types_fault (λ types. SecurityTypes types)
 
--- behind the word of SecurityResult
+-- after the word of SecurityResult
 abbrev pub behind_result : ℕ → Reading ServerItem HelloFault
 behind_result zero = done SecurityResult
 behind_result (suc word) = reason (λ n. SecurityFailed n)
 
--- the fault of a screen of so many places, if it has one
+-- the fault of a screen, where at most that many places are admitted, if it has one
 abbrev pub screen_fault : ℕ → List ℕ → Option HelloFault
 screen_fault max_places bytes =
     if u16_at 0 bytes * u16_at 2 bytes == 0 then Some ScreenEmpty else
     if nat_lt max_places (u16_at 0 bytes * u16_at 2 bytes) then Some ScreenTooLarge else None
 
--- a name of so many bytes, of one at least
+-- a name of n bytes, of one at least
 abbrev pub name : ℕ → Reading ServerItem HelloFault
 name zero = waiting
 name (suc n) = valued (suc n) (λ text. Name text)
@@ -54,7 +54,7 @@ security V33 = and_then (valued 4 (λ bytes. u32_at 0 bytes)) behind_word
 security V37 = and_then (valued 1 (λ bytes. u8_at 0 bytes)) behind_count
 security V38 = and_then (valued 1 (λ bytes. u8_at 0 bytes)) behind_count
 
--- what is read at a point; behind the name nothing is
+-- what is read at a point; after the name nothing is
 abbrev pub server_item : ℕ → ServerPoint → Reading ServerItem HelloFault
 server_item max_places AwaitsVersion =
     checked 12 (λ bytes. if is_version_text bytes then None else Some BadVersion)
@@ -68,7 +68,7 @@ server_item max_places (AwaitsInit version) =
 server_item max_places (AwaitsName version width height name_length) = name name_length
 server_item max_places (Begun version width height) = waiting
 
--- the handshake of a server's bytes, where the viewer goes up to a version and admits so many
+-- the handshake of a server's bytes, where the viewer goes up to a version and admits that many
 -- places
 abbrev pub server_handshake : Version → ℕ → Grammar ServerPoint ServerItem HelloFault
 server_handshake limit max_places =

@@ -1,4 +1,4 @@
--- What the steps `Screen` and `Ready` are told of: one item at one point each, whose numbers they
+-- What the steps `Screen` and `Ready` come of: one item at one point each, whose numbers they
 -- have.
 use Rattle.std.specs.Prelude.{◌≡◌, ◌<◌, ◌⊎◌, ℕ, Bool, List}
 use Rattle.arrayvec.specs.ArrayVec.{ArrayVec}
@@ -10,7 +10,7 @@ use Rattle.rfb_hello.specs.ServerEnd.{ServerSetup, as_reply, server_init_bytes}
 use Rattle.rfb_hello.specs.ViewerEnd.{ViewerSetup}
 
 -- the server's end is ready at ClientInit, under the version and with the flag that it tells, and
--- answers it with ServerInit and the name; the handshake is then behind the client's bytes
+-- answers it with ServerInit and the name; the client's part is then over
 pub record IsReadyAt (setup : ServerSetup) (point : ClientPoint) (item : ClientItem)
     (reply : ArrayVec ℕ) (version : Version) (shared : Bool) : Type 0 where
   pub at_point : point ≡ AwaitsClientInit version
@@ -36,7 +36,7 @@ pub record IsReadyUnnamed (point : ServerPoint) (item : ServerItem) (width heigh
   pub name_is : name ≡ no_text
   pub unnamed : name_length ≡ 0
 
--- or at the name behind the ServerInit that had the size and the name's length
+-- or at the name after the ServerInit that had the size and the name's length
 pub record IsReadyNamed (setup : ViewerSetup) (point : ServerPoint) (item : ServerItem)
     (width height : ℕ) (version : Version) (name : KeptText) (name_length : ℕ) : Type 0 where
   pub text : List ℕ
@@ -44,7 +44,7 @@ pub record IsReadyNamed (setup : ViewerSetup) (point : ServerPoint) (item : Serv
   pub item_is : item ≡ Name text
   pub name_is : name ≡ kept_of setup.text_limit name_length text
 
--- in either case the handshake is then behind the server's bytes
+-- in either case the server's part of the handshake is then over
 pub record IsViewerReadyAt (setup : ViewerSetup) (point : ServerPoint) (item : ServerItem)
     (width height : ℕ) (version : Version) (name : KeptText) (name_length : ℕ) : Type 0 where
   pub told_at : IsReadyUnnamed point item width height version name name_length

@@ -51,7 +51,8 @@ has_letters bytes =
 -- the test of twelve bytes for a ProtocolVersion
 abbrev pub is_version_text : List ℕ → Bool
 is_version_text bytes =
-    has_letters bytes && are_digits 4 bytes && u8_at 7 bytes == 46 && are_digits 8 bytes && u8_at 11 bytes == 10
+    has_letters bytes && are_digits 4 bytes && u8_at 7 bytes == 46 && are_digits 8 bytes
+    && u8_at 11 bytes == 10
 
 -- the version that a text stands for
 abbrev pub version_of : List ℕ → Version

@@ -38,7 +38,7 @@ fault_of hello = fault_in hello.progress
 abbrev pub is_open : ViewerHello → Bool
 is_open hello = goes_on hello.progress
 
--- the handshake goes on behind what was told: `Ready` is the last
+-- the handshake goes on after what was told: `Ready` is the last
 abbrev pub goes_on_behind : Option ViewerStep → Bool
 goes_on_behind None = true
 goes_on_behind (Some (Reply reply)) = true
@@ -49,7 +49,7 @@ goes_on_behind (Some (Ready width height version name name_length)) = false
 abbrev pub reason_of : ViewerHello → KeptText
 reason_of hello = reason_in hello.progress
 
--- a reason of so many bytes is whole at the last of these, and this is kept of its text
+-- a reason of n bytes is whole at the last of these, and this is kept of its text
 abbrev pub IsReasonKept : ℕ → Cause → ℕ → KeptText → ServerPoint → List ℕ → Type 0
 IsReasonKept limit cause n kept point bytes =
     (intro word text : List ℕ) × (bytes ≡ intro ++ (word ++ text)) × OpensReason cause point intro

@@ -40,7 +40,7 @@ pub fn server_handshakes_are_spelled()
 {}
 
 /// Both ends of a handshake are machines: their grammars have the laws of streams, and an item
-/// brings each to the point behind it.
+/// brings each to the point after it.
 pub fn both_ends_are_machines()
     ensures server { (setup : ServerSetup) → IsMachine (server_end setup) }
     ensures viewer { (setup : ViewerSetup) → IsMachine (viewer_end setup) }
@@ -57,8 +57,8 @@ pub fn ends_that_stand_have_not_failed()
         → (viewer_fault_of hello ≡ None) × (viewer_is_open hello ≡ server_goes_on point) }
 {}
 
-/// `Screen` and `Ready` are told of one item each, whose size, version, flag and name they have;
-/// behind an item that is told as `Ready` the handshake is done.
+/// `Screen` and `Ready` come of one item each, whose size, version, flag and name they have; after
+/// an item of which `Ready` comes the handshake is done.
 pub fn steps_are_of_their_items()
     ensures server { (setup : ServerSetup) (point : ClientPoint) (item : ClientItem)
         (reply : ArrayVec ℕ) (version : Version) (shared : Bool)
@@ -75,7 +75,7 @@ pub fn steps_are_of_their_items()
 {}
 
 /// Two ends speak the whole handshake, whatever the server offers and the viewer's limit: each
-/// reads what the other says to its end, and both then stand behind it with one version, one size
+/// reads what the other says to its end, and both then stand after it with one version, one size
 /// and one flag.
 pub fn two_ends_speak_the_handshake()
     ensures { (server : ServerSetup) (viewer : ViewerSetup) → IsSetup viewer.max_places server
@@ -86,7 +86,7 @@ pub fn two_ends_speak_the_handshake()
 {}
 
 /// The greeting and each answer of the server's end are the items that the handshake asks next, in
-/// the server's own stream, with nothing behind them.
+/// the server's own stream, with nothing after them.
 pub fn server_answers_are_asked_next()
     ensures greeting { (offer limit : Version) (max_places : ℕ)
         → ReadsAll (server_handshake limit max_places) AwaitsServerVersion
@@ -107,7 +107,7 @@ pub fn server_answers_are_asked_next()
 {}
 
 /// Each answer of the viewer's end is the items that the handshake asks next, in the viewer's own
-/// stream, with nothing behind them; the version that it names is one that the server offered.
+/// stream, with nothing after them; the version that it names is one that the server offered.
 pub fn viewer_answers_are_asked_next()
     ensures version { (setup : ViewerSetup) (offer : Version)
         → ReadsAll (client_handshake offer) AwaitsVersion

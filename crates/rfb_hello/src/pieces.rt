@@ -1,13 +1,13 @@
-//! Pieces of a handshake that come in slices, and the bytes of short answers.
+//! Texts that come in slices, and the bytes of short answers.
 
-ghost use Rattle.std.specs.Prelude.{◌≡◌, ◌≤◌, ◌<◌, ◌+◌, ◌++◌, length, take, true, false, IfSome, None};
-ghost use Rattle.arrayvec.specs.ArrayVec.{array_vec_len};
+ghost use Rattle.std.specs.Prelude.{◌≡◌, ◌≤◌, ◌<◌, ◌+◌, ◌++◌, length, take, true, false};
 ghost use Rattle.rfb_hello.specs.ServerEnd.{as_reply};
 ghost use Rattle.rfb_hello.specs.ServerHandshake.{has_none};
 
 use crate::step::INIT_SIZE;
 use crate::text::Text;
 use arrayvec::ArrayVec;
+use rfb_wire::pieces::append;
 
 /// The security type None, as 3.3 sends it and as a list has it, sections 7.1.2 and 7.2.1.
 pub const SECURITY_NONE: u8 = 1;
@@ -20,34 +20,7 @@ pub const WORD_PART: usize = WORD_SIZE - 1;
 
 pub const INIT_PART: usize = INIT_SIZE - 1;
 
-/// Takes bytes of a piece of `SIZE` bytes, of which a part has come: how many these were, and the
-/// piece, if it is whole now.
-pub fn gather<const PART: usize, const SIZE: usize>(
-    part: &mut ArrayVec<u8, PART>,
-    bytes: &[u8],
-) -> (usize, Option<ArrayVec<u8, SIZE>>)
-    requires size { SIZE ≡ PART + 1 }
-    requires some { 0 < length bytes.now }
-    ensures used { (0 < result.0) × (result.0 ≤ length bytes.now) }
-    ensures more { result.1 ≡ None
-        → (part.new.items ≡ part.old.items ++ take result.0 bytes.now)
-        × (length part.new.items < SIZE) }
-    ensures whole { IfSome result.1 (λ whole.
-        (whole.items ≡ part.old.items ++ take result.0 bytes.now)
-        × (length whole.items ≡ SIZE)) }
-{
-    let missing = SIZE - part.len();
-    if bytes.len() < missing {
-        append(part, bytes);
-        return (bytes.len(), None);
-    }
-    let mut whole = ArrayVec::new();
-    append(&mut whole, part.as_slice());
-    append(&mut whole, &bytes[..missing]);
-    (missing, Some(whole))
-}
-
-/// Takes bytes of a text, of which so many come behind the next one: how many these were, and
+/// Takes bytes of a text, of which `more` come after the next one. Returns how many these were, and
 /// whether the text is whole now.
 pub fn read_text(kept: &mut Text, more: &mut u32, bytes: &[u8]) -> (usize, bool)
     requires some { 0 < length bytes.now }
@@ -83,15 +56,4 @@ pub fn reply_of<const CAP: usize>(bytes: &[u8]) -> ArrayVec<u8, CAP>
     let mut reply = ArrayVec::new();
     append(&mut reply, bytes);
     reply
-}
-
-/// Appends bytes for which there is room.
-pub fn append<const CAP: usize>(kept: &mut ArrayVec<u8, CAP>, bytes: &[u8])
-    requires { array_vec_len kept.old + length bytes.now ≤ CAP }
-    ensures { kept.new.items ≡ kept.old.items ++ bytes.now }
-{
-    match kept.try_extend_from_slice(bytes) {
-        Ok(()) => {}
-        Err(_) => unreachable!(),
-    }
 }

@@ -15,7 +15,7 @@ mod progress;
 
 use crate::fault::HelloFault;
 use crate::fed::Fed;
-use crate::pieces::{SECURITY_NONE, append, gather, reply_of};
+use crate::pieces::{SECURITY_NONE, reply_of};
 use crate::server_hello::answers::{behind_version, offered, security};
 use crate::server_hello::progress::Progress;
 use crate::step::{MAX_REPLY, ServerStep};
@@ -23,6 +23,7 @@ use crate::version::{VERSION_PART, VERSION_SIZE, Version};
 use arrayvec::ArrayVec;
 use byteorder::{BigEndian, ByteOrder};
 use rfb_pixel::Format;
+use rfb_wire::pieces::{append, gather};
 
 /// How many bytes the name of a screen has at most.
 pub const MAX_NAME: usize = 255;
@@ -119,8 +120,8 @@ impl ServerHello {
         self.progress.part()
     }
 
-    // Takes bytes for the client's next item, as many of it as there are: how many these were, and
-    // what is told of it once it is whole.
+    // Takes bytes for the client's next item, as many of it as there are. Returns how many these
+    // were, and what the end answers once the item is whole.
     fn take(&mut self, bytes: &[u8]) -> Result<(usize, Option<ServerStep>), HelloFault>
         requires some { 0 < length bytes.now }
         requires open { is_open self.old ≡ true }
@@ -141,7 +142,8 @@ impl ServerHello {
                 Ok((1, event))
             }
             Progress::Init(version) => Ok((1, Some(self.take_init(version, bytes[0])))),
-            _ => self.take_version(bytes),
+            Progress::Version(_) => self.take_version(bytes),
+            Progress::Done(..) | Progress::Failed(_) => unreachable!(),
         }
     }
 

@@ -7,7 +7,7 @@ ghost use Rattle.rfb_hello.specs.KeptText.{KeptText, no_text};
 use std::alloc::{AllocError, Global};
 use std::marker::Model;
 
-/// The first bytes of a text, as many as there was room for: its memory is for so many and no more.
+/// The first bytes of a text, as many as there was room for: its memory is for these and no more.
 /// What they are encoded in is the server's matter.
 #[derive(Debug, Drop)]
 pub struct Text {
@@ -30,7 +30,7 @@ impl Text {
         }
     }
 
-    /// A text with room for so many bytes and none of them there. An error where there is no
+    /// A text with room for `room` bytes and none of them there. An error where there is no
     /// memory.
     pub fn with_room(alloc: Global, room: usize) -> Result<Text, AllocError>
         ensures { IfOk result (λ text. text ≡ record { room = room; bytes = [] }) }
@@ -56,7 +56,7 @@ impl Text {
         bytes
     }
 
-    /// Keeps as many of these bytes behind the others as there is room for. It takes no memory.
+    /// Keeps as many of these bytes after the others as there is room for. It takes no memory.
     pub fn keep(&mut self, bytes: &[u8])
         ensures { self.new ≡ record self.old {
           bytes = take self.old.room (self.old.bytes ++ bytes.now);

@@ -117,9 +117,10 @@ impl ViewerHello {
     pub fn reason(&self) -> &[u8]
         ensures { result.now ≡ (reason_of self.now).bytes }
     {
-        match &self.progress {
-            Progress::Failed(_, kept) => kept.as_slice(),
-            _ => &[],
+        if let Progress::Failed(_, kept) = &self.progress {
+            kept.as_slice()
+        } else {
+            &[]
         }
     }
 

@@ -95,7 +95,7 @@ client-spelled (Pointer buttons x y) bytes s =
 client-spelled (CutText text_length) bytes s =
     (grind (arith, nat_tests), grind (arith, nat_tests), omega arith)
 
--- bytes that go on behind a head spell no other, and do not go on
+-- bytes that go on after a head spell no other, and do not go on
 pub client-apart : (head other : ClientHead) (front rest : List ℕ) → SpellsClientHead head front →
     SpellsClientHead other (front ++ rest) → (other ≡ head) × (rest ≡ [])
 client-apart head other front rest a b =

@@ -42,7 +42,7 @@ client_headed = record {
 
 -- ---- formats
 
--- no fault is told where no check is failed
+-- there is no fault where no check is failed
 passes : (t : Bool) (fault : FormatFault) (rest : Option FormatFault) →
     (if t then Some fault else rest) ≡ None → (t ≡ false) × (rest ≡ None)
 passes true fault rest e = cc
@@ -110,7 +110,7 @@ fault_none : (fault : Option FormatFault) → format_fault fault ≡ None → fa
 fault_none None e = refl
 fault_none (Some fault) e = cc
 
--- ---- what stands behind a head
+-- ---- what stands after a head
 
 -- a number of SetEncodings
 abbrev number_says : Says ℤ ClientFault
@@ -129,7 +129,7 @@ number_reads =
       fault_back = λ f bytes h. h;
     }
 
--- what the bytes behind a head say
+-- what the bytes after a head say
 abbrev behind_says : ClientHead → Says ClientMessage ClientFault
 behind_says (FormatHead bytes) =
     judged_says (format_fault (first_fault bytes)) (SetPixelFormat (format_of bytes))

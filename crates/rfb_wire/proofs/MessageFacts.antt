@@ -10,7 +10,7 @@ use Rattle.rfb_wire.specs.ClientMessage.{SetPixelFormat, SetEncodings, Framebuff
 use Rattle.rfb_wire.specs.ClientStream.{client_message}
 use Rattle.rfb_wire.specs.ServerMessage.{FramebufferUpdate, SetColorMapEntries, Bell, ServerCutText, UnknownType as UnknownServerType, server_message}
 
--- SetPixelFormat of 32 bits a pixel, with a byte of the next message behind it
+-- SetPixelFormat of 32 bits a pixel, with a byte of the next message after it
 set_pixel_format : client_message
     (0 ∷ 0 ∷ 0 ∷ 0 ∷ 32 ∷ 24 ∷ 0 ∷ 1 ∷ 0 ∷ 255 ∷ 0 ∷ 255 ∷ 0 ∷ 255 ∷ 16 ∷ 8 ∷ 0 ∷ 0 ∷ 0 ∷ 0 ∷ 3
     ∷ []) ≡ Got (SetPixelFormat rgb888) (3 ∷ [])
@@ -70,7 +70,7 @@ unknown : client_message (1 ∷ []) ≡ Bad (UnknownType 1)
 unfolding client_message
 unknown = refl
 
--- an update of one rectangle, which begins behind its head
+-- an update of one rectangle, which begins after its head
 update : server_message (0 ∷ 0 ∷ 0 ∷ 1 ∷ 0 ∷ []) ≡ Got (FramebufferUpdate 1) (0 ∷ [])
 unfolding server_message
 update = refl

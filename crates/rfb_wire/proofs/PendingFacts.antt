@@ -1,4 +1,4 @@
--- How many bytes are pending behind each front of an item, computed from the tables: a head is
+-- How many bytes are pending after each front of an item, computed from the tables: a head is
 -- pending until it is whole, then each number, colour or byte of a text.
 use Rattle.std.proofs.Common.{◌≡◌, ℕ, List, [], ◌∷◌, ◌++◌, refl}
 use Rattle.rfb_wire.specs.stream.Sequel.{First, Second}
@@ -68,7 +68,7 @@ rre_data : at_fronts (behind_pieces 5 9) []
     ≡ 0 ∷ 1 ∷ 2 ∷ 3 ∷ 4 ∷ 0 ∷ 1 ∷ 2 ∷ 3 ∷ 4 ∷ 5 ∷ 6 ∷ 7 ∷ 8 ∷ []
 rre_data = refl
 
--- the same five bytes in a stream of two grammars: behind the first they are a message's
+-- the same five bytes in a stream of two grammars: after the first they are a message's
 in_either : (pending_in (λ (point : ℕ). in_pieces 4) (λ (point : ℕ). client_pending) (First 0)
     (5 ∷ 1 ∷ 0 ∷ 0 ∷ 0 ∷ []) ≡ 1)
     × (pending_in (λ (point : ℕ). in_pieces 4) (λ (point : ℕ). client_pending) (Second 0)

@@ -1,4 +1,4 @@
--- Of a message the pending bytes are those behind its last whole piece.
+-- Of a message the pending bytes are those after its last whole piece.
 use Rattle.std.proofs.Common.{◌≡◌, ℕ, ℤ, ◌≤◌, ◌<◌, List, [], ◌∷◌, ◌++◌, Some, length, refl, ◌∙◌, arith, length-append}
 use Rattle.std.proofs.lemmas.Bool.Decides.{nat_tests}
 use Rattle.rfb_wire.specs.declared.client_head.ClientHead.{ClientHead}

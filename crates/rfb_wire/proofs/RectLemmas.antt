@@ -29,7 +29,7 @@ same_encoding Rre Rre e = refl
 same_encoding Hextile Hextile e = refl
 same_encoding _ _ e = cc
 
--- bytes that go on behind a head spell no other, and do not go on
+-- bytes that go on after a head spell no other, and do not go on
 pub rect-apart : (head other : RectHead) (front rest : List ℕ) → SpellsRectHead head front →
     SpellsRectHead other (front ++ rest) → (other ≡ head) × (rest ≡ [])
 rect-apart head other front rest a b =

@@ -31,7 +31,7 @@ server_headed = record {
       (server_head_some first n e) e none;
 }
 
--- ---- what stands behind a head
+-- ---- what stands after a head
 
 -- a colour of SetColorMapEntries
 abbrev colour_says : Says MapColour ServerFault
@@ -62,7 +62,7 @@ colour_reads =
       fault_back = λ f bytes h. h;
     }
 
--- what the bytes behind a head say
+-- what the bytes after a head say
 abbrev behind_says : ServerHead → Says ServerMessage ServerFault
 behind_says (Update count) = done_says (FramebufferUpdate count)
 behind_says (ColourMap first count) =

@@ -39,7 +39,7 @@ type_refused = record { items = []; rest = 1 ∷ []; reads = refl; quiet = refl;
 told_at_once : IsSession teller tt [] at_once (1 ∷ []) (Some (UnknownType 1))
 told_at_once = (tt, [], (tt, [], key_taken, (refl, refl)), type_refused)
 
--- ---- the key's first three bytes, its others, and the fault with a byte behind it
+-- ---- the key's first three bytes, its others, and the fault with a byte after it
 
 abbrev in_parts : List (Call ClientMessage)
 in_parts = record {
@@ -76,7 +76,7 @@ told_in_parts : IsSession teller tt [] in_parts (1 ∷ 7 ∷ []) (Some (UnknownT
 told_in_parts =
     (tt, [], (tt, 4 ∷ 1 ∷ 0 ∷ [], part_taken, (tt, [], others_taken, (refl, refl))), more_refused)
 
--- the bytes are the same but for the one behind the fault, and so are the events
+-- the bytes are the same but for the one after the fault, and so are the events
 same_bytes : (bytes_of at_once ++ 1 ∷ []) ++ 7 ∷ [] ≡ bytes_of in_parts ++ 1 ∷ 7 ∷ []
 same_bytes = refl
 

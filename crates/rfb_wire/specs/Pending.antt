@@ -1,12 +1,12 @@
 -- The pieces of messages, RFC 6143 sections 7.5 and 7.6, whose bytes are pending until their last
--- is there: the head with its type byte, and behind it each number of SetEncodings, each colour of
+-- is there: the head with its type byte, and after it each number of SetEncodings, each colour of
 -- SetColorMapEntries and each byte of a text.
 use Rattle.std.specs.Prelude.{ℕ, ◌==◌, List, if◌then◌else◌}
 use Rattle.rfb_wire.specs.stream.Pending.{behind_piece, message_pending}
 use Rattle.rfb_wire.specs.ClientHead.{client_head_size}
 use Rattle.rfb_wire.specs.ServerHead.{server_head_size}
 
--- behind a client's head: numbers of SetEncodings, or bytes of a text; other messages are all head
+-- after a client's head: numbers of SetEncodings, or bytes of a text; other messages are all head
 abbrev pub client_piece_size : ℕ → ℕ
 client_piece_size message_type = if message_type == 2 then 4 else 1
 
@@ -14,7 +14,7 @@ client_piece_size message_type = if message_type == 2 then 4 else 1
 abbrev pub client_pending : List ℕ → ℕ
 client_pending bytes = message_pending client_head_size client_piece_size bytes
 
--- behind a server's head: colours of SetColorMapEntries, or bytes of a text;
+-- after a server's head: colours of SetColorMapEntries, or bytes of a text;
 -- other messages are all head
 abbrev pub server_piece_size : ℕ → ℕ
 server_piece_size message_type = if message_type == 1 then 6 else 1

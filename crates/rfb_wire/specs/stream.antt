@@ -1,5 +1,5 @@
 -- Streams of bytes, whatever their items are: what bytes begin with, the grammar of a
--- stream, an end that is fed one in slices, and two grammars one behind the other.
+-- stream, an end that is fed one in slices, and two grammars one after the other.
 -- Nothing here knows a message.
 pub mod Reading
 pub mod Parts

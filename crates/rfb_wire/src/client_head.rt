@@ -7,7 +7,8 @@ ghost use Rattle.rfb_wire.specs.Heads.{IfMore, IfGot, IfBad, IsUnknown};
 ghost use Rattle.rfb_wire.specs.ClientHead.{SpellsClientHead, client_head_bytes, client_head_size};
 
 use crate::fault::WireFault;
-use crate::fields::{MAX_HEAD, Spelling, append, append_rect, append_u16, append_u32, read_rect};
+use crate::fields::{MAX_HEAD, Spelling, append_rect, append_u16, append_u32, read_rect};
+use crate::pieces::append;
 use crate::read::Read;
 use arrayvec::ArrayVec;
 use byteorder::{BigEndian, ByteOrder};

@@ -5,6 +5,7 @@ ghost use Rattle.arrayvec.specs.ArrayVec.{array_vec_len};
 ghost use Rattle.byteorder.specs.Endian.{big_bytes};
 ghost use Rattle.rfb_wire.specs.Fields.{IsRectAt, rect_bytes};
 
+use crate::pieces::append;
 use arrayvec::ArrayVec;
 use byteorder::{BigEndian, ByteOrder};
 use rfb_picture::Rect;
@@ -25,17 +26,6 @@ pub fn read_rect(bytes: &[u8]) -> Rect
     let w = BigEndian::read_u16(&bytes[4..]);
     let h = BigEndian::read_u16(&bytes[6..]);
     Rect::new(x, y, w, h)
-}
-
-/// Appends bytes for which there is room.
-pub fn append(spelling: &mut Spelling, bytes: &[u8])
-    requires { array_vec_len spelling.old + length bytes.now ≤ MAX_HEAD }
-    ensures { spelling.new.items ≡ spelling.old.items ++ bytes.now }
-{
-    match spelling.try_extend_from_slice(bytes) {
-        Ok(()) => {}
-        Err(_) => unreachable!(),
-    }
 }
 
 /// Appends a U16.

@@ -3,7 +3,7 @@
 //! `ClientHead`, `ServerHead` and `RectHead` are read from the start of a slice, which may hold
 //! less than a head or more, and are encoded as bytes. Nothing here takes memory, keeps bytes
 //! or asks what was read before. The caller owns the slice, and drops from it what a
-//! `Read::Got` has used.
+//! `Read::Got` has used. Who keeps a piece that comes in slices has `pieces` to gather it.
 //!
 //! `stream` says in contracts alone what every end that is fed a stream of bytes rests on, and
 //! knows no message; `law` says which bytes of a stream are which messages.
@@ -14,6 +14,7 @@ mod encoding;
 mod fault;
 mod fields;
 pub mod law;
+pub mod pieces;
 mod read;
 mod rect_head;
 mod server_head;

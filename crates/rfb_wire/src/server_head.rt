@@ -7,7 +7,8 @@ ghost use Rattle.rfb_wire.specs.Heads.{IfMore, IfGot, IfBad, IsUnknown};
 ghost use Rattle.rfb_wire.specs.ServerHead.{SpellsServerHead, server_head_bytes, server_head_size};
 
 use crate::fault::WireFault;
-use crate::fields::{MAX_HEAD, Spelling, append, append_u16, append_u32};
+use crate::fields::{MAX_HEAD, Spelling, append_u16, append_u32};
+use crate::pieces::append;
 use crate::read::Read;
 use arrayvec::ArrayVec;
 use byteorder::{BigEndian, ByteOrder};

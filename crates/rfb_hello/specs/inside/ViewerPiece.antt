@@ -45,7 +45,7 @@ pub record TakesPiece (old : ViewerHello) (bytes : List ℕ) (used : ℕ)
 
 -- ---- what a part leaves behind it
 
--- the fault that a reason of so many bytes is given for
+-- the fault that a reason of that length is given for
 abbrev pub fault_for : Cause → ℕ → HelloFault
 fault_for Refused reason_length = RefusedFault reason_length
 fault_for SecurityFailed reason_length = FailedFault reason_length

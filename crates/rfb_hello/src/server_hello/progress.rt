@@ -39,7 +39,7 @@ impl Progress {
     {
         match self {
             Progress::Version(text) => text.len(),
-            _ => 0,
+            Progress::Choice(_) | Progress::Init(_) | Progress::Done(..) | Progress::Failed(_) => 0,
         }
     }
 }

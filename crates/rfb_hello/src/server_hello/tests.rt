@@ -13,8 +13,8 @@ const SERVER_INIT: [u8; 25] = [
     b't',
 ];
 
-// All that an end answers to a client's bytes, handed in so many at a time; how many it left; and
-// the fault, if there is one, told twice.
+// All that an end answers to a client's bytes, handed in a few at a time; how many it left; and the
+// fault, if there is one, told twice.
 fn answers(
     rt: &impl Abort,
     offer: Version,

@@ -90,7 +90,7 @@ fn note<E: Debug + Drop>(
     Ok(())
 }
 
-// All that an end tells of a stream, cut behind its first bytes and then every so many: its events,
+// All that an end tells of a stream, cut after its first bytes and then at a fixed size: its events,
 // and how many bytes it left, or its fault with the reason.
 fn told(
     alloc: Global,

@@ -1,8 +1,8 @@
-//! How many bytes are pending behind each byte of a handshake, and where the handshake is open.
+//! How many bytes are pending after each byte of a handshake, and where the handshake is open.
 
 use crate::{ServerHello, Version, ViewerHello};
 
-// What the other end sends, and how many bytes are pending behind each of them: a text of 12, a
+// What the other end sends, and how many bytes are pending after each of them: a text of 12, a
 // count and each type, a word of 4, ServerInit of 24 up to the name, and each byte of that.
 const LISTED: (&[u8], &[usize]) = (
     b"RFB 003.008\n\x02\x02\x01\0\0\0\0\0\x01\0\x01................\0\0\0\x02ab",

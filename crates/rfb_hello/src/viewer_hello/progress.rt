@@ -29,7 +29,7 @@ pub enum Progress {
     Word(ArrayVec<u8, WORD_PART>),
     /// The count of its security types, under 3.7 or 3.8.
     Count(Version),
-    /// Its security types: how many come behind the next one, and whether None was among those
+    /// Its security types: how many come after the next one, and whether None was among those
     /// before it.
     Types {
         version: Version,
@@ -43,7 +43,7 @@ pub enum Progress {
         cause: Cause,
         part: ArrayVec<u8, WORD_PART>,
     },
-    /// A reason: its length, how many bytes come behind the next one, and what is kept of it.
+    /// A reason: its length, how many bytes come after the next one, and what is kept of it.
     Reason {
         cause: Cause,
         length: u32,
@@ -52,7 +52,7 @@ pub enum Progress {
     },
     /// ServerInit up to the name: the bytes of it that have come.
     Init(Version, ArrayVec<u8, INIT_PART>),
-    /// The name: the screen's size, the name's length, how many bytes come behind the next one, and
+    /// The name: the screen's size, the name's length, how many bytes come after the next one, and
     /// what is kept of it.
     Name {
         version: Version,
@@ -88,13 +88,18 @@ impl Progress {
             Progress::Result(_, part) => part.len(),
             Progress::ReasonLength { part, .. } => part.len(),
             Progress::Init(_, part) => part.len(),
-            _ => 0,
+            Progress::Count(_)
+            | Progress::Types { .. }
+            | Progress::Reason { .. }
+            | Progress::Name { .. }
+            | Progress::Done
+            | Progress::Failed(..) => 0,
         }
     }
 }
 
 impl Cause {
-    /// The fault that a reason of so many bytes is given for.
+    /// The fault that a reason of that length is given for.
     pub fn fault(self, length: u32) -> HelloFault
         ensures { result ≡ fault_for self length }
     {

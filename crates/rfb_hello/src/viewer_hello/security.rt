@@ -12,13 +12,14 @@ ghost use Rattle.rfb_hello.specs.inside.ViewerPiece.{progress_behind_version, pr
 ghost use Rattle.rfb_hello.specs.declared.viewer_hello.progress.Progress.{Progress};
 
 use crate::fault::HelloFault;
-use crate::pieces::{SECURITY_NONE, WORD_PART, WORD_SIZE, gather, has_none, reply_of};
+use crate::pieces::{SECURITY_NONE, WORD_PART, WORD_SIZE, has_none, reply_of};
 use crate::step::{MAX_ANSWER, ViewerStep};
 use crate::version::{VERSION_PART, VERSION_SIZE, Version};
 use crate::viewer_hello::ViewerHello;
 use crate::viewer_hello::progress::{Cause, Progress};
 use arrayvec::ArrayVec;
 use byteorder::{BigEndian, ByteOrder};
+use rfb_wire::pieces::gather;
 
 impl ViewerHello {
     // Takes bytes of the server's version.

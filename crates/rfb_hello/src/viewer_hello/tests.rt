@@ -28,7 +28,7 @@ fn bytes_of(bytes: &[u8]) -> ArrayVec<u8, 64> {
     kept
 }
 
-// All that an end tells of bytes that are handed in so many at a time. It shares the screen, admits
+// All that an end tells of bytes that are handed in a few at a time. It shares the screen, admits
 // 64 places, and tells a fault twice.
 fn told_of<R: AllocGlobal + Abort>(
     rt: &R,
@@ -88,7 +88,7 @@ fn told_of<R: AllocGlobal + Abort>(
     told
 }
 
-// The same of pieces one behind another.
+// The same of pieces one after another.
 fn joined(pieces: &[&[u8]]) -> ArrayVec<u8, 64> {
     let mut all = ArrayVec::new();
     for piece in pieces {

@@ -13,13 +13,14 @@ ghost use Rattle.rfb_hello.specs.declared.viewer_hello.progress.Progress.{Progre
 ghost use Rattle.rfb_hello.specs.declared.viewer_hello.progress.Cause.{Cause};
 
 use crate::fault::HelloFault;
-use crate::pieces::{INIT_PART, WORD_PART, WORD_SIZE, gather, read_text};
+use crate::pieces::{INIT_PART, WORD_PART, WORD_SIZE, read_text};
 use crate::step::{INIT_SIZE, ViewerStep};
 use crate::text::Text;
 use crate::version::Version;
 use crate::viewer_hello::ViewerHello;
 use crate::viewer_hello::progress::{Cause, Progress};
 use byteorder::{BigEndian, ByteOrder};
+use rfb_wire::pieces::gather;
 use std::alloc::AllocError;
 use std::mem;
 
@@ -121,8 +122,8 @@ impl ViewerHello {
         (used, Ok(Some(step)))
     }
 
-    // What comes next of a server that told its screen and the length of its name, and what is told
-    // of it.
+    // What comes next of a server that sent its screen and the length of its name, and the step
+    // that the viewer returns.
     fn behind_init(
         &self,
         version: Version,
@@ -198,7 +199,7 @@ impl ViewerHello {
         (used, Ok(Some(ready)))
     }
 
-    // A text with room for as much as is kept of so many bytes.
+    // A text with room for as much as is kept of a text of that length.
     fn text_of(&self, length: u32) -> Result<Text, AllocError>
         ensures { IfOk result (λ text. text ≡ kept_of self.now.text_limit length []) }
     {

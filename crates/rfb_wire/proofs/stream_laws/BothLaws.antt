@@ -11,7 +11,7 @@ use Rattle.rfb_wire.specs.stream.Sequel.{Stage, First, Second, turn, Two, sequel
 use Rattle.rfb_wire.specs.stream.Both.{event_as, first_point, end_at, DoesAs, ComesTo, StarvesAs, GoesAsFirst, GoesAsSecond, LandsAs}
 use Rattle.rfb_wire.proofs.stream_laws.EndLaws.{quiet_first}
 
--- nothing is left over behind an event of the whole, since it is one of the part
+-- nothing is left over after an event of the whole, since it is one of the part
 whole_as : {D E : Type 0} (event : D → Option E) (told : Option D) (rest : List ℕ) →
     IfSome told (λ _. rest ≡ []) → IfSome (event_as event told) (λ _. rest ≡ [])
 whole_as event None rest whole = tt
@@ -261,7 +261,7 @@ module _ {P I F Q J G H : Type 0} where
       g.next r bytes ≡ named (λ j. Second j) two.second_fault (h.next q bytes)
   next_second two g h r q bytes both grammar point = rw (both, grammar, point) refl
 
-  -- the point behind an item of the first
+  -- the point after an item of the first
   past_item : (two : Two P I F Q J G H) (g : Grammar (Stage P Q) (Stage I J) H) (r : Stage P Q)
       (p : P) (i : I) → g ≡ sequel two → r ≡ First p →
       g.past r (First i) ≡ turn (two.leads p i) (two.first.past p i)
@@ -280,7 +280,7 @@ module _ {S A P I F Q J G H D E : Type 0} where
     goes_on = λ s u i shown quiet. goes.stays s u i shown (goes.told_over u i quiet);
   }
 
-  -- behind an item of the first the end shows what that comes to, or stands at the second
+  -- after an item of the first the end shows what that comes to, or stands at the second
   lands_behind : (two : Two P I F Q J G H) (m : Machine S (Stage P Q) (Stage I J) H E)
       (a : Machine A P I F D) (shows : S → Option A) (event : D → Option E) → IsMachine m →
       GoesAsFirst two m a shows event → (s t : S) (u v : A) (i : I) → shows s ≡ Some u →
@@ -314,7 +314,7 @@ module _ {S A P I F Q J G H D E : Type 0} where
       lands_behind two m a shows event is goes comes.0 t comes.1 v comes.2 comes.3 comes.5 comes.6
 
 module _ {S B P I F Q J G H C E : Type 0} where
-  -- an end of both does as the second's, behind each item of it
+  -- an end of both does as the second's, after each item of it
   pub second_does : (two : Two P I F Q J G H) (m : Machine S (Stage P Q) (Stage I J) H E)
       (b : Machine B Q J G C) (shows : S → Option B) (event : C → Option E) →
       GoesAsSecond two m b shows event → DoesAs m b shows (λ j. Second j) two.second_fault event

@@ -14,7 +14,7 @@ module _ {S P I F E : Type 0} where
   acts_append m s [] ys = refl
   acts_append m s (i ∷ xs) ys = acts_append m (m.act s i) xs ys
 
-  -- a state stands behind its items
+  -- a state stands after its items
   pub point_acts : (m : Machine S P I F E) → IsMachine m → (s : S) (items : List I) →
       m.point (acts m s items) ≡ past_all m.grammar (m.point s) items
   point_acts m is s [] = refl
@@ -33,7 +33,7 @@ module _ {S P I F E : Type 0} where
   quiet_first m s i [] ends = (ends, refl)
   quiet_first m s i (j ∷ items) ends = ends
 
-  -- items behind items without an event
+  -- items after items without an event
   pub ends_append : (m : Machine S P I F E) (s : S) (xs ys : List I) (event : Option E) →
       EndsWith m s xs None → EndsWith m (acts m s xs) ys event → EndsWith m s (xs ++ ys) event
   ends_append m s [] ys event quiet ends = ends
@@ -41,7 +41,7 @@ module _ {S P I F E : Type 0} where
       let first = quiet_first m s i xs quiet in
       ends_more m s i (xs ++ ys) event first.0 (ends_append m (m.act s i) xs ys event first.1 ends)
 
-  -- items of the bytes behind those that other items took
+  -- items of the bytes after those that other items took
   pub reads_then : (m : Machine S P I F E) → IsMachine m →
       (s t : S) (prefix mid xs ys rest : List ℕ) (one two : List I) → t ≡ acts m s one →
       ReadsAll m.grammar (m.point s) (prefix ++ xs) one mid →
@@ -74,7 +74,7 @@ module _ {S P I F E : Type 0} where
         whole = tt;
       }
 
-  -- bytes behind bytes
+  -- bytes after bytes
   pub takes_then : (m : Machine S P I F E) → IsMachine m →
       (s t u : S) (prefix mid rest xs ys : List ℕ) (event : Option E) →
       Takes m s prefix xs None t mid → Takes m t mid ys event u rest →
@@ -92,7 +92,7 @@ module _ {S P I F E : Type 0} where
         whole = two.whole;
       }
 
-  -- a fault behind bytes
+  -- a fault after bytes
   pub refuses_then : (m : Machine S P I F E) → IsMachine m →
       (s t : S) (prefix mid xs ys : List ℕ) (fault : F) → Takes m s prefix xs None t mid →
       Refuses m t mid ys fault → Refuses m s prefix (xs ++ ys) fault
@@ -123,7 +123,7 @@ module _ {S P I F E : Type 0} where
     bad = is.laws.bad (m.point (acts m s one.items)) one.rest ys fault one.bad;
   }
 
-  -- want of memory behind bytes
+  -- want of memory after bytes
   pub runs_out_then : (m : Machine S P I F E) → IsMachine m →
       (asks : S → List ℕ → Type 0) (s t : S) (prefix mid xs ys : List ℕ) →
       Takes m s prefix xs None t mid → RunsOut m asks t mid ys →
@@ -163,7 +163,7 @@ module _ {S P I F E : Type 0} where
 
   -- ---- one unit of bytes, of one item
 
-  -- a unit behind which more is wanted
+  -- a unit after which more is wanted
   pub takes_part : (m : Machine S P I F E) (s : S) (prefix unit : List ℕ) →
       m.grammar.next (m.point s) (prefix ++ unit) ≡ More →
       Takes m s prefix unit None s (prefix ++ unit)
@@ -270,7 +270,7 @@ module _ {S P I F E : Type 0} where
         partial = one.partial;
       }
 
-  -- a run behind a run is one
+  -- a run after a run is one
   pub runs_then : (m : Machine S P I F E) → IsMachine m →
       (s t u : S) (prefix mid rest xs ys : List ℕ) (one two : List E) →
       Runs m s prefix xs one t mid → Runs m t mid ys two u rest →

@@ -22,7 +22,7 @@ module _ {S P I F E V : Type 0} where
   fed_start m stands v waits =
       λ s prefix now. (s, prefix, now, takes_none m s prefix (waits s prefix now))
 
-  -- bytes behind bytes
+  -- bytes after bytes
   pub fed_then : (m : Machine S P I F E) → IsMachine m →
       (stands : V → S → List ℕ → Type 0) (old mid new : V) (xs ys : List ℕ) (event : Option E) →
       FedBy m stands old xs None mid → FedBy m stands mid ys event new →
@@ -32,7 +32,7 @@ module _ {S P I F E V : Type 0} where
       let b = two a.0 a.1 a.2 in
       (b.0, b.1, b.2, takes_then m is s a.0 b.0 prefix a.1 b.1 xs ys event a.3 b.3)
 
-  -- a fault behind bytes
+  -- a fault after bytes
   pub refused_then : (m : Machine S P I F E) → IsMachine m →
       (stands : V → S → List ℕ → Type 0) (old mid : V) (xs ys : List ℕ) (fault : F) →
       FedBy m stands old xs None mid → RefusedBy m stands mid ys fault →

@@ -49,7 +49,7 @@ module _ {P I F : Type 0} where
           let one = (spelled.reads p).blamed [] f e in
           absurd (none one.0 one.1 one.2 (spelled.some_fault p f one.0 one.3))
 
-  -- further bytes stand behind the rest
+  -- further bytes stand after the rest
   pub all_more : (g : Grammar P I F) → IsGrammar g →
       (p : P) (bytes tail : List ℕ) (items : List I) (rest : List ℕ) →
       ReadsAll g p bytes items rest → ReadsAll g p (bytes ++ tail) items (rest ++ tail)
@@ -60,7 +60,7 @@ module _ {P I F : Type 0} where
     all_more g laws (g.past p i) h.0 tail items rest h.2,
   )
 
-  -- items behind items
+  -- items after items
   pub all_append : (g : Grammar P I F) (p : P) (bytes : List ℕ) (xs ys : List I)
       (mid rest : List ℕ) → ReadsAll g p bytes xs mid → ReadsAll g (past_all g p xs) mid ys rest →
       ReadsAll g p bytes (xs ++ ys) rest
@@ -246,7 +246,7 @@ module _ {P I F : Type 0} where
       ap length one.1 ∙ length-append one.0 rest in
       omega (arith, less, size, one.3)
 
-  -- bytes that are not yet all of the first item are not when further items stand behind
+  -- bytes that are not yet all of the first item are not when further items stand after
   pub within_append : (g : Grammar P I F) → IsGrammar g →
       (n : ℕ) (p : P) (bytes : List ℕ) (xs ys : List I) (rest : List ℕ) → IsWithinFirst g n xs →
       ReadsAll g p bytes ys rest → IsWithinFirst g n (xs ++ ys)

@@ -7,7 +7,7 @@ use Rattle.rfb_wire.specs.stream.Parts.{piece, done, judged, behind, and_then}
 
 -- ---- what each part says
 
--- any bytes, so many
+-- any n bytes
 abbrev pub piece_says : {F : Type 0} → ℕ → Says (List ℕ) F
 piece_says n = record { item = λ xs bytes. (bytes ≡ xs) × (length bytes ≡ n); fault = λ _ _. ⊥ }
 
@@ -30,12 +30,12 @@ module _ {A F : Type 0} where
       record { item = λ body bytes. (bytes ≡ body) × ((a : A) × s.item a body); fault = s.fault }
 
 module _ {A B F : Type 0} where
-  -- an item of the first, and behind it one of the part that it names
+  -- an item of the first, and after it one of the part that it names
   abbrev pub ThenItem : Says A F → (A → Says B F) → B → List ℕ → Type 0
   ThenItem s t b bytes =
       (a : A) × (front back : List ℕ) × (bytes ≡ front ++ back) × s.item a front × (t a).item b back
 
-  -- a fault of the first, or an item of it and a fault behind it
+  -- a fault of the first, or an item of it and a fault after it
   abbrev pub ThenFault : Says A F → (A → Says B F) → F → List ℕ → Type 0
   ThenFault s t f bytes =
       s.fault f bytes
@@ -45,7 +45,7 @@ module _ {A B F : Type 0} where
   abbrev pub then_says : Says A F → (A → Says B F) → Says B F
   then_says s t = record { item = ThenItem s t; fault = ThenFault s t }
 
--- bytes with nothing behind them
+-- bytes with nothing after them
 pub alone : (bytes front back : List ℕ) → bytes ≡ front ++ back → back ≡ [] → bytes ≡ front
 alone bytes front back e none = e ∙ ap (λ (ys : List ℕ). front ++ ys) none ∙ append-nil front
 
@@ -131,7 +131,7 @@ module _ {A F : Type 0} where
   }
 
 module _ {A B F : Type 0} where
-  -- what a sequence gives: what its first part gave, and then what the second gives behind it
+  -- what a sequence gives: what its first part gave, and then what the second gives after it
   then_found : (n : Next A F) (k : A → Reading B F) (b : B) (rest : List ℕ) →
       behind k n ≡ Got b rest → (a : A) × (mid : List ℕ) × (n ≡ Got a mid) × (k a mid ≡ Got b rest)
   then_found More k b rest e = cc

@@ -1,4 +1,4 @@
--- Pending bytes are those behind the last whole piece.
+-- Pending bytes are those after the last whole piece.
 use Rattle.std.proofs.Common.{◌≡◌, ℕ, suc, ◌+◌, ◌*◌, ◌≤◌, ◌<◌, Bool, true, false, List, [], ◌∷◌, ◌++◌, Option, Some, None, nat_lt, length, drop, slice_index, refl, ◌∙◌, ap, arith, length-append, length-drop}
 use Rattle.std.proofs.lemmas.List.{drop_at}
 use Rattle.std.proofs.lemmas.Nat.{mod-mul-add}
@@ -9,7 +9,7 @@ use Rattle.rfb_wire.specs.stream.Pending.{in_pieces, behind_piece, behind_head, 
 
 -- ---- pieces
 
--- pieces of one size have so many bytes
+-- how many bytes pieces of one size have
 pub length-pieces : {A : Type 0} (R : A → List ℕ → Type 0) (size : ℕ) →
     ((a : A) (bytes : List ℕ) → R a bytes → length bytes ≡ size) →
     (items : List A) (bytes : List ℕ) → Listed R items bytes →
@@ -20,7 +20,7 @@ length-pieces R size sized (a ∷ items) bytes (front, back, e, s, more) =
     let all : length bytes ≡ length front + length back = ap length e ∙ length-append front back in
     omega (arith, sized a front s, others, all)
 
--- what stands behind whole pieces is pending, where it is less than a piece
+-- what stands after whole pieces is pending, where it is less than a piece
 pub counted_pending : (size count : ℕ) (front rest : List ℕ) → length front ≡ count * size →
     length rest < size → in_pieces size (front ++ rest) ≡ length rest
 counted_pending size count front rest whole less =
@@ -44,7 +44,7 @@ pub piece_pending : (size : ℕ) (pending : List ℕ → ℕ) (bytes : List ℕ)
 piece_pending size pending bytes less = let short : nat_lt (length bytes) size ≡ true =
     grind (arith, nat_tests) in rw short refl
 
--- behind a whole piece it is what follows that may be pending
+-- after a whole piece it is what follows that may be pending
 pub past_piece : (size : ℕ) (pending : List ℕ → ℕ) (front rest : List ℕ) → length front ≡ size →
     behind_piece size pending (front ++ rest) ≡ pending rest
 past_piece size pending front rest whole =
@@ -86,7 +86,7 @@ module _ (head : ℕ → Option ℕ) (size : ℕ → ℕ) where
   head_pending first n rest is less =
       rw is (piece_pending n (in_pieces (size first)) (first ∷ rest) less)
 
-  -- behind a head it is what follows
+  -- after a head it is what follows
   pub past_head : (kind n : ℕ) (front rest : List ℕ) → 0 < n → length front ≡ n →
       slice_index front 0 ≡ kind → head kind ≡ Some n →
       message_pending head size (front ++ rest) ≡ in_pieces (size kind) rest

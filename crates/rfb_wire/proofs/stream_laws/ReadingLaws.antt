@@ -64,7 +64,7 @@ module _ {A F : Type 0} where
         let more : p (front ++ rest) ≡ More = subst (λ (ys : List ℕ). p ys ≡ More) is e in cc),
   )
 
-  -- a run of whole units, fewer than asked, waits where the part waits behind them
+  -- a run of whole units, fewer than asked, waits where the part waits after them
   pub each_waits : (n : ℕ) (p : List A → Reading A F) (s : List A → Says A F) →
       ((xs : List A) → Reads (p xs) (s xs)) → (before items : List A) (front rest : List ℕ) →
       ListedAfter (λ xs. (s xs).item) before items front → length items < n →

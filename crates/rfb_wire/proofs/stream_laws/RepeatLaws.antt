@@ -1,4 +1,4 @@
--- The laws of the parts that are put together of others: optional, so many, the
+-- The laws of the parts that are put together of others: optional, n times, the
 -- bytes taken, other names.
 use Rattle.std.proofs.Common.{◌≡◌, ℕ, zero, suc, ◌-◌, ◌<◌, inl, inr, List, [], ◌∷◌, ◌++◌, Bool, true, false, Option, Some, None, length, take, refl, sym, subst, ◌∙◌, ap, append_assoc, append-nil, arith, length-append}
 use Rattle.std.proofs.lemmas.List.{take_at}
@@ -12,12 +12,12 @@ FaultIf false R f bytes = ⊥
 FaultIf true R f bytes = R f bytes
 
 module _ {A F : Type 0} where
-  -- what so many bytes say
+  -- what n bytes say
   abbrev pub valued_says : ℕ → (List ℕ → A) → Says A F
   valued_says n value =
       record { item = λ a bytes. (length bytes ≡ n) × (a ≡ value bytes); fault = λ _ _. ⊥ }
 
-  -- what so many good bytes say, and the fault of others
+  -- what n good bytes say, and the fault of others
   abbrev pub checked_says : ℕ → (List ℕ → Option F) → (List ℕ → A) → Says A F
   checked_says n fault value =
       record {
@@ -35,7 +35,7 @@ module _ {A F : Type 0} where
       (items : List A) × (front back : List ℕ) × (length items < n) × (bytes ≡ front ++ back)
       × Listed s.item items front × s.fault f back
 
-  -- so many items
+  -- n items
   abbrev pub many_says : ℕ → Says A F → Says (List A) F
   many_says n s =
       record {
@@ -49,7 +49,7 @@ module _ {A F : Type 0} where
       (items : List A) × (front back : List ℕ) × (length items < n) × (bytes ≡ front ++ back)
       × ListedAfter (λ xs. (s xs).item) before items front × (s (before ++ items)).fault f back
 
-  -- so many items, each as those before it ask
+  -- n items, each as those before it ask
   abbrev pub each_says : ℕ → (List A → Says A F) → List A → Says (List A) F
   each_says n s before =
       record {
@@ -152,7 +152,7 @@ module _ {A F : Type 0} where
         fault_back = λ f bytes h. inl h;
       }
 
-  -- one part, and then so many others
+  -- one part, and then n others
   abbrev each_more : ℕ → (List A → Says A F) → List A → Says (List A) F
   each_more n s before =
       then_says (s before)

@@ -104,7 +104,7 @@ module _ {P I F Q J G H : Type 0} where
     rw stays.0 (all_first two (two.first.past p i) h.0 (j ∷ items) rest stays.1 h.2),
   )
 
-  -- behind an item that does not lead over the first goes on
+  -- after an item that does not lead over the first goes on
   behind_one : {to : Stage P Q} (two : Two P I F Q J G H) (p : P) (i : I) (items : List I) →
       two.leads p i ≡ None →
       past_all (sequel two) (First (two.first.past p i)) (map (λ k. First k) items) ≡ to →
@@ -113,7 +113,7 @@ module _ {P I F Q J G H : Type 0} where
       subst (λ (at : Stage P Q). past_all (sequel two) at (map (λ k. First k) items) ≡ to)
       (sym (ap (λ (over : Option Q). turn over (two.first.past p i)) stays)) h
 
-  -- the point behind items of the first: one of the second, if the last leads there
+  -- the point after items of the first: one of the second, if the last leads there
   pub past_first : (two : Two P I F Q J G H) (p : P) (items : List I) (last : I) →
       StaysFirst two p (items ++ last ∷ []) →
       past_all (sequel two) (First p) (map (λ i. First i) (items ++ last ∷ []))
@@ -126,14 +126,14 @@ module _ {P I F Q J G H : Type 0} where
       behind_one two p i ((j ∷ items) ++ last ∷ []) stays.0
       (past_first two (two.first.past p i) (j ∷ items) last stays.1)
 
-  -- the point behind items of the second
+  -- the point after items of the second
   pub past_second : (two : Two P I F Q J G H) (q : Q) (items : List J) →
       past_all (sequel two) (Second q) (map (λ j. Second j) items)
       ≡ Second (past_all two.second q items)
   past_second two q [] = refl
   past_second two q (j ∷ items) = past_second two (two.second.past q j) items
 
-  -- items of the first, whose last leads over, and behind them items of the second
+  -- items of the first, whose last leads over, and after them items of the second
   pub all_both : (two : Two P I F Q J G H) (p : P) (q : Q) (bytes mid rest : List ℕ)
       (items : List I) (last : I) (others : List J) → StaysFirst two p (items ++ last ∷ []) →
       two.leads (past_all two.first p items) last ≡ Some q →

@@ -12,7 +12,7 @@ use Rattle.rfb_wire.proofs.stream_laws.EndLaws.{acts_append, point_acts, reads_t
 module _ {S P I F E : Type 0} where
   -- ---- sessions
 
-  -- what bytes behind a prefix are: items, with these events, and then a
+  -- what bytes after a prefix are: items, with these events, and then a
   -- fault or too few for another
   record Makes (m : Machine S P I F E) (s : S) (prefix bytes : List ℕ) (events : List E)
       (fault : Option F) : Type 0 where
@@ -35,7 +35,7 @@ module _ {S P I F E : Type 0} where
         (ap m.point run.state ∙ point_acts m is s run.items) run.partial;
   }
 
-  -- items without an event behind a run tell nothing more
+  -- items without an event after a run tell nothing more
   quiet_told : (m : Machine S P I F E) (s t : S) (prefix bytes rest : List ℕ) (events : List E)
       (run : Runs m s prefix bytes events t rest) (items : List I) → told m t items ≡ [] →
       events ≡ told m s (run.items ++ items)
@@ -200,7 +200,7 @@ module _ {S P I F E : Type 0} where
     within = one.within;
   }
 
-  -- a delivery behind a delivery is one
+  -- a delivery after a delivery is one
   pub deliveries_join : (m : Machine S P I F E) (s t u : S) (prefix xs ys later mid rest : List ℕ)
       (queue : List I) (es fs : List E)
       (one : DeliversAll m s prefix queue xs (ys ++ later) es t mid) →

@@ -15,7 +15,7 @@ module _ {A F : Type 0} where
       valued {F = F} n value bytes ≡ More
   valued_waits n value bytes less = rw (piece_short {F = F} n bytes less) refl
 
-  -- fewer bytes than so many pieces have
+  -- fewer bytes than n pieces have
   pub pieces_wait : (n size : ℕ) (value : List ℕ → A) (before : List A) (bytes : List ℕ) →
       length bytes < n * size → each {F = F} n (λ _. valued size value) before bytes ≡ More
   pieces_wait zero size value before bytes less = absurd (omega (arith, less))
@@ -57,7 +57,7 @@ module _ {A F : Type 0} where
       rest (omega (arith, length-append rest missing, long, misses.0)))
 
 module _ {A B F : Type 0} where
-  -- behind an item, bytes that are too few for what it asks
+  -- after an item, bytes that are too few for what it asks
   pub behind_waits : (p : Reading A F) (k : A → Reading B F) (a : A) (bytes rest : List ℕ) →
       p bytes ≡ Got a rest → k a rest ≡ More → and_then p k bytes ≡ More
   behind_waits p k a bytes rest got more = rw got more

@@ -23,7 +23,7 @@ end_at g tells = record { grammar = g; point = λ p. p; act = g.past; tells = te
 module _ {S R K H E A P I F D : Type 0} where
   -- an end does what another does, as long as its state shows one of the other's: it reads the same
   -- items and faults under other names, tells of an item what is named of what the other tells, and
-  -- goes on showing the other's state behind an item of which that tells nothing
+  -- goes on showing the other's state after an item of which that tells nothing
   pub record DoesAs (m : Machine S R K H E) (a : Machine A P I F D) (shows : S → Option A)
       (item : I → K) (fault : F → H) (event : D → Option E) : Type 0 where
     pub reads : (s : S) (u : A) (bytes : List ℕ) → shows s ≡ Some u →
@@ -52,7 +52,7 @@ module _ {S R K H E A P I F D : Type 0} where
 
 module _ {S A P I F Q J G H D E : Type 0} where
   -- an end of both is an end of the first as long as its state shows one of that: it stands at the
-  -- same point, tells what is named of what that tells, and shows the next state behind an item
+  -- same point, tells what is named of what that tells, and shows the next state after an item
   -- that does not lead over; of one that leads over the first's end tells something
   pub record GoesAsFirst (two : Two P I F Q J G H) (m : Machine S (Stage P Q) (Stage I J) H E)
       (a : Machine A P I F D) (shows : S → Option A) (event : D → Option E) : Type 0 where
@@ -65,7 +65,7 @@ module _ {S A P I F Q J G H D E : Type 0} where
         shows (m.act s (First i)) ≡ Some (a.act u i)
     pub told_over : (u : A) (i : I) → a.tells u i ≡ None → two.leads (a.point u) i ≡ None
 
-  -- an item led over: the state before it showed one of the first's end, and the one behind it
+  -- an item led over: the state before it showed one of the first's end, and the one after it
   -- stands at the point of the second that the item leads to
   pub record LedOver (two : Two P I F Q J G H) (m : Machine S (Stage P Q) (Stage I J) H E)
       (a : Machine A P I F D) (shows : S → Option A) (t : S) (v : A) : Type 0 where
@@ -79,7 +79,7 @@ module _ {S A P I F Q J G H D E : Type 0} where
     pub left : v ≡ a.act shown item
     pub point : m.point t ≡ Second to
 
-  -- behind a call of the first's end: the end of both shows the state that
+  -- after a call of the first's end: the end of both shows the state that
   -- this left, or was led over
   abbrev pub LandsAs : Two P I F Q J G H → Machine S (Stage P Q) (Stage I J) H E →
       Machine A P I F D → (S → Option A) → S → A → Type 0

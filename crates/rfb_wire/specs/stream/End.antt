@@ -31,7 +31,7 @@ events_of [] = []
 events_of (call ∷ calls) = with_event call.event (events_of calls)
 
 module _ {S P I F E : Type 0} where
-  -- its grammar has the laws, and an item brings the state to the point behind it
+  -- its grammar has the laws, and an item brings the state to the point after it
   pub record IsMachine (m : Machine S P I F E) : Type 0 where
     pub laws : IsGrammar m.grammar
     pub past : (s : S) (i : I) → m.point (m.act s i) ≡ m.grammar.past (m.point s) i
@@ -55,7 +55,7 @@ module _ {S P I F E : Type 0} where
 
   -- what it takes of the bytes that follow a prefix: whole items up to the first that makes
   -- an event, or as far as the bytes go, and then what is too few for another; nothing is
-  -- left over behind an event
+  -- left over after an event
   pub record Takes (m : Machine S P I F E) (old : S) (prefix bytes : List ℕ) (event : Option E)
       (new : S) (rest : List ℕ) : Type 0 where
     pub items : List I
@@ -103,7 +103,7 @@ module _ {S P I F E : Type 0} where
       × CallsTo m mid left calls new rest
 
   -- bytes that were delivered of those in flight to it, where all in flight are the items of a
-  -- queue: so many items are done, and what is left of the queue is what is left of the bytes
+  -- queue: some items are done, and what is left of the queue is what is left of the bytes
   pub record Delivers (m : Machine S P I F E) (old : S) (prefix : List ℕ) (queue : List I)
       (bytes later : List ℕ) (event : Option E) (new : S) (rest : List ℕ) : Type 0 where
     pub done : List I
@@ -138,7 +138,7 @@ module _ {S P I F E V : Type 0} where
       (s : S) (prefix : List ℕ) → stands old s prefix → RunsOut m asks s prefix bytes
 
   -- what one step answers to a unit of bytes, a byte or a run of them, of one item: `next` is what
-  -- the prefix with the unit behind it begins with
+  -- the prefix with the unit after it begins with
   abbrev pub Steps : Machine S P I F E → (V → S → List ℕ → Type 0) → V → S → List ℕ → Next I F →
       Result (Option E) F → Type 0
   Steps m stands new s bytes More (Ok event) = (event ≡ None) × stands new s bytes

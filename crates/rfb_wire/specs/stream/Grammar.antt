@@ -1,8 +1,8 @@
--- Streams: items one behind another, each read at the point that those before it lead to.
+-- Streams: items one after another, each read at the point that those before it lead to.
 use Rattle.std.specs.Prelude.{ℕ, List, [], ◌∷◌, ◌++◌, ◌≡◌, ◌+◌, ◌<◌, Option, Some, None, length}
 use Rattle.rfb_wire.specs.stream.Reading.{Next, More, Got, Bad, Reading, Says, Reads}
 
--- what stands next at each point of a stream, the point behind an item, and how many bytes it has
+-- what stands next at each point of a stream, the point after an item, and how many bytes it has
 pub record Grammar (P I F : Type 0) : Type 0 where
   pub next : P → Reading I F
   pub past : P → I → P
@@ -14,7 +14,7 @@ module _ {I F : Type 0} where
   EndsIn None n = n ≡ More
   EndsIn (Some f) n = n ≡ Bad f
 
-  -- nothing is read behind a fault
+  -- nothing is read after a fault
   abbrev pub UnlessFault : Option F → List I → Option F → (List I → Type 0) → Type 0
   UnlessFault None later fault goes_on = goes_on later
   UnlessFault (Some f) later fault goes_on = (later ≡ []) × (fault ≡ Some f)
@@ -39,13 +39,13 @@ module _ {P I F : Type 0} where
         × (length front ≡ g.size i)
     pub empty : (p : P) → g.next p [] ≡ More
 
-  -- bytes at a point are these items, and behind them the rest
+  -- bytes at a point are these items, and after them the rest
   abbrev pub ReadsAll : Grammar P I F → P → List ℕ → List I → List ℕ → Type 0
   ReadsAll g p bytes [] rest = bytes ≡ rest
   ReadsAll g p bytes (i ∷ items) rest =
       (mid : List ℕ) × (g.next p bytes ≡ Got i mid) × ReadsAll g (g.past p i) mid items rest
 
-  -- the point behind items
+  -- the point after items
   abbrev pub past_all : Grammar P I F → P → List I → P
   past_all g p [] = p
   past_all g p (i ∷ items) = past_all g (g.past p i) items
@@ -55,7 +55,7 @@ module _ {P I F : Type 0} where
   sizes g [] = 0
   sizes g (i ∷ items) = g.size i + sizes g items
 
-  -- so many bytes are not yet all of the first item
+  -- n bytes are not yet all of the first item
   abbrev pub IsWithinFirst : Grammar P I F → ℕ → List I → Type 0
   IsWithinFirst g n [] = n ≡ 0
   IsWithinFirst g n (i ∷ items) = n < g.size i
@@ -68,7 +68,7 @@ module _ {P I F : Type 0} where
     pub reads : ReadsAll g p bytes items rest
     pub ends : EndsIn fault (g.next (past_all g p items) rest)
 
-  -- the verdict of slices that are read one after another, each behind what
+  -- the verdict of slices that are read one after another, each after what
   -- was left of those before it
   abbrev pub CutVerdict : Grammar P I F → P → List ℕ → List (List ℕ) → List I → Option F → Type 0
   CutVerdict g p front [] items fault = (items ≡ []) × (fault ≡ None) × (g.next p front ≡ More)

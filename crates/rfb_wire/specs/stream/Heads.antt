@@ -7,7 +7,7 @@ module _ {V : Type 0} where
   abbrev pub BeginsNone : (V → List ℕ → Type 0) → ℕ → Type 0
   BeginsNone Spells first = (v : V) (rest : List ℕ) → Spells v (first ∷ rest) → ⊥
 
-  -- so many bytes are missing: one before the type byte, and then those that make the bytes a head,
+  -- n bytes are missing: one before the type byte, and then those that make the bytes a head,
   -- whatever they are
   abbrev pub Misses : (V → List ℕ → Type 0) → ℕ → List ℕ → Type 0
   Misses Spells n [] = n ≡ 1

@@ -2,7 +2,7 @@
 use Rattle.std.specs.Prelude.{ℕ, zero, suc, Bool, true, false, List, [], ◌∷◌, ◌++◌, ◌-◌, Option, Some, None, nat_le, slice_index, length, take, drop, if◌then◌else◌}
 use Rattle.rfb_wire.specs.stream.Reading.{Next, More, Got, Bad, Reading}
 
--- so many bytes
+-- n bytes
 abbrev pub piece : {F : Type 0} → ℕ → Reading (List ℕ) F
 piece n bytes = if nat_le n (length bytes) then Got (take n bytes) (drop n bytes) else More
 
@@ -35,22 +35,22 @@ module _ {A F : Type 0} where
   kept p bytes = taken bytes (p bytes)
 
 module _ {A B F : Type 0} where
-  -- what is read behind an item
+  -- what is read after an item
   abbrev pub behind : (A → Reading B F) → Next A F → Next B F
   behind k More = More
   behind k (Got a rest) = k a rest
   behind k (Bad f) = Bad f
 
-  -- one part, and behind it another that the item names
+  -- one part, and after it another that the item names
   abbrev pub and_then : Reading A F → (A → Reading B F) → Reading B F
   and_then p k bytes = behind k (p bytes)
 
 module _ {A F : Type 0} where
-  -- so many bytes, and what they say
+  -- n bytes, and what they say
   abbrev pub valued : ℕ → (List ℕ → A) → Reading A F
   valued n value = and_then (piece n) (λ bytes. done (value bytes))
 
-  -- so many bytes, judged, and what they say if they are good
+  -- n bytes, judged, and what they say if they are good
   abbrev pub checked : ℕ → (List ℕ → Option F) → (List ℕ → A) → Reading A F
   checked n fault value = and_then (piece n) (λ bytes. judged (fault bytes) (value bytes))
 
@@ -59,18 +59,18 @@ module _ {A F : Type 0} where
   optional false p = done None
   optional true p = and_then p (λ a. done (Some a))
 
-  -- so many parts, each named by the items before it, of which the list's come first
+  -- n parts, each named by the items before it, of which the list's come first
   abbrev pub each : ℕ → (List A → Reading A F) → List A → Reading (List A) F
   each zero p before = done []
   each (suc n) p before =
       and_then (p before) (λ a. and_then (each n p (before ++ a ∷ [])) (λ more. done (a ∷ more)))
 
-  -- one part so many times
+  -- one part n times
   abbrev pub many : ℕ → Reading A F → Reading (List A) F
   many n p = each n (λ _. p) []
 
 module _ {A F : Type 0} where
-  -- the rest of a head of so many bytes, or none where there is no such head
+  -- the rest of a head of that size, or a fault where there is no such head
   abbrev pub rest_of_head : (ℕ → F) → (List ℕ → A) → ℕ → Option ℕ → Reading A F
   rest_of_head unknown head_in first None = refused (unknown first)
   rest_of_head unknown head_in first (Some size) =

@@ -1,19 +1,19 @@
--- Pending bytes: those of an item under way that stand behind its last whole piece. A piece is what
+-- Pending bytes: those of an item under way that stand after its last whole piece. A piece is what
 -- is judged at once, when its last byte is there.
 use Rattle.std.specs.Prelude.{ℕ, ◌%◌, List, [], ◌∷◌, Option, Some, None, nat_lt, length, drop, if◌then◌else◌}
 use Rattle.rfb_wire.specs.stream.Sequel.{Stage, First, Second}
 
--- how many bytes are pending where pieces of one size stand one behind another
+-- how many bytes are pending where pieces of one size stand one after another
 abbrev pub in_pieces : ℕ → List ℕ → ℕ
 in_pieces size bytes = length bytes % size
 
--- how many are pending where a piece of so many bytes comes first: all until it is whole, and then
--- what is pending behind it
+-- how many are pending where a piece of that size comes first: all until it is whole, and then
+-- what is pending after it
 abbrev pub behind_piece : ℕ → (List ℕ → ℕ) → List ℕ → ℕ
 behind_piece size pending bytes =
     if nat_lt (length bytes) size then length bytes else pending (drop size bytes)
 
--- how many are pending where pieces of one size stand behind a head
+-- how many are pending where pieces of one size stand after a head
 abbrev pub behind_pieces : ℕ → ℕ → List ℕ → ℕ
 behind_pieces head size bytes = behind_piece head (in_pieces size) bytes
 
@@ -22,7 +22,7 @@ abbrev pub behind_head : Option ℕ → ℕ → List ℕ → ℕ
 behind_head None size bytes = 0
 behind_head (Some head) size bytes = behind_pieces head size bytes
 
--- how many are pending of a message, by the size of its head and of the pieces behind that,
+-- how many are pending of a message, by the size of its head and of the pieces after that,
 -- which its first byte decides
 abbrev pub message_pending : (ℕ → Option ℕ) → (ℕ → ℕ) → List ℕ → ℕ
 message_pending head size [] = 0

@@ -9,7 +9,7 @@ pub data Stage (A B : Type 0) : Type 0 where
   First : (value : A) → Stage A B
   Second : (value : B) → Stage A B
 
--- the point behind an item of the first: one of the second, if it leads there
+-- the point after an item of the first: one of the second, if it leads there
 abbrev pub turn : {P Q : Type 0} → Option Q → P → Stage P Q
 turn None p = First p
 turn (Some q) p = Second q
@@ -19,7 +19,7 @@ abbrev pub size_in : {I J : Type 0} → (I → ℕ) → (J → ℕ) → Stage I 
 size_in one two (First i) = one i
 size_in one two (Second j) = two j
 
--- items of the first up to one that leads over, and items of the second behind it
+-- items of the first up to one that leads over, and items of the second after it
 abbrev pub in_both : {I J : Type 0} → List I → I → List J → List (Stage I J)
 in_both items last others = map (λ i. First i) (items ++ last ∷ []) ++ map (λ j. Second j) others
 
@@ -38,7 +38,7 @@ module _ {P I F Q J G H : Type 0} where
   next_in two (First p) = renamed (λ i. First i) two.first_fault (two.first.next p)
   next_in two (Second q) = renamed (λ j. Second j) two.second_fault (two.second.next q)
 
-  -- the point behind an item; one of the other grammar stands at no point
+  -- the point after an item; one of the other grammar stands at no point
   abbrev pub past_in : Two P I F Q J G H → Stage P Q → Stage I J → Stage P Q
   past_in two (First p) (First i) = turn (two.leads p i) (two.first.past p i)
   past_in two (First p) (Second j) = First p

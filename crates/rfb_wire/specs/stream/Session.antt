@@ -24,7 +24,7 @@ module _ {S P I F E : Type 0} where
       × RunsOut m (λ _ _. ⊤) new rest slice
 
   -- bytes that were delivered of those in flight by any number of calls, where all in flight are
-  -- the items of a queue: so many items are done, with these events, and what is left of the queue
+  -- the items of a queue: some items are done, with these events, and what is left of the queue
   -- is what is left of the bytes
   pub record DeliversAll (m : Machine S P I F E) (old : S) (prefix : List ℕ) (queue : List I)
       (bytes later : List ℕ) (events : List E) (new : S) (rest : List ℕ) : Type 0 where

@@ -24,7 +24,7 @@ pub fn bytes_have_one_verdict<P, I, F>()
 {}
 
 /// The verdict of bytes does not depend on how they are cut into slices: read one after another,
-/// each behind what was left of those before it, the slices have a verdict, and it is that of the
+/// each after what was left of those before it, the slices have a verdict, and it is that of the
 /// bytes.
 pub fn verdict_is_of_the_bytes<P, I, F>()
     ensures some { (g : Grammar P I F) (p : P) (front : List ℕ) (slices : List (List ℕ)) →

@@ -1,9 +1,9 @@
-//! Laws of pending bytes, those of an item under way that stand behind its last whole piece.
+//! Laws of pending bytes, those of an item under way that stand after its last whole piece.
 
 ghost use Rattle.std.specs.Prelude.{ℕ, List, ◌++◌, ◌≡◌, ◌*◌, ◌<◌, ◌≤◌, length};
 ghost use Rattle.rfb_wire.specs.stream.Pending.{in_pieces, behind_piece};
 
-/// A piece is pending until its last byte is there; behind it, and behind whole pieces of one
+/// A piece is pending until its last byte is there; after it, and after whole pieces of one
 /// size, it is what follows that may be. No more bytes are pending than came.
 pub fn pending_bytes_follow_the_last_piece()
     ensures part { (size : ℕ) (pending : List ℕ → ℕ) (bytes : List ℕ) →

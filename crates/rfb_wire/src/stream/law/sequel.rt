@@ -6,7 +6,7 @@ ghost use Rattle.rfb_wire.specs.stream.Sequel.{First, Second, Two, sequel, Stays
 
 /// In the stream of both, items are read as the grammar that they are of reads them: of the first
 /// where none but the last leads over, of the second once a point of it is reached, and both
-/// behind one another.
+/// after one another.
 pub fn both_are_read_as_each<P, I, F, Q, J, G, H>()
     ensures first { (two : Two P I F Q J G H) (p : P) (bytes rest : List ℕ) (items : List I) →
         StaysFirst two p items → ReadsAll two.first p bytes items rest →

@@ -35,7 +35,7 @@ pub fn sessions_agree<S, P, I, F, E>()
 {}
 
 /// Several calls over what was delivered of a queue's bytes are one delivery: items done are done
-/// one behind another, and what is left of the queue is read from what is left of the bytes. None
+/// one after another, and what is left of the queue is read from what is left of the bytes. None
 /// of the calls is refused.
 pub fn calls_of_a_delivery_are_one<S, P, I, F, E>()
     ensures calls { (m : Machine S P I F E) (s t : S) (prefix later rest : List ℕ) →
