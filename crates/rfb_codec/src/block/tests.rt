@@ -1,6 +1,7 @@
 //! A block at each of its calls.
 
 use super::*;
+use crate::codec::tests::block_of;
 use std::alloc::AllocError;
 use std::result::Result;
 
@@ -11,42 +12,58 @@ fn has(block: &Block, width: u16, height: u16, pixels: &[u32]) -> bool {
 
 #[test]
 fn a_block_has_the_size_and_the_pixels_that_it_was_made_with(rt: HostRuntime) {
-    let mut pixels = ArrayVec::new();
-    for pixel in [7, 8, 9, 10, 11, 12] {
-        let _ = pixels.try_push(pixel);
+    let pixels = [7, 8, 9, 10, 11, 12];
+    let made = match block_of(3, 2, &pixels) {
+        Some(block) => has(&block, 3, 2, &pixels),
+        None => false,
+    };
+    assert!(rt; made);
+}
+
+// Whether a block of a rectangle of the picture has its size and these pixels.
+fn packs(block: &mut Block, picture: &Picture<Colour>, rect: Rect, wanted: &[u32]) -> bool {
+    if !picture.holds(rect) || rect.w < 1 || 64 < rect.w || rect.h < 1 || 64 < rect.h {
+        return false;
     }
-    if pixels.len() == 6 {
-        let block = Block::new(3, 2, pixels);
-        assert!(rt; has(&block, 3, 2, &[7, 8, 9, 10, 11, 12]));
-    }
+    block.pack(&Format::rgb888(), picture, rect);
+    has(block, rect.w, rect.h, wanted)
+}
+
+// All of a picture of three by two, and the last two places of its second row.
+const WHOLE: Rect = Rect {
+    x: 0,
+    y: 0,
+    w: 3,
+    h: 2,
+};
+
+const PART: Rect = Rect {
+    x: 1,
+    y: 1,
+    w: 2,
+    h: 1,
+};
+
+const OLD: u32 = 0x01_0203;
+
+const NEW: u32 = 0x04_0506;
+
+fn is_packed_again_and_again(picture: &Picture<Colour>) -> bool {
+    let mut block = Block::single(7);
+    has(&block, 1, 1, &[7])
+        && packs(&mut block, picture, WHOLE, &[OLD, OLD, OLD, OLD, OLD, NEW])
+        && block.height() == 2
+        && block.row(1) == [OLD, OLD, NEW].as_slice()
+        && packs(&mut block, picture, PART, &[OLD, NEW])
+        && block.width() == 2
+        && block.height() == 1
+        && block.at(1, 0) == NEW
 }
 
 #[test]
 fn a_block_is_packed_again_and_again(rt: HostRuntime) -> Result<(), AllocError> {
     let mut picture = Picture::new(rt.alloc(), 3, 2, Colour { r: 1, g: 2, b: 3 })?;
-    let all = Rect {
-        x: 0,
-        y: 0,
-        w: 3,
-        h: 2,
-    };
-    let part = Rect {
-        x: 1,
-        y: 1,
-        w: 2,
-        h: 1,
-    };
-    if picture.holds(all) && picture.holds(part) {
-        picture.put_row(2, 1, &[Colour { r: 4, g: 5, b: 6 }]);
-        let mut block = Block::single(7);
-        assert!(rt; has(&block, 1, 1, &[7]));
-        block.pack(&Format::rgb888(), &picture, all);
-        let (old, new) = (0x01_0203, 0x04_0506);
-        assert!(rt; has(&block, 3, 2, &[old, old, old, old, old, new]));
-        assert!(rt; block.row(1) == [old, old, new].as_slice());
-        block.pack(&Format::rgb888(), &picture, part);
-        assert!(rt; has(&block, 2, 1, &[old, new]));
-        assert!(rt; block.at(1, 0) == new);
-    }
+    picture.put_row(2, 1, &[Colour { r: 4, g: 5, b: 6 }]);
+    assert!(rt; is_packed_again_and_again(&picture));
     Ok(())
 }

@@ -6,6 +6,8 @@ ghost use Rattle.rfb_pixel.specs.Format.{size_of};
 ghost use Rattle.rfb_codec.specs.Pixels.{HasPixels};
 ghost use Rattle.rfb_codec.specs.Codec.{Appends};
 
+pub(crate) mod input;
+
 use super::*;
 use arrayvec::ArrayVec;
 use std::alloc::{AllocError, Global};
@@ -76,6 +78,23 @@ pub(crate) fn encoded<C: Codec>(
     Ok((done, out))
 }
 
+/// Whether the codec takes a block of that width and height, and `out` then has these bytes, where
+/// it had `before`.
+pub(crate) fn is_sent_as<C: Codec>(
+    alloc: Global,
+    format: &Format,
+    size: (u16, u16),
+    pixels: &[u32],
+    before: &[u8],
+    wanted: &[u8],
+) -> Result<bool, AllocError> {
+    let Some(block) = block_of(size.0, size.1, pixels) else {
+        return Ok(false);
+    };
+    let (done, out) = encoded::<C>(alloc, &block, format, before)?;
+    Ok(done && out.as_slice() == wanted)
+}
+
 /// The most frequent pixel, the least of those.
 pub(crate) fn most_frequent(pixels: &[u32]) -> u32 {
     let mut best = 0;
@@ -104,7 +123,10 @@ pub(crate) fn count_up(pixels: &mut [u32], values: u32) -> bool {
 
 #[test]
 fn each_codec_has_its_number(rt: HostRuntime) {
-    assert_eq!(rt; crate::Raw::NUMBER, 0);
-    assert_eq!(rt; crate::Rre::NUMBER, 2);
-    assert_eq!(rt; crate::Hextile::NUMBER, 5);
+    let numbers = [
+        crate::Raw::NUMBER,
+        crate::Rre::NUMBER,
+        crate::Hextile::NUMBER,
+    ];
+    assert!(rt; numbers == [0, 2, 5]);
 }

@@ -2,12 +2,11 @@
 
 use super::spell_source;
 use std::process::Abort;
-use std::test::Fail;
 
 #[test]
-fn a_source_is_its_column_and_then_its_row(rt: HostRuntime) -> Result<(), Fail> {
-    assert_eq!(rt; spell_source(0x0102, 0x0304), [1, 2, 3, 4]);
-    assert_eq!(rt; spell_source(65535, 0), [0xFF, 0xFF, 0, 0]);
-    assert_eq!(rt; spell_source(0, 255), [0, 0, 0, 0xFF]);
-    Ok(())
+fn a_source_is_its_column_and_then_its_row(rt: HostRuntime) {
+    let good = spell_source(0x0102, 0x0304) == [1, 2, 3, 4]
+        && spell_source(65535, 0) == [0xFF, 0xFF, 0, 0]
+        && spell_source(0, 255) == [0, 0, 0, 0xFF];
+    assert!(rt; good);
 }

@@ -34,34 +34,26 @@ const fn more(used: usize) -> Result<Painted, PaintFault> {
     Ok(Painted { used, done: false })
 }
 
-// What a new painter answers to bytes at a rectangle of the picture.
-fn fed(
-    picture: &mut Picture<Colour>,
-    rect: Rect,
-    encoding: Encoding,
-    format: Format,
-    bytes: &[u8],
-) -> Result<Painted, PaintFault>
-    requires { Holds picture.old rect }
-    ensures width { picture.new.width ≡ picture.old.width }
-    ensures height { picture.new.height ≡ picture.old.height }
-{
-    Painter::new(rect, encoding, format).feed(bytes, picture)
-}
-
-// Whether a picture has these colours, row by row.
-fn has(picture: &Picture<Colour>, shown: &[Colour]) -> bool {
-    let width = picture.width();
-    let height = picture.height();
-    for y in 0..height {
-        for x in 0..width {
-            let place = usize::from(y) * usize::from(width) + usize::from(x);
-            if shown.get(place) != Some(&picture.at(x, y)) {
+// Whether the last places of a picture have these colours, row by row.
+fn has_last(picture: &Picture<Colour>, shown: &[Colour]) -> bool {
+    let width = usize::from(picture.width());
+    let places = usize::from(picture.height()) * width;
+    for y in 0..picture.height() {
+        for x in 0..picture.width() {
+            let left = places.saturating_sub(usize::from(y) * width + usize::from(x));
+            let at = shown.len().wrapping_sub(left);
+            if left <= shown.len() && shown.get(at) != Some(&picture.at(x, y)) {
                 return false;
             }
         }
     }
-    shown.len() == usize::from(height) * usize::from(width)
+    true
+}
+
+// Whether all of them do.
+fn has(picture: &Picture<Colour>, shown: &[Colour]) -> bool {
+    let places = usize::from(picture.height()) * usize::from(picture.width());
+    shown.len() == places && has_last(picture, shown)
 }
 
 // A rectangle of a picture that was all of one colour.
@@ -73,7 +65,108 @@ struct Ground {
     rect: Rect,
 }
 
-// Whether a new painter answers so to data, and the picture then has these colours.
+// Slices that data come in: the first one's size, and that of the others.
+#[derive(Clone, Copy)]
+struct Slices {
+    first: usize,
+    others: usize,
+}
+
+// What a painter answers, all in all, to data that come in slices.
+fn fed_in(
+    painter: &mut Painter,
+    picture: &mut Picture<Colour>,
+    data: &[u8],
+    slices: Slices,
+) -> Result<Painted, PaintFault>
+    requires { Holds picture.old painter.old.rect }
+    ensures width { picture.new.width ≡ picture.old.width }
+    ensures height { picture.new.height ≡ picture.old.height }
+{
+    let mut used = 0usize;
+    let mut next = slices.first;
+    'slices: for _ in 0..data.len() + 1 {
+        let end = data.len().min(used.saturating_add(next));
+        let told = painter.feed(&data[used..end], picture)?;
+        used += told.used;
+        if told.done || end == data.len() {
+            return Ok(Painted {
+                used,
+                done: told.done,
+            });
+        }
+        next = slices.others;
+    }
+    more(used)
+}
+
+// What a new painter answers to data in two slices.
+fn fed_in_two(
+    picture: &mut Picture<Colour>,
+    rect: Rect,
+    encoding: Encoding,
+    format: Format,
+    data: &[u8],
+    first: usize,
+) -> Result<Painted, PaintFault>
+    requires { Holds picture.old rect }
+    ensures width { picture.new.width ≡ picture.old.width }
+    ensures height { picture.new.height ≡ picture.old.height }
+{
+    let others = data.len();
+    let mut painter = Painter::new(rect, encoding, format);
+    fed_in(&mut painter, picture, data, Slices { first, others })
+}
+
+// Whether a new painter answers so to data in these slices, and the last places then have these
+// colours.
+fn paints_in(
+    alloc: Global,
+    ground: Ground,
+    encoding: Encoding,
+    format: Format,
+    data: &[u8],
+    slices: Slices,
+    answer: Result<Painted, PaintFault>,
+    last: &[Colour],
+) -> Result<bool, Fail> {
+    let mut picture = Picture::new(alloc, ground.width, ground.height, ground.colour)?;
+    if !picture.holds(ground.rect) {
+        return Ok(false);
+    }
+    let mut painter = Painter::new(ground.rect, encoding, format);
+    let told = fed_in(&mut painter, &mut picture, data, slices);
+    Ok(told == answer && has_last(&picture, last))
+}
+
+// The same of data that are cut at each place, or come in slices of one size.
+fn paints_last(
+    alloc: Global,
+    ground: Ground,
+    encoding: Encoding,
+    format: Format,
+    data: &[u8],
+    answer: Result<Painted, PaintFault>,
+    last: &[Colour],
+) -> Result<bool, Fail> {
+    let others = data.len();
+    for first in 0..=others {
+        let slices = Slices { first, others };
+        if !paints_in(alloc, ground, encoding, format, data, slices, answer, last)? {
+            return Ok(false);
+        }
+    }
+    for others in [1, 2, 3, 5, 7, 16] {
+        let first = others;
+        let slices = Slices { first, others };
+        if !paints_in(alloc, ground, encoding, format, data, slices, answer, last)? {
+            return Ok(false);
+        }
+    }
+    Ok(true)
+}
+
+// The same of all places.
 fn paints(
     alloc: Global,
     ground: Ground,
@@ -83,12 +176,9 @@ fn paints(
     answer: Result<Painted, PaintFault>,
     shown: &[Colour],
 ) -> Result<bool, Fail> {
-    let mut picture = Picture::new(alloc, ground.width, ground.height, ground.colour)?;
-    if !picture.holds(ground.rect) {
-        return Ok(false);
-    }
-    let told = fed(&mut picture, ground.rect, encoding, format, data);
-    Ok(told == answer && has(&picture, shown))
+    let places = usize::from(ground.height) * usize::from(ground.width);
+    let good = paints_last(alloc, ground, encoding, format, data, answer, shown)?;
+    Ok(good && shown.len() == places)
 }
 
 // A rectangle of all of a row.
@@ -118,8 +208,9 @@ const LAST_WINS: [u8; 23] = [
     0x38, 0, 1, 0, 0, 0, 2, 0, 1, // green at x-position 1
 ];
 
-// Whether the last three of four places have what the first three had.
-fn is_copied(alloc: Global) -> Result<bool, Fail> {
+// Whether the last three of four places have what the first three had, where the source came in two
+// slices.
+fn is_copied(alloc: Global, first: usize) -> Result<bool, Fail> {
     let mut picture = Picture::new(alloc, 4, 1, BLACK)?;
     picture.put_row(0, 0, &[RED, GREEN, BLUE, BLACK]);
     let rect = Rect {
@@ -128,19 +219,23 @@ fn is_copied(alloc: Global) -> Result<bool, Fail> {
         w: 3,
         h: 1,
     };
-    let answer = fed(
-        &mut picture,
-        rect,
-        Encoding::CopyRect,
-        Format::rgb888(),
-        &COPY,
-    );
+    let format = Format::rgb888();
+    let answer = fed_in_two(&mut picture, rect, Encoding::CopyRect, format, &COPY, first);
     Ok(answer == done(4) && has(&picture, &[RED, RED, GREEN, BLUE]))
+}
+
+fn is_copied_at_every_cut(alloc: Global) -> Result<bool, Fail> {
+    for first in 0..=4 {
+        if !is_copied(alloc, first)? {
+            return Ok(false);
+        }
+    }
+    Ok(true)
 }
 
 #[test]
 fn a_copy_reads_the_source_as_it_stood(rt: HostRuntime) -> Result<(), Fail> {
-    assert!(rt; is_copied(rt.alloc())?);
+    assert!(rt; is_copied_at_every_cut(rt.alloc())?);
     Ok(())
 }
 

@@ -14,12 +14,13 @@ fn is_background(pixels: &[u32], wanted: u32) -> bool
 
 #[test]
 fn the_least_of_the_most_frequent_pixels_is_chosen(rt: HostRuntime) {
-    assert!(rt; is_background(&[5, 3], 3));
-    assert!(rt; is_background(&[3, 5], 3));
-    assert!(rt; is_background(&[9], 9));
-    assert!(rt; is_background(&[1, 2, 2, 1, 2], 2));
-    assert!(rt; is_background(&[2, 2, 1, 1, 3], 1));
-    assert!(rt; is_background(&[4, 4, 1, 4, 1, 1, 0xFFFF_FFFF], 1));
+    let good = is_background(&[5, 3], 3)
+        && is_background(&[3, 5], 3)
+        && is_background(&[9], 9)
+        && is_background(&[1, 2, 2, 1, 2], 2)
+        && is_background(&[2, 2, 1, 1, 3], 1)
+        && is_background(&[4, 4, 1, 4, 1, 1, 0xFFFF_FFFF], 1);
+    assert!(rt; good);
 }
 
 #[test]
@@ -43,13 +44,19 @@ fn fall(pixels: &mut [u32]) {
     }
 }
 
+// Whether that is the background of pixels from 5000 on down.
+fn is_least(pixels: &mut [u32], wanted: u32) -> bool
+    requires some { 0 < length pixels.old }
+    requires few { length pixels.old ≤ PLACES }
+{
+    fall(pixels);
+    is_background(pixels, wanted)
+}
+
 #[test]
 fn pixels_that_all_differ_have_the_least_as_background(rt: HostRuntime) {
-    let (mut few, mut more, mut all) = ([0; 256], [0; 257], [0; 4096]);
-    fall(&mut few);
-    fall(&mut more);
-    fall(&mut all);
-    assert!(rt; is_background(&few, 4745));
-    assert!(rt; is_background(&more, 4744));
-    assert!(rt; is_background(&all, 905));
+    let few = is_least(&mut [0; 256], 4745);
+    let more = is_least(&mut [0; 257], 4744);
+    let all = is_least(&mut [0; 4096], 905);
+    assert!(rt; few && more && all);
 }

@@ -22,6 +22,12 @@ fn is_covered_by(pixels: &[u32; 8], wanted: &[Subrect]) -> bool {
     cover(pixels, 4, 2, B, 8, &mut subs) && subs.as_slice() == wanted
 }
 
+// The same of three rows of five.
+fn are_covered_by(pixels: &[u32; 15], wanted: &[Subrect]) -> bool {
+    let mut subs: ArrayVec<Subrect, 8> = ArrayVec::new();
+    cover(pixels, 5, 3, B, 8, &mut subs) && subs.as_slice() == wanted
+}
+
 #[test]
 fn two_columns_of_unlike_height_are_two_subrectangles(rt: HostRuntime) {
     let wanted = [dark(0, 0, 1, 2), dark(3, 0, 1, 1)];
@@ -38,9 +44,7 @@ fn a_run_goes_down_as_far_as_all_of_it_does(rt: HostRuntime) {
 fn a_run_of_two_columns_goes_down_two_rows(rt: HostRuntime) {
     let pixels = [B, A, A, A, B, B, A, A, B, B, B, A, A, A, A];
     let wanted = [dark(1, 0, 3, 1), dark(1, 1, 2, 2), dark(3, 2, 2, 1)];
-    let mut subs: ArrayVec<Subrect, 8> = ArrayVec::new();
-    assert!(rt; cover(&pixels, 5, 3, B, 8, &mut subs));
-    assert_eq!(rt; subs.as_slice(), wanted.as_slice());
+    assert!(rt; are_covered_by(&pixels, &wanted));
 }
 
 // Whether a row of five places, of which every second one has pixel A, is covered.
@@ -53,7 +57,6 @@ fn is_row_covered(background: u32, limit: usize) -> bool
 
 #[test]
 fn it_gives_up_beyond_the_limit(rt: HostRuntime) {
-    assert!(rt; !is_row_covered(B, 2));
-    assert!(rt; is_row_covered(B, 3));
-    assert!(rt; !is_row_covered(7, 4));
+    let good = !is_row_covered(B, 2) && is_row_covered(B, 3) && !is_row_covered(7, 4);
+    assert!(rt; good);
 }

@@ -5,7 +5,7 @@ mod plain;
 mod rule;
 
 use super::*;
-use crate::codec::tests::{block_of, encoded};
+use crate::codec::tests::is_sent_as;
 use std::alloc::Global;
 use std::process::Abort;
 use std::test::Fail;
@@ -24,13 +24,8 @@ fn sends(
     pixels: &[u32],
     wanted: &[u8],
 ) -> Result<(), Fail> {
-    if let Some(block) = block_of(size.0, size.1, pixels) {
-        let (done, out) = encoded::<Hextile>(alloc, &block, format, &[])?;
-        assert!(rt; done);
-        assert_eq!(rt; out.as_slice(), wanted);
-    } else {
-        assert!(rt; false, "no block");
-    }
+    let sent = is_sent_as::<Hextile>(alloc, format, size, pixels, &[], wanted)?;
+    assert!(rt; sent);
     Ok(())
 }
 
@@ -164,10 +159,13 @@ fn a_big_endian_format_has_the_high_byte_first(rt: HostRuntime) -> Result<(), Fa
     let narrow = [
         0x10, 0x10, 1, 1, 0, 0x1F, 0, 0x3F, 0, 0x1F, 11, 5, 0, 0, 0, 0,
     ];
-    if let Ok(format) = Format::read(&narrow) {
-        let wanted = [2, 0x12, 0x34, 0];
-        return sends(&rt, rt.alloc(), &format, (17, 1), &[0x1234; 17], &wanted);
-    }
-    assert!(rt; false, "no format");
+    let wanted = [2, 0x12, 0x34, 0];
+    let sent = match Format::read(&narrow) {
+        Ok(format) => {
+            is_sent_as::<Hextile>(rt.alloc(), &format, (17, 1), &[0x1234; 17], &[], &wanted)?
+        }
+        Err(_) => false,
+    };
+    assert!(rt; sent);
     Ok(())
 }

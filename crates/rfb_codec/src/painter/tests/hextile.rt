@@ -1,5 +1,7 @@
 //! Tiles of Hextile, most of them in a row.
 
+ghost use Rattle.std.specs.Prelude.{◌≤◌};
+
 use super::*;
 
 // Pixels 0x10, 0x20 and 0x30 at bgr233: 2, 4 and 6 sevenths of green. Pixel 0 is black.
@@ -17,26 +19,6 @@ pub const THREE: [u8; 18] = [
     0x08, 1, 0xF0, 0x00,
 ];
 
-// What is answered to tiles of a row so wide, and what it shows then, where it was red.
-pub fn painted(
-    alloc: Global,
-    width: u16,
-    format: Format,
-    data: &[u8],
-) -> Result<(Result<Painted, PaintFault>, Vec<Colour>), Fail> {
-    let mut picture = Picture::new(alloc, width, 1, RED)?;
-    let rect = Rect {
-        x: 0,
-        y: 0,
-        w: width,
-        h: 1,
-    };
-    let answer = fed(&mut picture, rect, Encoding::Hextile, format, data);
-    let mut row = Vec::new(alloc);
-    row.extend_from_slice(picture.row(0, 0, width))?;
-    Ok((answer, row))
-}
-
 // So many places of each colour in turn.
 fn places_of(alloc: Global, runs: &[(u16, Colour)]) -> Result<Vec<Colour>, Fail> {
     let mut row = Vec::new(alloc);
@@ -46,7 +28,23 @@ fn places_of(alloc: Global, runs: &[(u16, Colour)]) -> Result<Vec<Colour>, Fail>
     Ok(row)
 }
 
-// All of the data are taken, and the row shows so many places of each colour in turn.
+// All of the data are taken, and a row shows these colours.
+fn shows_all(
+    rt: &impl Abort,
+    alloc: Global,
+    format: Format,
+    data: &[u8],
+    want: &[Colour],
+) -> Result<(), Fail> {
+    let width = u16::try_from(want.len()).unwrap_or(0);
+    let ground = row_of(width, RED);
+    let answer = done(data.len());
+    let good = paints(alloc, ground, Encoding::Hextile, format, data, answer, want)?;
+    assert!(rt; good);
+    Ok(())
+}
+
+// The same of so many places of each colour in turn.
 fn shows(
     rt: &impl Abort,
     alloc: Global,
@@ -55,20 +53,7 @@ fn shows(
     runs: &[(u16, Colour)],
 ) -> Result<(), Fail> {
     let want = places_of(alloc, runs)?;
-    let width = u16::try_from(want.len()).unwrap_or(0);
-    let ground = row_of(width, RED);
-    let answer = done(data.len());
-    let good = paints(
-        alloc,
-        ground,
-        Encoding::Hextile,
-        format,
-        data,
-        answer,
-        want.as_slice(),
-    )?;
-    assert!(rt; good);
-    Ok(())
+    shows_all(rt, alloc, format, data, want.as_slice())
 }
 
 // The same at bgr233.
@@ -93,27 +78,31 @@ fn a_tile_of_its_mask_alone_is_whole(rt: HostRuntime) -> Result<(), Fail> {
     shows(&rt, rt.alloc(), Format::rgb888(), &data, &[(17, colour)])
 }
 
-// A raw tile of sixteen pixels between two of one colour, with `last` as the third tile.
-fn around_raw(rt: &impl Abort, alloc: Global, last: &[u8], length: usize) -> Result<(), Fail> {
+// A raw tile of sixteen pixels between two of one colour. The third is sent as the first of these
+// bytes, so that there are so many in all.
+fn around_raw(rt: &impl Abort, alloc: Global, last: &[u8; 5], length: usize) -> Result<(), Fail>
+    requires { length ≤ 75 }
+{
     let colour = Colour { r: 3, g: 2, b: 1 };
-    let mut data = Vec::new(alloc);
-    data.extend_from_slice(&[0x02, 1, 2, 3, 0, 0x01])?;
-    let mut want = Vec::new(alloc);
-    want.push((16, colour))?;
-    for n in 0..16u8 {
-        data.extend_from_slice(&[n, 7, 9, 0])?;
-        want.push((1, Colour { r: 9, g: 7, b: n }))?;
+    let mut data = [0; 75];
+    data[..6].copy_from_slice(&[0x02, 1, 2, 3, 0, 0x01]);
+    data[70..].copy_from_slice(last);
+    let mut want = [colour; 48];
+    for n in 0..16 {
+        data[6 + 4 * n..10 + 4 * n].copy_from_slice(&[n as u8, 7, 9, 0]);
+        want[16 + n] = Colour {
+            r: 9,
+            g: 7,
+            b: n as u8,
+        };
     }
-    data.extend_from_slice(last)?;
-    want.push((16, colour))?;
-    assert_eq!(rt; data.len(), length);
-    shows(rt, alloc, Format::rgb888(), &data, &want)
+    shows_all(rt, alloc, Format::rgb888(), &data[..length], &want)
 }
 
 #[test]
 fn a_background_is_carried_past_a_raw_tile(rt: HostRuntime) -> Result<(), Fail> {
     around_raw(&rt, rt.alloc(), &[0x02, 1, 2, 3, 0], 75)?;
-    around_raw(&rt, rt.alloc(), &[0x00], 71)
+    around_raw(&rt, rt.alloc(), &[0x00, 0, 0, 0, 0], 71)
 }
 
 #[test]
@@ -151,12 +140,9 @@ fn a_foreground_is_carried_past_a_coloured_tile(rt: HostRuntime) -> Result<(), F
 
 #[test]
 fn a_foreground_is_carried_past_a_raw_tile(rt: HostRuntime) -> Result<(), Fail> {
-    let mut data = Vec::new(rt.alloc());
-    data.extend_from_slice(&[0x06, 0x10, 0x20, 0x01])?;
-    for _ in 0..16 {
-        data.push(0x30)?;
-    }
-    data.extend_from_slice(&[0x08, 1, 0x00, 0x00])?;
+    let mut data = [0x30; 24];
+    data[..4].copy_from_slice(&[0x06, 0x10, 0x20, 0x01]);
+    data[20..].copy_from_slice(&[0x08, 1, 0x00, 0x00]);
     let runs = [(16, TEN), (16, THIRTY), (1, TWENTY), (1, TEN)];
     shows_small(&rt, rt.alloc(), &data, &runs)
 }
@@ -188,23 +174,24 @@ fn the_last_subrectangle_of_a_tile_wins(rt: HostRuntime) -> Result<(), Fail> {
 // Two places: by a subrectangle, by counts of 0, and by masks whose other bits say nothing.
 #[test]
 fn bits_without_effect_are_accepted(rt: HostRuntime) -> Result<(), Fail> {
-    let two = [(1, TEN), (1, TWENTY)];
-    shows_small(&rt, rt.alloc(), &[0x0E, 0x10, 0x20, 1, 0x10, 0x00], &two)?;
-    shows_small(&rt, rt.alloc(), &[0x01, 0x10, 0x20], &two)?;
-    shows_small(&rt, rt.alloc(), &[0xFF, 0x10, 0x20], &two)?;
-    for data in [
-        [0x0E, 0x10, 0x20, 0].as_slice(),
-        &[0x1A, 0x10, 0],
-        &[0x12, 0x10],
-        &[0xE2, 0x10],
+    let two = [TEN, TWENTY].as_slice();
+    let one = [TEN, TEN].as_slice();
+    for (data, want) in [
+        ([0x0E, 0x10, 0x20, 1, 0x10, 0x00].as_slice(), two),
+        (&[0x01, 0x10, 0x20], two),
+        (&[0xFF, 0x10, 0x20], two),
+        (&[0x0E, 0x10, 0x20, 0], one),
+        (&[0x1A, 0x10, 0], one),
+        (&[0x12, 0x10], one),
+        (&[0xE2, 0x10], one),
     ] {
-        shows_small(&rt, rt.alloc(), data, &[(2, TEN)])?;
+        shows_all(&rt, rt.alloc(), Format::bgr233(), data, want)?;
     }
     Ok(())
 }
 
 // Two by two tiles, row by row; but for the first they are one place wide, one high, or both.
-fn places_tiles(alloc: Global) -> Result<bool, Fail> {
+fn places_tiles(alloc: Global, first: usize) -> Result<bool, Fail> {
     let mut picture = Picture::new(alloc, 19, 19, RED)?;
     let rect = Rect {
         x: 1,
@@ -215,19 +202,23 @@ fn places_tiles(alloc: Global) -> Result<bool, Fail> {
     let data = [
         0x0E, 0x10, 0x00, 1, 0x12, 0x23, 0x02, 0x20, 0x02, 0x30, 0x02, 0xC0,
     ];
-    let answer = fed(
-        &mut picture,
-        rect,
-        Encoding::Hextile,
-        Format::bgr233(),
-        &data,
-    );
+    let format = Format::bgr233();
+    let answer = fed_in_two(&mut picture, rect, Encoding::Hextile, format, &data, first);
     Ok(answer == done(12) && are_placed(&picture))
+}
+
+fn places_tiles_at_every_cut(alloc: Global) -> Result<bool, Fail> {
+    for first in 0..=12 {
+        if !places_tiles(alloc, first)? {
+            return Ok(false);
+        }
+    }
+    Ok(true)
 }
 
 #[test]
 fn tiles_are_placed_in_their_rectangle(rt: HostRuntime) -> Result<(), Fail> {
-    assert!(rt; places_tiles(rt.alloc())?);
+    assert!(rt; places_tiles_at_every_cut(rt.alloc())?);
     Ok(())
 }
 

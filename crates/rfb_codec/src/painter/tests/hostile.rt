@@ -65,8 +65,8 @@ fn a_subrectangle_outside_is_told_at_its_last_byte(rt: HostRuntime) -> Result<()
     Ok(())
 }
 
-// Whether a source is refused for a row of two places, which stay as they are.
-fn is_source_refused(alloc: Global, source: &[u8]) -> Result<bool, Fail> {
+// Whether a source in two slices is refused for a row of two places, which stay as they are.
+fn is_source_refused(alloc: Global, source: &[u8], first: usize) -> Result<bool, Fail> {
     let mut picture = Picture::new(alloc, 2, 1, RED)?;
     picture.put_row(0, 0, &[GREEN, BLUE]);
     let all = row_of(2, RED).rect;
@@ -74,14 +74,16 @@ fn is_source_refused(alloc: Global, source: &[u8]) -> Result<bool, Fail> {
         return Ok(false);
     }
     let format = Format::rgb888();
-    let answer = fed(&mut picture, all, Encoding::CopyRect, format, source);
+    let answer = fed_in_two(&mut picture, all, Encoding::CopyRect, format, source, first);
     Ok(answer == Err(PaintFault::SourceOutside) && has(&picture, &[GREEN, BLUE]))
 }
 
 fn are_sources_refused(alloc: Global) -> Result<bool, Fail> {
     for source in [[0, 1, 0, 0], [0, 0, 0, 1], [0xFF, 0xFF, 0, 0]] {
-        if !is_source_refused(alloc, &source)? {
-            return Ok(false);
+        for first in 0..=4 {
+            if !is_source_refused(alloc, &source, first)? {
+                return Ok(false);
+            }
         }
     }
     Ok(true)

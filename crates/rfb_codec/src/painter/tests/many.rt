@@ -29,7 +29,30 @@ fn is_taken(painter: &mut Painter, picture: &mut Picture<Colour>, cut: usize) ->
     begun && ended
 }
 
+// Whether a million of them are taken so, each cut at another place.
+fn are_taken(painter: &mut Painter, picture: &mut Picture<Colour>) -> bool
+    requires place { Holds picture.old painter.old.rect }
+    ensures width { picture.new.width ≡ picture.old.width }
+    ensures height { picture.new.height ≡ picture.old.height }
+{
+    let mut taken = true;
+    'parts: for n in 0..1_000_000usize {
+        taken = is_taken(painter, picture, n % 9) && taken;
+    }
+    taken
+}
+
 // The background comes with the head, and is shown at once.
+fn is_begun(painter: &mut Painter, picture: &mut Picture<Colour>) -> bool
+    requires place { Holds picture.old painter.old.rect }
+    ensures rect { painter.new.rect ≡ painter.old.rect }
+    ensures width { picture.new.width ≡ picture.old.width }
+    ensures height { picture.new.height ≡ picture.old.height }
+{
+    let told = painter.feed(&HEAD, picture) == more(5);
+    told && painter.pending() == 0 && has(picture, &[TEN; 17])
+}
+
 #[test]
 fn a_million_subrectangles_keep_at_most_eight_bytes(rt: HostRuntime) -> Result<(), Fail> {
     let mut picture = Picture::new(rt.alloc(), 17, 1, BLUE)?;
@@ -40,16 +63,11 @@ fn a_million_subrectangles_keep_at_most_eight_bytes(rt: HostRuntime) -> Result<(
         h: 1,
     };
     let mut painter = Painter::new(row, Encoding::Rre, Format::bgr233());
-    let begun = painter.feed(&HEAD, &mut picture) == more(5) && painter.pending() == 0;
-    assert!(rt; begun);
-    assert_eq!(rt; picture.row(0, 0, 17), [TEN; 17].as_slice());
-    let mut taken = true;
-    'parts: for n in 0..1_000_000usize {
-        taken = is_taken(&mut painter, &mut picture, n % 9) && taken;
-    }
-    assert!(rt; taken);
     let mut shown = [TEN; 17];
     shown[3] = TWENTY;
-    assert_eq!(rt; picture.row(0, 0, 17), shown.as_slice());
+    let good = is_begun(&mut painter, &mut picture)
+        && are_taken(&mut painter, &mut picture)
+        && has(&picture, &shown);
+    assert!(rt; good);
     Ok(())
 }

@@ -1,25 +1,37 @@
 //! Masks and subrectangles that a peer may send and should not, and each mask in turn.
 
-use super::hextile::painted;
 use super::*;
 
-// What is answered to tiles of a row so wide. Its last place, which belongs to the last tile, stays
-// as it is if they are not done.
-fn answered(
-    rt: &impl Abort,
+// Whether tiles of a row so wide, which was red, are answered so, and its last places are then of
+// these colours.
+fn answers(
     alloc: Global,
     width: u16,
     data: &[u8],
-) -> Result<Result<Painted, PaintFault>, Fail> {
-    let (answer, row) = painted(alloc, width, Format::bgr233(), data)?;
-    if !matches!(answer, Ok(Painted { done: true, .. })) {
-        assert!(rt; row.ends_with(&[RED]));
-    }
-    Ok(answer)
+    answer: Result<Painted, PaintFault>,
+    last: &[Colour],
+) -> Result<bool, Fail> {
+    let ground = row_of(width, RED);
+    let format = Format::bgr233();
+    paints_last(alloc, ground, Encoding::Hextile, format, data, answer, last)
 }
 
-#[test]
-fn a_mask_is_refused_at_its_byte(rt: HostRuntime) -> Result<(), Fail> {
+// Whether they are refused. The last place, which belongs to the last tile, stays as it is.
+fn refuses(alloc: Global, width: u16, data: &[u8], fault: PaintFault) -> Result<bool, Fail> {
+    answers(alloc, width, data, Err(fault), &[RED])
+}
+
+// Whether all that the data begin with is waited with.
+fn waits(alloc: Global, width: u16, data: &[u8]) -> Result<bool, Fail> {
+    for n in 0..data.len() {
+        if !answers(alloc, width, &data[..n], more(n), &[RED])? {
+            return Ok(false);
+        }
+    }
+    Ok(true)
+}
+
+fn masks_are_refused(alloc: Global) -> Result<bool, Fail> {
     for (width, data, fault) in [
         (2, [0x00].as_slice(), PaintFault::NoBackground),
         (2, &[0x08], PaintFault::NoBackground),
@@ -30,16 +42,38 @@ fn a_mask_is_refused_at_its_byte(rt: HostRuntime) -> Result<(), Fail> {
         // Whatever the count behind it says.
         (2, &[0x0A, 0x10, 0], PaintFault::NoForeground),
     ] {
-        assert_eq!(rt; answered(&rt, rt.alloc(), width, data)?, Err(fault));
+        if !refuses(alloc, width, data, fault)? {
+            return Ok(false);
+        }
     }
+    Ok(true)
+}
+
+#[test]
+fn a_mask_is_refused_at_its_byte(rt: HostRuntime) -> Result<(), Fail> {
+    assert!(rt; masks_are_refused(rt.alloc())?);
     Ok(())
 }
 
-// The second tile is one place by one.
-#[test]
-fn a_subrectangle_that_leaves_its_tile_is_refused_at_the_last_byte(
-    rt: HostRuntime,
-) -> Result<(), Fail> {
+// Whether data of seventeen places by one are waited with up to their last byte, and refused there.
+fn is_refused_at_the_end(alloc: Global, data: &[u8]) -> Result<bool, Fail> {
+    Ok(waits(alloc, 17, data)? && refuses(alloc, 17, data, PaintFault::SubrectOutside)?)
+}
+
+// The second tile is one place by one: a subrectangle of its own pixel, one of the foreground, and
+// one before another.
+fn are_refused_at_the_end(alloc: Global, place: u8, size: u8) -> Result<bool, Fail> {
+    let one = [0x02, 0x10, 0x18, 1, 0x20, place, size];
+    let plain = [0x02, 0x10, 0x0C, 0x20, 1, place, size];
+    let two = [0x02, 0x10, 0x18, 2, 0x20, place, size, 0x20, 0x00, 0x00];
+    Ok(
+        is_refused_at_the_end(alloc, &one)?
+            && is_refused_at_the_end(alloc, &plain)?
+            && is_refused_at_the_end(alloc, &two)?,
+    )
+}
+
+fn each_is_refused_at_the_end(alloc: Global) -> Result<bool, Fail> {
     for (x_and_y, size) in [
         (0x00, 0x10),
         (0x10, 0x00),
@@ -47,33 +81,19 @@ fn a_subrectangle_that_leaves_its_tile_is_refused_at_the_last_byte(
         (0x01, 0x00),
         (0xFF, 0xFF),
     ] {
-        refused_at_the_end(&rt, rt.alloc(), &[0x02, 0x10, 0x18, 1, 0x20, x_and_y, size])?;
-        refused_at_the_end(&rt, rt.alloc(), &[0x02, 0x10, 0x0C, 0x20, 1, x_and_y, size])?;
-        let first = [0x18, 2, 0x20, x_and_y, size, 0x20, 0x00, 0x00];
-        let mut data = Vec::new(rt.alloc());
-        data.extend_from_slice(&[0x02, 0x10])?;
-        data.extend_from_slice(&first)?;
-        refused_at_the_end(&rt, rt.alloc(), &data)?;
-    }
-    // It leaves the first tile, and not the rectangle.
-    refused_at_the_end(&rt, rt.alloc(), &[0x1A, 0x10, 1, 0x20, 0xF0, 0x10])
-}
-
-// Whether all that the data begin with is waited with.
-fn waits(rt: &impl Abort, alloc: Global, width: u16, data: &[u8]) -> Result<bool, Fail> {
-    for n in 0..data.len() {
-        if answered(rt, alloc, width, &data[..n])? != more(n) {
+        if !are_refused_at_the_end(alloc, x_and_y, size)? {
             return Ok(false);
         }
     }
-    Ok(true)
+    // It leaves the first tile, and not the rectangle.
+    is_refused_at_the_end(alloc, &[0x1A, 0x10, 1, 0x20, 0xF0, 0x10])
 }
 
-// Data of seventeen places by one are waited with up to their last byte, and refused there.
-fn refused_at_the_end(rt: &impl Abort, alloc: Global, data: &[u8]) -> Result<(), Fail> {
-    assert!(rt; waits(rt, alloc, 17, data)?);
-    let answer = answered(rt, alloc, 17, data)?;
-    assert_eq!(rt; answer, Err(PaintFault::SubrectOutside));
+#[test]
+fn a_subrectangle_that_leaves_its_tile_is_refused_at_the_last_byte(
+    rt: HostRuntime,
+) -> Result<(), Fail> {
+    assert!(rt; each_is_refused_at_the_end(rt.alloc())?);
     Ok(())
 }
 
@@ -163,27 +183,19 @@ fn push_rest(data: &mut Vec<u8>, mask: u8) -> Result<(), Fail> {
 
 // Whether the tile is refused at its mask; or waited with up to its last byte, and what follows is
 // left.
-fn is_judged(
-    rt: &impl Abort,
-    alloc: Global,
-    front: &[u8],
-    known: Known,
-    mask: u8,
-) -> Result<bool, Fail> {
+fn is_judged(alloc: Global, front: &[u8], known: Known, mask: u8) -> Result<bool, Fail> {
     let width = if front.is_empty() { 2 } else { 18 };
     let mut data = Vec::new(alloc);
     data.extend_from_slice(front)?;
     data.push(mask)?;
     if let Some(fault) = fault(mask, known) {
-        return Ok(answered(rt, alloc, width, &data)? == Err(fault));
+        return refuses(alloc, width, &data, fault);
     }
     push_rest(&mut data, mask)?;
-    let length = data.len();
-    let waited = waits(rt, alloc, width, &data)?;
+    let whole = done(data.len());
+    let waited = waits(alloc, width, &data)?;
     data.push(0xFF)?;
-    let (answer, row) = painted(alloc, width, Format::bgr233(), &data)?;
-    let [first, second] = pixels_behind(mask);
-    Ok(waited && answer == done(length) && ends_with(&row, first, second))
+    Ok(waited && answers(alloc, width, &data, whole, &colours_behind(mask))?)
 }
 
 fn judged(
@@ -193,9 +205,16 @@ fn judged(
     known: Known,
     mask: u8,
 ) -> Result<(), Fail> {
-    let good = is_judged(rt, alloc, front, known, mask)?;
+    let good = is_judged(alloc, front, known, mask)?;
     assert!(rt; good, "mask {mask}");
     Ok(())
+}
+
+// The colours of the two places.
+fn colours_behind(mask: u8) -> [Colour; 2] {
+    let format = Format::bgr233();
+    let [first, second] = pixels_behind(mask);
+    [format.unpack(first), format.unpack(second)]
 }
 
 // The pixels of the two places.
@@ -212,10 +231,4 @@ fn pixels_behind(mask: u8) -> [u32; 2] {
     } else {
         [background, foreground]
     }
-}
-
-// Whether the last places are of these pixels.
-fn ends_with(row: &[Colour], first: u32, second: u32) -> bool {
-    let format = Format::bgr233();
-    row.ends_with(&[format.unpack(first), format.unpack(second)])
 }

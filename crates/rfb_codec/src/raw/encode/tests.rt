@@ -1,7 +1,7 @@
 //! Pixels in each order of bytes.
 
 use super::*;
-use crate::codec::tests::{block_of, encoded};
+use crate::codec::tests::is_sent_as;
 use std::alloc::Global;
 use std::process::Abort;
 use std::test::Fail;
@@ -15,13 +15,8 @@ fn sends(
     pixels: &[u32],
     wanted: &[u8],
 ) -> Result<(), Fail> {
-    if let Some(block) = block_of(size.0, size.1, pixels) {
-        let (done, out) = encoded::<Raw>(alloc, &block, format, &[9])?;
-        assert!(rt; done);
-        assert_eq!(rt; out.as_slice(), wanted);
-    } else {
-        assert!(rt; false, "no block");
-    }
+    let sent = is_sent_as::<Raw>(alloc, format, size, pixels, &[9], wanted)?;
+    assert!(rt; sent);
     Ok(())
 }
 
@@ -52,6 +47,14 @@ fn one_byte_a_pixel(rt: HostRuntime) -> Result<(), Fail> {
     )
 }
 
+// Whether a pixel is sent so in the format that a PIXEL_FORMAT spells.
+fn is_one_sent(alloc: Global, field: &[u8; 16], pixel: u32, wanted: &[u8]) -> Result<bool, Fail> {
+    match Format::read(field) {
+        Ok(format) => Ok(is_sent_as::<Raw>(alloc, &format, (1, 1), &[pixel], &[9], wanted)?),
+        Err(_) => Ok(false),
+    }
+}
+
 #[test]
 fn big_endian_formats_have_the_high_byte_first(rt: HostRuntime) -> Result<(), Fail> {
     // PIXEL_FORMAT of 32 bits and of 16, with the big-endian-flag.
@@ -61,18 +64,8 @@ fn big_endian_formats_have_the_high_byte_first(rt: HostRuntime) -> Result<(), Fa
     let narrow = [
         0x10, 0x10, 1, 1, 0, 0x1F, 0, 0x3F, 0, 0x1F, 11, 5, 0, 0, 0, 0,
     ];
-    if let (Ok(wide), Ok(narrow)) = (Format::read(&wide), Format::read(&narrow)) {
-        let wanted = [9, 0x12, 0x34, 0x56, 0x78];
-        sends(&rt, rt.alloc(), &wide, (1, 1), &[0x1234_5678], &wanted)?;
-        return sends(
-            &rt,
-            rt.alloc(),
-            &narrow,
-            (1, 1),
-            &[0x1234],
-            &[9, 0x12, 0x34],
-        );
-    }
-    assert!(rt; false, "no format");
+    let good = is_one_sent(rt.alloc(), &wide, 0x1234_5678, &[9, 0x12, 0x34, 0x56, 0x78])?
+        && is_one_sent(rt.alloc(), &narrow, 0x1234, &[9, 0x12, 0x34])?;
+    assert!(rt; good);
     Ok(())
 }

@@ -1,36 +1,15 @@
 //! A plain reading of Hextile, with the colours that tiles leave to the next.
 
+use crate::codec::tests::input::Input;
 use rfb_pixel::Format;
 use std::alloc::{AllocError, Global};
 use std::result::Result;
 
 // The colours that a tile may use without naming them.
-#[derive(Drop)]
+#[derive(Clone, Copy)]
 struct Held {
     background: Option<u32>,
     foreground: Option<u32>,
-}
-
-// Bytes, and how many of them are read.
-#[derive(Drop)]
-struct Input<'a> {
-    bytes: &'a [u8],
-    at: usize,
-}
-
-impl Input<'_> {
-    fn byte(&mut self) -> Option<u8> {
-        let byte = *self.bytes.get(self.at)?;
-        self.at = self.at.wrapping_add(1);
-        Some(byte)
-    }
-
-    fn pixel(&mut self, format: &Format) -> Option<u32> {
-        let rest = self.bytes.get(self.at..)?;
-        let piece = rest.get(..format.size())?;
-        self.at = self.at.wrapping_add(format.size());
-        Some(format.take(piece))
-    }
 }
 
 // Places of a block, from its corner.
@@ -55,13 +34,7 @@ fn fill(shown: &mut [u32], width: usize, part: Part, pixel: u32) {
 }
 
 // The pixels of a raw tile.
-fn read_raw(
-    input: &mut Input<'_>,
-    format: &Format,
-    shown: &mut [u32],
-    width: usize,
-    tile: Part,
-) -> Option<()> {
+fn read_raw(input: &mut Input<'_>, format: &Format, shown: &mut [u32], width: usize, tile: Part) {
     for y in 0..tile.h {
         for x in 0..tile.w {
             let place = Part {
@@ -70,78 +43,89 @@ fn read_raw(
                 w: 1,
                 h: 1,
             };
-            fill(shown, width, place, input.pixel(format)?);
+            let pixel = input.pixel(format);
+            fill(shown, width, place, pixel);
         }
     }
-    Some(())
 }
 
-// A subrectangle of a tile, in this pixel or in its own.
-fn read_subrect(
+// The place of a subrectangle of a tile, by its two bytes.
+fn place_in(tile: Part, corner: u8, size: u8) -> Part {
+    Part {
+        x: tile.x.wrapping_add(usize::from(corner / 16)),
+        y: tile.y.wrapping_add(usize::from(corner % 16)),
+        w: usize::from(size / 16) + 1,
+        h: usize::from(size % 16) + 1,
+    }
+}
+
+// The subrectangles of a tile, in the foreground or each in its own pixel.
+fn read_subs(
     input: &mut Input<'_>,
     format: &Format,
     shown: &mut [u32],
     width: usize,
     tile: Part,
-    pixel: Option<u32>,
-) -> Option<()> {
-    let pixel = match pixel {
-        Some(pixel) => pixel,
-        None => input.pixel(format)?,
-    };
-    let corner = input.byte()?;
-    let size = input.byte()?;
-    let part = Part {
-        x: tile.x.wrapping_add(usize::from(corner / 16)),
-        y: tile.y.wrapping_add(usize::from(corner % 16)),
-        w: usize::from(size / 16) + 1,
-        h: usize::from(size % 16) + 1,
-    };
-    fill(shown, width, part, pixel);
-    Some(())
+    foreground: Option<u32>,
+    colored: bool,
+) {
+    for _ in 0..input.byte() {
+        let pixel = if colored {
+            input.pixel(format)
+        } else {
+            input.known(foreground, 0)
+        };
+        let corner = input.byte();
+        let size = input.byte();
+        fill(shown, width, place_in(tile, corner, size), pixel);
+    }
 }
 
-// A tile. Where `strict`, a raw one leaves no colour, and a coloured one no foreground.
+// A colour that a tile names, or else the one in force.
+fn named(input: &mut Input<'_>, format: &Format, is_named: bool, held: Option<u32>) -> Option<u32> {
+    if is_named {
+        Some(input.pixel(format))
+    } else {
+        held
+    }
+}
+
+// A tile, and the colours behind it. Where `strict`, a raw one leaves no colour, and a coloured one
+// no foreground.
 fn read_tile(
     input: &mut Input<'_>,
     format: &Format,
     shown: &mut [u32],
     width: usize,
     tile: Part,
-    held: &mut Held,
+    held: Held,
     strict: bool,
-) -> Option<()> {
-    let mask = input.byte()?;
+) -> Held {
+    let mask = input.byte();
     if mask & 1 != 0 {
-        if strict {
-            held.background = None;
-            held.foreground = None;
-        }
-        return read_raw(input, format, shown, width, tile);
+        read_raw(input, format, shown, width, tile);
+        return if strict { NOTHING } else { held };
     }
-    if mask & 2 != 0 {
-        held.background = Some(input.pixel(format)?);
+    let background = named(input, format, mask & 2 != 0, held.background);
+    let foreground = named(input, format, mask & 4 != 0, held.foreground);
+    let ground = input.known(background, 0);
+    fill(shown, width, tile, ground);
+    let colored = mask & 16 != 0;
+    if mask & 8 != 0 {
+        read_subs(input, format, shown, width, tile, foreground, colored);
     }
-    if mask & 4 != 0 {
-        held.foreground = Some(input.pixel(format)?);
+    Held {
+        background,
+        foreground: if strict && colored { None } else { foreground },
     }
-    fill(shown, width, tile, held.background?);
-    let count = if mask & 8 != 0 { input.byte()? } else { 0 };
-    for _ in 0..count {
-        let pixel = if mask & 16 != 0 {
-            None
-        } else {
-            Some(held.foreground?)
-        };
-        read_subrect(input, format, shown, width, tile, pixel)?;
-    }
-    if strict && mask & 16 != 0 {
-        held.foreground = None;
-    }
-    Some(())
 }
 
-// Each tile, and nothing after the last.
+const NOTHING: Held = Held {
+    background: None,
+    foreground: None,
+};
+
+// Whether there is each tile, and nothing after the last.
 fn read_tiles(
     format: &Format,
     bytes: &[u8],
@@ -149,29 +133,19 @@ fn read_tiles(
     width: usize,
     height: usize,
     strict: bool,
-) -> Option<()> {
-    let mut input = Input { bytes, at: 0 };
-    let mut held = Held {
-        background: None,
-        foreground: None,
-    };
+) -> bool {
+    let mut input = Input::of(bytes);
+    let mut held = NOTHING;
     for row in 0..height.div_ceil(16) {
         for column in 0..width.div_ceil(16) {
             let (x, y) = (column.wrapping_mul(16), row.wrapping_mul(16));
-            let tile = Part {
-                x,
-                y,
-                w: 16.min(width.saturating_sub(x)),
-                h: 16.min(height.saturating_sub(y)),
-            };
-            read_tile(&mut input, format, shown, width, tile, &mut held, strict)?;
+            let w = 16.min(width.saturating_sub(x));
+            let h = 16.min(height.saturating_sub(y));
+            let tile = Part { x, y, w, h };
+            held = read_tile(&mut input, format, shown, width, tile, held, strict);
         }
     }
-    if input.at == bytes.len() {
-        Some(())
-    } else {
-        None
-    }
+    input.is_at_end()
 }
 
 /// The pixels that Hextile data show, if they can be read.
@@ -185,6 +159,9 @@ pub fn decoded(
 ) -> Result<Option<Vec<u32>>, AllocError> {
     let mut shown = Vec::new(alloc);
     shown.resize(height.wrapping_mul(width), u32::MAX)?;
-    let whole = read_tiles(format, bytes, &mut shown, width, height, strict);
-    Ok(whole.map(|()| shown))
+    if read_tiles(format, bytes, &mut shown, width, height, strict) {
+        Ok(Some(shown))
+    } else {
+        Ok(None)
+    }
 }

@@ -32,8 +32,7 @@ fn next(state: &mut u32) -> u32 {
     *state >> 8
 }
 
-#[test]
-fn one_square_of_forty_is_one_subrectangle(rt: HostRuntime) -> Result<(), Fail> {
+fn square_of_forty() -> [u32; 4096] {
     let mut pixels = [LIGHT; 4096];
     for y in 11..51 {
         for x in 13..53 {
@@ -42,7 +41,12 @@ fn one_square_of_forty_is_one_subrectangle(rt: HostRuntime) -> Result<(), Fail> 
             }
         }
     }
-    agrees_in_each_size(&rt, rt.alloc(), &pixels)
+    pixels
+}
+
+#[test]
+fn one_square_of_forty_is_one_subrectangle(rt: HostRuntime) -> Result<(), Fail> {
+    agrees_in_each_size(&rt, rt.alloc(), &square_of_forty())
 }
 
 #[test]
@@ -56,17 +60,22 @@ fn six_hundred_single_places_are_taken_or_given_up(rt: HostRuntime) -> Result<()
     agrees_in_each_size(&rt, rt.alloc(), &pixels)
 }
 
-#[test]
-fn pixels_of_one_hash_are_not_one_pixel(rt: HostRuntime) -> Result<(), Fail> {
+// Rows that have so many places of one pixel, and then another of its hash.
+fn two_of_one_hash(zeros: usize) -> [u32; 4096] {
     let mut pixels = [0; 4096];
     for i in 0..4096 {
-        pixels[i] = if i % 64 < 40 { 0 } else { 0x0E8B_2F51 };
+        pixels[i] = if i % 64 < zeros { 0 } else { 0x0E8B_2F51 };
     }
-    agrees(&rt, rt.alloc(), &Format::rgb888(), 64, 64, &pixels)?;
-    for i in 0..4096 {
-        pixels[i] = if i % 64 < 20 { 0 } else { 0x0E8B_2F51 };
+    pixels
+}
+
+#[test]
+fn pixels_of_one_hash_are_not_one_pixel(rt: HostRuntime) -> Result<(), Fail> {
+    for zeros in [40, 20] {
+        let pixels = two_of_one_hash(zeros);
+        agrees(&rt, rt.alloc(), &Format::rgb888(), 64, 64, &pixels)?;
     }
-    agrees(&rt, rt.alloc(), &Format::rgb888(), 64, 64, &pixels)
+    Ok(())
 }
 
 #[test]
@@ -96,14 +105,22 @@ fn fifty_dense_and_sparse_cells_keep_the_rule(rt: HostRuntime) -> Result<(), Fai
     Ok(())
 }
 
+// Gives each place one of so many pixels without order.
+fn give_kinds(pixels: &mut [u32; 4096], state: &mut u32, kinds: u32) {
+    for pixel in pixels.iter_mut() {
+        *pixel = next(state)
+            .checked_rem(kinds)
+            .unwrap_or(0)
+            .wrapping_mul(0x0001_0000);
+    }
+}
+
 #[test]
 fn four_thousand_pixels_of_a_few_hashes_keep_the_rule(rt: HostRuntime) -> Result<(), Fail> {
     let mut pixels = [0; 4096];
     let mut state = 3u32;
     for kinds in [40, 1300, 1366, 1367, 4000] {
-        for pixel in pixels.iter_mut() {
-            *pixel = (next(&mut state) % kinds).wrapping_mul(0x0001_0000);
-        }
+        give_kinds(&mut pixels, &mut state, kinds);
         agrees_in_each_size(&rt, rt.alloc(), &pixels)?;
     }
     Ok(())

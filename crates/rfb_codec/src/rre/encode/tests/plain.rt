@@ -1,8 +1,7 @@
 //! The rule in its plain form, with a mark for each place, and a plain reading of RRE.
 
+use crate::codec::tests::input::Input;
 use crate::codec::tests::most_frequent;
-use crate::subrect::Subrect;
-use byteorder::{BigEndian, ByteOrder};
 use rfb_picture::Rect;
 use rfb_pixel::Format;
 use std::alloc::{AllocError, Global};
@@ -83,22 +82,26 @@ impl Plain {
     }
 }
 
-// The pixel and the rectangle that the bytes begin with.
-fn subrect_at(format: &Format, bytes: &[u8]) -> Option<Subrect> {
-    let pixel = bytes.get(..format.size())?;
-    let rect = bytes.get(format.size()..)?;
-    if rect.len() < 8 {
-        return None;
+// The rectangle of a subrectangle.
+fn rect_of(input: &mut Input<'_>) -> Rect {
+    let x = input.pair();
+    let y = input.pair();
+    let w = input.pair();
+    let h = input.pair();
+    Rect { x, y, w, h }
+}
+
+// Gives the places of a rectangle that pixel, in a block so wide.
+fn fill(shown: &mut [u32], width: usize, rect: Rect, pixel: u32) {
+    for y in 0..rect.h {
+        for x in 0..rect.w {
+            let column = usize::from(rect.x) + usize::from(x);
+            let row = usize::from(rect.y) + usize::from(y);
+            if let Some(place) = shown.get_mut(place(width, column, row)) {
+                *place = pixel;
+            }
+        }
     }
-    Some(Subrect {
-        pixel: format.take(pixel),
-        rect: Rect {
-            x: BigEndian::read_u16(rect),
-            y: BigEndian::read_u16(&rect[2..]),
-            w: BigEndian::read_u16(&rect[4..]),
-            h: BigEndian::read_u16(&rect[6..]),
-        },
-    })
 }
 
 /// The pixels that RRE data show, as far as they can be read.
@@ -109,37 +112,15 @@ pub fn decoded(
     width: usize,
     places: usize,
 ) -> Result<Vec<u32>, AllocError> {
-    let size = format.size();
+    let mut input = Input::of(bytes);
+    let high = u32::from(input.pair());
+    let count = high * 65536 + u32::from(input.pair());
     let mut shown = Vec::new(alloc);
-    let background = match bytes.get(4..4 + size) {
-        Some(pixel) => format.take(pixel),
-        None => return Ok(shown),
-    };
-    shown.resize(places, background)?;
-    let mut rest = bytes.get(4 + size..);
-    for _ in 0..BigEndian::read_u32(bytes) {
-        let s = match rest {
-            Some(more) => subrect_at(format, more),
-            None => None,
-        };
-        if let Some(s) = s {
-            for y in 0..s.rect.h {
-                for x in 0..s.rect.w {
-                    let at = place(
-                        width,
-                        usize::from(s.rect.x) + usize::from(x),
-                        usize::from(s.rect.y) + usize::from(y),
-                    );
-                    if let Some(pixel) = shown.get_mut(at) {
-                        *pixel = s.pixel;
-                    }
-                }
-            }
-        }
-        rest = match rest {
-            Some(more) => more.get(size + 8..),
-            None => None,
-        };
+    shown.resize(places, input.pixel(format))?;
+    for _ in 0..count {
+        let pixel = input.pixel(format);
+        let rect = rect_of(&mut input);
+        fill(&mut shown, width, rect, pixel);
     }
     Ok(shown)
 }
