@@ -7,9 +7,11 @@ use std::fmt::Debug;
 
 // What the other end sends: 3.8, 3.7, 3.3, a refusal, a failed result.
 const SERVERS: [&[u8]; 5] = [
-    b"RFB 003.008\n\x03\x10\x02\x01\0\0\0\0\0\x02\0\x01\x20\x18\0\x01\0\xFF\0\xFF\0\xFF\x10\x08\0\0\0\0\0\0\0\x01t",
+    b"RFB 003.008\n\x03\x10\x02\x01\0\0\0\0\0\x02\0\x01\
+        \x20\x18\0\x01\0\xFF\0\xFF\0\xFF\x10\x08\0\0\0\0\0\0\0\x01t",
     b"RFB 003.007\n\x01\x01\0\x02\0\x01\x20\x18\0\x01\0\xFF\0\xFF\0\xFF\x10\x08\0\0\0\0\0\0\0\0",
-    b"RFB 003.889\n\0\0\0\x01\0\x02\0\x01\x20\x18\0\x01\0\xFF\0\xFF\0\xFF\x10\x08\0\0\0\0\0\0\0\x03abc",
+    b"RFB 003.889\n\0\0\0\x01\0\x02\0\x01\
+        \x20\x18\0\x01\0\xFF\0\xFF\0\xFF\x10\x08\0\0\0\0\0\0\0\x03abc",
     b"RFB 003.008\n\0\0\0\0\x02No",
     b"RFB 003.008\n\x01\x01\0\0\0\x01\0\0\0\x02No",
 ];

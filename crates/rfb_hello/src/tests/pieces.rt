@@ -12,7 +12,7 @@ const LISTED: (&[u8], &[usize]) = (
     ],
 );
 
-// Behind the word of 3.3, or a count of no types, the length of a reason and each byte of it.
+// After the word of 3.3, or a count of no types, the length of a reason and each byte of it.
 const REFUSED_BY_WORD: (&[u8], &[usize]) = (
     b"RFB 003.003\n\0\0\0\0\0\0\0\x02N",
     &[
@@ -38,7 +38,7 @@ const CLIENT: (&[u8], &[usize]) = (
 );
 
 #[test]
-fn a_viewer_keeps_what_stands_behind_the_last_whole_piece(rt: HostRuntime) {
+fn a_viewer_keeps_what_stands_after_the_last_whole_piece(rt: HostRuntime) {
     for (stream, pending) in [LISTED, REFUSED_BY_WORD, REFUSED_BY_COUNT, FAILED] {
         let mut hello = ViewerHello::new(rt.alloc(), Version::V38, true, 16, 1);
         assert_eq!(rt; stream.len(), pending.len());
@@ -51,7 +51,7 @@ fn a_viewer_keeps_what_stands_behind_the_last_whole_piece(rt: HostRuntime) {
 }
 
 #[test]
-fn a_server_keeps_what_stands_behind_the_last_whole_piece(rt: HostRuntime) {
+fn a_server_keeps_what_stands_after_the_last_whole_piece(rt: HostRuntime) {
     let (stream, pending) = CLIENT;
     let mut hello = ServerHello::new(Version::V38, 1, 1, b"");
     assert_eq!(rt; stream.len(), pending.len());
@@ -64,7 +64,7 @@ fn a_server_keeps_what_stands_behind_the_last_whole_piece(rt: HostRuntime) {
 }
 
 #[test]
-fn a_handshake_that_is_done_or_failed_is_not_open(rt: HostRuntime) {
+fn a_handshake_that_is_done_is_not_open(rt: HostRuntime) {
     let mut done = ViewerHello::new(rt.alloc(), Version::V38, true, 16, 1);
     for bytes in [
         b"RFB 003.003\n".as_slice(),
@@ -75,6 +75,10 @@ fn a_handshake_that_is_done_or_failed_is_not_open(rt: HostRuntime) {
         assert!(rt; done.feed(bytes).is_ok());
     }
     assert!(rt; !done.is_open());
+}
+
+#[test]
+fn a_handshake_that_has_failed_is_not_open(rt: HostRuntime) {
     let mut failed = ViewerHello::new(rt.alloc(), Version::V38, true, 16, 1);
     assert!(rt; failed.feed(b"RFB 003.00x\n").is_err());
     assert!(rt; !failed.is_open());
