@@ -30,7 +30,7 @@ pub fn paint_rows(format: Format, rect: Rect, bytes: &[u8], picture: &mut Pictur
     }
 }
 
-/// Paints so many whole rows of the rectangle, from a row on, whose pixels stand behind those of
+/// Paints so many whole rows of the rectangle, from a row on, whose pixels stand after those of
 /// the rows above.
 pub fn paint_lines(
     format: Format,
@@ -90,7 +90,7 @@ fn lines_in(
     }
 }
 
-/// Paints so many pixels of one row of the rectangle, from a place on, which stand behind those of
+/// Paints so many pixels of one row of the rectangle, from a place on, which stand after those of
 /// the places before it.
 #[inline(always)]
 pub fn paint_run(

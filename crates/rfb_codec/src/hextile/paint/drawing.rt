@@ -152,7 +152,7 @@ fn unpacked(format: Format, pixel: u32) -> Colour
     }
 }
 
-// The subrectangle behind so many others.
+// The subrectangle after so many others.
 #[inline(always)]
 fn sub_at(format: Format, foreground: u32, colored: bool, n: usize, list: &[u8]) -> Subrect
     requires { (n + 1) * sub_size format colored ≤ length list.now }

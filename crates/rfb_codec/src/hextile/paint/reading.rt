@@ -17,7 +17,7 @@ use crate::hextile::mask::{
 use rfb_picture::Rect;
 use rfb_pixel::Format;
 
-/// The tile of that size that the bytes begin with, behind tiles that have specified the colours
+/// The tile of that size that the bytes begin with, after tiles that have specified the colours
 /// seen. None where it is not all there. A mask is judged at its byte, and subrectangles that leave
 /// the tile at the last byte of the tile.
 pub fn read_tile(
@@ -53,7 +53,7 @@ pub fn read_tile(
     }
 }
 
-// The fault of a mask, if it has one, behind tiles that have specified the colours seen.
+// The fault of a mask, if it has one, after tiles that have specified the colours seen.
 fn fault_of_mask(mask: u8, seen: Seen) -> Option<PaintFault>
     ensures { (before : List Tile) → Sees before seen → result ≡ mask_fault before mask }
 {
@@ -74,7 +74,7 @@ fn fault_of_mask(mask: u8, seen: Seen) -> Option<PaintFault>
     }
 }
 
-// Where the parts of a tile lie behind its mask, if they are all there.
+// Where the parts of a tile lie after its mask, if they are all there.
 fn find(format: Format, width: u16, height: u16, mask: u8, bytes: &[u8]) -> Option<TileRead>
     requires size { (width ≤ 16) × (height ≤ 16) }
     requires mask { 1 ≤ length bytes.now }
@@ -129,7 +129,7 @@ fn whole(
     })
 }
 
-// The colour at that place, if it is named, and the place behind it. None where it is not all
+// The colour at that place, if it is named, and the place after it. None where it is not all
 // there.
 fn find_colour(format: Format, named: bool, bytes: &[u8], at: usize) -> Option<(Option<u32>, usize)>
     requires place { at ≤ length bytes.now }
@@ -149,7 +149,7 @@ fn find_colour(format: Format, named: bool, bytes: &[u8], at: usize) -> Option<(
     Some((Some(format.take(&bytes[at..at + size])), at + size))
 }
 
-// The number of subrectangles at that place, if there are any, and the place behind it.
+// The number of subrectangles at that place, if there are any, and the place after it.
 fn find_count(any: bool, bytes: &[u8], at: usize) -> Option<(usize, usize)>
     requires place { at ≤ length bytes.now }
     requires low { at ≤ 12 }
@@ -193,7 +193,7 @@ fn fits(format: Format, width: u16, height: u16, read: TileRead, bytes: &[u8]) -
     }
 }
 
-// Whether so many places lie in a tile, each behind so many bytes of a pixel.
+// Whether so many places lie in a tile, each after so many bytes of a pixel.
 fn are_places_inside(width: u16, height: u16, skip: usize, count: usize, list: &[u8]) -> bool
     requires all { count * (skip + 2) ≤ length list.now }
     requires pixel { skip ≤ 4 }

@@ -23,7 +23,7 @@ pub struct Seen {
     pub foreground: Option<u32>,
 }
 
-/// The colours seen behind a tile of that layout too.
+/// The colours seen after a tile of that layout too.
 pub fn seen_behind(seen: Seen, layout: TileLayout) -> Seen
     ensures background { result.background ≡ later (background_named layout) seen.background }
     ensures foreground { result.foreground ≡ later (foreground_named layout) seen.foreground }

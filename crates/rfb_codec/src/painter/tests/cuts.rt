@@ -106,7 +106,7 @@ fn pending_after(pieces: &[Piece], bytes: usize) -> usize {
     bytes.saturating_sub(last)
 }
 
-// Whether a painter that is fed slices of that size, behind a first one, takes all of each, has
+// Whether a painter that is fed slices of that size, after a first one, takes all of each, has
 // pending what it should and shows what it should after each, and is done after the last.
 fn in_slices(alloc: Global, scene: Scene<'_>, first: usize, size: usize) -> Result<bool, Fail> {
     let mut picture = Picture::new(alloc, scene.width, scene.height, GREY)?;

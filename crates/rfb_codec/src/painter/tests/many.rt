@@ -16,7 +16,7 @@ const HEAD: [u8; 5] = [0xFF, 0xFF, 0xFF, 0xFF, 0x10];
 // One place of 0x20 at x-position 3.
 const PART: [u8; 9] = [0x20, 0, 3, 0, 0, 0, 1, 0, 1];
 
-// Whether a subrectangle, cut behind so many bytes, is taken, and has them pending in between.
+// Whether a subrectangle, cut after so many bytes, is taken, and has them pending in between.
 fn is_taken(painter: &mut Painter, picture: &mut Picture<Colour>, cut: usize) -> bool
     requires place { Holds picture.old painter.old.rect }
     requires cut { cut < 9 }

@@ -39,7 +39,7 @@ fn masks_are_refused(alloc: Global) -> Result<bool, Fail> {
         (17, &[0x02, 0x10, 0x1C], PaintFault::BothColourBits),
         (17, &[0x02, 0x10, 0x14], PaintFault::BothColourBits),
         (17, &[0x02, 0x10, 0x08], PaintFault::NoForeground),
-        // Whatever the count behind it says.
+        // Whatever the count after it says.
         (2, &[0x0A, 0x10, 0], PaintFault::NoForeground),
     ] {
         if !refuses(alloc, width, data, fault)? {

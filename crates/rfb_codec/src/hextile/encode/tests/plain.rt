@@ -90,7 +90,7 @@ fn named(input: &mut Input<'_>, format: &Format, is_named: bool, held: Option<u3
     }
 }
 
-// A tile, and the colours behind it. Where `strict`, a raw one leaves no colour, and a coloured one
+// A tile, and the colours after it. Where `strict`, a raw one leaves no colour, and a coloured one
 // no foreground.
 fn read_tile(
     input: &mut Input<'_>,

@@ -29,7 +29,7 @@ struct Palette {
     colored: bool,
 }
 
-// A tile's pixels, row by row, and places behind them.
+// A tile's pixels, row by row, and places after them.
 #[derive(Clone, Copy)]
 struct Tile {
     pixels: [u32; 256],
