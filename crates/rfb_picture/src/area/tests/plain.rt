@@ -1,7 +1,5 @@
 //! Areas as plain lists of marks, and the numbers that pick their rectangles.
 
-ghost use Rattle.std.specs.Prelude.{◌+◌, ◌<◌, ◌≤◌};
-
 use crate::rect::Rect;
 use std::alloc::{AllocError, Global};
 
@@ -15,15 +13,10 @@ pub(super) struct Plain {
 
 impl Plain {
     pub(super) fn new(alloc: Global, width: u16, height: u16) -> Result<Plain, AllocError> {
-        let count = usize::from(width) * usize::from(height);
-        let mut asked = Vec::new(alloc);
-        asked.resize(count, false)?;
-        let mut whole = Vec::new(alloc);
-        whole.resize(count, false)?;
         Ok(Plain {
             width,
-            asked,
-            whole,
+            asked: no_marks(alloc, width, height)?,
+            whole: no_marks(alloc, width, height)?,
         })
     }
 
@@ -40,19 +33,17 @@ impl Plain {
         self.whole.fill(false);
     }
 
-    pub(super) fn is_asked(&self, x: u16, y: u16) -> bool {
-        self.asked.get(index(self.width, x, y)).copied() == Some(true)
-    }
-
-    pub(super) fn is_whole(&self, x: u16, y: u16) -> bool {
-        self.whole.get(index(self.width, x, y)).copied() == Some(true)
+    // Whether a place is asked, and whether it is whole.
+    pub(super) fn marks(&self, x: u16, y: u16) -> (bool, bool) {
+        let at = index(self.width, x, y);
+        (is_marked(&self.asked, at), is_marked(&self.whole, at))
     }
 
     pub(super) fn bounds_in(&self, cell: Rect) -> Option<Rect> {
         let mut found = None;
         for y in cell.y..cell.y.saturating_add(cell.h) {
             for x in cell.x..cell.x.saturating_add(cell.w) {
-                if self.is_asked(x, y) {
+                if is_marked(&self.asked, index(self.width, x, y)) {
                     found = Some(with_place(found, x, y));
                 }
             }
@@ -61,8 +52,23 @@ impl Plain {
     }
 }
 
+fn no_marks(alloc: Global, width: u16, height: u16) -> Result<Vec<bool>, AllocError> {
+    let mut marks = Vec::new(alloc);
+    marks.resize(
+        usize::from(width).saturating_mul(usize::from(height)),
+        false,
+    )?;
+    Ok(marks)
+}
+
+fn is_marked(marks: &[bool], at: usize) -> bool {
+    matches!(marks.get(at), Some(true))
+}
+
 fn index(width: u16, x: u16, y: u16) -> usize {
-    usize::from(y) * usize::from(width) + usize::from(x)
+    usize::from(y)
+        .saturating_mul(usize::from(width))
+        .saturating_add(usize::from(x))
 }
 
 fn mark(marks: &mut [bool], width: u16, rect: Rect) {
@@ -97,31 +103,24 @@ pub(super) struct Numbers {
 }
 
 impl Numbers {
-    pub(super) fn below(&mut self, limit: u16) -> u16
-        requires { 0 < limit }
-        ensures { result < limit }
-    {
+    // A number below `limit`; 0 if that is 0.
+    pub(super) fn below(&mut self, limit: u16) -> u16 {
         self.state = self
             .state
             .wrapping_mul(6_364_136_223_846_793_005)
             .wrapping_add(1_442_695_040_888_963_407);
-        ((self.state >> 33) % u64::from(limit)) as u16
+        ((self.state >> 33) % u64::from(limit.max(1))) as u16
     }
 
     // A rectangle of the screen; now and then with no place.
-    pub(super) fn rect(&mut self, width: u16, height: u16) -> Rect
-        requires width { width < 1000 }
-        requires height { height < 1000 }
-        ensures columns { result.x + result.w ≤ width }
-        ensures rows { result.y + result.h ≤ height }
-    {
-        let x = self.below(width + 1);
-        let y = self.below(height + 1);
+    pub(super) fn rect(&mut self, width: u16, height: u16) -> Rect {
+        let x = self.below(width.saturating_add(1));
+        let y = self.below(height.saturating_add(1));
         Rect {
             x,
             y,
-            w: self.below(width - x + 1),
-            h: self.below(height - y + 1),
+            w: self.below(width.saturating_sub(x).saturating_add(1)),
+            h: self.below(height.saturating_sub(y).saturating_add(1)),
         }
     }
 }
