@@ -12,6 +12,7 @@ mod messages;
 mod painting;
 mod pending;
 mod plain;
+mod play;
 
 use crate::{Viewer, ViewerEvent};
 use arrayvec::ArrayVec;
@@ -57,32 +58,6 @@ fn taken(viewer: &mut Viewer, bytes: &[u8]) -> usize {
     match viewer.feed(bytes) {
         Ok(fed) => fed.used,
         Err(_) => 0,
-    }
-}
-
-// Whether it takes so many bytes, and tells nothing.
-fn takes(viewer: &mut Viewer, bytes: &[u8], wanted: usize) -> bool {
-    match viewer.feed(bytes) {
-        Ok(Fed { used, event }) => used == wanted && event.is_none(),
-        Err(_) => false,
-    }
-}
-
-// Whether it takes so many bytes, and then tells that an update is done.
-fn ends_update(viewer: &mut Viewer, bytes: &[u8], wanted: usize) -> bool {
-    match viewer.feed(bytes) {
-        Ok(Fed { used, event }) => {
-            used == wanted && matches!(event, Some(ViewerEvent::UpdateDone))
-        }
-        Err(_) => false,
-    }
-}
-
-// Whether it shows one row of these colours.
-fn shows_row(viewer: &Viewer, wanted: &[Colour]) -> bool {
-    match viewer.picture() {
-        Some(picture) => picture.height() == 1 && row_of(picture, 0) == wanted,
-        None => false,
     }
 }
 

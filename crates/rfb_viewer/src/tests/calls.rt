@@ -1,5 +1,6 @@
 //! Calls of a viewer's owner: the bytes to be sent, and when they are refused.
 
+use super::play::{Step, Told, are_right, fault_at, request_fault, shows_row, tells};
 use super::*;
 use crate::{CallFault, TextFault};
 use rfb_picture::Rect;
@@ -14,11 +15,7 @@ const ONE: Rect = Rect {
 
 const TWO: Rect = Rect { w: 2, ..ONE };
 
-// Whether a request is refused so; or what is sent.
-fn request_fault(viewer: &mut Viewer, rect: Rect) -> Option<CallFault> {
-    viewer.request(true, rect).err()
-}
-
+// How a format is refused, if it is.
 fn format_fault(viewer: &mut Viewer) -> Option<CallFault> {
     viewer.set_format(Format::bgr233()).err()
 }
@@ -39,88 +36,139 @@ fn refuses_all(viewer: &mut Viewer, alloc: Global) -> bool {
         && out.is_empty()
 }
 
-#[test]
-fn calls_wait_for_the_end_of_the_handshake(rt: HostRuntime) {
-    let mut viewer = viewer(rt.alloc(), Format::rgb888(), Version::V38);
+// Whether all calls wait for the end of the handshake.
+fn wait_for_the_end(viewer: &mut Viewer, alloc: Global) -> bool {
+    let mut good = true;
     for byte in HELLO_1_BY_1.chunks(1) {
-        assert!(rt; refuses_all(&mut viewer, rt.alloc()));
-        assert!(rt; !viewer.between());
-        assert_eq!(rt; taken(&mut viewer, byte), 1);
+        good &= refuses_all(viewer, alloc) && !viewer.between() && taken(viewer, byte) == 1;
     }
-    assert!(rt; viewer.between());
-    assert!(rt; !refuses_all(&mut viewer, rt.alloc()));
+    good && viewer.between() && !refuses_all(viewer, alloc)
+}
+
+fn calls_wait(alloc: Global) -> bool {
+    let mut viewer = viewer(alloc, Format::rgb888(), Version::V38);
+    wait_for_the_end(&mut viewer, alloc)
 }
 
 #[test]
-fn a_failed_viewer_refuses_all_calls(rt: HostRuntime) {
-    let mut viewer = ready(rt.alloc(), Format::rgb888(), HELLO_1_BY_1);
-    assert_eq!(rt; request_fault(&mut viewer, ONE), None);
-    assert!(rt; is_failed_by(&mut viewer, rt.alloc(), &[0xFF]));
+fn calls_wait_for_the_end_of_the_handshake(rt: HostRuntime) {
+    assert!(rt; calls_wait(rt.alloc()));
 }
 
 // Whether the viewer fails at these bytes, and then refuses all calls and shows its picture still.
 fn is_failed_by(viewer: &mut Viewer, alloc: Global, bytes: &[u8]) -> bool {
-    viewer.feed(bytes).is_err()
+    fault_at(viewer, bytes).is_some()
         && refuses_all(viewer, alloc)
         && !viewer.between()
         && viewer.pending() == 0
         && shows_row(viewer, &[BLACK])
 }
 
-// What a call answers, as bytes.
-fn sends<const SIZE: usize>(answer: Result<[u8; SIZE], CallFault>, wanted: &[u8]) -> bool {
-    match answer {
-        Ok(bytes) => bytes.as_slice() == wanted,
-        Err(_) => false,
-    }
-}
-
-fn sends_list(answer: Result<ArrayVec<u8, 20>, CallFault>, wanted: &[u8]) -> bool {
-    match answer {
-        Ok(bytes) => bytes.as_slice() == wanted,
-        Err(_) => false,
-    }
+fn refuses_when_failed(alloc: Global) -> bool {
+    let mut viewer = ready(alloc, Format::rgb888(), HELLO_1_BY_1);
+    request_fault(&mut viewer, ONE).is_none() && is_failed_by(&mut viewer, alloc, &[0xFF])
 }
 
 #[test]
+fn a_failed_viewer_refuses_all_calls(rt: HostRuntime) {
+    assert!(rt; refuses_when_failed(rt.alloc()));
+}
+
+// A call that is a message.
+#[derive(Clone, Copy)]
+enum Call<'a> {
+    Key(bool, u32),
+    Pointer(u8, u16, u16),
+    List(&'a [Encoding]),
+    Format(Format),
+    Request(bool, Rect),
+}
+
+// Whether a call answers these bytes.
+fn is_sent<const SIZE: usize>(answer: Result<[u8; SIZE], CallFault>, wanted: &[u8]) -> bool {
+    match answer {
+        Ok(bytes) => bytes.as_slice() == wanted,
+        Err(_) => false,
+    }
+}
+
+fn sends_list(viewer: &mut Viewer, list: &[Encoding], wanted: &[u8]) -> bool {
+    let mut listed = no_encodings();
+    let fits = listed.try_extend_from_slice(list).is_ok();
+    match viewer.set_encodings(listed) {
+        Ok(bytes) => fits && bytes.as_slice() == wanted,
+        Err(_) => false,
+    }
+}
+
+// Whether these bytes are to be sent for a call.
+fn sends(viewer: &mut Viewer, call: &Call<'_>, wanted: &[u8]) -> bool {
+    match *call {
+        Call::Key(down, key) => is_sent(viewer.key(down, key), wanted),
+        Call::Pointer(buttons, x, y) => is_sent(viewer.pointer(buttons, x, y), wanted),
+        Call::List(list) => sends_list(viewer, list, wanted),
+        Call::Format(format) => is_sent(viewer.set_format(format), wanted),
+        Call::Request(again, rect) => is_sent(viewer.request(again, rect), wanted),
+    }
+}
+
+fn sends_each(alloc: Global, rows: &[(Call<'_>, &[u8])]) -> bool {
+    let mut viewer = ready(alloc, Format::rgb888(), HELLO_2_BY_1);
+    let mut good = true;
+    for (call, bytes) in rows {
+        good &= sends(&mut viewer, call, bytes);
+    }
+    good
+}
+
+const LISTED: [Encoding; 4] = [
+    Encoding::Hextile,
+    Encoding::CopyRect,
+    Encoding::Raw,
+    Encoding::Rre,
+];
+
+#[test]
 fn calls_are_their_messages(rt: HostRuntime) {
-    let mut viewer = ready(rt.alloc(), Format::rgb888(), HELLO_2_BY_1);
-    assert!(rt; sends(viewer.key(true, 0xFF0D), b"\x04\x01\0\0\0\0\xFF\x0D"));
-    assert!(rt; sends(viewer.key(false, 0x61), b"\x04\0\0\0\0\0\0a"));
-    assert!(rt;
-        sends(
-            viewer.pointer(5, 0x1234, 0x5678),
-            b"\x05\x05\x12\x34\x56\x78"
-        )
-    );
-    let mut listed = ArrayVec::new();
-    listed.push(Encoding::Hextile);
-    listed.push(Encoding::CopyRect);
-    listed.push(Encoding::Raw);
-    listed.push(Encoding::Rre);
-    let bytes = b"\x02\0\0\x04\0\0\0\x05\0\0\0\x01\0\0\0\0\0\0\0\x02";
-    assert!(rt; sends_list(viewer.set_encodings(listed), bytes));
-    assert!(rt; sends_list(viewer.set_encodings(no_encodings()), b"\x02\0\0\0"));
-    let format = b"\0\0\0\0\x10\x10\0\x01\0\x1F\0\x3F\0\x1F\x0B\x05\0\0\0\0";
-    assert!(rt; sends(viewer.set_format(Format::rgb565()), format));
-    assert!(rt; sends(viewer.request(false, TWO), b"\x03\0\0\0\0\0\0\x02\0\x01"));
+    let rows: [(Call<'_>, &[u8]); 7] = [
+        (Call::Key(true, 0xFF0D), b"\x04\x01\0\0\0\0\xFF\x0D"),
+        (Call::Key(false, 0x61), b"\x04\0\0\0\0\0\0a"),
+        (
+            Call::Pointer(5, 0x1234, 0x5678),
+            b"\x05\x05\x12\x34\x56\x78",
+        ),
+        (
+            Call::List(&LISTED),
+            b"\x02\0\0\x04\0\0\0\x05\0\0\0\x01\0\0\0\0\0\0\0\x02",
+        ),
+        (Call::List(&[]), b"\x02\0\0\0"),
+        (
+            Call::Format(Format::rgb565()),
+            b"\0\0\0\0\x10\x10\0\x01\0\x1F\0\x3F\0\x1F\x0B\x05\0\0\0\0",
+        ),
+        (Call::Request(false, TWO), b"\x03\0\0\0\0\0\0\x02\0\x01"),
+    ];
+    assert!(rt; sends_each(rt.alloc(), rows.as_slice()));
 }
 
 // Whether a text is appended behind what the buffer has.
-fn appends(viewer: &Viewer, alloc: Global) -> Result<bool, AllocError> {
+fn appends(viewer: &Viewer, alloc: Global) -> bool {
     let mut out = Vec::new(alloc);
     let first = viewer.cut_text(b"ABCDE", &mut out).is_ok();
     let alone = out.as_slice() == b"\x06\0\0\0\0\0\0\x05ABCDE".as_slice();
     let second = viewer.cut_text(b"", &mut out).is_ok();
     let behind = out.as_slice() == b"\x06\0\0\0\0\0\0\x05ABCDE\x06\0\0\0\0\0\0\0".as_slice();
-    Ok(first && alone && second && behind)
+    first && alone && second && behind
+}
+
+fn appends_texts(alloc: Global) -> bool {
+    let viewer = ready(alloc, Format::rgb888(), HELLO_2_BY_1);
+    appends(&viewer, alloc)
 }
 
 #[test]
-fn a_text_is_appended_to_what_is_to_be_sent(rt: HostRuntime) -> Result<(), AllocError> {
-    let viewer = ready(rt.alloc(), Format::rgb888(), HELLO_2_BY_1);
-    assert!(rt; appends(&viewer, rt.alloc())?);
-    Ok(())
+fn a_text_is_appended_to_what_is_to_be_sent(rt: HostRuntime) {
+    assert!(rt; appends_texts(rt.alloc()));
 }
 
 // Where the buffer cannot grow, that is told, and it stays as it was.
@@ -131,41 +179,50 @@ fn keeps_or_appends(viewer: &Viewer, out: &mut Vec<u8>) -> bool {
     }
 }
 
+fn keeps_the_buffer(alloc: Global, out: &mut Vec<u8>) -> bool {
+    let viewer = ready(alloc, Format::rgb888(), HELLO_2_BY_1);
+    !viewer.between() || keeps_or_appends(&viewer, out)
+}
+
 #[test]
 fn a_text_without_memory_leaves_the_buffer(rt: HostRuntime) -> Result<(), AllocError> {
-    let viewer = ready(rt.alloc(), Format::rgb888(), HELLO_2_BY_1);
     let mut out = vec![in rt.alloc(); b'Z']?;
-    assert!(rt; !viewer.between() || keeps_or_appends(&viewer, &mut out));
+    assert!(rt; keeps_the_buffer(rt.alloc(), &mut out));
     Ok(())
+}
+
+const OUTSIDE: [Rect; 6] = [
+    Rect { w: 0, ..ONE },
+    Rect { h: 0, ..ONE },
+    Rect { w: 3, ..ONE },
+    Rect { x: 2, ..ONE },
+    Rect { y: 1, ..ONE },
+    Rect {
+        x: 1,
+        w: 0xFFFF,
+        ..ONE
+    },
+];
+
+// Whether a request for each area outside is refused so.
+fn refuses_each(viewer: &mut Viewer, wanted: CallFault) -> bool {
+    let mut good = true;
+    for rect in OUTSIDE {
+        good &= request_fault(viewer, rect) == Some(wanted);
+    }
+    good
+}
+
+fn judges_areas_last(alloc: Global) -> bool {
+    let mut viewer = ready(alloc, Format::rgb888(), HELLO_2_BY_1);
+    refuses_each(&mut viewer, CallFault::AreaOutside)
+        && request_fault(&mut viewer, TWO).is_none()
+        && refuses_each(&mut viewer, CallFault::Busy)
 }
 
 #[test]
 fn an_area_is_judged_last(rt: HostRuntime) {
-    let mut viewer = ready(rt.alloc(), Format::rgb888(), HELLO_2_BY_1);
-    let outside = [
-        Rect { w: 0, ..ONE },
-        Rect { h: 0, ..ONE },
-        Rect { w: 3, ..ONE },
-        Rect { x: 2, ..ONE },
-        Rect { y: 1, ..ONE },
-        Rect {
-            x: 1,
-            w: 0xFFFF,
-            ..ONE
-        },
-    ];
-    assert!(rt; refuses_each(&mut viewer, &outside, CallFault::AreaOutside));
-    assert_eq!(rt; request_fault(&mut viewer, TWO), None);
-    assert!(rt; refuses_each(&mut viewer, &outside, CallFault::Busy));
-}
-
-// Whether a request for each area is refused so.
-fn refuses_each(viewer: &mut Viewer, areas: &[Rect], wanted: CallFault) -> bool {
-    let mut good = true;
-    for rect in areas {
-        good &= request_fault(viewer, *rect) == Some(wanted);
-    }
-    good
+    assert!(rt; judges_areas_last(rt.alloc()));
 }
 
 // A place of Raw at rgb888, and one at bgr233.
@@ -179,49 +236,47 @@ fn is_busy_inside(viewer: &mut Viewer) -> bool {
     for byte in ONE_PLACE[..19].chunks(1) {
         good &= request_fault(viewer, ONE) == Some(CallFault::Busy)
             && format_fault(viewer) == Some(CallFault::Busy)
-            && takes(viewer, byte, 1);
+            && tells(viewer, byte, 1, Told::Nothing);
     }
     good && format_fault(viewer) == Some(CallFault::Busy)
-        && ends_update(viewer, &ONE_PLACE[19..], 1)
+        && tells(viewer, &ONE_PLACE[19..], 1, Told::UpdateDone)
 }
+
+const SEEN: Colour = Colour {
+    r: 255,
+    g: 146,
+    b: 0,
+};
 
 // Whether a format is set then, the next request sent, and its update read in that format.
 fn is_shown_in_a_new_format(viewer: &mut Viewer) -> bool {
     let format = b"\0\0\0\0\x08\x08\0\x01\0\x07\0\x07\0\x03\0\x03\x06\0\0\0";
-    let seen = Colour {
-        r: 255,
-        g: 146,
-        b: 0,
-    };
-    sends(viewer.set_format(Format::bgr233()), format)
-        && sends(viewer.request(true, ONE), b"\x03\x01\0\0\0\0\0\x01\0\x01")
-        && ends_update(viewer, ONE_SMALL, 17)
-        && shows_row(viewer, &[seen])
+    let request = b"\x03\x01\0\0\0\0\0\x01\0\x01";
+    sends(viewer, &Call::Format(Format::bgr233()), format)
+        && sends(viewer, &Call::Request(true, ONE), request)
+        && tells(viewer, ONE_SMALL, 17, Told::UpdateDone)
+        && shows_row(viewer, &[SEEN])
+}
+
+fn sets_a_format_between(alloc: Global) -> bool {
+    let mut viewer = ready(alloc, Format::rgb888(), HELLO_1_BY_1);
+    let request = b"\x03\0\0\0\0\0\0\x01\0\x01";
+    sends(&mut viewer, &Call::Request(false, ONE), request)
+        && is_busy_inside(&mut viewer)
+        && is_shown_in_a_new_format(&mut viewer)
 }
 
 #[test]
 fn a_format_is_set_between_an_update_and_the_next_request(rt: HostRuntime) {
-    let mut viewer = ready(rt.alloc(), Format::rgb888(), HELLO_1_BY_1);
-    assert!(rt; sends(viewer.request(false, ONE), b"\x03\0\0\0\0\0\0\x01\0\x01"));
-    assert!(rt; is_busy_inside(&mut viewer));
-    assert!(rt; is_shown_in_a_new_format(&mut viewer));
-}
-
-// Inside an update that nobody asked for no format is set. A request is sent, and answered by its
-// end.
-#[test]
-fn an_update_that_nobody_asked_for_answers_a_request(rt: HostRuntime) {
-    let mut viewer = ready(rt.alloc(), Format::rgb888(), HELLO_1_BY_1);
-    assert!(rt; is_begun(&mut viewer));
-    assert!(rt; sends(viewer.key(true, 1), b"\x04\x01\0\0\0\0\0\x01"));
-    assert!(rt; answers_a_request(&mut viewer));
+    assert!(rt; sets_a_format_between(rt.alloc()));
 }
 
 // Whether eight bytes are taken, and no format is set behind any of them.
 fn is_begun(viewer: &mut Viewer) -> bool {
     let mut good = true;
     for byte in ONE_PLACE[..8].chunks(1) {
-        good &= takes(viewer, byte, 1) && format_fault(viewer) == Some(CallFault::Busy);
+        good &= tells(viewer, byte, 1, Told::Nothing)
+            && format_fault(viewer) == Some(CallFault::Busy);
     }
     good
 }
@@ -229,30 +284,50 @@ fn is_begun(viewer: &mut Viewer) -> bool {
 // Whether a request is sent inside the update, none behind it, and the next one behind the last
 // byte.
 fn answers_a_request(viewer: &mut Viewer) -> bool {
-    request_fault(viewer, ONE).is_none()
-        && request_fault(viewer, ONE) == Some(CallFault::Busy)
-        && takes(viewer, &ONE_PLACE[8..19], 11)
-        && request_fault(viewer, ONE) == Some(CallFault::Busy)
-        && ends_update(viewer, &ONE_PLACE[19..], 1)
-        && request_fault(viewer, ONE).is_none()
+    let steps = [
+        Step::Ask(ONE, None),
+        Step::Ask(ONE, Some(CallFault::Busy)),
+        Step::Feed(&ONE_PLACE[8..19], 11, Told::Nothing),
+        Step::Ask(ONE, Some(CallFault::Busy)),
+        Step::Feed(&ONE_PLACE[19..], 1, Told::UpdateDone),
+        Step::Ask(ONE, None),
+    ];
+    are_right(viewer, steps.as_slice())
+}
+
+fn answers_inside(alloc: Global) -> bool {
+    let mut viewer = ready(alloc, Format::rgb888(), HELLO_1_BY_1);
+    is_begun(&mut viewer)
+        && sends(&mut viewer, &Call::Key(true, 1), b"\x04\x01\0\0\0\0\0\x01")
+        && answers_a_request(&mut viewer)
+}
+
+// Inside an update that nobody asked for no format is set. A request is sent, and answered by its
+// end.
+#[test]
+fn an_update_that_nobody_asked_for_answers_a_request(rt: HostRuntime) {
+    assert!(rt; answers_inside(rt.alloc()));
+}
+
+// Whether a format may be set behind each byte.
+fn is_free_inside(viewer: &mut Viewer, bytes: &[u8]) -> bool {
+    let mut good = true;
+    for byte in bytes.chunks(1) {
+        good &= tells(viewer, byte, 1, Told::Nothing)
+            && !viewer.between()
+            && format_fault(viewer).is_none();
+    }
+    good
+}
+
+fn sets_a_format_inside(alloc: Global, bytes: &[u8]) -> bool {
+    let mut viewer = ready(alloc, Format::rgb888(), HELLO_1_BY_1);
+    is_free_inside(&mut viewer, bytes)
 }
 
 // Inside a text and inside colours a format may be set.
 #[test]
 fn a_format_is_set_inside_other_messages(rt: HostRuntime) {
-    for bytes in [b"\x03\0\0\0\0\0\0\x02A", b"\x01\0\0\0\0\x01\0\0\0"] {
-        assert!(rt; is_free_inside(rt.alloc(), bytes));
-    }
-}
-
-// Whether a format may be set behind each byte.
-fn is_free_inside(alloc: Global, bytes: &[u8]) -> bool {
-    let mut viewer = ready(alloc, Format::rgb888(), HELLO_1_BY_1);
-    let mut good = true;
-    for byte in bytes.chunks(1) {
-        good &= takes(&mut viewer, byte, 1)
-            && !viewer.between()
-            && format_fault(&mut viewer).is_none();
-    }
-    good
+    assert!(rt; sets_a_format_inside(rt.alloc(), b"\x03\0\0\0\0\0\0\x02A"));
+    assert!(rt; sets_a_format_inside(rt.alloc(), b"\x01\0\0\0\0\x01\0\0\0"));
 }

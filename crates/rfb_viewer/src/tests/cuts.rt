@@ -3,6 +3,8 @@
 
 use super::hostile::FAULTS;
 use super::*;
+use crate::ViewerFault;
+use std::fmt::Debug;
 
 // Handshakes of each version and messages behind them, of a viewer that is at bgr233: updates of
 // each encoding, a text above its limit and one of no bytes, colours, bells; refusals; faults in an
@@ -33,6 +35,47 @@ const WIDE_SERVERS: [&[u8]; 3] = [
     b"RFB 003.003\n\0\0\0\x01\0\x04\0\x01................\0\0\0\0\0\0\0\x02\0\0\0\0\0\x04\0\x01\0\0\0\0\x01\x02\x03\0\x04\x05\x06\0\x07\x08\x09\0\x0A\x0B\x0C\0\0\x01\0\0\0\x03\0\x01\0\0\0\x01\0\0\0\0",
 ];
 
+// Writes a line to the log: a number of bytes, and what came behind them.
+fn note<T: Debug>(alloc: Global, at: usize, seen: &T, log: &mut String) -> Result<(), AllocError> {
+    log.push_str(&format!(in alloc; "{at} {seen:?}\n")?)
+}
+
+// Feeds bytes, of which an event may be told. Behind an update the format is bgr233.
+fn feed(viewer: &mut Viewer, bytes: &[u8]) -> Result<Fed<ViewerEvent>, ViewerFault> {
+    let told = viewer.feed(bytes);
+    if let Ok(
+        Fed {
+            event: Some(ViewerEvent::UpdateDone),
+            ..
+        },
+    ) = &told
+    {
+        let _bytes = viewer.set_format(Format::bgr233());
+    }
+    told
+}
+
+// Writes each event, or a fault, and how many bytes are used then. None goes on behind a fault.
+fn note_told(
+    alloc: Global,
+    before: usize,
+    told: Result<Fed<ViewerEvent>, ViewerFault>,
+    log: &mut String,
+) -> Result<Option<usize>, AllocError> {
+    match told {
+        Ok(Fed { used, event }) => {
+            if let Some(event) = event {
+                note(alloc, before.saturating_add(used), &event, log)?;
+            }
+            Ok(Some(used))
+        }
+        Err(fault) => {
+            note(alloc, 0, &fault, log)?;
+            Ok(None)
+        }
+    }
+}
+
 // Feeds a slice that stands behind so many bytes: writes each event with the number of bytes up to
 // it, and a fault. Whether no fault came.
 fn feed_all(
@@ -45,21 +88,12 @@ fn feed_all(
     let mut rest = slice;
     let mut at = before;
     for _ in 0..slice.len() {
-        let Fed { used, event } = match viewer.feed(rest) {
-            Ok(fed) => fed,
-            Err(fault) => {
-                log.push_str(&format!(in alloc; "{fault:?}\n")?)?;
-                return Ok(false);
-            }
+        let told = feed(viewer, rest);
+        let Some(used) = note_told(alloc, at, told, log)? else {
+            return Ok(false);
         };
         rest = rest.get(used..).unwrap_or_default();
         at = at.saturating_add(used);
-        if let Some(event) = event {
-            log.push_str(&format!(in alloc; "{at} {event:?}\n")?)?;
-            if let ViewerEvent::UpdateDone = event {
-                let _bytes = viewer.set_format(Format::bgr233());
-            }
-        }
         if rest.is_empty() {
             return Ok(true);
         }
@@ -78,13 +112,9 @@ fn feed_slices(
 ) -> Result<(), AllocError> {
     let (front, back) = stream.split_at(first.min(stream.len()));
     let mut at = front.len();
-    if !feed_all(viewer, alloc, front, 0, log)? {
-        return Ok(());
-    }
+    let mut good = feed_all(viewer, alloc, front, 0, log)?;
     for slice in back.chunks(size.max(1)) {
-        if !feed_all(viewer, alloc, slice, at, log)? {
-            return Ok(());
-        }
+        good = good && feed_all(viewer, alloc, slice, at, log)?;
         at = at.saturating_add(slice.len());
     }
     Ok(())

@@ -2,6 +2,7 @@
 //! what a plain decoder makes of the bytes so far.
 
 use super::plain::{Pixels, SIDE, shown_after};
+use super::play::{Told, tells};
 use super::*;
 
 // A part of an update: bytes, or so many pixels.
@@ -48,18 +49,22 @@ const UPDATE: [Part; 24] = [
     Given(b"\0"),
 ];
 
+// Appends so many bytes, each another than the one before it.
+fn append_fresh(bytes: &mut Vec<u8>, count: usize) -> Result<(), AllocError> {
+    for _ in 0..count {
+        let byte = bytes.len().wrapping_mul(37) % 251;
+        bytes.push(u8::try_from(byte).unwrap_or_default())?;
+    }
+    Ok(())
+}
+
 // The update with pixels of so many bytes, each of other bytes than the one before it.
 fn update(alloc: Global, size: usize) -> Result<Vec<u8>, AllocError> {
     let mut bytes = Vec::new(alloc);
     for part in UPDATE {
         match part {
             Given(given) => bytes.extend_from_slice(given)?,
-            Fresh(count) => {
-                for _ in 0..count.saturating_mul(size) {
-                    let byte = bytes.len().wrapping_mul(37) % 251;
-                    bytes.push(u8::try_from(byte).unwrap_or_default())?;
-                }
-            }
+            Fresh(count) => append_fresh(&mut bytes, count.saturating_mul(size))?,
         }
     }
     Ok(bytes)
@@ -97,16 +102,17 @@ fn shows_at_cuts(
     pixels: Pixels,
 ) -> Result<bool, AllocError> {
     let (front, back) = bytes.split_at(first.min(bytes.len()));
-    let mut good = takes(viewer, front, front.len());
+    let mut good = tells(viewer, front, front.len(), Told::Nothing);
     good &= shows_all(viewer, alloc, front, pixels)?;
     let mut came = front.len();
     for slice in back.chunks(size.max(1)) {
         came = came.saturating_add(slice.len());
-        good &= if came == bytes.len() {
-            ends_update(viewer, slice, slice.len())
+        let told = if came == bytes.len() {
+            Told::UpdateDone
         } else {
-            takes(viewer, slice, slice.len())
+            Told::Nothing
         };
+        good &= tells(viewer, slice, slice.len(), told);
         good &= shows_all(viewer, alloc, bytes.get(..came).unwrap_or_default(), pixels)?;
     }
     Ok(good)

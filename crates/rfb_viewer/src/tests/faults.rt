@@ -2,6 +2,7 @@
 
 use super::*;
 use crate::{CallFault, TextFault, ViewerFault};
+use std::fmt::Display;
 
 const FAULTS: [(ViewerFault, &str); 16] = [
     (ViewerFault::UnknownMessage(4), "7 UnknownMessage"),
@@ -34,25 +35,28 @@ const TEXT_REFUSALS: [(TextFault, &str); 2] = [
 ];
 
 // Whether a fault is printed so.
-fn prints(alloc: Global, fault: ViewerFault, wanted: &str) -> Result<bool, AllocError> {
+fn prints<T: Display>(alloc: Global, fault: &T, wanted: &str) -> Result<bool, AllocError> {
     Ok(format!(in alloc; "{fault}")?.as_str() == wanted)
+}
+
+// Whether each is.
+fn prints_each<T: Display>(alloc: Global, rows: &[(T, &str)]) -> Result<bool, AllocError> {
+    let mut good = true;
+    for (fault, wanted) in rows {
+        good &= prints(alloc, fault, wanted)?;
+    }
+    Ok(good)
 }
 
 #[test]
 fn a_fault_prints_its_number_and_its_name(rt: HostRuntime) -> Result<(), AllocError> {
-    for (fault, wanted) in FAULTS {
-        assert!(rt; prints(rt.alloc(), fault, wanted)?, "{wanted}");
-    }
+    assert!(rt; prints_each(rt.alloc(), FAULTS.as_slice())?);
     Ok(())
 }
 
 #[test]
 fn a_refusal_prints_its_number_and_its_name(rt: HostRuntime) -> Result<(), AllocError> {
-    for (fault, wanted) in REFUSALS {
-        assert_eq!(rt; format!(in rt.alloc(); "{fault}")?.as_str(), wanted);
-    }
-    for (fault, wanted) in TEXT_REFUSALS {
-        assert_eq!(rt; format!(in rt.alloc(); "{fault}")?.as_str(), wanted);
-    }
+    assert!(rt; prints_each(rt.alloc(), REFUSALS.as_slice())?);
+    assert!(rt; prints_each(rt.alloc(), TEXT_REFUSALS.as_slice())?);
     Ok(())
 }

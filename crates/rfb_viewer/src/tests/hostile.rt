@@ -1,6 +1,7 @@
 //! What a hostile server sends behind the handshake: the fault, its byte, and the pieces shown
 //! before it.
 
+use super::play::{Step, Told, are_right, plays};
 use super::*;
 use crate::ViewerFault;
 
@@ -18,21 +19,19 @@ const RRE_HEAD: &[u8] = b"\0\0\0\0\0\x02\0\x01\0\0\0\x02";
 
 const HEXTILE_HEAD: &[u8] = b"\0\0\0\0\0\x02\0\x01\0\0\0\x05";
 
-// Whether all but the last byte is taken, and then it tells this fault, also when it is fed
-// nothing.
-fn fails_at_last(viewer: &mut Viewer, bytes: &[u8], wanted: ViewerFault) -> bool {
-    let (front, back) = bytes.split_at(bytes.len().saturating_sub(1));
-    takes(viewer, front, front.len())
-        && viewer.feed(back).err() == Some(wanted)
-        && viewer.feed(&[]).err() == Some(wanted)
-}
-
-// The same of slices one after another, where all slices but the last are taken whole.
+// Whether slices are taken one after another but for the last byte, and then it tells this fault,
+// also when it is fed nothing.
 fn fails(viewer: &mut Viewer, slices: [&[u8]; 3], wanted: ViewerFault) -> bool {
     let [first, second, last] = slices;
-    takes(viewer, first, first.len())
-        && takes(viewer, second, second.len())
-        && fails_at_last(viewer, last, wanted)
+    let (front, back) = last.split_at(last.len().saturating_sub(1));
+    let steps = [
+        Step::Feed(first, first.len(), Told::Nothing),
+        Step::Feed(second, second.len(), Told::Nothing),
+        Step::Feed(front, front.len(), Told::Nothing),
+        Step::Fail(back, wanted),
+        Step::Fail(b"", wanted),
+    ];
+    are_right(viewer, steps.as_slice())
 }
 
 // Slices that end in a fault, the fault, and the colour of both places before it.
@@ -108,59 +107,75 @@ pub const FAULTS: [([&[u8]; 3], ViewerFault, Colour); 13] = [
     ),
 ];
 
-// Whether a viewer of 2 by 1 places fails so, and then shows that colour.
-fn fails_showing(alloc: Global, slices: [&[u8]; 3], wanted: ViewerFault, shown: Colour) -> bool {
-    let mut viewer = ready(alloc, Format::bgr233(), HELLO_2_BY_1);
-    fails(&mut viewer, slices, wanted) && shows_row(&viewer, &[shown, shown])
+// Whether a viewer of such a screen fails so, and then shows one row of these colours.
+fn fails_showing(
+    alloc: Global,
+    hello: &[u8],
+    slices: [&[u8]; 3],
+    wanted: ViewerFault,
+    row: &[Colour],
+) -> bool {
+    let mut viewer = ready(alloc, Format::bgr233(), hello);
+    fails(&mut viewer, slices, wanted) && are_right(&mut viewer, &[Step::Shows(row)])
 }
 
 #[test]
 fn a_fault_is_told_at_the_last_byte_of_its_piece(rt: HostRuntime) {
     for (slices, wanted, shown) in FAULTS {
-        assert!(rt;
-            fails_showing(rt.alloc(), slices, wanted, shown),
-            "{wanted:?}"
-        );
+        let row = [shown, shown];
+        let failed = fails_showing(rt.alloc(), HELLO_2_BY_1, slices, wanted, row.as_slice());
+        assert!(rt; failed, "{wanted:?}");
     }
 }
 
 #[test]
 fn a_tile_of_two_colours_is_taken(rt: HostRuntime) {
-    let mut viewer = ready(rt.alloc(), Format::bgr233(), HELLO_2_BY_1);
-    assert!(rt; takes(&mut viewer, ONE, 4));
-    assert!(rt; takes(&mut viewer, HEXTILE_HEAD, 12));
-    assert!(rt; ends_update(&mut viewer, b"\x0E\x10\x20\x01\x10\0\x02", 6));
-    assert!(rt; shows_row(&viewer, &[TEN, TWENTY]));
+    let steps = [
+        Step::Feed(ONE, 4, Told::Nothing),
+        Step::Feed(HEXTILE_HEAD, 12, Told::Nothing),
+        Step::Feed(b"\x0E\x10\x20\x01\x10\0\x02", 6, Told::UpdateDone),
+        Step::Shows(&[TEN, TWENTY]),
+    ];
+    assert!(rt; plays(rt.alloc(), Format::bgr233(), HELLO_2_BY_1, steps.as_slice()));
 }
 
 // Colours of tiles do not go from a rectangle to the next one.
 #[test]
 fn a_background_ends_with_its_rectangle(rt: HostRuntime) {
-    let mut viewer = ready(rt.alloc(), Format::bgr233(), HELLO_2_BY_1);
-    assert!(rt; takes(&mut viewer, TWO, 4));
-    assert!(rt; takes(&mut viewer, HEXTILE_HEAD, 12));
-    assert!(rt; takes(&mut viewer, b"\x06\x10\x20", 3));
-    assert!(rt; shows_row(&viewer, &[TEN, TEN]));
-    let fault = ViewerFault::NoBackground;
-    assert!(rt; fails(&mut viewer, [HEXTILE_HEAD, &[], b"\0"], fault));
-    assert!(rt; shows_row(&viewer, &[TEN, TEN]));
+    let steps = [
+        Step::Feed(TWO, 4, Told::Nothing),
+        Step::Feed(HEXTILE_HEAD, 12, Told::Nothing),
+        Step::Feed(b"\x06\x10\x20", 3, Told::Nothing),
+        Step::Shows(&[TEN, TEN]),
+        Step::Feed(HEXTILE_HEAD, 12, Told::Nothing),
+        Step::Feed(b"", 0, Told::Nothing),
+        Step::Fail(b"\0", ViewerFault::NoBackground),
+        Step::Fail(b"", ViewerFault::NoBackground),
+        Step::Shows(&[TEN, TEN]),
+    ];
+    assert!(rt; plays(rt.alloc(), Format::bgr233(), HELLO_2_BY_1, steps.as_slice()));
 }
 
-// Masks of the second of two tiles, behind a background of 10.
+// The head of a rectangle of two tiles.
+const TILES_HEAD: &[u8] = b"\0\0\0\0\0\x11\0\x01\0\0\0\x05";
+
+// Whether masks of the second of two tiles fail so, behind a background of 10.
+fn is_mask_judged(alloc: Global, data: &[u8], wanted: ViewerFault) -> bool {
+    let mut row = [TEN; 17];
+    row[16] = BLACK;
+    let slices = [ONE, TILES_HEAD, data];
+    fails_showing(alloc, HELLO_17_BY_1, slices, wanted, row.as_slice())
+}
+
 #[test]
 fn a_mask_is_judged_before_what_follows_it(rt: HostRuntime) {
-    let head = b"\0\0\0\0\0\x11\0\x01\0\0\0\x05";
     let rows: [(&[u8], ViewerFault); 3] = [
         (b"\x02\x10\x1C", ViewerFault::BothColourBits),
         (b"\x02\x10\x14", ViewerFault::BothColourBits),
         (b"\x02\x10\x08", ViewerFault::NoForeground),
     ];
-    let mut row = [TEN; 17];
-    row[16] = BLACK;
     for (data, wanted) in rows {
-        let mut viewer = ready(rt.alloc(), Format::bgr233(), HELLO_17_BY_1);
-        assert!(rt; fails(&mut viewer, [ONE, head, data], wanted));
-        assert!(rt; shows_row(&viewer, &row));
+        assert!(rt; is_mask_judged(rt.alloc(), data, wanted));
     }
 }
 
@@ -168,17 +183,15 @@ fn a_mask_is_judged_before_what_follows_it(rt: HostRuntime) {
 // fault.
 #[test]
 fn what_came_before_a_fault_stays(rt: HostRuntime) {
-    let mut viewer = ready(rt.alloc(), Format::bgr233(), HELLO_2_BY_1);
-    assert!(rt; takes(&mut viewer, TWO, 4));
-    assert!(rt; takes(&mut viewer, RAW_HEAD, 12));
-    assert!(rt; takes(&mut viewer, b"\x10\x20", 2));
-    let fault = ViewerFault::RectOutside;
-    assert!(rt;
-        fails(
-            &mut viewer,
-            [&[], &[], b"\0\0\0\0\0\x03\0\x01\0\0\0\0"],
-            fault
-        )
-    );
-    assert!(rt; shows_row(&viewer, &[TEN, TWENTY]));
+    let steps = [
+        Step::Feed(TWO, 4, Told::Nothing),
+        Step::Feed(RAW_HEAD, 12, Told::Nothing),
+        Step::Feed(b"\x10\x20", 2, Told::Nothing),
+        Step::Feed(b"", 0, Told::Nothing),
+        Step::Feed(b"\0\0\0\0\0\x03\0\x01\0\0\0", 11, Told::Nothing),
+        Step::Fail(b"\0", ViewerFault::RectOutside),
+        Step::Fail(b"", ViewerFault::RectOutside),
+        Step::Shows(&[TEN, TWENTY]),
+    ];
+    assert!(rt; plays(rt.alloc(), Format::bgr233(), HELLO_2_BY_1, steps.as_slice()));
 }

@@ -1,108 +1,115 @@
 //! Messages behind the handshake: what is told of each, and at which byte.
 
+use super::play::{Step, Told, are_right, plays};
 use super::*;
 use crate::ViewerFault;
 
-// Whether it takes so many bytes, and tells of a text.
-fn tells_text(viewer: &mut Viewer, bytes: &[u8], wanted: usize, kept: &[u8], length: u32) -> bool {
-    match viewer.feed(bytes) {
-        Ok(Fed { used, event }) => used == wanted && is_text(&event, kept, length),
-        Err(_) => false,
-    }
+// Whether a viewer of 2 by 1 places at rgb888 goes through these steps.
+fn plays_2_by_1(alloc: Global, steps: &[Step<'_>]) -> bool {
+    plays(alloc, Format::rgb888(), HELLO_2_BY_1, steps)
 }
 
-fn is_text(event: &Option<ViewerEvent>, wanted: &[u8], told: u32) -> bool {
-    match event {
-        Some(ViewerEvent::CutText { kept, length }) => kept.as_slice() == wanted && *length == told,
-        _ => false,
-    }
-}
-
-// Whether it takes so many bytes, and tells of a bell.
-fn rings(viewer: &mut Viewer, bytes: &[u8], wanted: usize) -> bool {
-    match viewer.feed(bytes) {
-        Ok(Fed { used, event }) => used == wanted && matches!(event, Some(ViewerEvent::Bell)),
-        Err(_) => false,
-    }
-}
-
-// Whether it takes so many bytes, and tells that colours were skipped.
-fn skips(viewer: &mut Viewer, bytes: &[u8], wanted: usize) -> bool {
-    match viewer.feed(bytes) {
-        Ok(Fed { used, event }) => {
-            used == wanted && matches!(event, Some(ViewerEvent::ColourMapSkipped))
-        }
-        Err(_) => false,
-    }
-}
-
-// A bell behind a text of five bytes, of which four are kept.
+// A bell behind a text of five bytes, of which four are kept; and the text but its last byte.
 const TEXT: &[u8] = b"\x03\0\0\0\0\0\0\x05ABCDE\x02";
+
+const TEXT_FRONT: &[u8] = b"\x03\0\0\0\0\0\0\x05ABCD";
 
 #[test]
 fn a_text_is_kept_up_to_the_limit_and_told_at_its_last_byte(rt: HostRuntime) {
-    let mut viewer = ready(rt.alloc(), Format::rgb888(), HELLO_2_BY_1);
-    assert!(rt; tells_text(&mut viewer, TEXT, 13, b"ABCD", 5));
-    assert!(rt; rings(&mut viewer, &TEXT[13..], 1));
-    assert!(rt; takes(&mut viewer, &TEXT[..12], 12));
-    assert!(rt; tells_text(&mut viewer, b"\x02\x02", 1, b"ABCD", 5));
-    assert!(rt; rings(&mut viewer, b"\x02\x02", 1));
-    assert!(rt; tells_text(&mut viewer, b"\x03\0\0\0\0\0\0\0\x02", 8, b"", 0));
-    assert!(rt; tells_text(&mut viewer, b"\x03\xFF\xFF\xFF\0\0\0\x01A\x02", 9, b"A", 1));
+    let steps = [
+        Step::Feed(TEXT, 13, Told::Text(b"ABCD", 5)),
+        Step::Feed(b"\x02", 1, Told::Bell),
+        Step::Feed(TEXT_FRONT, 12, Told::Nothing),
+        Step::Feed(b"\x02\x02", 1, Told::Text(b"ABCD", 5)),
+        Step::Feed(b"\x02\x02", 1, Told::Bell),
+        Step::Feed(b"\x03\0\0\0\0\0\0\0\x02", 8, Told::Text(b"", 0)),
+        Step::Feed(b"\x03\xFF\xFF\xFF\0\0\0\x01A\x02", 9, Told::Text(b"A", 1)),
+    ];
+    assert!(rt; plays_2_by_1(rt.alloc(), steps.as_slice()));
 }
 
+// Two colours from the third on.
+const TWO_COLOURS: &[u8] =
+    b"\x01\0\0\x02\0\x02\x01\x02\x03\x04\x05\x06\x07\x08\x09\x0A\x0B\x0C\x02";
+
+// Those two; none; and one in parts.
 #[test]
 fn colours_are_skipped_to_the_last_one(rt: HostRuntime) {
-    let mut viewer = ready(rt.alloc(), Format::rgb888(), HELLO_2_BY_1);
-    // Two colours from the third on; none; and one in parts.
-    let two = b"\x01\0\0\x02\0\x02\x01\x02\x03\x04\x05\x06\x07\x08\x09\x0A\x0B\x0C\x02";
-    assert!(rt; skips(&mut viewer, two, 18));
-    assert!(rt; rings(&mut viewer, &two[18..], 1));
-    assert!(rt; skips(&mut viewer, b"\x01\xFF\xFF\xFF\0\0\x02", 6));
-    assert!(rt; takes(&mut viewer, b"\x01\0\0\0\0\x01\0\0\0\0\0", 11));
-    assert!(rt; skips(&mut viewer, b"\0\x02", 1));
+    let steps = [
+        Step::Feed(TWO_COLOURS, 18, Told::ColourMapSkipped),
+        Step::Feed(b"\x02", 1, Told::Bell),
+        Step::Feed(b"\x01\xFF\xFF\xFF\0\0\x02", 6, Told::ColourMapSkipped),
+        Step::Feed(b"\x01\0\0\0\0\x01\0\0\0\0\0", 11, Told::Nothing),
+        Step::Feed(b"\0\x02", 1, Told::ColourMapSkipped),
+    ];
+    assert!(rt; plays_2_by_1(rt.alloc(), steps.as_slice()));
 }
 
-// A colour map of all the colours that a count can tell: six bytes each.
+// Whether so many colours, which are six bytes each, are skipped in slices of 4,096 bytes.
+fn skips_slices(viewer: &mut Viewer) -> bool {
+    let slice = [7; 4_096];
+    let mut good = true;
+    for _ in 0..95 {
+        good &= are_right(viewer, &[Step::Feed(&slice, 4_096, Told::Nothing)]);
+    }
+    good && are_right(viewer, &[Step::Feed(&slice, 4_090, Told::ColourMapSkipped)])
+}
+
+fn skips_the_longest(alloc: Global) -> bool {
+    let mut viewer = ready(alloc, Format::rgb888(), HELLO_2_BY_1);
+    are_right(
+        &mut viewer,
+        &[Step::Feed(b"\x01\0\0\0\xFF\xFF", 6, Told::Nothing)],
+    ) && skips_slices(&mut viewer)
+}
+
+// A colour map of all the colours that a count can tell.
 #[test]
 fn the_longest_colour_map_is_skipped_slice_by_slice(rt: HostRuntime) {
-    let mut viewer = ready(rt.alloc(), Format::rgb888(), HELLO_2_BY_1);
-    assert!(rt; takes(&mut viewer, b"\x01\0\0\0\xFF\xFF", 6));
-    let slice = [7; 4_096];
-    for _ in 0..95 {
-        assert!(rt; takes(&mut viewer, &slice, 4_096));
-    }
-    assert!(rt; skips(&mut viewer, &slice, 4_090));
+    assert!(rt; skips_the_longest(rt.alloc()));
 }
 
 #[test]
 fn an_update_of_no_rectangles_is_done_at_its_head(rt: HostRuntime) {
-    let mut viewer = ready(rt.alloc(), Format::rgb888(), HELLO_2_BY_1);
-    assert!(rt; ends_update(&mut viewer, b"\0\xFF\0\0\0", 4));
-    assert!(rt; ends_update(&mut viewer, b"\0\0\0\0", 4));
-    assert!(rt; shows_row(&viewer, &[BLACK, BLACK]));
+    let steps = [
+        Step::Feed(b"\0\xFF\0\0\0", 4, Told::UpdateDone),
+        Step::Feed(b"\0\0\0\0", 4, Told::UpdateDone),
+        Step::Shows(&[BLACK, BLACK]),
+    ];
+    assert!(rt; plays_2_by_1(rt.alloc(), steps.as_slice()));
 }
+
+const TWO_IN_RAW: &[u8] = b"\0\0\0\x02\0\x02\0\x01\0\0\0\0\0\0\0\0\0\0\0\0\0\0\0\x01\0\0\0\0\x02";
+
+const ONE_COPIED: &[u8] = b"\0\0\0\x01\0\x02\0\0\0\0\0\x01\0\0\0\x01\0\0\0\0\x02";
 
 // Rectangles of no place have no data in Raw, a source in CopyRect.
 #[test]
 fn a_rectangle_of_no_place_is_done_with_its_head(rt: HostRuntime) {
-    let mut viewer = ready(rt.alloc(), Format::rgb888(), HELLO_2_BY_1);
-    let raw = b"\0\0\0\x02\0\x02\0\x01\0\0\0\0\0\0\0\0\0\0\0\0\0\0\0\x01\0\0\0\0\x02";
-    assert!(rt; ends_update(&mut viewer, raw, 28));
-    let copy = b"\0\0\0\x01\0\x02\0\0\0\0\0\x01\0\0\0\x01\0\0\0\0\x02";
-    assert!(rt; ends_update(&mut viewer, copy, 20));
-    assert!(rt; rings(&mut viewer, b"\x02", 1));
+    let steps = [
+        Step::Feed(TWO_IN_RAW, 28, Told::UpdateDone),
+        Step::Feed(ONE_COPIED, 20, Told::UpdateDone),
+        Step::Feed(b"\x02", 1, Told::Bell),
+    ];
+    assert!(rt; plays_2_by_1(rt.alloc(), steps.as_slice()));
+}
+
+// Whether this type of a message is refused behind a bell, whatever follows.
+fn is_unknown(alloc: Global, kind: u8) -> bool {
+    let fault = ViewerFault::UnknownMessage(kind);
+    let steps = [
+        Step::Feed(&[2, kind], 1, Told::Bell),
+        Step::Fail(&[kind, 2], fault),
+        Step::Fail(b"\x02\x02", fault),
+        Step::Fail(b"", fault),
+        Step::Shows(&[BLACK, BLACK]),
+    ];
+    plays_2_by_1(alloc, steps.as_slice())
 }
 
 #[test]
 fn an_unknown_type_is_refused_at_once_and_for_good(rt: HostRuntime) {
     for kind in [4, 5, 0xFF] {
-        let mut viewer = ready(rt.alloc(), Format::rgb888(), HELLO_2_BY_1);
-        assert!(rt; rings(&mut viewer, &[2, kind], 1));
-        for bytes in [&[kind, 2], [2, 2].as_slice(), &[]] {
-            let fault = viewer.feed(bytes).err();
-            assert_eq!(rt; fault, Some(ViewerFault::UnknownMessage(kind)));
-        }
-        assert!(rt; shows_row(&viewer, &[BLACK, BLACK]));
+        assert!(rt; is_unknown(rt.alloc(), kind));
     }
 }

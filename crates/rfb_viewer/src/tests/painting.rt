@@ -1,5 +1,6 @@
 //! Updates that are shown piece by piece, in the format that is in force.
 
+use super::play::{Step, Told, are_right, plays};
 use super::*;
 
 // A place of Raw at rgb888, and one at bgr233.
@@ -13,27 +14,43 @@ const ORANGE: Colour = Colour {
     b: 1,
 };
 
-#[test]
-fn an_update_comes_byte_by_byte(rt: HostRuntime) {
-    let mut viewer = ready(rt.alloc(), Format::rgb888(), HELLO_1_BY_1);
+// Whether all bytes but the last are taken one by one, and nothing is shown behind any of them.
+fn stays_black(viewer: &mut Viewer) -> bool {
+    let mut good = true;
     for byte in ONE_PLACE[..19].chunks(1) {
-        assert!(rt; takes(&mut viewer, byte, 1));
-        assert!(rt; shows_row(&viewer, &[BLACK]));
+        let steps = [Step::Feed(byte, 1, Told::Nothing), Step::Shows(&[BLACK])];
+        good &= are_right(viewer, steps.as_slice());
     }
-    assert!(rt; ends_update(&mut viewer, &ONE_PLACE[19..], 1));
-    assert!(rt; shows_row(&viewer, &[ORANGE]));
+    good
+}
+
+fn comes_byte_by_byte(alloc: Global) -> bool {
+    let mut viewer = ready(alloc, Format::rgb888(), HELLO_1_BY_1);
+    let steps = [
+        Step::Feed(b"\0", 1, Told::UpdateDone),
+        Step::Shows(&[ORANGE]),
+    ];
+    stays_black(&mut viewer) && are_right(&mut viewer, steps.as_slice())
 }
 
 #[test]
+fn an_update_comes_byte_by_byte(rt: HostRuntime) {
+    assert!(rt; comes_byte_by_byte(rt.alloc()));
+}
+
+const SEEN: Colour = Colour {
+    r: 255,
+    g: 146,
+    b: 0,
+};
+
+#[test]
 fn an_update_is_read_in_the_format_of_the_viewer(rt: HostRuntime) {
-    let mut viewer = ready(rt.alloc(), Format::bgr233(), HELLO_1_BY_1);
-    assert!(rt; ends_update(&mut viewer, ONE_SMALL, 17));
-    let seen = Colour {
-        r: 255,
-        g: 146,
-        b: 0,
-    };
-    assert!(rt; shows_row(&viewer, &[seen]));
+    let steps = [
+        Step::Feed(ONE_SMALL, 17, Told::UpdateDone),
+        Step::Shows(&[SEEN]),
+    ];
+    assert!(rt; plays(rt.alloc(), Format::bgr233(), HELLO_1_BY_1, steps.as_slice()));
 }
 
 // One update of one rectangle, all of a row of 17 places at bgr233, in Hextile and in RRE.
@@ -45,9 +62,12 @@ const SUBRECTS: &[u8] = b"\0\0\0\x01\0\0\0\0\0\x11\0\x01\0\0\0\x02";
 fn keeps_black(viewer: &mut Viewer, bytes: &[u8]) -> bool {
     let mut good = true;
     for (byte, pending) in bytes.chunks(1).zip(1..6usize) {
-        good &= takes(viewer, byte, 1)
-            && viewer.pending() == pending
-            && shows_row(viewer, &[BLACK; 17]);
+        let steps = [
+            Step::Feed(byte, 1, Told::Nothing),
+            Step::Pending(pending),
+            Step::Shows(&[BLACK; 17]),
+        ];
+        good &= are_right(viewer, steps.as_slice());
     }
     good
 }
@@ -60,19 +80,26 @@ fn shows_both(viewer: &mut Viewer) -> bool {
     first[16] = BLACK;
     let mut both = first;
     both[16] = TEN;
-    takes(viewer, b"\0", 1)
-        && viewer.pending() == 0
-        && shows_row(viewer, &first)
-        && ends_update(viewer, b"\0\x02", 1)
-        && shows_row(viewer, &both)
+    let steps = [
+        Step::Feed(b"\0", 1, Told::Nothing),
+        Step::Pending(0),
+        Step::Shows(&first),
+        Step::Feed(b"\0\x02", 1, Told::UpdateDone),
+        Step::Shows(&both),
+    ];
+    are_right(viewer, steps.as_slice())
+}
+
+fn shows_tiles(alloc: Global) -> bool {
+    let mut viewer = ready(alloc, Format::bgr233(), HELLO_17_BY_1);
+    are_right(&mut viewer, &[Step::Feed(TILES, 16, Told::Nothing)])
+        && keeps_black(&mut viewer, b"\x1A\x10\x01\x20\0")
+        && shows_both(&mut viewer)
 }
 
 #[test]
 fn a_tile_is_shown_at_its_last_byte(rt: HostRuntime) {
-    let mut viewer = ready(rt.alloc(), Format::bgr233(), HELLO_17_BY_1);
-    assert!(rt; takes(&mut viewer, TILES, 16));
-    assert!(rt; keeps_black(&mut viewer, b"\x1A\x10\x01\x20\0"));
-    assert!(rt; shows_both(&mut viewer));
+    assert!(rt; shows_tiles(rt.alloc()));
 }
 
 // Subrectangles of one place at x-position 3, again and again.
@@ -84,24 +111,49 @@ fn subrects(alloc: Global, count: usize) -> Result<Vec<u8>, AllocError> {
     Ok(parts)
 }
 
+// Whether such a slice of 4,000 bytes is taken, and so many of its last are pending.
+fn takes_slice(viewer: &mut Viewer, parts: &[u8], before: usize) -> bool {
+    let come = before % 9;
+    let steps = [
+        Step::Feed(
+            parts.get(come..come + 4_000).unwrap_or_default(),
+            4_000,
+            Told::Nothing,
+        ),
+        Step::Pending((come + 4_000) % 9),
+    ];
+    are_right(viewer, steps.as_slice())
+}
+
+fn takes_a_million(viewer: &mut Viewer, parts: &[u8]) -> bool {
+    let mut good = true;
+    for n in 0..2_250usize {
+        good &= takes_slice(viewer, parts, n.wrapping_mul(4_000));
+    }
+    good
+}
+
+// Whether they are painted, behind a background that is shown at once.
+fn paints_a_million(alloc: Global, parts: &[u8]) -> bool {
+    let mut viewer = ready(alloc, Format::bgr233(), HELLO_17_BY_1);
+    let mut row = [TEN; 17];
+    row[3] = TWENTY;
+    let head = [
+        Step::Feed(SUBRECTS, 16, Told::Nothing),
+        Step::Feed(b"\xFF\xFF\xFF\xFF\x10", 5, Told::Nothing),
+        Step::Shows(&[TEN; 17]),
+        Step::Pending(0),
+    ];
+    are_right(&mut viewer, head.as_slice())
+        && takes_a_million(&mut viewer, parts)
+        && are_right(&mut viewer, &[Step::Shows(&row)])
+}
+
 // Of the most subrectangles that a count can tell, the first million. Slices of 4,000 bytes cut
 // them at each of their nine bytes.
 #[test]
 fn a_million_subrectangles_are_taken_as_they_come(rt: HostRuntime) -> Result<(), AllocError> {
     let parts = subrects(rt.alloc(), 450)?;
-    let mut viewer = ready(rt.alloc(), Format::bgr233(), HELLO_17_BY_1);
-    assert!(rt; takes(&mut viewer, SUBRECTS, 16));
-    assert!(rt; takes(&mut viewer, b"\xFF\xFF\xFF\xFF\x10", 5));
-    assert!(rt; shows_row(&viewer, &[TEN; 17]));
-    assert_eq!(rt; viewer.pending(), 0);
-    for n in 0..2_250usize {
-        let come = n * 4_000 % 9;
-        let slice = parts.get(come..come + 4_000).unwrap_or_default();
-        assert!(rt; takes(&mut viewer, slice, 4_000));
-        assert_eq!(rt; viewer.pending(), (n + 1) * 4_000 % 9);
-    }
-    let mut row = [TEN; 17];
-    row[3] = TWENTY;
-    assert!(rt; shows_row(&viewer, &row));
+    assert!(rt; paints_a_million(rt.alloc(), &parts));
     Ok(())
 }

@@ -13,15 +13,14 @@ pub const SIDE: usize = 18;
 #[derive(Clone, Copy)]
 pub struct Pixels {
     pub size: usize,
-    pub fields: [(u32, u32); 3],
+    pub fields: [(usize, usize); 3],
 }
 
-// The bytes, how many of them are read, and how pixels are.
+// The bytes that are not read yet, and how many of them a pixel has.
 #[derive(Drop)]
 struct Bytes<'a> {
-    all: &'a [u8],
-    read: usize,
-    pixels: Pixels,
+    rest: &'a [u8],
+    size: usize,
 }
 
 // A part of the picture.
@@ -33,28 +32,14 @@ struct Zone {
     h: usize,
 }
 
-/// What a black picture shows when these bytes of an update came.
-pub fn shown_after(alloc: Global, bytes: &[u8], pixels: Pixels) -> Result<Vec<Colour>, AllocError> {
-    let mut shown = Vec::new(alloc);
-    shown.resize(SIDE * SIDE, Colour { r: 0, g: 0, b: 0 })?;
-    let mut bytes = Bytes {
-        all: bytes,
-        read: 0,
-        pixels,
-    };
-    let _whole = take_update(&mut bytes, &mut shown);
-    Ok(shown)
-}
-
 impl<'a> Bytes<'a> {
     fn take(&mut self, count: usize) -> Option<&'a [u8]> {
-        let end = self.read.saturating_add(count);
-        let part = self.all.get(self.read..end)?;
-        self.read = end;
+        let part = self.rest.get(..count)?;
+        self.rest = self.rest.get(count..)?;
         Some(part)
     }
 
-    // A number of one, two or four bytes.
+    // A number of so many bytes, the highest first.
     fn number(&mut self, count: usize) -> Option<usize> {
         let mut number = 0usize;
         for byte in self.take(count)? {
@@ -63,18 +48,13 @@ impl<'a> Bytes<'a> {
         Some(number)
     }
 
-    fn pixel(&mut self) -> Option<Colour> {
-        let mut bytes = [0; 4];
-        for (to, from) in bytes.iter_mut().zip(self.take(self.pixels.size)?) {
-            *to = *from;
+    // The lowest first.
+    fn pixel(&mut self) -> Option<usize> {
+        let mut pixel = 0usize;
+        for byte in self.take(self.size)?.iter().rev() {
+            pixel = pixel.wrapping_mul(256).wrapping_add(usize::from(*byte));
         }
-        let pixel = u32::from_le_bytes(bytes);
-        let [red, green, blue] = self.pixels.fields;
-        Some(Colour {
-            r: component(pixel, red),
-            g: component(pixel, green),
-            b: component(pixel, blue),
-        })
+        Some(pixel)
     }
 
     fn zone(&mut self) -> Option<Zone> {
@@ -87,8 +67,33 @@ impl<'a> Bytes<'a> {
     }
 }
 
+/// What a black picture shows when these bytes of an update came.
+pub fn shown_after(alloc: Global, bytes: &[u8], pixels: Pixels) -> Result<Vec<Colour>, AllocError> {
+    let mut shown = Vec::new(alloc);
+    shown.resize(SIDE * SIDE, 0)?;
+    let mut bytes = Bytes {
+        rest: bytes,
+        size: pixels.size,
+    };
+    let _whole = take_update(&mut bytes, &mut shown);
+    let mut colours = Vec::new(alloc);
+    for pixel in shown.iter() {
+        colours.push(colour_of(*pixel, pixels))?;
+    }
+    Ok(colours)
+}
+
+fn colour_of(pixel: usize, pixels: Pixels) -> Colour {
+    let [red, green, blue] = pixels.fields;
+    Colour {
+        r: component(pixel, red),
+        g: component(pixel, green),
+        b: component(pixel, blue),
+    }
+}
+
 // A field of a pixel as 0 to 255, rounded to the nearest.
-fn component(pixel: u32, (max, unit): (u32, u32)) -> u8 {
+fn component(pixel: usize, (max, unit): (usize, usize)) -> u8 {
     let value = pixel.checked_div(unit).unwrap_or_default() & max;
     let scaled = value.wrapping_mul(255).wrapping_add(max / 2);
     u8::try_from(scaled.checked_div(max).unwrap_or_default()).unwrap_or_default()
@@ -98,11 +103,11 @@ fn place(x: usize, y: usize) -> usize {
     y.wrapping_mul(SIDE).wrapping_add(x)
 }
 
-fn fill(shown: &mut [Colour], zone: Zone, colour: Colour) {
+fn fill(shown: &mut [usize], zone: Zone, pixel: usize) {
     for y in zone.y..zone.y.saturating_add(zone.h) {
         for x in zone.x..zone.x.saturating_add(zone.w) {
             if let Some(at) = shown.get_mut(place(x, y)) {
-                *at = colour;
+                *at = pixel;
             }
         }
     }
@@ -117,7 +122,7 @@ fn within(outer: Zone, inner: Zone) -> Zone {
     }
 }
 
-fn take_update(bytes: &mut Bytes<'_>, shown: &mut [Colour]) -> Option<()> {
+fn take_update(bytes: &mut Bytes<'_>, shown: &mut [usize]) -> Option<()> {
     bytes.take(2)?;
     for _ in 0..bytes.number(2)? {
         let zone = bytes.zone()?;
@@ -131,100 +136,112 @@ fn take_update(bytes: &mut Bytes<'_>, shown: &mut [Colour]) -> Option<()> {
     Some(())
 }
 
-fn take_raw(bytes: &mut Bytes<'_>, zone: Zone, shown: &mut [Colour]) -> Option<()> {
+fn take_raw(bytes: &mut Bytes<'_>, zone: Zone, shown: &mut [usize]) -> Option<()> {
     for y in 0..zone.h {
         for x in 0..zone.w {
-            let colour = bytes.pixel()?;
-            fill(shown, within(zone, Zone { x, y, w: 1, h: 1 }), colour);
+            let pixel = bytes.pixel()?;
+            fill(shown, within(zone, Zone { x, y, w: 1, h: 1 }), pixel);
         }
     }
     Some(())
+}
+
+// A place of so many, or, where they are turned, that place from the end.
+fn turned(place: usize, count: usize, is_turned: bool) -> usize {
+    if is_turned {
+        count.wrapping_sub(place).wrapping_sub(1)
+    } else {
+        place
+    }
 }
 
 // Of overlapping places each is read before it is written: the order is that of the shift.
-fn take_copy(bytes: &mut Bytes<'_>, zone: Zone, shown: &mut [Colour]) -> Option<()> {
+fn take_copy(bytes: &mut Bytes<'_>, zone: Zone, shown: &mut [usize]) -> Option<()> {
     let (from_x, from_y) = (bytes.number(2)?, bytes.number(2)?);
     for row in 0..zone.h {
         for column in 0..zone.w {
-            let y = if from_y < zone.y {
-                zone.h.wrapping_sub(row).wrapping_sub(1)
-            } else {
-                row
-            };
-            let x = if from_x < zone.x {
-                zone.w.wrapping_sub(column).wrapping_sub(1)
-            } else {
-                column
-            };
+            let y = turned(row, zone.h, from_y < zone.y);
+            let x = turned(column, zone.w, from_x < zone.x);
             let source = place(from_x.wrapping_add(x), from_y.wrapping_add(y));
-            let colour = *shown.get(source)?;
-            fill(shown, within(zone, Zone { x, y, w: 1, h: 1 }), colour);
+            let pixel = *shown.get(source)?;
+            fill(shown, within(zone, Zone { x, y, w: 1, h: 1 }), pixel);
         }
     }
     Some(())
 }
 
-fn take_rre(bytes: &mut Bytes<'_>, zone: Zone, shown: &mut [Colour]) -> Option<()> {
+fn take_rre(bytes: &mut Bytes<'_>, zone: Zone, shown: &mut [usize]) -> Option<()> {
     let count = bytes.number(4)?;
     let background = bytes.pixel()?;
     fill(shown, zone, background);
     for _ in 0..count {
-        let colour = bytes.pixel()?;
+        let pixel = bytes.pixel()?;
         let part = bytes.zone()?;
-        fill(shown, within(zone, part), colour);
+        fill(shown, within(zone, part), pixel);
     }
     Some(())
 }
 
-fn take_hextile(bytes: &mut Bytes<'_>, zone: Zone, shown: &mut [Colour]) -> Option<()> {
-    let mut colours = [Colour { r: 0, g: 0, b: 0 }; 2];
+fn take_hextile(bytes: &mut Bytes<'_>, zone: Zone, shown: &mut [usize]) -> Option<()> {
+    let mut colours = (0, 0);
     for row in 0..zone.h.div_ceil(16) {
         for column in 0..zone.w.div_ceil(16) {
             let (x, y) = (column.wrapping_mul(16), row.wrapping_mul(16));
-            let w = zone.w.wrapping_sub(x).min(16);
-            let h = zone.h.wrapping_sub(y).min(16);
-            colours = take_tile(bytes, within(zone, Zone { x, y, w, h }), colours, shown)?;
+            take_tile(bytes, tile_at(zone, x, y), &mut colours, shown)?;
         }
     }
     Some(())
 }
 
-// A tile, where these are the background and the foreground before it: those behind it.
+// The tile that begins there.
+fn tile_at(zone: Zone, x: usize, y: usize) -> Zone {
+    let w = zone.w.wrapping_sub(x).min(16);
+    let h = zone.h.wrapping_sub(y).min(16);
+    within(zone, Zone { x, y, w, h })
+}
+
+// A tile, where these are the background and the foreground before it, and then those behind it.
 fn take_tile(
     bytes: &mut Bytes<'_>,
     tile: Zone,
-    [mut background, mut foreground]: [Colour; 2],
-    shown: &mut [Colour],
-) -> Option<[Colour; 2]> {
+    colours: &mut (usize, usize),
+    shown: &mut [usize],
+) -> Option<()> {
     let mask = bytes.number(1)?;
     if mask & 1 != 0 {
-        take_raw(bytes, tile, shown)?;
-        return Some([background, foreground]);
+        return take_raw(bytes, tile, shown);
     }
     if mask & 2 != 0 {
-        background = bytes.pixel()?;
+        colours.0 = bytes.pixel()?;
     }
     if mask & 4 != 0 {
-        foreground = bytes.pixel()?;
+        colours.1 = bytes.pixel()?;
     }
     let count = if mask & 8 != 0 { bytes.number(1)? } else { 0 };
     let coloured = mask & 16 != 0;
-    let part_size = if coloured {
-        bytes.pixels.size.wrapping_add(2)
-    } else {
-        2
-    };
+    take_parts(bytes, tile, (count, coloured), *colours, shown)
+}
+
+// So many subrectangles, with colours of their own or not: shown when all of them came.
+fn take_parts(
+    bytes: &mut Bytes<'_>,
+    tile: Zone,
+    (count, coloured): (usize, bool),
+    (background, foreground): (usize, usize),
+    shown: &mut [usize],
+) -> Option<()> {
+    let size = bytes.size;
+    let part_size = if coloured { size.wrapping_add(2) } else { 2 };
     let mut parts = Bytes {
-        all: bytes.take(count.wrapping_mul(part_size))?,
-        read: 0,
-        pixels: bytes.pixels,
+        rest: bytes.take(count.wrapping_mul(part_size))?,
+        size,
     };
     fill(shown, tile, background);
     for _ in 0..count {
-        let colour = if coloured { parts.pixel()? } else { foreground };
-        fill(shown, within(tile, small_zone(&mut parts)?), colour);
+        let pixel = if coloured { parts.pixel()? } else { foreground };
+        fill(shown, within(tile, small_zone(&mut parts)?), pixel);
     }
-    Some([background, foreground])
+    Some(())
 }
 
 // Two bytes: x-position and y-position in four bits each, then width and height, one less each.
