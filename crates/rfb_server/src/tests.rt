@@ -1,4 +1,5 @@
-//! Tests of a server that is fed what clients send.
+//! Tests of a server that is fed what clients send. A server is let go by `drop`, whose proof is
+//! shorter than that of the same at the end of a body.
 
 mod client_messages;
 mod composing;

@@ -31,7 +31,9 @@ fn lists_each(session: &mut Session) -> bool {
 fn takes_lists(alloc: Global) -> Result<bool, AllocError> {
     let name = b"t".as_slice();
     let mut session = Session::new(alloc, 2, 1, name, Version::V38, 4)?;
-    Ok(lists_each(&mut session))
+    let listed = lists_each(&mut session);
+    drop(session);
+    Ok(listed)
 }
 
 #[test]

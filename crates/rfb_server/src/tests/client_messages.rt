@@ -49,7 +49,9 @@ fn tells_each(server: &mut Server, alloc: Global) -> bool {
 
 fn is_told(alloc: Global) -> Result<bool, AllocError> {
     let mut server = ready(alloc, 2, 1)?;
-    Ok(tells_each(&mut server, alloc))
+    let told = tells_each(&mut server, alloc);
+    drop(server);
+    Ok(told)
 }
 
 #[test]
@@ -134,7 +136,9 @@ fn sets_a_format(server: &mut Server, alloc: Global) -> bool {
 
 fn is_set(alloc: Global) -> Result<bool, AllocError> {
     let mut server = ready(alloc, 2, 1)?;
-    Ok(sets_a_format(&mut server, alloc))
+    let set = sets_a_format(&mut server, alloc);
+    drop(server);
+    Ok(set)
 }
 
 #[test]

@@ -98,6 +98,7 @@ fn note_all(
 ) -> Result<(), AllocError> {
     let mut server = new_server(alloc)?;
     feed_all(&mut server, alloc, stream, first, size, log);
+    drop(server);
     Ok(())
 }
 

@@ -35,7 +35,9 @@ fn first_wrong_of_new(
 ) -> Result<Option<usize>, AllocError> {
     let name = b"t".as_slice();
     let mut server = Server::new(alloc, 4, 2, name, offer, 4)?;
-    Ok(first_wrong(&mut server, alloc, steps))
+    let wrong = first_wrong(&mut server, alloc, steps);
+    drop(server);
+    Ok(wrong)
 }
 
 #[test]

@@ -71,7 +71,9 @@ fn are_right(
 ) -> Result<bool, AllocError> {
     let mut server = ready(alloc, 4, 1)?;
     let known = send_first(&mut server, alloc, list, request) == None;
-    Ok(known && first_wrong(&mut server, alloc, steps) == None)
+    let right = known && first_wrong(&mut server, alloc, steps) == None;
+    drop(server);
+    Ok(right)
 }
 
 // ---- one hint

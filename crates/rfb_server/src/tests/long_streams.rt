@@ -88,10 +88,12 @@ enum Longest {
 
 fn takes(alloc: Global, longest: Longest) -> Result<bool, AllocError> {
     let mut server = ready(alloc, 1_048_576)?;
-    Ok(match longest {
+    let taken = match longest {
         Longest::Text => takes_it_by_slices(&mut server, alloc),
         Longest::List => takes_the_longest_list(&mut server),
-    })
+    };
+    drop(server);
+    Ok(taken)
 }
 
 #[test]

@@ -100,10 +100,12 @@ enum Growth {
 
 fn outlives(alloc: Global, growth: Growth) -> Result<bool, AllocError> {
     let mut server = server_at_last(alloc)?;
-    Ok(match growth {
+    let outlived = match growth {
         Growth::Update => composes_at_last(&mut server, alloc),
         Growth::Text => takes_a_text(&mut server, alloc),
-    })
+    };
+    drop(server);
+    Ok(outlived)
 }
 
 #[test]

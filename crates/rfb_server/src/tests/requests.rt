@@ -32,7 +32,9 @@ fn brings_two_cells(server: &mut Server, alloc: Global) -> bool {
 
 fn row_brings_two_cells(alloc: Global) -> Result<bool, AllocError> {
     let mut server = ready(alloc, 65, 1)?;
-    Ok(brings_two_cells(&mut server, alloc))
+    let brought = brings_two_cells(&mut server, alloc);
+    drop(server);
+    Ok(brought)
 }
 
 #[test]

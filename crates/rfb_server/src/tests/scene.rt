@@ -136,5 +136,7 @@ pub(super) fn first_wrong_of(
     requires rows { (1 ≤ height) × (height ≤ 4096) }
 {
     let mut server = ready(alloc, width, height)?;
-    Ok(first_wrong(&mut server, alloc, steps))
+    let wrong = first_wrong(&mut server, alloc, steps);
+    drop(server);
+    Ok(wrong)
 }

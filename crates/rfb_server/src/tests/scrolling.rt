@@ -83,7 +83,9 @@ fn scrolls(server: &mut Server, alloc: Global) -> bool {
 
 fn is_sent(alloc: Global) -> Result<bool, AllocError> {
     let mut server = ready(alloc, 64, 64)?;
-    Ok(scrolls(&mut server, alloc))
+    let scrolled = scrolls(&mut server, alloc);
+    drop(server);
+    Ok(scrolled)
 }
 
 #[test]

@@ -94,5 +94,7 @@ pub(super) fn plays(
 {
     let mut plain = Plain::new(alloc, width, height)?;
     let mut server = ready(alloc, width, height)?;
-    Ok(are_alike(&mut server, &mut plain, alloc, lot))
+    let alike = are_alike(&mut server, &mut plain, alloc, lot);
+    drop(server);
+    Ok(alike)
 }
