@@ -52,7 +52,7 @@ run() {
     local words status=0
     mapfile -t words < "$(file "$1/args")"
     REFUSE=$2 REFUSED="$room/refused" LD_PRELOAD="$room/refuse.so" timeout 60 \
-        "$program" "${words[@]}" < "$(file "$1/stdin")" > "$room/$3.out" 2> "$room/$3.err" || status=$?
+        "$program" "${words[@]}" < "$room/stdin" > "$room/$3.out" 2> "$room/$3.err" || status=$?
     echo "$status" > "$room/$3.status"
 }
 
@@ -69,6 +69,8 @@ passed=0 failed=0
 for call in "$calls"/*/; do
     call=${call%/} name=$(basename "$call") refused=0
     if [ -e "$call/memory" ] || [ -e "$call/device" ] || [ -e "$call/more" ]; then continue; fi
+    if [ -e "$call/stdin.gz" ]; then gzip -dc "$call/stdin.gz"; else cat "$(file "$call/stdin")"; fi \
+        > "$room/stdin"
     run "$call" 0 all
     for ((number = 1; ; number++)); do
         rm -f "$room/refused"

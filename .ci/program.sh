@@ -9,6 +9,7 @@
 #   status   the exit status that it must have
 #   device   where standard output goes in place of a file
 #   memory   the most memory that it may have, in KiB of address space
+# In place of stdin and stdout there may be stdin.gz and stdout.gz.
 # The last line is 'N passed, M failed'.
 set -u
 export LC_ALL=C
@@ -19,9 +20,12 @@ trap 'rm -rf "$room"' EXIT
 # The file of a call, or nothing.
 file() { if [ -e "$1" ]; then echo "$1"; else echo /dev/null; fi; }
 
+# What the file of a call holds, packed or not.
+content() { if [ -e "$1.gz" ]; then gzip -dc "$1.gz"; else cat "$(file "$1")"; fi; }
+
 # What the program reads on the call $1.
 input() {
-    cat "$(file "$1/stdin")"
+    content "$1/stdin"
     if [ -e "$1/more" ]; then yes "$(tail -n 1 "$1/more")" | head -n "$(head -n 1 "$1/more")"; fi
 }
 
@@ -41,7 +45,7 @@ try() {
     [ "$status" = "$wanted" ] || echo "its status is $status, and not $wanted"
     local stream
     for stream in stdout stderr; do
-        cmp -s "$room/$stream" "$(file "$2/$stream")" || { echo "its $stream is:"; cat "$room/$stream"; }
+        content "$2/$stream" | cmp -s "$room/$stream" - || { echo "its $stream is:"; head -c 2000 "$room/$stream"; }
     done
 }
 

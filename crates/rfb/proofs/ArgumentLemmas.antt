@@ -1,7 +1,6 @@
 -- The words behind a keyword: as many as they have to be, each for its value.
-use Rattle.std.proofs.Common.{◌<◌, ◌≤◌, zero, suc, take, Option, Some, None, MatchOption, ◌≡◌, ◌≢◌, ◌∙◌, ap, sym, refl, subst, Bool, true, false, inl, inr, length, ℕ, List, [], ◌∷◌, Bor, slice_index_or, arith, codes, map}
+use Rattle.std.proofs.Common.{◌<◌, ◌≤◌, zero, suc, take, Option, Some, None, MatchOption, ◌≡◌, ◌≢◌, ◌∙◌, ap, sym, refl, subst, Bool, true, false, length, ℕ, List, [], ◌∷◌, Bor, slice_index_or, arith, codes, map}
 use Rattle.std.proofs.lemmas.List.{take_all}
-use Rattle.std.specs.Str.Parse.{digits_value}
 use Rattle.rfb_picture.specs.declared.rect.Rect.{Rect}
 use Rattle.rfb_pixel.specs.declared.colour.Colour.{Colour}
 use Rattle.rfb_pixel.specs.Format.{PixelFormat}
@@ -9,7 +8,7 @@ use Rattle.rfb_wire.specs.declared.encoding.Encoding.{Encoding}
 use Rattle.rfb.specs.declared.script.line.Screen.{Screen as Size}
 use Rattle.rfb.specs.Number.{IsCount, IsNumber}
 use Rattle.rfb.specs.declared.script.line.Wants.{Wants}
-use Rattle.rfb.specs.Words.{AreEncodings, AreWants, name_of, AreFill, AreMove, AreNumbers, AreRect, AreRequest, AreSize, IsColourWord, IsCountAlone, IsFormatAlone, IsFormatWord, IsNumberOf, IsSide, kind_of, texts}
+use Rattle.rfb.specs.Words.{AreEncodings, AreWants, name_of, AreFill, AreMove, AreRect, AreRequest, AreSize, IsColourWord, IsCountAlone, IsFormatAlone, IsFormatWord, IsNumberOf, IsSide, kind_of, texts}
 use Rattle.rfb.proofs.ScriptLemmas.{heads, nothing, tails, texts_length}
 
 -- the word at an index

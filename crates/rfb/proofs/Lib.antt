@@ -1,6 +1,10 @@
 pub mod ArgumentLemmas
+pub mod CommandLemmas
+pub mod OptionLemmas
 pub mod PixmapLemmas
 pub mod PlayingLemmas
+pub mod RecordingLemmas
+pub mod SceneLemmas
 pub mod ScriptLemmas
 pub mod WordLemmas
 pub mod LinesLemmas

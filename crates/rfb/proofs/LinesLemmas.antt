@@ -1,16 +1,14 @@
 -- Lines of a script, read one after another.
-use Rattle.std.proofs.Common.{◌==◌, Bool, true, false, is_some, ◌≡◌, ◌≢◌, ◌<◌, ◌+◌, ◌∙◌, ℕ, Option, Some, None, List, [], ◌∷◌, ◌++◌, Bor, suc, ap, sym, refl, subst, inl, inr, length, take, drop, get_or, map, arith, append_assoc, append-nil, length-append, take-append-drop, drop-cons}
+use Rattle.std.proofs.Common.{◌==◌, Bool, true, false, is_some, ◌≡◌, ◌≢◌, ◌<◌, ◌+◌, ◌∙◌, ℕ, Option, Some, None, List, [], ◌∷◌, ◌++◌, Bor, suc, ap, sym, refl, inl, inr, length, take, drop, get_or, arith, append_assoc, length-append, take-append-drop, drop-cons}
 use Rattle.std.proofs.lemmas.Bool.Decides.{nat_tests}
 use Rattle.std.proofs.lemmas.List.{length_push}
 use Rattle.std.proofs.lemmas.List.Elements.{All-nil, All-cons, All-head, All-tail}
 use Rattle.rfb.specs.declared.script.line.Numbered.{Numbered}
 use Rattle.rfb.specs.declared.script.line.Screen.{Screen as Size}
 use Rattle.rfb.specs.declared.script.line.Wants.{Wants}
-use Rattle.rfb.specs.declared.script.line.Step.{Step as ScriptStep}
 use Rattle.rfb.specs.declared.script.line.Line.TheVariants.{Screen, Viewer}
 use Rattle.rfb.specs.Words.{texts}
-use Rattle.rfb.specs.Few.{HasFew}
-use Rattle.rfb.specs.Script.{AreEmpty, AreScript, AskBehind, AskFor, AskForAll, AsksForStep, GivesSize, GivesWants, IsBadBehind, IsFirstBad, IsNoMore, Says, SaysStep, words_of}
+use Rattle.rfb.specs.Script.{AreEmpty, AreScript, AskBehind, AskFor, AskForAll, GivesSize, IsBadBehind, IsFirstBad, IsNoMore, Says, SaysStep, words_of}
 use Rattle.rfb.proofs.ScriptLemmas.{texts_length}
 
 -- what lines are that were read so far: empty, or a script

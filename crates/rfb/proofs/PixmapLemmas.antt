@@ -1,5 +1,5 @@
 -- The bytes of a pixmap's places, one row after the other.
-use Rattle.std.proofs.Common.{◌≡◌, ℕ, ◌+◌, ◌*◌, ◌<◌, List, [], ◌∷◌, ◌++◌, length, take, take-add, drop, slice_index, slice_index_or, get_or, refl, ap, sym, ◌∙◌, suc, arith}
+use Rattle.std.proofs.Common.{◌≡◌, ℕ, ◌+◌, ◌*◌, List, [], ◌∷◌, ◌++◌, length, take, take-add, drop, refl, ap, sym, ◌∙◌, arith}
 use Rattle.std.proofs.Common.{Option, Result, Ok, Err, OnErr, OnOk, true, ◌==◌, subst, append-nil, append_assoc, take-append-drop}
 use Rattle.std.proofs.lemmas.Bool.Decides.{nat_tests}
 use Rattle.std.proofs.KnownBytes.{Appends-nil, Appends-trans, Appends-kept}

@@ -1,5 +1,5 @@
 -- Steps of a script, one after another.
-use Rattle.std.proofs.Common.{OnOk, Result, Ok, Err, true, length, ◌≡◌, ℕ, ◌+◌, ◌*◌, ◌≤◌, ◌∙◌, zero, suc, List, [], ◌∷◌, ◌++◌, Option, Some, None, ap, sym, refl, subst, arith, append_assoc, append-nil}
+use Rattle.std.proofs.Common.{OnOk, Result, Ok, Err, true, ◌≡◌, ℕ, ◌+◌, ◌∙◌, zero, suc, List, [], ◌∷◌, ◌++◌, Option, ap, sym, refl, subst, arith, append_assoc, append-nil}
 use Rattle.rfb_hello.specs.declared.version.Version.TheVariants.{V38}
 use Rattle.rfb_pixel.specs.Format.{PixelFormat}
 use Rattle.rfb_picture.specs.Grid.{uniform}

@@ -1,5 +1,5 @@
 -- Words of a line, one by one: which lines a keyword can begin.
-use Rattle.std.proofs.Common.{◌==◌, zero, suc, Option, Some, None, MatchOption, ◌≡◌, ◌≢◌, ◌<◌, ◌≤◌, ◌+◌, ◌⊎◌, ◌↔◌, ◌∙◌, ap, sym, refl, subst, Bool, true, false, inl, inr, length, ℕ, List, [], ◌∷◌, Bor, slice_index_or, arith, codes}
+use Rattle.std.proofs.Common.{◌==◌, zero, suc, Option, Some, None, MatchOption, ◌≡◌, ◌≢◌, ◌<◌, ◌≤◌, ◌+◌, ◌↔◌, ◌∙◌, ap, sym, refl, subst, Bool, true, false, inl, inr, length, ℕ, List, [], ◌∷◌, Bor, arith, codes}
 use Rattle.std.specs.Str.{bytes_eq}
 use Rattle.std.proofs.lemmas.Bool.{cases_lt}
 use Rattle.std.proofs.lemmas.Bool.Decides.{nat_tests}

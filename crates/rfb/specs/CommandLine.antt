@@ -1,15 +1,10 @@
--- What the words of the command line ask for.
-use Rattle.std.specs.Prelude.{◌≡◌, ◌≢◌, ◌⊎◌, ⊤, ℕ, List, [], Option, Some, IfSome, codes, true}
+-- What the commands do.
+use Rattle.std.specs.Prelude.{◌≡◌, ⊤, ℕ, List, Option, Some, IfSome}
 use Rattle.std.specs.Io.KnownBytes.{Appends}
-use Rattle.clap.specs.Simple.{App, new_shape, with_subcommand}
-use Rattle.clap.specs.Kinds.{IsAmong}
-use Rattle.clap.specs.Faults.{fault_of}
-use Rattle.clap.specs.declared.error.kind.ErrorKind.{ErrorKind}
-use Rattle.clap.specs.declared.error.kind.ErrorKind.TheVariants.{DisplayHelp, DisplayVersion}
 use Rattle.rfb_pixel.specs.declared.colour.Colour.{Colour}
 use Rattle.rfb_picture.specs.Grid.{Grid}
 use Rattle.rfb.specs.declared.fault.Failure.{Failure}
-use Rattle.rfb.specs.declared.fault.Failure.TheVariants.{BadLine, Fault}
+use Rattle.rfb.specs.declared.fault.Failure.TheVariants.{BadLine, Fault, Engine}
 use Rattle.rfb_session.specs.declared.world.World.{World}
 use Rattle.rfb_session.specs.World.{shown_by}
 use Rattle.rfb.specs.declared.script.line.Numbered.{Numbered}
@@ -18,36 +13,13 @@ use Rattle.rfb.specs.declared.script.line.Wants.{Wants}
 use Rattle.rfb.specs.Playing.{IsPlayed}
 use Rattle.rfb.specs.Script.{AreScript, StopsReading, lines_of}
 use Rattle.rfb.specs.Pixmap.{pixmap}
+use Rattle.clap.specs.Words.{Text}
+use Rattle.rfb.specs.declared.options.Task.{Task}
+use Rattle.rfb.specs.declared.options.Task.TheVariants.{Script, Play, Serve}
+use Rattle.rfb.specs.Options.{AreAsked}
+use Rattle.rfb.specs.Recording.{PlaysRecording}
 
--- ---- words
-
--- the program has a version, and one command, which has to be named
-abbrev pub program : App
-program = with_subcommand (record {
-  top = record (new_shape (codes "rfb")) { subcommand_required = true; has_version = true };
-  subs = [];
-}) (new_shape (codes "script"))
-
--- the words name the command
-abbrev pub AreCommand : List (List ℕ) → Type 0
-AreCommand words = fault_of program words ≡ []
-
--- the words ask for help, or for the version
-abbrev pub AskForText : List (List ℕ) → Type 0
-AskForText words =
-    IsAmong DisplayHelp (fault_of program words) ⊎ IsAmong DisplayVersion (fault_of program words)
-
--- the words ask for something that there is
-abbrev pub HaveMeaning : List (List ℕ) → Type 0
-HaveMeaning words = AreCommand words ⊎ AskForText words
-
--- the words ask for nothing that there is
-abbrev pub AreMistaken : List (List ℕ) → Type 0
-AreMistaken words =
-    (kind : ErrorKind) × IsAmong kind (fault_of program words) × (kind ≢ DisplayHelp)
-    × (kind ≢ DisplayVersion)
-
--- ---- what the command does
+-- ---- a script
 
 -- a text is a script, and a world that its steps led to shows the picture that was written
 pub record Plays (text : List ℕ) (picture : Grid Colour) : Type 0 where
@@ -81,3 +53,17 @@ pub record PlaysScript (read before after : Option (List ℕ)) : Type 0 where
 abbrev pub FailsAt : Option (List ℕ) → Failure → Type 0
 FailsAt read (BadLine n) = IfSome read (λ text. StopsReading (lines_of text) (BadLine n))
 FailsAt read (Fault fault) = ⊤
+FailsAt read (Engine fault) = ⊥
+
+-- ---- any command
+
+-- what was read and written at a command; of one that uses connections nothing is said
+abbrev pub Does : Task → Option (List ℕ) → Option (List ℕ) → Option (List ℕ) → Type 0
+Does Script read before after = PlaysScript read before after
+Does (Serve wanted) read before after = ⊤
+Does (Play format) read before after = PlaysRecording format read before after
+
+-- the same of what words ask for
+abbrev pub DoesAsked : List Text → Option (List ℕ) → Option (List ℕ) → Option (List ℕ) → Type 0
+DoesAsked words read before after =
+    (task : Task) × AreAsked words task × Does task read before after

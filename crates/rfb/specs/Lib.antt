@@ -2,7 +2,10 @@ pub mod CommandLine
 pub mod Fault
 pub mod Few
 pub mod Number
+pub mod Options
 pub mod Pixmap
 pub mod Playing
+pub mod Recording
+pub mod Scene
 pub mod Script
 pub mod Words

@@ -5,8 +5,9 @@ use Rattle.rfb_picture.specs.Grid.{uniform}
 use Rattle.rfb_wire.specs.declared.encoding.Encoding.{Encoding}
 use Rattle.rfb_wire.specs.declared.encoding.Encoding.TheVariants.{Raw}
 use Rattle.rfb_hello.specs.declared.version.Version.TheVariants.{V38}
-use Rattle.rfb_server.specs.Server.{black}
-use Rattle.rfb_server.specs.Standing.{serving_with}
+use Rattle.rfb_server.specs.declared.server.Server.{Server}
+use Rattle.rfb_server.specs.Server.{black, first_server}
+use Rattle.rfb_server.specs.Standing.{StandsFor as ServerStandsFor, serving_with}
 use Rattle.rfb_viewer.specs.Standing.{viewing_with}
 use Rattle.rfb_session.specs.declared.event.Event.{Event}
 use Rattle.rfb_session.specs.declared.event.Event.TheVariants.{ToServer, ToViewer}
@@ -62,6 +63,12 @@ ends_of size wants = record {
   serving = serving_with V38 size.width size.height name 1024;
   viewing = viewing_with (format_of wants) (encodings_of wants) V38 true 16777216 1024;
 }
+
+-- a server that was fed nothing
+abbrev pub IsFreshServer : Size → Server → Type 0
+IsFreshServer size server =
+    let serving = serving_with V38 size.width size.height name 1024 in
+    ServerStandsFor serving server (first_server serving) []
 
 -- the network of both ends before anything happened
 abbrev pub first_of : Size → Option Wants → Network

@@ -1,10 +1,10 @@
 -- The language of scripts: what a line says, and which line of a text is bad.
-use Rattle.std.specs.Prelude.{◌≡◌, ◌≢◌, ◌==◌, ◌≤◌, ◌+◌, ◌⊎◌, ℕ, List, [], ◌∷◌, ◌++◌, All, Option, Some, None, codes, length, map}
+use Rattle.std.specs.Prelude.{◌≡◌, ◌≢◌, ◌==◌, ◌+◌, ◌⊎◌, ℕ, List, [], ◌∷◌, ◌++◌, All, Option, Some, None, codes, length}
 use Rattle.std.specs.List.{slice_split}
 use Rattle.rfb_session.specs.declared.event.Event.{Event}
 use Rattle.rfb_session.specs.declared.event.Event.TheVariants.{Fill, Put, Copy, Hint, Request, SetFormat, SetEncodings, Key, Pointer, CutText, Compose, ToServer, ToViewer}
 use Rattle.rfb.specs.declared.fault.Failure.{Failure}
-use Rattle.rfb.specs.declared.fault.Failure.TheVariants.{BadLine, Fault}
+use Rattle.rfb.specs.declared.fault.Failure.TheVariants.{BadLine, Fault, Engine}
 use Rattle.rfb.specs.declared.fault.Fault.TheVariants.{NoMemory}
 use Rattle.rfb.specs.declared.script.line.Numbered.{Numbered}
 use Rattle.rfb.specs.declared.script.line.Screen.{Screen as Size}
@@ -163,3 +163,4 @@ IsWithoutScreen lines n = AreEmpty lines × (n ≡ length lines)
 abbrev pub StopsReading : List (List ℕ) → Failure → Type 0
 StopsReading lines (BadLine n) = IsFirstBad lines n ⊎ IsWithoutScreen lines n
 StopsReading lines (Fault fault) = fault ≡ NoMemory
+StopsReading lines (Engine fault) = ⊥

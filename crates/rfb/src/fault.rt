@@ -5,7 +5,7 @@ ghost use Rattle.rfb.specs.Fault.{IsFailureOf, IsFaultOf};
 ghost use Rattle.rfb.specs.declared.fault.Failure.TheVariants as Failure;
 ghost use Rattle.rfb.specs.declared.fault.Fault.TheVariants as Fault;
 
-use rfb_session::NoMemory;
+use rfb_session::{EngineFault, NoMemory};
 use std::alloc::{AllocError, AllocFailed};
 use std::io;
 use std::io::ErrorKind;
@@ -62,6 +62,9 @@ pub enum Failure {
     /// Something that no script is to blame for.
     #[error("fault {0}")]
     Fault(Fault),
+    /// What ended an engine.
+    #[error("fault {0}")]
+    Engine(EngineFault),
 }
 
 impl From<Fault> for Failure {
@@ -69,6 +72,14 @@ impl From<Fault> for Failure {
 
     fn from(fault: Fault) -> Failure {
         Failure::Fault(fault)
+    }
+}
+
+impl From<EngineFault> for Failure {
+    ghost from_gives = { λ fault failure. failure ≡ Failure.Engine fault };
+
+    fn from(fault: EngineFault) -> Failure {
+        Failure::Engine(fault)
     }
 }
 

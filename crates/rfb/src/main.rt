@@ -1,14 +1,20 @@
 //! The program `rfb`: both ends of the Remote Framebuffer protocol (RFC 6143) at work.
 //!
-//! Its one command `script` plays a script between a server and a viewer, both in memory, and
-//! writes the viewer's picture. `command_line` has the statuses, `script` the language.
+//! `command_line` has the statuses, `options` the words, and each command a module: `scripting`,
+//! `recording` and `serving`. `script` has the language of scripts.
 #![tactic(auto)]
 
 mod command_line;
 mod fault;
+mod help;
+mod options;
 mod pixmap;
 mod playing;
+mod recording;
+mod scene;
 mod script;
+mod scripting;
+mod serving;
 #[cfg(test)]
 mod tests;
 

@@ -63,8 +63,9 @@ fn make_room<W: Write>(size: usize, waiting: &mut Vec<u8>, output: &mut W) -> io
     Ok(())
 }
 
-// Writes all of these bytes. Where it gives an error, a beginning of them was written.
-fn write_whole<W: Write>(bytes: &[u8], output: &mut W) -> io::Result<()>
+/// Writes all of these bytes. Where it gives an error, a beginning of them was written; it is not
+/// tried again, whatever its kind.
+pub fn write_whole<W: Write>(bytes: &[u8], output: &mut W) -> io::Result<()>
     ensures done { OnOk result (Appends (W.contents output.old) (W.contents output.new) bytes.now) }
     ensures stopped { OnErr result
         (AppendsBeginning (W.contents output.old) (W.contents output.new) bytes.now) }
@@ -79,26 +80,17 @@ fn write_whole<W: Write>(bytes: &[u8], output: &mut W) -> io::Result<()>
     Err(io::Error::from(ErrorKind::TimedOut))
 }
 
-// Writes some of these bytes, or none where a signal came first, and answers the rest of them.
+// Writes some of these bytes, and answers the rest of them.
 fn write_some<'a, W: Write>(bytes: &'a [u8], output: &mut W) -> io::Result<&'a [u8]>
     ensures done { IfOk result (λ rest.
         AppendsUpTo (W.contents output.old) (W.contents output.new) bytes.now rest.now) }
     ensures stopped { OnErr result (Appends (W.contents output.old) (W.contents output.new) []) }
 {
-    match output.write(bytes) {
-        Ok(written) => {
-            if written == 0 {
-                return Err(io::Error::from(ErrorKind::WriteZero));
-            }
-            Ok(&bytes[written..])
-        }
-        Err(error) => {
-            if error.kind() == ErrorKind::Interrupted {
-                return Ok(bytes);
-            }
-            Err(error)
-        }
+    let written = output.write(bytes)?;
+    if written == 0 {
+        return Err(io::Error::from(ErrorKind::WriteZero));
     }
+    Ok(&bytes[written..])
 }
 
 // The bytes, and behind them the components of each colour, red first, one colour after the other.

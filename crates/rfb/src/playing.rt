@@ -3,7 +3,8 @@
 ghost use Rattle.std.specs.Prelude.{◌≡◌, ◌≢◌, None, IfOk, OnOk};
 ghost use Rattle.rfb.specs.declared.script.line.Step.TheVariants.{Settle};
 ghost use Rattle.rfb.specs.Few.{HasFew};
-ghost use Rattle.rfb.specs.Playing.{StandsFresh, TakesStep, TellsRefusal, encodings_of, format_of};
+ghost use Rattle.rfb.specs.Playing.{IsFreshServer, StandsFresh, TakesStep, TellsRefusal, encodings_of, format_of};
+ghost use Rattle.rfb.specs.Recording.{IsFresh};
 
 use crate::fault::Fault;
 use crate::script::{Screen, Step, Wants};
@@ -14,7 +15,7 @@ use rfb_server::Server;
 use rfb_session::{Event, NoMemory, Refused, World};
 use rfb_viewer::Viewer;
 use rfb_wire::Encoding;
-use std::alloc::Global;
+use std::alloc::{AllocError, Global};
 
 // How many bytes of a text each end keeps.
 const TEXT_LIMIT: u32 = 1024;
@@ -33,10 +34,26 @@ const ALL: u32 = u32::MAX;
 pub fn fresh_world(alloc: Global, screen: Screen, wants: &Option<Wants>) -> Result<World, Fault>
     ensures { IfOk result (StandsFresh screen wants.now) }
 {
-    let (width, height) = (screen.width, screen.height);
-    let server = Server::new(alloc, width, height, b"rfb", Version::V38, TEXT_LIMIT)?;
+    let server = fresh_server(alloc, screen)?;
     let (format, encodings) = wishes(wants);
-    let viewer = Viewer::new(
+    let viewer = fresh_viewer(alloc, format, encodings);
+    let world = World::new(alloc, server, viewer)?;
+    Ok(world)
+}
+
+/// A server of version 3.8 with a black screen that is named `rfb`.
+pub fn fresh_server(alloc: Global, screen: Screen) -> Result<Server, AllocError>
+    ensures { IfOk result (λ server. IsFreshServer screen server) }
+{
+    let (width, height) = (screen.width, screen.height);
+    Server::new(alloc, width, height, b"rfb", Version::V38, TEXT_LIMIT)
+}
+
+/// A viewer of version 3.8 that asks for a shared screen, in these encodings, the best first.
+pub fn fresh_viewer(alloc: Global, format: Format, encodings: ArrayVec<Encoding, 4>) -> Viewer
+    ensures { IsFresh format encodings.items result }
+{
+    Viewer::new(
         alloc,
         format,
         encodings,
@@ -44,9 +61,7 @@ pub fn fresh_world(alloc: Global, screen: Screen, wants: &Option<Wants>) -> Resu
         true,
         MAX_PLACES,
         TEXT_LIMIT,
-    );
-    let world = World::new(alloc, server, viewer)?;
-    Ok(world)
+    )
 }
 
 // The format and the encodings of the viewer.

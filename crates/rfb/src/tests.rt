@@ -3,7 +3,11 @@
 mod calls;
 mod devices;
 mod language;
+mod options;
 mod picture;
+mod recordings;
+mod sockets;
 mod steps;
+mod streams;
 mod updates;
 mod words;

@@ -15,7 +15,8 @@ use rfb_picture::Rect;
 use rfb_pixel::{Colour, Format};
 use rfb_wire::Encoding;
 
-const MAX_SIDE: u16 = 4096;
+/// The longest side that a screen may have.
+pub const MAX_SIDE: u16 = 4096;
 
 const RGB888: &[u8] = b"rgb888";
 

@@ -27,7 +27,7 @@ settle
 pub const LEFT_PLACE_FILLED: &[u8] = b"P6\n2 1\n255\n\xFF\x80\x01\0\0\0";
 
 /// A call of `command` with these words and this input.
-pub fn call(rt: &impl AllocGlobal, words: &[&str], mut input: &[u8]) -> Ended {
+pub fn call(rt: &HostRuntime, words: &[&str], mut input: &[u8]) -> Ended {
     let mut output = Vec::new(rt.alloc());
     let mut errors = Vec::new(rt.alloc());
     let status = command(rt, words, &mut input, &mut output, &mut errors);
@@ -39,6 +39,6 @@ pub fn call(rt: &impl AllocGlobal, words: &[&str], mut input: &[u8]) -> Ended {
 }
 
 /// A run of a script.
-pub fn run(rt: &impl AllocGlobal, script: &[u8]) -> Ended {
+pub fn run(rt: &HostRuntime, script: &[u8]) -> Ended {
     call(rt, SCRIPT.as_slice(), script)
 }

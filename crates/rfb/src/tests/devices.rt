@@ -8,9 +8,9 @@ use std::test::Fail;
 
 /// Gives its bytes, and then fails.
 #[derive(Drop)]
-struct FailingReader<'a> {
-    bytes: &'a [u8],
-    kind: ErrorKind,
+pub struct FailingReader<'a> {
+    pub bytes: &'a [u8],
+    pub kind: ErrorKind,
 }
 
 impl Read for FailingReader<'_> {
@@ -24,9 +24,9 @@ impl Read for FailingReader<'_> {
 
 /// Takes as many bytes as it has room for, and then fails.
 #[derive(Drop)]
-struct FailingWriter {
-    room: usize,
-    can_flush: bool,
+pub struct FailingWriter {
+    pub room: usize,
+    pub can_flush: bool,
 }
 
 impl Write for FailingWriter {

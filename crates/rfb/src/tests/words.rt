@@ -5,7 +5,7 @@ use crate::command_line::without_words;
 use std::io;
 use std::io::ErrorKind;
 
-const BAD_WORDS: [&[&str]; 7] = [
+const BAD_WORDS: [&[&str]; 19] = [
     &[],
     &["rfb"],
     &["rfb", "scrip"],
@@ -13,14 +13,28 @@ const BAD_WORDS: [&[&str]; 7] = [
     &["rfb", "script", "first.script"],
     &["rfb", "script", "script"],
     &["rfb", "--width", "2"],
+    &["rfb", "play", "--format"],
+    &["rfb", "play", "--format", "rgb888", "--format", "rgb888"],
+    &["rfb", "play", "--format", "RGB888"],
+    &["rfb", "play", "--format", ""],
+    &["rfb", "serve"],
+    &["rfb", "serve", "--port", "0"],
+    &["rfb", "serve", "--port", "65536"],
+    &["rfb", "serve", "--port", "9", "--width", "0"],
+    &["rfb", "serve", "--port", "9", "--height", "4097"],
+    &["rfb", "serve", "--port", "9", "--connections", "0"],
+    &["rfb", "serve", "--port", "9", "--connections", "65536"],
+    &["rfb", "serve", "--port", "nine"],
 ];
 
-const HELP: [&[&str]; 5] = [
+const HELP: [&[&str]; 7] = [
     &["rfb", "help"],
     &["rfb", "--help"],
     &["rfb", "-h"],
     &["rfb", "help", "script"],
     &["rfb", "script", "--help"],
+    &["rfb", "help", "play"],
+    &["rfb", "serve", "--help"],
 ];
 
 #[test]

@@ -1,4 +1,4 @@
-use Rattle.std.proofs.Common.{◌≡◌, ◌∙◌, ◌++◌, ◌*◌, List, ℕ, ap, sym, take, arith, rules}
+use Rattle.std.proofs.Common.{◌≡◌, ◌∙◌, ◌*◌, take, arith, rules}
 use Rattle.std.proofs.lemmas.List.{take_all}
 use Rattle.std.proofs.KnownBytes.{Appends-kept}
 use Rattle.rfb.specs.Pixmap.{pixmap}

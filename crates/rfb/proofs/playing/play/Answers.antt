@@ -1,5 +1,4 @@
-use Rattle.std.proofs.Common.{Option, subst, sym}
-use Rattle.rfb_session.specs.declared.told.Refused.{Refused}
+use Rattle.std.proofs.Common.{subst, sym}
 use Rattle.rfb.specs.declared.script.line.Step.{Step as ScriptStep}
 use Rattle.rfb.specs.Playing.{TakesStep, TellsRefusal}
 use Rattle.rfb.proofs.PlayingLemmas.{one_event}

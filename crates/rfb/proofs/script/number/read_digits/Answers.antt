@@ -1,4 +1,4 @@
-use Rattle.std.proofs.Common.{◌≡◌, ◌+◌, ◌∙◌, ◌∷◌, [], ◌++◌, List, ℕ, ap, refl, sym, subst, slice_index_or, take, arith}
+use Rattle.std.proofs.Common.{◌∙◌, List, ℕ, ap, refl, sym, subst, slice_index_or, take, arith}
 use Rattle.std.proofs.lemmas.List.{take_all, take_more}
 use Rattle.std.specs.Str.Parse.{AllDigits, digits_value}
 use Rattle.rfb.proofs.WordLemmas.{all_more, below, digits, not_none, value_more}

@@ -1,0 +1,69 @@
+-- What was given to options, from what the getters tell.
+use Rattle.std.proofs.Common.{◌≡◌, ◌<◌, ◌^◌, ◌∙◌, ap₂, sym, refl, subst, codes, [], ℕ, Bool, true, false, not, ◌&&◌, List, Option, Some, None, Result, Ok, Err, MatchResult, option_map}
+use Rattle.std.proofs.lemmas.Option.{none-some, same_Some}
+use Rattle.std.specs.Str.Parse.{IsNumeral, ParsesUnsigned, digits_value, without_leading_plus}
+use Rattle.clap.specs.Matches.{ReadsOne}
+use Rattle.clap.specs.Walk.{Row, Text, first_of}
+use Rattle.rfb_pixel.specs.Format.{PixelFormat}
+use Rattle.rfb.specs.declared.options.BadValue.{BadValue}
+use Rattle.clap.specs.Faults.{fault_of}
+use Rattle.rfb.specs.declared.options.Task.{Task}
+use Rattle.rfb.specs.declared.options.WrongWords.{WrongWords}
+use Rattle.rfb.specs.declared.options.WrongWords.TheVariants.{Words, Value}
+use Rattle.rfb.specs.Options.{AreAsked, AreWrong, GivesFormat, HasBadFormat, HasBadValue, IsTask, IsWrongValue, asked, names_format, program}
+use Rattle.rfb.specs.Words.{IsFormatWord}
+
+-- a plain command has no global argument
+pub no_globals : (a b c d : Bool) → (a && (not b && (not c && d))) ≡ true → c ≡ false
+no_globals true false false d e = refl
+no_globals true false true d e = let f : false ≡ true = e in absurd (cc)
+no_globals true true c d e = let f : false ≡ true = e in absurd (cc)
+no_globals false b c d e = let f : false ≡ true = e in absurd (cc)
+
+pub map_map : {A B C : Type 0} (f : B → C) (h : A → B) (o : Option A) → option_map f (option_map h o) ≡ option_map (λ x. f (h x)) o
+map_map f h None = refl
+map_map f h (Some x) = refl
+
+-- a pair is there, whose halves are
+pub both_there : (o : Option (Text × List Row)) (name : Text) (rows : List Row) →
+    Some name ≡ option_map (λ p. p.0) o → Some rows ≡ option_map (λ p. p.1) o → o ≡ Some (name, rows)
+both_there None name rows e f = let a : Some name ≡ None = e in absurd (cc)
+both_there (Some (n, r)) name rows e f =
+    ap₂ (λ (x : Text) (y : List Row). Some (x, y)) (same_Some n name (sym e)) (same_Some r rows (sym f))
+
+pub not_there : (o : Option (Text × List Row)) → None ≡ option_map (λ p. p.1) o → o ≡ None
+not_there None e = refl
+not_there (Some p) e = absurd (none-some _ e)
+
+-- a word for a format is the one that is given
+pub format_given : (rows : List Row) (word : Text) (r : Result PixelFormat BadValue) →
+    first_of (codes "format") rows ≡ Some word →
+    MatchResult r (IsFormatWord word) (λ _. (f : PixelFormat) → ¬ (IsFormatWord word f)) →
+    MatchResult r (GivesFormat rows) (λ _. HasBadFormat rows)
+format_given rows word (Ok f) e named = subst (λ (o : Option Text). names_format o f) (sym e) named
+format_given rows word (Err bad) e none = (word, e, none)
+
+-- ---- numbers, by what `get_one` reads
+
+pub number_read : (E : Type 0) (G : List ℕ → Result ℕ E → Type 0) (t : List ℕ) (r : Option ℕ) (n : ℕ) →
+    r ≡ Some n → ReadsOne G t r → ((u : List ℕ) (x : Result ℕ E) → G u x → ParsesUnsigned 16 10 u x) →
+    n ≡ digits_value 10 (without_leading_plus t)
+number_read E G t None n is h only = absurd (none-some n is)
+number_read E G t (Some m) n is h only = sym (same_Some m n is) ∙ (only t (Ok m) h).1
+
+pub none_read : (E : Type 0) (G : List ℕ → Result ℕ E → Type 0) (t : List ℕ) (r : Option ℕ) →
+    r ≡ None → ReadsOne G t r → ((u : List ℕ) (x : Result ℕ E) → G u x → ParsesUnsigned 16 10 u x) →
+    ¬ (IsNumeral 10 (without_leading_plus t) × (digits_value 10 (without_leading_plus t) < 2 ^ 16))
+none_read E G t None is h only = only t (Err h.0) h.1
+none_read E G t (Some m) is h only = absurd (none-some m (sym is))
+
+-- ---- what words ask for
+
+pub asked_task : (words : List Text) (o : Option (Text × List Row)) (r : Result Task WrongWords) →
+    fault_of program words ≡ [] → o ≡ asked words → MatchResult r (IsTask o) (IsWrongValue o) →
+    MatchResult r (AreAsked words) (AreWrong words)
+asked_task words o (Ok task) taken same is =
+    (taken, subst (λ (a : Option (Text × List Row)). IsTask a task) same is)
+asked_task words o (Err (Words error)) taken same is = absurd is
+asked_task words o (Err (Value value)) taken same is =
+    (taken, subst HasBadValue same is)

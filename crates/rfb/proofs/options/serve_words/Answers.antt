@@ -1,0 +1,17 @@
+use Rattle.std.proofs.Common.{◌≡◌, ◌∙◌, ap, ap₂, codes}
+use Rattle.std.proofs.lemmas.Result.{IfOk-weaker}
+use Rattle.clap.specs.Simple.{App, app_of, app_of_fields, new_app, with_rule}
+use Rattle.rfb.specs.Options.{port_rule, side_rule}
+use Rattle.rfb.proofs.options.serve_words.Goals as goal
+
+pub returns : goal.returns
+returns c =
+    let old : app_of c.after_help.result ≡ new_app (codes "serve") =
+    ap app_of_fields c.after_help.ensures ∙ ap app_of_fields c.about.ensures ∙ c.new.ensures.app in
+    let one : app_of c.in_ok-arg.field-0 ≡ with_rule (new_app (codes "serve")) port_rule =
+    c.in_ok-arg.ensures.shape c.port_word.ensures.local ∙ ap₂ with_rule old c.port_word.ensures.rule in
+    let two : app_of c.in_ok-arg-2.field-0 ≡ with_rule (with_rule (new_app (codes "serve")) port_rule) (side_rule (codes "width")) =
+    c.in_ok-arg-2.ensures.shape c.side_word.ensures.local ∙ ap₂ with_rule one c.side_word.ensures.rule in
+    let three : app_of c.in_ok-arg-3.field-0 ≡ with_rule (with_rule (with_rule (new_app (codes "serve")) port_rule) (side_rule (codes "width"))) (side_rule (codes "height")) =
+    c.in_ok-arg-3.ensures.shape c.side_word-2.ensures.local ∙ ap₂ with_rule two c.side_word-2.ensures.rule in
+    IfOk-weaker c.arg-4.result _ _ (λ r adds. ap (λ (a : App). a.top) (adds.shape c.connections_word.ensures.local ∙ ap₂ with_rule three c.connections_word.ensures.rule)) c.arg-4.ensures

@@ -1,0 +1,157 @@
+-- What the words of the command line ask for.
+use Rattle.std.specs.Prelude.{◌≡◌, ◌≢◌, ◌≤◌, ◌⊎◌, ℕ, pos, List, [], ◌∷◌, Option, Some, None, codes, true}
+use Rattle.std.specs.Str.Parse.{IsNumeral, digits_value, without_leading_plus}
+use Rattle.clap.specs.declared.builder.value_parser.ValueParser.TheVariants.{Signed}
+use Rattle.clap.specs.Words.{App, HasKind, IsAmong, Row, Rule, Shape, Text, fault_of, first_of, one_of, new_app, new_rule, subcommand_of, with_rule, with_subcommand}
+use Rattle.clap.specs.Simple.{new_shape}
+use Rattle.clap.specs.declared.error.kind.ErrorKind.{ErrorKind}
+use Rattle.clap.specs.declared.error.kind.ErrorKind.TheVariants.{DisplayHelp, DisplayVersion}
+use Rattle.rfb_pixel.specs.Format.{PixelFormat, rgb888}
+use Rattle.rfb.specs.declared.options.Task.{Task}
+use Rattle.rfb.specs.declared.options.Task.TheVariants.{Script, Play, Serve}
+use Rattle.rfb.specs.declared.options.WrongWords.{WrongWords}
+use Rattle.rfb.specs.declared.options.WrongWords.TheVariants.{Words, Value}
+use Rattle.rfb.specs.declared.serving.Wanted.{Wanted}
+use Rattle.rfb.specs.Words.{IsFormatWord}
+
+-- ---- the words that there are
+
+-- a format, by its name
+abbrev pub format_rule : Rule
+format_rule = record (new_rule (codes "format")) {
+  long = Some (codes "format");
+  value_names = 1;
+  defaults = codes "rgb888" ∷ [];
+}
+
+-- a number in a range, by its digits
+abbrev pub number_rule : Text → ℕ → ℕ → Rule
+number_rule name least most = record (new_rule name) {
+  long = Some name;
+  value_names = 1;
+  parser = Some (Signed (pos least) (pos most));
+}
+
+abbrev pub port_rule : Rule
+port_rule = record (number_rule (codes "port") 1 65535) { required = true }
+
+abbrev pub side_rule : Text → Rule
+side_rule name = record (number_rule name 1 4096) { defaults = codes "64" ∷ [] }
+
+abbrev pub connections_rule : Rule
+connections_rule = record (number_rule (codes "connections") 1 65535) {
+  defaults = codes "1" ∷ [];
+}
+
+-- the commands
+abbrev pub script_shape : Shape
+script_shape = new_shape (codes "script")
+
+abbrev pub play_shape : Shape
+play_shape = (with_rule (new_app (codes "play")) format_rule).top
+
+abbrev pub serve_shape : Shape
+serve_shape = (with_rule (with_rule (with_rule (with_rule (new_app (codes "serve")) port_rule)
+    (side_rule (codes "width"))) (side_rule (codes "height"))) connections_rule).top
+
+-- the program has a version, and commands, one of which has to be named
+abbrev pub top : App
+top = record {
+  top = record (new_shape (codes "rfb")) { subcommand_required = true; has_version = true };
+  subs = [];
+}
+
+abbrev pub program : App
+program =
+    with_subcommand (with_subcommand (with_subcommand top script_shape) play_shape) serve_shape
+
+-- ---- what they ask for
+
+-- the command that words name, and what they give to its options
+abbrev pub asked : List Text → Option (Text × List Row)
+asked words = subcommand_of program words
+
+-- the format that is given by its name, or rgb888
+abbrev pub names_format : Option Text → PixelFormat → Type 0
+names_format None format = format ≡ rgb888
+names_format (Some word) format = IsFormatWord word format
+
+abbrev pub GivesFormat : List Row → PixelFormat → Type 0
+GivesFormat rows format = names_format (first_of (codes "format") rows) format
+
+-- a word for a format is the name of none
+abbrev pub HasBadFormat : List Row → Type 0
+HasBadFormat rows =
+    (word : Text) × (first_of (codes "format") rows ≡ Some word)
+    × ((format : PixelFormat) → ¬ (IsFormatWord word format))
+
+-- a number that is given by its digits, a plus before them or none, if it lies in the range
+abbrev pub GivesNumber : Text → ℕ → ℕ → List Row → ℕ → Type 0
+GivesNumber name least most rows n =
+    (text : Text) → one_of name rows ≡ Some text → IsNumeral 10 (without_leading_plus text) →
+    least ≤ digits_value 10 (without_leading_plus text) →
+    digits_value 10 (without_leading_plus text) ≤ most →
+    n ≡ digits_value 10 (without_leading_plus text)
+
+-- what `serve` is asked for
+pub record GivesWanted (rows : List Row) (wanted : Wanted) : Type 0 where
+  pub port : GivesNumber (codes "port") 1 65535 rows wanted.port
+  pub width : GivesNumber (codes "width") 1 4096 rows wanted.screen.width
+  pub height : GivesNumber (codes "height") 1 4096 rows wanted.screen.height
+  pub connections : GivesNumber (codes "connections") 1 65535 rows wanted.connections
+
+-- a command, by its name and its options; `script` is the one with no other name
+abbrev pub IsTask : Option (Text × List Row) → Task → Type 0
+IsTask None Script = Unit {0}
+IsTask None (Play format) = ⊥
+IsTask None (Serve wanted) = ⊥
+IsTask (Some (name, rows)) Script = (name ≢ codes "play") × (name ≢ codes "serve")
+IsTask (Some (name, rows)) (Play format) = (name ≡ codes "play") × GivesFormat rows format
+IsTask (Some (name, rows)) (Serve wanted) = (name ≡ codes "serve") × GivesWanted rows wanted
+
+-- a value of an option is none that it may have
+abbrev pub HasBadValue : Option (Text × List Row) → Type 0
+HasBadValue None = ⊥
+HasBadValue (Some (name, rows)) = (name ≡ codes "play") × HasBadFormat rows
+
+-- ---- words
+
+-- the words are those of a command
+abbrev pub AreCommand : List Text → Type 0
+AreCommand words = fault_of program words ≡ []
+
+-- they ask for this
+abbrev pub AreAsked : List Text → Task → Type 0
+AreAsked words task = AreCommand words × IsTask (asked words) task
+
+-- the words ask for help, or for the version
+abbrev pub AskForText : List Text → Type 0
+AskForText words =
+    IsAmong DisplayHelp (fault_of program words) ⊎ IsAmong DisplayVersion (fault_of program words)
+
+-- the words ask for something that there is
+abbrev pub HaveMeaning : List Text → Type 0
+HaveMeaning words = ((task : Task) × AreAsked words task) ⊎ AskForText words
+
+-- the words are none that there are
+abbrev pub AreUnknown : List Text → Type 0
+AreUnknown words =
+    (kind : ErrorKind) × IsAmong kind (fault_of program words) × (kind ≢ DisplayHelp)
+    × (kind ≢ DisplayVersion)
+
+-- they are, but a value of an option is none that it may have
+abbrev pub HaveBadValue : List Text → Type 0
+HaveBadValue words = AreCommand words × HasBadValue (asked words)
+
+-- the words ask for nothing that there is
+abbrev pub AreMistaken : List Text → Type 0
+AreMistaken words = AreUnknown words ⊎ HaveBadValue words
+
+-- why they ask for no task
+abbrev pub AreWrong : List Text → WrongWords → Type 0
+AreWrong words (Words error) = HasKind (fault_of program words) error
+AreWrong words (Value value) = HaveBadValue words
+
+abbrev pub IsWrongValue : Option (Text × List Row) → WrongWords → Type 0
+IsWrongValue given (Words error) = ⊥
+IsWrongValue given (Value value) = HasBadValue given

@@ -1,0 +1,63 @@
+-- Recordings of a server that are played to a viewer.
+use Rattle.std.specs.Prelude.{◌≡◌, ⊤, ℕ, true, List, [], ◌∷◌, Option, Some}
+use Rattle.std.specs.Io.KnownBytes.{Appends}
+use Rattle.rfb_pixel.specs.Format.{PixelFormat}
+use Rattle.rfb_pixel.specs.declared.colour.Colour.{Colour}
+use Rattle.rfb_picture.specs.Grid.{Grid}
+use Rattle.rfb_wire.specs.declared.encoding.Encoding.{Encoding}
+use Rattle.rfb_wire.specs.declared.encoding.Encoding.TheVariants.{Raw}
+use Rattle.rfb_hello.specs.declared.version.Version.TheVariants.{V38}
+use Rattle.rfb_viewer.specs.declared.viewer.Viewer.{Viewer}
+use Rattle.rfb_viewer.specs.Viewer.{Viewing, first_viewer}
+use Rattle.rfb_viewer.specs.Standing.{StandsFor, picture_of, viewing_with}
+use Rattle.rfb_session.specs.declared.engine.fault.EngineFault.{EngineFault}
+use Rattle.rfb_session.specs.Playing.{AllPlayed, StopsPlaying}
+use Rattle.rfb_session.specs.Watching.{StandsBetween}
+use Rattle.rfb.specs.declared.fault.Failure.{Failure}
+use Rattle.rfb.specs.declared.fault.Failure.TheVariants.{BadLine, Fault, Engine}
+use Rattle.rfb.specs.Pixmap.{pixmap}
+
+-- what a viewer of the program is made with
+abbrev pub viewing_of : PixelFormat → List Encoding → Viewing
+viewing_of format encodings = viewing_with format encodings V38 true 16777216 1024
+
+-- it was fed nothing
+abbrev pub IsFresh : PixelFormat → List Encoding → Viewer → Type 0
+IsFresh format encodings viewer =
+    StandsFor (viewing_of format encodings) viewer first_viewer []
+
+-- a viewer was fed all that there was to read, if its bytes are known, and they end between two
+-- messages
+pub record Watches (read : Option (List ℕ)) (old : Viewer) (updates : ℕ) (new : Viewer) : Type 0 where
+  pub left : Option (List ℕ)
+  pub played : AllPlayed read left old updates new
+  pub between : StandsBetween new true
+
+-- or why it was not
+pub record StopsWatching (read : Option (List ℕ)) (old : Viewer) (fault : EngineFault) (new : Viewer)
+    : Type 0 where
+  pub left : Option (List ℕ)
+  pub failed : ℕ
+  pub stopped : StopsPlaying read left 0 failed old fault new
+
+-- the whole of what a viewer shows was written behind what stood there before
+abbrev pub WritesPicture : Viewer → Option (List ℕ) → Option (List ℕ) → Type 0
+WritesPicture viewer before after =
+    (picture : Grid Colour) × (picture_of viewer ≡ Some picture)
+    × Appends before after (pixmap picture)
+
+-- a fresh viewer was fed what was read, and the whole of what it then shows was written
+pub record PlaysRecording (format : PixelFormat) (read before after : Option (List ℕ)) : Type 0 where
+  pub first : Viewer
+  pub fresh : IsFresh format (Raw ∷ []) first
+  pub updates : ℕ
+  pub last : Viewer
+  pub watches : Watches read first updates last
+  pub written : WritesPicture last before after
+
+-- what a fresh viewer was fed ended it, or ended where it must not
+abbrev pub FailsToPlay : PixelFormat → Option (List ℕ) → Failure → Type 0
+FailsToPlay format read (Engine fault) =
+    (first last : Viewer) × IsFresh format (Raw ∷ []) first × StopsWatching read first fault last
+FailsToPlay format read (Fault fault) = ⊤
+FailsToPlay format read (BadLine n) = ⊥

@@ -1,0 +1,49 @@
+//! What `--help` says.
+
+/// The version that `--version` prints behind the program's name.
+pub const VERSION: &str = "0.1.0";
+
+pub const STATUSES: &str = "\
+Status:
+  0  the work is done: the picture or this text is on standard output
+  1  it failed, and the last line on standard error says why
+  2  the words of the command ask for nothing that there is
+
+docs/PROTOCOL.md has the language of scripts, and refusals and faults by number.";
+
+pub const LANGUAGE: &str = "\
+A script has a line for each step. One space parts two words:
+  screen W H                  first: the size of the screen, 1 to 4096 places a side
+  viewer F E..                second, or not at all: the format and the encodings that it takes
+  fill X Y W H RRGGBB         the server draws
+  copy X Y W H SX SY          the same, from the rectangle at (SX, SY)
+  hint X Y W H SX SY          it is told that a rectangle looks as the one at (SX, SY) did
+  request full|inc X Y W H    the viewer asks for a rectangle, or for what changed there
+  format F                    the viewer asks for another format
+  compose                     the server composes an update, if one is due
+  toserver N, toviewer N      at most N of the bytes in flight arrive
+  settle                      all bytes arrive, eight times each way
+
+F is rgb888, rgb565 or bgr233; E is raw, copyrect, rre or hextile.
+docs/PROTOCOL.md has the language of scripts, with all that is bad in it.
+
+Example:
+  rfb script < examples/first.script > picture.ppm";
+
+pub const RECORDINGS: &str = "\
+A recording is all that a server sent, from its greeting to the end of a message. What a viewer
+would answer is dropped.
+docs/PROTOCOL.md has the formats, and the faults by number.
+
+Example:
+  rfb play --format rgb565 < server.rfb > picture.ppm";
+
+pub const VIEWERS: &str = "\
+Each connection has a fresh screen. Behind each update the picture scrolls up by a row. As soon as a
+connection ends, a line on standard output says `ok` and how many updates were sent, or `fault` and
+which fault ended it; then the next one is served.
+docs/PROTOCOL.md has the faults by number.
+
+Example, with a viewer of TigerVNC:
+  rfb serve --port 5950 --width 640 --height 480 &
+  vncviewer 127.0.0.1::5950";

@@ -1,0 +1,263 @@
+//! The words of the command line: which there are, and what they ask for.
+
+ghost use Rattle.std.specs.Prelude.{◌≡◌, ◌≤◌, false, map, Some, IfOk, MatchResult};
+ghost use Rattle.clap.specs.Words.{FailsBy, fault_of, found_of, rows_of, rule_of, shape_of, subcommand_rows_of};
+ghost use Rattle.rfb.specs.Options.{AreAsked, AreWrong, IsWrongValue};
+ghost use Rattle.rfb.specs.Options.{GivesFormat, GivesNumber, GivesWanted, HasBadFormat, HasBadValue, IsTask, asked};
+ghost use Rattle.rfb_pixel.specs.Format.{PixelFormat};
+ghost use Rattle.rfb.specs.Words.{IsFormatWord};
+ghost use Rattle.rfb.specs.Options.{connections_rule, format_rule, port_rule, side_rule};
+ghost use Rattle.rfb.specs.Options.{play_shape, program, script_shape, serve_shape};
+
+use crate::help::{LANGUAGE, RECORDINGS, STATUSES, VERSION, VIEWERS};
+use crate::script::{MAX_SIDE, Screen, read_format};
+use crate::serving::Wanted;
+use clap::{Arg, ArgMatches, Command, Error};
+use rfb_pixel::Format;
+use std::alloc::{AllocError, Global};
+use std::convert::AsStr;
+
+/// What the words ask for.
+#[derive(Clone, Copy, Debug, PartialEq, Eq)]
+pub enum Task {
+    /// To run a script in memory.
+    Script,
+    /// To play a recording, in this format.
+    Play(Format),
+    /// To serve the test scene.
+    Serve(Wanted),
+}
+
+/// A word that no value of its option is.
+#[derive(Clone, Copy, Debug)]
+pub enum BadValue<'a> {
+    /// No format.
+    Format(&'a str),
+}
+
+/// Why words ask for no task.
+#[derive(Debug, Drop)]
+pub enum WrongWords<'a> {
+    /// They are none that there are, or ask for a text; or memory is wanting.
+    Words(Error),
+    /// A value of an option is none.
+    Value(BadValue<'a>),
+}
+
+/// What the words ask for.
+pub fn read_words<'a, S: AsStr>(alloc: Global, words: &'a [S]) -> Result<Task, WrongWords<'a>>
+    ensures { MatchResult result (AreAsked (map S.text words.now))
+        (AreWrong (map S.text words.now)) }
+{
+    match parse(alloc, words) {
+        Ok(matches) => task_in(&matches),
+        Err(error) => Err(WrongWords::Words(error)),
+    }
+}
+
+// What the words are, or what is wrong with them.
+fn parse<'a, S: AsStr>(alloc: Global, words: &'a [S]) -> Result<ArgMatches<'a>, Error>
+    ensures fails { FailsBy (fault_of program (map S.text words.now)) result }
+    ensures asked { IfOk result (λ matches.
+        subcommand_rows_of matches ≡ asked (map S.text words.now)) }
+{
+    Command::new(alloc, "rfb")
+        .version(VERSION)
+        .about("Both ends of the Remote Framebuffer protocol")
+        .after_help(STATUSES)
+        .subcommand_required(true)
+        .subcommand(script_words(alloc))?
+        .subcommand(play_words(alloc)?)?
+        .subcommand(serve_words(alloc)?)?
+        .try_get_matches_from(words)
+}
+
+// The words of `script`.
+fn script_words<'a>(alloc: Global) -> Command<'a>
+    ensures { shape_of result ≡ script_shape }
+{
+    Command::new(alloc, "script")
+        .about("Runs a script from standard input, and writes the viewer's picture as PPM")
+        .after_help(LANGUAGE)
+}
+
+// The words of `play`.
+fn play_words<'a>(alloc: Global) -> Result<Command<'a>, AllocError>
+    ensures { IfOk result (λ command. shape_of command ≡ play_shape) }
+{
+    Command::new(alloc, "play")
+        .about("Plays a server's bytes from standard input, and writes the last picture as PPM")
+        .after_help(RECORDINGS)
+        .arg(format_word(alloc))
+}
+
+// The words of `serve`.
+fn serve_words<'a>(alloc: Global) -> Result<Command<'a>, AllocError>
+    ensures { IfOk result (λ command. shape_of command ≡ serve_shape) }
+{
+    Command::new(alloc, "serve")
+        .about("Serves a scrolling test picture to viewers on 127.0.0.1, one after another")
+        .after_help(VIEWERS)
+        .arg(port_word(alloc))?
+        .arg(side_word(
+            alloc,
+            "width",
+            "The places of a row of the screen, 1 to 4096",
+        ))?
+        .arg(side_word(alloc, "height", "The rows of the screen, 1 to 4096"))?
+        .arg(connections_word(alloc))
+}
+
+// The word of a port.
+fn port_word<'a>(alloc: Global) -> Arg<'a>
+    ensures rule { rule_of result ≡ port_rule }
+    ensures local { result.global ≡ false }
+{
+    Arg::new(alloc, "port")
+        .long("port")
+        .value_name("P")
+        .value_parser(clap::value_parser!(u16).range(1..))
+        .required(true)
+        .help("The port, 1 to 65535")
+}
+
+// The word of a side of the screen.
+fn side_word<'a>(alloc: Global, name: &'a str, help: &'a str) -> Arg<'a>
+    ensures rule { rule_of result ≡ side_rule name.entry.now }
+    ensures local { result.global ≡ false }
+{
+    Arg::new(alloc, name)
+        .long(name)
+        .value_name("N")
+        .value_parser(clap::value_parser!(u16).range(1..=4096))
+        .default_value("64")
+        .help(help)
+}
+
+// The word of how many connections are served.
+fn connections_word<'a>(alloc: Global) -> Arg<'a>
+    ensures rule { rule_of result ≡ connections_rule }
+    ensures local { result.global ≡ false }
+{
+    Arg::new(alloc, "connections")
+        .long("connections")
+        .value_name("K")
+        .value_parser(clap::value_parser!(u16).range(1..))
+        .default_value("1")
+        .help("How many connections are served, 1 to 65535")
+}
+
+// The word of a format.
+fn format_word<'a>(alloc: Global) -> Arg<'a>
+    ensures rule { rule_of result ≡ format_rule }
+    ensures local { result.global ≡ false }
+{
+    Arg::new(alloc, "format")
+        .long("format")
+        .value_name("F")
+        .default_value("rgb888")
+        .help("The format of pixels, from the first update on: rgb888, rgb565 or bgr233")
+}
+
+// What the words ask for, once they are parsed.
+fn task_in<'a>(matches: &ArgMatches<'a>) -> Result<Task, WrongWords<'a>>
+    ensures { MatchResult result (IsTask (subcommand_rows_of matches.now))
+        (IsWrongValue (subcommand_rows_of matches.now)) }
+{
+    match task_of(matches) {
+        Ok(task) => Ok(task),
+        Err(value) => Err(WrongWords::Value(value)),
+    }
+}
+
+// The task of the command that is named.
+fn task_of<'a>(matches: &ArgMatches<'a>) -> Result<Task, BadValue<'a>>
+    ensures { MatchResult result (IsTask (subcommand_rows_of matches.now))
+        (λ _. HasBadValue (subcommand_rows_of matches.now)) }
+{
+    match matches.subcommand() {
+        Some((name, given)) => command_of(name, given),
+        None => Ok(Task::Script),
+    }
+}
+
+// What the command of this name is asked for. `script` is the one with no other name.
+fn command_of<'a>(name: &str, given: &ArgMatches<'a>) -> Result<Task, BadValue<'a>>
+    ensures { MatchResult result
+        (IsTask (Some (name.now, rows_of (found_of given.now))))
+        (λ _. HasBadValue (Some (name.now, rows_of (found_of given.now)))) }
+{
+    if name == "play" {
+        return match format_in(given) {
+            Ok(format) => Ok(Task::Play(format)),
+            Err(value) => Err(value),
+        };
+    }
+    if name == "serve" {
+        return Ok(Task::Serve(wanted_in(given)));
+    }
+    Ok(Task::Script)
+}
+
+// The format that is given, or else rgb888.
+fn format_in<'a>(given: &ArgMatches<'a>) -> Result<Format, BadValue<'a>>
+    ensures { MatchResult result (GivesFormat (rows_of (found_of given.now)))
+        (λ _. HasBadFormat (rows_of (found_of given.now))) }
+{
+    match given.get_str("format") {
+        Some(word) => format_named(word),
+        None => Ok(Format::rgb888()),
+    }
+}
+
+// The format of this name.
+fn format_named<'a>(word: &'a str) -> Result<Format, BadValue<'a>>
+    ensures { MatchResult result (IsFormatWord word.now)
+        (λ _. (format : PixelFormat) → ¬ (IsFormatWord word.now format)) }
+{
+    match read_format(word.as_bytes()) {
+        Some(format) => Ok(format),
+        None => Err(BadValue::Format(word)),
+    }
+}
+
+// What `serve` is asked for.
+fn wanted_in(given: &ArgMatches<'_>) -> Wanted
+    ensures { GivesWanted (rows_of (found_of given.now)) result }
+{
+    Wanted {
+        port: number_in(given, "port", 1, u16::MAX),
+        screen: Screen {
+            width: number_in(given, "width", 1, MAX_SIDE),
+            height: number_in(given, "height", 1, MAX_SIDE),
+        },
+        connections: number_in(given, "connections", 1, u16::MAX),
+    }
+}
+
+// The number that is given, which is one of these by then.
+fn number_in(given: &ArgMatches<'_>, name: &str, least: u16, most: u16) -> u16
+    requires { least ≤ most }
+    ensures number { GivesNumber name.now least most (rows_of (found_of given.now)) result }
+    ensures range { (least ≤ result) × (result ≤ most) }
+{
+    match given.get_one::<u16>(name) {
+        Some(number) => within(number, least, most),
+        None => least,
+    }
+}
+
+// A number, or the nearest in a range.
+fn within(number: u16, least: u16, most: u16) -> u16
+    requires { least ≤ most }
+    ensures same { least ≤ number → number ≤ most → result ≡ number }
+    ensures range { (least ≤ result) × (result ≤ most) }
+{
+    if number < least {
+        return least;
+    }
+    if number > most {
+        return most;
+    }
+    number
+}

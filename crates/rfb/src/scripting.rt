@@ -1,0 +1,93 @@
+//! A script from its bytes to its picture.
+
+ghost use Rattle.std.specs.Prelude.{◌≡◌, ℕ, Err, OnOk, IfErr};
+ghost use Rattle.rfb.specs.CommandLine.{FailsAt, PlaysScript, WritesPlayed, WritesShown};
+ghost use Rattle.rfb.specs.Playing.{TakesAll, ends_of};
+ghost use Rattle.rfb_session.specs.InFlight.{AreMade};
+ghost use Rattle.rfb.specs.declared.fault.Failure.TheVariants as Failure;
+
+use crate::fault::{Failure, Fault};
+use crate::pixmap::write_pixmap;
+use crate::playing::{fresh_world, play};
+use crate::script::{Numbered, Script, read_script};
+use rfb_session::{Refused, World};
+use std::alloc::Global;
+use std::io::{LineWriter, Read, Write};
+
+/// Runs the script that `input` has, between a server and a viewer in memory, and writes the
+/// viewer's picture. At a bad line nothing is written.
+pub fn script<R: Read, W: Write, E: Write>(
+    alloc: Global,
+    input: &mut R,
+    output: &mut W,
+    errors: &mut E,
+) -> Result<(), Failure>
+    ensures done { OnOk result
+        (PlaysScript (R.remaining input.old) (W.contents output.old) (W.contents output.new)) }
+    ensures stopped { IfErr result (FailsAt (R.remaining input.old)) }
+    ensures unwritten { (n : ℕ) → result ≡ Err (Failure.BadLine n) → output.new ≡ output.old }
+{
+    let mut text = Vec::new(alloc);
+    input.read_to_end(&mut text)?;
+    let script = read_script(alloc, &text)?;
+    run(alloc, &script, output, errors)?;
+    Ok(())
+}
+
+// Plays a script from two fresh ends, and writes what the viewer shows then.
+fn run<W: Write, E: Write>(
+    alloc: Global,
+    script: &Script,
+    output: &mut W,
+    errors: &mut E,
+) -> Result<(), Fault>
+    ensures { AreMade (ends_of script.now.screen script.now.wants) → OnOk result
+        (WritesPlayed script.now.screen script.now.wants script.now.steps.items
+        (W.contents output.old) (W.contents output.new)) }
+{
+    let mut world = fresh_world(alloc, script.screen, &script.wants)?;
+    finish(alloc, &mut world, &script.steps, output, errors)
+}
+
+// Takes all steps, and writes what the viewer shows then.
+fn finish<W: Write, E: Write>(
+    alloc: Global,
+    world: &mut World,
+    steps: &[Numbered],
+    output: &mut W,
+    errors: &mut E,
+) -> Result<(), Fault>
+    ensures taken { OnOk result (TakesAll world.old steps.now world.new) }
+    ensures shown { OnOk result
+        (WritesShown world.new (W.contents output.old) (W.contents output.new)) }
+{
+    play_all(alloc, world, steps, errors)?;
+    let picture = world.picture().ok_or(Fault::NotReady)?;
+    write_pixmap(alloc, picture, output)?;
+    Ok(())
+}
+
+// Takes all steps. Those that are refused are told on `errors`, each in one write, and do not end
+// the script.
+fn play_all<E: Write>(
+    alloc: Global,
+    world: &mut World,
+    steps: &[Numbered],
+    errors: &mut E,
+) -> Result<(), Fault>
+    ensures { OnOk result (TakesAll world.old steps.now world.new) }
+{
+    let mut refusals = LineWriter::new(alloc, errors)?;
+    for numbered in steps {
+        let refused = play(world, &numbered.step)?;
+        tell_refusal(numbered.line, refused, &mut refusals);
+    }
+    Ok(())
+}
+
+// Prints why the step of a line was refused, if it was. A write that fails changes nothing.
+fn tell_refusal<W: Write>(line: u64, refused: Option<Refused>, refusals: &mut W) {
+    if let Some(refused) = refused {
+        let _ = writeln!(refusals, "line {line}: refused {refused}");
+    }
+}
