@@ -57,10 +57,7 @@ impl World {
         ensures { IfOk result (λ world. (e : Ends) (screen : Grid Colour) →
             AreFresh e server viewer screen → StandsFor e world (first_network e screen)) }
     {
-        let (width, height) = (server.screen().width(), server.screen().height());
-        let latest = Latest::new(alloc, width, height)?;
-        let mut to_viewer = Channel::new(alloc);
-        to_viewer.send(&server.greeting())?;
+        let (latest, to_viewer) = opening(alloc, &server)?;
         Ok(World {
             server,
             viewer,
@@ -169,6 +166,27 @@ impl World {
             Event::ToViewer(count) => self.move_to_viewer(*count),
         }
     }
+}
+
+ghost use Rattle.rfb_hello.specs.Version.{version_text};
+ghost use Rattle.rfb_server.specs.Server.{Serving, ServerState};
+ghost use Rattle.rfb_server.specs.Standing.{StandsFor as ServerStandsFor};
+ghost use Rattle.rfb_session.specs.Latest.{composing_in};
+
+// What a link begins with beside its ends: no composing yet, and the server's greeting in flight.
+fn opening(alloc: Global, server: &Server) -> Result<(Latest, Channel), AllocError>
+    ensures none { IfOk result (λ link. composing_in link.0 ≡ None) }
+    ensures room { IfOk result (λ link.
+        HasRoom link.0 (screen_of server.now).width (screen_of server.now).height) }
+    ensures greeting { IfOk result (λ link. (serving : Serving) (s : ServerState)
+        (prefix : List ℕ) → ServerStandsFor serving server.now s prefix →
+        link.1 ≡ version_text serving.hello.offer) }
+{
+    let mut to_viewer = Channel::new(alloc);
+    to_viewer.send(&server.greeting())?;
+    let screen = server.screen();
+    let latest = Latest::new(alloc, screen.width(), screen.height())?;
+    Ok((latest, to_viewer))
 }
 
 #[cfg(test)]

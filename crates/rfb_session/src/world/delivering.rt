@@ -5,10 +5,11 @@ ghost use Rattle.std.specs.Prelude.{true, false, Some, None, IfOk, IfErr, OnOk, 
 ghost use Rattle.rfb_viewer.specs.declared.fault.ViewerFault.TheVariants.{NoMemory as ViewerWants};
 ghost use Rattle.rfb_server.specs.declared.fault.ServerFault.TheVariants.{NoMemory as ServerWants};
 
+use crate::reply::{server_reply, viewer_reply};
 use crate::told::NoMemory;
 use crate::world::World;
-use rfb_server::{ServerEvent, ServerFault};
-use rfb_viewer::{ViewerEvent, ViewerFault};
+use rfb_server::ServerFault;
+use rfb_viewer::ViewerFault;
 
 impl World {
     ghost use Rattle.rfb_server.specs.declared.fault.ServerFault.{ServerFault};
@@ -108,47 +109,12 @@ impl World {
     }
 }
 
-ghost use Rattle.rfb_viewer.specs.Told.{seen as seen_by_viewer};
-ghost use Rattle.rfb_session.specs.InFlight.{viewer_reply as reply_of_viewer};
-
-// The bytes that are sent for what a viewer tells.
-fn viewer_reply(event: &Option<ViewerEvent>) -> &[u8]
-    ensures { result.now ≡ reply_of_viewer (seen_by_viewer event.now) }
-{
-    match event {
-        Some(ViewerEvent::Reply(reply)) => reply.as_slice(),
-        Some(ViewerEvent::Ready { reply, .. }) => reply.as_slice(),
-        Some(ViewerEvent::UpdateDone)
-        | Some(ViewerEvent::Bell)
-        | Some(ViewerEvent::CutText { .. })
-        | Some(ViewerEvent::ColourMapSkipped)
-        | None => &[],
-    }
-}
-
 // Whether it is want of memory that the viewer has failed with.
 fn viewer_wants_memory(fault: ViewerFault) -> bool
     ensures wants { result ≡ true → fault ≡ ViewerWants }
     ensures other { result ≡ false → fault ≢ ViewerWants }
 {
     matches!(fault, ViewerFault::NoMemory)
-}
-
-ghost use Rattle.rfb_server.specs.Told.{seen as seen_by_server};
-ghost use Rattle.rfb_session.specs.InFlight.{server_reply as reply_of_server};
-
-// The bytes that are sent for what a server tells.
-fn server_reply(event: &Option<ServerEvent>) -> &[u8]
-    ensures { result.now ≡ reply_of_server (seen_by_server event.now) }
-{
-    match event {
-        Some(ServerEvent::Reply(reply)) => reply.as_slice(),
-        Some(ServerEvent::Ready { reply, .. }) => reply.as_slice(),
-        Some(ServerEvent::Key { .. })
-        | Some(ServerEvent::Pointer { .. })
-        | Some(ServerEvent::CutText { .. })
-        | None => &[],
-    }
 }
 
 // Whether it is want of memory that the server has failed with.

@@ -1,6 +1,7 @@
-use Rattle.std.proofs.Common.{length, refl}
+use Rattle.std.proofs.Common.{◌≡◌, List, IsErr, OnOk, ◌↔◌, length, refl, subst}
+use Rattle.rfb_pixel.specs.declared.colour.Colour.{Colour}
 use Rattle.rfb_picture.specs.Grid.{Holds, with_row}
-use Rattle.rfb_server.specs.Standing.{row_from}
+use Rattle.rfb_server.specs.Standing.{Draws, row_from, screen_of}
 use Rattle.rfb_session.proofs.DrawnLemmas.{drawn, held_or_not, room_drawn}
 use Rattle.rfb_session.proofs.world.World.put.Goals as goal
 
@@ -12,11 +13,18 @@ invariant_of-self c = record {
 
 pub returns-clause-does : goal.returns-clause-does
 returns-clause-does c = λ e n made reached stands.
+    let is : c.deref.result.now ≡ c.args.row.now.items = c.deref.ensures.value in
+    let refused = subst (λ (xs : List Colour).
+    IsErr c.put.result ↔ (Holds (screen_of c.args.self.now.server)
+    (row_from c.args.x c.args.y (length xs)) → ⊥)) is c.put.ensures.refused in
+    let shown = subst (λ (xs : List Colour). OnOk c.put.result
+    (Draws (with_row c.args.x c.args.y xs (screen_of c.args.self.now.server))
+    c.args.self.now.server c.put.new.self)) is c.put.ensures.drawn in
+    let row = row_from c.args.x c.args.y (length c.args.row.now.items) in
     let one = drawn e c.args.self.now _ n c.told_of.result.refused c.put.result
-    (λ g. Holds g (row_from c.args.x c.args.y (length c.args.row.now.items)))
+    (λ g. Holds g row)
     (λ g. with_row c.args.x c.args.y c.args.row.now.items g)
-    (held_or_not (row_from c.args.x c.args.y (length c.args.row.now.items))) (rw c.deref.ensures.value at c.put.ensures.refused) c.put.ensures.kept
-    (rw c.deref.ensures.value at c.put.ensures.drawn)
+    (held_or_not row) refused c.put.ensures.kept shown
     (record { viewer = refl; to_server = refl; to_viewer = refl; latest = refl; closed = refl })
     c.told_of.ensures.refused stands in (
       one.0,
