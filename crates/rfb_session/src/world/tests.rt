@@ -1,17 +1,17 @@
 //! Worlds of two ends of ours.
 
 ghost use Rattle.std.specs.Prelude.{◌≤◌};
-ghost use Rattle.rfb_session.specs.World.{HasFewBytes};
 
 mod calls;
 mod cuts;
 mod failed;
 mod lists;
 mod machine;
+mod memory;
 
 use super::World;
 use crate::event::Event;
-use crate::told::Refused;
+use crate::told::{Refused, Told};
 use arrayvec::ArrayVec;
 use rfb_hello::Version;
 use rfb_picture::Rect;
@@ -82,47 +82,52 @@ fn shown(world: &World, x: u16) -> Option<Colour> {
     }
 }
 
+// What an event does; `None` where memory is wanting, or where its text is longer than an event's
+// may be.
+fn step(world: &mut World, event: &Event) -> Option<Told> {
+    match event {
+        Event::CutText(text) if text.len() > 1_048_576 => None,
+        event => world.step(event).ok(),
+    }
+}
+
 // Whether an event is taken.
-fn takes(world: &mut World, event: Event) -> bool
-    requires few { HasFewBytes event }
-{
-    match world.step(&event) {
-        Ok(told) => told.refused.is_none(),
-        Err(_) => false,
+fn takes(world: &mut World, event: Event) -> bool {
+    match step(world, &event) {
+        Some(told) => told.refused.is_none(),
+        None => false,
     }
 }
 
 // Whether an event is refused so.
-fn refuses(world: &mut World, event: Event, refused: Refused) -> bool
-    requires few { HasFewBytes event }
-{
-    match world.step(&event) {
-        Ok(told) => told.refused == Some(refused),
-        Err(_) => false,
+fn refuses(world: &mut World, event: Event, refused: Refused) -> bool {
+    match step(world, &event) {
+        Some(told) => told.refused == Some(refused),
+        None => false,
     }
 }
 
 // Whether an update is composed.
 fn composes(world: &mut World) -> bool {
-    match world.step(&Event::Compose) {
-        Ok(told) => told.composed,
-        Err(_) => false,
+    match step(world, &Event::Compose) {
+        Some(told) => told.composed,
+        None => false,
     }
 }
 
 // How many of so many bytes reach the server.
 fn to_server(world: &mut World, count: u32) -> u32 {
-    match world.step(&Event::ToServer(count)) {
-        Ok(told) => told.moved,
-        Err(_) => 0,
+    match step(world, &Event::ToServer(count)) {
+        Some(told) => told.moved,
+        None => 0,
     }
 }
 
 // How many of so many bytes reach the viewer.
 fn to_viewer(world: &mut World, count: u32) -> u32 {
-    match world.step(&Event::ToViewer(count)) {
-        Ok(told) => told.moved,
-        Err(_) => 0,
+    match step(world, &Event::ToViewer(count)) {
+        Some(told) => told.moved,
+        None => 0,
     }
 }
 

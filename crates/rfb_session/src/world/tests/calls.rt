@@ -1,8 +1,5 @@
 //! Calls and drawings: what is taken, how the rest is refused, and how long messages are.
 
-ghost use Rattle.std.specs.Prelude.{◌≤◌, IfOk};
-ghost use Rattle.rfb_session.specs.World.{HasFewBytes};
-
 use super::*;
 
 const FOUR: Rect = Rect {
@@ -46,14 +43,19 @@ fn may_be_drawn_on(world: &mut World) -> bool {
         )
 }
 
+fn refuses_calls(alloc: Global) -> Result<(bool, u32, u32), AllocError> {
+    let mut world = row_of(alloc, 2)?;
+    let refused = waits_for_the_handshake(&mut world) && may_be_drawn_on(&mut world);
+    let (server, viewer) = (to_server(&mut world, ALL), to_viewer(&mut world, ALL));
+    drop(world);
+    Ok((refused, server, viewer))
+}
+
 #[test]
 fn a_call_before_the_handshake_is_refused(rt: HostRuntime) -> Result<(), AllocError> {
-    let mut world = row_of(rt.alloc(), 2)?;
-    let refused = waits_for_the_handshake(&mut world) && may_be_drawn_on(&mut world);
-    assert!(rt; refused);
+    let refused = refuses_calls(rt.alloc())?;
     // The greeting alone is in flight.
-    let in_flight = (to_server(&mut world, ALL), to_viewer(&mut world, ALL));
-    assert_eq!(rt; in_flight, (0, 12));
+    assert_eq!(rt; refused, (true, 0, 12));
     Ok(())
 }
 
@@ -67,18 +69,23 @@ fn judges_requests(world: &mut World) -> bool {
         && to_server(world, ALL) == 10
 }
 
+fn judges_in_order(alloc: Global) -> Result<bool, AllocError> {
+    let mut world = row_of(alloc, 2)?;
+    let judged = judges_requests(&mut world);
+    drop(world);
+    Ok(judged)
+}
+
 #[test]
 fn a_request_is_judged_by_what_is_outstanding_and_then_by_its_area(
     rt: HostRuntime,
 ) -> Result<(), AllocError> {
-    let mut world = row_of(rt.alloc(), 2)?;
-    assert!(rt; judges_requests(&mut world));
+    let judged = judges_in_order(rt.alloc())?;
+    assert!(rt; judged);
     Ok(())
 }
 
-fn two_encodings() -> Event
-    ensures { HasFewBytes result }
-{
+fn two_encodings() -> Event {
     let mut encodings = ArrayVec::new();
     encodings.push(Encoding::Hextile);
     encodings.push(Encoding::CopyRect);
@@ -86,9 +93,7 @@ fn two_encodings() -> Event
 }
 
 // How many bytes a call puts in flight to the server.
-fn size_of(world: &mut World, event: Event) -> u32
-    requires few { HasFewBytes event }
-{
+fn size_of(world: &mut World, event: Event) -> u32 {
     if takes(world, event) {
         to_server(world, ALL)
     } else {
@@ -96,35 +101,40 @@ fn size_of(world: &mut World, event: Event) -> u32
     }
 }
 
+fn sizes_in(world: &mut World, text: Event) -> [u32; 4] {
+    settle(world);
+    [
+        size_of(world, Event::Key(true, 97)),
+        size_of(world, Event::Pointer(1, 1, 0)),
+        size_of(world, two_encodings()),
+        size_of(world, text),
+    ]
+}
+
+fn sizes_of_calls(alloc: Global) -> Result<[u32; 4], AllocError> {
+    let text = text_of(alloc, 2000)?;
+    let mut world = row_of(alloc, 2)?;
+    let sizes = sizes_in(&mut world, text);
+    drop(world);
+    Ok(sizes)
+}
+
 #[test]
 fn each_call_is_a_message_of_its_size(rt: HostRuntime) -> Result<(), AllocError> {
-    let text = text_of(rt.alloc(), 2000)?;
-    let mut world = row_of(rt.alloc(), 2)?;
-    settle(&mut world);
-    let sizes = [
-        size_of(&mut world, Event::Key(true, 97)),
-        size_of(&mut world, Event::Pointer(1, 1, 0)),
-        size_of(&mut world, two_encodings()),
-        size_of(&mut world, text),
-    ];
+    let sizes = sizes_of_calls(rt.alloc())?;
     assert_eq!(rt; sizes, [8, 6, 12, 2008]);
     Ok(())
 }
 
 // A text of so many letters.
-fn text_of(alloc: Global, count: usize) -> Result<Event, AllocError>
-    requires { count ≤ 1048576 }
-    ensures few { IfOk result (λ event. HasFewBytes event) }
-{
+fn text_of(alloc: Global, count: usize) -> Result<Event, AllocError> {
     let mut text = Vec::new(alloc);
     text.resize(count, b'A')?;
     Ok(Event::CutText(text))
 }
 
 // A row of black and orange, from a column on.
-fn row_from(alloc: Global, x: u16) -> Result<Event, AllocError>
-    ensures few { IfOk result (λ event. HasFewBytes event) }
-{
+fn row_from(alloc: Global, x: u16) -> Result<Event, AllocError> {
     let row = [BLACK, ORANGE].to_vec(alloc)?;
     Ok(Event::Put(x, 0, row))
 }
@@ -138,23 +148,32 @@ fn shown_behind_an_update(world: &mut World) -> [Option<Colour>; 2] {
     [shown(world, 0), shown(world, 1)]
 }
 
+// What both places show of a row, where one that leaves the screen was refused before.
+fn shown_of_a_row(world: &mut World, outside: Event, row: Event) -> Option<[Option<Colour>; 2]> {
+    if refuses(world, outside, Refused::Outside) && takes(world, row) {
+        Some(shown_behind_an_update(world))
+    } else {
+        None
+    }
+}
+
+fn puts_a_row(alloc: Global) -> Result<Option<[Option<Colour>; 2]>, AllocError> {
+    let row = row_from(alloc, 0)?;
+    let outside = row_from(alloc, 1)?;
+    let mut world = row_of(alloc, 2)?;
+    let shown = shown_of_a_row(&mut world, outside, row);
+    drop(world);
+    Ok(shown)
+}
+
 #[test]
 fn a_row_is_put(rt: HostRuntime) -> Result<(), AllocError> {
-    let row = row_from(rt.alloc(), 0)?;
-    let outside = row_from(rt.alloc(), 1)?;
-    let mut world = row_of(rt.alloc(), 2)?;
-    let put = refuses(&mut world, outside, Refused::Outside) && takes(&mut world, row);
-    assert!(rt; put);
-    assert_eq!(rt;
-        shown_behind_an_update(&mut world),
-        [Some(BLACK), Some(ORANGE)]
-    );
+    let shown = puts_a_row(rt.alloc())?;
+    assert_eq!(rt; shown, Some([Some(BLACK), Some(ORANGE)]));
     Ok(())
 }
 
-fn copy_rect_alone() -> Event
-    ensures { HasFewBytes result }
-{
+fn copy_rect_alone() -> Event {
     let mut encodings = ArrayVec::new();
     encodings.push(Encoding::CopyRect);
     Event::SetEncodings(encodings)
@@ -186,11 +205,18 @@ fn copies(world: &mut World) -> (u32, u32, Option<Colour>) {
     (pixels, copy, shown(world, 3))
 }
 
+fn copies_on_a_row(alloc: Global) -> Result<(u32, u32, Option<Colour>), AllocError> {
+    let mut world = row_of(alloc, 4)?;
+    let copied = copies(&mut world);
+    drop(world);
+    Ok(copied)
+}
+
 #[test]
 fn a_hinted_copy_arrives_as_its_source(rt: HostRuntime) -> Result<(), AllocError> {
-    let mut world = row_of(rt.alloc(), 4)?;
+    let copied = copies_on_a_row(rt.alloc())?;
     // Behind two heads of 4 and 12 bytes: four pixels of four bytes; then a column and a row, where
     // two pixels would be 8 bytes.
-    assert_eq!(rt; copies(&mut world), (32, 20, Some(ORANGE)));
+    assert_eq!(rt; copied, (32, 20, Some(ORANGE)));
     Ok(())
 }

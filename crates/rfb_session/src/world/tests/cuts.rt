@@ -1,7 +1,5 @@
 //! Items that arrive in pieces: byte by byte, and an update that is cut at each of its bytes.
 
-ghost use Rattle.rfb_session.specs.World.{HasFewBytes};
-
 use super::*;
 
 // How many bytes arrive each way, a byte at a time, until none is in flight.
@@ -28,16 +26,21 @@ fn runs_in_single_bytes(world: &mut World) -> bool {
         && shown(world, 0) == Some(ORANGE)
 }
 
+fn arrives_in_single_bytes(alloc: Global) -> Result<bool, AllocError> {
+    let mut world = row_of(alloc, 1)?;
+    let arrived = runs_in_single_bytes(&mut world);
+    drop(world);
+    Ok(arrived)
+}
+
 #[test]
 fn a_session_arrives_in_single_bytes(rt: HostRuntime) -> Result<(), AllocError> {
-    let mut world = row_of(rt.alloc(), 1)?;
-    assert!(rt; runs_in_single_bytes(&mut world));
+    let arrived = arrives_in_single_bytes(rt.alloc())?;
+    assert!(rt; arrived);
     Ok(())
 }
 
-fn rgb565() -> Event
-    ensures { HasFewBytes result }
-{
+fn rgb565() -> Event {
     Event::SetFormat(Format::rgb565())
 }
 
@@ -64,7 +67,14 @@ fn changes_format(world: &mut World, before: u32) -> bool {
         && shown(world, 1) == Some(BLACK)
 }
 
-fn waits_when_cut_at(world: &mut World, count: u32) -> bool {
+fn waits_when_cut_at(alloc: Global, count: u32) -> Result<bool, AllocError> {
+    let mut world = row_of(alloc, 2)?;
+    let waits = waits_in(&mut world, count);
+    drop(world);
+    Ok(waits)
+}
+
+fn waits_in(world: &mut World, count: u32) -> bool {
     is_cut_at(world, count)
         && refuses(world, rgb565(), Refused::Busy)
         && to_viewer(world, ALL) == 24_u32.saturating_sub(count)
@@ -75,16 +85,26 @@ fn waits_when_cut_at(world: &mut World, count: u32) -> bool {
 #[test]
 fn a_format_waits_for_an_update_that_is_cut_anywhere(rt: HostRuntime) -> Result<(), AllocError> {
     for count in 0..24 {
-        let mut world = row_of(rt.alloc(), 2)?;
-        assert!(rt; waits_when_cut_at(&mut world, count), "cut at {count}");
+        let waits = waits_when_cut_at(rt.alloc(), count)?;
+        assert!(rt; waits, "cut at {count}");
     }
     Ok(())
 }
 
+fn is_taken_and_again(world: &mut World) -> bool {
+    is_cut_at(world, 24) && takes(world, rgb565()) && changes_format(world, 20)
+}
+
+fn takes_a_format_twice(alloc: Global) -> Result<bool, AllocError> {
+    let mut world = row_of(alloc, 2)?;
+    let taken = is_taken_and_again(&mut world);
+    drop(world);
+    Ok(taken)
+}
+
 #[test]
 fn a_format_is_taken_behind_a_whole_update_and_again(rt: HostRuntime) -> Result<(), AllocError> {
-    let mut world = row_of(rt.alloc(), 2)?;
-    let whole = is_cut_at(&mut world, 24);
-    assert!(rt; whole && takes(&mut world, rgb565()) && changes_format(&mut world, 20));
+    let taken = takes_a_format_twice(rt.alloc())?;
+    assert!(rt; taken);
     Ok(())
 }

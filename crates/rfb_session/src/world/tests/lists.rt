@@ -73,22 +73,33 @@ fn events_of(alloc: Global, list: List) -> Result<Vec<Event>, AllocError>
     Ok(events)
 }
 
+fn shown_behind_single_bytes(alloc: Global) -> Result<Option<Colour>, AllocError> {
+    let events = events_of(alloc, List::SingleBytes)?;
+    let mut world = row_of(alloc, 1)?;
+    let shown = match world.run(&events) {
+        Ok(()) => shown(&world, 0),
+        Err(_) => None,
+    };
+    drop(world);
+    Ok(shown)
+}
+
 #[test]
 fn a_session_in_single_bytes_is_one_list(rt: HostRuntime) -> Result<(), AllocError> {
-    let events = events_of(rt.alloc(), List::SingleBytes)?;
-    let mut world = row_of(rt.alloc(), 1)?;
-    let shown = world.run(&events).is_ok() && shown(&world, 0) == Some(ORANGE);
-    assert!(rt; shown);
+    let shown = shown_behind_single_bytes(rt.alloc())?;
+    assert_eq!(rt; shown, Some(ORANGE));
     Ok(())
 }
 
 // Both places, behind the list.
 fn shown_after_another_format(alloc: Global) -> Result<[Option<Colour>; 2], AllocError> {
     let events = events_of(alloc, List::AnotherFormat)?;
-    match World::played(alloc, 2, 1, &events) {
-        Ok(world) => Ok([shown(&world, 0), shown(&world, 1)]),
-        Err(_) => Ok([None, None]),
-    }
+    let Ok(world) = World::played(alloc, 2, 1, &events) else {
+        return Ok([None, None]);
+    };
+    let shown = [shown(&world, 0), shown(&world, 1)];
+    drop(world);
+    Ok(shown)
 }
 
 #[test]

@@ -1,7 +1,7 @@
 //! Worlds of each two versions, each format and each order of encodings, run by events that are
 //! drawn by lot, against a plain machine of messages and places.
 
-ghost use Rattle.std.specs.Prelude.{◌≤◌, ◌<◌, IfOk};
+ghost use Rattle.std.specs.Prelude.{◌≤◌};
 
 mod beside;
 mod lot;
@@ -96,7 +96,9 @@ fn updates_of(alloc: Global, number: u16, count: u32) -> Result<Option<u32>, All
     let height = 1 + lot.up_to(3);
     let mut plain = plain_of(alloc, number, width, height)?;
     let mut world = world_of(alloc, number, width, height)?;
-    beside::updates_of(&mut world, &mut plain, alloc, &mut lot, count)
+    let updates = beside::updates_of(&mut world, &mut plain, alloc, &mut lot, count);
+    drop(world);
+    updates
 }
 
 #[test]

@@ -1,20 +1,16 @@
 //! A world and the plain machine, at the same events.
 
-ghost use Rattle.std.specs.Prelude.{◌≤◌, IfOk};
-ghost use Rattle.rfb_session.specs.World.{HasFewBytes};
-
 use super::lot::Lot;
 use super::plain::Plain;
 use crate::event::Event;
 use crate::world::World;
+use crate::world::tests::step;
 use std::alloc::{AllocError, Global};
 
 // Whether both answer an event alike, and are alike behind it.
-fn is_alike(world: &mut World, plain: &mut Plain, event: &Event) -> Result<bool, AllocError>
-    requires few { HasFewBytes event.now }
-{
+fn is_alike(world: &mut World, plain: &mut Plain, event: &Event) -> Result<bool, AllocError> {
     let before = world.to_viewer.len();
-    let Ok(told) = world.step(event) else {
+    let Some(told) = step(world, event) else {
         return Ok(false);
     };
     let refused = plain.refusal(event)?;

@@ -1,7 +1,6 @@
 //! Events drawn by lot, the same for the same seed.
 
-ghost use Rattle.std.specs.Prelude.{◌≤◌, IfOk};
-ghost use Rattle.rfb_session.specs.World.{HasFewBytes};
+ghost use Rattle.std.specs.Prelude.{◌≤◌};
 
 use super::{encodings_of, format_of};
 use crate::event::Event;
@@ -37,9 +36,7 @@ impl Lot {
         alloc: Global,
         width: u16,
         height: u16,
-    ) -> Result<Event, AllocError>
-        ensures few { IfOk result (λ event. HasFewBytes event) }
-    {
+    ) -> Result<Event, AllocError> {
         let rect = self.rect(width, height);
         match self.up_to(31) {
             0..=7 => Ok(Event::ToServer(self.count())),
@@ -102,9 +99,7 @@ impl Lot {
         self.up_to(255) as u8
     }
 
-    fn drawing(&mut self, rect: Rect) -> Event
-        ensures { HasFewBytes result }
-    {
+    fn drawing(&mut self, rect: Rect) -> Event {
         let (x, y) = (self.up_to(4), self.up_to(2));
         match self.up_to(3) {
             0 => Event::Copy(rect, x, y),
@@ -113,9 +108,7 @@ impl Lot {
         }
     }
 
-    fn row(&mut self, alloc: Global, rect: Rect) -> Result<Event, AllocError>
-        ensures few { IfOk result (λ event. HasFewBytes event) }
-    {
+    fn row(&mut self, alloc: Global, rect: Rect) -> Result<Event, AllocError> {
         let mut row = Vec::new(alloc);
         for _ in 0..rect.w {
             row.push(self.colour())?;
@@ -123,17 +116,13 @@ impl Lot {
         Ok(Event::Put(rect.x, rect.y, row))
     }
 
-    fn text(&mut self, alloc: Global) -> Result<Event, AllocError>
-        ensures few { IfOk result (λ event. HasFewBytes event) }
-    {
+    fn text(&mut self, alloc: Global) -> Result<Event, AllocError> {
         let mut text = Vec::new(alloc);
         text.resize(usize::from(self.up_to(40)), b'A')?;
         Ok(Event::CutText(text))
     }
 
-    fn call(&mut self) -> Event
-        ensures { HasFewBytes result }
-    {
+    fn call(&mut self) -> Event {
         match self.up_to(3) {
             0 => Event::SetFormat(format_of(self.up_to(2))),
             1 => Event::SetEncodings(encodings_of(self.up_to(27))),
