@@ -28,3 +28,18 @@ for line in gzip.open(sys.argv[1], "rt"):
     sys.stdout.buffer.write(place + bytes.fromhex(rest[4]) + b"\0")
 END
 }
+
+# feeds WHAT PROGRAM HEAD: runs the program on the bytes that the Python expression HEAD makes, and
+# the fills behind them; prints as WHAT the instructions of its `feed_all`, a place and a byte, and
+# what it told.
+feeds() {
+  local told
+  python3 -c "import struct, sys; sys.stdout.buffer.write($3)" | cat - "$copy/fills" > input
+  told=$("$2" < input)
+  valgrind --tool=callgrind --callgrind-out-file=/dev/null --toggle-collect='*feed_all*' \
+    "$2" < input 2>&1 \
+    | awk -v what="$1" -v told="$told" '/Collected/ {
+        split(told, t)
+        printf "%s: %.2f a place, %.1f a byte; %s\n", what, $4 / 2073600, $4 / t[6], told
+      }'
+}

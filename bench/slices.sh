@@ -18,15 +18,8 @@ formats=(rgb888 rgb565 bgr233)
 
 # codec, format and size of slices
 measure() {
-  local told head="bytes([$1, $2, 1, 0]) + struct.pack('>H', $3)"
-  python3 -c "import struct, sys; sys.stdout.buffer.write($head)" | cat - "$copy/fills" > input
-  told=$(out/slices < input)
-  valgrind --tool=callgrind --callgrind-out-file=/dev/null --toggle-collect='*feed_all*' \
-    out/slices < input 2>&1 \
-    | awk -v what="${codecs[$1]} at ${formats[$2]}, slices of $3" -v told="$told" '/Collected/ {
-        split(told, t)
-        printf "%s: %.2f a place, %.1f a byte; %s\n", what, $4 / 2073600, $4 / t[6], told
-      }'
+  feeds "${codecs[$1]} at ${formats[$2]}, slices of $3" out/slices \
+    "bytes([$1, $2, 1, 0]) + struct.pack('>H', $3)"
 }
 
 for format in 0 1 2; do

@@ -14,21 +14,9 @@ cd "$copy/crates/viewer"
 rt run < /dev/null > build.log 2>&1 || true # it ends with a fault, since it has nothing to read
 codecs=(Raw RRE Hextile)
 
-# codec and size of slices
-measure() {
-  local told head="bytes([$1, 0]) + struct.pack('>H', $2)"
-  python3 -c "import struct, sys; sys.stdout.buffer.write($head)" | cat - "$copy/fills" > input
-  told=$(out/viewer < input)
-  valgrind --tool=callgrind --callgrind-out-file=/dev/null --toggle-collect='*feed_all*' \
-    out/viewer < input 2>&1 \
-    | awk -v what="${codecs[$1]}, slices of $2" -v told="$told" '/Collected/ {
-        split(told, t)
-        printf "%s: %.2f a place, %.1f a byte; %s\n", what, $4 / 2073600, $4 / t[6], told
-      }'
-}
-
 for size in 4096 1; do
   for codec in 0 1 2; do
-    measure $codec $size
+    feeds "${codecs[$codec]}, slices of $size" out/viewer \
+      "bytes([$codec, 0]) + struct.pack('>H', $size)"
   done
 done
