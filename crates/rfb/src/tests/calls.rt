@@ -1,6 +1,7 @@
 //! Calls of `command` over memory, and the script that most tests begin with.
 
 use crate::command_line::command;
+use std::alloc::AllocError;
 
 /// What a call of `command` answered, and what it wrote.
 #[derive(Drop)]
@@ -8,6 +9,20 @@ pub struct Ended {
     pub status: u8,
     pub output: Vec<u8>,
     pub errors: Vec<u8>,
+}
+
+impl Ended {
+    /// Whether it answered this status, wrote this, and this on errors.
+    pub fn is(&self, status: u8, output: &[u8], errors: &[u8]) -> bool {
+        self.status == status
+            && self.output.as_slice() == output
+            && self.errors.as_slice() == errors
+    }
+
+    /// Whether it answered this status, and wrote this on errors.
+    pub fn tells(&self, status: u8, errors: &[u8]) -> bool {
+        self.status == status && self.errors.as_slice() == errors
+    }
 }
 
 /// The words that run a script.
@@ -41,4 +56,13 @@ pub fn call(rt: &HostRuntime, words: &[&str], mut input: &[u8]) -> Ended {
 /// A run of a script.
 pub fn run(rt: &HostRuntime, script: &[u8]) -> Ended {
     call(rt, SCRIPT.as_slice(), script)
+}
+
+/// A run of a script that stands in parts.
+pub fn run_all(rt: &HostRuntime, parts: &[&[u8]]) -> Result<Ended, AllocError> {
+    let mut script = Vec::new(rt.alloc());
+    for part in parts {
+        script.extend_from_slice(part)?;
+    }
+    Ok(run(rt, &script))
 }

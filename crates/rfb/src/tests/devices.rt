@@ -1,10 +1,9 @@
 //! Inputs and outputs that fail.
 
-use super::calls::{FILL_LEFT_PLACE, LEFT_PLACE_FILLED, SCRIPT};
+use super::calls::{Ended, LEFT_PLACE_FILLED, SCRIPT};
 use crate::command_line::command;
 use std::io;
 use std::io::{ErrorKind, Read, Write};
-use std::test::Fail;
 
 /// Gives its bytes, and then fails.
 #[derive(Drop)]
@@ -45,6 +44,42 @@ impl Write for FailingWriter {
         } else {
             Err(io::Error::from(ErrorKind::BrokenPipe))
         }
+    }
+}
+
+/// A call whose input gives these bytes, and then fails.
+pub fn call_on_failing_input(
+    rt: &HostRuntime,
+    words: &[&str],
+    bytes: &[u8],
+    kind: ErrorKind,
+) -> Ended {
+    let mut input = FailingReader { bytes, kind };
+    let mut output = Vec::new(rt.alloc());
+    let mut errors = Vec::new(rt.alloc());
+    let status = command(rt, words, &mut input, &mut output, &mut errors);
+    Ended {
+        status,
+        output,
+        errors,
+    }
+}
+
+/// A call whose output has this room, and then fails. What was written there is not told.
+pub fn call_to_failing_output(
+    rt: &HostRuntime,
+    words: &[&str],
+    mut input: &[u8],
+    room: usize,
+    can_flush: bool,
+) -> Ended {
+    let mut output = FailingWriter { room, can_flush };
+    let mut errors = Vec::new(rt.alloc());
+    let status = command(rt, words, &mut input, &mut output, &mut errors);
+    Ended {
+        status,
+        output: Vec::new(rt.alloc()),
+        errors,
     }
 }
 
@@ -117,92 +152,84 @@ line 4: refused 24 Outside
 fault 29 Device
 ";
     for (room, can_flush) in FAILING_OUTPUTS {
-        let mut input = script.as_slice();
-        let mut output = FailingWriter { room, can_flush };
-        let mut errors = Vec::new(rt.alloc());
         let words = SCRIPT.as_slice();
-        let status = command(&rt, words, &mut input, &mut output, &mut errors);
-        assert_eq!(rt; errors.as_slice(), told.as_slice(), "room {room}");
-        assert_eq!(rt; status, 1, "room {room}");
+        let ended = call_to_failing_output(&rt, words, script, room, can_flush);
+        assert!(rt; ended.tells(1, told), "room {room}");
     }
 }
 
 #[test]
 fn help_that_cannot_be_written_is_a_fault(rt: HostRuntime) {
     for (room, can_flush) in [(0, true), (5, true), (usize::MAX, false)] {
-        let mut input = b"".as_slice();
-        let mut output = FailingWriter { room, can_flush };
-        let mut errors = Vec::new(rt.alloc());
         let words = ["rfb", "--help"].as_slice();
-        let status = command(&rt, words, &mut input, &mut output, &mut errors);
-        assert_eq!(rt;
-            errors.as_slice(),
-            b"fault 29 Device\n".as_slice(),
-            "room {room}"
-        );
-        assert_eq!(rt; status, 1, "room {room}");
+        let ended = call_to_failing_output(&rt, words, b"", room, can_flush);
+        assert!(rt; ended.tells(1, b"fault 29 Device\n"), "room {room}");
     }
 }
+
+// Inputs that fail behind these bytes, by their kind, and what is told.
+const FAILING_INPUTS: [(&[u8], ErrorKind, &[u8]); 4] = [
+    (b"", ErrorKind::Other, b"fault 29 Device\n"),
+    (
+        b"screen 2 1\nsettle\n",
+        ErrorKind::Other,
+        b"fault 29 Device\n",
+    ),
+    // Not even a bad line is told.
+    (
+        b"screen 2 1\nsettler\n",
+        ErrorKind::TimedOut,
+        b"fault 29 Device\n",
+    ),
+    (
+        b"screen 2 1\nsettle\n",
+        ErrorKind::OutOfMemory,
+        b"fault 30 NoMemory\n",
+    ),
+];
 
 #[test]
 fn a_failing_input_is_told_and_nothing_runs(rt: HostRuntime) {
-    for (bytes, kind, told) in [
-        (
-            b"".as_slice(),
-            ErrorKind::Other,
-            b"fault 29 Device\n".as_slice(),
-        ),
-        (
-            b"screen 2 1\nsettle\n".as_slice(),
-            ErrorKind::Other,
-            b"fault 29 Device\n".as_slice(),
-        ),
-        // Not even a bad line is told.
-        (
-            b"screen 2 1\nsettler\n".as_slice(),
-            ErrorKind::TimedOut,
-            b"fault 29 Device\n".as_slice(),
-        ),
-        (
-            b"screen 2 1\nsettle\n".as_slice(),
-            ErrorKind::OutOfMemory,
-            b"fault 30 NoMemory\n".as_slice(),
-        ),
-    ] {
-        let mut input = FailingReader { bytes, kind };
-        let mut output = Vec::new(rt.alloc());
-        let mut errors = Vec::new(rt.alloc());
-        let words = SCRIPT.as_slice();
-        let status = command(&rt, words, &mut input, &mut output, &mut errors);
-        assert_eq!(rt; errors.as_slice(), told);
-        assert_eq!(rt; output.as_slice(), b"".as_slice());
-        assert_eq!(rt; status, 1);
+    for (bytes, kind, told) in FAILING_INPUTS {
+        let ended = call_on_failing_input(&rt, SCRIPT.as_slice(), bytes, kind);
+        assert!(rt; ended.is(1, b"", told));
     }
 }
 
+// A refusal, and the picture all the same.
+const REFUSED: &[u8] = b"screen 2 1
+fill 0 0 1 1 FF8001
+settle
+request full 0 0 2 1
+settle
+compose
+settle
+fill 2 0 1 1 000000";
+
+// Whether a call whose errors fail gives this status and writes this.
+fn changes_nothing(
+    rt: &HostRuntime,
+    words: &[&str],
+    mut input: &[u8],
+    status: u8,
+    written: &[u8],
+) -> bool {
+    let mut output = Vec::new(rt.alloc());
+    let mut errors = FailingWriter {
+        room: 3,
+        can_flush: true,
+    };
+    let answered = command(rt, words, &mut input, &mut output, &mut errors);
+    answered == status && output.as_slice() == written
+}
+
 #[test]
-fn failing_errors_change_no_status(rt: HostRuntime) -> Result<(), Fail> {
+fn failing_errors_change_no_status(rt: HostRuntime) {
     let script = SCRIPT.as_slice();
-    let paint = ["rfb", "paint"].as_slice();
-    // A refusal, and the picture all the same.
-    let mut refused = FILL_LEFT_PLACE.to_vec(rt.alloc())?;
-    refused.extend_from_slice(b"fill 2 0 1 1 000000")?;
     let unready = b"screen 2 1\nfill 2 0 1 1 000000\n".as_slice();
     let bad = b"screen 2 1\npaint\n".as_slice();
-    for (words, mut input, status, written) in [
-        (script, refused.as_slice(), 0, LEFT_PLACE_FILLED),
-        (script, unready, 1, b"".as_slice()),
-        (script, bad, 1, b"".as_slice()),
-        (paint, b"".as_slice(), 2, b"".as_slice()),
-    ] {
-        let mut output = Vec::new(rt.alloc());
-        let mut errors = FailingWriter {
-            room: 3,
-            can_flush: true,
-        };
-        let answered = command(&rt, words, &mut input, &mut output, &mut errors);
-        assert_eq!(rt; output.as_slice(), written);
-        assert_eq!(rt; answered, status);
-    }
-    Ok(())
+    assert!(rt; changes_nothing(&rt, script, REFUSED, 0, LEFT_PLACE_FILLED));
+    assert!(rt; changes_nothing(&rt, script, unready, 1, b""));
+    assert!(rt; changes_nothing(&rt, script, bad, 1, b""));
+    assert!(rt; changes_nothing(&rt, ["rfb", "paint"].as_slice(), b"", 2, b""));
 }

@@ -1,6 +1,6 @@
 //! Which lines a script may have.
 
-use super::calls::{FILL_LEFT_PLACE, LEFT_PLACE_FILLED, run};
+use super::calls::{FILL_LEFT_PLACE, LEFT_PLACE_FILLED, run, run_all};
 use std::test::Fail;
 
 // Lines that are bad wherever they stand after the first, each for one reason.
@@ -96,132 +96,106 @@ const BAD_LINES: [&[u8]; 82] = [
     b"fill 0 0 1 1 0xFF80",
 ];
 
+// The fill would be refused, and the last line is bad too.
+const BEFORE_THE_LINE: &[u8] = b"screen 2 1\n\nfill 9 9 9 9 FF8001\n";
+
+const BEHIND_THE_LINE: &[u8] = b"\nsettle\nsettle it\n";
+
 #[test]
 fn a_bad_line_is_told_and_nothing_runs(rt: HostRuntime) -> Result<(), Fail> {
     for line in BAD_LINES {
-        // The fill would be refused, and the last line is bad too.
-        let mut script = b"screen 2 1\n\nfill 9 9 9 9 FF8001\n".to_vec(rt.alloc())?;
-        script.extend_from_slice(line)?;
-        script.extend_from_slice(b"\nsettle\nsettle it\n")?;
-        let ended = run(&rt, script.as_slice());
+        let ended = run_all(&rt, [BEFORE_THE_LINE, line, BEHIND_THE_LINE].as_slice())?;
         let text = line.escape_ascii();
-        assert_eq!(rt;
-            ended.errors.as_slice(),
-            b"line 4: bad line\n".as_slice(),
-            "{text}"
-        );
-        assert_eq!(rt; ended.output.as_slice(), b"".as_slice(), "{text}");
-        assert_eq!(rt; ended.status, 1, "{text}");
+        assert!(rt; ended.is(1, b"", b"line 4: bad line\n"), "{text}");
     }
     Ok(())
 }
+
+const FIRST_BAD_LINES: [(&[u8], u64); 30] = [
+    // No line but empty ones: the line after the last.
+    (b"", 1),
+    (b"\n", 2),
+    (b"\n\n", 3),
+    // The first line that is not empty has to be a good `screen`.
+    (b"compose\nscreen 2 1\nsettle\n", 1),
+    (b"\nsettle\nscreen 2 1\nsettle\n", 2),
+    (b" screen 2 1\nsettle\n", 1),
+    (b"Screen 2 1\nsettle\n", 1),
+    (b"hub 2 1\nsettle\n", 1),
+    (b"screen 2 1\r\nsettle\r\n", 1),
+    (b"screen 2\nsettle\n", 1),
+    (b"screen 2 1 1\nsettle\n", 1),
+    (b"\n\nscreen 0 1\nsettle\n", 3),
+    (b"screen 1 0", 1),
+    (b"screen 4097 1\nsettle\n", 1),
+    (b"screen 1 4097\nsettle\n", 1),
+    (b"screen 65537 1\nsettle\n", 1),
+    (b"screen 00000000002 1\nsettle\n", 1),
+    // Later lines, the last one also without its newline.
+    (b"screen 2 1\n\n\nscreen 2 1\nsettle\n", 4),
+    (b"screen 2 1\nsettle\n \n", 3),
+    // The viewer's line is the second, or there is none.
+    (b"viewer rgb888 raw\nscreen 2 1\nsettle\n", 1),
+    (b"screen 2 1\n\nviewer rgb888\nsettle\n", 3),
+    (b"screen 2 1\nviewer raw rgb888\nsettle\n", 2),
+    (b"screen 2 1\nviewer rgb888 Raw\nsettle\n", 2),
+    (b"screen 2 1\nviewer rgb888 raw zrle\nsettle\n", 2),
+    (
+        b"screen 2 1\nviewer rgb888 raw rre raw rre raw\nsettle\n",
+        2,
+    ),
+    (b"screen 2 1\nviewer rgb888 raw\nviewer rgb888 raw\n", 3),
+    (b"screen 2 1\nsettle\nviewer rgb888 raw\n", 3),
+    (b"screen 2 1\nsettle\n\nsettle settle", 4),
+    (b"screen 2 1\nsettle\0\nsettle\n", 2),
+    (b"screen 2 1\nsettle\nrequest\nsettle\nfill\n", 3),
+];
 
 #[test]
 fn the_first_bad_line_is_told_by_its_number(rt: HostRuntime) -> Result<(), Fail> {
-    for (script, line) in [
-        // No line but empty ones: the line after the last.
-        (b"".as_slice(), 1),
-        (b"\n".as_slice(), 2),
-        (b"\n\n".as_slice(), 3),
-        // The first line that is not empty has to be a good `screen`.
-        (b"compose\nscreen 2 1\nsettle\n".as_slice(), 1),
-        (b"\nsettle\nscreen 2 1\nsettle\n".as_slice(), 2),
-        (b" screen 2 1\nsettle\n".as_slice(), 1),
-        (b"Screen 2 1\nsettle\n".as_slice(), 1),
-        (b"hub 2 1\nsettle\n".as_slice(), 1),
-        (b"screen 2 1\r\nsettle\r\n".as_slice(), 1),
-        (b"screen 2\nsettle\n".as_slice(), 1),
-        (b"screen 2 1 1\nsettle\n".as_slice(), 1),
-        (b"\n\nscreen 0 1\nsettle\n".as_slice(), 3),
-        (b"screen 1 0".as_slice(), 1),
-        (b"screen 4097 1\nsettle\n".as_slice(), 1),
-        (b"screen 1 4097\nsettle\n".as_slice(), 1),
-        (b"screen 65537 1\nsettle\n".as_slice(), 1),
-        (b"screen 00000000002 1\nsettle\n".as_slice(), 1),
-        // Later lines, the last one also without its newline.
-        (b"screen 2 1\n\n\nscreen 2 1\nsettle\n".as_slice(), 4),
-        (b"screen 2 1\nsettle\n \n".as_slice(), 3),
-        // The viewer's line is the second, or there is none.
-        (b"viewer rgb888 raw\nscreen 2 1\nsettle\n".as_slice(), 1),
-        (b"screen 2 1\n\nviewer rgb888\nsettle\n".as_slice(), 3),
-        (b"screen 2 1\nviewer raw rgb888\nsettle\n".as_slice(), 2),
-        (b"screen 2 1\nviewer rgb888 Raw\nsettle\n".as_slice(), 2),
-        (
-            b"screen 2 1\nviewer rgb888 raw zrle\nsettle\n".as_slice(),
-            2,
-        ),
-        (
-            b"screen 2 1\nviewer rgb888 raw rre raw rre raw\nsettle\n".as_slice(),
-            2,
-        ),
-        (
-            b"screen 2 1\nviewer rgb888 raw\nviewer rgb888 raw\n".as_slice(),
-            3,
-        ),
-        (b"screen 2 1\nsettle\nviewer rgb888 raw\n".as_slice(), 3),
-        (b"screen 2 1\nsettle\n\nsettle settle".as_slice(), 4),
-        (b"screen 2 1\nsettle\0\nsettle\n".as_slice(), 2),
-        (b"screen 2 1\nsettle\nrequest\nsettle\nfill\n".as_slice(), 3),
-    ] {
-        let ended = run(&rt, script);
+    for (script, line) in FIRST_BAD_LINES {
         let told = format!(in rt.alloc(); "line {line}: bad line\n")?;
+        let ended = run(&rt, script);
         let text = script.escape_ascii();
-        assert_eq!(rt; ended.errors.as_slice(), told.as_bytes(), "{text}");
-        assert_eq!(rt; ended.output.as_slice(), b"".as_slice(), "{text}");
-        assert_eq!(rt; ended.status, 1, "{text}");
+        assert!(rt; ended.is(1, b"", told.as_bytes()), "{text}");
     }
     Ok(())
 }
 
+const SPELLINGS: [&[u8]; 6] = [
+    FILL_LEFT_PLACE,
+    b"screen 2 1\nfill 0 0 1 1 ff8001\nsettle\nrequest full 0 0 2 1
+settle\ncompose\nsettle",
+    b"\n\nscreen 0000000002 01\n\nfill 00 0000000000 0000000001 001 fF8001\n\n\nsettle
+request full 000 0 02 1\nsettle\ncompose\nsettle\n\n\n",
+    // The viewer's line says what holds without it, or names an encoding again.
+    b"screen 2 1\nviewer rgb888 raw\nfill 0 0 1 1 FF8001\nsettle
+request full 0 0 2 1\nsettle\ncompose\nsettle\n",
+    b"screen 2 1\n\nviewer rgb888 hextile rre raw rre\nfill 0 0 1 1 FF8001\nsettle
+request inc 0 0 2 1\nsettle\ncompose\nsettle\n",
+    // Deliveries by number, the greatest and none among them.
+    b"screen 2 1\nfill 0 0 1 1 FF8001\ntoserver 0\ntoviewer 0\nsettle\nrequest full 0 0 2 1
+toserver 4294967295\ncompose\ntoviewer 0004294967\n",
+];
+
 #[test]
 fn each_spelling_of_a_script_is_read(rt: HostRuntime) {
-    for script in [
-        FILL_LEFT_PLACE,
-        b"screen 2 1\nfill 0 0 1 1 ff8001\nsettle\nrequest full 0 0 2 1
-settle\ncompose\nsettle"
-            .as_slice(),
-        b"\n\nscreen 0000000002 01\n\nfill 00 0000000000 0000000001 001 fF8001\n\n\nsettle
-request full 000 0 02 1\nsettle\ncompose\nsettle\n\n\n"
-            .as_slice(),
-        // The viewer's line says what holds without it, or names an encoding again.
-        b"screen 2 1\nviewer rgb888 raw\nfill 0 0 1 1 FF8001\nsettle
-request full 0 0 2 1\nsettle\ncompose\nsettle\n"
-            .as_slice(),
-        b"screen 2 1\n\nviewer rgb888 hextile rre raw rre\nfill 0 0 1 1 FF8001\nsettle
-request inc 0 0 2 1\nsettle\ncompose\nsettle\n"
-            .as_slice(),
-        // Deliveries by number, the greatest and none among them.
-        b"screen 2 1\nfill 0 0 1 1 FF8001\ntoserver 0\ntoviewer 0\nsettle\nrequest full 0 0 2 1
-toserver 4294967295\ncompose\ntoviewer 0004294967\n"
-            .as_slice(),
-    ] {
+    for script in SPELLINGS {
         let ended = run(&rt, script);
         let text = script.escape_ascii();
-        assert_eq!(rt; ended.errors.as_slice(), b"".as_slice(), "{text}");
-        assert_eq!(rt; ended.output.as_slice(), LEFT_PLACE_FILLED, "{text}");
-        assert_eq!(rt; ended.status, 0, "{text}");
+        assert!(rt; ended.is(0, LEFT_PLACE_FILLED, b""), "{text}");
     }
 }
 
+const SIDES: [(&[u8], &[u8], usize); 3] = [
+    (b"screen 1 1\nsettle\n", b"P6\n1 1\n255\n", 14),
+    (b"screen 4096 1\nsettle\n", b"P6\n4096 1\n255\n", 12_302),
+    (b"screen 1 4096\nsettle\n", b"P6\n1 4096\n255\n", 12_302),
+];
+
 #[test]
 fn a_side_of_the_screen_has_1_to_4096_places(rt: HostRuntime) {
-    for (script, header, len) in [
-        (
-            b"screen 1 1\nsettle\n".as_slice(),
-            b"P6\n1 1\n255\n".as_slice(),
-            14,
-        ),
-        (
-            b"screen 4096 1\nsettle\n".as_slice(),
-            b"P6\n4096 1\n255\n".as_slice(),
-            12_302,
-        ),
-        (
-            b"screen 1 4096\nsettle\n".as_slice(),
-            b"P6\n1 4096\n255\n".as_slice(),
-            12_302,
-        ),
-    ] {
+    for (script, header, len) in SIDES {
         let ended = run(&rt, script);
         assert_eq!(rt; ended.status, 0);
         assert!(rt; ended.output.starts_with(header));

@@ -8,9 +8,7 @@ use std::test::Fail;
 #[test]
 fn one_update_shows_a_filled_place(rt: HostRuntime) {
     let ended = run(&rt, FILL_LEFT_PLACE);
-    assert_eq!(rt; ended.output.as_slice(), LEFT_PLACE_FILLED);
-    assert_eq!(rt; ended.errors.as_slice(), b"".as_slice());
-    assert_eq!(rt; ended.status, 0);
+    assert!(rt; ended.is(0, LEFT_PLACE_FILLED, b""));
 }
 
 // A screen of 7 by 6 with a rectangle of 4 by 3 at (1, 2), in which FF8001 stands.
@@ -65,9 +63,7 @@ settle
     ] {
         let ended = run(&rt, script);
         let text = script.escape_ascii();
-        assert_eq!(rt; ended.errors.as_slice(), b"".as_slice(), "{text}");
-        assert_eq!(rt; ended.output.as_slice(), shown.as_slice(), "{text}");
-        assert_eq!(rt; ended.status, 0, "{text}");
+        assert!(rt; ended.is(0, shown.as_slice(), b""), "{text}");
     }
     Ok(())
 }
@@ -84,12 +80,7 @@ compose
 settle
 ";
     let ended = run(&rt, script);
-    assert_eq!(rt; ended.output.as_slice(), LEFT_PLACE_FILLED);
-    assert_eq!(rt;
-        ended.errors.as_slice(),
-        b"line 5: refused 26 Busy\n".as_slice()
-    );
-    assert_eq!(rt; ended.status, 0);
+    assert!(rt; ended.is(0, LEFT_PLACE_FILLED, b"line 5: refused 26 Busy\n"));
 }
 
 #[test]
@@ -119,17 +110,13 @@ line 9: refused 27 AreaOutside
 line 11: refused 26 Busy
 ";
     let ended = run(&rt, script);
-    assert_eq!(rt; ended.errors.as_slice(), refused.as_slice());
-    assert_eq!(rt; ended.output.as_slice(), LEFT_PLACE_FILLED);
-    assert_eq!(rt; ended.status, 0);
+    assert!(rt; ended.is(0, LEFT_PLACE_FILLED, refused.as_slice()));
 }
 
 #[test]
 fn without_a_picture_nothing_is_written(rt: HostRuntime) {
     let ended = run(&rt, b"screen 2 1");
-    assert_eq!(rt; ended.errors.as_slice(), b"fault 25 NotReady\n".as_slice());
-    assert_eq!(rt; ended.output.as_slice(), b"".as_slice());
-    assert_eq!(rt; ended.status, 1);
+    assert!(rt; ended.is(1, b"", b"fault 25 NotReady\n"));
 }
 
 // The colour of a place of a picture of 4,096 by 4,096, whose header has 17 bytes.

@@ -1,9 +1,8 @@
 //! Recordings that are played.
 
 use super::calls::call;
-use super::devices::{FailingReader, FailingWriter};
+use super::devices::{call_on_failing_input, call_to_failing_output};
 use super::streams::{HANDSHAKE, PICTURE, SERVER};
-use crate::command_line::command;
 use std::io::ErrorKind;
 
 const PLAY: [&str; 2] = ["rfb", "play"];
@@ -17,9 +16,7 @@ fn a_recording_shows_its_last_picture(rt: HostRuntime) {
         (HANDSHAKE, b"P6\n2 1\n255\n\0\0\0\0\0\0".as_slice()),
     ] {
         let ended = call(&rt, PLAY.as_slice(), recording);
-        assert_eq!(rt; ended.output.as_slice(), picture);
-        assert_eq!(rt; ended.errors.as_slice(), b"".as_slice());
-        assert_eq!(rt; ended.status, 0);
+        assert!(rt; ended.is(0, picture, b""));
     }
 }
 
@@ -34,9 +31,7 @@ fn a_recording_that_ends_inside_a_message_is_truncated(rt: HostRuntime) {
         (PLAY_BGR233.as_slice(), SERVER),
     ] {
         let ended = call(&rt, words, recording);
-        assert_eq!(rt; ended.errors.as_slice(), b"fault 28 Truncated\n".as_slice());
-        assert_eq!(rt; ended.output.as_slice(), b"".as_slice());
-        assert_eq!(rt; ended.status, 1);
+        assert!(rt; ended.is(1, b"", b"fault 28 Truncated\n"));
     }
 }
 
@@ -48,29 +43,15 @@ fn a_failing_read_ends_a_recording(rt: HostRuntime) {
         (45, ErrorKind::Interrupted),
         (69, ErrorKind::ConnectionReset),
     ] {
-        let mut input = FailingReader {
-            bytes: &SERVER[..count],
-            kind,
-        };
-        let mut output = Vec::new(rt.alloc());
-        let mut errors = Vec::new(rt.alloc());
-        let words = PLAY.as_slice();
-        let status = command(&rt, words, &mut input, &mut output, &mut errors);
-        assert_eq!(rt; errors.as_slice(), b"fault 29 Device\n".as_slice());
-        assert_eq!(rt; output.as_slice(), b"".as_slice());
-        assert_eq!(rt; status, 1);
+        let ended = call_on_failing_input(&rt, PLAY.as_slice(), &SERVER[..count], kind);
+        assert!(rt; ended.is(1, b"", b"fault 29 Device\n"));
     }
 }
 
 #[test]
 fn a_failing_output_ends_a_recording(rt: HostRuntime) {
     for (room, can_flush) in [(0, true), (5, true), (16, true), (17, false)] {
-        let mut input = SERVER;
-        let mut output = FailingWriter { room, can_flush };
-        let mut errors = Vec::new(rt.alloc());
-        let words = PLAY.as_slice();
-        let status = command(&rt, words, &mut input, &mut output, &mut errors);
-        assert_eq!(rt; errors.as_slice(), b"fault 29 Device\n".as_slice());
-        assert_eq!(rt; status, 1);
+        let ended = call_to_failing_output(&rt, PLAY.as_slice(), SERVER, room, can_flush);
+        assert!(rt; ended.tells(1, b"fault 29 Device\n"));
     }
 }

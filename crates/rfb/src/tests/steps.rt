@@ -1,6 +1,6 @@
 //! What each line of a script does beside the filling and the asking.
 
-use super::calls::run;
+use super::calls::{run, run_all};
 use std::test::Fail;
 
 // An update of 24 bytes that arrives in two parts; between them the viewer asks for a format.
@@ -29,19 +29,17 @@ const SEEN_AT_RGB565: &[u8] = b"P6\n2 1\n255\n\xFF\x82\0\0\0\0";
 #[test]
 fn a_format_waits_for_the_end_of_an_update(rt: HostRuntime) -> Result<(), Fail> {
     for cut in 1..=24 {
-        let mut script = BEFORE_THE_CUT.to_vec(rt.alloc())?;
         let part = format!(in rt.alloc(); "toviewer {cut}\n")?;
-        script.extend_from_slice(part.as_bytes())?;
-        script.extend_from_slice(BEHIND_THE_CUT)?;
-        let ended = run(&rt, script.as_slice());
+        let ended = run_all(
+            &rt,
+            [BEFORE_THE_CUT, part.as_bytes(), BEHIND_THE_CUT].as_slice(),
+        )?;
         let told = if cut < 24 {
             b"line 10: refused 26 Busy\n".as_slice()
         } else {
             b"".as_slice()
         };
-        assert_eq!(rt; ended.errors.as_slice(), told, "cut at {cut}");
-        assert_eq!(rt; ended.output.as_slice(), SEEN_AT_RGB565, "cut at {cut}");
-        assert_eq!(rt; ended.status, 0, "cut at {cut}");
+        assert!(rt; ended.is(0, SEEN_AT_RGB565, told), "cut at {cut}");
     }
     Ok(())
 }
@@ -63,43 +61,43 @@ compose
 settle
 ";
     let ended = run(&rt, script);
-    assert_eq!(rt;
-        ended.errors.as_slice(),
-        b"line 5: refused 26 Busy\n".as_slice()
-    );
-    assert_eq!(rt;
-        ended.output.as_slice(),
-        b"P6\n1 1\n255\n\xFF\x92\0".as_slice()
-    );
-    assert_eq!(rt; ended.status, 0);
+    assert!(rt; ended.is(0, b"P6\n1 1\n255\n\xFF\x92\0", b"line 5: refused 26 Busy\n"));
 }
+
+// A place is filled, asked for and sent.
+const ONE_PLACE: &[u8] = b"fill 0 0 1 1 FF8001
+settle
+request full 0 0 1 1
+settle
+compose
+settle
+";
+
+// What the line of the viewer says, and what it then shows.
+const WISHES: [(&[u8], &[u8]); 4] = [
+    (b"", b"P6\n1 1\n255\n\xFF\x80\x01"),
+    (
+        b"viewer rgb888 rre copyrect hextile raw\n",
+        b"P6\n1 1\n255\n\xFF\x80\x01",
+    ),
+    (b"viewer rgb565 raw\n", b"P6\n1 1\n255\n\xFF\x82\x00"),
+    (
+        b"viewer bgr233 hextile rre\n",
+        b"P6\n1 1\n255\n\xFF\x92\x00",
+    ),
+];
 
 #[test]
 fn the_viewer_asks_for_the_format_and_the_encodings_of_its_line(
     rt: HostRuntime,
 ) -> Result<(), Fail> {
-    for (wants, red, green, blue) in [
-        (b"".as_slice(), 255, 128, 1),
-        (
-            b"viewer rgb888 rre copyrect hextile raw\n".as_slice(),
-            255,
-            128,
-            1,
-        ),
-        (b"viewer rgb565 raw\n".as_slice(), 255, 130, 0),
-        (b"viewer bgr233 hextile rre\n".as_slice(), 255, 146, 0),
-    ] {
-        let mut script = b"screen 1 1\n".to_vec(rt.alloc())?;
-        script.extend_from_slice(wants)?;
-        script.extend_from_slice(b"fill 0 0 1 1 FF8001\nsettle\nrequest full 0 0 1 1\nsettle\n")?;
-        script.extend_from_slice(b"compose\nsettle\n")?;
-        let mut shown = b"P6\n1 1\n255\n".to_vec(rt.alloc())?;
-        shown.extend_from_slice(&[red, green, blue])?;
-        let ended = run(&rt, script.as_slice());
+    for (wants, shown) in WISHES {
+        let ended = run_all(
+            &rt,
+            [b"screen 1 1\n".as_slice(), wants, ONE_PLACE].as_slice(),
+        )?;
         let text = wants.escape_ascii();
-        assert_eq!(rt; ended.errors.as_slice(), b"".as_slice(), "{text}");
-        assert_eq!(rt; ended.output.as_slice(), shown.as_slice(), "{text}");
-        assert_eq!(rt; ended.status, 0, "{text}");
+        assert!(rt; ended.is(0, shown, b""), "{text}");
     }
     Ok(())
 }
@@ -116,6 +114,23 @@ const COPIED: [&[u8; 9]; 8] = [
     b".........",
 ];
 
+const BEFORE_THE_HINT: &[u8] = b"screen 9 8
+viewer rgb888 raw copyrect
+fill 1 0 3 2 FF8001
+settle
+request full 0 0 9 8
+settle
+compose
+settle
+copy 4 5 3 2 1 0
+";
+
+const BEHIND_THE_HINT: &[u8] = b"request inc 0 0 9 8
+settle
+compose
+settle
+";
+
 #[test]
 fn a_copy_takes_its_source_to_its_rectangle(rt: HostRuntime) -> Result<(), Fail> {
     let mut shown = b"P6\n9 8\n255\n".to_vec(rt.alloc())?;
@@ -131,16 +146,9 @@ fn a_copy_takes_its_source_to_its_rectangle(rt: HostRuntime) -> Result<(), Fail>
     }
     // The viewer has the source already, and is told of the copy or not.
     for hint in [b"".as_slice(), b"hint 4 5 3 2 1 0\n".as_slice()] {
-        let mut script = b"screen 9 8\nviewer rgb888 raw copyrect\n".to_vec(rt.alloc())?;
-        script.extend_from_slice(b"fill 1 0 3 2 FF8001\nsettle\nrequest full 0 0 9 8\nsettle\n")?;
-        script.extend_from_slice(b"compose\nsettle\ncopy 4 5 3 2 1 0\n")?;
-        script.extend_from_slice(hint)?;
-        script.extend_from_slice(b"request inc 0 0 9 8\nsettle\ncompose\nsettle\n")?;
-        let ended = run(&rt, script.as_slice());
+        let ended = run_all(&rt, [BEFORE_THE_HINT, hint, BEHIND_THE_HINT].as_slice())?;
         let text = hint.escape_ascii();
-        assert_eq!(rt; ended.errors.as_slice(), b"".as_slice(), "{text}");
-        assert_eq!(rt; ended.output.as_slice(), shown.as_slice(), "{text}");
-        assert_eq!(rt; ended.status, 0, "{text}");
+        assert!(rt; ended.is(0, shown.as_slice(), b""), "{text}");
     }
     Ok(())
 }
@@ -186,15 +194,8 @@ request full 0 0 2 1
 format rgb565
 ";
     let ended = run(&rt, script);
-    assert_eq!(rt;
-        ended.errors.as_slice(),
-        b"line 9: refused 25 NotReady\nline 10: refused 25 NotReady\n".as_slice()
-    );
-    assert_eq!(rt;
-        ended.output.as_slice(),
-        b"P6\n2 1\n255\n\0\0\0\0\0\0".as_slice()
-    );
-    assert_eq!(rt; ended.status, 0);
+    let told = b"line 9: refused 25 NotReady\nline 10: refused 25 NotReady\n";
+    assert!(rt; ended.is(0, b"P6\n2 1\n255\n\0\0\0\0\0\0", told));
 }
 
 #[test]
@@ -209,7 +210,5 @@ toserver 1
 toviewer 23
 ";
     let ended = run(&rt, script);
-    assert_eq!(rt; ended.errors.as_slice(), b"fault 25 NotReady\n".as_slice());
-    assert_eq!(rt; ended.output.as_slice(), b"".as_slice());
-    assert_eq!(rt; ended.status, 1);
+    assert!(rt; ended.is(1, b"", b"fault 25 NotReady\n"));
 }

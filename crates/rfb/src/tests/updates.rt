@@ -1,6 +1,7 @@
 //! What the lines of a script make of an update: its encoding, its format, and copies.
 
-use super::calls::run;
+use super::calls::{run, run_all};
+use std::alloc::Global;
 use std::test::Fail;
 
 // A screen of 17 places of one colour, asked for and composed. A line of the viewer stands second.
@@ -24,26 +25,24 @@ const UPDATES: [(&[u8], u32); 9] = [
     (b"viewer bgr233 hextile raw\n", 19),
 ];
 
+// All lines behind such a line of the viewer. A format is refused until the last byte has come.
+fn lines_of(alloc: Global, viewer: &[u8], bytes: u32) -> Result<Vec<u8>, Fail> {
+    let before = bytes.saturating_sub(1);
+    let parts = format!(in alloc; "toviewer {before}\nformat bgr233\ntoviewer 1\nformat rgb565\n")?;
+    let mut script = b"screen 17 1\n".to_vec(alloc)?;
+    script.extend_from_slice(viewer)?;
+    script.extend_from_slice(BEHIND_THE_VIEWER)?;
+    script.extend_from_slice(parts.as_bytes())?;
+    Ok(script)
+}
+
 #[test]
 fn an_update_has_the_bytes_of_the_first_encoding(rt: HostRuntime) -> Result<(), Fail> {
     for (viewer, bytes) in UPDATES {
-        let mut script = b"screen 17 1\n".to_vec(rt.alloc())?;
-        script.extend_from_slice(viewer)?;
-        script.extend_from_slice(BEHIND_THE_VIEWER)?;
-        // A format is refused until the last byte has come.
-        let before = bytes.saturating_sub(1);
-        let parts = format!(in rt.alloc();
-            "toviewer {before}\nformat bgr233\ntoviewer 1\nformat rgb565\n"
-        )?;
-        script.extend_from_slice(parts.as_bytes())?;
-        let ended = run(&rt, script.as_slice());
+        let script = lines_of(rt.alloc(), viewer, bytes)?;
+        let ended = run(&rt, &script);
         let text = viewer.escape_ascii();
-        assert_eq!(rt;
-            ended.errors.as_slice(),
-            b"line 9: refused 26 Busy\n".as_slice(),
-            "{text}"
-        );
-        assert_eq!(rt; ended.status, 0, "{text}");
+        assert!(rt; ended.tells(0, b"line 9: refused 26 Busy\n"), "{text}");
     }
     Ok(())
 }
@@ -65,6 +64,8 @@ request inc 0 0 4 1
 settle
 ";
 
+const TWENTY_BYTES: &[u8] = b"compose\ntoviewer 20\nrequest inc 0 0 4 1\n";
+
 #[test]
 fn a_hint_makes_a_copy_of_twenty_bytes(rt: HostRuntime) -> Result<(), Fail> {
     for (hint, told) in [
@@ -73,13 +74,9 @@ fn a_hint_makes_a_copy_of_twenty_bytes(rt: HostRuntime) -> Result<(), Fail> {
         (b"hint 0 0 2 1 2 0\n".as_slice(), BUSY),
         (b"\n".as_slice(), BUSY),
     ] {
-        let mut script = COPIED.to_vec(rt.alloc())?;
-        script.extend_from_slice(hint)?;
-        script.extend_from_slice(b"compose\ntoviewer 20\nrequest inc 0 0 4 1\n")?;
-        let ended = run(&rt, script.as_slice());
+        let ended = run_all(&rt, [COPIED, hint, TWENTY_BYTES].as_slice())?;
         let text = hint.escape_ascii();
-        assert_eq!(rt; ended.errors.as_slice(), told, "{text}");
-        assert_eq!(rt; ended.status, 0, "{text}");
+        assert!(rt; ended.tells(0, told), "{text}");
     }
     Ok(())
 }
@@ -105,9 +102,5 @@ settle
 request inc 0 0 1 1
 ";
     let ended = run(&rt, script);
-    assert_eq!(rt;
-        ended.errors.as_slice(),
-        b"line 16: refused 26 Busy\n".as_slice()
-    );
-    assert_eq!(rt; ended.status, 0);
+    assert!(rt; ended.tells(0, b"line 16: refused 26 Busy\n"));
 }

@@ -1,6 +1,6 @@
 //! The words of the command line.
 
-use super::calls::call;
+use super::calls::{Ended, call};
 use crate::command_line::without_words;
 use std::io;
 use std::io::ErrorKind;
@@ -37,28 +37,35 @@ const HELP: [&[&str]; 7] = [
     &["rfb", "serve", "--help"],
 ];
 
+// Whether a call was of words that there are not, and said so on errors alone.
+fn is_mistaken(ended: &Ended) -> bool {
+    ended.status == 2 && ended.output.is_empty() && ended.errors.starts_with(b"error: ")
+}
+
 #[test]
 fn bad_words_are_told_on_errors(rt: HostRuntime) {
     for words in BAD_WORDS {
         let ended = call(&rt, words, b"screen 2 1\nsettle\n");
-        assert_eq!(rt; ended.status, 2, "{words:?}");
-        assert_eq!(rt; ended.output.as_slice(), b"".as_slice(), "{words:?}");
-        assert!(rt; ended.errors.starts_with(b"error: "), "{words:?}");
+        assert!(rt; is_mistaken(&ended), "{words:?}");
     }
+}
+
+// Whether a call wrote a text of help, and nothing on errors.
+fn is_help(ended: &Ended) -> bool {
+    ended.status == 0
+        && ended.errors.is_empty()
+        && ended.output.len() > 40
+        && ended
+            .output
+            .windows(16)
+            .any(|text| text == b"docs/PROTOCOL.md".as_slice())
 }
 
 #[test]
 fn help_is_told_on_output(rt: HostRuntime) {
     for words in HELP {
         let ended = call(&rt, words, b"");
-        assert_eq!(rt; ended.status, 0, "{words:?}");
-        assert_eq!(rt; ended.errors.as_slice(), b"".as_slice(), "{words:?}");
-        assert!(rt; ended.output.len() > 40, "{words:?}");
-        let told = ended
-            .output
-            .windows(16)
-            .any(|text| text == b"docs/PROTOCOL.md".as_slice());
-        assert!(rt; told, "{words:?}");
+        assert!(rt; is_help(&ended), "{words:?}");
     }
 }
 
@@ -66,13 +73,7 @@ fn help_is_told_on_output(rt: HostRuntime) {
 fn the_version_is_told_on_output(rt: HostRuntime) {
     for word in ["--version", "-V"] {
         let ended = call(&rt, &["rfb", word], b"");
-        assert_eq!(rt; ended.status, 0, "{word}");
-        assert_eq!(rt; ended.errors.as_slice(), b"".as_slice(), "{word}");
-        assert_eq!(rt;
-            ended.output.as_slice(),
-            b"rfb 0.1.0\n".as_slice(),
-            "{word}"
-        );
+        assert!(rt; ended.is(0, b"rfb 0.1.0\n", b""), "{word}");
     }
 }
 
