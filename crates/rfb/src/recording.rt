@@ -60,7 +60,7 @@ fn watch<R: Read>(input: &mut R, viewer: &mut Viewer) -> Result<u64, EngineFault
     rfb_session::play(&mut source, viewer)
 }
 
-// Writes what a viewer shows. No engine ends it.
+// Writes what a viewer shows. What ends it is a fault of the program's own, and no engine's.
 fn show<W: Write>(alloc: Global, viewer: &Viewer, output: &mut W) -> Result<(), Failure>
     ensures done { OnOk result
         (WritesPicture viewer.now (W.contents output.old) (W.contents output.new)) }
@@ -72,7 +72,7 @@ fn show<W: Write>(alloc: Global, viewer: &Viewer, output: &mut W) -> Result<(), 
     }
 }
 
-// Does so.
+// The same, with that fault alone.
 fn write_picture<W: Write>(alloc: Global, viewer: &Viewer, output: &mut W) -> Result<(), Fault>
     ensures { OnOk result (WritesPicture viewer.now (W.contents output.old) (W.contents output.new)) }
 {
