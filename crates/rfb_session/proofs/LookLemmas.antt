@@ -5,7 +5,6 @@ use Rattle.std.proofs.KnownBytes.{Appends-nil, Appends-trans, Consumes-nil, Cons
 use Rattle.rfb_viewer.specs.declared.viewer.Viewer.{Viewer}
 use Rattle.rfb_session.specs.declared.engine.fault.EngineFault.{EngineFault}
 use Rattle.rfb_session.specs.declared.engine.fault.EngineFault.TheVariants.{Server as ServerEnded, Viewer as ViewerEnded, Truncated, Device, NoMemory as EngineNoMemory}
-use Rattle.rfb_session.specs.Devices.{AppendsBeginning}
 use Rattle.rfb_session.specs.ViewEngine.{RunsInTurn, HasViewed, HasMissed, ViewedSome, StopsViewing}
 use Rattle.rfb_session.specs.Looking.{due_until, Looks, HasLooked, StopsLooking}
 use Rattle.rfb_session.proofs.WrittenLemmas.{rest_is, whole_beginning}
@@ -99,12 +98,6 @@ all_parts : (bytes fed rest more slice : List ℕ) → bytes ≡ fed ++ rest →
 all_parts bytes fed rest more slice is parts =
     is ∙ ap (λ (l : List ℕ). fed ++ l) parts ∙ sym (append_assoc fed more slice)
 
-begun_with : (blank k copied : Option (List ℕ)) (fed more slice : List ℕ) → Appends blank k fed →
-    AppendsBeginning k copied (more ++ slice) → AppendsBeginning blank copied ((fed ++ more) ++ slice)
-begun_with blank k copied fed more slice kept begun =
-    subst (λ (l : List ℕ). AppendsBeginning blank copied l) (sym (append_assoc fed more slice))
-    (begun_behind blank k copied fed (more ++ slice) kept begun)
-
 -- why it stops behind calls
 pub looking_stops : (old : Viewer) (bytes rest : List ℕ) (left mid : ℕ)
     (before w after blank k copied : Option (List ℕ)) (last : Viewer)
@@ -123,7 +116,11 @@ looking_stops old bytes rest left mid before w after blank k copied last fb fm f
       was.looks.updates stops.updates None
       (open_turn old last was.fed was.looks.sent was.looks.updates mid some was.looks.runs) stops.runs;
   wrote = Appends-trans before w after was.looks.sent stops.sent was.looks.wrote stops.wrote;
-  kept = begun_with blank k copied was.fed stops.fed stops.slice was.looks.kept stops.kept;
+  kept = (
+    stops.kept.0,
+    Appends-trans blank k stops.kept.0 was.fed stops.fed was.looks.kept stops.kept.1,
+    stops.kept.2,
+  );
   ends = stops.ends;
 }
 looking_stops old bytes rest left mid before w after blank k copied last fb fm failed Device new was some same stops =
@@ -300,7 +297,11 @@ looking_fails unread mid left before w after blank k copied old reads asked stil
       (open_turn old last was.fed was.looks.sent was.looks.updates still was.going was.looks.runs)
       stops.runs;
   wrote = Appends-trans before w after was.looks.sent stops.sent was.looks.wrote stops.wrote;
-  kept = begun_with blank k copied was.fed stops.fed stops.slice was.looks.kept stops.kept;
+  kept = (
+    stops.kept.0,
+    Appends-trans blank k stops.kept.0 was.fed stops.fed was.looks.kept stops.kept.1,
+    stops.kept.2,
+  );
   ends = stops.ends;
 }
 looking_fails unread mid left before w after blank k copied old reads asked still last bytes fb failed fa af Device new was more counted stops =

@@ -12,7 +12,7 @@ use Rattle.rfb_session.specs.declared.engine.fault.EngineFault.TheVariants.{Serv
 use Rattle.rfb_session.specs.Devices.{AppendsBeginning}
 use Rattle.rfb_session.specs.EngineRun.{Did}
 use Rattle.rfb_session.specs.Watching.{ViewerAct, Asks, viewer_sends, ends_told, EndsBy}
-use Rattle.rfb_session.specs.ViewEngine.{is_incremental, RunsInTurn}
+use Rattle.rfb_session.specs.ViewEngine.{is_incremental, RunsInTurn, KeepsUntil}
 
 -- a request for the whole screen, made or passed over between two items, and what is sent for it
 pub record AsksForScreen (incremental : Bool) (old : Viewer) (sent : List ℕ)
@@ -108,7 +108,7 @@ pub record IsLookEnded (old : Viewer) (bytes : List ℕ)
   pub bytes_are : bytes ≡ fed ++ slice
   pub runs : RunsInTurn old fed sent updates None last
   pub wrote : Appends before after sent
-  pub kept : AppendsBeginning blank copied (fed ++ slice)
+  pub kept : KeepsUntil blank copied fed slice
   pub ends : EndsBy fault last slice new
 
 abbrev pub StopsLooking : Viewer → List ℕ → Option (List ℕ) → Option (List ℕ) → Option (List ℕ) →

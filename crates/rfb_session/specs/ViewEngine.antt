@@ -92,6 +92,11 @@ pub record ViewedSome (unread left before after blank copied : Option (List ℕ)
   pub wrote : AppendsBeginning before after sent
   pub kept : AppendsBeginning blank copied fed
 
+-- all that it was fed was kept, and a beginning of the bytes that it ended at
+abbrev pub KeepsUntil : Option (List ℕ) → Option (List ℕ) → List ℕ → List ℕ → Type 0
+KeepsUntil blank copied fed slice =
+    (mid : Option (List ℕ)) × Appends blank mid fed × AppendsBeginning mid copied slice
+
 -- it was fed the first bytes of what was read, all that is sent was written, and it ended at the
 -- next
 pub record ViewedUntil (unread left before after blank copied : Option (List ℕ)) (old : Viewer)
@@ -104,7 +109,7 @@ pub record ViewedUntil (unread left before after blank copied : Option (List ℕ
   pub read : Consumes unread left (fed ++ slice)
   pub runs : RunsInTurn old fed sent updates None last
   pub wrote : Appends before after sent
-  pub kept : AppendsBeginning blank copied (fed ++ slice)
+  pub kept : KeepsUntil blank copied fed slice
   pub ends : EndsBy fault last slice new
 
 -- the bytes ended before so many updates had; a read or a write failed, which was counted; or the

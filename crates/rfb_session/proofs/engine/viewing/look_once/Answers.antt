@@ -41,9 +41,13 @@ returns-clause-stopped g c = record {
   bytes_are = refl;
   runs = turn_none c.args.viewer.now;
   wrote = Appends-nil (g.W.Sink.written c.args.sink.now);
-  kept = begun_anyway c.send-in-Err.result (g.K.Sink.written c.args.kept.now)
-      (g.K.Sink.written c.send-in-Err.new.sink) c.args.bytes.now c.send-in-Err.ensures.done
-      c.send-in-Err.ensures.stopped;
+  kept = (
+    g.K.Sink.written c.args.kept.now,
+    Appends-nil (g.K.Sink.written c.args.kept.now),
+    begun_anyway c.send-in-Err.result (g.K.Sink.written c.args.kept.now)
+        (g.K.Sink.written c.send-in-Err.new.sink) c.args.bytes.now c.send-in-Err.ensures.done
+        c.send-in-Err.ensures.stopped,
+  );
   ends = record {
     fails = c.in-Err.ensures.fails;
     refused = c.in-Err.ensures.fault;
