@@ -27,6 +27,7 @@ pub mod WrittenLemmas
 pub mod PixmapLemmas
 pub mod EngineRunLemmas
 pub mod PlayLemmas
+pub mod PlaySomeLemmas
 pub mod ServeLemmas
 pub mod ServingLemmas
 pub mod ViewLemmas

@@ -16,9 +16,9 @@ use Rattle.rfb_viewer.specs.Standing.{StandsFor}
 use Rattle.rfb_session.specs.Devices.{AppendsBeginning}
 use Rattle.rfb_session.specs.InFlight.{viewer_reply}
 use Rattle.rfb_session.specs.EngineRun.{Step, Fed, Did}
-use Rattle.rfb_session.specs.Watching.{ViewerAct, Asked, PassedOver, whole_area, viewer_driven, ends_told}
+use Rattle.rfb_session.specs.Watching.{ViewerAct, Asked, PassedOver, whole_area, viewer_driven, ends_told, WasFed}
 use Rattle.rfb_session.specs.ViewEngine.{due_behind, due, AsksInTurn, RunsInTurn}
-use Rattle.rfb_session.specs.Looking.{AsksForScreen, HasAsked, IsCutInAsking, WasFed, due_until, IsAnswered, IsCutInAnswer, Looks, IsLookCutOff}
+use Rattle.rfb_session.specs.Looking.{AsksForScreen, HasAsked, IsCutInAsking, due_until, IsAnswered, IsCutInAnswer, Looks, IsLookCutOff}
 use Rattle.rfb_session.proofs.WrittenLemmas.{whole_beginning, no_beginning}
 use Rattle.rfb_session.proofs.EngineRunLemmas.{joined, only_one}
 use Rattle.rfb_session.proofs.ShownLemmas.{shown_whole}

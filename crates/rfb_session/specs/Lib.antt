@@ -14,6 +14,7 @@ pub mod Pixmap
 pub mod EngineRun
 pub mod Watching
 pub mod Playing
+pub mod PlayingSome
 pub mod ServeEngine
 pub mod ViewEngine
 pub mod Looking

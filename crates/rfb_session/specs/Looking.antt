@@ -1,17 +1,16 @@
 -- One read of an engine that asks its viewer for updates: calls, and requests behind them.
 use Rattle.std.specs.Prelude.{◌≡◌, ℕ, zero, suc, ◌<◌, ◌+◌, Bool, true, List, [], ◌++◌, Option, Some, None}
 use Rattle.std.specs.Io.KnownBytes.{Appends}
-use Rattle.rfb_wire.specs.stream.End.{FedBy}
 use Rattle.rfb_viewer.specs.declared.fault.ViewerFault.{ViewerFault}
 use Rattle.rfb_viewer.specs.declared.viewer.Viewer.{Viewer}
 use Rattle.rfb_viewer.specs.Told.{ViewerTold}
-use Rattle.rfb_viewer.specs.Viewer.{Viewing, ViewerState, viewer}
+use Rattle.rfb_viewer.specs.Viewer.{Viewing, ViewerState}
 use Rattle.rfb_viewer.specs.Standing.{StandsFor}
 use Rattle.rfb_session.specs.declared.engine.fault.EngineFault.{EngineFault}
 use Rattle.rfb_session.specs.declared.engine.fault.EngineFault.TheVariants.{Server, Viewer as ViewerEnded, Truncated, Device, NoMemory}
 use Rattle.rfb_session.specs.Devices.{AppendsBeginning}
 use Rattle.rfb_session.specs.EngineRun.{Did}
-use Rattle.rfb_session.specs.Watching.{ViewerAct, Asks, viewer_sends, ends_told, EndsBy}
+use Rattle.rfb_session.specs.Watching.{ViewerAct, Asks, viewer_sends, ends_told, WasFed, EndsBy}
 use Rattle.rfb_session.specs.ViewEngine.{is_incremental, RunsInTurn, KeepsUntil}
 
 -- a request for the whole screen, made or passed over between two items, and what is sent for it
@@ -35,11 +34,6 @@ pub record IsCutInAsking (incremental : Bool) (old : Viewer) (before after : Opt
   pub sent : List ℕ
   pub asks : AsksForScreen incremental old sent new
   pub wrote : AppendsBeginning before after sent
-
--- a viewer became that one when it was fed these bytes and told this of them
-abbrev pub WasFed : Viewer → List ℕ → Option ViewerTold → Viewer → Type 0
-WasFed first bytes event old =
-    (viewing : Viewing) → FedBy (viewer viewing) (StandsFor viewing) first bytes event old
 
 -- what is due where so many updates are looked for: none is where the last has ended
 abbrev pub due_until : ℕ → Option Bool

@@ -3,7 +3,7 @@ use Rattle.std.specs.Prelude.{◌≡◌, ◌≢◌, ℕ, ◌+◌, ◌-◌, ◌^�
 use Rattle.rfb_pixel.specs.declared.colour.Colour.{Colour}
 use Rattle.rfb_picture.specs.Grid.{Grid}
 use Rattle.rfb_picture.specs.Rect.{rect}
-use Rattle.rfb_wire.specs.stream.End.{RefusedBy, RunsOutBy}
+use Rattle.rfb_wire.specs.stream.End.{FedBy, RefusedBy, RunsOutBy}
 use Rattle.rfb_picture.specs.declared.rect.Rect.{Rect}
 use Rattle.rfb_viewer.specs.declared.fault.ViewerFault.{ViewerFault}
 use Rattle.rfb_viewer.specs.declared.fault.ViewerFault.TheVariants.{NoMemory}
@@ -68,6 +68,11 @@ viewer_driven = record {
 -- it was fed these bytes, these are sent, so many updates ended, and it became that one
 abbrev pub ViewerRuns : Viewer → List ℕ → List ℕ → ℕ → Viewer → Type 0
 ViewerRuns old fed sent updates new = RunsOn viewer_driven old fed sent updates new
+
+-- a viewer became that one when it was fed these bytes and told this of them
+abbrev pub WasFed : Viewer → List ℕ → Option ViewerTold → Viewer → Type 0
+WasFed first bytes event old =
+    (viewing : Viewing) → FedBy (viewer viewing) (StandsFor viewing) first bytes event old
 
 -- it ended at these bytes: by a fault of theirs, or because it asked for memory there
 pub record EndsBy (fault : ViewerFault) (old : Viewer) (slice : List ℕ)

@@ -5,16 +5,20 @@ mod fault;
 mod nowhere;
 mod pixmap;
 mod playing;
+mod playing_some;
 mod scene;
 mod sending;
 mod serving;
 mod tally;
+#[cfg(test)]
+mod tests;
 mod viewing;
 
 pub use device::{Sink, Source};
 pub use fault::{Device, EngineFault};
 pub use pixmap::ppm;
 pub use playing::play;
+pub use playing_some::play_some;
 pub use scene::Scene;
 pub use serving::serve;
 pub use tally::Tally;

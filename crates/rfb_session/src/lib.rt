@@ -16,7 +16,8 @@ mod told;
 mod world;
 
 pub use engine::{
-    Device, EngineFault, Scene, Sink, Source, Tally, play, ppm, serve, view, view_recording,
+    Device, EngineFault, Scene, Sink, Source, Tally, play, play_some, ppm, serve, view,
+    view_recording,
 };
 pub use event::Event;
 pub use told::{NoMemory, Refused, Told};

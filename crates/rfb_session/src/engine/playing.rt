@@ -79,7 +79,7 @@ fn watch(bytes: &[u8], viewer: &mut Viewer, before: u64) -> Result<u64, ViewerFa
 }
 
 // So many updates, and one more where the end of one is told.
-fn count(event: &Option<ViewerEvent>, updates: u64) -> u64
+pub(super) fn count(event: &Option<ViewerEvent>, updates: u64) -> u64
     ensures { result ≡ min (updates + ends_told (seen event.now)) (2 ^ 64 - 1) }
 {
     match event {

@@ -1,0 +1,13 @@
+-- What was read was fed, not enough updates ended, and no read has failed.
+use Rattle.std.proofs.Common.{◌≡◌, ◌<◌, length}
+use Rattle.rfb_session.proofs.PlayLemmas.{Reading}
+use Rattle.rfb_session.proofs.engine.playing_some.feed_some.Given as goal
+
+abbrev pub invariant-loop-turn : goal.invariant-loop-turn
+invariant-loop-turn g l = record {
+  reading : Reading (g.R.Source.unread l.initial.source) (g.R.Source.unread l.source) l.fn.viewer
+      l._turn l.updates l.viewer;
+  few : l.updates < l.enough;
+  none_failed : g.R.Source.failed l.source ≡ g.R.Source.failed l.initial.source;
+  size : length l.part ≡ 4096;
+}

@@ -1,0 +1,56 @@
+-- The first updates of a server's recorded bytes, played to a viewer.
+use Rattle.std.specs.Prelude.{◌≡◌, ℕ, ◌<◌, ◌+◌, ◌-◌, ◌^◌, min, false, List, ◌++◌, Option, Some}
+use Rattle.std.specs.Io.KnownBytes.{Consumes}
+use Rattle.rfb_viewer.specs.declared.viewer.Viewer.{Viewer}
+use Rattle.rfb_viewer.specs.Told.{ViewerTold, UpdateDone}
+use Rattle.rfb_session.specs.declared.engine.fault.EngineFault.{EngineFault}
+use Rattle.rfb_session.specs.declared.engine.fault.EngineFault.TheVariants.{Server, Viewer as ViewerEnded, Truncated, Device, NoMemory}
+use Rattle.rfb_session.specs.Watching.{ViewerRuns, WasFed, StandsBetween, ends_told}
+use Rattle.rfb_session.specs.Playing.{Played, AllPlayed, PlayedUntil}
+
+-- it was fed these bytes, and the update that they end, if they do, was counted behind those before
+pub record WasCounted (old : Viewer) (bytes : List ℕ) (before told : ℕ) (new : Viewer) : Type 0 where
+  pub event : Option ViewerTold
+  pub fed : WasFed old bytes event new
+  pub told_is : told ≡ min (before + ends_told event) (2 ^ 64 - 1)
+
+-- of some bytes the first were fed; the last of these end an update, with which there are enough
+pub record IsWatchedFirst (old : Viewer) (bytes : List ℕ) (before enough : ℕ) (new : Viewer)
+    : Type 0 where
+  pub fed : List ℕ
+  pub ending : List ℕ
+  pub later : List ℕ
+  pub sent : List ℕ
+  pub updates : ℕ
+  pub mid : Viewer
+  pub bytes_are : bytes ≡ (fed ++ ending) ++ later
+  pub runs : ViewerRuns old fed sent updates mid
+  pub ends : WasFed mid ending (Some UpdateDone) new
+  pub enough_is : enough ≡ before + updates + 1
+
+-- the same of what was read
+pub record PlayedFirst (unread left : Option (List ℕ)) (old : Viewer) (enough : ℕ) (new : Viewer)
+    : Type 0 where
+  pub fed : List ℕ
+  pub ending : List ℕ
+  pub later : List ℕ
+  pub sent : List ℕ
+  pub updates : ℕ
+  pub mid : Viewer
+  pub read : Consumes unread left ((fed ++ ending) ++ later)
+  pub runs : ViewerRuns old fed sent updates mid
+  pub ends : WasFed mid ending (Some UpdateDone) new
+  pub enough_is : enough ≡ updates + 1
+
+-- why it stops: fewer updates ended, and then the bytes where they must not; a read failed, which was
+-- counted; or the viewer ended
+abbrev pub StopsPlayingSome : Option (List ℕ) → Option (List ℕ) → ℕ → ℕ → Viewer → ℕ → EngineFault →
+    Viewer → Type 0
+StopsPlayingSome unread left failed_before failed old enough Truncated new =
+    (told : ℕ) × (told < enough) × AllPlayed unread left old told new × StandsBetween new false
+StopsPlayingSome unread left failed_before failed old enough Device new =
+    (failed ≡ failed_before + 1) × (updates : ℕ) × Played unread left old updates new
+StopsPlayingSome unread left failed_before failed old enough (ViewerEnded fault) new =
+    PlayedUntil unread left old fault new
+StopsPlayingSome unread left failed_before failed old enough (Server fault) new = ⊥
+StopsPlayingSome unread left failed_before failed old enough NoMemory new = ⊥
