@@ -1,5 +1,11 @@
 //! What both ends of one connection send, by RFC 6143.
 
+// A viewer: ProtocolVersion, the security type None, ClientInit, and a request for 2 by 1 places.
+pub const CLIENT: &[u8] = b"RFB 003.008\n\x01\x01\x03\0\0\0\0\0\0\x02\0\x01";
+
+// A request for what changed of them.
+pub const NEXT_REQUEST: &[u8] = b"\x03\x01\0\0\0\0\0\x02\0\x01";
+
 // The server's handshake: ProtocolVersion, security types, SecurityResult, and ServerInit with a
 // screen of 2 by 1, the format rgb888, and the name `rfb`.
 pub const HANDSHAKE: &[u8] = b"RFB 003.008\n\x01\x01\0\0\0\0\0\x02\0\x01\x20\x18\0\x01\
@@ -10,3 +16,11 @@ pub const UPDATE: &[u8] = b"\0\0\0\x01\0\0\0\0\0\x02\0\x01\0\0\0\0\0\0\0\0\x02\0
 
 // One where both places are (255, 0, 16).
 pub const RED_UPDATE: &[u8] = b"\0\0\0\x01\0\0\0\0\0\x02\0\x01\0\0\0\0\x10\0\xFF\0\x10\0\xFF\0";
+
+// ServerCutText with `ABCDE`.
+pub const CUT_TEXT: &[u8] = b"\x03\0\0\0\0\0\0\x05ABCDE";
+
+// What a viewer sends that asks once, in rgb888 and Raw: ProtocolVersion, the security type None,
+// ClientInit, SetPixelFormat, SetEncodings, and a request for 2 by 1 places.
+pub const VIEWER: &[u8] = b"RFB 003.008\n\x01\x01\0\0\0\0\x20\x18\0\x01\0\xFF\0\xFF\0\xFF\
+\x10\x08\0\0\0\0\x02\0\0\x01\0\0\0\0\x03\0\0\0\0\0\0\x02\0\x01";

@@ -1,0 +1,98 @@
+//! Pixmaps that are longer than what waits for one write.
+
+use super::devices::{Then, Writer};
+use crate::engine::{Device, Sink, Tally, ppm};
+use rfb_picture::{Picture, Rect};
+use rfb_pixel::Colour;
+use std::alloc::{AllocError, Global};
+
+// The colour of a place.
+fn colour_at(x: u16, y: u16) -> Colour {
+    Colour {
+        r: x.to_le_bytes()[0],
+        g: y.to_le_bytes()[0],
+        b: (x ^ y).to_le_bytes()[0],
+    }
+}
+
+const SIDE: u16 = 100;
+
+// A picture of 100 by 100 places, each with its own colour.
+fn picture(alloc: Global) -> Result<Picture<Colour>, AllocError> {
+    let mut picture = Picture::new(alloc, SIDE, SIDE, colour_at(0, 0))?;
+    for y in 0..SIDE {
+        for x in 0..SIDE {
+            let place = Rect { x, y, w: 1, h: 1 };
+            if picture.holds(place) {
+                picture.fill(place, colour_at(x, y));
+            }
+        }
+    }
+    Ok(picture)
+}
+
+// Its pixmap: 15 bytes, and 30,000.
+fn expected(alloc: Global) -> Result<Vec<u8>, AllocError> {
+    let mut bytes = b"P6\n100 100\n255\n".to_vec(alloc)?;
+    for y in 0..SIDE {
+        for x in 0..SIDE {
+            let colour = colour_at(x, y);
+            bytes.extend_from_slice(&[colour.r, colour.g, colour.b])?;
+        }
+    }
+    Ok(bytes)
+}
+
+// What a writer is given that takes at most so many bytes a call, for so many calls.
+fn written(
+    alloc: Global,
+    picture: &Picture<Colour>,
+    most: usize,
+    calls: usize,
+) -> (Result<(), Device>, Vec<u8>, u64) {
+    let mut sink = Tally::new(Writer {
+        bytes: Vec::new(alloc),
+        most,
+        calls,
+        then: Then::Fails,
+    });
+    let answer = ppm(picture, &mut sink);
+    let failures = sink.failures();
+    (answer, sink.into_inner().bytes, failures)
+}
+
+// Whether all of a pixmap is written, by writes of at most so many bytes.
+fn is_whole(alloc: Global, picture: &Picture<Colour>, pixmap: &[u8], most: usize) -> bool {
+    let (answer, bytes, _) = written(alloc, picture, most, usize::MAX);
+    answer == Ok(()) && bytes.as_slice() == pixmap
+}
+
+#[test]
+fn a_pixmap_is_whole_whatever_writes_take(rt: HostRuntime) -> Result<(), AllocError> {
+    let picture = picture(rt.alloc())?;
+    let pixmap = expected(rt.alloc())?;
+    for most in [1, 3, 127, 4096, 8191, 8192, 30_015] {
+        let whole = is_whole(rt.alloc(), &picture, &pixmap, most);
+        assert!(rt; whole, "writes of {most}");
+    }
+    Ok(())
+}
+
+// Whether a beginning of a pixmap is written, and one write failed, where so many writes of 1,000
+// bytes do not.
+fn has_beginning(alloc: Global, picture: &Picture<Colour>, pixmap: &[u8], calls: usize) -> bool {
+    let (answer, bytes, failures) = written(alloc, picture, 1000, calls);
+    answer == Err(Device) && failures == 1 && pixmap.starts_with(&bytes)
+}
+
+#[test]
+fn a_pixmap_that_cannot_be_written_has_its_beginning(rt: HostRuntime) -> Result<(), AllocError> {
+    let picture = picture(rt.alloc())?;
+    let pixmap = expected(rt.alloc())?;
+    // 30 writes of 1,000 bytes, and one of 15, where no write is cut short by the room.
+    for calls in [0, 1, 8, 9, 29] {
+        let beginning = has_beginning(rt.alloc(), &picture, &pixmap, calls);
+        assert!(rt; beginning, "behind {calls} writes");
+    }
+    Ok(())
+}
