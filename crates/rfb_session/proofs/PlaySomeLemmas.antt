@@ -1,13 +1,12 @@
 -- Bytes that an engine feeds a viewer until enough updates ended, call by call and read by read.
-use Rattle.std.proofs.Common.{◌≡◌, ◌≢◌, ℕ, ◌+◌, ◌-◌, ◌^◌, ◌<◌, ◌≤◌, min, List, [], ◌++◌, Option, Some, None, length, take, drop, refl, sym, ap, ◌∙◌, subst, append_assoc, take-append-drop, arith}
+use Rattle.std.proofs.Common.{◌≡◌, ℕ, ◌+◌, ◌-◌, ◌^◌, ◌<◌, ◌≤◌, min, List, ◌++◌, Option, Some, None, length, take, drop, refl, sym, ap, ◌∙◌, subst, append_assoc, take-append-drop, arith}
 use Rattle.std.specs.Io.KnownBytes.{Consumes}
 use Rattle.std.proofs.KnownBytes.{Consumes-trans}
 use Rattle.rfb_viewer.specs.declared.fault.ViewerFault.{ViewerFault}
 use Rattle.rfb_viewer.specs.declared.viewer.Viewer.{Viewer}
 use Rattle.rfb_viewer.specs.Told.{ViewerTold, Reply, Ready, UpdateDone, Bell, CutText, ColourMapSkipped}
 use Rattle.rfb_session.specs.InFlight.{viewer_reply}
-use Rattle.rfb_session.specs.Watching.{viewer_driven, ViewerRuns, WasFed, EndsBy, EndsWithin, ends_told}
-use Rattle.rfb_session.specs.Playing.{most}
+use Rattle.rfb_session.specs.Watching.{viewer_driven, WasFed, EndsBy, EndsWithin, ends_told}
 use Rattle.rfb_session.specs.PlayingSome.{WasCounted, IsWatchedFirst, PlayedFirst}
 use Rattle.rfb_session.proofs.WrittenLemmas.{rest_is}
 use Rattle.rfb_session.proofs.EngineRunLemmas.{ran_then, ran_fed}

@@ -1,4 +1,4 @@
-use Rattle.std.proofs.Common.{◌≡◌, ◌∙◌, ◌<◌, ◌≤◌, ℕ, take, length, refl, subst, arith, rules}
+use Rattle.std.proofs.Common.{◌≡◌, ◌∙◌, ◌<◌, ℕ, take, length, refl, subst, arith, rules}
 use Rattle.std.specs.Io.KnownBytes.{Consumes}
 use Rattle.rfb_session.proofs.PlayLemmas.{reading_none, reading_more, reading_stops, reading_ends, reading_out, reading_until, some_taken}
 use Rattle.rfb_session.proofs.PlaySomeLemmas.{reading_first}
