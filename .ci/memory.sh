@@ -7,8 +7,9 @@
 #
 #   .ci/memory.sh crates/rfb/out/rfb
 #
-# Calls whose memory or output is limited, or whose input is made up, are left out. It needs a C
-# compiler, for malloc and realloc in the place of libc's, so it is no part of the gate.
+# Calls whose memory or output is limited, whose input is made up, or that need another run beside
+# them are left out. It needs a C compiler, for malloc and realloc in the place of libc's, so it is no
+# part of the gate.
 # The last line is 'N passed, M failed'.
 set -u
 export LC_ALL=C
@@ -68,7 +69,9 @@ is_beginning() {
 passed=0 failed=0
 for call in "$calls"/*/; do
     call=${call%/} name=$(basename "$call") refused=0
-    if [ -e "$call/memory" ] || [ -e "$call/device" ] || [ -e "$call/more" ]; then continue; fi
+    for limit in memory device more beside; do
+        if [ -e "$call/$limit" ]; then continue 2; fi
+    done
     if [ -e "$call/stdin.gz" ]; then gzip -dc "$call/stdin.gz"; else cat "$(file "$call/stdin")"; fi \
         > "$room/stdin"
     run "$call" 0 all

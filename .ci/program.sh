@@ -9,6 +9,9 @@
 #   status   the exit status that it must have
 #   device   where standard output goes in place of a file
 #   memory   the most memory that it may have, in KiB of address space
+#   beside   the words of another run of it, which begins first and listens on a port; PORT in these
+#            words and in args is a port that was free
+#   told     what that one must print; its status must be 0
 # In place of stdin and stdout there may be stdin.gz and stdout.gz.
 # The last line is 'N passed, M failed'.
 set -u
@@ -29,11 +32,38 @@ input() {
     if [ -e "$1/more" ]; then yes "$(tail -n 1 "$1/more")" | head -n "$(head -n 1 "$1/more")"; fi
 }
 
+# Whether something listens on the port $1.
+listens() { grep -q ":$(printf %04X "$1") [0-9A-F:]* 0A " /proc/net/tcp; }
+
+# A port on which nothing does, below those that the system gives to connections.
+free_port() {
+    local port
+    for ((port = 20000 + RANDOM % 10000; ; port++)); do
+        listens "$port" || { echo "$port"; return; }
+    done
+}
+
+# Runs the program $1 beside the call $2, and waits until it listens on the port $3.
+begin() {
+    local words turn
+    mapfile -t words < "$2/beside"
+    timeout 60 "$1" "${words[@]/PORT/$3}" > "$room/told" 2>&1 &
+    for turn in {1..200}; do
+        if listens "$3"; then break; fi
+        sleep 0.05
+    done
+}
+
 # Runs the program $1 on the call $2. It tells on standard output what is wrong.
 try() {
-    local words wanted device status=0
+    local words wanted device port status=0
     mapfile -t words < "$(file "$2/args")"
     wanted=$(cat "$2/status")
+    if [ -e "$2/beside" ]; then
+        port=$(free_port)
+        words=("${words[@]/PORT/$port}")
+        begin "$1" "$2" "$port"
+    fi
     device=$room/stdout
     : > "$device"
     input "$2" > "$room/stdin"
@@ -47,6 +77,10 @@ try() {
     for stream in stdout stderr; do
         content "$2/$stream" | cmp -s "$room/$stream" - || { echo "its $stream is:"; head -c 2000 "$room/$stream"; }
     done
+    if [ -e "$2/beside" ]; then
+        wait "$!" || echo "the run beside it has status $?"
+        cmp -s "$room/told" "$2/told" || { echo "the run beside it says:"; head -c 2000 "$room/told"; }
+    fi
 }
 
 passed=0 failed=0

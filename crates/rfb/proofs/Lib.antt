@@ -6,6 +6,8 @@ pub mod PlayingLemmas
 pub mod RecordingLemmas
 pub mod SceneLemmas
 pub mod ScriptLemmas
+pub mod ViewingLemmas
 pub mod WordLemmas
 pub mod LinesLemmas
+pub mod ListLemmas
 pub mod MadeLemmas

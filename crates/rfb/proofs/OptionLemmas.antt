@@ -10,8 +10,10 @@ use Rattle.clap.specs.Faults.{fault_of}
 use Rattle.rfb.specs.declared.options.Task.{Task}
 use Rattle.rfb.specs.declared.options.WrongWords.{WrongWords}
 use Rattle.rfb.specs.declared.options.WrongWords.TheVariants.{Words, Value}
-use Rattle.rfb.specs.Options.{AreAsked, AreWrong, GivesFormat, HasBadFormat, HasBadValue, IsTask, IsWrongValue, asked, names_format, program}
-use Rattle.rfb.specs.Words.{IsFormatWord}
+use Rattle.arrayvec.specs.ArrayVec.{ArrayVec}
+use Rattle.rfb_wire.specs.declared.encoding.Encoding.{Encoding}
+use Rattle.rfb.specs.Options.{AreAsked, AreWrong, GivesEncodings, GivesFormat, HasBadEncodings, HasBadFormat, HasBadValue, IsTask, IsWrongValue, asked, NamesEncodings, NamesFormat, program}
+use Rattle.rfb.specs.Words.{AreEncodings, IsFormatWord, parts_of}
 
 -- a plain command has no global argument
 pub no_globals : (a b c d : Bool) → (a && (not b && (not c && d))) ≡ true → c ≡ false
@@ -40,22 +42,30 @@ pub format_given : (rows : List Row) (word : Text) (r : Result PixelFormat BadVa
     first_of (codes "format") rows ≡ Some word →
     MatchResult r (IsFormatWord word) (λ _. (f : PixelFormat) → ¬ (IsFormatWord word f)) →
     MatchResult r (GivesFormat rows) (λ _. HasBadFormat rows)
-format_given rows word (Ok f) e named = subst (λ (o : Option Text). names_format o f) (sym e) named
+format_given rows word (Ok f) e named = subst (λ (o : Option Text). NamesFormat o f) (sym e) named
 format_given rows word (Err bad) e none = (word, e, none)
+
+-- the same of a list of encodings
+pub encodings_given : (rows : List Row) (list : Text) (r : Result (ArrayVec Encoding) BadValue) →
+    first_of (codes "encodings") rows ≡ Some list →
+    MatchResult r (λ es. AreEncodings (parts_of list) es.items) (λ _. (es : List Encoding) → ¬ (AreEncodings (parts_of list) es)) →
+    MatchResult r (λ es. GivesEncodings rows es.items) (λ _. HasBadEncodings rows)
+encodings_given rows list (Ok es) e named = subst (λ (o : Option Text). NamesEncodings o es.items) (sym e) named
+encodings_given rows list (Err bad) e none = (list, e, none)
 
 -- ---- numbers, by what `get_one` reads
 
-pub number_read : (E : Type 0) (G : List ℕ → Result ℕ E → Type 0) (t : List ℕ) (r : Option ℕ) (n : ℕ) →
-    r ≡ Some n → ReadsOne G t r → ((u : List ℕ) (x : Result ℕ E) → G u x → ParsesUnsigned 16 10 u x) →
+pub number_read : (bits : ℕ) (E : Type 0) (G : List ℕ → Result ℕ E → Type 0) (t : List ℕ) (r : Option ℕ) (n : ℕ) →
+    r ≡ Some n → ReadsOne G t r → ((u : List ℕ) (x : Result ℕ E) → G u x → ParsesUnsigned bits 10 u x) →
     n ≡ digits_value 10 (without_leading_plus t)
-number_read E G t None n is h only = absurd (none-some n is)
-number_read E G t (Some m) n is h only = sym (same_Some m n is) ∙ (only t (Ok m) h).1
+number_read bits E G t None n is h only = absurd (none-some n is)
+number_read bits E G t (Some m) n is h only = sym (same_Some m n is) ∙ (only t (Ok m) h).1
 
-pub none_read : (E : Type 0) (G : List ℕ → Result ℕ E → Type 0) (t : List ℕ) (r : Option ℕ) →
-    r ≡ None → ReadsOne G t r → ((u : List ℕ) (x : Result ℕ E) → G u x → ParsesUnsigned 16 10 u x) →
-    ¬ (IsNumeral 10 (without_leading_plus t) × (digits_value 10 (without_leading_plus t) < 2 ^ 16))
-none_read E G t None is h only = only t (Err h.0) h.1
-none_read E G t (Some m) is h only = absurd (none-some m (sym is))
+pub none_read : (bits : ℕ) (E : Type 0) (G : List ℕ → Result ℕ E → Type 0) (t : List ℕ) (r : Option ℕ) →
+    r ≡ None → ReadsOne G t r → ((u : List ℕ) (x : Result ℕ E) → G u x → ParsesUnsigned bits 10 u x) →
+    ¬ (IsNumeral 10 (without_leading_plus t) × (digits_value 10 (without_leading_plus t) < 2 ^ bits))
+none_read bits E G t None is h only = only t (Err h.0) h.1
+none_read bits E G t (Some m) is h only = absurd (none-some m (sym is))
 
 -- ---- what words ask for
 

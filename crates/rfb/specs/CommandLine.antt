@@ -15,7 +15,7 @@ use Rattle.rfb.specs.Script.{AreScript, StopsReading, lines_of}
 use Rattle.rfb.specs.Pixmap.{pixmap}
 use Rattle.clap.specs.Words.{Text}
 use Rattle.rfb.specs.declared.options.Task.{Task}
-use Rattle.rfb.specs.declared.options.Task.TheVariants.{Script, Play, Serve}
+use Rattle.rfb.specs.declared.options.Task.TheVariants.{Script, Play, Serve, View}
 use Rattle.rfb.specs.Options.{AreAsked}
 use Rattle.rfb.specs.Recording.{PlaysRecording}
 
@@ -61,6 +61,7 @@ FailsAt read (Engine fault) = ⊥
 abbrev pub Does : Task → Option (List ℕ) → Option (List ℕ) → Option (List ℕ) → Type 0
 Does Script read before after = PlaysScript read before after
 Does (Serve wanted) read before after = ⊤
+Does (View look) read before after = ⊤
 Does (Play format) read before after = PlaysRecording format read before after
 
 -- the same of what words ask for

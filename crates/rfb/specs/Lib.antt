@@ -8,4 +8,5 @@ pub mod Playing
 pub mod Recording
 pub mod Scene
 pub mod Script
+pub mod Viewing
 pub mod Words

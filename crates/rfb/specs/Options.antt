@@ -1,27 +1,49 @@
 -- What the words of the command line ask for.
-use Rattle.std.specs.Prelude.{◌≡◌, ◌≢◌, ◌≤◌, ◌⊎◌, ℕ, pos, List, [], ◌∷◌, Option, Some, None, codes, true}
+use Rattle.std.specs.Prelude.{◌≡◌, ◌≢◌, ◌≤◌, ◌⊎◌, ℕ, pos, Bool, true, false, List, [], ◌∷◌, Option, Some, None, codes}
 use Rattle.std.specs.Str.Parse.{IsNumeral, digits_value, without_leading_plus}
+use Rattle.clap.specs.declared.builder.action.ArgAction.TheVariants.{SetTrue}
 use Rattle.clap.specs.declared.builder.value_parser.ValueParser.TheVariants.{Signed}
 use Rattle.clap.specs.Words.{App, HasKind, IsAmong, Row, Rule, Shape, Text, fault_of, first_of, one_of, new_app, new_rule, subcommand_of, with_rule, with_subcommand}
 use Rattle.clap.specs.Simple.{new_shape}
 use Rattle.clap.specs.declared.error.kind.ErrorKind.{ErrorKind}
 use Rattle.clap.specs.declared.error.kind.ErrorKind.TheVariants.{DisplayHelp, DisplayVersion}
 use Rattle.rfb_pixel.specs.Format.{PixelFormat, rgb888}
+use Rattle.rfb_wire.specs.declared.encoding.Encoding.{Encoding}
+use Rattle.rfb_wire.specs.declared.encoding.Encoding.TheVariants.{Raw}
 use Rattle.rfb.specs.declared.options.Task.{Task}
-use Rattle.rfb.specs.declared.options.Task.TheVariants.{Script, Play, Serve}
+use Rattle.rfb.specs.declared.options.Task.TheVariants.{Script, Play, Serve, View}
 use Rattle.rfb.specs.declared.options.WrongWords.{WrongWords}
 use Rattle.rfb.specs.declared.options.WrongWords.TheVariants.{Words, Value}
 use Rattle.rfb.specs.declared.serving.Wanted.{Wanted}
-use Rattle.rfb.specs.Words.{IsFormatWord}
+use Rattle.rfb.specs.declared.viewing.look.Look.{Look}
+use Rattle.rfb.specs.declared.viewing.look.Sight.{Sight}
+use Rattle.rfb.specs.Words.{AreEncodings, IsFormatWord, parts_of}
 
 -- ---- the words that there are
 
+-- any word, or else this one
+abbrev pub word_rule : Text → Text → Rule
+word_rule name default = record (new_rule name) {
+  long = Some name;
+  value_names = 1;
+  defaults = default ∷ [];
+}
+
 -- a format, by its name
 abbrev pub format_rule : Rule
-format_rule = record (new_rule (codes "format")) {
-  long = Some (codes "format");
-  value_names = 1;
-  defaults = codes "rgb888" ∷ [];
+format_rule = word_rule (codes "format") (codes "rgb888")
+
+abbrev pub host_rule : Rule
+host_rule = word_rule (codes "host") (codes "127.0.0.1")
+
+abbrev pub encodings_rule : Rule
+encodings_rule = word_rule (codes "encodings") (codes "raw")
+
+-- a word that is given or not
+abbrev pub record_rule : Rule
+record_rule = record (new_rule (codes "record")) {
+  long = Some (codes "record");
+  action = Some SetTrue;
 }
 
 -- a number in a range, by its digits
@@ -43,6 +65,11 @@ connections_rule = record (number_rule (codes "connections") 1 65535) {
   defaults = codes "1" ∷ [];
 }
 
+abbrev pub updates_rule : Rule
+updates_rule = record (number_rule (codes "updates") 1 4294967295) {
+  defaults = codes "1" ∷ [];
+}
+
 -- the commands
 abbrev pub script_shape : Shape
 script_shape = new_shape (codes "script")
@@ -54,6 +81,11 @@ abbrev pub serve_shape : Shape
 serve_shape = (with_rule (with_rule (with_rule (with_rule (new_app (codes "serve")) port_rule)
     (side_rule (codes "width"))) (side_rule (codes "height"))) connections_rule).top
 
+abbrev pub view_shape : Shape
+view_shape = (with_rule (with_rule (with_rule (with_rule (with_rule (with_rule
+    (new_app (codes "view")) host_rule) port_rule) updates_rule) format_rule) encodings_rule)
+    record_rule).top
+
 -- the program has a version, and commands, one of which has to be named
 abbrev pub top : App
 top = record {
@@ -62,8 +94,8 @@ top = record {
 }
 
 abbrev pub program : App
-program =
-    with_subcommand (with_subcommand (with_subcommand top script_shape) play_shape) serve_shape
+program = with_subcommand (with_subcommand (with_subcommand (with_subcommand top
+    script_shape) play_shape) serve_shape) view_shape
 
 -- ---- what they ask for
 
@@ -72,12 +104,12 @@ abbrev pub asked : List Text → Option (Text × List Row)
 asked words = subcommand_of program words
 
 -- the format that is given by its name, or rgb888
-abbrev pub names_format : Option Text → PixelFormat → Type 0
-names_format None format = format ≡ rgb888
-names_format (Some word) format = IsFormatWord word format
+abbrev pub NamesFormat : Option Text → PixelFormat → Type 0
+NamesFormat None format = format ≡ rgb888
+NamesFormat (Some word) format = IsFormatWord word format
 
 abbrev pub GivesFormat : List Row → PixelFormat → Type 0
-GivesFormat rows format = names_format (first_of (codes "format") rows) format
+GivesFormat rows format = NamesFormat (first_of (codes "format") rows) format
 
 -- a word for a format is the name of none
 abbrev pub HasBadFormat : List Row → Type 0
@@ -100,19 +132,68 @@ pub record GivesWanted (rows : List Row) (wanted : Wanted) : Type 0 where
   pub height : GivesNumber (codes "height") 1 4096 rows wanted.screen.height
   pub connections : GivesNumber (codes "connections") 1 65535 rows wanted.connections
 
+-- the host that is given, or the loopback address
+abbrev pub NamesHost : Option Text → Text → Type 0
+NamesHost None host = host ≡ codes "127.0.0.1"
+NamesHost (Some word) host = host ≡ word
+
+abbrev pub GivesHost : List Row → Text → Type 0
+GivesHost rows host = NamesHost (first_of (codes "host") rows) host
+
+-- the encodings that are given by their names, with commas between them, or Raw
+abbrev pub NamesEncodings : Option Text → List Encoding → Type 0
+NamesEncodings None encodings = encodings ≡ Raw ∷ []
+NamesEncodings (Some list) encodings = AreEncodings (parts_of list) encodings
+
+abbrev pub GivesEncodings : List Row → List Encoding → Type 0
+GivesEncodings rows encodings = NamesEncodings (first_of (codes "encodings") rows) encodings
+
+-- a list of encodings has a part that is the name of none, or too many
+abbrev pub HasBadEncodings : List Row → Type 0
+HasBadEncodings rows =
+    (list : Text) × (first_of (codes "encodings") rows ≡ Some list)
+    × ((encodings : List Encoding) → ¬ (AreEncodings (parts_of list) encodings))
+
+-- a word that is given or not is there
+abbrev pub IsFlagged : Text → List Row → Bool → Type 0
+IsFlagged name rows flag =
+    (one_of name rows ≡ Some (codes "true") → flag ≡ true)
+    × (one_of name rows ≡ Some (codes "false") → flag ≡ false)
+
+-- what is to be seen of a server
+pub record GivesSight (rows : List Row) (sight : Sight) : Type 0 where
+  pub format : GivesFormat rows sight.wants.format
+  pub encodings : GivesEncodings rows sight.wants.encodings.items
+  pub updates : GivesNumber (codes "updates") 1 4294967295 rows sight.updates
+  pub is_recorded : IsFlagged (codes "record") rows sight.is_recorded
+
+-- what `view` is asked for
+pub record GivesLook (rows : List Row) (look : Look) : Type 0 where
+  pub host : GivesHost rows look.host.now
+  pub port : GivesNumber (codes "port") 1 65535 rows look.port
+  pub sight : GivesSight rows look.sight
+
+-- a word of `view` is no format, or no list of encodings
+abbrev pub HasBadSight : List Row → Type 0
+HasBadSight rows = HasBadFormat rows ⊎ HasBadEncodings rows
+
 -- a command, by its name and its options; `script` is the one with no other name
 abbrev pub IsTask : Option (Text × List Row) → Task → Type 0
 IsTask None Script = Unit {0}
 IsTask None (Play format) = ⊥
 IsTask None (Serve wanted) = ⊥
-IsTask (Some (name, rows)) Script = (name ≢ codes "play") × (name ≢ codes "serve")
+IsTask None (View look) = ⊥
+IsTask (Some (name, rows)) Script =
+    (name ≢ codes "play") × (name ≢ codes "serve") × (name ≢ codes "view")
 IsTask (Some (name, rows)) (Play format) = (name ≡ codes "play") × GivesFormat rows format
 IsTask (Some (name, rows)) (Serve wanted) = (name ≡ codes "serve") × GivesWanted rows wanted
+IsTask (Some (name, rows)) (View look) = (name ≡ codes "view") × GivesLook rows look
 
 -- a value of an option is none that it may have
 abbrev pub HasBadValue : Option (Text × List Row) → Type 0
 HasBadValue None = ⊥
-HasBadValue (Some (name, rows)) = (name ≡ codes "play") × HasBadFormat rows
+HasBadValue (Some (name, rows)) =
+    ((name ≡ codes "play") × HasBadFormat rows) ⊎ ((name ≡ codes "view") × HasBadSight rows)
 
 -- ---- words
 

@@ -1,7 +1,7 @@
 -- What the words of a line stand for, behind the first one.
-use Rattle.std.specs.Prelude.{◌≡◌, ◌≤◌, ◌⊎◌, ℕ, Bool, true, false, List, [], ◌∷◌, Ok, codes, length, map}
+use Rattle.std.specs.Prelude.{◌≡◌, ◌==◌, ◌≤◌, ◌⊎◌, ℕ, Bool, true, false, List, [], ◌∷◌, Ok, codes, length, map}
 use Rattle.std.specs.Borrow.{Bor}
-use Rattle.std.specs.List.{AllPass}
+use Rattle.std.specs.List.{AllPass, slice_split}
 use Rattle.std.specs.Str.Parse.{digits_value}
 use Rattle.hex.specs.Hex.{decode_of, is_hex_digit}
 use Rattle.rfb_picture.specs.declared.rect.Rect.{Rect}
@@ -16,6 +16,10 @@ use Rattle.rfb.specs.Number.{IsCount, IsNumber}
 -- the words behind references to them
 abbrev pub texts : List (Bor (List ℕ)) → List (List ℕ)
 texts words = map (λ word. word.now) words
+
+-- the parts of a list, parted by commas; two commas in a row have an empty part between them
+abbrev pub parts_of : List ℕ → List (List ℕ)
+parts_of list = slice_split (λ byte. byte == 44) list
 
 -- ---- one word
 

@@ -11,6 +11,7 @@ use crate::options::{BadValue, Task, WrongWords, read_words};
 use crate::recording::play_recording;
 use crate::scripting::script;
 use crate::serving::serve_at;
+use crate::viewing::view_at;
 use clap::error::ErrorKind;
 use std::convert::AsStr;
 use std::io;
@@ -77,12 +78,12 @@ pub fn command<P: AllocGlobal + Net, S: AsStr, R: Read, W: Write, E: Write>(
 // Does what the words ask for.
 fn work<P: AllocGlobal + Net, R: Read, W: Write, E: Write>(
     rt: &P,
-    task: Task,
+    task: Task<'_>,
     input: &mut R,
     output: &mut W,
     errors: &mut E,
 ) -> Result<(), Failure>
-    ensures { OnOk result (Does task
+    ensures { OnOk result (Does task.entry
         (R.remaining input.old) (W.contents output.old) (W.contents output.new)) }
 {
     let alloc = rt.alloc();
@@ -90,6 +91,7 @@ fn work<P: AllocGlobal + Net, R: Read, W: Write, E: Write>(
         Task::Script => script(alloc, input, output, errors),
         Task::Play(format) => play_recording(alloc, format, input, output),
         Task::Serve(wanted) => serve_at(rt, alloc, wanted, output),
+        Task::View(look) => view_at(rt, alloc, look, output),
     }
 }
 
@@ -103,14 +105,16 @@ fn tell<E: Write>(failure: Failure, errors: &mut E) -> u8
 
 // Prints which value of an option is none. A write that fails changes nothing.
 fn tell_value<E: Write>(value: BadValue<'_>, errors: &mut E) {
-    let BadValue::Format(word) = value;
-    let _ = writeln!(
-        errors,
-        "error: invalid value '{word}' for '--format <F>'
+    let _ = match value {
+        BadValue::Format(word) => writeln!(
+            errors,
+            "error: invalid value '{word}' for '--format <F>'
   [possible values: rgb888, rgb565, bgr233]
 
 For more information, try '--help'."
-    );
+        ),
+        BadValue::Encodings => writeln!(errors, "bad encodings"),
+    };
 }
 
 /// Tells on `errors` why there are no words to go by, and answers the exit status: 2 for a word

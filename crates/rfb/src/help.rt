@@ -47,3 +47,15 @@ docs/PROTOCOL.md has the faults by number.
 Example, with a viewer of TigerVNC:
   rfb serve --port 5950 --width 640 --height 480 &
   vncviewer 127.0.0.1::5950";
+
+pub const SERVERS: &str = "\
+A viewer asks for the whole screen and then, after each update, for what changed, until so many
+updates came. A server sends none while nothing changes. Then the picture is written. With --record
+standard output gets in its place what the server sent up to there, as it comes: `rfb play` shows
+that as the same picture, in the same format. The server must offer the security type None.
+docs/PROTOCOL.md has the formats, and the faults by number.
+
+Examples:
+  rfb view --port 5901 > picture.ppm
+  rfb view --host example.org --port 5900 --encodings hextile,copyrect --updates 3 > picture.ppm
+  rfb view --port 5901 --record > server.rfb";

@@ -1,7 +1,7 @@
 //! The program `rfb`: both ends of the Remote Framebuffer protocol (RFC 6143) at work.
 //!
 //! `command_line` has the statuses, `options` the words, and each command a module: `scripting`,
-//! `recording` and `serving`. `script` has the language of scripts.
+//! `recording`, `serving` and `viewing`. `script` has the language of scripts.
 #![tactic(auto)]
 
 mod command_line;
@@ -17,6 +17,7 @@ mod scripting;
 mod serving;
 #[cfg(test)]
 mod tests;
+mod viewing;
 
 use command_line::{command, without_words};
 use std::process::ExitCode;

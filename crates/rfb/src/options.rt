@@ -1,5 +1,7 @@
 //! The words of the command line: which there are, and what they ask for.
 
+mod looking;
+
 ghost use Rattle.std.specs.Prelude.{◌≡◌, ◌≤◌, false, map, Some, IfOk, MatchResult};
 ghost use Rattle.clap.specs.Words.{FailsBy, fault_of, found_of, rows_of, rule_of, shape_of, subcommand_rows_of};
 ghost use Rattle.rfb.specs.Options.{AreAsked, AreWrong, IsWrongValue};
@@ -10,22 +12,26 @@ ghost use Rattle.rfb.specs.Options.{connections_rule, format_rule, port_rule, si
 ghost use Rattle.rfb.specs.Options.{play_shape, program, script_shape, serve_shape};
 
 use crate::help::{LANGUAGE, RECORDINGS, STATUSES, VERSION, VIEWERS};
+use crate::options::looking::{look_in, view_words};
 use crate::script::{MAX_SIDE, Screen, read_format};
 use crate::serving::Wanted;
+use crate::viewing::Look;
 use clap::{Arg, ArgMatches, Command, Error};
 use rfb_pixel::Format;
 use std::alloc::{AllocError, Global};
 use std::convert::AsStr;
 
 /// What the words ask for.
-#[derive(Clone, Copy, Debug, PartialEq, Eq)]
-pub enum Task {
+#[derive(Debug, PartialEq, Eq, Drop)]
+pub enum Task<'a> {
     /// To run a script in memory.
     Script,
     /// To play a recording, in this format.
     Play(Format),
     /// To serve the test scene.
     Serve(Wanted),
+    /// To view a server.
+    View(Look<'a>),
 }
 
 /// A word that no value of its option is.
@@ -33,6 +39,8 @@ pub enum Task {
 pub enum BadValue<'a> {
     /// No format.
     Format(&'a str),
+    /// No list of one to four encodings.
+    Encodings,
 }
 
 /// Why words ask for no task.
@@ -45,7 +53,7 @@ pub enum WrongWords<'a> {
 }
 
 /// What the words ask for.
-pub fn read_words<'a, S: AsStr>(alloc: Global, words: &'a [S]) -> Result<Task, WrongWords<'a>>
+pub fn read_words<'a, S: AsStr>(alloc: Global, words: &'a [S]) -> Result<Task<'a>, WrongWords<'a>>
     ensures { MatchResult result (AreAsked (map S.text words.now))
         (AreWrong (map S.text words.now)) }
 {
@@ -69,6 +77,7 @@ fn parse<'a, S: AsStr>(alloc: Global, words: &'a [S]) -> Result<ArgMatches<'a>, 
         .subcommand(script_words(alloc))?
         .subcommand(play_words(alloc)?)?
         .subcommand(serve_words(alloc)?)?
+        .subcommand(view_words(alloc)?)?
         .try_get_matches_from(words)
 }
 
@@ -160,7 +169,7 @@ fn format_word<'a>(alloc: Global) -> Arg<'a>
 }
 
 // What the words ask for, once they are parsed.
-fn task_in<'a>(matches: &ArgMatches<'a>) -> Result<Task, WrongWords<'a>>
+fn task_in<'a>(matches: &ArgMatches<'a>) -> Result<Task<'a>, WrongWords<'a>>
     ensures { MatchResult result (IsTask (subcommand_rows_of matches.now))
         (IsWrongValue (subcommand_rows_of matches.now)) }
 {
@@ -171,7 +180,7 @@ fn task_in<'a>(matches: &ArgMatches<'a>) -> Result<Task, WrongWords<'a>>
 }
 
 // The task of the command that is named.
-fn task_of<'a>(matches: &ArgMatches<'a>) -> Result<Task, BadValue<'a>>
+fn task_of<'a>(matches: &ArgMatches<'a>) -> Result<Task<'a>, BadValue<'a>>
     ensures { MatchResult result (IsTask (subcommand_rows_of matches.now))
         (λ _. HasBadValue (subcommand_rows_of matches.now)) }
 {
@@ -182,7 +191,7 @@ fn task_of<'a>(matches: &ArgMatches<'a>) -> Result<Task, BadValue<'a>>
 }
 
 // What the command of this name is asked for. `script` is the one with no other name.
-fn command_of<'a>(name: &str, given: &ArgMatches<'a>) -> Result<Task, BadValue<'a>>
+fn command_of<'a>(name: &str, given: &ArgMatches<'a>) -> Result<Task<'a>, BadValue<'a>>
     ensures { MatchResult result
         (IsTask (Some (name.now, rows_of (found_of given.now))))
         (λ _. HasBadValue (Some (name.now, rows_of (found_of given.now)))) }
@@ -195,6 +204,12 @@ fn command_of<'a>(name: &str, given: &ArgMatches<'a>) -> Result<Task, BadValue<'
     }
     if name == "serve" {
         return Ok(Task::Serve(wanted_in(given)));
+    }
+    if name == "view" {
+        return match look_in(given) {
+            Ok(look) => Ok(Task::View(look)),
+            Err(value) => Err(value),
+        };
     }
     Ok(Task::Script)
 }

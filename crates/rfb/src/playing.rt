@@ -1,6 +1,7 @@
 //! A script at work: both ends in memory, and what a step does to them.
 
-ghost use Rattle.std.specs.Prelude.{◌≡◌, ◌≢◌, None, IfOk, OnOk};
+ghost use Rattle.std.specs.Prelude.{◌≡◌, ◌≢◌, ◌∷◌, [], None, IfOk, OnOk};
+ghost use Rattle.rfb_wire.specs.declared.encoding.Encoding.TheVariants.{Raw};
 ghost use Rattle.rfb.specs.declared.script.line.Step.TheVariants.{Settle};
 ghost use Rattle.rfb.specs.Few.{HasFew};
 ghost use Rattle.rfb.specs.Playing.{IsFreshServer, StandsFresh, TakesStep, TellsRefusal, encodings_of, format_of};
@@ -77,11 +78,17 @@ fn wishes(wants: &Option<Wants>) -> (Format, ArrayVec<Encoding, 4>)
                 Err(_) => unreachable!(),
             }
         }
-        None => {
-            encodings.push(Encoding::Raw);
-            (Format::rgb888(), encodings)
-        }
+        None => (Format::rgb888(), only_raw()),
     }
+}
+
+/// Raw alone.
+pub fn only_raw() -> ArrayVec<Encoding, 4>
+    ensures { result.items ≡ Raw ∷ [] }
+{
+    let mut encodings = ArrayVec::new();
+    encodings.push(Encoding::Raw);
+    encodings
 }
 
 /// Takes a step, and answers its refusal, if it was refused; then nothing has changed. A `settle`

@@ -1,7 +1,6 @@
 //! Recordings of a server, played to a viewer.
 
-ghost use Rattle.std.specs.Prelude.{◌≡◌, [], ◌∷◌, Err, IfOk, IfErr, OnOk};
-ghost use Rattle.rfb_wire.specs.declared.encoding.Encoding.TheVariants.{Raw};
+ghost use Rattle.std.specs.Prelude.{◌≡◌, Err, IfOk, IfErr, OnOk};
 ghost use Rattle.rfb.specs.declared.fault.Fault.{Fault};
 ghost use Rattle.rfb_session.specs.declared.engine.fault.EngineFault.{EngineFault};
 ghost use Rattle.rfb.specs.declared.fault.Failure.TheVariants as Failure;
@@ -9,12 +8,10 @@ ghost use Rattle.rfb.specs.Recording.{FailsToPlay, PlaysRecording, WritesPicture
 
 use crate::fault::{Failure, Fault};
 use crate::pixmap::write_pixmap;
-use crate::playing::fresh_viewer;
-use arrayvec::ArrayVec;
+use crate::playing::{fresh_viewer, only_raw};
 use rfb_pixel::Format;
 use rfb_session::{EngineFault, Tally};
 use rfb_viewer::Viewer;
-use rfb_wire::Encoding;
 use std::alloc::Global;
 use std::io::{Read, Write};
 
@@ -40,15 +37,6 @@ pub fn play_recording<R: Read, W: Write>(
     }
 }
 
-// Raw alone.
-fn only_raw() -> ArrayVec<Encoding, 4>
-    ensures { result.items ≡ Raw ∷ [] }
-{
-    let mut encodings = ArrayVec::new();
-    encodings.push(Encoding::Raw);
-    encodings
-}
-
 // Feeds a viewer all that `input` has, and tells how many updates ended.
 fn watch<R: Read>(input: &mut R, viewer: &mut Viewer) -> Result<u64, EngineFault>
     ensures watched { IfOk result (λ updates.
@@ -60,8 +48,8 @@ fn watch<R: Read>(input: &mut R, viewer: &mut Viewer) -> Result<u64, EngineFault
     rfb_session::play(&mut source, viewer)
 }
 
-// Writes what a viewer shows. What ends it is a fault of the program's own, and no engine's.
-fn show<W: Write>(alloc: Global, viewer: &Viewer, output: &mut W) -> Result<(), Failure>
+/// Writes what a viewer shows. What ends it is a fault of the program's own, and no engine's.
+pub fn show<W: Write>(alloc: Global, viewer: &Viewer, output: &mut W) -> Result<(), Failure>
     ensures done { OnOk result
         (WritesPicture viewer.now (W.contents output.old) (W.contents output.new)) }
     ensures stopped { IfErr result (λ failure. (fault : Fault) × (failure ≡ Failure.Fault fault)) }

@@ -37,7 +37,7 @@ use crate::fault::Failure;
 use crate::script::read::{read_screen, read_step, read_viewer};
 pub use line::{Numbered, Screen, Step, Wants};
 use std::alloc::Global;
-pub use words::{MAX_SIDE, read_format};
+pub use words::{MAX_SIDE, read_format, read_list};
 
 /// A script that was read to its end and has no bad line.
 #[derive(Debug, Drop)]

@@ -10,4 +10,5 @@ mod sockets;
 mod steps;
 mod streams;
 mod updates;
+mod views;
 mod words;

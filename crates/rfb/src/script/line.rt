@@ -19,7 +19,7 @@ pub struct Screen {
 
 /// What the viewer asks the server for, once both are ready: pixels of a format, in one of these
 /// encodings, the best first.
-#[derive(Debug, Drop)]
+#[derive(Debug, PartialEq, Eq, Drop)]
 pub struct Wants {
     pub format: Format,
     pub encodings: ArrayVec<Encoding, 4>,

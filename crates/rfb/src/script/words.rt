@@ -1,12 +1,12 @@
 //! Words of a line that stand for a value.
 
-ghost use Rattle.std.specs.Prelude.{◌≡◌, ◌≢◌, ◌↔◌, ◌∷◌, [], ℕ, Ok, IfSome, IsSome, List, MatchOption, length};
+ghost use Rattle.std.specs.Prelude.{◌≡◌, ◌≢◌, ◌<◌, ◌↔◌, ◌∷◌, [], ℕ, Ok, IfSome, IsSome, List, MatchOption, length};
 ghost use Rattle.std.specs.List.{AllPass};
 ghost use Rattle.std.specs.Str.Parse.{digits_value};
 ghost use Rattle.hex.specs.Hex.{decode_of, is_hex_digit};
 ghost use Rattle.rfb_pixel.specs.Format.{PixelFormat};
 ghost use Rattle.rfb_wire.specs.declared.encoding.Encoding.{Encoding};
-ghost use Rattle.rfb.specs.Words.{AreEncodings, AreNumbers, AreRect, IsFormatWord, IsSide, name_of, texts};
+ghost use Rattle.rfb.specs.Words.{AreEncodings, AreNumbers, AreRect, IsFormatWord, IsSide, name_of, parts_of, texts};
 
 use crate::script::number::read_number;
 use arrayvec::ArrayVec;
@@ -114,4 +114,25 @@ pub fn read_encodings(words: &[&[u8]]) -> Option<ArrayVec<Encoding, 4>>
         return None;
     }
     Some(encodings)
+}
+
+/// One to four encodings, parted by commas.
+pub fn read_list(list: &[u8]) -> Option<ArrayVec<Encoding, 4>>
+    ensures { MatchOption result
+        ((encodings : List Encoding) → ¬ (AreEncodings (parts_of list.now) encodings))
+        (λ encodings. AreEncodings (parts_of list.now) encodings.items) }
+{
+    read_encodings(parted(list)?.as_slice())
+}
+
+// The parts of a list, if they are not too many.
+fn parted<'a>(list: &'a [u8]) -> Option<ArrayVec<&'a [u8], 4>>
+    ensures { MatchOption result (4 < length (parts_of list.now))
+        (λ parts. texts parts.items ≡ parts_of list.now) }
+{
+    let mut parts = ArrayVec::new();
+    for part in list.split(|byte| *byte == b',') {
+        parts.try_push(part).ok()?;
+    }
+    Some(parts)
 }

@@ -1,12 +1,16 @@
 //! What the words of a command ask for.
 
 use crate::options::{Task, read_words};
-use crate::script::Screen;
+use crate::playing::only_raw;
+use crate::script::{Screen, Wants};
 use crate::serving::Wanted;
+use crate::viewing::{Look, Sight};
+use arrayvec::ArrayVec;
 use rfb_pixel::Format;
+use rfb_wire::Encoding;
 
 // What these words ask for, if it is something.
-fn task(rt: &HostRuntime, words: &[&str]) -> Option<Task> {
+fn task<'a>(rt: &HostRuntime, words: &'a [&'a str]) -> Option<Task<'a>> {
     read_words(rt.alloc(), words).ok()
 }
 
@@ -74,4 +78,62 @@ fn numbers_may_be_the_least_and_the_greatest(rt: HostRuntime) {
         let given = task(&rt, &all[..2 + count]);
         assert_eq!(rt; given, Some(Task::Serve(wanted)), "{words:?}");
     }
+}
+
+// Of a server on this machine, the first update in Raw at rgb888.
+const LEAST: [&str; 4] = ["rfb", "view", "--port", "9"];
+
+#[test]
+fn a_view_of_a_port_has_defaults(rt: HostRuntime) {
+    let sight = Sight {
+        wants: Wants {
+            format: Format::rgb888(),
+            encodings: only_raw(),
+        },
+        updates: 1,
+        is_recorded: false,
+    };
+    let look = Look {
+        host: "127.0.0.1",
+        port: 9,
+        sight,
+    };
+    assert_eq!(rt; task(&rt, LEAST.as_slice()), Some(Task::View(look)));
+}
+
+const MOST: [&str; 11] = [
+    "rfb",
+    "view",
+    "--port=65535",
+    "--host",
+    "::1",
+    "--updates=4294967295",
+    "--format",
+    "bgr233",
+    "--encodings",
+    "hextile,raw,hextile,copyrect",
+    "--record",
+];
+
+#[test]
+fn a_view_has_all_that_is_given(rt: HostRuntime) {
+    let mut encodings = ArrayVec::new();
+    encodings.push(Encoding::Hextile);
+    encodings.push(Encoding::Raw);
+    encodings.push(Encoding::Hextile);
+    encodings.push(Encoding::CopyRect);
+    let sight = Sight {
+        wants: Wants {
+            format: Format::bgr233(),
+            encodings,
+        },
+        updates: u32::MAX,
+        is_recorded: true,
+    };
+    let look = Look {
+        host: "::1",
+        port: 65_535,
+        sight,
+    };
+    assert_eq!(rt; task(&rt, MOST.as_slice()), Some(Task::View(look)));
 }

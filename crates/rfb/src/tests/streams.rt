@@ -29,3 +29,12 @@ pub const SERVER: &[u8] = b"RFB 003.008\n\
 
 /// The picture behind that.
 pub const PICTURE: &[u8] = b"P6\n2 1\n255\n\x00\x00\x00\x04\x00\x02";
+
+/// What a viewer of that sends: its version, None, a shared screen, rgb888, Raw alone, and a request
+/// for both places.
+pub const REQUESTS: &[u8] = b"RFB 003.008\n\
+    \x01\
+    \x01\
+    \x00\x00\x00\x00\x20\x18\x00\x01\x00\xFF\x00\xFF\x00\xFF\x10\x08\x00\x00\x00\x00\
+    \x02\x00\x00\x01\x00\x00\x00\x00\
+    \x03\x00\x00\x00\x00\x00\x00\x02\x00\x01";

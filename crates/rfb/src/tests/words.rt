@@ -5,7 +5,7 @@ use crate::command_line::without_words;
 use std::io;
 use std::io::ErrorKind;
 
-const BAD_WORDS: [&[&str]; 19] = [
+const BAD_WORDS: [&[&str]; 24] = [
     &[],
     &["rfb"],
     &["rfb", "scrip"],
@@ -25,9 +25,26 @@ const BAD_WORDS: [&[&str]; 19] = [
     &["rfb", "serve", "--port", "9", "--connections", "0"],
     &["rfb", "serve", "--port", "9", "--connections", "65536"],
     &["rfb", "serve", "--port", "nine"],
+    &["rfb", "view"],
+    &["rfb", "view", "--port", "0"],
+    &["rfb", "view", "--port", "9", "--updates", "0"],
+    &["rfb", "view", "--port", "9", "--updates", "4294967296"],
+    &["rfb", "view", "--port", "9", "--format", "rgb101010"],
 ];
 
-const HELP: [&[&str]; 7] = [
+// Lists of encodings, none of which is one.
+const BAD_ENCODINGS: [&str; 8] = [
+    "",
+    ",",
+    "raw,",
+    "raw, rre",
+    "Raw",
+    "zrle",
+    "raw;rre",
+    "raw,rre,hextile,copyrect,raw",
+];
+
+const HELP: [&[&str]; 8] = [
     &["rfb", "help"],
     &["rfb", "--help"],
     &["rfb", "-h"],
@@ -35,6 +52,7 @@ const HELP: [&[&str]; 7] = [
     &["rfb", "script", "--help"],
     &["rfb", "help", "play"],
     &["rfb", "serve", "--help"],
+    &["rfb", "help", "view"],
 ];
 
 // Whether a call was of words that there are not, and said so on errors alone.
@@ -59,6 +77,21 @@ fn is_help(ended: &Ended) -> bool {
             .output
             .windows(16)
             .any(|text| text == b"docs/PROTOCOL.md".as_slice())
+}
+
+#[test]
+fn bad_encodings_are_told_on_errors(rt: HostRuntime) {
+    for list in BAD_ENCODINGS {
+        let words = ["rfb", "view", "--port", "9", "--encodings", list];
+        let ended = call(&rt, words.as_slice(), b"");
+        assert_eq!(rt; ended.status, 2, "{list}");
+        assert_eq!(rt; ended.output.as_slice(), b"".as_slice(), "{list}");
+        assert_eq!(rt;
+            ended.errors.as_slice(),
+            b"bad encodings\n".as_slice(),
+            "{list}"
+        );
+    }
 }
 
 #[test]

@@ -2,7 +2,7 @@ use Rattle.std.proofs.Common.{◌≡◌, ◌∙◌, ap, sym, subst, codes, List,
 use Rattle.clap.specs.Walk.{Text, first_of, rows_of}
 use Rattle.clap.specs.Matches.{found_of}
 use Rattle.clap.proofs.WalkLemmas.{first_value-rows}
-use Rattle.rfb.specs.Options.{names_format}
+use Rattle.rfb.specs.Options.{NamesFormat}
 use Rattle.rfb.proofs.OptionLemmas.{format_given}
 use Rattle.rfb.proofs.options.format_in.Goals as goal
 
@@ -19,4 +19,4 @@ pub returns-in-None : goal.returns-in-None
 returns-in-None c =
     let e : first_of (codes "format") (rows_of (found_of c.args.given.now)) ≡ None =
     sym (first_value-rows (found_of c.args.given.now) (codes "format")) ∙ (sym c.get_str.ensures ∙ ap text_of c.in-None.is) in
-    subst (λ (o : Option Text). names_format o c.rgb888.result) (sym e) c.rgb888.ensures.value
+    subst (λ (o : Option Text). NamesFormat o c.rgb888.result) (sym e) c.rgb888.ensures.value

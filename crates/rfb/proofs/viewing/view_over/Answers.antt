@@ -1,0 +1,18 @@
+use Rattle.rfb.proofs.ViewingLemmas.{fails_recorded, fails_shown, views_recorded, views_shown}
+use Rattle.rfb.proofs.viewing.view_over.Goals as goal
+
+pub returns-then-is_recorded-clause-done : goal.returns-then-is_recorded-clause-done
+returns-then-is_recorded-clause-done g c =
+    views_recorded c.args.sight _ _ _ _ c.fresh_viewer-viewer.result c.record.new.viewer c.record.result c.fresh_viewer-viewer.ensures c.if-is_recorded.true c.record.ensures.saw
+
+pub returns-then-is_recorded-clause-stopped : goal.returns-then-is_recorded-clause-stopped
+returns-then-is_recorded-clause-stopped g c =
+    fails_recorded c.args.sight _ _ c.fresh_viewer-viewer.result c.record.new.viewer c.record.result c.fresh_viewer-viewer.ensures c.record.ensures.stopped
+
+pub returns-in-Ok-clause-done : goal.returns-in-Ok-clause-done
+returns-in-Ok-clause-done g c =
+    views_shown c.args.sight _ _ _ _ c.fresh_viewer-viewer.result c.watch.new.viewer c.show.result c.fresh_viewer-viewer.ensures c.in-Ok.ensures.saw c.show.ensures.done
+
+pub returns-in-Ok-clause-stopped : goal.returns-in-Ok-clause-stopped
+returns-in-Ok-clause-stopped g c =
+    fails_shown c.args.sight _ _ c.fresh_viewer-viewer.result c.watch.new.viewer c.show.result c.fresh_viewer-viewer.ensures c.show.ensures.stopped

@@ -1,0 +1,133 @@
+//! A viewer of a server over a socket.
+
+ghost use Rattle.std.specs.Prelude.{◌≡◌, ◌≤◌, false, Err, IfOk, IfErr, OnOk};
+ghost use Rattle.rfb_session.specs.declared.engine.fault.EngineFault.{EngineFault};
+ghost use Rattle.rfb.specs.declared.fault.Failure.TheVariants as Failure;
+ghost use Rattle.rfb.specs.Viewing.{FailsToView, Saw, StopsSeeing, StopsView, Views};
+
+mod look;
+
+use crate::fault::{Failure, Fault};
+use crate::playing::fresh_viewer;
+use crate::recording::show;
+pub use look::{Look, Sight};
+use rfb_session::{EngineFault, Tally, view_recording};
+use rfb_viewer::Viewer;
+use std::alloc::Global;
+use std::io::{Read, Write};
+use std::net::{Net, OpenStream, TcpStream};
+
+/// Connects to a server, and views it.
+pub fn view_at<N: Net, W: Write>(
+    net: &N,
+    alloc: Global,
+    look: Look<'_>,
+    output: &mut W,
+) -> Result<(), Failure> {
+    let stream = TcpStream::connect(net, (look.host, look.port))?;
+    view_on(alloc, stream, look.sight, output)
+}
+
+/// Views the server at the other end of a connection. What is written goes out at once: the server
+/// waits for it.
+pub fn view_on<S: Read + Write + OpenStream + Drop, W: Write>(
+    alloc: Global,
+    stream: S,
+    sight: Sight,
+    output: &mut W,
+) -> Result<(), Failure> {
+    let _ = stream.set_nodelay(true);
+    let other = stream.try_clone()?;
+    view_over(alloc, stream, other, sight, output)
+}
+
+// Views a server whose bytes come from `reader`, and that is answered on `writer`. Then the picture
+// is written, or its bytes were as they came. Where the viewer or the bytes end with a fault no
+// picture is.
+fn view_over<R: Read + Drop, V: Write + Drop, W: Write>(
+    alloc: Global,
+    reader: R,
+    writer: V,
+    sight: Sight,
+    output: &mut W,
+) -> Result<(), Failure>
+    ensures done { OnOk result (Views sight (R.remaining reader) (V.contents writer)
+        (W.contents output.old) (W.contents output.new)) }
+    ensures stopped { IfErr result (FailsToView sight (R.remaining reader) (V.contents writer)) }
+    ensures unwritten { sight.is_recorded ≡ false → (fault : EngineFault) →
+        result ≡ Err (Failure.Engine fault) → output.new ≡ output.old }
+{
+    let updates = sight.updates;
+    let is_recorded = sight.is_recorded;
+    let mut viewer = fresh_viewer(alloc, sight.wants.format, sight.wants.encodings);
+    if is_recorded {
+        return record(reader, writer, &mut viewer, updates, output);
+    }
+    match watch(reader, writer, &mut viewer, updates) {
+        Ok(_updates) => show(alloc, &viewer, output),
+        Err(fault) => Err(Failure::Engine(fault)),
+    }
+}
+
+// Runs a viewer until so many updates ended.
+fn watch<R: Read + Drop, V: Write + Drop>(
+    reader: R,
+    writer: V,
+    viewer: &mut Viewer,
+    updates: u32,
+) -> Result<u32, EngineFault>
+    requires some { 1 ≤ updates }
+    ensures saw { IfOk result (λ told.
+        Saw (R.remaining reader) (V.contents writer) viewer.old updates viewer.new) }
+    ensures stopped { IfErr result (λ fault.
+        StopsSeeing (R.remaining reader) (V.contents writer) viewer.old updates fault viewer.new) }
+{
+    let mut source = Tally::new(reader);
+    let mut sink = Tally::new(writer);
+    rfb_session::view(&mut source, &mut sink, viewer, updates)
+}
+
+// The same, and writes what the viewer is fed. All of it goes out, however it ends.
+fn record<R: Read + Drop, V: Write + Drop, W: Write>(
+    reader: R,
+    writer: V,
+    viewer: &mut Viewer,
+    updates: u32,
+    output: &mut W,
+) -> Result<(), Failure>
+    requires some { 1 ≤ updates }
+    ensures saw { OnOk result
+        (Saw (R.remaining reader) (V.contents writer) viewer.old updates viewer.new) }
+    ensures stopped { IfErr result (λ failure. StopsView
+        (R.remaining reader) (V.contents writer) viewer.old updates failure viewer.new) }
+{
+    let ended = watch_and_keep(reader, writer, viewer, updates, output);
+    let flushed = output.flush();
+    if let Err(fault) = ended {
+        return Err(Failure::Engine(fault));
+    }
+    match flushed {
+        Ok(()) => Ok(()),
+        Err(error) => Err(Failure::Fault(Fault::from(error))),
+    }
+}
+
+// Runs a viewer until so many updates ended, and writes what it is fed.
+fn watch_and_keep<R: Read + Drop, V: Write + Drop, W: Write>(
+    reader: R,
+    writer: V,
+    viewer: &mut Viewer,
+    updates: u32,
+    output: &mut W,
+) -> Result<u32, EngineFault>
+    requires some { 1 ≤ updates }
+    ensures saw { IfOk result (λ told.
+        Saw (R.remaining reader) (V.contents writer) viewer.old updates viewer.new) }
+    ensures stopped { IfErr result (λ fault.
+        StopsSeeing (R.remaining reader) (V.contents writer) viewer.old updates fault viewer.new) }
+{
+    let mut source = Tally::new(reader);
+    let mut sink = Tally::new(writer);
+    let mut kept = Tally::new(output);
+    view_recording(&mut source, &mut sink, &mut kept, viewer, updates)
+}

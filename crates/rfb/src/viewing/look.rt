@@ -1,0 +1,25 @@
+//! What `view` is asked for.
+
+ghost use Rattle.std.specs.Prelude.{◌≤◌};
+
+use crate::script::Wants;
+
+/// What `view` is asked for: a server, and what to see of it.
+#[derive(Debug, PartialEq, Eq, Drop)]
+pub struct Look<'a> {
+    /// A name or an address.
+    pub host: &'a str,
+    pub port: u16,
+    pub sight: Sight,
+}
+
+/// What is to be seen of a server.
+#[derive(Debug, PartialEq, Eq, Drop)]
+pub struct Sight {
+    pub wants: Wants,
+    /// After so many updates it ends.
+    pub updates: u32,
+    /// The server's bytes are written as they come, in place of the picture.
+    pub is_recorded: bool,
+    ghost some: { 1 ≤ updates },
+}
