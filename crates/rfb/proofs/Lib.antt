@@ -1,5 +1,6 @@
 pub mod ArgumentLemmas
 pub mod CommandLemmas
+pub mod LoopbackLemmas
 pub mod OptionLemmas
 pub mod PixmapLemmas
 pub mod PlayingLemmas

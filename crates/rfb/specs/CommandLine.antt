@@ -15,7 +15,8 @@ use Rattle.rfb.specs.Script.{AreScript, StopsReading, lines_of}
 use Rattle.rfb.specs.Pixmap.{pixmap}
 use Rattle.clap.specs.Words.{Text}
 use Rattle.rfb.specs.declared.options.Task.{Task}
-use Rattle.rfb.specs.declared.options.Task.TheVariants.{Script, Play, Serve, View}
+use Rattle.rfb.specs.declared.options.Task.TheVariants.{Script, Loop, Play, Serve, View}
+use Rattle.rfb.specs.Loopback.{PlaysSomeScript}
 use Rattle.rfb.specs.Options.{AreAsked}
 use Rattle.rfb.specs.Recording.{PlaysRecording}
 
@@ -57,9 +58,10 @@ FailsAt read (Engine fault) = ⊥
 
 -- ---- any command
 
--- what was read and written at a command; of one that uses connections nothing is said
+-- what was read and written at a command; of what comes over a connection nothing is known
 abbrev pub Does : Task → Option (List ℕ) → Option (List ℕ) → Option (List ℕ) → Type 0
 Does Script read before after = PlaysScript read before after
+Does Loop read before after = PlaysSomeScript read before after
 Does (Serve wanted) read before after = ⊤
 Does (View look) read before after = ⊤
 Does (Play format) read before after = PlaysRecording format read before after

@@ -1,6 +1,7 @@
 pub mod CommandLine
 pub mod Fault
 pub mod Few
+pub mod Loopback
 pub mod Number
 pub mod Options
 pub mod Pixmap

@@ -11,7 +11,7 @@ use Rattle.rfb_pixel.specs.Format.{PixelFormat, rgb888}
 use Rattle.rfb_wire.specs.declared.encoding.Encoding.{Encoding}
 use Rattle.rfb_wire.specs.declared.encoding.Encoding.TheVariants.{Raw}
 use Rattle.rfb.specs.declared.options.Task.{Task}
-use Rattle.rfb.specs.declared.options.Task.TheVariants.{Script, Play, Serve, View}
+use Rattle.rfb.specs.declared.options.Task.TheVariants.{Script, Loop, Play, Serve, View}
 use Rattle.rfb.specs.declared.options.WrongWords.{WrongWords}
 use Rattle.rfb.specs.declared.options.WrongWords.TheVariants.{Words, Value}
 use Rattle.rfb.specs.declared.serving.Wanted.{Wanted}
@@ -74,6 +74,9 @@ updates_rule = record (number_rule (codes "updates") 1 4294967295) {
 abbrev pub script_shape : Shape
 script_shape = new_shape (codes "script")
 
+abbrev pub loop_shape : Shape
+loop_shape = new_shape (codes "loop")
+
 abbrev pub play_shape : Shape
 play_shape = (with_rule (new_app (codes "play")) format_rule).top
 
@@ -94,8 +97,9 @@ top = record {
 }
 
 abbrev pub program : App
-program = with_subcommand (with_subcommand (with_subcommand (with_subcommand top
-    script_shape) play_shape) serve_shape) view_shape
+program =
+    with_subcommand (with_subcommand (with_subcommand (with_subcommand (with_subcommand top
+    script_shape) loop_shape) play_shape) serve_shape) view_shape
 
 -- ---- what they ask for
 
@@ -180,11 +184,13 @@ HasBadSight rows = HasBadFormat rows ⊎ HasBadEncodings rows
 -- a command, by its name and its options; `script` is the one with no other name
 abbrev pub IsTask : Option (Text × List Row) → Task → Type 0
 IsTask None Script = Unit {0}
+IsTask None Loop = ⊥
 IsTask None (Play format) = ⊥
 IsTask None (Serve wanted) = ⊥
 IsTask None (View look) = ⊥
 IsTask (Some (name, rows)) Script =
-    (name ≢ codes "play") × (name ≢ codes "serve") × (name ≢ codes "view")
+    (name ≢ codes "loop") × (name ≢ codes "play") × (name ≢ codes "serve") × (name ≢ codes "view")
+IsTask (Some (name, rows)) Loop = name ≡ codes "loop"
 IsTask (Some (name, rows)) (Play format) = (name ≡ codes "play") × GivesFormat rows format
 IsTask (Some (name, rows)) (Serve wanted) = (name ≡ codes "serve") × GivesWanted rows wanted
 IsTask (Some (name, rows)) (View look) = (name ≡ codes "view") × GivesLook rows look

@@ -7,6 +7,7 @@ ghost use Rattle.std.specs.IoError.{error_kind};
 ghost use Rattle.std.specs.declared.io.ErrorKind.TheVariants.{InvalidData};
 
 use crate::fault::{Failure, Fault};
+use crate::loopback::script_through_loopback;
 use crate::options::{BadValue, Task, WrongWords, read_words};
 use crate::recording::play_recording;
 use crate::scripting::script;
@@ -89,6 +90,7 @@ fn work<P: AllocGlobal + Net, R: Read, W: Write, E: Write>(
     let alloc = rt.alloc();
     match task {
         Task::Script => script(alloc, input, output, errors),
+        Task::Loop => script_through_loopback(rt, alloc, input, output, errors),
         Task::Play(format) => play_recording(alloc, format, input, output),
         Task::Serve(wanted) => serve_at(rt, alloc, wanted, output),
         Task::View(look) => view_at(rt, alloc, look, output),

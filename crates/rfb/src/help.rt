@@ -30,6 +30,14 @@ docs/PROTOCOL.md has the language of scripts, with all that is bad in it.
 Example:
   rfb script < examples/first.script > picture.ppm";
 
+pub const LOOPBACK: &str = "\
+Both ends are in this process, and talk over a connection of 127.0.0.1. At each delivery at most
+4096 bytes are written before the other end reads them. What is printed is what `script` prints.
+`rfb help script` and docs/PROTOCOL.md have the language of scripts.
+
+Example:
+  rfb loop < examples/first.script > picture.ppm";
+
 pub const RECORDINGS: &str = "\
 A recording is all that a server sent, from its greeting to the end of a message. What a viewer
 would answer is dropped.

@@ -1,12 +1,13 @@
 //! The program `rfb`: both ends of the Remote Framebuffer protocol (RFC 6143) at work.
 //!
 //! `command_line` has the statuses, `options` the words, and each command a module: `scripting`,
-//! `recording`, `serving` and `viewing`. `script` has the language of scripts.
+//! `loopback`, `recording`, `serving` and `viewing`. `script` has the language of scripts.
 #![tactic(auto)]
 
 mod command_line;
 mod fault;
 mod help;
+mod loopback;
 mod options;
 mod pixmap;
 mod playing;

@@ -9,9 +9,9 @@ ghost use Rattle.rfb.specs.Options.{GivesFormat, GivesNumber, GivesWanted, HasBa
 ghost use Rattle.rfb_pixel.specs.Format.{PixelFormat};
 ghost use Rattle.rfb.specs.Words.{IsFormatWord};
 ghost use Rattle.rfb.specs.Options.{connections_rule, format_rule, port_rule, side_rule};
-ghost use Rattle.rfb.specs.Options.{play_shape, program, script_shape, serve_shape};
+ghost use Rattle.rfb.specs.Options.{loop_shape, play_shape, program, script_shape, serve_shape};
 
-use crate::help::{LANGUAGE, RECORDINGS, STATUSES, VERSION, VIEWERS};
+use crate::help::{LANGUAGE, LOOPBACK, RECORDINGS, STATUSES, VERSION, VIEWERS};
 use crate::options::looking::{look_in, view_words};
 use crate::script::{MAX_SIDE, Screen, read_format};
 use crate::serving::Wanted;
@@ -26,6 +26,8 @@ use std::convert::AsStr;
 pub enum Task<'a> {
     /// To run a script in memory.
     Script,
+    /// To run a script over a connection.
+    Loop,
     /// To play a recording, in this format.
     Play(Format),
     /// To serve the test scene.
@@ -75,6 +77,7 @@ fn parse<'a, S: AsStr>(alloc: Global, words: &'a [S]) -> Result<ArgMatches<'a>, 
         .after_help(STATUSES)
         .subcommand_required(true)
         .subcommand(script_words(alloc))?
+        .subcommand(loop_words(alloc))?
         .subcommand(play_words(alloc)?)?
         .subcommand(serve_words(alloc)?)?
         .subcommand(view_words(alloc)?)?
@@ -88,6 +91,15 @@ fn script_words<'a>(alloc: Global) -> Command<'a>
     Command::new(alloc, "script")
         .about("Runs a script from standard input, and writes the viewer's picture as PPM")
         .after_help(LANGUAGE)
+}
+
+// The words of `loop`.
+fn loop_words<'a>(alloc: Global) -> Command<'a>
+    ensures { shape_of result ≡ loop_shape }
+{
+    Command::new(alloc, "loop")
+        .about("Runs a script as `script` does, and delivers its bytes through a connection")
+        .after_help(LOOPBACK)
 }
 
 // The words of `play`.
@@ -196,6 +208,9 @@ fn command_of<'a>(name: &str, given: &ArgMatches<'a>) -> Result<Task<'a>, BadVal
         (IsTask (Some (name.now, rows_of (found_of given.now))))
         (λ _. HasBadValue (Some (name.now, rows_of (found_of given.now)))) }
 {
+    if name == "loop" {
+        return Ok(Task::Loop);
+    }
     if name == "play" {
         return match format_in(given) {
             Ok(format) => Ok(Task::Play(format)),

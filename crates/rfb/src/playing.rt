@@ -24,11 +24,11 @@ const TEXT_LIMIT: u32 = 1024;
 // How many places of a screen the viewer admits: those of the largest one.
 const MAX_PLACES: u32 = 16_777_216;
 
-// How often a `settle` delivers, each way.
-const TURNS: u32 = 8;
+/// How often a `settle` delivers, each way.
+pub const TURNS: u32 = 8;
 
-// More bytes than are ever in flight one way.
-const ALL: u32 = u32::MAX;
+/// More bytes than are ever in flight one way.
+pub const ALL: u32 = u32::MAX;
 
 /// A world of two ends of version 3.8: a server with a black screen that is named `rfb`, and a
 /// viewer that asks for a shared screen. It wants Raw at rgb888 where nothing else is said.
@@ -65,20 +65,25 @@ pub fn fresh_viewer(alloc: Global, format: Format, encodings: ArrayVec<Encoding,
     )
 }
 
-// The format and the encodings of the viewer.
-fn wishes(wants: &Option<Wants>) -> (Format, ArrayVec<Encoding, 4>)
+/// The format and the encodings of the viewer.
+pub fn wishes(wants: &Option<Wants>) -> (Format, ArrayVec<Encoding, 4>)
     ensures format { result.0 ≡ format_of wants.now }
     ensures encodings { result.1.items ≡ encodings_of wants.now }
 {
-    let mut encodings = ArrayVec::new();
     match wants {
-        Some(wants) => {
-            match encodings.try_extend_from_slice(wants.encodings.as_slice()) {
-                Ok(()) => (wants.format, encodings),
-                Err(_) => unreachable!(),
-            }
-        }
+        Some(wants) => (wants.format, copy_of(&wants.encodings)),
         None => (Format::rgb888(), only_raw()),
+    }
+}
+
+/// The same encodings.
+pub fn copy_of(encodings: &ArrayVec<Encoding, 4>) -> ArrayVec<Encoding, 4>
+    ensures { result.items ≡ encodings.now.items }
+{
+    let mut copy = ArrayVec::new();
+    match copy.try_extend_from_slice(encodings.as_slice()) {
+        Ok(()) => copy,
+        Err(_) => unreachable!(),
     }
 }
 

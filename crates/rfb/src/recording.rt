@@ -60,8 +60,8 @@ pub fn show<W: Write>(alloc: Global, viewer: &Viewer, output: &mut W) -> Result<
     }
 }
 
-// The same, with that fault alone.
-fn write_picture<W: Write>(alloc: Global, viewer: &Viewer, output: &mut W) -> Result<(), Fault>
+/// Writes what a viewer shows, as PPM.
+pub fn write_picture<W: Write>(alloc: Global, viewer: &Viewer, output: &mut W) -> Result<(), Fault>
     ensures { OnOk result (WritesPicture viewer.now (W.contents output.old) (W.contents output.new)) }
 {
     let picture = viewer.picture().ok_or(Fault::NotReady)?;

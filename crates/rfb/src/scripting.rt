@@ -85,8 +85,8 @@ fn play_all<E: Write>(
     Ok(())
 }
 
-// Prints why the step of a line was refused, if it was. A write that fails changes nothing.
-fn tell_refusal<W: Write>(line: u64, refused: Option<Refused>, refusals: &mut W) {
+/// Prints why the step of a line was refused, if it was. A write that fails changes nothing.
+pub fn tell_refusal<W: Write>(line: u64, refused: Option<Refused>, refusals: &mut W) {
     if let Some(refused) = refused {
         let _ = writeln!(refusals, "line {line}: refused {refused}");
     }

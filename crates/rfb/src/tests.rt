@@ -3,6 +3,7 @@
 mod calls;
 mod devices;
 mod language;
+mod loopback;
 mod options;
 mod picture;
 mod recordings;

@@ -60,9 +60,14 @@ pub fn run(rt: &HostRuntime, script: &[u8]) -> Ended {
 
 /// A run of a script that stands in parts.
 pub fn run_all(rt: &HostRuntime, parts: &[&[u8]]) -> Result<Ended, AllocError> {
-    let mut script = Vec::new(rt.alloc());
+    call_all(rt, SCRIPT.as_slice(), parts)
+}
+
+/// A call of `command` with these words, and an input that stands in parts.
+pub fn call_all(rt: &HostRuntime, words: &[&str], parts: &[&[u8]]) -> Result<Ended, AllocError> {
+    let mut input = Vec::new(rt.alloc());
     for part in parts {
-        script.extend_from_slice(part)?;
+        input.extend_from_slice(part)?;
     }
-    Ok(run(rt, &script))
+    Ok(call(rt, words, &input))
 }

@@ -18,6 +18,7 @@ fn task<'a>(rt: &HostRuntime, words: &'a [&'a str]) -> Option<Task<'a>> {
 fn each_command_has_its_words(rt: HostRuntime) {
     for (words, wanted) in [
         (["rfb", "script"].as_slice(), Task::Script),
+        (["rfb", "loop"].as_slice(), Task::Loop),
         (["rfb", "play"].as_slice(), Task::Play(Format::rgb888())),
         (
             ["rfb", "play", "--format", "rgb565"].as_slice(),

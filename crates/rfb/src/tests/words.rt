@@ -5,13 +5,16 @@ use crate::command_line::without_words;
 use std::io;
 use std::io::ErrorKind;
 
-const BAD_WORDS: [&[&str]; 24] = [
+const BAD_WORDS: [&[&str]; 27] = [
     &[],
     &["rfb"],
     &["rfb", "scrip"],
     &["rfb", "SCRIPT"],
     &["rfb", "script", "first.script"],
     &["rfb", "script", "script"],
+    &["rfb", "loop", "first.script"],
+    &["rfb", "loop", "--port", "5950"],
+    &["rfb", "script", "loop"],
     &["rfb", "--width", "2"],
     &["rfb", "play", "--format"],
     &["rfb", "play", "--format", "rgb888", "--format", "rgb888"],
@@ -44,12 +47,14 @@ const BAD_ENCODINGS: [&str; 8] = [
     "raw,rre,hextile,copyrect,raw",
 ];
 
-const HELP: [&[&str]; 8] = [
+const HELP: [&[&str]; 10] = [
     &["rfb", "help"],
     &["rfb", "--help"],
     &["rfb", "-h"],
     &["rfb", "help", "script"],
     &["rfb", "script", "--help"],
+    &["rfb", "help", "loop"],
+    &["rfb", "loop", "-h"],
     &["rfb", "help", "play"],
     &["rfb", "serve", "--help"],
     &["rfb", "help", "view"],

@@ -5,7 +5,7 @@ use Rattle.clap.specs.Faults.{fault_of, is_simple_and_free}
 use Rattle.clap.specs.Kinds.{FailsBy}
 use Rattle.clap.specs.declared.error.Error.{Error}
 use Rattle.clap.specs.declared.parser.matches.ArgMatches.{ArgMatches}
-use Rattle.rfb.specs.Options.{asked, play_shape, program, script_shape, serve_shape, top}
+use Rattle.rfb.specs.Options.{asked, loop_shape, play_shape, program, script_shape, serve_shape, top}
 use Rattle.rfb.proofs.OptionLemmas.{no_globals}
 use Rattle.rfb.proofs.options.parse.Given as given
 use Rattle.rfb.proofs.options.parse.Goals as goal
@@ -35,7 +35,7 @@ asked_of : (a : App) (words : List (List ℕ)) (m : ArgMatches) → a ≡ progra
 asked_of a words m made has =
     (subst (λ (b : App). HasMatchesOf b words m) made has program_is_plain).1
 
-made : (g : given.Over) (c : goal.After-try_get_matches_from g) → app_of c.in_ok-subcommand-4.field-0 ≡ program
+made : (g : given.Over) (c : goal.After-try_get_matches_from g) → app_of c.in_ok-subcommand-5.field-0 ≡ program
 made g c =
     let first : app_of c.version.result ≡ on_top versioned (app_of c.new.result) = ap app_of_fields c.version.ensures in
     let second : app_of c.after_help.result ≡ app_of c.version.result = ap app_of_fields c.after_help.ensures ∙ ap app_of_fields c.about.ensures in
@@ -44,11 +44,13 @@ made g c =
     third ∙ ap (on_top required) (second ∙ first ∙ ap (on_top versioned) c.new.ensures.app) in
     let one : app_of c.in_ok-subcommand.field-0 ≡ with_subcommand top script_shape =
     c.in_ok-subcommand.ensures.shape (no_globals _ _ _ _ (ap is_plain c.script_words.ensures)) ∙ ap₂ with_subcommand zero c.script_words.ensures in
-    let two : app_of c.in_ok-subcommand-2.field-0 ≡ with_subcommand (with_subcommand top script_shape) play_shape =
-    c.in_ok-subcommand-2.ensures.shape (no_globals _ _ _ _ (ap is_plain c.in_ok-play_words.ensures)) ∙ ap₂ with_subcommand one c.in_ok-play_words.ensures in
-    let three : app_of c.in_ok-subcommand-3.field-0 ≡ with_subcommand (with_subcommand (with_subcommand top script_shape) play_shape) serve_shape =
-    c.in_ok-subcommand-3.ensures.shape (no_globals _ _ _ _ (ap is_plain c.in_ok-serve_words.ensures)) ∙ ap₂ with_subcommand two c.in_ok-serve_words.ensures in
-    c.in_ok-subcommand-4.ensures.shape (no_globals _ _ _ _ (ap is_plain c.in_ok-view_words.ensures)) ∙ ap₂ with_subcommand three c.in_ok-view_words.ensures
+    let two : app_of c.in_ok-subcommand-2.field-0 ≡ with_subcommand (with_subcommand top script_shape) loop_shape =
+    c.in_ok-subcommand-2.ensures.shape (no_globals _ _ _ _ (ap is_plain c.loop_words.ensures)) ∙ ap₂ with_subcommand one c.loop_words.ensures in
+    let three : app_of c.in_ok-subcommand-3.field-0 ≡ with_subcommand (with_subcommand (with_subcommand top script_shape) loop_shape) play_shape =
+    c.in_ok-subcommand-3.ensures.shape (no_globals _ _ _ _ (ap is_plain c.in_ok-play_words.ensures)) ∙ ap₂ with_subcommand two c.in_ok-play_words.ensures in
+    let four : app_of c.in_ok-subcommand-4.field-0 ≡ with_subcommand (with_subcommand (with_subcommand (with_subcommand top script_shape) loop_shape) play_shape) serve_shape =
+    c.in_ok-subcommand-4.ensures.shape (no_globals _ _ _ _ (ap is_plain c.in_ok-serve_words.ensures)) ∙ ap₂ with_subcommand three c.in_ok-serve_words.ensures in
+    c.in_ok-subcommand-5.ensures.shape (no_globals _ _ _ _ (ap is_plain c.in_ok-view_words.ensures)) ∙ ap₂ with_subcommand four c.in_ok-view_words.ensures
 
 pub returns-clause-fails : goal.returns-clause-fails
 returns-clause-fails g c = of_program _ _ c.try_get_matches_from.result (made g c) c.try_get_matches_from.ensures.kinds

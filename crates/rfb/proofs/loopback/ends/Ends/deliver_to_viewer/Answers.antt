@@ -1,0 +1,28 @@
+use Rattle.std.proofs.Common.{◌≡◌, ◌∙◌, ◌+◌, ◌-◌, ◌≤◌, ap, refl, arith, drop}
+use Rattle.std.proofs.lemmas.List.{drop-drop}
+use Rattle.rfb.proofs.loopback.ends.Ends.deliver_to_viewer.Goals as goal
+
+pub loop-left-init : goal.loop-left-init
+loop-left-init g c =
+    let none : 0 ≡ c.min-wanted.result - c.min-wanted.result = omega arith in
+    record {
+      some = omega arith;
+      other = refl;
+      taken = ap (λ n. drop n c.args.self.now.to_viewer.items) none;
+    }
+
+pub loop-left-preserved : goal.loop-left-preserved
+loop-left-preserved g c =
+    let l = c.loop-left in
+    let wanted = c.min-wanted.result in
+    let taken = c.in_ok-taken.taken in
+    let bytes = c.args.self.now.to_viewer.items in
+    let some : taken ≤ l.left = c.in_ok-taken.ensures.count.1 in
+    let more : (wanted - l.left) + taken ≡ wanted - (l.left - taken) =
+    omega (arith, some, l.invariant.some) in
+    record {
+      some = omega (arith, l.invariant.some);
+      other = l.invariant.other;
+      taken = c.in_ok-taken.ensures.taken ∙ ap (drop taken) l.invariant.taken
+          ∙ drop-drop taken (wanted - l.left) bytes ∙ ap (λ n. drop n bytes) more;
+    }

@@ -1,0 +1,142 @@
+//! A server, its viewer, and the bytes in flight between them.
+
+ghost use Rattle.std.specs.Prelude.{◌≡◌, ◌≤◌, [], min, length, drop, IfOk, OnOk};
+ghost use Rattle.rfb_hello.specs.Version.{version_text};
+ghost use Rattle.rfb_hello.specs.declared.version.Version.TheVariants.{V38};
+ghost use Rattle.rfb.specs.Few.{cut_by};
+ghost use Rattle.rfb.specs.Playing.{IsFreshServer, encodings_of, format_of};
+ghost use Rattle.rfb.specs.Recording.{IsFresh};
+
+use crate::fault::Fault;
+use crate::loopback::arriving::{hear, take_some, watch};
+use crate::loopback::link::{Link, PART};
+use crate::loopback::sending::{compose, cut_text, in_flight, of_drawing, send, send_list};
+use crate::playing::{copy_of, fresh_server, fresh_viewer, wishes};
+use crate::script::{Screen, Wants};
+use rfb_server::Server;
+use rfb_session::{Event, Refused};
+use rfb_viewer::Viewer;
+use std::alloc::Global;
+use std::collections::VecDeque;
+use std::io::{Read, Write};
+
+/// Both ends, and what was sent and has not arrived.
+#[derive(Drop)]
+pub struct Ends {
+    alloc: Global,
+    server: Server,
+    pub viewer: Viewer,
+    to_server: VecDeque<u8>,
+    to_viewer: VecDeque<u8>,
+}
+
+impl Ends {
+    /// Two fresh ends; the server's greeting is in flight.
+    pub fn new(alloc: Global, screen: Screen, wants: &Option<Wants>) -> Result<Ends, Fault>
+        ensures server { IfOk result (λ ends. IsFreshServer screen ends.server) }
+        ensures viewer { IfOk result (λ ends.
+            IsFresh (format_of wants.now) (encodings_of wants.now) ends.viewer) }
+        ensures to_server { IfOk result (λ ends. ends.to_server.items ≡ []) }
+        ensures to_viewer { IfOk result (λ ends. ends.to_viewer.items ≡ version_text V38) }
+    {
+        let server = fresh_server(alloc, screen)?;
+        let to_viewer = in_flight(alloc, &server.greeting())?;
+        let (format, encodings) = wishes(wants);
+        Ok(Ends {
+            alloc,
+            server,
+            viewer: fresh_viewer(alloc, format, encodings),
+            to_server: VecDeque::new(alloc),
+            to_viewer,
+        })
+    }
+
+    /// Takes an event that is no delivery, and answers its refusal, if it was refused. At a delivery
+    /// nothing happens here.
+    pub fn take(&mut self, event: &Event) -> Result<Option<Refused>, Fault>
+        requires few { cut_by event.now ≤ 1048576 }
+    {
+        match event {
+            Event::Fill(rect, colour) => Ok(of_drawing(self.server.fill(*rect, *colour))),
+            Event::Put(x, y, row) => Ok(of_drawing(self.server.put(*x, *y, row))),
+            Event::Copy(rect, sx, sy) => Ok(of_drawing(self.server.copy(*rect, *sx, *sy))),
+            Event::Hint(rect, sx, sy) => Ok(of_drawing(self.server.hint(*rect, *sx, *sy))),
+            Event::Compose => {
+                compose(self.alloc, &mut self.server, &mut self.to_viewer)?;
+                Ok(None)
+            }
+            Event::CutText(text) => {
+                cut_text(self.alloc, &self.viewer, text, &mut self.to_server)
+            }
+            _ => self.call(event),
+        }
+    }
+
+    // A call on the viewer that becomes a short message. At any other event nothing happens.
+    fn call(&mut self, event: &Event) -> Result<Option<Refused>, Fault> {
+        match event {
+            Event::Request(incremental, rect) => {
+                let called = self.viewer.request(*incremental, *rect);
+                send(called, &mut self.to_server)
+            }
+            Event::SetFormat(format) => {
+                let called = self.viewer.set_format(*format);
+                send(called, &mut self.to_server)
+            }
+            Event::SetEncodings(encodings) => {
+                let called = self.viewer.set_encodings(copy_of(encodings));
+                send_list(&called, &mut self.to_server)
+            }
+            Event::Key(down, key) => send(self.viewer.key(*down, *key), &mut self.to_server),
+            Event::Pointer(buttons, x, y) => {
+                let called = self.viewer.pointer(*buttons, *x, *y);
+                send(called, &mut self.to_server)
+            }
+            _ => Ok(None),
+        }
+    }
+
+    /// So many of the bytes in flight to the server arrive, or all.
+    pub fn deliver_to_server<C: Read + Write>(
+        &mut self,
+        count: u32,
+        link: &mut Link<C>,
+    ) -> Result<(), Fault>
+        ensures viewer { self.new.viewer ≡ self.old.viewer }
+        ensures taken { OnOk result (self.new.to_server.items
+            ≡ drop (min (length self.old.to_server.items) count) self.old.to_server.items) }
+    {
+        let mut part = [0; PART];
+        let wanted = self.to_server.len().min(count as usize);
+        let mut left = wanted;
+        while left > 0 {
+            let taken = take_some(&mut self.to_server, left, &mut part)?;
+            link.to_server(&mut part[..taken])?;
+            hear(&part[..taken], &mut self.server, &mut self.to_viewer)?;
+            left -= taken;
+        }
+        Ok(())
+    }
+
+    /// So many of the bytes in flight to the viewer arrive, or all.
+    pub fn deliver_to_viewer<C: Read + Write>(
+        &mut self,
+        count: u32,
+        link: &mut Link<C>,
+    ) -> Result<(), Fault>
+        ensures server { self.new.server ≡ self.old.server }
+        ensures taken { OnOk result (self.new.to_viewer.items
+            ≡ drop (min (length self.old.to_viewer.items) count) self.old.to_viewer.items) }
+    {
+        let mut part = [0; PART];
+        let wanted = self.to_viewer.len().min(count as usize);
+        let mut left = wanted;
+        while left > 0 {
+            let taken = take_some(&mut self.to_viewer, left, &mut part)?;
+            link.to_viewer(&mut part[..taken])?;
+            watch(&part[..taken], &mut self.viewer, &mut self.to_server)?;
+            left -= taken;
+        }
+        Ok(())
+    }
+}
