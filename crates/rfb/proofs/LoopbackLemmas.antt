@@ -8,7 +8,6 @@ use Rattle.rfb_viewer.specs.declared.viewer.Viewer.{Viewer}
 use Rattle.rfb_viewer.specs.Standing.{StandsFor}
 use Rattle.rfb_viewer.specs.Told.{seen}
 use Rattle.rfb_viewer.specs.Viewer.{Viewing, viewer}
-use Rattle.rfb_session.specs.EngineRun.{Fed}
 use Rattle.rfb_session.specs.InFlight.{viewer_reply}
 use Rattle.rfb_session.specs.Watching.{ViewerRuns, ends_told, viewer_driven}
 use Rattle.rfb_session.proofs.EngineRunLemmas.{ran_fed, ran_none, ran_then}

@@ -1,5 +1,5 @@
 -- What a fresh viewer saw of a server.
-use Rattle.std.specs.Prelude.{◌≡◌, ⊤, ℕ, true, false, List, Option}
+use Rattle.std.specs.Prelude.{◌≡◌, ⊤, ℕ, false, List, Option}
 use Rattle.rfb_viewer.specs.declared.viewer.Viewer.{Viewer}
 use Rattle.rfb_session.specs.declared.engine.fault.EngineFault.{EngineFault}
 use Rattle.rfb_session.specs.ViewEngine.{HasViewed, StopsViewing}

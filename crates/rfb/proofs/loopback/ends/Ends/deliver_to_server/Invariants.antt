@@ -1,5 +1,5 @@
 -- So many bytes are left to arrive; those before them have, and the other end has not changed.
-use Rattle.std.proofs.Common.{◌≡◌, ◌≤◌, ◌-◌, length, drop}
+use Rattle.std.proofs.Common.{◌≡◌, ◌≤◌, ◌-◌, drop}
 use Rattle.rfb.proofs.loopback.ends.Ends.deliver_to_server.Given as goal
 
 abbrev pub invariant-loop-left : goal.invariant-loop-left
