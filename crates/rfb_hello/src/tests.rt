@@ -1,5 +1,6 @@
 //! Tests of both ends.
 
 mod cuts;
+pub(crate) mod ends;
 mod long_texts;
 mod pieces;

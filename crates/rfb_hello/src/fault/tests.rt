@@ -1,12 +1,16 @@
 //! What a fault prints as.
 
 use super::*;
+use std::alloc::{AllocError, Global};
 use std::result::Result;
 
+fn prints_as(alloc: Global, fault: HelloFault, text: &str) -> Result<bool, AllocError> {
+    let printed = format!(in alloc; "{fault}")?;
+    Ok(printed.as_str() == text)
+}
+
 #[test]
-fn a_fault_prints_as_its_number_and_its_name(
-    rt: HostRuntime,
-) -> Result<(), std::alloc::AllocError> {
+fn a_fault_prints_as_its_number_and_its_name(rt: HostRuntime) -> Result<(), AllocError> {
     for (fault, text) in [
         (HelloFault::BadVersion, "15 BadVersion"),
         (HelloFault::VersionTooHigh, "16 VersionTooHigh"),
@@ -19,8 +23,7 @@ fn a_fault_prints_as_its_number_and_its_name(
         (HelloFault::ScreenTooLarge, "23 ScreenTooLarge"),
         (HelloFault::NoMemory, "30 NoMemory"),
     ] {
-        let printed = format!(in rt.alloc(); "{fault}")?;
-        assert_eq!(rt; printed.as_str(), text);
+        assert!(rt; prints_as(rt.alloc(), fault, text)?);
     }
     Ok(())
 }

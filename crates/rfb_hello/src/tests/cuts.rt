@@ -1,6 +1,7 @@
 //! Both ends are fed their streams whole, byte by byte, in two slices, and damaged: what they tell
 //! doesn't depend on the cut.
 
+use super::ends::{feed_server, feed_viewer, reason_of, server_of, viewer_of};
 use crate::{Fed, HelloFault, ServerHello, Version, ViewerHello};
 use std::alloc::{AllocError, Global};
 use std::fmt::Debug;
@@ -29,142 +30,216 @@ enum End {
     Viewer(ViewerHello),
 }
 
+fn end_of(alloc: Global, server: bool) -> End {
+    if server {
+        End::Server(server_of(Version::V38, 2, 1, b"t"))
+    } else {
+        End::Viewer(viewer_of(alloc, Version::V38, 16, 2))
+    }
+}
+
+// Writes an event to the log, if there is one.
+fn note<E: Debug>(alloc: Global, event: &Option<E>, log: &mut String) -> Result<(), AllocError> {
+    if let Some(event) = event {
+        log.push_str(&format!(in alloc; "{event:?}\n")?)?;
+    }
+    Ok(())
+}
+
+// Writes what an end told of bytes, and for a fault the reason. How many bytes it used, if it told
+// no fault.
+fn note_told<E: Debug + Drop>(
+    alloc: Global,
+    told: Result<Fed<E>, HelloFault>,
+    log: &mut String,
+) -> Result<Option<usize>, AllocError> {
+    match told {
+        Ok(Fed { used, event }) => {
+            let noted = note(alloc, &event, log);
+            drop(event);
+            noted?;
+            Ok(Some(used))
+        }
+        Err(fault) => {
+            log.push_str(&format!(in alloc; "{fault:?}")?)?;
+            Ok(None)
+        }
+    }
+}
+
 impl End {
-    fn server() -> End {
-        End::Server(ServerHello::new(Version::V38, 2, 1, b"t"))
+    // Feeds it bytes and writes what it tells. How many it used, if it told no fault.
+    fn feed(
+        &mut self,
+        alloc: Global,
+        bytes: &[u8],
+        log: &mut String,
+    ) -> Result<Option<usize>, AllocError> {
+        match self {
+            End::Server(hello) => note_told(alloc, feed_server(hello, bytes), log),
+            End::Viewer(hello) => note_told(alloc, feed_viewer(hello, bytes), log),
+        }
     }
 
-    fn viewer(alloc: Global) -> End {
-        End::Viewer(ViewerHello::new(alloc, Version::V38, true, 16, 2))
-    }
-
-    // What it tells of a slice, written to the log: its events. How many bytes it left, or its
-    // fault.
+    // The same of a slice, in as many calls as it may take. How many bytes are left of it.
     fn feed_all(
         &mut self,
         alloc: Global,
         slice: &[u8],
         log: &mut String,
-    ) -> Result<Result<usize, HelloFault>, AllocError> {
+    ) -> Result<Option<usize>, AllocError> {
         let mut rest = slice;
         for _ in 0..8 {
-            let used = match self {
-                End::Server(hello) => {
-                    let Fed { used, event } = match hello.feed(rest) {
-                        Ok(fed) => fed,
-                        Err(fault) => return Ok(Err(fault)),
-                    };
-                    note(alloc, event, log)?;
-                    used
-                }
-                End::Viewer(hello) => {
-                    let Fed { used, event } = match hello.feed(rest) {
-                        Ok(fed) => fed,
-                        Err(fault) => return Ok(Err(fault)),
-                    };
-                    note(alloc, event, log)?;
-                    used
-                }
-            };
-            rest = rest.get(used..).unwrap_or_default();
+            match self.feed(alloc, rest, log)? {
+                Some(used) => rest = rest.get(used..).unwrap_or_default(),
+                None => return Ok(None),
+            }
         }
-        Ok(Ok(rest.len()))
+        Ok(Some(rest.len()))
+    }
+
+    // The same of a stream that is cut after its first bytes and then at a fixed size.
+    fn feed_slices(
+        &mut self,
+        alloc: Global,
+        stream: &[u8],
+        first: usize,
+        size: usize,
+        log: &mut String,
+    ) -> Result<Option<usize>, AllocError> {
+        let (front, back) = stream.split_at(first.min(stream.len()));
+        let mut left = match self.feed_all(alloc, front, log)? {
+            Some(here) => here,
+            None => return Ok(None),
+        };
+        for slice in back.chunks(size.max(1)) {
+            match self.feed_all(alloc, slice, log)? {
+                Some(here) => left = left.saturating_add(here),
+                None => return Ok(None),
+            }
+        }
+        Ok(Some(left))
     }
 
     fn reason(&self) -> &[u8] {
         match self {
             End::Server(_) => b"",
-            End::Viewer(hello) => hello.reason(),
+            End::Viewer(hello) => reason_of(hello),
+        }
+    }
+
+    // Writes all that it tells of a stream in slices: its events, and how many bytes it left, or
+    // its fault with the reason.
+    fn tell(
+        &mut self,
+        alloc: Global,
+        stream: &[u8],
+        first: usize,
+        size: usize,
+        log: &mut String,
+    ) -> Result<(), AllocError> {
+        match self.feed_slices(alloc, stream, first, size, log)? {
+            Some(left) => log.push_str(&format!(in alloc; "left {left}")?),
+            None => {
+                let reason = self.reason();
+                log.push_str(&format!(in alloc; " {reason:?}")?)
+            }
         }
     }
 }
 
-// Writes an event to the log, if there is one.
-fn note<E: Debug + Drop>(
-    alloc: Global,
-    event: Option<E>,
-    log: &mut String,
-) -> Result<(), AllocError> {
-    if let Some(event) = event {
-        log.push_str(&format!(in alloc; "{event:?}")?)?;
-        log.push('\n')?;
-    }
-    Ok(())
-}
-
-// All that an end tells of a stream, cut after its first bytes and then at a fixed size: its events,
-// and how many bytes it left, or its fault with the reason.
+// All that an end tells of a stream, cut after its first bytes and then at a fixed size.
 fn told(
     alloc: Global,
-    mut end: End,
+    server: bool,
     stream: &[u8],
     first: usize,
     size: usize,
 ) -> Result<String, AllocError> {
     let mut log = String::new(alloc);
-    let (front, back) = stream.split_at(first.min(stream.len()));
-    let mut slices = Vec::new(alloc);
-    slices.push(front)?;
-    for slice in back.chunks(size.max(1)) {
-        slices.push(slice)?;
-    }
-    let mut left = 0usize;
-    for slice in &slices {
-        match end.feed_all(alloc, slice, &mut log)? {
-            Ok(here) => left = left.saturating_add(here),
-            Err(fault) => {
-                let reason = end.reason();
-                log.push_str(&format!(in alloc; "{fault:?} {reason:?}")?)?;
-                return Ok(log);
-            }
-        }
-    }
-    log.push_str(&format!(in alloc; "left {left}")?)?;
+    let mut end = end_of(alloc, server);
+    let written = end.tell(alloc, stream, first, size, &mut log);
+    drop(end);
+    written?;
     Ok(log)
 }
 
-fn end_of(alloc: Global, server: bool) -> End {
-    if server {
-        End::server()
-    } else {
-        End::viewer(alloc)
+// Whether it tells that.
+fn tells(
+    alloc: Global,
+    server: bool,
+    stream: &[u8],
+    first: usize,
+    size: usize,
+    wanted: &str,
+) -> Result<bool, AllocError> {
+    let told = told(alloc, server, stream, first, size)?;
+    Ok(told.as_str() == wanted)
+}
+
+// Whether it tells byte by byte what it tells of the whole.
+fn is_told_byte_by_byte(alloc: Global, server: bool, stream: &[u8]) -> Result<bool, AllocError> {
+    let whole = told(alloc, server, stream, stream.len(), 1)?;
+    tells(alloc, server, stream, 1, 1, &whole)
+}
+
+// The same in two slices, cut at each place.
+fn is_told_in_two(alloc: Global, server: bool, stream: &[u8]) -> Result<bool, AllocError> {
+    let whole = told(alloc, server, stream, stream.len(), 1)?;
+    let mut good = true;
+    for cut in 0..stream.len() {
+        good &= tells(alloc, server, stream, cut, stream.len(), &whole)?;
     }
+    Ok(good)
+}
+
+fn is_told_at_cuts(alloc: Global, server: bool, stream: &[u8]) -> Result<bool, AllocError> {
+    Ok(is_told_byte_by_byte(alloc, server, stream)? && is_told_in_two(alloc, server, stream)?)
 }
 
 #[test]
 fn what_is_told_does_not_depend_on_the_cut(rt: HostRuntime) -> Result<(), AllocError> {
-    let alloc = rt.alloc();
-    for (server, streams) in [(true, CLIENTS.as_slice()), (false, SERVERS.as_slice())] {
-        for stream in streams {
-            let whole = told(alloc, end_of(alloc, server), stream, stream.len(), 1)?;
-            let bytes = told(alloc, end_of(alloc, server), stream, 1, 1)?;
-            assert_eq!(rt; bytes.as_str(), whole.as_str());
-            for cut in 0..stream.len() {
-                let halves = told(alloc, end_of(alloc, server), stream, cut, stream.len())?;
-                assert_eq!(rt; halves.as_str(), whole.as_str());
-            }
-        }
+    for stream in CLIENTS {
+        assert!(rt; is_told_at_cuts(rt.alloc(), true, stream)?);
+    }
+    for stream in SERVERS {
+        assert!(rt; is_told_at_cuts(rt.alloc(), false, stream)?);
     }
     Ok(())
 }
 
+// Whether it is told byte by byte as whole where its byte at this place is another.
+fn is_told_with(
+    alloc: Global,
+    server: bool,
+    stream: &[u8],
+    place: usize,
+    damage: u8,
+) -> Result<bool, AllocError> {
+    let mut damaged = stream.to_vec(alloc)?;
+    if let Some(byte) = damaged.get_mut(place) {
+        *byte = damage;
+    }
+    is_told_byte_by_byte(alloc, server, &damaged)
+}
+
+// The same where each byte in turn is 00, and FF.
+fn is_told_damaged(alloc: Global, server: bool, stream: &[u8]) -> Result<bool, AllocError> {
+    let mut good = true;
+    for place in 0..stream.len() {
+        good &= is_told_with(alloc, server, stream, place, 0)?;
+        good &= is_told_with(alloc, server, stream, place, 0xFF)?;
+    }
+    Ok(good)
+}
+
 #[test]
 fn nor_does_it_where_a_byte_is_damaged(rt: HostRuntime) -> Result<(), AllocError> {
-    let alloc = rt.alloc();
-    for (server, streams) in [(true, CLIENTS.as_slice()), (false, SERVERS.as_slice())] {
-        for stream in streams {
-            for (place, _) in stream.iter().enumerate() {
-                for damage in [0, 0xFF] {
-                    let mut damaged = stream.to_vec(alloc)?;
-                    if let Some(byte) = damaged.get_mut(place) {
-                        *byte = damage;
-                    }
-                    let whole = told(alloc, end_of(alloc, server), &damaged, damaged.len(), 1)?;
-                    let bytes = told(alloc, end_of(alloc, server), &damaged, 1, 1)?;
-                    assert_eq!(rt; bytes.as_str(), whole.as_str());
-                }
-            }
-        }
+    for stream in CLIENTS {
+        assert!(rt; is_told_damaged(rt.alloc(), true, stream)?);
+    }
+    for stream in SERVERS {
+        assert!(rt; is_told_damaged(rt.alloc(), false, stream)?);
     }
     Ok(())
 }

@@ -1,6 +1,11 @@
 //! How many bytes are pending after each byte of a handshake, and where the handshake is open.
 
+use super::ends::{
+    is_server_open, is_viewer_open, server_fault, server_of, server_pending, viewer_fault,
+    viewer_of, viewer_pending,
+};
 use crate::{ServerHello, Version, ViewerHello};
+use std::alloc::Global;
 
 // What the other end sends, and how many bytes are pending after each of them: a text of 12, a
 // count and each type, a word of 4, ServerInit of 24 up to the name, and each byte of that.
@@ -37,50 +42,97 @@ const CLIENT: (&[u8], &[usize]) = (
     &[1, 2, 3, 4, 5, 6, 7, 8, 9, 10, 11, 0, 0, 0],
 );
 
+// Whether each byte is taken where the end is open, and so many are pending behind it.
+fn viewer_keeps(hello: &mut ViewerHello, stream: &[u8], pending: &[usize]) -> bool {
+    let mut good = stream.len() == pending.len();
+    for (byte, wanted) in stream.chunks(1).zip(pending) {
+        good &= is_viewer_open(hello)
+            && viewer_fault(hello, byte).is_none()
+            && viewer_pending(hello) == *wanted;
+    }
+    good
+}
+
+// The same of an end that was fed nothing.
+fn is_kept(alloc: Global, stream: &[u8], pending: &[usize]) -> bool {
+    let mut hello = viewer_of(alloc, Version::V38, 16, 1);
+    let good = viewer_keeps(&mut hello, stream, pending);
+    drop(hello);
+    good
+}
+
 #[test]
 fn a_viewer_keeps_what_stands_after_the_last_whole_piece(rt: HostRuntime) {
     for (stream, pending) in [LISTED, REFUSED_BY_WORD, REFUSED_BY_COUNT, FAILED] {
-        let mut hello = ViewerHello::new(rt.alloc(), Version::V38, true, 16, 1);
-        assert_eq!(rt; stream.len(), pending.len());
-        for (byte, wanted) in stream.chunks(1).zip(pending) {
-            assert!(rt; hello.is_open());
-            assert!(rt; hello.feed(byte).is_ok());
-            assert_eq!(rt; hello.pending(), *wanted);
-        }
+        assert!(rt; is_kept(rt.alloc(), stream, pending));
     }
+}
+
+// Whether each byte is taken where the end is open, and so many are pending behind it; and whether
+// it is not open behind the last.
+fn server_keeps(hello: &mut ServerHello, stream: &[u8], pending: &[usize]) -> bool {
+    let mut good = stream.len() == pending.len();
+    for (byte, wanted) in stream.chunks(1).zip(pending) {
+        good &= is_server_open(hello)
+            && server_fault(hello, byte).is_none()
+            && server_pending(hello) == *wanted;
+    }
+    good && !is_server_open(hello)
+}
+
+fn is_kept_by_server(stream: &[u8], pending: &[usize]) -> bool {
+    let mut hello = server_of(Version::V38, 1, 1, b"");
+    let good = server_keeps(&mut hello, stream, pending);
+    drop(hello);
+    good
 }
 
 #[test]
 fn a_server_keeps_what_stands_after_the_last_whole_piece(rt: HostRuntime) {
     let (stream, pending) = CLIENT;
-    let mut hello = ServerHello::new(Version::V38, 1, 1, b"");
-    assert_eq!(rt; stream.len(), pending.len());
-    for (byte, wanted) in stream.chunks(1).zip(pending) {
-        assert!(rt; hello.is_open());
-        assert!(rt; hello.feed(byte).is_ok());
-        assert_eq!(rt; hello.pending(), *wanted);
+    assert!(rt; is_kept_by_server(stream, pending));
+}
+
+const DONE: [&[u8]; 3] = [
+    b"RFB 003.003\n",
+    b"\0\0\0\x01",
+    b"\0\x01\0\x01................\0\0\0\0",
+];
+
+// Whether each slice is taken where the end is open, and it is not open behind the last.
+fn is_closed_behind(hello: &mut ViewerHello, slices: [&[u8]; 3]) -> bool {
+    let mut good = true;
+    for bytes in slices {
+        good &= is_viewer_open(hello) && viewer_fault(hello, bytes).is_none();
     }
-    assert!(rt; !hello.is_open());
+    good && !is_viewer_open(hello)
+}
+
+fn is_done(alloc: Global) -> bool {
+    let mut hello = viewer_of(alloc, Version::V38, 16, 1);
+    let good = is_closed_behind(&mut hello, DONE);
+    drop(hello);
+    good
 }
 
 #[test]
 fn a_handshake_that_is_done_is_not_open(rt: HostRuntime) {
-    let mut done = ViewerHello::new(rt.alloc(), Version::V38, true, 16, 1);
-    for bytes in [
-        b"RFB 003.003\n".as_slice(),
-        b"\0\0\0\x01",
-        b"\0\x01\0\x01................\0\0\0\0",
-    ] {
-        assert!(rt; done.is_open());
-        assert!(rt; done.feed(bytes).is_ok());
-    }
-    assert!(rt; !done.is_open());
+    assert!(rt; is_done(rt.alloc()));
+}
+
+// Whether it fails at these bytes, is not open then, and keeps none.
+fn is_failed_by(hello: &mut ViewerHello, bytes: &[u8]) -> bool {
+    viewer_fault(hello, bytes).is_some() && !is_viewer_open(hello) && viewer_pending(hello) == 0
+}
+
+fn is_failed(alloc: Global) -> bool {
+    let mut hello = viewer_of(alloc, Version::V38, 16, 1);
+    let good = is_failed_by(&mut hello, b"RFB 003.00x\n");
+    drop(hello);
+    good
 }
 
 #[test]
 fn a_handshake_that_has_failed_is_not_open(rt: HostRuntime) {
-    let mut failed = ViewerHello::new(rt.alloc(), Version::V38, true, 16, 1);
-    assert!(rt; failed.feed(b"RFB 003.00x\n").is_err());
-    assert!(rt; !failed.is_open());
-    assert_eq!(rt; failed.pending(), 0);
+    assert!(rt; is_failed(rt.alloc()));
 }
