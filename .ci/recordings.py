@@ -43,6 +43,11 @@ put('recording_of_a_handshake',args='play\n',stdin=HELLO,stdout=b'P6\n2 1\n255\n
 put('recording_cut_in_a_text',args='play\n',stdin=HELLO+bytes.fromhex('0300000000000005'+'41424344'),stderr='fault 28 Truncated\n',status='1\n')
 put('recording_with_a_text',args='play\n',stdin=HELLO+bytes.fromhex('0300000000000005'+'4142434402'),stdout=b'P6\n2 1\n255\n'+bytes(6),status='0\n')
 put('recording_of_an_unknown_message',args='play\n',stdin=P+b'\x04',stderr='fault 7 UnknownMessage\n',status='1\n')
+# Another update: the right place becomes (255, 128, 1).
+MORE=bytes.fromhex('00000001'+'0001000000010001'+'00000000'+'0180FF00')
+put('recording_up_to_its_first_update',args='play\n--updates\n1\n',stdin=P+MORE[:9],stdout=b'P6\n2 1\n255\n'+bytes.fromhex('000000040002'),status='0\n')
+put('recording_of_fewer_updates',args='play\n--updates=3\n',stdin=P+MORE,stdout=b'P6\n2 1\n255\n'+bytes.fromhex('000000FF8001'),status='0\n')
+put('recording_up_to_no_update',args='play\n--updates\n0\n',stderr="error: invalid value '0' for '--updates <U>': 0 is not in 1..=4294967295\n\nFor more information, try '--help'.\n",status='2\n')
 put('recording_to_a_full_device',args='play\n',stdin=P,stderr='fault 29 Device\n',status='1\n',device='/dev/full\n')
 put('recording_with_less_memory_than_its_screen',args='play\n',stdin=HELLO[:18]+struct.pack('>HH',4096,4096)+HELLO[22:],stderr='fault 30 NoMemory\n',status='1\n',memory='40000\n')
 put('format_of_no_meaning',args='play\n--format\nrgb\n',stderr="error: invalid value 'rgb' for '--format <F>'\n  [possible values: rgb888, rgb565, bgr233]\n\nFor more information, try '--help'.\n",status='2\n')

@@ -64,7 +64,7 @@ Does Script read before after = PlaysScript read before after
 Does Loop read before after = PlaysSomeScript read before after
 Does (Serve wanted) read before after = ⊤
 Does (View look) read before after = ⊤
-Does (Play format) read before after = PlaysRecording format read before after
+Does (Play replay) read before after = PlaysRecording replay read before after
 
 -- the same of what words ask for
 abbrev pub DoesAsked : List Text → Option (List ℕ) → Option (List ℕ) → Option (List ℕ) → Type 0

@@ -14,6 +14,7 @@ use Rattle.rfb.specs.declared.options.Task.{Task}
 use Rattle.rfb.specs.declared.options.Task.TheVariants.{Script, Loop, Play, Serve, View}
 use Rattle.rfb.specs.declared.options.WrongWords.{WrongWords}
 use Rattle.rfb.specs.declared.options.WrongWords.TheVariants.{Words, Value}
+use Rattle.rfb.specs.declared.recording.replay.Replay.{Replay}
 use Rattle.rfb.specs.declared.serving.Wanted.{Wanted}
 use Rattle.rfb.specs.declared.viewing.look.Look.{Look}
 use Rattle.rfb.specs.declared.viewing.look.Sight.{Sight}
@@ -65,6 +66,10 @@ connections_rule = record (number_rule (codes "connections") 1 65535) {
   defaults = codes "1" ∷ [];
 }
 
+-- how many updates are played, or else all
+abbrev pub first_updates_rule : Rule
+first_updates_rule = number_rule (codes "updates") 1 4294967295
+
 abbrev pub updates_rule : Rule
 updates_rule = record (number_rule (codes "updates") 1 4294967295) {
   defaults = codes "1" ∷ [];
@@ -78,7 +83,7 @@ abbrev pub loop_shape : Shape
 loop_shape = new_shape (codes "loop")
 
 abbrev pub play_shape : Shape
-play_shape = (with_rule (new_app (codes "play")) format_rule).top
+play_shape = (with_rule (with_rule (new_app (codes "play")) format_rule) first_updates_rule).top
 
 abbrev pub serve_shape : Shape
 serve_shape = (with_rule (with_rule (with_rule (with_rule (new_app (codes "serve")) port_rule)
@@ -129,12 +134,25 @@ GivesNumber name least most rows n =
     digits_value 10 (without_leading_plus text) ≤ most →
     n ≡ digits_value 10 (without_leading_plus text)
 
+-- the same of a number that may be left out
+pub record MayGiveNumber (name : Text) (least most : ℕ) (rows : List Row) (n : Option ℕ) : Type 0 where
+  pub absent : one_of name rows ≡ None → n ≡ None
+  pub given : (text : Text) → one_of name rows ≡ Some text → IsNumeral 10 (without_leading_plus text) →
+      least ≤ digits_value 10 (without_leading_plus text) →
+      digits_value 10 (without_leading_plus text) ≤ most →
+      n ≡ Some (digits_value 10 (without_leading_plus text))
+
 -- what `serve` is asked for
 pub record GivesWanted (rows : List Row) (wanted : Wanted) : Type 0 where
   pub port : GivesNumber (codes "port") 1 65535 rows wanted.port
   pub width : GivesNumber (codes "width") 1 4096 rows wanted.screen.width
   pub height : GivesNumber (codes "height") 1 4096 rows wanted.screen.height
   pub connections : GivesNumber (codes "connections") 1 65535 rows wanted.connections
+
+-- what `play` is asked for
+pub record GivesReplay (rows : List Row) (replay : Replay) : Type 0 where
+  pub format : GivesFormat rows replay.format
+  pub updates : MayGiveNumber (codes "updates") 1 4294967295 rows replay.updates
 
 -- the host that is given, or the loopback address
 abbrev pub NamesHost : Option Text → Text → Type 0
@@ -185,13 +203,13 @@ HasBadSight rows = HasBadFormat rows ⊎ HasBadEncodings rows
 abbrev pub IsTask : Option (Text × List Row) → Task → Type 0
 IsTask None Script = Unit {0}
 IsTask None Loop = ⊥
-IsTask None (Play format) = ⊥
+IsTask None (Play replay) = ⊥
 IsTask None (Serve wanted) = ⊥
 IsTask None (View look) = ⊥
 IsTask (Some (name, rows)) Script =
     (name ≢ codes "loop") × (name ≢ codes "play") × (name ≢ codes "serve") × (name ≢ codes "view")
 IsTask (Some (name, rows)) Loop = name ≡ codes "loop"
-IsTask (Some (name, rows)) (Play format) = (name ≡ codes "play") × GivesFormat rows format
+IsTask (Some (name, rows)) (Play replay) = (name ≡ codes "play") × GivesReplay rows replay
 IsTask (Some (name, rows)) (Serve wanted) = (name ≡ codes "serve") × GivesWanted rows wanted
 IsTask (Some (name, rows)) (View look) = (name ≡ codes "view") × GivesLook rows look
 

@@ -91,7 +91,7 @@ fn work<P: AllocGlobal + Net, R: Read, W: Write, E: Write>(
     match task {
         Task::Script => script(alloc, input, output, errors),
         Task::Loop => script_through_loopback(rt, alloc, input, output, errors),
-        Task::Play(format) => play_recording(alloc, format, input, output),
+        Task::Play(replay) => play_recording(alloc, replay, input, output),
         Task::Serve(wanted) => serve_at(rt, alloc, wanted, output),
         Task::View(look) => view_at(rt, alloc, look, output),
     }

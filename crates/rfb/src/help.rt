@@ -40,11 +40,13 @@ Example:
 
 pub const RECORDINGS: &str = "\
 A recording is all that a server sent, from its greeting to the end of a message. What a viewer
-would answer is dropped.
+would answer is dropped. With --updates the picture is the one right behind that update, and what
+comes after it is not looked at; a recording of fewer updates is played whole.
 docs/PROTOCOL.md has the formats, and the faults by number.
 
-Example:
-  rfb play --format rgb565 < server.rfb > picture.ppm";
+Examples:
+  rfb play --format rgb565 < server.rfb > picture.ppm
+  rfb play --updates 2 < server.rfb > picture.ppm";
 
 pub const VIEWERS: &str = "\
 Each connection has a fresh screen. Behind each update the picture scrolls up by a row. As soon as a

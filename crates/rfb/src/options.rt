@@ -1,6 +1,7 @@
 //! The words of the command line: which there are, and what they ask for.
 
 mod looking;
+mod replaying;
 
 ghost use Rattle.std.specs.Prelude.{◌≡◌, ◌≤◌, false, map, Some, IfOk, MatchResult};
 ghost use Rattle.clap.specs.Words.{FailsBy, fault_of, found_of, rows_of, rule_of, shape_of, subcommand_rows_of};
@@ -9,10 +10,12 @@ ghost use Rattle.rfb.specs.Options.{GivesFormat, GivesNumber, GivesWanted, HasBa
 ghost use Rattle.rfb_pixel.specs.Format.{PixelFormat};
 ghost use Rattle.rfb.specs.Words.{IsFormatWord};
 ghost use Rattle.rfb.specs.Options.{connections_rule, format_rule, port_rule, side_rule};
-ghost use Rattle.rfb.specs.Options.{loop_shape, play_shape, program, script_shape, serve_shape};
+ghost use Rattle.rfb.specs.Options.{loop_shape, program, script_shape, serve_shape};
 
-use crate::help::{LANGUAGE, LOOPBACK, RECORDINGS, STATUSES, VERSION, VIEWERS};
+use crate::help::{LANGUAGE, LOOPBACK, STATUSES, VERSION, VIEWERS};
 use crate::options::looking::{look_in, view_words};
+use crate::options::replaying::{play_words, replay_in};
+use crate::recording::Replay;
 use crate::script::{MAX_SIDE, Screen, read_format};
 use crate::serving::Wanted;
 use crate::viewing::Look;
@@ -28,8 +31,8 @@ pub enum Task<'a> {
     Script,
     /// To run a script over a connection.
     Loop,
-    /// To play a recording, in this format.
-    Play(Format),
+    /// To play a recording.
+    Play(Replay),
     /// To serve the test scene.
     Serve(Wanted),
     /// To view a server.
@@ -100,16 +103,6 @@ fn loop_words<'a>(alloc: Global) -> Command<'a>
     Command::new(alloc, "loop")
         .about("Runs a script as `script` does, and delivers its bytes through a connection")
         .after_help(LOOPBACK)
-}
-
-// The words of `play`.
-fn play_words<'a>(alloc: Global) -> Result<Command<'a>, AllocError>
-    ensures { IfOk result (λ command. shape_of command ≡ play_shape) }
-{
-    Command::new(alloc, "play")
-        .about("Plays a server's bytes from standard input, and writes the last picture as PPM")
-        .after_help(RECORDINGS)
-        .arg(format_word(alloc))
 }
 
 // The words of `serve`.
@@ -212,8 +205,8 @@ fn command_of<'a>(name: &str, given: &ArgMatches<'a>) -> Result<Task<'a>, BadVal
         return Ok(Task::Loop);
     }
     if name == "play" {
-        return match format_in(given) {
-            Ok(format) => Ok(Task::Play(format)),
+        return match replay_in(given) {
+            Ok(replay) => Ok(Task::Play(replay)),
             Err(value) => Err(value),
         };
     }

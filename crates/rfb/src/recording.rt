@@ -1,48 +1,82 @@
 //! Recordings of a server, played to a viewer.
 
-ghost use Rattle.std.specs.Prelude.{◌≡◌, Err, IfOk, IfErr, OnOk};
+ghost use Rattle.std.specs.Prelude.{◌≡◌, ◌≤◌, Err, IfOk, IfErr, IfSome, OnOk};
 ghost use Rattle.rfb.specs.declared.fault.Fault.{Fault};
 ghost use Rattle.rfb_session.specs.declared.engine.fault.EngineFault.{EngineFault};
 ghost use Rattle.rfb.specs.declared.fault.Failure.TheVariants as Failure;
 ghost use Rattle.rfb.specs.Recording.{FailsToPlay, PlaysRecording, WritesPicture, Watches, StopsWatching};
+ghost use Rattle.rfb.specs.Recording.{WatchesAll, StopsWatchingAll, WatchesSome, StopsWatchingSome};
+
+mod replay;
 
 use crate::fault::{Failure, Fault};
 use crate::pixmap::write_pixmap;
 use crate::playing::{fresh_viewer, only_raw};
-use rfb_pixel::Format;
+pub use replay::Replay;
 use rfb_session::{EngineFault, Tally};
 use rfb_viewer::Viewer;
 use std::alloc::Global;
 use std::io::{Read, Write};
 
-/// Plays what `input` has, the bytes of a server, to a fresh viewer that takes pixels of `format`;
-/// and writes the picture that it shows then. Nothing is written where the viewer or the bytes end
-/// with a fault.
+/// Plays what `input` has, the bytes of a server, to a fresh viewer that takes pixels of
+/// `replay.format`: up to the end of the last of so many updates, or all of it. Then it writes the
+/// picture that the viewer shows. Nothing is written where the viewer or the bytes end with a fault.
 pub fn play_recording<R: Read, W: Write>(
     alloc: Global,
-    format: Format,
+    replay: Replay,
     input: &mut R,
     output: &mut W,
 ) -> Result<(), Failure>
-    ensures done { OnOk result (PlaysRecording format
+    ensures done { OnOk result (PlaysRecording replay
         (R.remaining input.old) (W.contents output.old) (W.contents output.new)) }
-    ensures stopped { IfErr result (FailsToPlay format (R.remaining input.old)) }
+    ensures stopped { IfErr result (FailsToPlay replay (R.remaining input.old)) }
     ensures unwritten { (fault : EngineFault) → result ≡ Err (Failure.Engine fault) →
         output.new ≡ output.old }
 {
-    let mut viewer = fresh_viewer(alloc, format, only_raw());
-    match watch(input, &mut viewer) {
+    let mut viewer = fresh_viewer(alloc, replay.format, only_raw());
+    match watch(input, &mut viewer, replay.updates) {
         Ok(_updates) => show(alloc, &viewer, output),
         Err(fault) => Err(Failure::Engine(fault)),
     }
 }
 
-// Feeds a viewer all that `input` has, and tells how many updates ended.
-fn watch<R: Read>(input: &mut R, viewer: &mut Viewer) -> Result<u64, EngineFault>
-    ensures watched { IfOk result (λ updates.
-        Watches (R.remaining input.old) viewer.old updates viewer.new) }
+// Feeds a viewer what `input` has, until so many updates ended or all is fed, and tells how many
+// ended.
+fn watch<R: Read>(
+    input: &mut R,
+    viewer: &mut Viewer,
+    updates: Option<u32>,
+) -> Result<u64, EngineFault>
+    requires some { IfSome updates (λ count. 1 ≤ count) }
+    ensures watched { IfOk result (λ told.
+        Watches updates (R.remaining input.old) viewer.old told viewer.new) }
     ensures stopped { IfErr result (λ fault.
-        StopsWatching (R.remaining input.old) viewer.old fault viewer.new) }
+        StopsWatching updates (R.remaining input.old) viewer.old fault viewer.new) }
+{
+    match updates {
+        Some(count) => watch_some(input, viewer, count),
+        None => watch_all(input, viewer),
+    }
+}
+
+// Feeds a viewer what `input` has, until so many updates ended, or all of it if fewer do.
+fn watch_some<R: Read>(input: &mut R, viewer: &mut Viewer, updates: u32) -> Result<u64, EngineFault>
+    requires some { 1 ≤ updates }
+    ensures watched { IfOk result (λ told.
+        WatchesSome updates (R.remaining input.old) viewer.old told viewer.new) }
+    ensures stopped { IfErr result (λ fault.
+        StopsWatchingSome updates (R.remaining input.old) viewer.old fault viewer.new) }
+{
+    let mut source = Tally::new(input);
+    rfb_session::play_some(&mut source, viewer, u64::from(updates))
+}
+
+// Feeds a viewer all that `input` has.
+fn watch_all<R: Read>(input: &mut R, viewer: &mut Viewer) -> Result<u64, EngineFault>
+    ensures watched { IfOk result (λ told.
+        WatchesAll (R.remaining input.old) viewer.old told viewer.new) }
+    ensures stopped { IfErr result (λ fault.
+        StopsWatchingAll (R.remaining input.old) viewer.old fault viewer.new) }
 {
     let mut source = Tally::new(input);
     rfb_session::play(&mut source, viewer)

@@ -8,6 +8,7 @@ ghost use Rattle.rfb.specs.Options.{GivesEncodings, GivesHost, GivesLook, GivesN
 ghost use Rattle.rfb.specs.Words.{AreEncodings, parts_of};
 
 use crate::help::SERVERS;
+use crate::options::replaying::updates_given;
 use crate::options::{BadValue, format_in, format_word, number_in, port_word};
 use crate::playing::only_raw;
 use crate::script::{Wants, read_list};
@@ -131,18 +132,10 @@ fn updates_in(given: &ArgMatches<'_>) -> u32
     ensures number { GivesNumber (codes "updates") 1 4294967295 (rows_of (found_of given.now)) result }
     ensures some { 1 ≤ result }
 {
-    match given.get_one::<u32>("updates") {
-        Some(number) => at_least_one(number),
+    match updates_given(given) {
+        Some(number) => number,
         None => 1,
     }
-}
-
-// A number, or 1 in place of 0.
-fn at_least_one(number: u32) -> u32
-    ensures same { 1 ≤ number → result ≡ number }
-    ensures some { 1 ≤ result }
-{
-    if number == 0 { 1 } else { number }
 }
 
 // Whether the server's bytes are wanted.

@@ -2,6 +2,7 @@
 
 use crate::options::{Task, read_words};
 use crate::playing::only_raw;
+use crate::recording::Replay;
 use crate::script::{Screen, Wants};
 use crate::serving::Wanted;
 use crate::viewing::{Look, Sight};
@@ -15,21 +16,48 @@ fn task<'a>(rt: &HostRuntime, words: &'a [&'a str]) -> Option<Task<'a>> {
 }
 
 #[test]
-fn each_command_has_its_words(rt: HostRuntime) {
+fn script_and_loop_have_no_words(rt: HostRuntime) {
     for (words, wanted) in [
         (["rfb", "script"].as_slice(), Task::Script),
         (["rfb", "loop"].as_slice(), Task::Loop),
-        (["rfb", "play"].as_slice(), Task::Play(Format::rgb888())),
-        (
-            ["rfb", "play", "--format", "rgb565"].as_slice(),
-            Task::Play(Format::rgb565()),
-        ),
-        (
-            ["rfb", "play", "--format=bgr233"].as_slice(),
-            Task::Play(Format::bgr233()),
-        ),
     ] {
         assert_eq!(rt; task(&rt, words), Some(wanted), "{words:?}");
+    }
+}
+
+#[test]
+fn a_recording_is_played_in_a_format_and_whole_or_in_part(rt: HostRuntime) {
+    for (words, replay) in [
+        (
+            ["rfb", "play"].as_slice(),
+            Replay {
+                format: Format::rgb888(),
+                updates: None,
+            },
+        ),
+        (
+            ["rfb", "play", "--format", "rgb565"].as_slice(),
+            Replay {
+                format: Format::rgb565(),
+                updates: None,
+            },
+        ),
+        (
+            ["rfb", "play", "--updates", "1", "--format=bgr233"].as_slice(),
+            Replay {
+                format: Format::bgr233(),
+                updates: Some(1),
+            },
+        ),
+        (
+            ["rfb", "play", "--updates=4294967295"].as_slice(),
+            Replay {
+                format: Format::rgb888(),
+                updates: Some(u32::MAX),
+            },
+        ),
+    ] {
+        assert_eq!(rt; task(&rt, words), Some(Task::Play(replay)), "{words:?}");
     }
 }
 

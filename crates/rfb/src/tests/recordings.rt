@@ -1,8 +1,9 @@
 //! Recordings that are played.
 
-use super::calls::call;
+use super::calls::{call, call_all};
 use super::devices::{call_on_failing_input, call_to_failing_output};
-use super::streams::{HANDSHAKE, PICTURE, SERVER};
+use super::streams::{HANDSHAKE, LATER_PICTURE, MORE, PICTURE, SERVER};
+use std::alloc::AllocError;
 use std::io::ErrorKind;
 
 const PLAY: [&str; 2] = ["rfb", "play"];
@@ -18,6 +19,27 @@ fn a_recording_shows_its_last_picture(rt: HostRuntime) {
         let ended = call(&rt, PLAY.as_slice(), recording);
         assert!(rt; ended.is(0, picture, b""));
     }
+}
+
+#[test]
+fn a_recording_is_played_up_to_so_many_updates(rt: HostRuntime) -> Result<(), AllocError> {
+    for (updates, more, picture) in [
+        ("1", MORE, PICTURE),
+        // Behind the last update nothing is looked at, be it cut or no message.
+        ("1", &MORE[..9], PICTURE),
+        ("1", b"\xFF".as_slice(), PICTURE),
+        ("2", MORE, LATER_PICTURE),
+        ("3", MORE, LATER_PICTURE),
+        ("4294967295", MORE, LATER_PICTURE),
+    ] {
+        let words = ["rfb", "play", "--updates", updates];
+        let ended = call_all(&rt, words.as_slice(), &[SERVER, more])?;
+        assert!(rt; ended.is(0, picture, b""), "{updates}");
+    }
+    let words = ["rfb", "play", "--updates", "2"];
+    let ended = call_all(&rt, words.as_slice(), &[SERVER, &MORE[..9]])?;
+    assert!(rt; ended.is(1, b"", b"fault 28 Truncated\n"));
+    Ok(())
 }
 
 #[test]

@@ -30,6 +30,15 @@ pub const SERVER: &[u8] = b"RFB 003.008\n\
 /// The picture behind that.
 pub const PICTURE: &[u8] = b"P6\n2 1\n255\n\x00\x00\x00\x04\x00\x02";
 
+/// One update more: the right place, Raw, (255, 128, 1).
+pub const MORE: &[u8] = b"\x00\x00\x00\x01\
+    \x00\x01\x00\x00\x00\x01\x00\x01\
+    \x00\x00\x00\x00\
+    \x01\x80\xFF\x00";
+
+/// The picture behind both.
+pub const LATER_PICTURE: &[u8] = b"P6\n2 1\n255\n\x00\x00\x00\xFF\x80\x01";
+
 /// What a viewer of that sends: its version, None, a shared screen, rgb888, Raw alone, and a request
 /// for both places.
 pub const REQUESTS: &[u8] = b"RFB 003.008\n\

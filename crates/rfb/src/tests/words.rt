@@ -5,7 +5,7 @@ use crate::command_line::without_words;
 use std::io;
 use std::io::ErrorKind;
 
-const BAD_WORDS: [&[&str]; 27] = [
+const BAD_WORDS: [&[&str]; 31] = [
     &[],
     &["rfb"],
     &["rfb", "scrip"],
@@ -20,6 +20,10 @@ const BAD_WORDS: [&[&str]; 27] = [
     &["rfb", "play", "--format", "rgb888", "--format", "rgb888"],
     &["rfb", "play", "--format", "RGB888"],
     &["rfb", "play", "--format", ""],
+    &["rfb", "play", "--updates"],
+    &["rfb", "play", "--updates", "0"],
+    &["rfb", "play", "--updates", "4294967296"],
+    &["rfb", "play", "--updates", "one"],
     &["rfb", "serve"],
     &["rfb", "serve", "--port", "0"],
     &["rfb", "serve", "--port", "65536"],

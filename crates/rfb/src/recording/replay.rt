@@ -1,0 +1,16 @@
+//! What `play` is asked for.
+
+ghost use Rattle.std.specs.Prelude.{◌≤◌, IfSome};
+ghost use Rattle.std.proofs.Props.{props};
+
+use rfb_pixel::Format;
+
+/// What `play` is asked for: in which format a recording is played, and how much of it.
+#[derive(Clone, Copy, Debug, PartialEq, Eq)]
+pub struct Replay {
+    pub format: Format,
+    /// After so many updates it ends. Without a number, or where the recording has fewer, it ends
+    /// with the recording.
+    pub updates: Option<u32>,
+    ghost some: { IfSome updates (λ count. 1 ≤ count) } by { Prim.hlevel props },
+}
