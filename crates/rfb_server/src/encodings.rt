@@ -10,7 +10,7 @@ use std::marker::Model;
 pub(crate) const MAX_LISTED: usize = 4;
 
 /// The known encodings of a SetEncodings, RFC 6143 section 7.5.2, in the viewer's order, each once.
-#[derive(Drop)]
+#[derive(Debug, Drop)]
 pub struct EncodingList {
     slots: [Encoding; MAX_LISTED],
     count: usize,

@@ -11,7 +11,7 @@ use std::marker::Model;
 /// For each place of a screen the pixel that the viewer has there, or will have once it has read
 /// what was composed, in the session's format; or that this is not known. It keeps its size. It
 /// owns 32 bits for each place, and two bits, with a few for each row and each cell.
-#[derive(Drop)]
+#[derive(Debug, Drop)]
 pub struct Record {
     pixels: Picture<u32>,
     known: Area,

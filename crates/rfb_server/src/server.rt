@@ -17,7 +17,7 @@ use std::alloc::{AllocError, Global};
 
 /// A screen and the session of its one viewer. The owner draws on the screen, feeds it what the
 /// viewer sends, and sends the viewer what it answers and composes.
-#[derive(Drop)]
+#[derive(Debug, Drop)]
 pub struct Server {
     screen: Picture<Colour>,
     session: Session,

@@ -33,7 +33,7 @@ use std::alloc::{AllocError, Global};
 /// One viewer's part of a server: its handshake, its format and its list of encodings, what it was
 /// sent, what it asked for, hints, and marks where the screen may differ from what it was sent. The
 /// screen is someone else's: a session is told where it was drawn, and is lent it to compose.
-#[derive(Drop)]
+#[derive(Debug, Drop)]
 pub struct Session {
     alloc: Global,
     hello: ServerHello,

@@ -10,7 +10,7 @@ use std::marker::Model;
 
 /// Bytes that were sent and have not arrived, in order. They arrive where they lie; once the last
 /// of them has arrived their memory is given back.
-#[derive(Drop)]
+#[derive(Debug, Drop)]
 pub(crate) struct Channel {
     alloc: Global,
     bytes: Vec<u8>,

@@ -13,7 +13,7 @@ use std::mem;
 const BLACK: Colour = Colour { r: 0, g: 0, b: 0 };
 
 /// Of what the latest update was composed: the screen, the places that were asked, and the format.
-#[derive(Drop)]
+#[derive(Debug, Drop)]
 pub(crate) struct Latest {
     screen: Picture<Colour>,
     area: Area,

@@ -25,7 +25,7 @@ use std::alloc::{AllocError, Global};
 /// A server and its viewer in one process, with the bytes in flight between them each way. What
 /// happens to them comes as events; bytes arrive when a delivery says so, as many as it says. It
 /// keeps, beside that, of what the latest update was composed.
-#[derive(Drop)]
+#[derive(Debug, Drop)]
 pub struct World {
     server: Server,
     viewer: Viewer,

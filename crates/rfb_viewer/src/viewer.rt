@@ -23,7 +23,7 @@ use std::alloc::Global;
 
 /// A viewer of one server. The owner feeds it what the server sends, sends the server what it
 /// answers and what calls on it answer, and shows its picture.
-#[derive(Drop)]
+#[derive(Debug, Drop)]
 pub struct Viewer {
     alloc: Global,
     hello: ViewerHello,

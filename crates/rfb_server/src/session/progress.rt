@@ -12,7 +12,7 @@ pub(crate) const MAX_HEAD: usize = 20;
 pub(crate) const NUMBER_SIZE: usize = 4;
 
 /// What the next bytes are.
-#[derive(Drop)]
+#[derive(Debug, Drop)]
 pub(crate) enum Progress {
     /// Those of a step of the handshake; the handshake's end holds what came of it.
     Handshake,

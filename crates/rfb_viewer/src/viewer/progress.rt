@@ -18,7 +18,7 @@ pub(crate) const HEAD_PART: usize = 7;
 pub(crate) const RECT_HEAD_PART: usize = 11;
 
 /// What the next bytes are.
-#[derive(Drop)]
+#[derive(Debug, Drop)]
 pub(crate) enum Progress {
     /// Those of a step of the handshake; the handshake's end holds what came of it.
     Handshake,
@@ -50,7 +50,7 @@ pub(crate) enum Progress {
 }
 
 /// Whether an update is asked for.
-#[derive(Clone, Copy)]
+#[derive(Clone, Copy, Debug)]
 pub(crate) enum Request {
     /// None is, or the one that was has come.
     Answered,
