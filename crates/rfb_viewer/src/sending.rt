@@ -7,11 +7,11 @@ ghost use Rattle.rfb_viewer.specs.Messages.{format_message, encodings_message, r
 ghost use Rattle.rfb_viewer.specs.Messages.{text_message};
 
 use crate::event::MAX_READY;
-use crate::gather::append;
 use arrayvec::ArrayVec;
 use byteorder::{BigEndian, ByteOrder};
 use rfb_codec::append_within;
 use rfb_pixel::Format;
+use rfb_wire::pieces::append;
 use rfb_wire::{ClientHead, Encoding};
 use std::alloc::AllocError;
 

@@ -1,7 +1,6 @@
 //! Heads and numbers of a client's messages that come in slices.
 
-ghost use Rattle.std.specs.Prelude.{◌≡◌, ℕ, ◌≤◌, ◌<◌, ◌+◌, ◌++◌, length, take, true};
-ghost use Rattle.arrayvec.specs.ArrayVec.{array_vec_len};
+ghost use Rattle.std.specs.Prelude.{◌≡◌, ℕ, ◌≤◌, ◌<◌, ◌++◌, length, take, true};
 ghost use Rattle.rfb_wire.specs.ClientHead.{SpellsClientHead};
 ghost use Rattle.rfb_wire.specs.Heads.{IfMore, IfGot, IfBad};
 ghost use Rattle.rfb_wire.specs.ClientMessage.{UnknownType, FaultsClientMessage};
@@ -10,6 +9,7 @@ ghost use Rattle.rfb_server.specs.Progress.{is_head_begun};
 
 use crate::session::progress::MAX_HEAD;
 use arrayvec::ArrayVec;
+use rfb_wire::pieces::append;
 use rfb_wire::{ClientHead, Read};
 
 // Takes bytes of a message's head, of which a part has come: how many these were, and the head, if
@@ -41,16 +41,5 @@ pub(super) fn gather_head(
         }
         Read::Got(whole, size) => (size - part.len(), Read::Got(whole, size)),
         Read::Bad(fault) => (1, Read::Bad(fault)),
-    }
-}
-
-// Appends bytes for which there is room.
-pub(super) fn append<const CAP: usize>(kept: &mut ArrayVec<u8, CAP>, bytes: &[u8])
-    requires { array_vec_len kept.old + length bytes.now ≤ CAP }
-    ensures { kept.new.items ≡ kept.old.items ++ bytes.now }
-{
-    match kept.try_extend_from_slice(bytes) {
-        Ok(()) => {}
-        Err(_) => unreachable!(),
     }
 }

@@ -12,11 +12,11 @@ ghost use Rattle.rfb_server.specs.inside.Feeding.{StepsAs};
 
 use crate::encodings::EncodingList;
 use crate::session::Session;
-use crate::session::gathering::append;
 use crate::session::progress::{NUMBER_SIZE, Progress};
 use arrayvec::ArrayVec;
 use byteorder::{BigEndian, ByteOrder};
 use rfb_wire::Encoding;
+use rfb_wire::pieces::append;
 use std::mem;
 
 impl Session {

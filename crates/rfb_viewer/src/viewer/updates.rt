@@ -6,19 +6,19 @@ ghost use Rattle.rfb_codec.specs.UnderWay.{UnderWay};
 
 use crate::event::ViewerEvent;
 use crate::fault::ViewerFault;
-use crate::gather::gather;
 use crate::viewer::Viewer;
 use crate::viewer::behind::{end_of, go_on};
 use crate::viewer::progress::{Progress, RECT_HEAD_PART};
 use rfb_codec::Painter;
 use rfb_hello::Fed;
+use rfb_wire::pieces::gather;
 use rfb_wire::{Read, RectHead};
 
 // How many bytes a rectangle's head has, RFC 6143 section 7.6.1.
 const RECT_HEAD_SIZE: usize = 12;
 
 /// What was taken of a rectangle's data.
-#[derive(Clone, Copy)]
+#[derive(Clone, Copy, Debug)]
 pub(crate) struct Taken {
     /// How many bytes.
     pub(crate) used: usize,
