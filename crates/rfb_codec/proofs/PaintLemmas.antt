@@ -3,10 +3,9 @@ use Rattle.std.proofs.Common.{◌≡◌, ℕ, ◌+◌, ◌-◌, ◌*◌, ◌<◌
 use Rattle.std.specs.Prelude.{slice_index_or}
 use Rattle.std.proofs.lemmas.List.{drop-drop, drop-take}
 use Rattle.std.proofs.Math.Nat.{mul-le-mul_right}
-use Rattle.byteorder.specs.Endian.{big_number, little_number}
-use Rattle.byteorder.specs.Numbers.{big_from-take, little_from-take}
 use Rattle.rfb_pixel.specs.declared.colour.Colour.{Colour}
 use Rattle.rfb_pixel.specs.Format.{PixelFormat, colour_of, pixel_number, size_of}
+use Rattle.rfb_pixel.proofs.FormatLemmas.{pixel_number-take}
 use Rattle.rfb_picture.specs.declared.rect.Rect.{Rect}
 use Rattle.rfb_picture.specs.Rect.{contains}
 use Rattle.rfb_picture.specs.Grid.{Grid, IsGrid, at_or, with_row}
@@ -18,14 +17,6 @@ use Rattle.rfb_codec.specs.Painter.{over}
 use Rattle.rfb_codec.proofs.PixelLaws.{at-drawn}
 
 -- ---- pixels
-
--- a pixel is read from its own bytes alone
-pub pixel_number-take : (f : PixelFormat) (bytes : List ℕ) (n : ℕ) → size_of f ≤ n → pixel_number f (take n bytes) ≡ pixel_number f bytes
-pixel_number-take f bytes n enough = ordered f.big_endian
-  where
-    ordered : (b : Bool) → (if b then big_number (size_of f) (take n bytes) else little_number (size_of f) (take n bytes)) ≡ (if b then big_number (size_of f) bytes else little_number (size_of f) bytes)
-    ordered true = big_from-take 0 (size_of f) n bytes (omega arith)
-    ordered false = little_from-take 0 (size_of f) n bytes (omega arith)
 
 -- a pixel of a part of the bytes is a pixel of all of them
 pub pixel_number-part : (f : PixelFormat) (bytes : List ℕ) (start size n : ℕ) → n + size_of f ≤ size → pixel_number f (drop n (take size (drop start bytes))) ≡ pixel_number f (drop (start + n) bytes)

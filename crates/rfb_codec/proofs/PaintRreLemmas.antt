@@ -19,7 +19,7 @@ use Rattle.rfb_codec.specs.declared.subrect.Subrect.{Subrect}
 use Rattle.rfb_codec.specs.Pixels.{drawn}
 use Rattle.rfb_codec.specs.Rre.{RreHead, pixel_at, rre, rre_head_of, subrect, subrect_of}
 use Rattle.rfb_codec.specs.Painter.{over}
-use Rattle.rfb_codec.proofs.PaintLemmas.{pixel_number-take}
+use Rattle.rfb_pixel.proofs.FormatLemmas.{pixel_number-take}
 use Rattle.rfb_codec.proofs.RreLaws.{pixel_at-last}
 
 -- ---- a subrectangle

@@ -12,7 +12,7 @@ use Rattle.rfb_picture.specs.Grid.{Grid, IsGrid, at_or, with_row}
 use Rattle.rfb_picture.proofs.GridLemmas.{changed_twice, same_changes, contains_true, index_in_row}
 use Rattle.rfb_codec.specs.Raw.{raw_pixel}
 use Rattle.rfb_codec.specs.Front.{pixels_over}
-use Rattle.rfb_codec.proofs.PaintLemmas.{pixel_number-take}
+use Rattle.rfb_pixel.proofs.FormatLemmas.{pixel_number-take}
 
 -- a pixel whose bytes are there is the same whatever follows
 pub pixel_longer : (f : PixelFormat) (bytes more : List ℕ) (n : ℕ) → n + size_of f ≤ length bytes → pixel_number f (drop n (bytes ++ more)) ≡ pixel_number f (drop n bytes)

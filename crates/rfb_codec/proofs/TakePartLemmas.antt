@@ -22,7 +22,7 @@ use Rattle.rfb_codec.specs.Front.{NoSource, NoHead, SomeParts, Shows}
 use Rattle.rfb_codec.specs.inside.Step.{moved_into}
 use Rattle.rfb_codec.specs.Stage.{StandsAt, IsRefused}
 use Rattle.rfb_codec.proofs.HextileEncodeLemmas.{listed_more}
-use Rattle.rfb_codec.proofs.PaintLemmas.{pixel_number-take}
+use Rattle.rfb_pixel.proofs.FormatLemmas.{pixel_number-take}
 use Rattle.rfb_codec.proofs.PaintRreLemmas.{over_filled}
 use Rattle.rfb_codec.proofs.RreLaws.{subrect_spelled}
 use Rattle.rfb_codec.proofs.RectDataLaws.{rect_data_reads}

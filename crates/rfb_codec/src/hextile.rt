@@ -8,4 +8,4 @@ mod paint;
 pub mod tiles;
 
 pub use encode::Hextile;
-pub use paint::{NOTHING, Seen, least_size, take_raw, take_tile};
+pub use paint::{NOTHING, Seen, TilePlace, least_size, take_raw, take_tile};

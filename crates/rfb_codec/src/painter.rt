@@ -40,7 +40,7 @@ pub struct Painted {
 /// Data are pieces: the source of a CopyRect, a pixel of Raw or of a raw tile, RRE's count with its
 /// background, a subrectangle of RRE, and a tile that is not raw. A painter shows each at its last
 /// byte, keeps the bytes of the piece under way, at most 1,535, and takes no memory.
-#[derive(Drop)]
+#[derive(Debug, Drop)]
 pub struct Painter {
     rect: Rect,
     format: Format,

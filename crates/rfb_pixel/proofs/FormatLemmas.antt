@@ -1,5 +1,5 @@
 -- Laws of pixel formats.
-use Rattle.std.proofs.Common.{◌≡◌, ℕ, ◌+◌, ◌-◌, ◌*◌, ◌/◌, ◌%◌, ◌^◌, ◌<◌, ◌≤◌, List, [], ◌∷◌, ◌++◌, Bool, true, false, cond, length, set, arith, refl, ap, ◌∙◌, sym, append-nil}
+use Rattle.std.proofs.Common.{◌≡◌, ℕ, ◌+◌, ◌-◌, ◌*◌, ◌/◌, ◌%◌, ◌^◌, ◌<◌, ◌≤◌, List, [], ◌∷◌, ◌++◌, Bool, true, false, cond, if◌then◌else◌, length, take, set, arith, refl, ap, ◌∙◌, sym, append-nil}
 use Rattle.std.specs.Prelude.{bit_and, bit_or, max}
 use Rattle.std.specs.Int.{bit_at}
 use Rattle.std.proofs.Math.Nat.{div-one, mul-le-mul_right}
@@ -8,7 +8,7 @@ use Rattle.std.proofs.lemmas.Bool.Decides.{nat_tests}
 use Rattle.std.proofs.lemmas.Nat.{and_mask, mod_below, or_lt, pow-add, pow_below, pow_pos}
 use Rattle.std.proofs.lemmas.Nat.Bits.{bit_at_or}
 use Rattle.byteorder.specs.Endian.{big_bytes, big_number, little_bytes, little_number}
-use Rattle.byteorder.specs.Numbers.{big_from-bytes, little_from-bytes}
+use Rattle.byteorder.specs.Numbers.{big_from-bytes, big_from-take, little_from-bytes, little_from-take}
 use Rattle.byteorder.proofs.Bytes.{pow256}
 use Rattle.rfb_pixel.specs.declared.colour.Colour.{Colour}
 use Rattle.rfb_pixel.specs.declared.channel.Channel.{Channel}
@@ -23,6 +23,14 @@ only_byte : (bytes : List ℕ) (b : ℕ) → length bytes ≡ 1 → set bytes 0 
 only_byte [] b h = absurd (omega arith)
 only_byte (x ∷ []) b h = refl
 only_byte (x ∷ y ∷ bytes) b h = absurd (omega arith)
+
+-- a pixel is read from its own bytes alone
+pub pixel_number-take : (f : PixelFormat) (bytes : List ℕ) (n : ℕ) → size_of f ≤ n → pixel_number f (take n bytes) ≡ pixel_number f bytes
+pixel_number-take f bytes n enough = ordered f.big_endian
+  where
+    ordered : (b : Bool) → (if b then big_number (size_of f) (take n bytes) else little_number (size_of f) (take n bytes)) ≡ (if b then big_number (size_of f) bytes else little_number (size_of f) bytes)
+    ordered true = big_from-take 0 (size_of f) n bytes (omega arith)
+    ordered false = little_from-take 0 (size_of f) n bytes (omega arith)
 
 -- a pixel of 8 bits is its low byte, in either byte order
 pub one_byte : (f : PixelFormat) (pixel : ℕ) (bytes : List ℕ) → f.bits_per_pixel ≡ 8 →

@@ -1,5 +1,5 @@
 -- Pixel formats, RFC 6143 section 7.4: what contracts see of a `Format`, and what a pixel means.
-use Rattle.std.specs.Prelude.{◌≡◌, ℕ, ◌*◌, ◌/◌, ◌^◌, ◌<◌, ◌≤◌, ◌==◌, ◌||◌, Bool, false, List, length, slice_index, bit_or, IsTrue, if◌then◌else◌}
+use Rattle.std.specs.Prelude.{◌≡◌, ℕ, ◌*◌, ◌/◌, ◌^◌, ◌<◌, ◌≤◌, ◌==◌, ◌||◌, Bool, false, List, length, drop, slice_index, slice_index_or, bit_or, IsTrue, if◌then◌else◌}
 use Rattle.byteorder.specs.Endian.{big_bytes, big_number, little_bytes, little_number}
 use Rattle.rfb_pixel.specs.declared.colour.Colour.{Colour}
 use Rattle.rfb_pixel.specs.declared.channel.Channel.{Channel}
@@ -112,6 +112,12 @@ pixel_bytes f p = if f.big_endian then big_bytes (size_of f) p else little_bytes
 abbrev pub pixel_number : PixelFormat → List ℕ → ℕ
 pixel_number f bytes =
     if f.big_endian then big_number (size_of f) bytes else little_number (size_of f) bytes
+
+-- each colour of a list is that of its pixel, which stand one behind another in the bytes
+abbrev pub AreColours : PixelFormat → List ℕ → List Colour → Type 0
+AreColours f bytes colours =
+    (k : ℕ) (d : Colour) → k < length colours →
+    slice_index_or colours k d ≡ colour_of f (pixel_number f (drop (k * size_of f) bytes))
 
 -- the format that this project announces
 abbrev pub rgb888 : PixelFormat

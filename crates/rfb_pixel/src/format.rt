@@ -1,10 +1,10 @@
 //! True-colour pixel formats, RFC 6143 section 7.4.
 
-ghost use Rattle.std.specs.Prelude.{◌≡◌, ℕ, ◌*◌, ◌%◌, ◌^◌, ◌<◌, length, IfOk, ◌≤◌, List, map};
+ghost use Rattle.std.specs.Prelude.{◌≡◌, ℕ, ◌*◌, ◌%◌, ◌^◌, ◌<◌, length, IfOk, ◌≤◌, List};
 ghost use Rattle.std.specs.Result.{result_err};
 ghost use Rattle.std.specs.Int.{bit_at};
 ghost use Rattle.rfb_pixel.specs.Format.{pixel_format, IsPixelSize, size_of, pixel_of, colour_of};
-ghost use Rattle.rfb_pixel.specs.Format.{pixel_bytes, pixel_number, seen_through, ArePixels};
+ghost use Rattle.rfb_pixel.specs.Format.{pixel_bytes, pixel_number, seen_through};
 ghost use Rattle.rfb_pixel.specs.Format.{IsColour, FieldsHold, IsOutsideFields, AgreeInFields};
 ghost use Rattle.rfb_pixel.specs.Format.{KeepsColours, FieldsKept};
 ghost use Rattle.rfb_pixel.specs.Reading.{AreBytes, Spells, Passes, IsFirstFault, first_fault};
@@ -232,19 +232,6 @@ impl Format {
         self.red.place(colour.r) | self.green.place(colour.g) | self.blue.place(colour.b)
     }
 
-    /// Writes the pixel value of each colour of a row. Each fits the format's size.
-    pub fn pack_row(&self, colours: &[Colour], pixels: &mut [u32])
-        requires { length colours.now ≡ length pixels.old }
-        ensures value { pixels.new ≡ map (pixel_of self.now) colours.now }
-        ensures bound { ArePixels self.now pixels.new }
-    {
-        // A copy, which no pixel that is written can change: what it alone decides stays the same.
-        let format = *self;
-        for i in 0..colours.len() {
-            pixels[i] = format.pack(colours[i]);
-        }
-    }
-
     /// The colour of a pixel value. Bits outside the three fields are ignored.
     #[inline(always)]
     pub fn unpack(&self, pixel: u32) -> Colour
@@ -291,5 +278,6 @@ impl Format {
     }
 }
 
+mod rows;
 #[cfg(test)]
 mod tests;

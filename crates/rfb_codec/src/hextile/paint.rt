@@ -10,7 +10,7 @@ mod take;
 mod tile_read;
 
 pub use least::least_size;
-pub use pixels::take_raw;
+pub use pixels::{TilePlace, take_raw};
 pub use take::take_tile;
 pub use tile_read::Seen;
 

@@ -110,8 +110,9 @@ fn take(
         Stage::InTiles { tile, seen } => {
             hextile::take_tile(format, rect, tile, seen, pending, bytes, picture)
         }
-        Stage::InRawTile { tile, seen, at } => Ok(hextile::take_raw(
-            format, rect, tile, seen, at, pending, bytes, picture,
-        )),
+        Stage::InRawTile { tile, seen, at } => {
+            let place = hextile::TilePlace { tile, at };
+            Ok(hextile::take_raw(format, rect, place, seen, pending, bytes, picture))
+        }
     }
 }

@@ -1,8 +1,7 @@
 //! Raw, RFC 6143 section 7.7.1: pixels row by row.
 
-ghost use Rattle.std.specs.Prelude.{◌≡◌, ℕ, ◌+◌, ◌*◌, ◌<◌, ◌≤◌, length, drop, slice_index_or};
-ghost use Rattle.rfb_pixel.specs.declared.colour.Colour.{Colour};
-ghost use Rattle.rfb_pixel.specs.Format.{size_of, pixel_number, colour_of};
+ghost use Rattle.std.specs.Prelude.{◌≡◌, ◌+◌, ◌*◌, ◌<◌, ◌≤◌, length};
+ghost use Rattle.rfb_pixel.specs.Format.{size_of, colour_of};
 ghost use Rattle.rfb_codec.specs.Raw.{raw_length, raw_pixel};
 ghost use Rattle.rfb_codec.specs.inside.Step.{IsPaintable};
 ghost use Rattle.rfb_codec.specs.Painter.{over};
@@ -26,7 +25,7 @@ pub fn paint_rows(format: Format, rect: Rect, bytes: &[u8], picture: &mut Pictur
     for row in 0..rect.h {
         let start = usize::from(row) * length;
         let places = picture.row_mut(rect.x, rect.y + row, rect.w);
-        unpack_row(format, &bytes[start..start + length], places);
+        format.unpack_row(&bytes[start..start + length], places);
     }
 }
 
@@ -111,34 +110,5 @@ pub fn paint_run(
     ensures height { picture.new.height ≡ picture.old.height }
 {
     let places = picture.row_mut(rect.x + at.x, rect.y + at.y, count);
-    unpack_row(format, bytes, places);
-}
-
-// Writes the colour of each pixel of a row.
-#[inline(always)]
-fn unpack_row(format: Format, bytes: &[u8], row: &mut [Colour])
-    requires { length bytes.now ≡ length row.old * size_of format }
-    ensures { (k : ℕ) (d : Colour) → k < length row.new → slice_index_or row.new k d ≡
-        colour_of format (pixel_number format (drop (k * size_of format) bytes.now)) }
-{
-    if format == Format::rgb888() {
-        unpack_each(Format::rgb888(), bytes, row);
-    } else if format == Format::rgb565() {
-        unpack_each(Format::rgb565(), bytes, row);
-    } else {
-        unpack_each(format, bytes, row);
-    }
-}
-
-// The same, by one loop for every format.
-#[inline(always)]
-fn unpack_each(format: Format, bytes: &[u8], row: &mut [Colour])
-    requires { length bytes.now ≡ length row.old * size_of format }
-    ensures { (k : ℕ) (d : Colour) → k < length row.new → slice_index_or row.new k d ≡
-        colour_of format (pixel_number format (drop (k * size_of format) bytes.now)) }
-{
-    let size = format.size();
-    for (k, colour) in row.iter_mut().enumerate() {
-        *colour = format.unpack(format.take(&bytes[k * size..k * size + size]));
-    }
+    format.unpack_row(bytes, places);
 }

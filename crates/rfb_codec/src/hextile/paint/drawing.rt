@@ -41,19 +41,26 @@ pub fn draw_tile(
 {
     let list = &bytes[read.list..];
     let (background, foreground) = (or_zero(seen.background), or_zero(seen.foreground));
+    let pixels = TilePixels {
+        background,
+        foreground,
+    };
     match read.layout {
         TileLayout::Raw => paint_rows(format, rect, &bytes[read.list..read.used], picture),
         TileLayout::Plain { .. } => {
-            draw_subs(
-                format, rect, background, foreground, false, read.count, list, picture,
-            );
+            draw_subs(format, rect, pixels, false, read.count, list, picture);
         }
         TileLayout::Colored { .. } => {
-            draw_subs(
-                format, rect, background, foreground, true, read.count, list, picture,
-            );
+            draw_subs(format, rect, pixels, true, read.count, list, picture);
         }
     }
+}
+
+// The two pixels that a tile is painted in, but for subrectangles that have their own.
+#[derive(Clone, Copy)]
+struct TilePixels {
+    background: u32,
+    foreground: u32,
 }
 
 // Paints the background over the rectangle, and then so many subrectangles, which lie inside it.
@@ -64,17 +71,16 @@ pub fn draw_tile(
 fn draw_subs(
     format: Format,
     rect: Rect,
-    background: u32,
-    foreground: u32,
+    pixels: TilePixels,
     colored: bool,
     count: usize,
     list: &[u8],
     picture: &mut Picture<Colour>,
 )
     requires place { IsPaintable picture.old rect }
-    requires inside { AreSubsInside format rect.w rect.h foreground colored count list.now }
-    ensures value { picture.new ≡ over rect (λ x y. colour_of format
-        (pixel_at background (subs_in format foreground colored count list.now) x y)) picture.old }
+    requires inside { AreSubsInside format rect.w rect.h pixels.foreground colored count list.now }
+    ensures value { picture.new ≡ over rect (λ x y. colour_of format (pixel_at pixels.background
+        (subs_in format pixels.foreground colored count list.now) x y)) picture.old }
     ensures width { picture.new.width ≡ picture.old.width }
     ensures height { picture.new.height ≡ picture.old.height }
 {
@@ -82,17 +88,14 @@ fn draw_subs(
         draw_each(
             Format::rgb888(),
             rect,
-            background,
-            foreground,
+            pixels,
             colored,
             count,
             list,
             picture,
         );
     } else {
-        draw_each(
-            format, rect, background, foreground, colored, count, list, picture,
-        );
+        draw_each(format, rect, pixels, colored, count, list, picture);
     }
 }
 
@@ -101,24 +104,23 @@ fn draw_subs(
 fn draw_each(
     format: Format,
     rect: Rect,
-    background: u32,
-    foreground: u32,
+    pixels: TilePixels,
     colored: bool,
     count: usize,
     list: &[u8],
     picture: &mut Picture<Colour>,
 )
     requires place { IsPaintable picture.old rect }
-    requires inside { AreSubsInside format rect.w rect.h foreground colored count list.now }
-    ensures value { picture.new ≡ over rect (λ x y. colour_of format
-        (pixel_at background (subs_in format foreground colored count list.now) x y)) picture.old }
+    requires inside { AreSubsInside format rect.w rect.h pixels.foreground colored count list.now }
+    ensures value { picture.new ≡ over rect (λ x y. colour_of format (pixel_at pixels.background
+        (subs_in format pixels.foreground colored count list.now) x y)) picture.old }
     ensures width { picture.new.width ≡ picture.old.width }
     ensures height { picture.new.height ≡ picture.old.height }
 {
-    fill_tile(rect, unpacked(format, background), picture);
-    let own = unpacked(format, foreground);
+    fill_tile(rect, unpacked(format, pixels.background), picture);
+    let own = unpacked(format, pixels.foreground);
     for n in 0..count {
-        let part = sub_at(format, foreground, colored, n, list);
+        let part = sub_at(format, pixels.foreground, colored, n, list);
         let colour = colour_at(format, colored, own, part.pixel);
         let places = part.rect.moved_by(rect.x, rect.y);
         fill_part(places, colour, picture);

@@ -17,32 +17,39 @@ use crate::raw::take_pixels;
 use rfb_picture::{Picture, Rect};
 use rfb_pixel::{Colour, Format};
 
+/// A place of a tile: the tile's number in its rectangle, and where in the tile.
+#[derive(Clone, Copy, Debug)]
+pub struct TilePlace {
+    pub tile: usize,
+    pub at: Place,
+}
+
 /// Takes pixels of a raw tile, from a place of it on.
 pub fn take_raw(
     format: Format,
     rect: Rect,
-    tile: usize,
+    place: TilePlace,
     seen: Seen,
-    at: Place,
     pending: &mut Pending,
     bytes: &[u8],
     picture: &mut Picture<Colour>,
 ) -> Step
     requires place { IsPaintable picture.old rect }
-    requires below { tile < tile_count rect.w rect.h }
-    requires column { at.x < tile_width rect.w tile }
-    requires row { at.y < tile_height rect.w rect.h tile }
+    requires below { place.tile < tile_count rect.w rect.h }
+    requires column { place.at.x < tile_width rect.w place.tile }
+    requires row { place.at.y < tile_height rect.w rect.h place.tile }
     requires short { array_vec_len pending.old < size_of format }
     requires some { 0 < length bytes.now }
     ensures some { 0 < result.used }
     ensures used { result.used ≤ length bytes.now }
     ensures sound { is_sound format rect result.stage (array_vec_len pending.new) ≡ true }
-    ensures same { encoding_at result.stage ≡ encoding_at (InRawTile tile seen at) }
-    ensures goes_on { GoesOn format rect (InRawTile tile seen at) pending.old.items picture.old
+    ensures same { encoding_at result.stage ≡ encoding_at (InRawTile place.tile seen place.at) }
+    ensures goes_on { GoesOn format rect (InRawTile place.tile seen place.at) pending.old.items picture.old
         (take result.used bytes.now) result.stage pending.new.items picture.new }
     ensures width { picture.new.width ≡ picture.old.width }
     ensures height { picture.new.height ≡ picture.old.height }
 {
+    let TilePlace { tile, at } = place;
     let places = places_of_tile(rect, tile);
     let (used, at) = take_pixels(format, places, at, pending, bytes, picture);
     let stage = if at.y < places.h {

@@ -29,7 +29,7 @@ pub colour_at-colour-requires : goal.colour_at-colour-requires
 colour_at-colour-requires c =
     let f = c.args.format in
     λ plain.
-    let is : c.sub_at-part.result ≡ sub_behind f c.args.foreground false c.loop-n.n c.args.list.now = rw plain at c.sub_at-part.ensures in
+    let is : c.sub_at-part.result ≡ sub_behind f c.args.pixels.foreground false c.loop-n.n c.args.list.now = rw plain at c.sub_at-part.ensures in
     c.unpacked-own.ensures ∙ ap (colour_of f) (sym (ap (λ (s : Subrect). s.pixel) is))
 
 pub loop-n-preserved : goal.loop-n-preserved
@@ -39,7 +39,7 @@ loop-n-preserved c =
     let n = c.loop-n.n in
     let s = c.sub_at-part.result in
     let before = c.args.picture.now in
-    let subs = subs_in f c.args.foreground c.args.colored n c.args.list.now in
+    let subs = subs_in f c.args.pixels.foreground c.args.colored n c.args.list.now in
     let is = c.sub_at-part.ensures in
     let on : IsOnScreen rect.w rect.h s.rect = subst (λ (s : Subrect). IsOnScreen rect.w rect.h s.rect) (sym is) (c.requires.inside.inside n c.loop-n-test.true) in
     record {
@@ -48,9 +48,9 @@ loop-n-preserved c =
           ∙ ap (λ (r : Rect). filled r c.colour_at-colour.result c.loop-n.picture) c.moved_by-places.ensures
           ∙ ap (λ k. filled (moved rect s.rect) k c.loop-n.picture) c.colour_at-colour.ensures
           ∙ ap (λ g. filled (moved rect s.rect) (colour_of f s.pixel) g) c.loop-n.invariant.shown
-          ∙ over_filled f rect c.args.background subs s before c.requires.place.whole on
-          ∙ ap (λ (t : Subrect). over rect (λ x y. colour_of f (pixel_at c.args.background (subs ++ t ∷ []) x y)) before) is
-          ∙ ap (λ (all : List Subrect). over rect (λ x y. colour_of f (pixel_at c.args.background all x y)) before) (subs_in-more f c.args.foreground c.args.colored n c.args.list.now);
+          ∙ over_filled f rect c.args.pixels.background subs s before c.requires.place.whole on
+          ∙ ap (λ (t : Subrect). over rect (λ x y. colour_of f (pixel_at c.args.pixels.background (subs ++ t ∷ []) x y)) before) is
+          ∙ ap (λ (all : List Subrect). over rect (λ x y. colour_of f (pixel_at c.args.pixels.background all x y)) before) (subs_in-more f c.args.pixels.foreground c.args.colored n c.args.list.now);
       width = c.fill_part.ensures.width ∙ c.loop-n.invariant.width;
       height = c.fill_part.ensures.height ∙ c.loop-n.invariant.height;
     }
