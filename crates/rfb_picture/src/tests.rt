@@ -3,8 +3,6 @@
 use crate::picture::Picture;
 use crate::rect::Rect;
 use std::alloc::{AllocError, Global};
-use std::process::Abort;
-use std::test::Fail;
 
 /// A picture of bytes, with one value at each place.
 pub(crate) fn bytes(
@@ -16,156 +14,202 @@ pub(crate) fn bytes(
     Picture::new(alloc, width, height, value)
 }
 
-fn size(picture: &Picture<u8>) -> (u16, u16) {
-    (picture.width(), picture.height())
+fn has_size(picture: &Picture<u8>, width: u16, height: u16) -> bool {
+    picture.width() == width && picture.height() == height
 }
 
-// These look first that the picture has those places, so a test need not prove it.
+// These look first that the picture has those places, so a test need not prove it. They answer
+// whether it has, and whether what it shows there is this.
 
-pub(crate) fn at<R: Abort>(rt: &R, picture: &Picture<u8>, x: u16, y: u16) -> u8 {
-    assert!(rt; x < picture.width() && y < picture.height());
-    picture.at(x, y)
+/// The value at a place.
+pub(crate) fn at(picture: &Picture<u8>, x: u16, y: u16) -> Option<u8> {
+    if x < picture.width() && y < picture.height() {
+        Some(picture.at(x, y))
+    } else {
+        None
+    }
 }
 
 /// The places of row `y` from column `x` on have these values.
-pub(crate) fn assert_run<R: Abort>(
-    rt: &R,
-    picture: &Picture<u8>,
-    x: u16,
-    y: u16,
-    w: u16,
-    wanted: &[u8],
-) {
-    assert!(rt; u32::from(x) + u32::from(w) <= u32::from(picture.width()));
-    assert!(rt; y < picture.height());
-    assert_eq!(rt; picture.row(x, y, w), wanted, "row {y}");
-}
-
-/// All places of row `y` do.
-pub(crate) fn assert_row<R: Abort>(rt: &R, picture: &Picture<u8>, y: u16, wanted: &[u8]) {
-    let (width, _) = size(picture);
-    assert_run(rt, picture, 0, y, width, wanted);
-}
-
-pub(crate) fn put_row<R: Abort>(rt: &R, picture: &mut Picture<u8>, x: u16, y: u16, row: &[u8]) {
-    assert!(rt; usize::from(x) + row.len() <= usize::from(picture.width()));
-    assert!(rt; y < picture.height());
-    picture.put_row(x, y, row);
-}
-
-pub(crate) fn fill<R: Abort>(rt: &R, picture: &mut Picture<u8>, rect: Rect, value: u8) {
-    assert!(rt; picture.holds(rect));
-    picture.fill(rect, value);
-}
-
-pub(crate) fn copy_from<R: Abort>(rt: &R, picture: &mut Picture<u8>, other: &Picture<u8>) {
-    assert!(rt; picture.width() == other.width() && picture.height() == other.height());
-    picture.copy_from(other);
-}
-
-fn assert_size<R: Abort>(rt: &R, picture: &Picture<u8>, wanted: (u16, u16)) {
-    assert_eq!(rt; size(picture), wanted);
-}
-
-fn assert_at<R: Abort>(rt: &R, picture: &Picture<u8>, x: u16, y: u16, wanted: u8) {
-    assert_eq!(rt; at(rt, picture, x, y), wanted, "at {x}, {y}");
-}
-
-fn assert_held<R: Abort>(rt: &R, picture: &Picture<u8>, rect: Rect, wanted: bool) {
-    assert_eq!(rt; picture.holds(rect), wanted, "{rect:?}");
-}
-
-#[test]
-fn a_fresh_picture_has_one_value_everywhere(rt: HostRuntime) -> Result<(), Fail> {
-    let picture = bytes(rt.alloc(), 3, 2, 7)?;
-    assert_size(&rt, &picture, (3, 2));
-    assert_at(&rt, &picture, 0, 0, 7);
-    assert_at(&rt, &picture, 2, 1, 7);
-    assert_run(&rt, &picture, 0, 0, 3, &[7, 7, 7]);
-    Ok(())
-}
-
-#[test]
-fn a_picture_may_have_no_place(rt: HostRuntime) -> Result<(), Fail> {
-    let picture = bytes(rt.alloc(), 0, 65_535, 7)?;
-    assert_size(&rt, &picture, (0, 65_535));
-    assert_run(&rt, &picture, 0, 65_534, 0, &[]);
-    Ok(())
-}
-
-#[test]
-fn holds_refuses_a_sum_that_wraps_in_16_bits(rt: HostRuntime) -> Result<(), Fail> {
-    let picture = bytes(rt.alloc(), 2, 1, 0)?;
-    for (x, y, w, h, held) in [
-        (0, 0, 2, 1, true),
-        (1, 0, 1, 1, true),
-        (1, 0, 2, 1, false),
-        (0, 0, 1, 2, false),
-        (0, 1, 2, 1, false),
-        (65_535, 0, 1, 1, false),
-        (65_535, 0, 2, 1, false),
-        (65_535, 0, 3, 1, false),
-        (0, 65_535, 1, 1, false),
-        (0, 65_535, 1, 2, false),
-        // Edges of a rectangle with no place.
-        (2, 1, 0, 0, true),
-        (3, 0, 0, 0, false),
-    ] {
-        let rect = Rect { x, y, w, h };
-        assert_held(&rt, &picture, rect, held);
+pub(crate) fn has_run(picture: &Picture<u8>, x: u16, y: u16, w: u16, wanted: &[u8]) -> bool {
+    if u32::from(picture.width()) < u32::from(x) + u32::from(w) || picture.height() <= y {
+        return false;
     }
-    Ok(())
+    picture.row(x, y, w) == wanted
+}
+
+/// All places have these, row by row from the first on.
+pub(crate) fn has_rows(picture: &Picture<u8>, rows: &[&[u8]]) -> bool {
+    let (width, height) = (picture.width(), picture.height());
+    let mut good = rows.len() == usize::from(height);
+    let mut y = 0u16;
+    for row in rows {
+        good &= has_run(picture, 0, y, width, row);
+        y = y.wrapping_add(1);
+    }
+    good
+}
+
+pub(crate) fn put_row(picture: &mut Picture<u8>, x: u16, y: u16, row: &[u8]) -> bool {
+    if usize::from(picture.width()) < usize::from(x) + row.len() || picture.height() <= y {
+        return false;
+    }
+    picture.put_row(x, y, row);
+    true
+}
+
+/// Rows from the first on.
+pub(crate) fn put_rows(picture: &mut Picture<u8>, rows: &[&[u8]]) -> bool {
+    let mut good = true;
+    let mut y = 0u16;
+    for row in rows {
+        good &= put_row(picture, 0, y, row);
+        y = y.wrapping_add(1);
+    }
+    good
+}
+
+pub(crate) fn fill(picture: &mut Picture<u8>, rect: Rect, value: u8) -> bool {
+    if !picture.holds(rect) {
+        return false;
+    }
+    picture.fill(rect, value);
+    true
+}
+
+pub(crate) fn copy_from(picture: &mut Picture<u8>, other: &Picture<u8>) -> bool {
+    if picture.width() != other.width() || picture.height() != other.height() {
+        return false;
+    }
+    picture.copy_from(other);
+    true
+}
+
+fn is_fresh(picture: &Picture<u8>) -> bool {
+    has_size(picture, 3, 2)
+        && at(picture, 0, 0) == Some(7)
+        && at(picture, 2, 1) == Some(7)
+        && has_run(picture, 0, 0, 3, &[7, 7, 7])
 }
 
 #[test]
-fn fills_only_inside_the_rectangle(rt: HostRuntime) -> Result<(), Fail> {
-    let mut picture = bytes(rt.alloc(), 4, 4, 0)?;
+fn a_fresh_picture_has_one_value_everywhere(rt: HostRuntime) -> Result<(), AllocError> {
+    let picture = bytes(rt.alloc(), 3, 2, 7)?;
+    assert!(rt; is_fresh(&picture));
+    drop(picture);
+    Ok(())
+}
+
+fn has_no_place(picture: &Picture<u8>) -> bool {
+    has_size(picture, 0, 65_535) && has_run(picture, 0, 65_534, 0, &[])
+}
+
+#[test]
+fn a_picture_may_have_no_place(rt: HostRuntime) -> Result<(), AllocError> {
+    let picture = bytes(rt.alloc(), 0, 65_535, 7)?;
+    assert!(rt; has_no_place(&picture));
+    drop(picture);
+    Ok(())
+}
+
+// Rectangles, and whether two places beside one another hold them.
+const HELD: [(u16, u16, u16, u16, bool); 12] = [
+    (0, 0, 2, 1, true),
+    (1, 0, 1, 1, true),
+    (1, 0, 2, 1, false),
+    (0, 0, 1, 2, false),
+    (0, 1, 2, 1, false),
+    (65_535, 0, 1, 1, false),
+    (65_535, 0, 2, 1, false),
+    (65_535, 0, 3, 1, false),
+    (0, 65_535, 1, 1, false),
+    (0, 65_535, 1, 2, false),
+    // Edges of a rectangle with no place.
+    (2, 1, 0, 0, true),
+    (3, 0, 0, 0, false),
+];
+
+fn holds_those(picture: &Picture<u8>) -> bool {
+    let mut good = true;
+    for (x, y, w, h, held) in HELD {
+        good &= picture.holds(Rect { x, y, w, h }) == held;
+    }
+    good
+}
+
+#[test]
+fn holds_refuses_a_sum_that_wraps_in_16_bits(rt: HostRuntime) -> Result<(), AllocError> {
+    let picture = bytes(rt.alloc(), 2, 1, 0)?;
+    assert!(rt; holds_those(&picture));
+    drop(picture);
+    Ok(())
+}
+
+const NONE: [u8; 4] = [0, 0, 0, 0];
+
+fn is_filled_inside(picture: &mut Picture<u8>) -> bool {
     let rect = Rect {
         x: 1,
         y: 1,
         w: 2,
         h: 2,
     };
-    fill(&rt, &mut picture, rect, 9);
-    assert_run(&rt, &picture, 0, 0, 4, &[0, 0, 0, 0]);
-    assert_run(&rt, &picture, 0, 1, 4, &[0, 9, 9, 0]);
-    assert_run(&rt, &picture, 0, 2, 4, &[0, 9, 9, 0]);
-    assert_run(&rt, &picture, 0, 3, 4, &[0, 0, 0, 0]);
-    Ok(())
+    let rows: [&[u8]; 4] = [&NONE, &[0, 9, 9, 0], &[0, 9, 9, 0], &NONE];
+    fill(picture, rect, 9) && has_rows(picture, &rows)
 }
 
 #[test]
-fn puts_a_row_at_its_place(rt: HostRuntime) -> Result<(), Fail> {
+fn fills_only_inside_the_rectangle(rt: HostRuntime) -> Result<(), AllocError> {
+    let mut picture = bytes(rt.alloc(), 4, 4, 0)?;
+    assert!(rt; is_filled_inside(&mut picture));
+    drop(picture);
+    Ok(())
+}
+
+fn is_put(picture: &mut Picture<u8>) -> bool {
+    let rows: [&[u8]; 3] = [&NONE, &[0, 5, 6, 0], &NONE];
+    put_row(picture, 1, 1, &[5, 6]) && has_rows(picture, &rows)
+}
+
+#[test]
+fn puts_a_row_at_its_place(rt: HostRuntime) -> Result<(), AllocError> {
     let mut picture = bytes(rt.alloc(), 4, 3, 0)?;
-    put_row(&rt, &mut picture, 1, 1, &[5, 6]);
-    assert_run(&rt, &picture, 0, 0, 4, &[0, 0, 0, 0]);
-    assert_run(&rt, &picture, 0, 1, 4, &[0, 5, 6, 0]);
-    assert_run(&rt, &picture, 0, 2, 4, &[0, 0, 0, 0]);
+    assert!(rt; is_put(&mut picture));
+    drop(picture);
     Ok(())
 }
 
+fn are_lent(picture: &mut Picture<u8>) -> bool {
+    put_rows(picture, &[&[1, 2, 3], &[4, 5, 6]])
+        && has_run(picture, 1, 0, 2, &[2, 3])
+        && has_run(picture, 0, 1, 2, &[4, 5])
+        && has_run(picture, 3, 1, 0, &[])
+        && at(picture, 2, 0) == Some(3)
+        && at(picture, 0, 1) == Some(4)
+}
+
 #[test]
-fn lends_the_places_of_a_row(rt: HostRuntime) -> Result<(), Fail> {
+fn lends_the_places_of_a_row(rt: HostRuntime) -> Result<(), AllocError> {
     let mut picture = bytes(rt.alloc(), 3, 2, 0)?;
-    put_row(&rt, &mut picture, 0, 0, &[1, 2, 3]);
-    put_row(&rt, &mut picture, 0, 1, &[4, 5, 6]);
-    assert_run(&rt, &picture, 1, 0, 2, &[2, 3]);
-    assert_run(&rt, &picture, 0, 1, 2, &[4, 5]);
-    assert_run(&rt, &picture, 3, 1, 0, &[]);
-    assert_at(&rt, &picture, 2, 0, 3);
-    assert_at(&rt, &picture, 0, 1, 4);
+    assert!(rt; are_lent(&mut picture));
+    drop(picture);
     Ok(())
 }
 
+fn is_copied(from: &mut Picture<u8>, to: &mut Picture<u8>) -> bool {
+    let rows: [&[u8]; 2] = [&[1, 2], &[3, 4]];
+    put_rows(from, &rows)
+        && copy_from(to, from)
+        && has_rows(to, &rows)
+        && has_run(from, 0, 1, 2, &[3, 4])
+}
+
 #[test]
-fn copies_every_place(rt: HostRuntime) -> Result<(), Fail> {
+fn copies_every_place(rt: HostRuntime) -> Result<(), AllocError> {
     let mut from = bytes(rt.alloc(), 2, 2, 0)?;
     let mut to = bytes(rt.alloc(), 2, 2, 9)?;
-    put_row(&rt, &mut from, 0, 0, &[1, 2]);
-    put_row(&rt, &mut from, 0, 1, &[3, 4]);
-    copy_from(&rt, &mut to, &from);
-    assert_run(&rt, &to, 0, 0, 2, &[1, 2]);
-    assert_run(&rt, &to, 0, 1, 2, &[3, 4]);
-    assert_run(&rt, &from, 0, 1, 2, &[3, 4]);
+    assert!(rt; is_copied(&mut from, &mut to));
+    drop(from);
+    drop(to);
     Ok(())
 }

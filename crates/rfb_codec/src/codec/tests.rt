@@ -56,8 +56,8 @@ fn fits(block: &Block, format: &Format) -> bool
     true
 }
 
-/// What the codec answers, and what `out` has then, where it had `before`.
-pub(crate) fn encoded<C: Codec>(
+// What the codec answers, and what `out` has then, where it had `before`.
+fn encoded<C: Codec>(
     alloc: Global,
     block: &Block,
     format: &Format,
@@ -78,6 +78,20 @@ pub(crate) fn encoded<C: Codec>(
     Ok((done, out))
 }
 
+// The same of a block of that width and height, if there is one.
+fn answered<C: Codec>(
+    alloc: Global,
+    format: &Format,
+    size: (u16, u16),
+    pixels: &[u32],
+    before: &[u8],
+) -> Result<Option<(bool, Vec<u8>)>, AllocError> {
+    match block_of(size.0, size.1, pixels) {
+        Some(block) => Ok(Some(encoded::<C>(alloc, &block, format, before)?)),
+        None => Ok(None),
+    }
+}
+
 /// Whether the codec takes a block of that width and height, and `out` then has these bytes, where
 /// it had `before`.
 pub(crate) fn is_sent_as<C: Codec>(
@@ -88,11 +102,42 @@ pub(crate) fn is_sent_as<C: Codec>(
     before: &[u8],
     wanted: &[u8],
 ) -> Result<bool, AllocError> {
-    let Some(block) = block_of(size.0, size.1, pixels) else {
-        return Ok(false);
-    };
-    let (done, out) = encoded::<C>(alloc, &block, format, before)?;
-    Ok(done && out.as_slice() == wanted)
+    match answered::<C>(alloc, format, size, pixels, before)? {
+        Some((done, out)) => Ok(done && out.as_slice() == wanted),
+        None => Ok(false),
+    }
+}
+
+/// Whether the codec gives a block of that width and height up, and `out` has what it had.
+pub(crate) fn is_given_up<C: Codec>(
+    alloc: Global,
+    format: &Format,
+    size: (u16, u16),
+    pixels: &[u32],
+    before: &[u8],
+) -> Result<bool, AllocError> {
+    match answered::<C>(alloc, format, size, pixels, before)? {
+        Some((done, out)) => Ok(!done && out.as_slice() == before),
+        None => Ok(false),
+    }
+}
+
+/// What the codec appends to nothing for a block of that width and height, if it takes it.
+pub(crate) fn sent<C: Codec>(
+    alloc: Global,
+    format: &Format,
+    size: (u16, u16),
+    pixels: &[u32],
+) -> Result<Option<Vec<u8>>, AllocError> {
+    match answered::<C>(alloc, format, size, pixels, &[])? {
+        Some((true, out)) => Ok(Some(out)),
+        _ => Ok(None),
+    }
+}
+
+/// How many bytes the pixels have as Raw.
+pub(crate) fn raw_length(format: &Format, pixels: &[u32]) -> usize {
+    pixels.len().wrapping_mul(format.size())
 }
 
 /// The most frequent pixel, the least of those.

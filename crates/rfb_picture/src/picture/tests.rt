@@ -6,84 +6,123 @@ ghost use Rattle.rfb_picture.specs.Grid.{with_row};
 
 use super::{Picture, fill_places};
 use crate::rect::Rect;
-use crate::tests::{assert_row, at, bytes, copy_from, fill, put_row};
+use crate::tests::{at, bytes, copy_from, fill, has_rows, put_row, put_rows};
 use std::alloc::{AllocError, Global};
-use std::process::Abort;
-use std::test::Fail;
 
 // It looks first that the picture has those places, so a test need not prove it.
-fn copy<R: Abort>(rt: &R, picture: &mut Picture<u8>, dst: Rect, sx: u16, sy: u16) {
+fn copy(picture: &mut Picture<u8>, dst: Rect, sx: u16, sy: u16) -> bool {
     let source = Rect {
         x: sx,
         y: sy,
         ..dst
     };
-    assert!(rt; picture.holds(dst) && picture.holds(source));
+    if !picture.holds(dst) || !picture.holds(source) {
+        return false;
+    }
     picture.copy(dst, sx, sy);
+    true
 }
 
-#[test]
-fn copies_a_rectangle_over_its_source(rt: HostRuntime) -> Result<(), Fail> {
-    let mut picture = bytes(rt.alloc(), 3, 3, 0)?;
-    put_row(&rt, &mut picture, 0, 0, &[1, 2, 3]);
-    put_row(&rt, &mut picture, 0, 1, &[4, 5, 6]);
-    put_row(&rt, &mut picture, 0, 2, &[7, 8, 9]);
+fn is_copied_over(picture: &mut Picture<u8>) -> bool {
     let dst = Rect {
         x: 1,
         y: 1,
         w: 2,
         h: 2,
     };
-    copy(&rt, &mut picture, dst, 0, 0);
-    assert_row(&rt, &picture, 0, &[1, 2, 3]);
-    assert_row(&rt, &picture, 1, &[4, 1, 2]);
-    assert_row(&rt, &picture, 2, &[7, 4, 5]);
-    Ok(())
+    put_rows(picture, &[&[1, 2, 3], &[4, 5, 6], &[7, 8, 9]])
+        && copy(picture, dst, 0, 0)
+        && has_rows(picture, &[&[1, 2, 3], &[4, 1, 2], &[7, 4, 5]])
 }
 
 #[test]
-fn copies_as_from_a_second_picture(rt: HostRuntime) -> Result<(), Fail> {
+fn copies_a_rectangle_over_its_source(rt: HostRuntime) -> Result<(), AllocError> {
+    let mut picture = bytes(rt.alloc(), 3, 3, 0)?;
+    assert!(rt; is_copied_over(&mut picture));
+    drop(picture);
+    Ok(())
+}
+
+// The rows of 4 by 4 places, each with a value of its own.
+const SIXTEEN: [&[u8]; 4] = [
+    &[1, 2, 3, 4],
+    &[5, 6, 7, 8],
+    &[9, 10, 11, 12],
+    &[13, 14, 15, 16],
+];
+
+#[test]
+fn copies_as_from_a_second_picture(rt: HostRuntime) -> Result<(), AllocError> {
+    let mut picture = bytes(rt.alloc(), 4, 4, 0)?;
+    let mut before = bytes(rt.alloc(), 4, 4, 0)?;
+    let put = put_rows(&mut before, &SIXTEEN);
+    assert!(rt; put && are_copied(&mut picture, &before) == 3_025);
+    drop(picture);
+    drop(before);
+    Ok(())
+}
+
+// How many copies of rectangles up to that size leave what they should.
+fn are_copied(picture: &mut Picture<u8>, before: &Picture<u8>) -> u32 {
     let mut copies = 0u32;
     for w in 0..=4 {
         for h in 0..=4 {
-            for x in 0..=4 - w {
-                for y in 0..=4 - h {
-                    for sx in 0..=4 - w {
-                        for sy in 0..=4 - h {
-                            let dst = Rect { x, y, w, h };
-                            let same = is_copied(&rt, rt.alloc(), dst, sx, sy)?;
-                            assert!(rt; same, "{dst:?} from {sx}, {sy}");
-                            copies = copies.wrapping_add(1);
-                        }
-                    }
-                }
+            copies = copies.wrapping_add(are_copied_to(picture, before, w, h));
+        }
+    }
+    copies
+}
+
+// The same of one size, at each place.
+fn are_copied_to(picture: &mut Picture<u8>, before: &Picture<u8>, w: u16, h: u16) -> u32 {
+    let (columns, rows) = (4u16.saturating_sub(w), 4u16.saturating_sub(h));
+    let mut copies = 0u32;
+    for x in 0..=columns {
+        for y in 0..=rows {
+            let dst = Rect { x, y, w, h };
+            copies = copies.wrapping_add(are_copied_from(picture, before, dst, columns, rows));
+        }
+    }
+    copies
+}
+
+// The same of one rectangle, from each place up to that one.
+fn are_copied_from(
+    picture: &mut Picture<u8>,
+    before: &Picture<u8>,
+    dst: Rect,
+    last_x: u16,
+    last_y: u16,
+) -> u32 {
+    let mut copies = 0u32;
+    for sx in 0..=last_x {
+        for sy in 0..=last_y {
+            if is_copied(picture, before, dst, sx, sy) {
+                copies = copies.wrapping_add(1);
             }
         }
     }
-    assert_eq!(rt; copies, 3_025);
-    Ok(())
+    copies
 }
 
 // Whether `copy` leaves at each place what a second picture, which nothing was written to,
 // has there or at its source.
-fn is_copied<R: Abort>(
-    rt: &R,
-    alloc: Global,
-    dst: Rect,
-    sx: u16,
-    sy: u16,
-) -> Result<bool, AllocError> {
-    let mut picture = sixteen(rt, alloc)?;
-    let before = sixteen(rt, alloc)?;
-    copy(rt, &mut picture, dst, sx, sy);
+fn is_copied(picture: &mut Picture<u8>, before: &Picture<u8>, dst: Rect, sx: u16, sy: u16) -> bool {
+    put_rows(picture, &SIXTEEN)
+        && copy(picture, dst, sx, sy)
+        && shows_copied(picture, before, dst, sx, sy)
+}
+
+fn shows_copied(picture: &Picture<u8>, before: &Picture<u8>, dst: Rect, sx: u16, sy: u16) -> bool {
     let mut same = true;
     for y in 0..4 {
         for x in 0..4 {
             let (from_x, from_y) = source_of(dst, sx, sy, x, y);
-            same = same && at(rt, &picture, x, y) == at(rt, &before, from_x, from_y);
+            let value = at(picture, x, y);
+            same &= value.is_some() && value == at(before, from_x, from_y);
         }
     }
-    Ok(same)
+    same
 }
 
 // Where the value at (`x`, `y`) comes from.
@@ -96,71 +135,81 @@ fn source_of(dst: Rect, sx: u16, sy: u16, x: u16, y: u16) -> (u16, u16) {
     }
 }
 
-// A picture of 4 by 4 places, each with a value of its own.
-fn sixteen<R: Abort>(rt: &R, alloc: Global) -> Result<Picture<u8>, AllocError> {
-    let mut picture = bytes(alloc, 4, 4, 0)?;
-    put_row(rt, &mut picture, 0, 0, &[1, 2, 3, 4]);
-    put_row(rt, &mut picture, 0, 1, &[5, 6, 7, 8]);
-    put_row(rt, &mut picture, 0, 2, &[9, 10, 11, 12]);
-    put_row(rt, &mut picture, 0, 3, &[13, 14, 15, 16]);
-    Ok(picture)
-}
-
 // No clause says it: a vector may grow.
 #[test]
-fn no_call_takes_more_room(rt: HostRuntime) -> Result<(), Fail> {
+fn no_call_takes_more_room(rt: HostRuntime) -> Result<(), AllocError> {
     let mut picture = bytes(rt.alloc(), 4, 3, 0)?;
     let other = bytes(rt.alloc(), 4, 3, 9)?;
-    let all = Rect {
-        x: 0,
-        y: 0,
-        w: 4,
-        h: 3,
-    };
-    assert_room(&rt, &picture, 12);
-    copy_from(&rt, &mut picture, &other);
-    assert_room(&rt, &picture, 12);
-    fill(&rt, &mut picture, all, 7);
-    put_row(&rt, &mut picture, 1, 1, &[5, 6]);
-    copy(&rt, &mut picture, Rect { w: 3, ..all }, 1, 0);
-    lend_and_write(&rt, &mut picture);
-    assert_room(&rt, &picture, 12);
+    assert!(rt; keeps_its_room(&mut picture, &other));
+    drop(picture);
+    drop(other);
     Ok(())
 }
 
-fn assert_room<R: Abort>(rt: &R, picture: &Picture<u8>, wanted: usize) {
-    assert_eq!(rt; picture.places.capacity(), wanted);
+const ALL: Rect = Rect {
+    x: 0,
+    y: 0,
+    w: 4,
+    h: 3,
+};
+
+fn has_room(picture: &Picture<u8>, wanted: usize) -> bool {
+    picture.places.capacity() == wanted
 }
 
-fn lend_and_write<R: Abort>(rt: &R, picture: &mut Picture<u8>) {
-    assert!(rt; 4 <= picture.width() && 0 < picture.height());
+fn keeps_its_room(picture: &mut Picture<u8>, other: &Picture<u8>) -> bool {
+    has_room(picture, 12)
+        && copy_from(picture, other)
+        && has_room(picture, 12)
+        && fill(picture, ALL, 7)
+        && put_row(picture, 1, 1, &[5, 6])
+        && copy(picture, Rect { w: 3, ..ALL }, 1, 0)
+        && lend_and_write(picture)
+        && has_room(picture, 12)
+}
+
+fn lend_and_write(picture: &mut Picture<u8>) -> bool {
+    if picture.width() < 4 || picture.height() < 1 {
+        return false;
+    }
     picture.row_mut(0, 0, 4)[3] = 1;
+    true
 }
 
 #[test]
-fn lends_a_row_for_writing(rt: HostRuntime) -> Result<(), Fail> {
+fn lends_a_row_for_writing(rt: HostRuntime) -> Result<(), AllocError> {
     let mut picture = bytes(rt.alloc(), 4, 3, 0)?;
-    write_five_and_six(&rt, &mut picture);
-    assert_row(&rt, &picture, 0, &[0, 0, 0, 0]);
-    assert_row(&rt, &picture, 1, &[0, 5, 6, 0]);
-    write_sevens_and_a_pair(&rt, &mut picture);
-    assert_row(&rt, &picture, 0, &[0, 0, 8, 9]);
-    assert_row(&rt, &picture, 1, &[0, 5, 6, 0]);
-    assert_row(&rt, &picture, 2, &[7, 7, 7, 0]);
+    assert!(rt; is_lent(&mut picture));
+    drop(picture);
     Ok(())
 }
 
-fn write_five_and_six<R: Abort>(rt: &R, picture: &mut Picture<u8>) {
-    assert!(rt; 3 <= picture.width() && 1 < picture.height());
+const NONE: [u8; 4] = [0, 0, 0, 0];
+
+fn is_lent(picture: &mut Picture<u8>) -> bool {
+    write_five_and_six(picture)
+        && has_rows(picture, &[&NONE, &[0, 5, 6, 0], &NONE])
+        && write_sevens_and_a_pair(picture)
+        && has_rows(picture, &[&[0, 0, 8, 9], &[0, 5, 6, 0], &[7, 7, 7, 0]])
+}
+
+fn write_five_and_six(picture: &mut Picture<u8>) -> bool {
+    if picture.width() < 3 || picture.height() < 2 {
+        return false;
+    }
     let row = picture.row_mut(1, 1, 2);
     row[0] = 5;
     row[1] = 6;
+    true
 }
 
-fn write_sevens_and_a_pair<R: Abort>(rt: &R, picture: &mut Picture<u8>) {
-    assert!(rt; 4 <= picture.width() && 2 < picture.height());
+fn write_sevens_and_a_pair(picture: &mut Picture<u8>) -> bool {
+    if picture.width() < 4 || picture.height() < 3 {
+        return false;
+    }
     fill_row(picture, 0, 2, 3, 7);
     write_pair(picture, 2, 0, &[8, 9]);
+    true
 }
 
 // Gives `value` to `w` places of row `y`, from column `x` on, through a loan of them.

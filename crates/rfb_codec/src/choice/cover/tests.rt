@@ -1,7 +1,5 @@
 //! The rule at small blocks, worked out by hand.
 
-ghost use Rattle.std.specs.Prelude.{◌≤◌};
-
 use super::*;
 
 const A: u32 = 0;
@@ -48,11 +46,9 @@ fn a_run_of_two_columns_goes_down_two_rows(rt: HostRuntime) {
 }
 
 // Whether a row of five places, of which every second one has pixel A, is covered.
-fn is_row_covered(background: u32, limit: usize) -> bool
-    requires { limit ≤ 8 }
-{
+fn is_row_covered(background: u32, limit: usize) -> bool {
     let mut subs: ArrayVec<Subrect, 8> = ArrayVec::new();
-    cover(&[A, B, A, B, A], 5, 1, background, limit, &mut subs)
+    cover(&[A, B, A, B, A], 5, 1, background, limit.min(8), &mut subs)
 }
 
 #[test]

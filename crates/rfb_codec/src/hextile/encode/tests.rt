@@ -15,6 +15,13 @@ const A: u32 = 0x10;
 
 const B: u32 = 0x20;
 
+// Gives so many places that pixel, from one on.
+fn give(pixels: &mut [u32], from: usize, count: usize, pixel: u32) {
+    for place in pixels.iter_mut().skip(from).take(count) {
+        *place = pixel;
+    }
+}
+
 // A block of that width and height is sent as these bytes.
 fn sends(
     rt: &impl Abort,
@@ -59,9 +66,7 @@ fn a_tile_of_one_colour_leaves_the_foreground_that_is_carried(rt: HostRuntime) -
     let format = Format::bgr233();
     let wanted = [0x0E, 0x10, 0x20, 1, 0xF0, 0, 0, 8, 1, 0xF0, 0];
     sends(&rt, rt.alloc(), &format, (48, 1), &pixels, &wanted)?;
-    for i in 16..32 {
-        pixels[i] = 0x30;
-    }
+    give(&mut pixels, 16, 16, 0x30);
     let wanted = [
         0x0E, 0x10, 0x20, 1, 0xF0, 0, 2, 0x30, 0x0A, 0x10, 1, 0xF0, 0,
     ];
@@ -85,15 +90,19 @@ fn tiles_of_one_colour_name_it_once(rt: HostRuntime) -> Result<(), Fail> {
 
 #[test]
 fn a_raw_tile_leaves_no_background(rt: HostRuntime) -> Result<(), Fail> {
-    let mut pixels = [0; 48];
-    let mut wanted = [0u8; 75];
-    wanted[0] = 2;
-    wanted[5] = 1;
-    wanted[70] = 2;
-    for i in 0..16 {
-        pixels[16 + i] = i as u32 + 1;
-        wanted[6 + 4 * i] = i as u8 + 1;
-    }
+    let pixels = [
+        0, 0, 0, 0, 0, 0, 0, 0, 0, 0, 0, 0, 0, 0, 0, 0, //
+        1, 2, 3, 4, 5, 6, 7, 8, 9, 10, 11, 12, 13, 14, 15, 16, //
+        0, 0, 0, 0, 0, 0, 0, 0, 0, 0, 0, 0, 0, 0, 0, 0,
+    ];
+    let wanted = [
+        2, 0, 0, 0, 0, //
+        1, 1, 0, 0, 0, 2, 0, 0, 0, 3, 0, 0, 0, 4, 0, 0, 0, //
+        5, 0, 0, 0, 6, 0, 0, 0, 7, 0, 0, 0, 8, 0, 0, 0, //
+        9, 0, 0, 0, 10, 0, 0, 0, 11, 0, 0, 0, 12, 0, 0, 0, //
+        13, 0, 0, 0, 14, 0, 0, 0, 15, 0, 0, 0, 16, 0, 0, 0, //
+        2, 0, 0, 0, 0,
+    ];
     sends(
         &rt,
         rt.alloc(),
@@ -108,10 +117,8 @@ fn a_raw_tile_leaves_no_background(rt: HostRuntime) -> Result<(), Fail> {
 fn a_place_has_x_and_width_in_the_high_digits(rt: HostRuntime) -> Result<(), Fail> {
     // 4 columns and 2 rows at (3, 5).
     let mut pixels = [A; 256];
-    for i in 0..4 {
-        pixels[5 * 16 + 3 + i] = B;
-        pixels[6 * 16 + 3 + i] = B;
-    }
+    give(&mut pixels, 83, 4, B);
+    give(&mut pixels, 99, 4, B);
     let wanted = [0x0E, 0x10, 0x20, 1, 0x35, 0x31];
     sends(
         &rt,
@@ -142,9 +149,10 @@ fn a_tile_that_is_no_shorter_than_its_pixels_is_raw(rt: HostRuntime) -> Result<(
     let four = [
         2, 0x10, 0x18, 4, 1, 0, 0, 2, 0x20, 0, 3, 0x40, 0, 4, 0x60, 0,
     ];
-    for i in 0..4 {
-        pixels[16 + 2 * i] = i as u32 + 1;
-    }
+    pixels[16] = 1;
+    pixels[18] = 2;
+    pixels[20] = 3;
+    pixels[22] = 4;
     sends(&rt, rt.alloc(), &format, (32, 1), &pixels, &four)?;
     let five = [
         2, 0x10, 1, 1, 0x10, 2, 0x10, 3, 0x10, 4, 0x10, 5, 0x10, 0x10, 0x10, 0x10, 0x10, 0x10, 0x10,

@@ -3,6 +3,7 @@
 
 use super::hextile::THREE;
 use super::*;
+use std::alloc::AllocError;
 
 const TEN: Colour = Colour { r: 0, g: 73, b: 0 };
 
@@ -69,12 +70,19 @@ fn row_scene<'a>(encoding: Encoding, width: u16, data: &'a [u8], pieces: &'a [Pi
     }
 }
 
+// Whether a piece gives a place its colour.
+fn covers(piece: Piece, place: u32) -> bool {
+    match place.checked_sub(u32::from(piece.from)) {
+        Some(behind) => behind < u32::from(piece.places),
+        None => false,
+    }
+}
+
 // The colour of a place after so many bytes: each piece that is whole is laid over those before.
 fn colour_after(pieces: &[Piece], place: u32, bytes: usize) -> Colour {
     let mut shown = GREY;
     for piece in pieces.iter() {
-        let from = u32::from(piece.from);
-        if piece.end <= bytes && from <= place && place - from < u32::from(piece.places) {
+        if piece.end <= bytes && covers(*piece, place) {
             shown = piece.colour;
         }
     }
@@ -86,7 +94,9 @@ fn shows_after(picture: &Picture<Colour>, pieces: &[Piece], bytes: usize) -> boo
     let width = picture.width();
     for y in 0..picture.height() {
         for x in 0..width {
-            let place = u32::from(y) * u32::from(width) + u32::from(x);
+            let place = u32::from(y)
+                .wrapping_mul(u32::from(width))
+                .wrapping_add(u32::from(x));
             if picture.at(x, y) != colour_after(pieces, place, bytes) {
                 return false;
             }
@@ -106,34 +116,94 @@ fn pending_after(pieces: &[Piece], bytes: usize) -> usize {
     bytes.saturating_sub(last)
 }
 
-// Whether a painter that is fed slices of that size, after a first one, takes all of each, has
-// pending what it should and shows what it should after each, and is done after the last.
-fn in_slices(alloc: Global, scene: Scene<'_>, first: usize, size: usize) -> Result<bool, Fail> {
-    let mut picture = Picture::new(alloc, scene.width, scene.height, GREY)?;
+/// A picture of one colour.
+pub fn picture_of(
+    alloc: Global,
+    width: u16,
+    height: u16,
+    colour: Colour,
+) -> Result<Picture<Colour>, AllocError> {
+    Picture::new(alloc, width, height, colour)
+}
+
+/// Whether a painter answers so to bytes. It looks first that the rectangle lies in the picture, so
+/// a test need not prove it.
+pub fn answers(
+    painter: &mut Painter,
+    picture: &mut Picture<Colour>,
+    bytes: &[u8],
+    wanted: Result<Painted, PaintFault>,
+) -> bool {
+    if !picture.holds(painter.rect) {
+        return false;
+    }
+    painter.feed(bytes, picture) == wanted
+}
+
+/// Whether so many bytes are pending.
+pub fn has_pending(painter: &Painter, wanted: usize) -> bool {
+    painter.pending() == wanted
+}
+
+// A painter of all of a scene.
+fn painter_of(scene: Scene<'_>) -> Painter {
     let all = Rect {
         x: 0,
         y: 0,
         w: scene.width,
         h: scene.height,
     };
-    let mut painter = Painter::new(all, scene.encoding, format_of(scene.pixels));
-    let data = scene.data;
+    Painter::new(all, scene.encoding, format_of(scene.pixels))
+}
+
+// Whether a painter takes all of a slice of the data, has pending what it should and shows what it
+// should after it, and is done if it is the last.
+fn takes(
+    painter: &mut Painter,
+    picture: &mut Picture<Colour>,
+    scene: Scene<'_>,
+    from: usize,
+    to: usize,
+) -> bool {
+    let slice = scene.data.get(from..to).unwrap_or_default();
+    let used = to.wrapping_sub(from);
+    let done = to == scene.data.len();
+    answers(painter, picture, slice, Ok(Painted { used, done }))
+        && has_pending(painter, pending_after(scene.pieces, to))
+        && shows_after(picture, scene.pieces, to)
+}
+
+// The same of slices of that size, after a first one.
+fn takes_all(
+    painter: &mut Painter,
+    picture: &mut Picture<Colour>,
+    scene: Scene<'_>,
+    first: usize,
+    size: usize,
+) -> bool {
+    let length = scene.data.len();
     let mut at = 0usize;
     let mut next = first;
-    'slices: for _ in 0..100 {
-        let end = data.len().min(at.saturating_add(next));
-        let done = end == data.len();
-        let used = end - at;
-        let told = painter.feed(&data[at..end], &mut picture) == Ok(Painted { used, done });
-        let kept = painter.pending() == pending_after(scene.pieces, end);
-        let good = told && kept && shows_after(&picture, scene.pieces, end);
-        if done || !good {
-            return Ok(good);
+    for _ in 0..100 {
+        let end = length.min(at.saturating_add(next));
+        let good = takes(painter, picture, scene, at, end);
+        if end == length || !good {
+            return good;
         }
         at = end;
         next = size;
     }
-    Ok(false)
+    false
+}
+
+// The same of a new painter.
+fn in_slices(alloc: Global, scene: Scene<'_>, first: usize, size: usize) -> Result<bool, Fail> {
+    let mut picture = picture_of(alloc, scene.width, scene.height, GREY)?;
+    let mut painter = painter_of(scene);
+    let good = takes_all(&mut painter, &mut picture, scene, first, size);
+    drop(painter);
+    drop(picture);
+    Ok(good)
 }
 
 // The same of two slices, cut at each place.

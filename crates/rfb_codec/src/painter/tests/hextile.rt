@@ -1,7 +1,6 @@
 //! Tiles of Hextile, most of them in a row.
 
-ghost use Rattle.std.specs.Prelude.{◌≤◌};
-
+use super::cuts::picture_of;
 use super::*;
 
 // Pixels 0x10, 0x20 and 0x30 at bgr233: 2, 4 and 6 sevenths of green. Pixel 0 is black.
@@ -78,31 +77,37 @@ fn a_tile_of_its_mask_alone_is_whole(rt: HostRuntime) -> Result<(), Fail> {
     shows(&rt, rt.alloc(), Format::rgb888(), &data, &[(17, colour)])
 }
 
-// A raw tile of sixteen pixels between two of one colour. The third is sent as the first of these
-// bytes, so that there are so many in all.
-fn around_raw(rt: &impl Abort, alloc: Global, last: &[u8; 5], length: usize) -> Result<(), Fail>
-    requires { length ≤ 75 }
-{
-    let colour = Colour { r: 3, g: 2, b: 1 };
-    let mut data = [0; 75];
-    data[..6].copy_from_slice(&[0x02, 1, 2, 3, 0, 0x01]);
-    data[70..].copy_from_slice(last);
-    let mut want = [colour; 48];
-    for n in 0..16 {
-        data[6 + 4 * n..10 + 4 * n].copy_from_slice(&[n as u8, 7, 9, 0]);
-        want[16 + n] = Colour {
-            r: 9,
-            g: 7,
-            b: n as u8,
-        };
+// The bytes of a raw tile of sixteen pixels between two of one colour, the third of which has these
+// bytes.
+fn around_raw(alloc: Global, last: &[u8]) -> Result<Vec<u8>, Fail> {
+    let mut data = Vec::new(alloc);
+    data.extend_from_slice(&[0x02, 1, 2, 3, 0, 0x01])?;
+    for n in 0..16u8 {
+        data.extend_from_slice(&[n, 7, 9, 0])?;
     }
-    shows_all(rt, alloc, Format::rgb888(), &data[..length], &want)
+    data.extend_from_slice(last)?;
+    Ok(data)
+}
+
+// What these tiles show.
+fn shown_around_raw(alloc: Global) -> Result<Vec<Colour>, Fail> {
+    let colour = Colour { r: 3, g: 2, b: 1 };
+    let mut want = places_of(alloc, &[(16, colour)])?;
+    for b in 0..16u8 {
+        want.push(Colour { r: 9, g: 7, b })?;
+    }
+    want.resize(48, colour)?;
+    Ok(want)
 }
 
 #[test]
 fn a_background_is_carried_past_a_raw_tile(rt: HostRuntime) -> Result<(), Fail> {
-    around_raw(&rt, rt.alloc(), &[0x02, 1, 2, 3, 0], 75)?;
-    around_raw(&rt, rt.alloc(), &[0x00, 0, 0, 0, 0], 71)
+    for last in [[0x02, 1, 2, 3, 0].as_slice(), &[0x00]] {
+        let data = around_raw(rt.alloc(), last)?;
+        let want = shown_around_raw(rt.alloc())?;
+        shows_all(&rt, rt.alloc(), Format::rgb888(), &data, &want)?;
+    }
+    Ok(())
 }
 
 #[test]
@@ -140,9 +145,12 @@ fn a_foreground_is_carried_past_a_coloured_tile(rt: HostRuntime) -> Result<(), F
 
 #[test]
 fn a_foreground_is_carried_past_a_raw_tile(rt: HostRuntime) -> Result<(), Fail> {
-    let mut data = [0x30; 24];
-    data[..4].copy_from_slice(&[0x06, 0x10, 0x20, 0x01]);
-    data[20..].copy_from_slice(&[0x08, 1, 0x00, 0x00]);
+    let data = [
+        0x06, 0x10, 0x20, //
+        0x01, 0x30, 0x30, 0x30, 0x30, 0x30, 0x30, 0x30, 0x30, //
+        0x30, 0x30, 0x30, 0x30, 0x30, 0x30, 0x30, 0x30, //
+        0x08, 1, 0x00, 0x00,
+    ];
     let runs = [(16, TEN), (16, THIRTY), (1, TWENTY), (1, TEN)];
     shows_small(&rt, rt.alloc(), &data, &runs)
 }
@@ -191,20 +199,30 @@ fn bits_without_effect_are_accepted(rt: HostRuntime) -> Result<(), Fail> {
 }
 
 // Two by two tiles, row by row; but for the first they are one place wide, one high, or both.
-fn places_tiles(alloc: Global, first: usize) -> Result<bool, Fail> {
-    let mut picture = Picture::new(alloc, 19, 19, RED)?;
+const FOUR: [u8; 12] = [
+    0x0E, 0x10, 0x00, 1, 0x12, 0x23, 0x02, 0x20, 0x02, 0x30, 0x02, 0xC0,
+];
+
+// Whether they are taken in two slices.
+fn takes_tiles(picture: &mut Picture<Colour>, first: usize) -> bool {
     let rect = Rect {
         x: 1,
         y: 1,
         w: 17,
         h: 17,
     };
-    let data = [
-        0x0E, 0x10, 0x00, 1, 0x12, 0x23, 0x02, 0x20, 0x02, 0x30, 0x02, 0xC0,
-    ];
+    if !picture.holds(rect) {
+        return false;
+    }
     let format = Format::bgr233();
-    let answer = fed_in_two(&mut picture, rect, Encoding::Hextile, format, &data, first);
-    Ok(answer == done(12) && are_placed(&picture))
+    fed_in_two(picture, rect, Encoding::Hextile, format, &FOUR, first) == done(12)
+}
+
+fn places_tiles(alloc: Global, first: usize) -> Result<bool, Fail> {
+    let mut picture = picture_of(alloc, 19, 19, RED)?;
+    let good = takes_tiles(&mut picture, first) && are_placed(&picture);
+    drop(picture);
+    Ok(good)
 }
 
 fn places_tiles_at_every_cut(alloc: Global) -> Result<bool, Fail> {

@@ -1,6 +1,7 @@
 //! Data that a peer may send and should not.
 
 use super::*;
+use std::alloc::AllocError;
 
 // Pixel 0x10 at bgr233.
 const TEN: Colour = Colour { r: 0, g: 73, b: 0 };
@@ -43,7 +44,8 @@ const OUTSIDE: [[u8; 14]; 4] = [
 // Whether data are waited with up to their last byte, and refused there.
 fn is_refused_at_the_end(alloc: Global, data: &[u8; 14]) -> Result<bool, Fail> {
     for n in 0..14 {
-        if !answers(alloc, &data[..n], more(n))? {
+        let front = data.get(..n).unwrap_or_default();
+        if !answers(alloc, front, more(n))? {
             return Ok(false);
         }
     }
@@ -65,17 +67,30 @@ fn a_subrectangle_outside_is_told_at_its_last_byte(rt: HostRuntime) -> Result<()
     Ok(())
 }
 
-// Whether a source in two slices is refused for a row of two places, which stay as they are.
-fn is_source_refused(alloc: Global, source: &[u8], first: usize) -> Result<bool, Fail> {
-    let mut picture = Picture::new(alloc, 2, 1, RED)?;
-    picture.put_row(0, 0, &[GREEN, BLUE]);
+// Whether a source in two slices is refused for all of a picture of two places, which stay as they
+// are.
+fn refuses(picture: &mut Picture<Colour>, source: &[u8], first: usize) -> bool {
     let all = row_of(2, RED).rect;
     if !picture.holds(all) {
-        return Ok(false);
+        return false;
     }
     let format = Format::rgb888();
-    let answer = fed_in_two(&mut picture, all, Encoding::CopyRect, format, source, first);
-    Ok(answer == Err(PaintFault::SourceOutside) && has(&picture, &[GREEN, BLUE]))
+    let answer = fed_in_two(picture, all, Encoding::CopyRect, format, source, first);
+    answer == Err(PaintFault::SourceOutside) && has(picture, &[GREEN, BLUE])
+}
+
+// A row of two places.
+fn green_and_blue(alloc: Global) -> Result<Picture<Colour>, AllocError> {
+    let mut picture = Picture::new(alloc, 2, 1, RED)?;
+    picture.put_row(0, 0, &[GREEN, BLUE]);
+    Ok(picture)
+}
+
+fn is_source_refused(alloc: Global, source: &[u8], first: usize) -> Result<bool, Fail> {
+    let mut picture = green_and_blue(alloc)?;
+    let good = refuses(&mut picture, source, first);
+    drop(picture);
+    Ok(good)
 }
 
 fn are_sources_refused(alloc: Global) -> Result<bool, Fail> {

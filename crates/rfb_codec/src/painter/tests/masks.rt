@@ -24,7 +24,8 @@ fn refuses(alloc: Global, width: u16, data: &[u8], fault: PaintFault) -> Result<
 // Whether all that the data begin with is waited with.
 fn waits(alloc: Global, width: u16, data: &[u8]) -> Result<bool, Fail> {
     for n in 0..data.len() {
-        if !answers(alloc, width, &data[..n], more(n), &[RED])? {
+        let front = data.get(..n).unwrap_or_default();
+        if !answers(alloc, width, front, more(n), &[RED])? {
             return Ok(false);
         }
     }
@@ -160,42 +161,53 @@ fn fault(mask: u8, known: Known) -> Option<PaintFault> {
 // What such a mask asks for: pixels 0x10 and 0x20 where it is raw; else 0x10 as the background,
 // 0x20 as the foreground, and one subrectangle at the second place, with pixel 0x30 if it has its
 // own.
-fn push_rest(data: &mut Vec<u8>, mask: u8) -> Result<(), Fail> {
+fn asked_for(mask: u8) -> Bytes {
     if has(mask, 1) {
-        data.extend_from_slice(&[0x10, 0x20])?;
-        return Ok(());
+        return joined(b"\x10\x20", b"");
     }
-    if has(mask, 2) {
-        data.push(0x10)?;
-    }
-    if has(mask, 4) {
-        data.push(0x20)?;
-    }
-    if has(mask, 8) {
-        data.push(1)?;
-        if has(mask, 16) {
-            data.push(0x30)?;
-        }
-        data.extend_from_slice(&[0x10, 0x00])?;
-    }
-    Ok(())
+    let colours = match (has(mask, 2), has(mask, 4)) {
+        (false, false) => b"".as_slice(),
+        (true, false) => b"\x10",
+        (false, true) => b"\x20",
+        (true, true) => b"\x10\x20",
+    };
+    let part = match (has(mask, 8), has(mask, 16)) {
+        (false, _) => b"".as_slice(),
+        (true, false) => b"\x01\x10\x00",
+        (true, true) => b"\x01\x30\x10\x00",
+    };
+    joined(colours, part)
+}
+
+// More bytes than a tile before another and that have.
+type Bytes = ArrayVec<u8, 32>;
+
+// The bytes of both, as far as there is room.
+fn joined(front: &[u8], back: &[u8]) -> Bytes {
+    let mut bytes = ArrayVec::new();
+    let _front = bytes.try_extend_from_slice(front);
+    let _back = bytes.try_extend_from_slice(back);
+    bytes
 }
 
 // Whether the tile is refused at its mask; or waited with up to its last byte, and what follows is
 // left.
 fn is_judged(alloc: Global, front: &[u8], known: Known, mask: u8) -> Result<bool, Fail> {
     let width = if front.is_empty() { 2 } else { 18 };
-    let mut data = Vec::new(alloc);
-    data.extend_from_slice(front)?;
-    data.push(mask)?;
-    if let Some(fault) = fault(mask, known) {
-        return refuses(alloc, width, &data, fault);
+    let begun = joined(front, &[mask]);
+    match fault(mask, known) {
+        Some(fault) => refuses(alloc, width, begun.as_slice(), fault),
+        None => is_taken(alloc, width, begun.as_slice(), mask),
     }
-    push_rest(&mut data, mask)?;
-    let whole = done(data.len());
-    let waited = waits(alloc, width, &data)?;
-    data.push(0xFF)?;
-    Ok(waited && answers(alloc, width, &data, whole, &colours_behind(mask))?)
+}
+
+// Whether a tile with that mask is waited with up to its last byte, and what follows is left.
+fn is_taken(alloc: Global, width: u16, begun: &[u8], mask: u8) -> Result<bool, Fail> {
+    let tile = joined(begun, asked_for(mask).as_slice());
+    let data = joined(tile.as_slice(), &[0xFF]);
+    let (tile, data) = (tile.as_slice(), data.as_slice());
+    let answer = done(tile.len());
+    Ok(waits(alloc, width, tile)? && answers(alloc, width, data, answer, &colours_behind(mask))?)
 }
 
 fn judged(

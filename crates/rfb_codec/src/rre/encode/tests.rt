@@ -4,9 +4,9 @@ mod cells;
 mod plain;
 
 use super::*;
-use crate::codec::tests::{block_of, count_up, encoded, is_sent_as};
+use crate::codec::tests::{count_up, is_given_up, is_sent_as, raw_length, sent};
 use plain::{Plain, decoded};
-use std::alloc::Global;
+use std::alloc::{AllocError, Global};
 use std::process::Abort;
 use std::test::Fail;
 
@@ -14,19 +14,12 @@ const A: u32 = 0;
 
 const B: u32 = 0x00FF_FFFF;
 
-// Whether a row of four places is not taken, and leaves bytes that stand there.
-fn is_left_as_it_was(alloc: Global, pixels: &[u32; 4]) -> Result<bool, Fail> {
-    let Some(block) = block_of(4, 1, pixels) else {
-        return Ok(false);
-    };
-    let (done, out) = encoded::<Rre>(alloc, &block, &Format::rgb888(), &[9, 8])?;
-    Ok(!done && out.as_slice() == [9, 8].as_slice())
-}
-
 #[test]
 fn a_block_that_is_not_shorter_leaves_out_as_it_was(rt: HostRuntime) -> Result<(), Fail> {
     // 20 bytes against 16.
-    assert!(rt; is_left_as_it_was(rt.alloc(), &[A, A, A, B])?);
+    let pixels = [A, A, A, B];
+    let left = is_given_up::<Rre>(rt.alloc(), &Format::rgb888(), (4, 1), &pixels, &[9, 8])?;
+    assert!(rt; left);
     Ok(())
 }
 
@@ -70,10 +63,8 @@ fn is_row_taken(alloc: Global, format: &Format, length: u16) -> Result<bool, Fai
     if let Some(last) = pixels.last_mut() {
         *last = 4;
     }
-    match block_of(length, 1, &pixels) {
-        Some(block) => Ok(encoded::<Rre>(alloc, &block, format, &[])?.0),
-        None => Ok(false),
-    }
+    let sent = sent::<Rre>(alloc, format, (length, 1), &pixels)?;
+    Ok(sent.is_some())
 }
 
 fn only_fewer_bytes_are_taken(alloc: Global) -> Result<bool, Fail> {
@@ -106,22 +97,40 @@ fn keeps_the_rule(
     format: &Format,
     size: (u16, u16),
     pixels: &[u32],
-) -> Result<bool, Fail> {
-    let Some(block) = block_of(size.0, size.1, pixels) else {
-        return Ok(false);
-    };
-    let width = usize::from(size.0);
-    let plain = Plain::of(alloc, pixels, width, usize::from(size.1))?;
-    let length = plain.length(format.size());
-    let (done, out) = encoded::<Rre>(alloc, &block, format, &[])?;
-    if done != (length < pixels.len() * format.size()) {
-        return Ok(false);
+) -> Result<bool, AllocError> {
+    let length = plain_length(alloc, format, size, pixels)?;
+    if raw_length(format, pixels) <= length {
+        return is_given_up::<Rre>(alloc, format, size, pixels, &[]);
     }
-    if !done {
-        return Ok(out.is_empty());
+    match sent::<Rre>(alloc, format, size, pixels)? {
+        Some(data) => {
+            Ok(data.len() == length && is_read_back(alloc, format, &data, size, pixels)?)
+        }
+        None => Ok(false),
     }
-    let shown = decoded(alloc, format, &out, width, pixels.len())?;
-    Ok(out.len() == length && shown.as_slice() == pixels)
+}
+
+// How many bytes the rule's plain form has.
+fn plain_length(
+    alloc: Global,
+    format: &Format,
+    size: (u16, u16),
+    pixels: &[u32],
+) -> Result<usize, AllocError> {
+    let plain = Plain::of(alloc, pixels, usize::from(size.0), usize::from(size.1))?;
+    Ok(plain.length(format.size()))
+}
+
+// Whether a reading of the data shows the pixels.
+fn is_read_back(
+    alloc: Global,
+    format: &Format,
+    data: &[u8],
+    size: (u16, u16),
+    pixels: &[u32],
+) -> Result<bool, AllocError> {
+    let shown = decoded(alloc, format, data, usize::from(size.0), pixels.len())?;
+    Ok(shown.as_slice() == pixels)
 }
 
 pub(crate) fn agrees(
@@ -137,22 +146,31 @@ pub(crate) fn agrees(
     Ok(())
 }
 
-// Agreement at every block of up to so many places over pixels below `values`.
+// Agreement at every block of that width and height over pixels below `values`.
+fn agrees_at_size(
+    rt: &impl Abort,
+    alloc: Global,
+    width: u16,
+    height: u16,
+    values: u32,
+) -> Result<(), Fail> {
+    let mut pixels = Vec::new(alloc);
+    pixels.resize(usize::from(width).wrapping_mul(usize::from(height)), 0)?;
+    for _ in 0..1_000_000 {
+        agrees(rt, alloc, &Format::rgb888(), width, height, &pixels)?;
+        agrees(rt, alloc, &Format::bgr233(), width, height, &pixels)?;
+        if !count_up(&mut pixels, values) {
+            break;
+        }
+    }
+    Ok(())
+}
+
+// The same at every block of up to so many places.
 fn agrees_at_all(rt: &impl Abort, alloc: Global, most: u16, values: u32) -> Result<(), Fail> {
-    let formats = [Format::rgb888(), Format::bgr233()];
     for width in 1..=most {
-        for height in 1..=most / width {
-            let places = usize::from(width * height);
-            let mut pixels = Vec::new(alloc);
-            pixels.resize(places, 0)?;
-            for _ in 0..1_000_000 {
-                for format in &formats {
-                    agrees(rt, alloc, format, width, height, &pixels)?;
-                }
-                if !count_up(&mut pixels, values) {
-                    break;
-                }
-            }
+        for height in 1..=most.checked_div(width).unwrap_or(0) {
+            agrees_at_size(rt, alloc, width, height, values)?;
         }
     }
     Ok(())
@@ -174,7 +192,6 @@ fn it_keeps_the_rule_at_every_block_of_nine_places_over_three_pixels(
 
 #[test]
 fn it_keeps_the_rule_at_larger_blocks(rt: HostRuntime) -> Result<(), Fail> {
-    let formats = [Format::bgr233(), Format::rgb565()];
     let mut state = 1u32;
     for (width, height) in [
         (5, 3),
@@ -189,36 +206,68 @@ fn it_keeps_the_rule_at_larger_blocks(rt: HostRuntime) -> Result<(), Fail> {
         (11, 2),
     ] {
         for round in 0..400u32 {
-            let mut pixels = Vec::new(rt.alloc());
-            for _ in 0..u32::from(width) * u32::from(height) {
-                state = state.wrapping_mul(1_664_525).wrapping_add(1_013_904_223);
-                let chance = (state >> 16) % 24;
-                pixels.push(if chance < round % 5 {
-                    1 + chance % 2
-                } else {
-                    9
-                })?;
-            }
-            for format in &formats {
-                agrees(&rt, rt.alloc(), format, width, height, &pixels)?;
-            }
+            agrees_where_mixed(&rt, rt.alloc(), width, height, &mut state, round % 5)?;
         }
     }
     Ok(())
 }
 
+// Agreement at a block of pixels without order, of which so many in 24 are others than 9.
+fn agrees_where_mixed(
+    rt: &impl Abort,
+    alloc: Global,
+    width: u16,
+    height: u16,
+    state: &mut u32,
+    others: u32,
+) -> Result<(), Fail> {
+    let mut pixels = Vec::new(alloc);
+    for _ in 0..u32::from(width).wrapping_mul(u32::from(height)) {
+        pixels.push(mixed(state, others))?;
+    }
+    agrees(rt, alloc, &Format::bgr233(), width, height, &pixels)?;
+    agrees(rt, alloc, &Format::rgb565(), width, height, &pixels)
+}
+
+fn mixed(state: &mut u32, others: u32) -> u32 {
+    *state = state.wrapping_mul(1_664_525).wrapping_add(1_013_904_223);
+    let chance = (*state >> 16) % 24;
+    if chance < others { 1 + chance % 2 } else { 9 }
+}
+
+// Agreement at a whole cell, at four bytes a pixel and at two.
+fn agrees_at_cell(rt: &impl Abort, alloc: Global, pixels: &[u32]) -> Result<(), Fail> {
+    agrees(rt, alloc, &Format::rgb888(), 64, 64, pixels)?;
+    agrees(rt, alloc, &Format::rgb565(), 64, 64, pixels)
+}
+
+// A cell in which three of 29 places have another pixel.
+fn three_of_29() -> [u32; 4096] {
+    let mut pixels = [6; 4096];
+    let mut at = 0u32;
+    for pixel in pixels.iter_mut() {
+        if at % 29 < 3 {
+            *pixel = 5;
+        }
+        at = at.wrapping_add(1);
+    }
+    pixels
+}
+
+// A cell of pixels that all differ.
+fn all_different() -> [u32; 4096] {
+    let mut pixels = [0; 4096];
+    let mut next = 0u32;
+    for pixel in pixels.iter_mut() {
+        *pixel = next;
+        next = next.wrapping_add(1);
+    }
+    pixels
+}
+
 #[test]
 fn it_keeps_the_rule_at_whole_cells(rt: HostRuntime) -> Result<(), Fail> {
-    let mut pixels = [6; 4096];
-    agrees(&rt, rt.alloc(), &Format::rgb888(), 64, 64, &pixels)?;
-    for i in 0..4096 {
-        pixels[i] = if i % 29 < 3 { 5 } else { 6 };
-    }
-    agrees(&rt, rt.alloc(), &Format::rgb888(), 64, 64, &pixels)?;
-    agrees(&rt, rt.alloc(), &Format::rgb565(), 64, 64, &pixels)?;
-    for i in 0..4096 {
-        pixels[i] = i as u32;
-    }
-    agrees(&rt, rt.alloc(), &Format::rgb888(), 64, 64, &pixels)?;
-    agrees(&rt, rt.alloc(), &Format::rgb565(), 64, 64, &pixels)
+    agrees(&rt, rt.alloc(), &Format::rgb888(), 64, 64, &[6; 4096])?;
+    agrees_at_cell(&rt, rt.alloc(), &three_of_29())?;
+    agrees_at_cell(&rt, rt.alloc(), &all_different())
 }

@@ -2,10 +2,10 @@
 
 use super::plain::decoded;
 use super::rule;
-use crate::codec::tests::{block_of, count_up, encoded};
+use crate::codec::tests::{count_up, is_given_up, is_sent_as, raw_length};
 use crate::hextile::Hextile;
 use rfb_pixel::Format;
-use std::alloc::Global;
+use std::alloc::{AllocError, Global};
 use std::process::Abort;
 use std::test::Fail;
 
@@ -21,15 +21,48 @@ fn is_read_back(
     data: &[u8],
     size: (u16, u16),
     pixels: &[u32],
-) -> Result<bool, Fail> {
+) -> Result<bool, AllocError> {
+    Ok(
+        is_read_as(alloc, format, data, size, pixels, false)?
+            && is_read_as(alloc, format, data, size, pixels, true)?,
+    )
+}
+
+fn is_read_as(
+    alloc: Global,
+    format: &Format,
+    data: &[u8],
+    size: (u16, u16),
+    pixels: &[u32],
+    strict: bool,
+) -> Result<bool, AllocError> {
     let (columns, rows) = (usize::from(size.0), usize::from(size.1));
-    for strict in [false, true] {
-        match decoded(alloc, format, data, columns, rows, strict)? {
-            Some(shown) if shown.as_slice() == pixels => {}
-            _ => return Ok(false),
-        }
+    match decoded(alloc, format, data, columns, rows, strict)? {
+        Some(shown) => Ok(shown.as_slice() == pixels),
+        None => Ok(false),
     }
-    Ok(true)
+}
+
+// Bytes that stand before those of a block.
+const BEFORE: [u8; 2] = [9, 8];
+
+fn behind_those_before(alloc: Global, tiles: &[u8]) -> Result<Vec<u8>, AllocError> {
+    let mut bytes = Vec::new(alloc);
+    bytes.extend_from_slice(&BEFORE)?;
+    bytes.extend_from_slice(tiles)?;
+    Ok(bytes)
+}
+
+// Whether a block is sent as these bytes, after those that stood there.
+fn is_sent(
+    alloc: Global,
+    format: &Format,
+    size: (u16, u16),
+    pixels: &[u32],
+    tiles: &[u8],
+) -> Result<bool, AllocError> {
+    let wanted = behind_those_before(alloc, tiles)?;
+    is_sent_as::<Hextile>(alloc, format, size, pixels, &BEFORE, &wanted)
 }
 
 // Whether the encoder does what the rule's plain form does, after bytes that stood there, and what
@@ -39,22 +72,16 @@ fn keeps_the_rule(
     format: &Format,
     size: (u16, u16),
     pixels: &[u32],
-) -> Result<bool, Fail> {
-    let Some(block) = block_of(size.0, size.1, pixels) else {
-        return Ok(false);
-    };
+) -> Result<bool, AllocError> {
     let tiles = rule::spelled(alloc, format, pixels, size)?;
-    let taken = tiles.len() < pixels.len() * format.size();
-    let mut wanted = Vec::new(alloc);
-    wanted.extend_from_slice(&[9, 8])?;
-    if taken {
-        wanted.extend_from_slice(&tiles)?;
+    if tiles.len() < raw_length(format, pixels) {
+        Ok(
+            is_sent(alloc, format, size, pixels, &tiles)?
+                && is_read_back(alloc, format, &tiles, size, pixels)?,
+        )
+    } else {
+        is_given_up::<Hextile>(alloc, format, size, pixels, &BEFORE)
     }
-    let (done, out) = encoded::<Hextile>(alloc, &block, format, &[9, 8])?;
-    if done != taken || out != wanted {
-        return Ok(false);
-    }
-    Ok(!done || is_read_back(alloc, format, &tiles, size, pixels)?)
 }
 
 fn agrees(
@@ -87,12 +114,19 @@ fn pixel_of_kind(kind: u32, x: u16, y: u16) -> u32 {
     }
 }
 
+// The number of the tile that a place lies in.
+fn tile_at(across: u16, x: u16, y: u16) -> usize {
+    usize::from(y / 16)
+        .wrapping_mul(usize::from(across))
+        .wrapping_add(usize::from(x / 16))
+}
+
 // A block of tiles of these kinds, `across` in each row.
 fn block_of_kinds(alloc: Global, kinds: &[u32], across: u16, down: u16) -> Result<Vec<u32>, Fail> {
     let mut pixels = Vec::new(alloc);
     for y in 0..down.wrapping_mul(16) {
         for x in 0..across.wrapping_mul(16) {
-            let at = usize::from(y / 16) * usize::from(across) + usize::from(x / 16);
+            let at = tile_at(across, x, y);
             let kind = kinds.get(at).copied().unwrap_or(0);
             pixels.push(pixel_of_kind(kind, x % 16, y % 16))?;
         }
@@ -109,18 +143,41 @@ fn agrees_at_kinds(
     kinds: u32,
 ) -> Result<(), Fail> {
     let mut tiles = Vec::new(alloc);
-    tiles.resize(usize::from(across) * usize::from(down), 0)?;
+    tiles.resize(usize::from(across).wrapping_mul(usize::from(down)), 0)?;
     for _ in 0..5000 {
-        let pixels = block_of_kinds(alloc, &tiles, across, down)?;
-        let (width, height) = (across.wrapping_mul(16), down.wrapping_mul(16));
-        for format in &[Format::bgr233(), Format::rgb888()] {
-            agrees(rt, alloc, format, width, height, &pixels)?;
-        }
+        agrees_at_tiles(rt, alloc, across, down, &tiles)?;
         if !count_up(&mut tiles, kinds) {
             break;
         }
     }
     Ok(())
+}
+
+// The same at one of these blocks.
+fn agrees_at_tiles(
+    rt: &impl Abort,
+    alloc: Global,
+    across: u16,
+    down: u16,
+    kinds: &[u32],
+) -> Result<(), Fail> {
+    let pixels = block_of_kinds(alloc, kinds, across, down)?;
+    let (width, height) = (across.wrapping_mul(16), down.wrapping_mul(16));
+    agrees(rt, alloc, &Format::bgr233(), width, height, &pixels)?;
+    agrees(rt, alloc, &Format::rgb888(), width, height, &pixels)
+}
+
+// Agreement in each size of pixel.
+fn agrees_in_each_size(
+    rt: &impl Abort,
+    alloc: Global,
+    width: u16,
+    height: u16,
+    pixels: &[u32],
+) -> Result<(), Fail> {
+    agrees(rt, alloc, &Format::bgr233(), width, height, pixels)?;
+    agrees(rt, alloc, &Format::rgb565(), width, height, pixels)?;
+    agrees(rt, alloc, &Format::rgb888(), width, height, pixels)
 }
 
 #[test]
@@ -145,15 +202,19 @@ fn it_keeps_the_rule_at_every_row_of_few_places(rt: HostRuntime) -> Result<(), F
         (7, 3),
         (12, 2),
     ] {
-        let mut pixels = Vec::new(rt.alloc());
-        pixels.resize(usize::from(width), 0)?;
-        for _ in 0..5000 {
-            for format in &[Format::bgr233(), Format::rgb565(), Format::rgb888()] {
-                agrees(&rt, rt.alloc(), format, width, 1, &pixels)?;
-            }
-            if !count_up(&mut pixels, values) {
-                break;
-            }
+        agrees_at_row(&rt, rt.alloc(), width, values)?;
+    }
+    Ok(())
+}
+
+// Agreement at each row of so many places over pixels below `values`.
+fn agrees_at_row(rt: &impl Abort, alloc: Global, width: u16, values: u32) -> Result<(), Fail> {
+    let mut pixels = Vec::new(alloc);
+    pixels.resize(usize::from(width), 0)?;
+    for _ in 0..5000 {
+        agrees_in_each_size(rt, alloc, width, 1, &pixels)?;
+        if !count_up(&mut pixels, values) {
+            break;
         }
     }
     Ok(())
@@ -169,15 +230,34 @@ fn sprinkled(
 ) -> Result<Vec<u32>, Fail> {
     let mut pixels = Vec::new(alloc);
     for _ in 0..places {
-        *state = state.wrapping_mul(1_664_525).wrapping_add(1_013_904_223);
-        let dice = *state >> 16;
-        pixels.push(if dice.checked_rem(chance) == Some(0) {
-            10 + (dice >> 8).checked_rem(values).unwrap_or(0)
-        } else {
-            9
-        })?;
+        pixels.push(sprinkle(state, chance, values))?;
     }
     Ok(pixels)
+}
+
+fn sprinkle(state: &mut u32, chance: u32, values: u32) -> u32 {
+    *state = state.wrapping_mul(1_664_525).wrapping_add(1_013_904_223);
+    let dice = *state >> 16;
+    if dice.checked_rem(chance) == Some(0) {
+        let other = (dice >> 8).checked_rem(values).unwrap_or(0);
+        other.wrapping_add(10)
+    } else {
+        9
+    }
+}
+
+// Agreement at a block of such pixels.
+fn agrees_where_sprinkled(
+    rt: &impl Abort,
+    alloc: Global,
+    size: (u16, u16),
+    state: &mut u32,
+    chance: u32,
+    values: u32,
+) -> Result<(), Fail> {
+    let places = u32::from(size.0).wrapping_mul(u32::from(size.1));
+    let pixels = sprinkled(alloc, places, state, chance, values)?;
+    agrees_in_each_size(rt, alloc, size.0, size.1, &pixels)
 }
 
 #[test]
@@ -186,28 +266,29 @@ fn it_keeps_the_rule_at_sizes_beside_those_of_tiles(rt: HostRuntime) -> Result<(
     for width in [1, 15, 16, 17, 33, 64] {
         for height in [1, 15, 16, 17, 33, 64] {
             for (chance, values) in [(40, 2), (12, 1), (9, 3), (3, 4), (1, 90)] {
-                let places = u32::from(width) * u32::from(height);
-                let pixels = sprinkled(rt.alloc(), places, &mut state, chance, values)?;
-                for format in &[Format::bgr233(), Format::rgb565(), Format::rgb888()] {
-                    agrees(&rt, rt.alloc(), format, width, height, &pixels)?;
-                }
+                let size = (width, height);
+                agrees_where_sprinkled(&rt, rt.alloc(), size, &mut state, chance, values)?;
             }
         }
     }
     Ok(())
 }
 
+// Gives a place of the second tile a pixel of its own.
+fn give_another(pixels: &mut [u32; 512], other: u16) {
+    let place = (other / 16).wrapping_mul(32).wrapping_add(16 + other % 16);
+    if let Some(pixel) = pixels.get_mut(usize::from(place)) {
+        *pixel = u32::from(other).wrapping_add(10);
+    }
+}
+
 #[test]
 fn it_keeps_the_rule_at_every_number_of_pixels(rt: HostRuntime) -> Result<(), Fail> {
     // The first tile leaves its background, which then needs no bytes in the second.
     let mut pixels = [9; 512];
-    for others in 0..246 {
-        if let Some(pixel) = pixels.get_mut(others / 16 * 32 + 16 + others % 16) {
-            *pixel = 10 + others as u32;
-        }
-        for format in &[Format::bgr233(), Format::rgb565(), Format::rgb888()] {
-            agrees(&rt, rt.alloc(), format, 32, 16, &pixels)?;
-        }
+    for others in 0..246u16 {
+        give_another(&mut pixels, others);
+        agrees_in_each_size(&rt, rt.alloc(), 32, 16, &pixels)?;
     }
     Ok(())
 }
@@ -228,39 +309,43 @@ fn a_checkerboard_is_a_tile_of_two_pixels(rt: HostRuntime) -> Result<(), Fail> {
     // It has 128 subrectangles, which are shorter than Raw at four bytes a pixel alone.
     let tile = checkered(rt.alloc(), 16)?;
     let cell = checkered(rt.alloc(), 64)?;
-    for format in &[Format::bgr233(), Format::rgb565(), Format::rgb888()] {
-        agrees(&rt, rt.alloc(), format, 16, 16, &tile)?;
-        agrees(&rt, rt.alloc(), format, 64, 64, &cell)?;
-    }
-    Ok(())
+    agrees_in_each_size(&rt, rt.alloc(), 16, 16, &tile)?;
+    agrees_in_each_size(&rt, rt.alloc(), 64, 64, &cell)
 }
 
 #[test]
 fn pixels_of_one_hash_are_two(rt: HostRuntime) -> Result<(), Fail> {
     for third in [0, 5] {
-        let mut pixels = Vec::new(rt.alloc());
-        for place in 0..256 {
-            pixels.push(match place % 16 {
-                0..=4 => 0,
-                5 => third,
-                _ => 0x0E8B_2F51,
-            })?;
-        }
+        let pixels = of_one_hash(rt.alloc(), third)?;
         agrees(&rt, rt.alloc(), &Format::rgb888(), 16, 16, &pixels)?;
     }
     Ok(())
+}
+
+// Rows of sixteen places: five of one pixel, this third one, and ten of another of the first's hash.
+fn of_one_hash(alloc: Global, third: u32) -> Result<Vec<u32>, Fail> {
+    let mut pixels = Vec::new(alloc);
+    for place in 0..256 {
+        pixels.push(match place % 16 {
+            0..=4 => 0,
+            5 => third,
+            _ => 0x0E8B_2F51,
+        })?;
+    }
+    Ok(pixels)
 }
 
 #[test]
 fn fifty_dense_and_sparse_cells_keep_the_rule(rt: HostRuntime) -> Result<(), Fail> {
     let mut state = 11u32;
     for round in 0..50u32 {
-        let chance = 1 + (round % 5) * (round % 5) * 5;
-        let values = 1 + (round % 10) * (round % 10) * 3;
-        let pixels = sprinkled(rt.alloc(), 4096, &mut state, chance, values)?;
-        for format in &[Format::bgr233(), Format::rgb565(), Format::rgb888()] {
-            agrees(&rt, rt.alloc(), format, 64, 64, &pixels)?;
-        }
+        let chance = square(round % 5).wrapping_mul(5).wrapping_add(1);
+        let values = square(round % 10).wrapping_mul(3).wrapping_add(1);
+        agrees_where_sprinkled(&rt, rt.alloc(), (64, 64), &mut state, chance, values)?;
     }
     Ok(())
+}
+
+fn square(number: u32) -> u32 {
+    number.wrapping_mul(number)
 }

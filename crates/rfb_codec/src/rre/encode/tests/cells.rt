@@ -36,12 +36,17 @@ fn square_of_forty() -> [u32; 4096] {
     let mut pixels = [LIGHT; 4096];
     for y in 11..51 {
         for x in 13..53 {
-            if let Some(pixel) = pixels.get_mut(y * 64 + x) {
-                *pixel = DARK;
-            }
+            darken(&mut pixels, y, x);
         }
     }
     pixels
+}
+
+// Makes a place of a cell dark.
+fn darken(pixels: &mut [u32; 4096], y: usize, x: usize) {
+    if let Some(pixel) = pixels.get_mut(y.wrapping_mul(64).wrapping_add(x)) {
+        *pixel = DARK;
+    }
 }
 
 #[test]
@@ -53,18 +58,18 @@ fn one_square_of_forty_is_one_subrectangle(rt: HostRuntime) -> Result<(), Fail> 
 fn six_hundred_single_places_are_taken_or_given_up(rt: HostRuntime) -> Result<(), Fail> {
     let mut pixels = [LIGHT; 4096];
     for place in 0..600 {
-        if let Some(pixel) = pixels.get_mut(place / 30 * 128 + place % 30 * 2) {
-            *pixel = DARK;
-        }
+        darken(&mut pixels, place / 30 * 2, place % 30 * 2);
     }
     agrees_in_each_size(&rt, rt.alloc(), &pixels)
 }
 
 // Rows that have so many places of one pixel, and then another of its hash.
 fn two_of_one_hash(zeros: usize) -> [u32; 4096] {
-    let mut pixels = [0; 4096];
-    for i in 0..4096 {
-        pixels[i] = if i % 64 < zeros { 0 } else { 0x0E8B_2F51 };
+    let mut pixels = [0x0E8B_2F51; 4096];
+    for row in pixels.chunks_mut(64) {
+        for pixel in row.iter_mut().take(zeros) {
+            *pixel = 0;
+        }
     }
     pixels
 }
@@ -82,36 +87,45 @@ fn pixels_of_one_hash_are_not_one_pixel(rt: HostRuntime) -> Result<(), Fail> {
 fn fifty_dense_and_sparse_cells_keep_the_rule(rt: HostRuntime) -> Result<(), Fail> {
     let mut state = 7u32;
     for round in 0..50u32 {
-        // Of every so many places, one has one of so many other pixels, and one in three of these
-        // goes on to the right.
-        let apart = 2 + (round % 5) * (round % 5) * 9;
-        let others = 1 + round % 7 * (round % 7) * 30;
-        let mut pixels = [0x55_5555; 4096];
-        let mut pixel = 0u32;
-        for place in pixels.iter_mut() {
-            let dice = next(&mut state);
-            if dice.checked_rem(apart) == Some(0) {
-                pixel = next(&mut state)
-                    .checked_rem(others)
-                    .unwrap_or(0)
-                    .wrapping_mul(0x01_0307);
-            } else if dice % 3 != 0 {
-                continue;
-            }
-            *place = pixel;
-        }
-        agrees_in_each_size(&rt, rt.alloc(), &pixels)?;
+        let apart = square(round % 5).wrapping_mul(9).wrapping_add(2);
+        let others = square(round % 7).wrapping_mul(30).wrapping_add(1);
+        agrees_in_each_size(&rt, rt.alloc(), &sprinkled(&mut state, apart, others))?;
     }
     Ok(())
+}
+
+fn square(number: u32) -> u32 {
+    number.wrapping_mul(number)
+}
+
+// One of so many pixels without order, each times `apart`.
+fn kind_of(state: &mut u32, kinds: u32, apart: u32) -> u32 {
+    let kind = next(state).checked_rem(kinds).unwrap_or(0);
+    kind.wrapping_mul(apart)
+}
+
+// A cell in which of every so many places one has one of so many other pixels, and one in three of
+// these goes on to the right.
+fn sprinkled(state: &mut u32, apart: u32, others: u32) -> [u32; 4096] {
+    let mut pixels = [0x55_5555; 4096];
+    let mut pixel = 0u32;
+    for place in pixels.iter_mut() {
+        let dice = next(state);
+        let is_other = dice.checked_rem(apart) == Some(0);
+        if is_other {
+            pixel = kind_of(state, others, 0x01_0307);
+        }
+        if is_other || dice % 3 == 0 {
+            *place = pixel;
+        }
+    }
+    pixels
 }
 
 // Gives each place one of so many pixels without order.
 fn give_kinds(pixels: &mut [u32; 4096], state: &mut u32, kinds: u32) {
     for pixel in pixels.iter_mut() {
-        *pixel = next(state)
-            .checked_rem(kinds)
-            .unwrap_or(0)
-            .wrapping_mul(0x0001_0000);
+        *pixel = kind_of(state, kinds, 0x0001_0000);
     }
 }
 
