@@ -35,7 +35,8 @@ pub record Plays (text : List ℕ) (picture : Grid Colour) : Type 0 where
 -- the whole of what a world's viewer shows was written behind what stood there before
 abbrev pub WritesShown : World → Option (List ℕ) → Option (List ℕ) → Type 0
 WritesShown world before after =
-    (picture : Grid Colour) × (shown_by world ≡ Some picture) × Appends before after (pixmap picture)
+    (picture : Grid Colour) × (shown_by world ≡ Some picture) ×
+    Appends before after (pixmap picture)
 
 -- the same of the world that steps lead to
 abbrev pub WritesPlayed : Size → Option Wants → List Numbered → Option (List ℕ) →

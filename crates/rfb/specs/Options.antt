@@ -135,9 +135,11 @@ GivesNumber name least most rows n =
     n ≡ digits_value 10 (without_leading_plus text)
 
 -- the same of a number that may be left out
-pub record MayGiveNumber (name : Text) (least most : ℕ) (rows : List Row) (n : Option ℕ) : Type 0 where
+pub record MayGiveNumber (name : Text) (least most : ℕ) (rows : List Row) (n : Option ℕ)
+    : Type 0 where
   pub absent : one_of name rows ≡ None → n ≡ None
-  pub given : (text : Text) → one_of name rows ≡ Some text → IsNumeral 10 (without_leading_plus text) →
+  pub given : (text : Text) → one_of name rows ≡ Some text →
+      IsNumeral 10 (without_leading_plus text) →
       least ≤ digits_value 10 (without_leading_plus text) →
       digits_value 10 (without_leading_plus text) ≤ most →
       n ≡ Some (digits_value 10 (without_leading_plus text))

@@ -30,19 +30,21 @@ IsFresh format encodings viewer =
 
 -- a viewer was fed all that there was to read, if its bytes are known, and they end between two
 -- messages
-pub record WatchesAll (read : Option (List ℕ)) (old : Viewer) (told : ℕ) (new : Viewer) : Type 0 where
+pub record WatchesAll (read : Option (List ℕ)) (old : Viewer) (told : ℕ) (new : Viewer)
+    : Type 0 where
   pub left : Option (List ℕ)
   pub played : AllPlayed read left old told new
   pub between : StandsBetween new true
 
 -- or why it was not
-pub record StopsWatchingAll (read : Option (List ℕ)) (old : Viewer) (fault : EngineFault) (new : Viewer)
-    : Type 0 where
+pub record StopsWatchingAll (read : Option (List ℕ)) (old : Viewer) (fault : EngineFault)
+    (new : Viewer) : Type 0 where
   pub left : Option (List ℕ)
   pub failed : ℕ
   pub stopped : StopsPlaying read left 0 failed old fault new
 
--- it was fed the first bytes of what there was to read, up to the end of the last of so many updates
+-- it was fed the first bytes of what there was to read, up to the end of the last of so many
+-- updates
 pub record WatchesFirst (read : Option (List ℕ)) (old : Viewer) (updates : ℕ) (new : Viewer)
     : Type 0 where
   pub left : Option (List ℕ)
@@ -55,8 +57,8 @@ WatchesSome enough read old told new =
     ⊎ ((told < enough) × WatchesAll read old told new)
 
 -- or why it did not come so far
-pub record StopsWatchingSome (enough : ℕ) (read : Option (List ℕ)) (old : Viewer) (fault : EngineFault)
-    (new : Viewer) : Type 0 where
+pub record StopsWatchingSome (enough : ℕ) (read : Option (List ℕ)) (old : Viewer)
+    (fault : EngineFault) (new : Viewer) : Type 0 where
   pub left : Option (List ℕ)
   pub failed : ℕ
   pub stopped : StopsPlayingSome read left 0 failed old enough fault new

@@ -32,8 +32,8 @@ pub record StopsSeeing (read before : Option (List ℕ)) (old : Viewer) (updates
 abbrev pub IsMadeFor : Sight → Viewer → Type 0
 IsMadeFor sight viewer = IsFresh sight.wants.format sight.wants.encodings.items viewer
 
--- the sight was seen; and if no recording is wanted, the whole picture was written behind what stood
--- there before
+-- the sight was seen; and if no recording is wanted, the whole picture was written behind what
+-- stood there before
 pub record Views (sight : Sight) (read answered before after : Option (List ℕ)) : Type 0 where
   pub first : Viewer
   pub fresh : IsMadeFor sight first

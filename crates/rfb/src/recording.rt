@@ -20,7 +20,8 @@ use std::io::{Read, Write};
 
 /// Plays what `input` has, the bytes of a server, to a fresh viewer that takes pixels of
 /// `replay.format`: up to the end of the last of so many updates, or all of it. Then it writes the
-/// picture that the viewer shows. Nothing is written where the viewer or the bytes end with a fault.
+/// picture that the viewer shows. Nothing is written where the viewer or the bytes end with a
+/// fault.
 pub fn play_recording<R: Read, W: Write>(
     alloc: Global,
     replay: Replay,
@@ -96,7 +97,8 @@ pub fn show<W: Write>(alloc: Global, viewer: &Viewer, output: &mut W) -> Result<
 
 /// Writes what a viewer shows, as PPM.
 pub fn write_picture<W: Write>(alloc: Global, viewer: &Viewer, output: &mut W) -> Result<(), Fault>
-    ensures { OnOk result (WritesPicture viewer.now (W.contents output.old) (W.contents output.new)) }
+    ensures { OnOk result
+        (WritesPicture viewer.now (W.contents output.old) (W.contents output.new)) }
 {
     let picture = viewer.picture().ok_or(Fault::NotReady)?;
     write_pixmap(alloc, picture, output)?;

@@ -19,8 +19,8 @@
 //! settle                     eight times, all bytes reach the server, and then all the viewer
 //! ```
 //!
-//! Numbers are decimal, of 1 to 10 digits, up to 65,535, and N up to 4,294,967,295; a colour has six
-//! hexadecimal digits. F is rgb888, rgb565 or bgr233, and E raw, copyrect, rre or hextile.
+//! Numbers are decimal, of 1 to 10 digits, up to 65,535, and N up to 4,294,967,295; a colour has
+//! six hexadecimal digits. F is rgb888, rgb565 or bgr233, and E raw, copyrect, rre or hextile.
 //! A script with any other line is bad. Whether a rectangle lies on the screen is not judged here.
 
 ghost use Rattle.std.specs.Prelude.{◌≡◌, [], None, IfOk, IfErr, MatchOption};

@@ -2,7 +2,6 @@
 //! them and a decoder that paints them.
 #![tactic(auto)]
 
-mod append;
 mod block;
 mod choice;
 mod codec;
@@ -17,7 +16,6 @@ mod subrect;
 #[cfg(test)]
 mod tests;
 
-pub use append::append_within;
 pub use block::{Block, PLACES, SIDE};
 pub use codec::Codec;
 pub use copy_rect::spell_source;

@@ -4,6 +4,7 @@ ghost use Rattle.std.specs.Prelude.{◌≡◌, ◌≤◌, ◌+◌, ◌++◌, [],
 ghost use Rattle.std.specs.Vec.{vec_capacity, vec_items};
 ghost use Rattle.rfb_hello.specs.KeptText.{KeptText, no_text};
 
+use rfb_wire::pieces::append_within;
 use std::alloc::{AllocError, Global};
 use std::marker::Model;
 
@@ -64,16 +65,5 @@ impl Text {
     {
         let size = bytes.len().min(self.bytes.capacity() - self.bytes.len());
         append_within(&mut self.bytes, &bytes[..size]);
-    }
-}
-
-// Appends bytes for which there is room, so no memory is taken.
-fn append_within(kept: &mut Vec<u8>, bytes: &[u8])
-    requires { length (vec_items kept.old) + length bytes.now ≤ vec_capacity kept.old }
-    ensures items { vec_items kept.new ≡ vec_items kept.old ++ bytes.now }
-    ensures room { vec_capacity kept.new ≡ vec_capacity kept.old }
-{
-    for byte in bytes {
-        kept.push_reserved(*byte);
     }
 }

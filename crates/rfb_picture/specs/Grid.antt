@@ -4,7 +4,8 @@ use Rattle.std.specs.Coded.{Coded, code_by, coded×, coded_list, coded_ℕ}
 use Rattle.rfb_picture.specs.declared.rect.Rect.{Rect}
 use Rattle.rfb_picture.specs.Rect.{contains}
 
--- columns and rows of places, and the values at them, row after row from the top, each from the left
+-- columns and rows of places, and the values at them, row after row from the top, each from the
+-- left
 pub record Grid (X : Type 0) : Type 0 where
   pub width : ℕ
   pub height : ℕ

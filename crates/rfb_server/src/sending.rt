@@ -9,9 +9,10 @@ ghost use Rattle.rfb_codec.specs.Codec.{raw_of};
 ghost use Rattle.rfb_server.specs.inside.Sending.{AppendsIn, SendsRect};
 ghost use Rattle.rfb_server.specs.inside.Copying.{AppendsCopy};
 
-use rfb_codec::{Block, Codec, Hextile, Raw, Rre, append_within, spell_source};
+use rfb_codec::{Block, Codec, Hextile, Raw, Rre, spell_source};
 use rfb_picture::Rect;
 use rfb_pixel::Format;
+use rfb_wire::pieces::append_within;
 use rfb_wire::{Encoding, RectHead};
 
 /// How many bytes the head of a rectangle has, RFC 6143 section 7.6.1.

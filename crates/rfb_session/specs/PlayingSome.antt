@@ -9,7 +9,8 @@ use Rattle.rfb_session.specs.Watching.{ViewerRuns, WasFed, StandsBetween, ends_t
 use Rattle.rfb_session.specs.Playing.{Played, AllPlayed, PlayedUntil}
 
 -- it was fed these bytes, and the update that they end, if they do, was counted behind those before
-pub record WasCounted (old : Viewer) (bytes : List ℕ) (before told : ℕ) (new : Viewer) : Type 0 where
+pub record WasCounted (old : Viewer) (bytes : List ℕ) (before told : ℕ) (new : Viewer)
+    : Type 0 where
   pub event : Option ViewerTold
   pub fed : WasFed old bytes event new
   pub told_is : told ≡ min (before + ends_told event) (2 ^ 64 - 1)
@@ -42,8 +43,8 @@ pub record PlayedFirst (unread left : Option (List ℕ)) (old : Viewer) (enough 
   pub ends : WasFed mid ending (Some UpdateDone) new
   pub enough_is : enough ≡ updates + 1
 
--- why it stops: fewer updates ended, and then the bytes where they must not; a read failed, which was
--- counted; or the viewer ended
+-- why it stops: fewer updates ended, and then the bytes where they must not; a read failed, which
+-- was counted; or the viewer ended
 abbrev pub StopsPlayingSome : Option (List ℕ) → Option (List ℕ) → ℕ → ℕ → Viewer → ℕ → EngineFault →
     Viewer → Type 0
 StopsPlayingSome unread left failed_before failed old enough Truncated new =

@@ -9,9 +9,8 @@ ghost use Rattle.rfb_viewer.specs.Messages.{text_message};
 use crate::event::MAX_READY;
 use arrayvec::ArrayVec;
 use byteorder::{BigEndian, ByteOrder};
-use rfb_codec::append_within;
 use rfb_pixel::Format;
-use rfb_wire::pieces::append;
+use rfb_wire::pieces::{append, append_within};
 use rfb_wire::{ClientHead, Encoding};
 use std::alloc::AllocError;
 

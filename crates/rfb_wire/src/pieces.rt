@@ -1,9 +1,11 @@
 //! Bytes that are appended within room, and pieces that come in slices.
 
-ghost use Rattle.std.specs.Prelude.{◌≡◌, ◌≤◌, ◌<◌, ◌+◌, ◌++◌, length, take, IfSome, None};
+ghost use Rattle.std.specs.Prelude.{◌≡◌, ◌≤◌, ◌<◌, ◌+◌, ◌++◌, length, take, vec_len, IfSome, None};
+ghost use Rattle.std.specs.Vec.{vec_capacity};
 ghost use Rattle.arrayvec.specs.ArrayVec.{array_vec_len};
 
 use arrayvec::ArrayVec;
+use std::mem;
 
 /// Takes bytes of a piece of `SIZE` bytes, of which a part has come. Returns how many these were,
 /// and the piece, if it is whole now.
@@ -32,13 +34,31 @@ pub fn gather<const PART: usize, const SIZE: usize>(
     (missing, Some(whole))
 }
 
-/// Appends bytes for which there is room.
-pub fn append<const ROOM: usize>(kept: &mut ArrayVec<u8, ROOM>, bytes: &[u8])
-    requires { array_vec_len kept.old + length bytes.now ≤ ROOM }
-    ensures { kept.new.items ≡ kept.old.items ++ bytes.now }
+/// Appends items for which there is room.
+pub fn append<T: Copy, const ROOM: usize>(kept: &mut ArrayVec<T, ROOM>, items: &[T])
+    requires { array_vec_len kept.old + length items.now ≤ ROOM }
+    ensures items { kept.new.items ≡ kept.old.items ++ items.now }
+    ensures len { array_vec_len kept.new ≡ array_vec_len kept.old + length items.now }
 {
-    match kept.try_extend_from_slice(bytes) {
+    match kept.try_extend_from_slice(items) {
         Ok(()) => {}
         Err(_) => unreachable!(),
     }
+}
+
+/// Appends bytes for which there is room, so the vector keeps its memory. Each is a push into that
+/// room, since of a whole slice std says only that the room does not become less. The vector is
+/// taken out for it: behind a reference each byte would read and write its pointer and its length.
+pub fn append_within(out: &mut Vec<u8>, bytes: &[u8])
+    requires { vec_len out.old + length bytes.now ≤ vec_capacity out.old }
+    ensures items { out.new.items ≡ out.old.items ++ bytes.now }
+    ensures len { vec_len out.new ≡ vec_len out.old + length bytes.now }
+    ensures room { vec_capacity out.new ≡ vec_capacity out.old }
+{
+    let empty = Vec::new(*out.allocator());
+    let mut taken = mem::replace(out, empty);
+    for byte in bytes {
+        taken.push_reserved(*byte);
+    }
+    *out = taken;
 }

@@ -51,8 +51,8 @@ impl Ends {
         })
     }
 
-    /// Takes an event that is no delivery, and answers its refusal, if it was refused. At a delivery
-    /// nothing happens here.
+    /// Takes an event that is no delivery, and answers its refusal, if it was refused. At a
+    /// delivery nothing happens here.
     pub fn take(&mut self, event: &Event) -> Result<Option<Refused>, Fault>
         requires few { cut_by event.now ≤ 1048576 }
     {

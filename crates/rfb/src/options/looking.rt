@@ -129,7 +129,8 @@ fn host_in<'a>(given: &ArgMatches<'a>) -> &'a str
 
 // How many updates are viewed.
 fn updates_in(given: &ArgMatches<'_>) -> u32
-    ensures number { GivesNumber (codes "updates") 1 4294967295 (rows_of (found_of given.now)) result }
+    ensures number { GivesNumber (codes "updates") 1 4294967295 (rows_of (found_of given.now))
+        result }
     ensures some { 1 ≤ result }
 {
     match updates_given(given) {

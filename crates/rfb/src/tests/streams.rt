@@ -39,8 +39,8 @@ pub const MORE: &[u8] = b"\x00\x00\x00\x01\
 /// The picture behind both.
 pub const LATER_PICTURE: &[u8] = b"P6\n2 1\n255\n\x00\x00\x00\xFF\x80\x01";
 
-/// What a viewer of that sends: its version, None, a shared screen, rgb888, Raw alone, and a request
-/// for both places.
+/// What a viewer of that sends: its version, None, a shared screen, rgb888, Raw alone, and a
+/// request for both places.
 pub const REQUESTS: &[u8] = b"RFB 003.008\n\
     \x01\
     \x01\

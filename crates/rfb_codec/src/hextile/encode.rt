@@ -15,7 +15,6 @@ mod palette;
 mod pieces;
 mod spelling;
 
-use crate::append::append_within;
 use crate::block::Block;
 use crate::codec::Codec;
 use crate::hextile::tiles::{tile_count, tile_rect};
@@ -24,6 +23,7 @@ use choosing::{TileSubrects, choose};
 use cutting::{TilePixels, cut};
 use pieces::TileBytes;
 use rfb_pixel::Format;
+use rfb_wire::pieces::append_within;
 use spelling::{append, spelled_length};
 
 /// Hextile: tiles of 16 by 16, each of one pixel, of two or of more, or Raw where that is as short.

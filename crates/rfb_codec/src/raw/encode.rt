@@ -10,10 +10,10 @@ ghost use Rattle.rfb_codec.specs.Raw.{StandsRaw};
 ghost use Rattle.rfb_wire.specs.declared.encoding.Encoding.TheVariants.{Raw as RawEncoding};
 ghost use Rattle.rfb_codec.specs.Codec.{Appends, raw_of, shortens};
 
-use crate::append::append_within;
 use crate::block::Block;
 use crate::codec::Codec;
 use rfb_pixel::Format;
+use rfb_wire::pieces::append_within;
 
 // How many pixels are appended at once.
 const PIECE: usize = 64;

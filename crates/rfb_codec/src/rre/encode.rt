@@ -13,7 +13,6 @@ ghost use Rattle.rfb_wire.specs.declared.encoding.Encoding.TheVariants.{Rre as R
 ghost use Rattle.rfb_codec.specs.Codec.{Appends, raw_of};
 ghost use Rattle.rfb_codec.specs.inside.Encode.{subrect_bytes};
 
-use crate::append::append_within;
 use crate::block::Block;
 use crate::choice::background::background_of;
 use crate::choice::cover::cover;
@@ -23,6 +22,7 @@ use arrayvec::ArrayVec;
 use byteorder::{BigEndian, ByteOrder};
 use rfb_picture::Rect;
 use rfb_pixel::Format;
+use rfb_wire::pieces::append_within;
 
 // Blocks of up to so many places are encoded with a small list of subrectangles.
 const SMALL: usize = 256;

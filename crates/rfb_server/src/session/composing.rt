@@ -19,10 +19,10 @@ use crate::cells::cell_at;
 use crate::sending::{COPY_SIZE, RECT_HEAD_SIZE, append_rect};
 use crate::session::Session;
 use crate::session::progress::Progress;
-use rfb_codec::append_within;
 use rfb_picture::{Picture, Rect};
 use rfb_pixel::Colour;
 use rfb_wire::ServerHead;
+use rfb_wire::pieces::append_within;
 use std::alloc::AllocError;
 
 /// How many bytes the head of an update has, RFC 6143 section 7.6.1.

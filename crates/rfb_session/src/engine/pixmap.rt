@@ -13,6 +13,7 @@ use arrayvec::ArrayVec;
 use itoa::Buffer;
 use rfb_picture::Picture;
 use rfb_pixel::Colour;
+use rfb_wire::pieces::append;
 
 // How many bytes wait for a write, at most.
 const ROOM: usize = 8192;
@@ -51,24 +52,12 @@ fn header(width: u16, height: u16) -> ArrayVec<u8, ROOM>
 {
     let mut digits = Buffer::new();
     let mut text = ArrayVec::new();
-    append(b"P6\n", &mut text);
-    append(digits.format(width).as_bytes(), &mut text);
-    append(b" ", &mut text);
-    append(digits.format(height).as_bytes(), &mut text);
-    append(b"\n255\n", &mut text);
+    append(&mut text, b"P6\n");
+    append(&mut text, digits.format(width).as_bytes());
+    append(&mut text, b" ");
+    append(&mut text, digits.format(height).as_bytes());
+    append(&mut text, b"\n255\n");
     text
-}
-
-// Appends some bytes, for which there is room.
-fn append(bytes: &[u8], text: &mut ArrayVec<u8, ROOM>)
-    requires { array_vec_len text.old + length bytes.now ≤ 8192 }
-    ensures items { text.new.items ≡ text.old.items ++ bytes.now }
-    ensures len { array_vec_len text.new ≡ array_vec_len text.old + length bytes.now }
-{
-    match text.try_extend_from_slice(bytes) {
-        Ok(()) => {}
-        Err(_) => unreachable!(),
-    }
 }
 
 // The components of each colour, red first, wait behind the bytes that do. Where there is no room
@@ -90,11 +79,11 @@ fn gather<W: Sink>(
     while colours.len() - start >= PIECE {
         let end = start + PIECE;
         make_room(waiting, sink)?;
-        append(components_of(&colours[start..end]).as_slice(), waiting);
+        append(waiting, components_of(&colours[start..end]).as_slice());
         start = end;
     }
     make_room(waiting, sink)?;
-    append(components_of(&colours[start..]).as_slice(), waiting);
+    append(waiting, components_of(&colours[start..]).as_slice());
     Ok(())
 }
 

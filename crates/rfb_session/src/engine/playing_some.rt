@@ -13,8 +13,8 @@ use crate::engine::fault::EngineFault;
 use crate::engine::playing::count;
 use rfb_viewer::{Viewer, ViewerFault};
 
-/// `play` that stops once so many updates ended, at least one, and tells their number then: it feeds
-/// no byte behind the last of them. Where fewer end it is as `play`.
+/// `play` that stops once so many updates ended, at least one, and tells their number then: it
+/// feeds no byte behind the last of them. Where fewer end it is as `play`.
 pub fn play_some<R: Source>(
     source: &mut R,
     viewer: &mut Viewer,

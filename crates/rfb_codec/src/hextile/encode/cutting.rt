@@ -5,10 +5,10 @@ ghost use Rattle.arrayvec.specs.ArrayVec.{array_vec_len};
 ghost use Rattle.rfb_wire.specs.RectHead.{IsOnScreen};
 ghost use Rattle.rfb_codec.specs.inside.Encode.{HasPixelsOf};
 
-use crate::append::extend_within;
 use crate::block::Block;
 use arrayvec::ArrayVec;
 use rfb_picture::Rect;
+use rfb_wire::pieces::append;
 
 /// The most places of a tile.
 pub const TILE_PLACES: usize = 256;
@@ -27,6 +27,6 @@ pub fn cut(block: &Block, tile: Rect, pixels: &mut TilePixels)
     pixels.clear();
     for row in 0..usize::from(tile.h) {
         let start = (usize::from(tile.y) + row) * columns + usize::from(tile.x);
-        extend_within(pixels, &block.pixels()[start..start + usize::from(tile.w)]);
+        append(pixels, &block.pixels()[start..start + usize::from(tile.w)]);
     }
 }

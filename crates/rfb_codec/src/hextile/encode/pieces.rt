@@ -7,11 +7,11 @@ ghost use Rattle.rfb_pixel.specs.Format.{size_of, pixel_bytes};
 ghost use Rattle.rfb_codec.specs.inside.TileSpelling.{IsTilePart, AreTileParts, colour_bytes, count_bytes, place_bytes, colored_bytes};
 
 use super::choosing::TileSubrects;
-use crate::append::extend_within;
 use crate::raw::put_pixels;
 use crate::subrect::Subrect;
 use arrayvec::ArrayVec;
 use rfb_pixel::Format;
+use rfb_wire::pieces::append;
 
 /// More bytes than any tile has.
 pub const MAX_TILE_BYTES: usize = 2048;
@@ -38,7 +38,7 @@ pub fn append_pixels(format: &Format, pixels: &[u32], tile: &mut TileBytes)
     let mut bytes = [0; 1024];
     let size = pixels.len() * format.size();
     put_pixels(format, pixels, &mut bytes[..size]);
-    extend_within(tile, &bytes[..size]);
+    append(tile, &bytes[..size]);
 }
 
 // Appends a pixel.
@@ -50,7 +50,7 @@ fn append_pixel(format: &Format, pixel: u32, tile: &mut TileBytes)
     let mut bytes = [0; 4];
     let size = format.size();
     format.put(pixel, &mut bytes[..size]);
-    extend_within(tile, &bytes[..size]);
+    append(tile, &bytes[..size]);
 }
 
 /// Appends a colour, if it is named.

@@ -44,8 +44,8 @@ pub fn take_raw(
     ensures used { result.used ≤ length bytes.now }
     ensures sound { is_sound format rect result.stage (array_vec_len pending.new) ≡ true }
     ensures same { encoding_at result.stage ≡ encoding_at (InRawTile place.tile seen place.at) }
-    ensures goes_on { GoesOn format rect (InRawTile place.tile seen place.at) pending.old.items picture.old
-        (take result.used bytes.now) result.stage pending.new.items picture.new }
+    ensures goes_on { GoesOn format rect (InRawTile place.tile seen place.at) pending.old.items
+        picture.old (take result.used bytes.now) result.stage pending.new.items picture.new }
     ensures width { picture.new.width ≡ picture.old.width }
     ensures height { picture.new.height ≡ picture.old.height }
 {

@@ -1,5 +1,5 @@
-//! Where data are painted: copies, later subrectangles over earlier ones, and rectangles that are not
-//! at the picture's corner or have no place.
+//! Where data are painted: copies, later subrectangles over earlier ones, and rectangles that are
+//! not at the picture's corner or have no place.
 
 use super::*;
 

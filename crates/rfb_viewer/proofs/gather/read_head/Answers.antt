@@ -7,7 +7,7 @@ push-requires-in-More c =
     let few : length c.as_slice-2.result.now < 8 = misses_few _ _ c.in-More.ensures.more in
     let here = ap length c.as_slice-2.ensures.value in
     let pushed = ap length c.push.ensures.items in
-    let joined = ap length c.append.ensures in
+    let joined = ap length c.append.ensures.items in
     let part = ap length c.as_slice.ensures.value in
     let none = ap length c.new-whole.ensures in
     (lit< tt, omega (arith, few, here, c.push.ensures.len, joined, part, none, length-append c.new-whole.result.items c.as_slice.result.now))

@@ -322,7 +322,8 @@ fn pixels_of_one_hash_are_two(rt: HostRuntime) -> Result<(), Fail> {
     Ok(())
 }
 
-// Rows of sixteen places: five of one pixel, this third one, and ten of another of the first's hash.
+// Rows of sixteen places: five of one pixel, this third one, and ten of another of the first's
+// hash.
 fn of_one_hash(alloc: Global, third: u32) -> Result<Vec<u32>, Fail> {
     let mut pixels = Vec::new(alloc);
     for place in 0..256 {

@@ -1,4 +1,4 @@
-use Rattle.std.proofs.Common.{◌≡◌, ◌≤◌, ◌<◌, ◌*◌, ℕ, arith, length}
+use Rattle.std.proofs.Common.{arith}
 use Rattle.rfb_picture.proofs.SpanLemmas.{rows_clear_within, rows_clear_past}
 use Rattle.rfb_picture.proofs.plane.Plane.next_row_of_either.Goals as goal
 

@@ -1,4 +1,4 @@
-use Rattle.std.proofs.Common.{arith, ◌≡◌, ◌+◌, ◌*◌, ◌/◌, slice_index_or}
+use Rattle.std.proofs.Common.{◌≡◌, ◌+◌, ◌*◌, ◌/◌, slice_index_or}
 use Rattle.std.proofs.lemmas.List.{get_or_read, length-set}
 use Rattle.rfb_picture.proofs.PlaneLemmas.{place_word_below}
 use Rattle.rfb_picture.specs.inside.Cells.{one_cell}

@@ -14,7 +14,7 @@ append-requires-in-More c =
     let len : c.len-room.result ≡ length part = search rules in
     let k : c.min.result ≡ min (length bytes) (20 - length part) = c.min.ensures ∙ ap (λ (n : ℕ). min (length bytes) (20 - n)) len in
     let all : c.as_slice-2.result.now ≡ part ++ take c.min.result bytes =
-    c.as_slice-2.ensures.value ∙ c.append-2.ensures ∙ ap (λ (ys : List ℕ). ys ++ take c.min.result bytes) (c.append.ensures ∙ ap (λ (ys : List ℕ). ys ++ c.as_slice.result.now) c.new-head.ensures ∙ c.as_slice.ensures.value) in
+    c.as_slice-2.ensures.value ∙ c.append-2.ensures.items ∙ ap (λ (ys : List ℕ). ys ++ take c.min.result bytes) (c.append.ensures.items ∙ ap (λ (ys : List ℕ). ys ++ c.as_slice.result.now) c.new-head.ensures ∙ c.as_slice.ensures.value) in
     let more = gathered_more part bytes c.as_slice-2.result.now c.in-More.missing c.min.result few k all c.in-More.ensures.more in
     search (rules, more.0)
 
@@ -26,10 +26,10 @@ returns-in-More-clause-more c =
     let len : c.len-room.result ≡ length part = search rules in
     let k : c.min.result ≡ min (length bytes) (20 - length part) = c.min.ensures ∙ ap (λ (n : ℕ). min (length bytes) (20 - n)) len in
     let all : c.as_slice-2.result.now ≡ part ++ take c.min.result bytes =
-    c.as_slice-2.ensures.value ∙ c.append-2.ensures ∙ ap (λ (ys : List ℕ). ys ++ take c.min.result bytes) (c.append.ensures ∙ ap (λ (ys : List ℕ). ys ++ c.as_slice.result.now) c.new-head.ensures ∙ c.as_slice.ensures.value) in
+    c.as_slice-2.ensures.value ∙ c.append-2.ensures.items ∙ ap (λ (ys : List ℕ). ys ++ take c.min.result bytes) (c.append.ensures.items ∙ ap (λ (ys : List ℕ). ys ++ c.as_slice.result.now) c.new-head.ensures ∙ c.as_slice.ensures.value) in
     let more = gathered_more part bytes c.as_slice-2.result.now c.in-More.missing c.min.result few k all c.in-More.ensures.more in
     let longer : c.append-in-More.new.kept.items ≡ part ++ take (length bytes) bytes =
-    c.append-in-More.ensures ∙ ap (λ (ys : List ℕ). part ++ ys) (sym (take_all (length bytes) bytes (omega arith))) in
+    c.append-in-More.ensures.items ∙ ap (λ (ys : List ℕ). part ++ ys) (sym (take_all (length bytes) bytes (omega arith))) in
     (longer, subst (λ (zs : List ℕ). is_head_begun zs ≡ true) (more.1 ∙ sym longer) more.2)
 
 pub returns-in-Got-clause-got : goal.returns-in-Got-clause-got
@@ -39,7 +39,7 @@ returns-in-Got-clause-got c =
     let len : c.len.result ≡ length part = search rules in
     let within : c.min.result ≤ length bytes = omega (arith, c.min.ensures) in
     let all : c.as_slice-2.result.now ≡ part ++ take c.min.result bytes =
-    c.as_slice-2.ensures.value ∙ c.append-2.ensures ∙ ap (λ (ys : List ℕ). ys ++ take c.min.result bytes) (c.append.ensures ∙ ap (λ (ys : List ℕ). ys ++ c.as_slice.result.now) c.new-head.ensures ∙ c.as_slice.ensures.value) in
+    c.as_slice-2.ensures.value ∙ c.append-2.ensures.items ∙ ap (λ (ys : List ℕ). ys ++ take c.min.result bytes) (c.append.ensures.items ∙ ap (λ (ys : List ℕ). ys ++ c.as_slice.result.now) c.new-head.ensures ∙ c.as_slice.ensures.value) in
     let got = gathered_got part bytes c.as_slice-2.result.now c.min.result c.in-Got.size c.in-Got.whole c.requires.partial within all c.in-Got.ensures.got.0 c.in-Got.ensures.got.1 in
     (refl, rw len got.2)
 
@@ -48,6 +48,6 @@ returns-in-Bad-clause-bad c =
     let part = c.args.part.now.items in
     let bytes = c.args.bytes.now in
     let all : c.as_slice-2.result.now ≡ part ++ take c.min.result bytes =
-    c.as_slice-2.ensures.value ∙ c.append-2.ensures ∙ ap (λ (ys : List ℕ). ys ++ take c.min.result bytes) (c.append.ensures ∙ ap (λ (ys : List ℕ). ys ++ c.as_slice.result.now) c.new-head.ensures ∙ c.as_slice.ensures.value) in
+    c.as_slice-2.ensures.value ∙ c.append-2.ensures.items ∙ ap (λ (ys : List ℕ). ys ++ take c.min.result bytes) (c.append.ensures.items ∙ ap (λ (ys : List ℕ). ys ++ c.as_slice.result.now) c.new-head.ensures ∙ c.as_slice.ensures.value) in
     let bad = bad_type c.in-Bad.fault part bytes c.min.result c.requires.partial (subst (λ (zs : List ℕ). IsUnknown SpellsClientHead c.in-Bad.fault zs) all c.in-Bad.ensures.bad) in
     (refl, bad.0, bad.1, bad.2)

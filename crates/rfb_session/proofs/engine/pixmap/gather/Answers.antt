@@ -31,7 +31,7 @@ loop-start-preserved g c =
       gathered = gathered_piece (g.W.Sink.written c.args.sink.now) (g.W.Sink.written l.sink)
           (g.W.Sink.written c.make_room.new.sink) c.args.waiting.now.items l.waiting.items
           c.make_room.new.waiting.items c.components_of.result.items c.as_slice.result.now
-          c.append.new.text.items (take l.start c.args.colours.now) _ _ l.invariant.gathered
+          c.append.new.kept.items (take l.start c.args.colours.now) _ _ l.invariant.gathered
           c.in_ok-make_room.ensures.done c.components_of.ensures.items c.as_slice.ensures.value
           c.append.ensures.items (sixteen_more c.args.colours.now l.start);
       none_failed = c.in_ok-make_room.ensures.none_failed ∙ l.invariant.none_failed;
@@ -51,6 +51,6 @@ returns-clause-done g c =
     gathered_piece (g.W.Sink.written c.args.sink.now) (g.W.Sink.written l.sink)
     (g.W.Sink.written c.make_room-2.new.sink) c.args.waiting.now.items l.waiting.items
     c.make_room-2.new.waiting.items c.components_of-2.result.items c.as_slice-2.result.now
-    c.append-2.new.text.items (take l.start c.args.colours.now) _ _ l.invariant.gathered
+    c.append-2.new.kept.items (take l.start c.args.colours.now) _ _ l.invariant.gathered
     c.in_ok-make_room-2.ensures.done c.components_of-2.ensures.items c.as_slice-2.ensures.value
     c.append-2.ensures.items (rest_more c.args.colours.now l.start)

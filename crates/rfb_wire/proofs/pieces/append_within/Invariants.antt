@@ -1,6 +1,6 @@
 use Rattle.std.proofs.Common.{◌≡◌, ◌+◌, ◌++◌, take, vec_len}
 use Rattle.std.specs.Vec.{vec_capacity}
-use Rattle.rfb_codec.proofs.append.append_within.Given as goal
+use Rattle.rfb_wire.proofs.pieces.append_within.Given as goal
 
 abbrev pub invariant-loop-byte : goal.invariant-loop-byte
 invariant-loop-byte l = record {
