@@ -14,6 +14,7 @@ pub mod ComposesLemmas
 pub mod RoomLemmas
 pub mod SentLemmas
 pub mod SentCells
+pub mod DueLemmas
 pub mod UpdateLemmas
 pub mod UpdatingLemmas
 pub mod FeedingLemmas

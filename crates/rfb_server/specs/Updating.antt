@@ -25,6 +25,11 @@ pub record Updates (old new : Server) (before after : List ℕ) : Type 0 where
   pub sent : (serving : Serving) (s : ServerState) (prefix : List ℕ) →
       StandsFor serving old s prefix → HasSent serving s prefix new before after
 
+-- an update was due, of whatever the server stood for
+abbrev pub WasDue : Server → Type 0
+WasDue old = (serving : Serving) (s : ServerState) (prefix : List ℕ) →
+    StandsFor serving old s prefix → IsDue s
+
 -- no update was due, and nothing has changed
 pub record StaysUnsent (old new : Server) (before after : List ℕ) : Type 0 where
   pub appended : after ≡ before

@@ -40,7 +40,7 @@ impl Server {
     ghost use Rattle.rfb_hello.specs.Version.{version_text};
     ghost use Rattle.rfb_server.specs.Standing.{StandsFor, serving_with, serving_of, fault_of};
     ghost use Rattle.rfb_server.specs.Standing.{screen_of, row_from, HoldsBoth, Draws, Keeps};
-    ghost use Rattle.rfb_server.specs.Updating.{Updates, StaysUnsent};
+    ghost use Rattle.rfb_server.specs.Updating.{Updates, WasDue, StaysUnsent};
     ghost use Rattle.rfb_server.specs.Record.{ShowsKnown, TellsKnown};
     ghost use Rattle.rfb_server.specs.Hints.{hints_of, with_hint};
 
@@ -167,7 +167,8 @@ impl Server {
     /// has not failed, and such a place is there. Behind an update nothing is asked any more. `out`
     /// stays the caller's; what was in it stays in front. Room is asked for once, before anything
     /// changes: at most 260 bytes, and 12 and its pixels' bytes for each cell of 64 by 64 places
-    /// that holds an asked place. Where there is none it gives the error, and nothing changes.
+    /// that holds an asked place. Where there is none it gives the error, if an update is due, and
+    /// nothing changes.
     pub fn compose(&mut self, out: &mut Vec<u8>) -> Result<bool, AllocError>
         ensures appended { (bytes : List ℕ) × (out.new.items ≡ out.old.items ++ bytes) }
         ensures composed { IfOk result (λ did. did ≡ true →
@@ -175,6 +176,7 @@ impl Server {
         ensures idle { IfOk result (λ did. did ≡ false →
             StaysUnsent self.old self.new out.old.items out.new.items) }
         ensures kept { OnErr result (out.new.items ≡ out.old.items) }
+        ensures due { OnErr result (WasDue self.old) }
         ensures same { OnErr result (Keeps self.old self.new) }
         ensures failed { fault_of self.old ≢ None → result ≡ Ok false }
         ensures spent { IfOk result (λ did. did ≡ true → hints_of self.new ≡ []) }

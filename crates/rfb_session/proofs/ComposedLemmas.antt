@@ -8,7 +8,7 @@ use Rattle.rfb_server.specs.declared.server.Server.{Server}
 use Rattle.rfb_server.specs.Server.{Serving, ServerState}
 use Rattle.rfb_server.specs.Standing.{StandsFor as ServerStandsFor, screen_of}
 use Rattle.rfb_server.specs.Composing.{Composes}
-use Rattle.rfb_server.specs.Updating.{HasSent, Updates, StaysUnsent}
+use Rattle.rfb_server.specs.Updating.{HasSent, Updates, WasDue, StaysUnsent}
 use Rattle.rfb_viewer.specs.declared.viewer.Viewer.{Viewer}
 use Rattle.rfb_viewer.specs.Standing.{StandsFor as ViewerStandsFor}
 use Rattle.rfb_session.specs.declared.event.Event.TheVariants.{Compose}
@@ -17,9 +17,15 @@ use Rattle.rfb_session.specs.declared.world.World.{World}
 use Rattle.rfb_session.specs.Latest.{composing_in}
 use Rattle.rfb_session.specs.Link.{Link, server_of, session_of}
 use Rattle.rfb_session.specs.LinkSteps.{ComposesOn, update_items}
-use Rattle.rfb_session.specs.World.{Does}
+use Rattle.rfb_session.specs.World.{Does, ComposesNothing}
 use Rattle.rfb_session.proofs.NetworkLemmas.{reached_holds}
 use Rattle.rfb_session.proofs.SentLemmas.{composed_flies}
+
+-- where a composing composes nothing no update was due
+pub idle_not_due : (world : World) → WasDue world.server → ComposesNothing world Compose → ⊥
+idle_not_due world due (e, n, stands, none) =
+    let c = stands.carries in
+    none (due e.serving (server_of n.screen n.link.session) c.server_has c.server_is)
 
 -- these places are asked of a server, whatever it stands for
 abbrev pub AsksFor : Server → Places → Type 0

@@ -7,6 +7,7 @@ use Rattle.rfb_server.specs.declared.fault.ServerFault.{ServerFault}
 use Rattle.rfb_server.specs.declared.fault.ServerFault.TheVariants.{NoMemory as ServerWants}
 use Rattle.rfb_server.specs.declared.server.Server.{Server}
 use Rattle.rfb_server.specs.Server.{first_server}
+use Rattle.rfb_server.specs.Composing.{IsDue}
 use Rattle.rfb_server.specs.Standing.{StandsFor as ServerStandsFor, with_screen, screen_of}
 use Rattle.rfb_server.specs.Standing.{fault_of as fault_of_server}
 use Rattle.rfb_viewer.specs.declared.fault.ViewerFault.{ViewerFault}
@@ -17,12 +18,12 @@ use Rattle.rfb_viewer.specs.Standing.{StandsFor as ViewerStandsFor, picture_of}
 use Rattle.rfb_viewer.specs.Standing.{fault_of as fault_of_viewer}
 use Rattle.rfb_session.specs.declared.event.Event.{Event}
 use Rattle.rfb_session.specs.declared.event.Event.TheVariants.{Fill, Put, Copy, Hint, CutText}
-use Rattle.rfb_session.specs.declared.event.Event.TheVariants.{ToServer, ToViewer}
+use Rattle.rfb_session.specs.declared.event.Event.TheVariants.{Compose, ToServer, ToViewer}
 use Rattle.rfb_session.specs.declared.told.Refused.{Refused}
 use Rattle.rfb_session.specs.declared.told.Told.{Told}
 use Rattle.rfb_session.specs.declared.world.World.{World}
 use Rattle.rfb_session.specs.Latest.{composing_in}
-use Rattle.rfb_session.specs.Link.{Ends, first_link}
+use Rattle.rfb_session.specs.Link.{Ends, server_of, first_link}
 use Rattle.rfb_session.specs.InFlight.{AreMade}
 use Rattle.rfb_session.specs.Carrying.{Carries}
 use Rattle.rfb_session.specs.Network.{Network, Steps, StepsAll, IsReached}
@@ -128,6 +129,13 @@ IsLost world (ToServer count) =
 IsLost world (ToViewer count) =
     (fault : ViewerFault) × (viewer_fault world ≡ Some fault) × (fault ≢ ViewerWants)
 IsLost world event = ⊥
+
+-- a composing where no update is due, in a network that the world stands for
+abbrev pub ComposesNothing : World → Event → Type 0
+ComposesNothing world Compose =
+    (e : Ends) × (n : Network) × StandsFor e world n
+    × (IsDue (server_of n.screen n.link.session) → ⊥)
+ComposesNothing world event = ⊥
 
 -- ---- runs
 

@@ -35,7 +35,7 @@ impl Channel {
     ghost use Rattle.rfb_viewer.specs.Standing.{StandsFor};
     ghost use Rattle.rfb_viewer.specs.Messages.{text_message};
     ghost use Rattle.rfb_viewer.specs.Calls.{call_refusal, text_refusal_of};
-    ghost use Rattle.rfb_server.specs.Updating.{Updates, StaysUnsent};
+    ghost use Rattle.rfb_server.specs.Updating.{Updates, WasDue, StaysUnsent};
 
     /// A channel with nothing in flight. It takes no memory.
     pub(crate) fn new(alloc: Global) -> Channel
@@ -91,6 +91,7 @@ impl Channel {
             Updates server.old server.new self.old self.new) }
         ensures idle { IfOk result (λ did. did ≡ false →
             StaysUnsent server.old server.new self.old self.new) }
+        ensures due { OnErr result (WasDue server.old) }
         ensures screen { screen_of server.new ≡ screen_of server.old }
     {
         self.make_room();

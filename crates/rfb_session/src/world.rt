@@ -45,7 +45,7 @@ impl World {
     ghost use Rattle.rfb_session.specs.World.{is_closed, shown_by};
     ghost use Rattle.rfb_session.specs.Network.{Network};
     ghost use Rattle.rfb_session.specs.World.{Does, LosesAs, HasFewBytes, IsDrawing};
-    ghost use Rattle.rfb_session.specs.World.{IsRefused, IsLost};
+    ghost use Rattle.rfb_session.specs.World.{IsRefused, IsLost, ComposesNothing};
     ghost use Rattle.rfb_session.specs.World.{Reaches, NeitherFailed};
     ghost use Rattle.rfb_session.specs.Headline.{IsHeadline, ShowsKnown, ShowsLatest, due_picture};
 
@@ -81,10 +81,12 @@ impl World {
         ensures kept { IfOk result (λ told. told.refused ≢ None → self.new ≡ self.old) }
         ensures lost { IfOk result (λ told. LosesAs self.old event.now told self.new) }
 
-        // A drawing, a hint, what is refused and bytes that are lost take no memory.
+        // A drawing, a hint, what is refused, bytes that are lost and a composing where no update
+        // is due take no memory.
         ensures free { IsDrawing event.now → is_closed self.old ≡ false → IsOk result }
         ensures spared { IsRefused self.old event.now → IsOk result }
         ensures dropped { IsLost self.old event.now → is_closed self.old ≡ false → IsOk result }
+        ensures idle { ComposesNothing self.old event.now → IsOk result }
         // Want of memory closes it for good.
         ensures closes { OnErr result (is_closed self.new ≡ true) }
         ensures closed { is_closed self.old ≡ true → IsErr result × (self.new ≡ self.old) }
@@ -149,6 +151,7 @@ impl World {
         ensures free { IsDrawing event.now → IsOk result }
         ensures spared { IsRefused self.old event.now → IsOk result }
         ensures dropped { IsLost self.old event.now → IsOk result }
+        ensures idle { ComposesNothing self.old event.now → IsOk result }
     {
         match event {
             Event::Fill(rect, colour) => Ok(self.fill(*rect, *colour)),

@@ -20,6 +20,11 @@ is_ready (Encodings left number list) = true
 is_ready (CutText text_length left kept) = true
 is_ready (Failed fault) = false
 
+-- an update is due
+pub record IsAwaited (screen : Grid Colour) (session : Session) : Type 0 where
+  pub ready : is_ready session.progress ≡ true
+  pub due : IsDue (state_of screen session)
+
 -- an update was due and was appended, and no hint is kept; the rest of the session is as it was
 pub record HasComposed (screen : Grid Colour) (old new : Session)
     (before after : List ℕ) : Type 0 where

@@ -12,7 +12,7 @@ ghost use Rattle.rfb_server.specs.inside.Sends.{IsKept, AppendsPixels, SendsCell
 ghost use Rattle.rfb_server.specs.inside.Sends.{IsCostIn, IsEnough, HasNext};
 ghost use Rattle.rfb_server.specs.inside.Sessions.{IsSame};
 ghost use Rattle.rfb_server.specs.inside.Copying.{usable_hints};
-ghost use Rattle.rfb_server.specs.inside.Composed.{is_ready, HasComposed, StaysIdle};
+ghost use Rattle.rfb_server.specs.inside.Composed.{is_ready, IsAwaited, HasComposed, StaysIdle};
 ghost use Rattle.rfb_server.specs.inside.Composed.{IsSettled, IsCounted};
 
 use crate::cells::cell_at;
@@ -31,8 +31,9 @@ const UPDATE_HEAD_SIZE: usize = 4;
 impl Session {
     /// Appends to `out` one update of what the viewer asked for and does not have, if there is such
     /// a place, and tells whether it did. The screen is lent; `out` stays the caller's. It asks for
-    /// room once, before anything changes: where there is none it gives the error, and nothing
-    /// changes. Before the handshake is done, and once the session has failed, there is no update.
+    /// room once, before anything changes: where an update is due and there is no room it gives
+    /// the error, and nothing changes. Before the handshake is done, and once the session has
+    /// failed, there is no update.
     pub(crate) fn compose(
         &mut self,
         screen: &Picture<Colour>,
@@ -45,6 +46,7 @@ impl Session {
         ensures idle { IfOk result (λ did. did ≡ false →
             StaysIdle screen.now self.old self.new out.old.items out.new.items) }
         ensures kept { OnErr result (out.new.items ≡ out.old.items) }
+        ensures due { OnErr result (IsAwaited screen.now self.old) }
         ensures same { OnErr result (IsSame self.old self.new) }
         ensures hints { OnErr result (self.new.hints ≡ self.old.hints) }
         ensures unready { is_ready self.old.progress ≡ false → result ≡ Ok false }
@@ -57,8 +59,12 @@ impl Session {
         if room == 0 {
             return Ok(false);
         }
-        out.reserve(UPDATE_HEAD_SIZE + COPY_SIZE * self.usable_hints() + room)?;
-        Ok(self.update(screen, out))
+        match out.reserve(UPDATE_HEAD_SIZE + COPY_SIZE * self.usable_hints() + room) {
+            Ok(()) => Ok(self.update(screen, out)),
+            Err(error) if self.is_due(screen) => Err(error),
+            // The cells' marks alone said that there may be one.
+            Err(_) => Ok(false),
+        }
     }
 
     // Whether the handshake is done, and the session has not failed.
@@ -124,8 +130,8 @@ impl Session {
         room
     }
 
-    // The number of the first cell from number `from` on that may have marked and asked places.
-    fn next_cell(&self, from: usize) -> Option<usize>
+    /// The number of the first cell from number `from` on that may have marked and asked places.
+    pub(super) fn next_cell(&self, from: usize) -> Option<usize>
         ensures { HasNext self.now from result }
     {
         self.marks.next_open_of_both(self.area.asked(), from)

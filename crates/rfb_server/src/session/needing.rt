@@ -1,15 +1,40 @@
 //! Where a screen needs sending.
 
 ghost use Rattle.std.specs.Prelude.{◌≡◌, ◌+◌, ◌<◌, ◌≤◌, true};
+ghost use Rattle.std.specs.Bool.{OnTrue, OnFalse};
 ghost use Rattle.rfb_picture.specs.Grid.{Holds};
 ghost use Rattle.rfb_server.specs.inside.Needing.{IsAbout, IsFirst, IsEnd, HasBox};
 ghost use Rattle.rfb_server.specs.inside.Needing.{needs_of, rows_above};
+ghost use Rattle.rfb_server.specs.Composing.{IsDue};
+ghost use Rattle.rfb_server.specs.inside.Sends.{state_of};
 
+use crate::cells::cell_at;
 use crate::session::Session;
 use rfb_picture::{Picture, Rect};
 use rfb_pixel::Colour;
 
 impl Session {
+    /// Whether a place needs sending. It takes a look at each cell.
+    pub(super) fn is_due(&self, screen: &Picture<Colour>) -> bool
+        requires about { IsAbout screen.now self.now }
+        ensures due { OnTrue result (IsDue (state_of screen.now self.now)) }
+        ensures none { OnFalse result (IsDue (state_of screen.now self.now) → ⊥) }
+    {
+        let width = self.known.width();
+        let height = self.known.height();
+        let mut next = 0;
+        while let Some(index) = self.next_cell(next) {
+            if self
+                .needed_in(screen, cell_at(width, height, index))
+                .is_some()
+            {
+                return true;
+            }
+            next = index + 1;
+        }
+        false
+    }
+
     /// The least rectangle that holds the places of the cell that need sending; `None` where it has
     /// none. It costs by the places that are marked.
     pub(crate) fn needed_in(&self, screen: &Picture<Colour>, cell: Rect) -> Option<Rect>

@@ -7,13 +7,14 @@ use crate::told::{NoMemory, Told};
 use crate::world::World;
 
 impl World {
-    ghost use Rattle.rfb_session.specs.World.{Does, LosesAs, IsLost};
+    ghost use Rattle.rfb_session.specs.World.{Does, LosesAs, IsLost, ComposesNothing};
 
     // The server composes an update, if one is due, and it is in flight then. What it was composed
     // of is noted.
     pub(super) fn compose(&mut self) -> Result<Told, NoMemory>
         ensures does { IfOk result (λ told. Does self.old Compose told self.new) }
         ensures taken { IfOk result (λ told. told.refused ≡ None) }
+        ensures idle { ComposesNothing self.old Compose → IsOk result }
     {
         self.latest.begin(self.server.asked());
         let composed = self.to_viewer.send_update(&mut self.server)?;

@@ -4,7 +4,7 @@ use Rattle.rfb_picture.specs.Grid.{Grid}
 use Rattle.rfb_server.specs.Standing.{screen_of}
 use Rattle.rfb_session.specs.Latest.{noted}
 use Rattle.rfb_session.proofs.DrawnLemmas.{room_of}
-use Rattle.rfb_session.proofs.ComposedLemmas.{composed_does, idle_does, asks_noted}
+use Rattle.rfb_session.proofs.ComposedLemmas.{idle_not_due, composed_does, idle_does, asks_noted}
 use Rattle.rfb_session.proofs.world.World.compose.Goals as goal
 
 pub invariant_of-self : goal.invariant_of-self
@@ -39,3 +39,7 @@ returns-clause-does c =
     (c.note.ensures.noted
     ∙ ap (λ (g : Grid Colour). noted g c.begin.new.self.asked (Some c.format.result))
     c.screen.ensures) refl refl refl refl refl refl
+
+pub returns-in_err-composed-clause-idle : goal.returns-in_err-composed-clause-idle
+returns-in_err-composed-clause-idle c = λ idle.
+    absurd (idle_not_due c.args.self.now c.in_err-composed.ensures.due idle)

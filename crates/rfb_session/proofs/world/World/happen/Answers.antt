@@ -2,7 +2,7 @@ use Rattle.std.proofs.Common.{Result, Ok, Err, IfOk, sym, subst}
 use Rattle.rfb_session.specs.declared.event.Event.{Event}
 use Rattle.rfb_session.specs.declared.told.NoMemory.{NoMemory}
 use Rattle.rfb_session.specs.declared.told.Told.{Told}
-use Rattle.rfb_session.specs.World.{Does, LosesAs, IsDrawing, IsRefused, IsLost}
+use Rattle.rfb_session.specs.World.{Does, LosesAs, IsDrawing, IsRefused, IsLost, ComposesNothing}
 use Rattle.rfb_session.proofs.CalledLemmas.{no_refusal}
 use Rattle.rfb_session.proofs.world.World.happen.Goals as goal
 
@@ -257,3 +257,39 @@ returns-in-ToServer-clause-dropped c = λ lost. c.move_to_server.ensures.dropped
 pub returns-in-ToViewer-clause-dropped : goal.returns-in-ToViewer-clause-dropped
 returns-in-ToViewer-clause-dropped c = λ lost. c.move_to_viewer.ensures.dropped
     (subst (λ (event : Event). IsLost c.args.self.now event) c.in-ToViewer.is lost)
+
+pub returns-in-Request-clause-idle : goal.returns-in-Request-clause-idle
+returns-in-Request-clause-idle c = λ none.
+    absurd (subst (λ (event : Event). ComposesNothing c.args.self.now event) c.in-Request.is none)
+
+pub returns-in-SetFormat-clause-idle : goal.returns-in-SetFormat-clause-idle
+returns-in-SetFormat-clause-idle c = λ none.
+    absurd (subst (λ (event : Event). ComposesNothing c.args.self.now event) c.in-SetFormat.is none)
+
+pub returns-in-SetEncodings-clause-idle : goal.returns-in-SetEncodings-clause-idle
+returns-in-SetEncodings-clause-idle c = λ none.
+    absurd (subst (λ (event : Event). ComposesNothing c.args.self.now event) c.in-SetEncodings.is none)
+
+pub returns-in-Key-clause-idle : goal.returns-in-Key-clause-idle
+returns-in-Key-clause-idle c = λ none.
+    absurd (subst (λ (event : Event). ComposesNothing c.args.self.now event) c.in-Key.is none)
+
+pub returns-in-Pointer-clause-idle : goal.returns-in-Pointer-clause-idle
+returns-in-Pointer-clause-idle c = λ none.
+    absurd (subst (λ (event : Event). ComposesNothing c.args.self.now event) c.in-Pointer.is none)
+
+pub returns-in-CutText-clause-idle : goal.returns-in-CutText-clause-idle
+returns-in-CutText-clause-idle c = λ none.
+    absurd (subst (λ (event : Event). ComposesNothing c.args.self.now event) c.in-CutText.is none)
+
+pub returns-in-ToServer-clause-idle : goal.returns-in-ToServer-clause-idle
+returns-in-ToServer-clause-idle c = λ none.
+    absurd (subst (λ (event : Event). ComposesNothing c.args.self.now event) c.in-ToServer.is none)
+
+pub returns-in-ToViewer-clause-idle : goal.returns-in-ToViewer-clause-idle
+returns-in-ToViewer-clause-idle c = λ none.
+    absurd (subst (λ (event : Event). ComposesNothing c.args.self.now event) c.in-ToViewer.is none)
+
+pub returns-in-Compose-clause-idle : goal.returns-in-Compose-clause-idle
+returns-in-Compose-clause-idle c = λ none. c.compose.ensures.idle
+    (subst (λ (event : Event). ComposesNothing c.args.self.now event) c.in-Compose.is none)
