@@ -39,30 +39,33 @@ module _ (s : ServerState) (moves : List Move) (copies parts : List Part) (known
       Copies s moves copies known front →
       Sends (div_ceil s.screen.width 64) (div_ceil s.screen.width 64 * div_ceil s.screen.height 64) (record s { known = known }) now parts bytes →
       SpellsUpdate (length (copies ++ parts)) head →
-      Composes s (record s { known = now; area = nothing s.area }) (head ++ (front ++ bytes)) copies parts
-  composes area wide high taken sends head_is = record {
-    is_update = update_read (between s) (map sent_as (copies ++ parts)) (head ++ (front ++ bytes)) refl
-        (record { head = head; list = front ++ bytes; whole = refl; head_is = rw (length-map sent_as (copies ++ parts)) head_is; sent_are = spelled_both copies parts front bytes taken.spelled sends.spelled });
-    data_are = data_both copies parts taken.data_are (data_same parts sends.data_are);
-    agrees = λ picture whole alike before.
-        subst (λ (g : Grid Colour). Agrees s.form (effects (between s) (map item_of (map sent_as (copies ++ parts))) g) now)
-        (sym (effect_message (between s) (FramebufferUpdate (length (map sent_as (copies ++ parts)))) picture))
-        (agrees_both picture whole alike before);
-    answered = λ x y p a. sends.answered x y p (all_cells s.screen.width s.screen.height x y p.0 p.1) a;
-    others = λ x y p a. by_others x y p a (is_in_some copies x y) refl (sends.others x y p);
-    renewed = λ x y p w. (sends.renewed x y p (all_cells s.screen.width s.screen.height x y p.0 p.1) w, not_copied x y p w (is_in_some copies x y) refl);
-    emptied = refl;
-    same_point = refl;
-    same_screen = refl;
-    same_size = record { columns = sym (taken.alike.columns ∙ sends.alike.columns); rows = sym (taken.alike.rows ∙ sends.alike.rows) };
-    same_format = refl;
-    same_encodings = refl;
-    moves = moves;
-    copies_are = taken.copies_are;
-    copies_listed = taken.copies_listed;
-    gains = taken.gains;
-    blocks_are = rw (taken.moved_is) sends.blocks_are;
-  }
+      (c : Composes s (record s { known = now; area = nothing s.area }) (head ++ (front ++ bytes)) copies parts) × (c.moves ≡ moves)
+  composes area wide high taken sends head_is = (
+    record {
+      is_update = update_read (between s) (map sent_as (copies ++ parts)) (head ++ (front ++ bytes)) refl
+          (record { head = head; list = front ++ bytes; whole = refl; head_is = rw (length-map sent_as (copies ++ parts)) head_is; sent_are = spelled_both copies parts front bytes taken.spelled sends.spelled });
+      data_are = data_both copies parts taken.data_are (data_same parts sends.data_are);
+      agrees = λ picture whole alike before.
+          subst (λ (g : Grid Colour). Agrees s.form (effects (between s) (map item_of (map sent_as (copies ++ parts))) g) now)
+          (sym (effect_message (between s) (FramebufferUpdate (length (map sent_as (copies ++ parts)))) picture))
+          (agrees_both picture whole alike before);
+      answered = λ x y p a. sends.answered x y p (all_cells s.screen.width s.screen.height x y p.0 p.1) a;
+      others = λ x y p a. by_others x y p a (is_in_some copies x y) refl (sends.others x y p);
+      renewed = λ x y p w. (sends.renewed x y p (all_cells s.screen.width s.screen.height x y p.0 p.1) w, not_copied x y p w (is_in_some copies x y) refl);
+      emptied = refl;
+      same_point = refl;
+      same_screen = refl;
+      same_size = record { columns = sym (taken.alike.columns ∙ sends.alike.columns); rows = sym (taken.alike.rows ∙ sends.alike.rows) };
+      same_format = refl;
+      same_encodings = refl;
+      moves = moves;
+      copies_are = taken.copies_are;
+      copies_listed = taken.copies_listed;
+      gains = taken.gains;
+      blocks_are = rw (taken.moved_is) sends.blocks_are;
+    },
+    refl,
+  )
     where
       data_same : (parts : List Part) → HaveTheirData (record s { known = known }) parts → HaveTheirData s parts
       data_same [] all = tt

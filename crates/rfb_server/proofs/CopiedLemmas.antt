@@ -1,13 +1,14 @@
 -- A copy more, for the session that tells its viewer of it.
-use Rattle.std.proofs.Common.{◌≡◌, ℕ, ◌+◌, ◌-◌, ◌<◌, Bool, true, false, List, [], ◌∷◌, ◌++◌, length, Option, Some, None, if◌then◌else◌, refl, sym, subst, ◌∙◌, arith, append_assoc, append-nil, length-append}
+use Rattle.std.proofs.Common.{◌≡◌, ℕ, ◌+◌, ◌-◌, ◌<◌, Bool, true, false, List, [], ◌∷◌, ◌++◌, length, Option, Some, None, if◌then◌else◌, refl, sym, ap, subst, ◌∙◌, arith, append_assoc, append-nil, length-append, slice_get, inl, inr}
 use Rattle.std.proofs.lemmas.Bool.{both_ways}
+use Rattle.std.proofs.lemmas.Option.{slice_get_cases}
 use mir.Val.{bool_byte}
 use Rattle.rfb_pixel.specs.declared.colour.Colour.{Colour}
 use Rattle.rfb_picture.specs.declared.rect.Rect.{Rect}
 use Rattle.rfb_picture.specs.Rect.{contains}
 use Rattle.rfb_picture.specs.Grid.{Grid, at_or, copied}
 use Rattle.rfb_picture.specs.Box.{is_in}
-use Rattle.rfb_picture.proofs.GridLemmas.{at-changed, width-changed, height-changed, whole-changed}
+use Rattle.rfb_picture.proofs.GridLemmas.{contains_true, at-filled, at-changed, width-changed, height-changed, whole-changed}
 use Rattle.rfb_wire.specs.declared.encoding.Encoding.TheVariants.{CopyRect}
 use Rattle.rfb_codec.specs.RectData.{Source}
 use Rattle.rfb_server.specs.declared.session.Session.{Session}
@@ -17,9 +18,12 @@ use Rattle.rfb_server.specs.Request.{wanted_at, is_asked, is_whole}
 use Rattle.rfb_server.specs.inside.Marks.{AreAlike}
 use Rattle.rfb_server.specs.inside.Needing.{IsAbout}
 use Rattle.rfb_server.specs.inside.Sessions.{IsSame, IsMarked}
-use Rattle.rfb_server.specs.Composing.{Part, IsGain}
+use Rattle.rfb_server.specs.Composing.{Part, IsGain, all_moved}
 use Rattle.rfb_server.specs.inside.Sends.{IsKept, state_of}
-use Rattle.rfb_server.specs.inside.Copying.{IsFree, SendsHint, AppendsCopies, move_of, usable_hints}
+use Rattle.rfb_server.specs.declared.hint.Hint.{Hint}
+use Rattle.rfb_server.specs.Using.{move_of, IsOfUse}
+use Rattle.rfb_server.specs.inside.Copying.{IsFree, IsUseful, SendsHint, KeepsMarks, IsMarkedFor, AppendsCopies, usable_hints}
+use Rattle.rfb_server.proofs.UsingLemmas.{used_next, left_next}
 use Rattle.rfb_server.proofs.MarksLemmas.{caught_drawn}
 use Rattle.rfb_server.proofs.CopyingLemmas.{copies_start, copies_more}
 
@@ -48,6 +52,34 @@ about_marked screen old new rect about marked = record {
       (caught_drawn screen screen old.known old.area old.format old.marks new.marks rect old.alike about.alike
       (record { columns = refl; rows = refl; same = λ x y p q e. refl }) marked.marks about.caught_up);
 }
+
+either : (here was : Bool) → was ≡ true → (if here then true else was) ≡ true
+either true was e = refl
+either false was e = e
+
+-- what was marked still is
+pub keeps_marked : (old new : Session) (rect : Rect) → IsMarked rect old new → KeepsMarks old new
+keeps_marked old new rect marked = λ x y p q e.
+    ap (λ (g : Grid Bool). is_in g x y) marked.marks
+    ∙ (at-filled rect true old.marks x y false old.alike.marks_whole p q ∙ either (contains rect x y) (is_in old.marks x y) e)
+
+-- where a hint copies to is marked then
+pub marked_for : (screen : Grid Colour) (old new : Session) (hint : Hint) → IsAbout screen old → IsMarked hint.to old new → IsMarkedFor screen new hint
+marked_for screen old new hint about marked = λ on x y c.
+    let (a, b, d, e) = contains_true hint.to x y c in
+    let wide : x < old.marks.width = omega (arith, b, on.0, about.alike.columns, old.alike.marks_wide) in
+    let high : y < old.marks.height = omega (arith, e, on.1, about.alike.rows, old.alike.marks_high) in
+    ap (λ (g : Grid Bool). is_in g x y) marked.marks
+    ∙ (at-filled hint.to true old.marks x y false old.alike.marks_whole wide high ∙ (rw c refl))
+
+-- and stays so
+pub marked_on : (screen : Grid Colour) (old new : Session) (hint : Hint) → IsAbout screen old → KeepsMarks old new → IsMarkedFor screen old hint →
+    IsMarkedFor screen new hint
+marked_on screen old new hint about keeps marked = λ on x y c.
+    let (a, b, d, e) = contains_true hint.to x y c in
+    let wide : x < old.marks.width = omega (arith, b, on.0, about.alike.columns, old.alike.marks_wide) in
+    let high : y < old.marks.height = omega (arith, e, on.1, about.alike.rows, old.alike.marks_high) in
+    keeps x y wide high (marked on x y c)
 
 -- what it is told of itself is the same
 pub state_same : (screen : Grid Colour) (old new : Session) → IsSame old new → state_of screen new ≡ state_of screen old
@@ -102,12 +134,24 @@ listed_usable session n l = by (is_listed CopyRect session.encodings) l
     by true less = refl
     by false less = absurd (omega arith)
 
+-- which are as many as that, so each has its number
+pub some_hint : (session : Session) (n : ℕ) → n < usable_hints session → (hint : Hint) × (slice_get session.hints.items n ≡ Some hint)
+some_hint session n l = by (is_listed CopyRect session.encodings) l
+  where
+    by : (listed : Bool) → n < (if listed then length session.hints.items else 0) → (hint : Hint) × (slice_get session.hints.items n ≡ Some hint)
+    by true less =
+        elim ((slice_get_cases session.hints.items n).1) [
+          | inl (hint, within, this, got) ↦ (hint, this)
+          | inr (past, none) ↦ absurd (omega (arith, less, past))
+        ]
+    by false less = absurd (omega arith)
+
 -- the state behind copies
 pub state_copied : (screen : Grid Colour) (first old : Session) → IsKept first old →
     state_of screen old ≡ record (state_of screen first) { known = old.known }
 state_copied screen first old kept = rw (kept.area, kept.format, kept.encodings) refl
 
-pub copies_begin : (screen : Grid Colour) (session : Session) (bytes : List ℕ) → AppendsCopies screen session session bytes bytes 0
+pub copies_begin : (screen : Grid Colour) (session : Session) (bytes : List ℕ) → AppendsCopies screen 0 session session bytes bytes 0
 copies_begin screen session bytes = record {
   moves = [];
   copies = [];
@@ -115,22 +159,43 @@ copies_begin screen session bytes = record {
   appended = sym (append-nil bytes);
   count_is = refl;
   taken = copies_start (state_of screen session) session.alike.known_whole;
+  used = refl;
 }
 
-module _ (screen : Grid Colour) (first old new : Session) (start before after : List ℕ) (count : ℕ)
+module _ (screen : Grid Colour) (first old new : Session) (start before after : List ℕ) (n count : ℕ) (hint : Hint)
     (about : IsAbout screen first) (kept : IsKept first old) (listed : is_listed CopyRect first.encodings ≡ true)
-    (copies : AppendsCopies screen first old start before count) where
-  pub copies_go_on : (did : Bool) → SendsHint did screen old new before after →
-      AppendsCopies screen first new start after (count + bool_byte did)
-  copies_go_on false (known, same) = record {
+    (this : slice_get first.hints.items n ≡ Some hint) (marked : IsMarkedFor screen first hint)
+    (copies : AppendsCopies screen n first old start before count) where
+  -- the state behind the copies so far
+  behind : all_moved copies.moves (state_of screen first) ≡ state_of screen old
+  behind = copies.taken.moved_is ∙ sym (state_copied screen first old kept)
+
+  -- where the hint copies to is marked, so of use it is where it is useful
+  of_no_use : (IsUseful screen old hint → ⊥) → IsOfUse (all_moved copies.moves (state_of screen first)) (move_of hint) → ⊥
+  of_no_use never good =
+      let now : IsOfUse (state_of screen old) (move_of hint) = subst (λ (t : ServerState). IsOfUse t (move_of hint)) behind good in
+      never (record {
+        gain = now.gain;
+        free = record { asked = now.asked; not_whole = now.not_whole; marked = λ x y c. rw (kept.marks) (marked now.gain.on_screen x y c) };
+      })
+
+  of_use : IsUseful screen old hint → IsOfUse (all_moved copies.moves (state_of screen first)) (move_of hint)
+  of_use useful =
+      subst (λ (t : ServerState). IsOfUse t (move_of hint)) (sym behind)
+      (record { gain = useful.gain; asked = useful.free.asked; not_whole = useful.free.not_whole })
+
+  pub copies_go_on : (did : Bool) → SendsHint did screen hint old new before after →
+      AppendsCopies screen (n + 1) first new start after (count + bool_byte did)
+  copies_go_on false (never, known, same) = record {
     moves = copies.moves;
     copies = copies.copies;
     bytes = copies.bytes;
     appended = same ∙ copies.appended;
     count_is = omega (arith, copies.count_is);
     taken = rw known copies.taken;
+    used = left_next (state_of screen first) first.hints.items n copies.moves hint this copies.used (of_no_use never);
   }
-  copies_go_on true (hint, useful, appends, known) =
+  copies_go_on true (useful, appends, known) =
       let s : ServerState = state_of screen first in
       let gain : IsGain (record s { known = old.known }) (move_of hint) =
       subst (λ (t : ServerState). IsGain t (move_of hint)) (state_copied screen first old kept) useful.gain in
@@ -145,4 +210,5 @@ module _ (screen : Grid Colour) (first old new : Session) (start before after : 
         count_is = rw (length-append copies.copies (part ∷ [])) (omega (arith, copies.count_is));
         taken = rw known
             (copies_more s copies.moves copies.copies old.known copies.bytes appends.bytes (move_of hint) about.alike copies.taken gain free listed appends.copied);
+        used = used_next (state_of screen first) first.hints.items n copies.moves hint this copies.used (of_use useful);
       }

@@ -90,3 +90,12 @@ module _ (s : ServerState) (move : Move) (sound : IsGrid s.known) (target : Hold
         ← same_in (is_right_from s.screen s.known s.form move.to move.to.x move.to.y) (is_right s) move.to right_before,
         ← same_in (is_right_from s.screen s.known s.form move.to move.sx move.sy) (is_right (moved move s)) move.to right_behind,
       ) more
+
+  -- and only if
+  pub gain_only : count_in (is_right s) move.to < count_in (is_right (moved move s)) move.to →
+      count_in (is_right_from s.screen s.known s.form move.to move.to.x move.to.y) move.to < count_in (is_right_from s.screen s.known s.form move.to move.sx move.sy) move.to
+  gain_only more =
+      rw (
+        same_in (is_right_from s.screen s.known s.form move.to move.to.x move.to.y) (is_right s) move.to right_before,
+        same_in (is_right_from s.screen s.known s.form move.to move.sx move.sy) (is_right (moved move s)) move.to right_behind,
+      ) more

@@ -25,4 +25,5 @@ pub mod CutTextLemmas
 pub mod SliceLemmas
 pub mod CountLemmas
 pub mod CopyingLemmas
+pub mod UsingLemmas
 pub mod CopiedLemmas

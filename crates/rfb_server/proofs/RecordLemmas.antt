@@ -44,6 +44,16 @@ pixels_shown pixels known = λ x y pixel p q e.
     some_is (is_in known x y) (at_or pixels x y 0) pixel
     (sym (at-record_of pixels known x y None (rw width-record_of at p) (rw height-record_of at q)) ∙ e)
 
+known_only : (known : Bool) (value pixel : ℕ) → (if known then Some value else None) ≡ Some pixel → known ≡ true
+known_only true value pixel e = refl
+known_only false value pixel e = absurd cc
+
+-- where a pixel is known the place is in the set
+pub known_in : (pixels : Grid ℕ) (known : Grid Bool) (x y pixel : ℕ) → x < pixels.width → y < pixels.height →
+    at_or (record_of pixels known) x y None ≡ Some pixel → is_in known x y ≡ true
+known_in pixels known x y pixel p q e =
+    known_only (is_in known x y) (at_or pixels x y 0) pixel (sym (at-record_of pixels known x y None p q) ∙ e)
+
 known_is : (known : Bool) (value : ℕ) → known ≡ is_known (if known then Some value else None)
 known_is true value = refl
 known_is false value = refl

@@ -14,21 +14,26 @@ use Rattle.rfb_picture.proofs.AreaLemmas.{whole_at-no_places, area-no_places}
 use Rattle.rfb_wire.specs.ServerHead.{SpellsUpdate}
 use Rattle.rfb_wire.specs.stream.Sequel.{Second}
 use Rattle.rfb_codec.specs.Effect.{IsAlike}
+use Rattle.circular_buffer.specs.Buffer.{Buffer}
+use Rattle.rfb_server.specs.declared.hint.Hint.{Hint}
 use Rattle.rfb_server.specs.declared.session.Session.{Session}
+use Rattle.rfb_server.specs.inside.Sessions.{IsSame}
 use Rattle.rfb_server.specs.Server.{ServerState}
 use Rattle.rfb_server.specs.Request.{wanted, wanted_at, recorded, is_asked, is_whole, differs}
 use Rattle.rfb_server.specs.inside.Marks.{AreAlike, IsCaughtUp}
 use Rattle.rfb_server.specs.inside.Needing.{IsAbout, needs_of}
 use Rattle.rfb_server.specs.Composing.{Part, Move, IsDue, Composes}
 use Rattle.rfb_server.specs.inside.Sends.{IsKept, Sends, state_of, AppendsCells, IsEnough, may_need}
-use Rattle.rfb_server.specs.inside.Copying.{Copies, AppendsCopies}
+use Rattle.rfb_server.specs.inside.Copying.{Copies, AppendsCopies, usable_hints}
+use Rattle.rfb_server.specs.Using.{AreUsed, usable}
+use Rattle.rfb_server.proofs.UsingLemmas.{used_all}
 use Rattle.rfb_server.specs.inside.Composed.{is_ready, HasComposed, StaysIdle, IsSettled, IsCounted}
 use Rattle.rfb_server.proofs.NeedingLemmas.{differs_not}
 use Rattle.rfb_server.proofs.SentCells.{kept_then, quiet_unless}
 use Rattle.rfb_server.proofs.CellLemmas.{place_cell}
 use Rattle.rfb_server.proofs.RoomLemmas.{none_without_room}
 use Rattle.rfb_server.proofs.CopyingLemmas.{copied_due, none_copied}
-use Rattle.rfb_server.proofs.CopiedLemmas.{state_copied}
+use Rattle.rfb_server.proofs.CopiedLemmas.{state_copied, state_same}
 use Rattle.rfb_server.proofs.ComposesLemmas.{all_cells, composes}
 
 -- ---- the head
@@ -196,7 +201,7 @@ enough_kept old mid room kept alike enough = record {
 
 module _ (screen : Grid Colour) (old mid sent : Session) (before middle after : List ℕ) (k n : ℕ)
     (about : IsAbout screen old) (aware : IsAbout screen mid) (kept : IsKept old mid) (kept_on : IsKept mid sent)
-    (copies : AppendsCopies screen old mid (before ++ (0 ∷ 0 ∷ 0 ∷ 0 ∷ [])) middle k)
+    (copies : AppendsCopies screen (usable_hints old) old mid (before ++ (0 ∷ 0 ∷ 0 ∷ 0 ∷ [])) middle k)
     (cells : AppendsCells (div_ceil mid.known.width 64) (div_ceil mid.known.width 64 * div_ceil mid.known.height 64) screen mid sent middle after n) where
   abbrev s : ServerState
   s = state_of screen old
@@ -234,6 +239,11 @@ module _ (screen : Grid Colour) (old mid sent : Session) (before middle after : 
       let (head, spelled, is) = counts before (copies.bytes ++ cells.bytes) refl sent_whole in
       let total : k + n ≡ length (copies.copies ++ cells.parts) = rw (length-append copies.copies cells.parts) (omega (arith, copies.count_is, cells.count_is)) in
       let head_is : SpellsUpdate (length (copies.copies ++ cells.parts)) head = subst (λ (m : ℕ). SpellsUpdate m head) total spelled in
+      let made : (c : Composes (state_of screen old) (state_of screen new) (head ++ (copies.bytes ++ cells.bytes)) copies.copies cells.parts) × (c.moves ≡ copies.moves) =
+      subst (λ (t : ServerState). (c : Composes (state_of screen old) t (head ++ (copies.bytes ++ cells.bytes)) copies.copies cells.parts) × (c.moves ≡ copies.moves))
+      (sym (state_settled screen old sent new (kept_then old mid sent kept kept_on) settled))
+      (composes (state_of screen old) copies.moves copies.copies cells.parts mid.known sent.known head copies.bytes cells.bytes
+      old.alike.area_is (old.alike.area_wide ∙ sym about.alike.columns) (old.alike.area_high ∙ sym about.alike.rows) copies.taken sends head_is) in
       record {
         ready = ready;
         due = due_by copies.moves copies.copies copies.taken (λ none. some (omega (arith, none, copies.count_is, cells.count_is)));
@@ -241,10 +251,9 @@ module _ (screen : Grid Colour) (old mid sent : Session) (before middle after : 
         copies = copies.copies;
         blocks = cells.parts;
         appended = is;
-        composes = subst (λ (t : ServerState). Composes (state_of screen old) t (head ++ (copies.bytes ++ cells.bytes)) copies.copies cells.parts)
-            (sym (state_settled screen old sent new (kept_then old mid sent kept kept_on) settled))
-            (composes (state_of screen old) copies.moves copies.copies cells.parts mid.known sent.known head copies.bytes cells.bytes
-            old.alike.area_is (old.alike.area_wide ∙ sym about.alike.columns) (old.alike.area_high ∙ sym about.alike.rows) copies.taken sends head_is);
+        composes = made.0;
+        used = subst (λ (moves : List Move). AreUsed (state_of screen old) (usable (state_of screen old) old.hints.items) moves) (sym made.1)
+            (used_all (state_of screen old) old.hints.items copies.moves copies.used);
         hello = settled.hello ∙ (kept_on.hello ∙ kept.hello);
         progress = settled.progress ∙ (kept_on.progress ∙ kept.progress);
         text_limit = settled.text_limit ∙ (kept_on.text_limit ∙ kept.text_limit);
@@ -274,3 +283,31 @@ module _ (screen : Grid Colour) (old mid sent : Session) (before middle after : 
         };
         hints = kept_on.hints ∙ kept.hints;
       }
+
+-- ---- marks
+
+-- marks that were made before are no part of what a session is
+pub composed_same : (screen : Grid Colour) (old mid new : Session) (before after : List ℕ) → IsSame old mid → mid.hints ≡ old.hints →
+    HasComposed screen mid new before after → HasComposed screen old new before after
+composed_same screen old mid new before after same hints done =
+    let is = state_same screen old mid same in
+    let made : (c : Composes (state_of screen old) (state_of screen new) done.bytes done.copies done.blocks)
+    × AreUsed (state_of screen old) (usable (state_of screen old) old.hints.items) c.moves =
+    subst (λ (kept : Buffer Hint). (c : Composes (state_of screen old) (state_of screen new) done.bytes done.copies done.blocks)
+    × AreUsed (state_of screen old) (usable (state_of screen old) kept.items) c.moves) hints
+    (subst (λ (t : ServerState). (c : Composes t (state_of screen new) done.bytes done.copies done.blocks) × AreUsed t (usable t mid.hints.items) c.moves) is
+    (done.composes, done.used)) in
+    record {
+      ready = rw (← same.progress) done.ready;
+      due = subst (λ (t : ServerState). IsDue t) is done.due;
+      bytes = done.bytes;
+      copies = done.copies;
+      blocks = done.blocks;
+      appended = done.appended;
+      composes = made.0;
+      used = made.1;
+      hello = done.hello ∙ same.hello;
+      progress = done.progress ∙ same.progress;
+      text_limit = done.text_limit ∙ same.text_limit;
+      hints = done.hints;
+    }

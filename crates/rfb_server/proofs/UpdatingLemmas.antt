@@ -17,6 +17,8 @@ use Rattle.rfb_server.specs.Progress.{ProgressStandsFor, fault_in}
 use Rattle.rfb_server.specs.Standing.{SessionStandsFor, Keeps}
 use Rattle.rfb_server.specs.inside.Sessions.{IsSame}
 use Rattle.rfb_server.specs.Composing.{Composes, IsDue}
+use Rattle.rfb_server.specs.Hints.{hints_of}
+use Rattle.rfb_server.specs.Using.{AreUsed, usable}
 use Rattle.rfb_server.specs.inside.Sends.{state_of}
 use Rattle.rfb_server.specs.inside.Composed.{is_ready, HasComposed, StaysIdle}
 use Rattle.rfb_server.specs.Updating.{Updates, StaysUnsent}
@@ -105,6 +107,9 @@ updates old new before after e done = record {
   fault_is = ap fault_in done.progress;
   sent = λ serving s prefix stands.
       let is = state_is serving old.screen old.session s prefix done.ready stands in
+      let made : (c : Composes s (state_of old.screen new.session) done.bytes done.copies done.blocks) × AreUsed s (usable s (hints_of old)) c.moves =
+      subst (λ (t : ServerState). (c : Composes t (state_of old.screen new.session) done.bytes done.copies done.blocks) × AreUsed t (usable t (hints_of old)) c.moves) (sym is)
+      (done.composes, done.used) in
       record {
         due = subst (λ (t : ServerState). IsDue t) (sym is) done.due;
         behind = state_of old.screen new.session;
@@ -112,7 +117,8 @@ updates old new before after e done = record {
         copies = done.copies;
         blocks = done.blocks;
         appended = done.appended;
-        composes = subst (λ (t : ServerState). Composes t (state_of old.screen new.session) done.bytes done.copies done.blocks) (sym is) done.composes;
+        composes = made.0;
+        used = made.1;
         stands = subst (λ (g : Grid Colour). SessionStandsFor serving g new.session (state_of old.screen new.session) prefix) (sym e)
             (stands_composed serving old.screen old.session new.session s prefix before after done stands);
       };

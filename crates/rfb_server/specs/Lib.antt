@@ -10,4 +10,5 @@ pub mod Progress
 pub mod Standing
 pub mod Hints
 pub mod Updating
+pub mod Using
 pub mod inside

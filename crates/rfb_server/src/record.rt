@@ -33,7 +33,7 @@ impl Model for Record {
 }
 
 impl Record {
-    ghost use Rattle.std.specs.Bool.{OnTrue};
+    ghost use Rattle.std.specs.Bool.{OnTrue, OnFalse};
     ghost use Rattle.rfb_picture.specs.Grid.{IsGrid, Holds, at_or, uniform};
     ghost use Rattle.rfb_server.specs.Record.{AreKnown, forgotten, ShowsKnown, TellsKnown};
 
@@ -84,7 +84,8 @@ impl Record {
     /// Whether each place of the rectangle is known.
     pub(crate) fn knows(&self, rect: Rect) -> bool
         requires { Holds self.now rect }
-        ensures { OnTrue result (AreKnown self.now rect) }
+        ensures known { OnTrue result (AreKnown self.now rect) }
+        ensures unknown { OnFalse result (AreKnown self.now rect → ⊥) }
     {
         if !self.known.asked().has_all(rect) {
             return false;

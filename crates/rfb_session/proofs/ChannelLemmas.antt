@@ -27,6 +27,7 @@ updates_rest old new all more k j within least updates = record {
         blocks = one.blocks;
         appended = rest_of all more one.bytes k j within least one.appended;
         composes = one.composes;
+        used = one.used;
         stands = one.stands;
       };
 }

@@ -8,6 +8,7 @@ use Rattle.rfb_server.specs.declared.server.Server.{Server}
 use Rattle.rfb_server.specs.Server.{Serving, ServerState}
 use Rattle.rfb_server.specs.Standing.{StandsFor as ServerStandsFor, screen_of}
 use Rattle.rfb_server.specs.Composing.{Composes}
+use Rattle.rfb_server.specs.Hints.{hints_of}
 use Rattle.rfb_server.specs.Updating.{HasSent, Updates, WasDue, StaysUnsent}
 use Rattle.rfb_viewer.specs.declared.viewer.Viewer.{Viewer}
 use Rattle.rfb_viewer.specs.Standing.{StandsFor as ViewerStandsFor}
@@ -51,7 +52,8 @@ composed_does old new told asked form updates asks formed noted viewer to_server
     did = λ e n made reached stands.
     let c = stands.carries in
     let s : ServerState = server_of n.screen n.link.session in
-    let one : HasSent e.serving s c.server_has new.server old.to_viewer new.to_viewer =
+    let one : HasSent e.serving s c.server_has (hints_of old.server) new.server old.to_viewer
+    new.to_viewer =
     updates.sent e.serving s c.server_has c.server_is in
     let behind_is : server_of n.screen (session_of one.behind) ≡ one.behind =
     ap (λ (g : Grid Colour). server_of g (session_of one.behind))

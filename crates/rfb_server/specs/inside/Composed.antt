@@ -9,6 +9,7 @@ use Rattle.rfb_server.specs.declared.session.Session.{Session}
 use Rattle.rfb_server.specs.declared.session.progress.Progress.{Progress}
 use Rattle.rfb_server.specs.declared.session.progress.Progress.TheVariants.{Handshake, Head, Encodings, CutText, Failed}
 use Rattle.rfb_server.specs.Composing.{Part, Composes, IsDue}
+use Rattle.rfb_server.specs.Using.{AreUsed, usable}
 use Rattle.rfb_server.specs.inside.Sessions.{IsSame}
 use Rattle.rfb_server.specs.inside.Sends.{state_of}
 
@@ -35,6 +36,8 @@ pub record HasComposed (screen : Grid Colour) (old new : Session)
   pub blocks : List Part
   pub appended : after ≡ before ++ bytes
   pub composes : Composes (state_of screen old) (state_of screen new) bytes copies blocks
+  pub used : AreUsed (state_of screen old) (usable (state_of screen old) old.hints.items)
+      composes.moves
   pub hello : new.hello ≡ old.hello
   pub progress : new.progress ≡ old.progress
   pub text_limit : new.text_limit ≡ old.text_limit

@@ -1,10 +1,10 @@
 -- Rectangles that are copied, one behind another, at the front of an update.
-use Rattle.std.specs.Prelude.{◌≡◌, ◌≢◌, ℕ, ◌+◌, ◌-◌, Bool, true, false, not, List, [], ◌++◌, length, map, Option, None, if◌then◌else◌}
+use Rattle.std.specs.Prelude.{◌≡◌, ◌≢◌, ℕ, ◌+◌, ◌-◌, ◌<◌, Bool, true, false, not, List, [], ◌++◌, length, take, map, slice_get, Option, Some, None, if◌then◌else◌}
 use Rattle.rfb_pixel.specs.declared.colour.Colour.{Colour}
 use Rattle.rfb_pixel.specs.Format.{PixelFormat}
 use Rattle.rfb_picture.specs.declared.rect.Rect.{Rect}
 use Rattle.rfb_picture.specs.Rect.{contains}
-use Rattle.rfb_picture.specs.Grid.{Grid, IsGrid, at_or, copied}
+use Rattle.rfb_picture.specs.Grid.{Grid, IsGrid, Holds, at_or, copied}
 use Rattle.rfb_picture.specs.Box.{is_in}
 use Rattle.rfb_picture.specs.Area.{asked_at, whole_at}
 use Rattle.rfb_wire.specs.declared.encoding.Encoding.TheVariants.{CopyRect}
@@ -17,6 +17,7 @@ use Rattle.rfb_server.specs.declared.hint.Hint.{Hint}
 use Rattle.rfb_server.specs.declared.session.Session.{Session}
 use Rattle.rfb_server.specs.Server.{ServerState}
 use Rattle.rfb_server.specs.Request.{wanted_at, recorded, is_asked, is_whole, differs}
+use Rattle.rfb_server.specs.Using.{move_of, AreUsed}
 use Rattle.rfb_server.specs.Composing.{Part, Move, sent_as, between, all_moved, IsGain, AllGain, AreCopies, HaveTheirData, IsPlace, is_in_some}
 use Rattle.rfb_server.specs.inside.Sends.{state_of}
 
@@ -47,10 +48,6 @@ pub record Copies (s : ServerState) (moves : List Move) (copies : List Part)
 
 -- ---- a session's hints
 
--- the copy that a hint asks for
-abbrev pub move_of : Hint → Move
-move_of hint = record { to = hint.to; sx = hint.sx; sy = hint.sy }
-
 -- each place of the rectangle is asked and not whole, and is marked
 pub record IsFree (session : Session) (to : Rect) : Type 0 where
   pub asked : (x y : ℕ) → contains to x y ≡ true → asked_at session.area x y ≡ true
@@ -76,22 +73,39 @@ pub record AppendsCopy (rect : Rect) (sx sy : ℕ) (old new : List ℕ) : Type 0
   pub appended : new ≡ old ++ bytes
   pub copied : IsCopied rect sx sy bytes
 
--- the bytes of a copy were appended, which some hint names, or nothing has changed
-abbrev pub SendsHint : Bool → Grid Colour → Session → Session → List ℕ → List ℕ → Type 0
-SendsHint true screen old new before after =
-    (hint : Hint) × IsUseful screen old hint × AppendsCopy hint.to hint.sx hint.sy before after ×
+-- the bytes of the hint's copy were appended, or it is of no use, and nothing has changed
+abbrev pub SendsHint : Bool → Grid Colour → Hint → Session → Session → List ℕ → List ℕ → Type 0
+SendsHint true screen hint old new before after =
+    IsUseful screen old hint × AppendsCopy hint.to hint.sx hint.sy before after ×
     (new.known ≡ copied hint.to hint.sx hint.sy old.known)
-SendsHint false screen old new before after = (new.known ≡ old.known) × (after ≡ before)
+SendsHint false screen hint old new before after =
+    (IsUseful screen old hint → ⊥) × (new.known ≡ old.known) × (after ≡ before)
 
--- the bytes of `count` copies were appended
-pub record AppendsCopies (screen : Grid Colour) (old new : Session) (before after : List ℕ)
-    (count : ℕ) : Type 0 where
+-- what was marked still is
+abbrev pub KeepsMarks : Session → Session → Type 0
+KeepsMarks old new = (x y : ℕ) → x < old.marks.width → y < old.marks.height →
+    is_in old.marks x y ≡ true → is_in new.marks x y ≡ true
+
+-- where the hint copies to is marked, if that is on the screen
+abbrev pub IsMarkedFor : Grid Colour → Session → Hint → Type 0
+IsMarkedFor screen session hint = Holds screen hint.to →
+    (x y : ℕ) → contains hint.to x y ≡ true → is_in session.marks x y ≡ true
+
+-- so it is for each of the first `n` hints
+abbrev pub AreMarkedFor : Grid Colour → Session → ℕ → Type 0
+AreMarkedFor screen session n = (index : ℕ) (hint : Hint) → index < n →
+    slice_get session.hints.items index ≡ Some hint → IsMarkedFor screen session hint
+
+-- the bytes of `count` copies were appended, by the first `n` hints
+pub record AppendsCopies (screen : Grid Colour) (n : ℕ) (old new : Session)
+    (before after : List ℕ) (count : ℕ) : Type 0 where
   pub moves : List Move
   pub copies : List Part
   pub bytes : List ℕ
   pub appended : after ≡ before ++ bytes
   pub count_is : count ≡ length copies
   pub taken : Copies (state_of screen old) moves copies new.known bytes
+  pub used : AreUsed (state_of screen old) (take n old.hints.items) moves
 
 -- how many hints a session may use: all that it keeps, where the viewer listed CopyRect
 abbrev pub usable_hints : Session → ℕ

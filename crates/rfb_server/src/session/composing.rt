@@ -11,7 +11,7 @@ ghost use Rattle.rfb_server.specs.inside.Cells.{IsCell};
 ghost use Rattle.rfb_server.specs.inside.Sends.{IsKept, AppendsPixels, SendsCell, AppendsCells};
 ghost use Rattle.rfb_server.specs.inside.Sends.{IsCostIn, IsEnough, HasNext};
 ghost use Rattle.rfb_server.specs.inside.Sessions.{IsSame};
-ghost use Rattle.rfb_server.specs.inside.Copying.{usable_hints};
+ghost use Rattle.rfb_server.specs.inside.Copying.{usable_hints, AreMarkedFor};
 ghost use Rattle.rfb_server.specs.inside.Composed.{is_ready, IsAwaited, HasComposed, StaysIdle};
 ghost use Rattle.rfb_server.specs.inside.Composed.{IsSettled, IsCounted};
 
@@ -84,6 +84,7 @@ impl Session {
         requires room { (room : ℕ) × IsEnough self.old (div_ceil self.old.known.width 64)
             (div_ceil self.old.known.width 64 * div_ceil self.old.known.height 64) room
             × (vec_len out.old + 4 + 16 * usable_hints self.old + room ≤ vec_capacity out.old) }
+        requires marked { AreMarkedFor screen.now self.old (usable_hints self.old) }
         ensures about { IsAbout screen.now self.new }
         ensures composed { OnTrue result
             (HasComposed screen.now self.old self.new out.old.items out.new.items) }

@@ -1,11 +1,13 @@
 //! Rectangles that the viewer is told to copy, by the hints of the screen's owner.
 
-ghost use Rattle.std.specs.Prelude.{◌≡◌, ◌+◌, ◌*◌, ◌≤◌, vec_len};
+ghost use Rattle.std.specs.Prelude.{◌≡◌, ◌+◌, ◌*◌, ◌≤◌, slice_get, Some, vec_len};
 ghost use Rattle.std.specs.Vec.{vec_capacity};
 ghost use Rattle.rfb_server.specs.inside.Needing.{IsAbout};
 ghost use Rattle.rfb_server.specs.inside.Sessions.{IsSame};
 ghost use Rattle.rfb_server.specs.inside.Sends.{IsKept};
 ghost use Rattle.rfb_server.specs.inside.Copying.{SendsHint, AppendsCopies, usable_hints};
+ghost use Rattle.rfb_server.specs.inside.Copying.{KeepsMarks, IsMarkedFor, AreMarkedFor};
+ghost use Rattle.rfb_server.specs.declared.hint.Hint.{Hint};
 
 use crate::hint::Hint;
 use crate::sending::append_copy;
@@ -33,6 +35,7 @@ impl Session {
         ensures about { IsAbout screen.now self.new }
         ensures same { IsSame self.old self.new }
         ensures hints { self.new.hints ≡ self.old.hints }
+        ensures marked { AreMarkedFor screen.now self.new (usable_hints self.new) }
     {
         for index in 0..self.usable_hints() {
             self.mark_hint(screen, index);
@@ -45,6 +48,9 @@ impl Session {
         ensures about { IsAbout screen.now self.new }
         ensures same { IsSame self.old self.new }
         ensures hints { self.new.hints ≡ self.old.hints }
+        ensures more { KeepsMarks self.old self.new }
+        ensures marked { (hint : Hint) → slice_get self.old.hints.items index ≡ Some hint →
+            IsMarkedFor screen.now self.new hint }
     {
         if let Some(hint) = self.hints.get(index) {
             let to = hint.to;
@@ -59,9 +65,10 @@ impl Session {
     pub(crate) fn send_copies(&mut self, screen: &Picture<Colour>, out: &mut Vec<u8>) -> u16
         requires about { IsAbout screen.now self.old }
         requires room { vec_len out.old + 16 * usable_hints self.old ≤ vec_capacity out.old }
+        requires marked { AreMarkedFor screen.now self.old (usable_hints self.old) }
         ensures kept { IsKept self.old self.new }
         ensures about { IsAbout screen.now self.new }
-        ensures sent { AppendsCopies screen.now self.old self.new
+        ensures sent { AppendsCopies screen.now (usable_hints self.old) self.old self.new
             out.old.items out.new.items result }
         ensures few { result ≤ 16 }
         ensures len { vec_len out.new ≤ vec_len out.old + 16 * usable_hints self.old }
@@ -81,7 +88,8 @@ impl Session {
         requires room { vec_len out.old + 16 ≤ vec_capacity out.old }
         ensures kept { IsKept self.old self.new }
         ensures about { IsAbout screen.now self.new }
-        ensures sent { SendsHint result screen.now self.old self.new out.old.items out.new.items }
+        ensures sent { (hint : Hint) → slice_get self.old.hints.items index ≡ Some hint →
+            SendsHint result screen.now hint self.old self.new out.old.items out.new.items }
         ensures len { vec_len out.new ≤ vec_len out.old + 16 }
         ensures room { vec_capacity out.new ≡ vec_capacity out.old }
     {
@@ -100,7 +108,8 @@ impl Session {
         requires room { vec_len out.old + 16 ≤ vec_capacity out.old }
         ensures kept { IsKept self.old self.new }
         ensures about { IsAbout screen.now self.new }
-        ensures sent { SendsHint result screen.now self.old self.new out.old.items out.new.items }
+        ensures sent { SendsHint result screen.now hint self.old self.new
+            out.old.items out.new.items }
         ensures len { vec_len out.new ≤ vec_len out.old + 16 }
         ensures room { vec_capacity out.new ≡ vec_capacity out.old }
     {

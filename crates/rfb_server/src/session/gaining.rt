@@ -1,7 +1,7 @@
 //! What the viewer gains if it copies a rectangle.
 
 ghost use Rattle.std.specs.Prelude.{◌≡◌, ◌+◌, ◌≤◌, ◌<◌, not, None};
-ghost use Rattle.std.specs.Bool.{OnTrue};
+ghost use Rattle.std.specs.Bool.{OnTrue, OnFalse};
 ghost use Rattle.rfb_picture.specs.Grid.{Holds, at_or};
 ghost use Rattle.rfb_codec.specs.RectData.{moved_to};
 ghost use Rattle.rfb_server.specs.Request.{wanted_at, differs};
@@ -20,7 +20,8 @@ impl Session {
     /// before.
     pub(crate) fn gains(&self, screen: &Picture<Colour>, hint: Hint) -> bool
         requires { IsAbout screen.now self.now }
-        ensures { OnTrue result (IsUseful screen.now self.now hint) }
+        ensures useful { OnTrue result (IsUseful screen.now self.now hint) }
+        ensures useless { OnFalse result (IsUseful screen.now self.now hint → ⊥) }
     {
         let to = hint.to;
         let from = Rect {
@@ -45,7 +46,8 @@ impl Session {
     // Whether each place of the rectangle is asked and not whole, and is marked.
     fn is_free(&self, to: Rect) -> bool
         requires { Holds self.now.known to }
-        ensures { OnTrue result (IsFree self.now to) }
+        ensures free { OnTrue result (IsFree self.now to) }
+        ensures taken { OnFalse result (IsFree self.now to → ⊥) }
     {
         if !self.area.asked().has_all(to) || !self.marks.has_all(to) {
             return false;

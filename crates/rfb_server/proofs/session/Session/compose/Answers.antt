@@ -1,10 +1,11 @@
-use Rattle.std.proofs.Common.{◌*◌, ℕ, refl, sym, subst}
+use Rattle.std.proofs.Common.{◌*◌, ℕ, List, refl, sym, subst}
+use Rattle.rfb_server.specs.inside.Composed.{HasComposed}
 use Rattle.std.specs.Int.{div_ceil}
 use Rattle.rfb_server.specs.Server.{ServerState}
 use Rattle.rfb_server.specs.Composing.{IsDue}
 use Rattle.rfb_server.specs.inside.Sends.{IsEnough}
 use Rattle.rfb_server.proofs.CopiedLemmas.{state_same}
-use Rattle.rfb_server.proofs.UpdateLemmas.{nothing_due}
+use Rattle.rfb_server.proofs.UpdateLemmas.{nothing_due, composed_same}
 use Rattle.rfb_server.proofs.session.Session.compose.Goals as goal
 
 pub returns-then-room-eq0-clause-idle : goal.returns-then-room-eq0-clause-idle
@@ -21,3 +22,10 @@ returns-then-room-eq0-clause-idle c = λ e.
       same = marked.same;
       hints = marked.hints;
     }
+
+pub returns-in-Ok-clause-composed : goal.returns-in-Ok-clause-composed
+returns-in-Ok-clause-composed c = λ did.
+    let done : HasComposed c.args.screen.now c.mark_hints.new.self c.update.new.self c.reserve.new.self.items c.update.new.out.items = rw did at c.update.ensures.composed in
+    composed_same c.args.screen.now c.args.self.now c.mark_hints.new.self c.update.new.self c.args.out.now.items c.update.new.out.items
+    c.mark_hints.ensures.same c.mark_hints.ensures.hints
+    (subst (λ (bytes : List ℕ). HasComposed c.args.screen.now c.mark_hints.new.self c.update.new.self bytes c.update.new.out.items) c.reserve.ensures.items done)

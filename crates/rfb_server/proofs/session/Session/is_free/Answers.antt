@@ -5,8 +5,8 @@ use Rattle.rfb_picture.specs.Places.{AllMarked}
 use Rattle.rfb_picture.proofs.GridLemmas.{contains_true}
 use Rattle.rfb_server.proofs.session.Session.is_free.Goals as goal
 
-pub returns-in-None : goal.returns-in-None
-returns-in-None c =
+pub returns-in-None-clause-free : goal.returns-in-None-clause-free
+returns-in-None-clause-free c =
     let to = c.args.to in
     let clear : IsClear (is_in c.args.self.now.area.whole) c.args.to.x (c.args.to.x + c.args.to.w) c.args.to.y (c.args.to.y + c.args.to.h) =
     subst (λ (g : Grid Bool). IsClear (is_in g) c.args.to.x (c.args.to.x + c.args.to.w) c.args.to.y (c.args.to.y + c.args.to.h)) c.whole.ensures c.in-None.ensures in

@@ -1,6 +1,7 @@
 use Rattle.std.proofs.Common.{◌≡◌}
 use Rattle.rfb_server.specs.inside.Needing.{IsAbout}
 use Rattle.rfb_server.specs.inside.Sessions.{IsSame}
+use Rattle.rfb_server.specs.inside.Copying.{AreMarkedFor}
 use Rattle.rfb_server.proofs.session.Session.mark_hints.Given as goal
 
 -- all but marks is as it was
@@ -9,4 +10,5 @@ invariant-loop-index l = record {
   about : IsAbout l.screen l.self;
   same : IsSame l.initial.self l.self;
   hints : l.self.hints ≡ l.initial.self.hints;
+  marked : AreMarkedFor l.screen l.self l.index;
 }

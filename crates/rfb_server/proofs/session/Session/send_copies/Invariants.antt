@@ -10,7 +10,7 @@ abbrev pub invariant-loop-index : goal.invariant-loop-index
 invariant-loop-index l = record {
   kept : IsKept l.initial.self l.self;
   about : IsAbout l.screen l.self;
-  sent : AppendsCopies l.screen l.initial.self l.self l.initial.out.items l.out.items l.count;
+  sent : AppendsCopies l.screen l.index l.initial.self l.self l.initial.out.items l.out.items l.count;
   few : l.count ≤ l.index;
   capacity : vec_capacity l.out ≡ vec_capacity l.initial.out;
   space : vec_len l.out ≤ vec_len l.initial.out + 16 * l.index;

@@ -13,6 +13,6 @@ invariant_of-self c =
 
 pub returns-clause-about : goal.returns-clause-about
 returns-clause-about c =
-    about_copied c.args.screen.now c.args.self.now _ c.args.hint.to c.args.hint.sx c.args.hint.sy c.requires.about c.if-not-gains.ensures.free
+    about_copied c.args.screen.now c.args.self.now _ c.args.hint.to c.args.hint.sx c.args.hint.sy c.requires.about c.if-not-gains.ensures.useful.free
     (record { hello = refl; progress = refl; text_limit = refl; format = refl; encodings = refl; area = refl; marks = refl; hints = refl })
     c.copy.ensures.value

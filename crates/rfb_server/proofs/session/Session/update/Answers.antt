@@ -1,6 +1,6 @@
 use Rattle.std.proofs.Common.{◌≡◌, ℕ, ◌+◌, List, [], ◌∷◌, ◌++◌, length, ap, subst, ◌∙◌, rules, arith, vec_len}
 use Rattle.std.proofs.Math.Seq.{take-append_seam}
-use Rattle.rfb_server.specs.inside.Copying.{AppendsCopies}
+use Rattle.rfb_server.specs.inside.Copying.{AppendsCopies, usable_hints}
 use Rattle.rfb_server.specs.inside.Composed.{IsCounted}
 use Rattle.rfb_server.proofs.UpdateLemmas.{enough_kept, updated, about_updated, sent_whole, stayed}
 use Rattle.rfb_server.proofs.session.Session.update.Goals as goal
@@ -24,8 +24,8 @@ returns c =
     let sent = c.send_cells in
     let start_is : c.append_within.new.out.items ≡ c.args.out.now.items ++ (0 ∷ 0 ∷ 0 ∷ 0 ∷ []) =
     c.append_within.ensures.items ∙ ap (λ (xs : List ℕ). c.args.out.now.items ++ xs) (c.as_slice.ensures.value ∙ c.spell.ensures.value) in
-    let copies : AppendsCopies c.args.screen.now s copied.new.self (c.args.out.now.items ++ (0 ∷ 0 ∷ 0 ∷ 0 ∷ [])) copied.new.out.items copied.result =
-    subst (λ (xs : List ℕ). AppendsCopies c.args.screen.now s copied.new.self xs copied.new.out.items copied.result) start_is copied.ensures.sent in
+    let copies : AppendsCopies c.args.screen.now (usable_hints s) s copied.new.self (c.args.out.now.items ++ (0 ∷ 0 ∷ 0 ∷ 0 ∷ [])) copied.new.out.items copied.result =
+    subst (λ (xs : List ℕ). AppendsCopies c.args.screen.now (usable_hints s) s copied.new.self xs copied.new.out.items copied.result) start_is copied.ensures.sent in
     let long : c.len-start.result ≡ length c.args.out.now.items = search rules in
     let counts : IsCounted (length c.args.out.now.items) (copied.result + sent.result) sent.new.out.items c.put_count.new.out.items =
     subst (λ (n : ℕ). IsCounted n (copied.result + sent.result) sent.new.out.items c.put_count.new.out.items) long c.put_count.ensures in
@@ -43,8 +43,8 @@ returns-then-count-eq0-clause-idle c =
     let sent = c.send_cells in
     let start_is : c.append_within.new.out.items ≡ c.args.out.now.items ++ (0 ∷ 0 ∷ 0 ∷ 0 ∷ []) =
     c.append_within.ensures.items ∙ ap (λ (xs : List ℕ). c.args.out.now.items ++ xs) (c.as_slice.ensures.value ∙ c.spell.ensures.value) in
-    let copies : AppendsCopies c.args.screen.now s copied.new.self (c.args.out.now.items ++ (0 ∷ 0 ∷ 0 ∷ 0 ∷ [])) copied.new.out.items copied.result =
-    subst (λ (xs : List ℕ). AppendsCopies c.args.screen.now s copied.new.self xs copied.new.out.items copied.result) start_is copied.ensures.sent in
+    let copies : AppendsCopies c.args.screen.now (usable_hints s) s copied.new.self (c.args.out.now.items ++ (0 ∷ 0 ∷ 0 ∷ 0 ∷ [])) copied.new.out.items copied.result =
+    subst (λ (xs : List ℕ). AppendsCopies c.args.screen.now (usable_hints s) s copied.new.self xs copied.new.out.items copied.result) start_is copied.ensures.sent in
     let long : c.len-start.result ≡ length c.args.out.now.items = search rules in
     let whole : sent.new.out.items ≡ c.args.out.now.items ++ (0 ∷ 0 ∷ 0 ∷ 0 ∷ (copies.bytes ++ sent.ensures.sent.bytes)) =
     sent_whole c.args.screen.now s copied.new.self sent.new.self c.args.out.now.items copied.new.out.items sent.new.out.items copied.result sent.result c.requires.about copied.ensures.about copied.ensures.kept sent.ensures.kept copies sent.ensures.sent in
