@@ -1,7 +1,8 @@
 -- The bytes of a pixmap's places, one row after the other.
 use Rattle.std.proofs.Common.{◌≡◌, ℕ, ◌+◌, ◌*◌, List, [], ◌∷◌, ◌++◌, length, take, take-add, drop, refl, ap, sym, ◌∙◌, arith}
-use Rattle.std.proofs.Common.{Option, Result, Ok, Err, OnErr, OnOk, true, ◌==◌, subst, append-nil, append_assoc, take-append-drop}
+use Rattle.std.proofs.Common.{Option, Result, Ok, Err, OnErr, OnOk, true, ◌==◌, subst, append-nil, append_assoc, take-append-drop, slice_index_or, length-drop, ◌-◌}
 use Rattle.std.proofs.lemmas.Bool.Decides.{nat_tests}
+use Rattle.std.proofs.lemmas.List.{take_all}
 use Rattle.std.proofs.KnownBytes.{Appends-nil, Appends-trans, Appends-kept}
 use Rattle.std.specs.Io.KnownBytes.{Appends, Keeps}
 use Rattle.rfb_picture.specs.Grid.{Grid}
@@ -129,16 +130,42 @@ pub components_nil : components [] ≡ []
 unfolding components
 components_nil = refl
 
--- the components of one colour more
-pub components_push : (colours : List Colour) (colour : Colour) → components (colours ++ colour ∷ []) ≡ components colours ++ colour.r ∷ colour.g ∷ colour.b ∷ []
-unfolding components
-components_push [] colour = refl
-components_push (c ∷ colours) colour = ap (λ (l : List ℕ). c.r ∷ c.g ∷ c.b ∷ l) (components_push colours colour)
+-- the components of some colours more
+pub more_components : (before bytes new : List ℕ) (colours more now : List Colour) → bytes ≡ before ++ components colours →
+    new ≡ bytes ++ components more → now ≡ colours ++ more → new ≡ before ++ components now
+more_components before bytes new colours more now so_far is all =
+    is ∙ ap (λ (l : List ℕ). l ++ components more) so_far ∙ append_assoc before (components colours) (components more)
+    ∙ ap (λ (l : List ℕ). before ++ l) (sym (components-append colours more)) ∙ ap (λ (l : List Colour). before ++ components l) (sym all)
 
--- three bytes more
-pub three_more : (bytes one two three before : List ℕ) (colours now : List Colour) (colour : Colour) → bytes ≡ before ++ components colours → one ≡ bytes ++ colour.r ∷ [] → two ≡ one ++ colour.g ∷ [] → three ≡ two ++ colour.b ∷ [] → now ≡ colours ++ colour ∷ [] → three ≡ before ++ components now
-three_more bytes one two three before colours now colour so_far r g b is =
-    b ∙ ap (λ (l : List ℕ). l ++ colour.b ∷ []) g ∙ ap (λ (l : List ℕ). (l ++ colour.g ∷ []) ++ colour.b ∷ []) r
-    ∙ append_assoc (bytes ++ colour.r ∷ []) (colour.g ∷ []) (colour.b ∷ []) ∙ append_assoc bytes (colour.r ∷ []) (colour.g ∷ colour.b ∷ [])
-    ∙ ap (λ (l : List ℕ). l ++ colour.r ∷ colour.g ∷ colour.b ∷ []) so_far ∙ append_assoc before (components colours) (colour.r ∷ colour.g ∷ colour.b ∷ [])
-    ∙ ap (λ (l : List ℕ). before ++ l) (sym (components_push colours colour)) ∙ ap (λ (l : List Colour). before ++ components l) (sym is)
+pub components_one : (colour : Colour) → components (colour ∷ []) ≡ colour.r ∷ colour.g ∷ colour.b ∷ []
+unfolding components
+components_one colour = refl
+
+-- the components of the colour of that number, before other bytes
+abbrev pub with_colour : List Colour → Colour → ℕ → List ℕ → List ℕ
+with_colour xs none k more = (slice_index_or xs k none).r ∷ (slice_index_or xs k none).g ∷ (slice_index_or xs k none).b ∷ more
+
+-- the components of eight
+pub components_eight : (xs : List Colour) (none : Colour) → length xs ≡ 8 →
+    with_colour xs none 0 (with_colour xs none 1 (with_colour xs none 2 (with_colour xs none 3
+    (with_colour xs none 4 (with_colour xs none 5 (with_colour xs none 6 (with_colour xs none 7 []))))))) ≡ components xs
+unfolding components
+components_eight (a ∷ b ∷ c ∷ d ∷ e ∷ f ∷ g ∷ h ∷ []) none many = refl
+components_eight [] none many = absurd (omega (arith, many))
+components_eight (a ∷ []) none many = absurd (omega (arith, many))
+components_eight (a ∷ b ∷ []) none many = absurd (omega (arith, many))
+components_eight (a ∷ b ∷ c ∷ []) none many = absurd (omega (arith, many))
+components_eight (a ∷ b ∷ c ∷ d ∷ []) none many = absurd (omega (arith, many))
+components_eight (a ∷ b ∷ c ∷ d ∷ e ∷ []) none many = absurd (omega (arith, many))
+components_eight (a ∷ b ∷ c ∷ d ∷ e ∷ f ∷ []) none many = absurd (omega (arith, many))
+components_eight (a ∷ b ∷ c ∷ d ∷ e ∷ f ∷ g ∷ []) none many = absurd (omega (arith, many))
+components_eight (a ∷ b ∷ c ∷ d ∷ e ∷ f ∷ g ∷ h ∷ i ∷ xs) none many = absurd (omega (arith, many))
+
+-- the next eight, and all that are left
+pub eight_more : (colours : List Colour) (n : ℕ) → take (n + 8) colours ≡ take n colours ++ take (n + 8 - n) (drop n colours)
+eight_more colours n = let e : n + 8 - n ≡ 8 = omega arith in rw (e, take-add) refl
+
+pub rest_more : (colours : List Colour) (n : ℕ) → colours ≡ take n colours ++ take (length colours - n) (drop n colours)
+rest_more colours n =
+    sym (ap (λ (l : List Colour). take n colours ++ l) (take_all (length colours - n) (drop n colours) (omega (arith, length-drop n colours)))
+    ∙ take-append-drop n colours)

@@ -7,12 +7,15 @@ ghost use Rattle.rfb.specs.Pixmap.{AppendsBeginning, AppendsUpTo, components, pi
 
 use rfb_picture::Picture;
 use rfb_pixel::Colour;
-use std::alloc::Global;
+use std::alloc::{AllocError, Global};
 use std::io;
 use std::io::{ErrorKind, Write};
 
 // Red, green and blue, a byte each.
 const BYTES_PER_PLACE: usize = 3;
+
+// How many colours are appended at once.
+const PIECE: usize = 8;
 
 // How many bytes one write has at least, but for the last.
 const BYTES_PER_WRITE: usize = 8192;
@@ -39,7 +42,7 @@ pub fn write_pixmap<W: Write>(
     waiting.reserve(BYTES_PER_WRITE + row)?;
     for y in 0..height {
         make_room(row, &mut waiting, output)?;
-        waiting = with_components(picture.row(0, y, width), waiting);
+        append_components(picture.row(0, y, width), &mut waiting)?;
     }
     write_whole(&waiting, output)?;
     output.flush()
@@ -93,19 +96,42 @@ fn write_some<'a, W: Write>(bytes: &'a [u8], output: &mut W) -> io::Result<&'a [
     Ok(&bytes[written..])
 }
 
-// The bytes, and behind them the components of each colour, red first, one colour after the other.
-// There is room for them. The vector is handed over and back, since one that is lent has its
-// pointer and its length read and written for each byte.
-fn with_components(colours: &[Colour], mut bytes: Vec<u8>) -> Vec<u8>
-    requires { vec_len bytes + 3 * length colours.now ≤ vec_capacity bytes }
-    ensures items { result.items ≡ bytes.items ++ components colours.now }
-    ensures len { vec_len result ≡ vec_len bytes + 3 * length colours.now }
-    ensures room { vec_capacity result ≡ vec_capacity bytes }
+// Appends the components of each colour, red first, one colour after the other. It takes no memory
+// where there is room for them.
+fn append_components(colours: &[Colour], bytes: &mut Vec<u8>) -> Result<(), AllocError>
+    ensures items { OnOk result (bytes.new.items ≡ bytes.old.items ++ components colours.now) }
+    ensures room { vec_capacity bytes.old ≤ vec_capacity bytes.new }
+{
+    let mut start = 0;
+    while colours.len() - start >= PIECE {
+        let end = start + PIECE;
+        bytes.extend_from_slice(&components_of(&colours[start..end]))?;
+        start = end;
+    }
+    append_each(&colours[start..], bytes)
+}
+
+// The same, colour by colour.
+fn append_each(colours: &[Colour], bytes: &mut Vec<u8>) -> Result<(), AllocError>
+    ensures items { OnOk result (bytes.new.items ≡ bytes.old.items ++ components colours.now) }
+    ensures room { vec_capacity bytes.old ≤ vec_capacity bytes.new }
 {
     for colour in colours {
-        bytes.push_reserved(colour.r);
-        bytes.push_reserved(colour.g);
-        bytes.push_reserved(colour.b);
+        bytes.extend_from_slice(&[colour.r, colour.g, colour.b])?;
     }
-    bytes
+    Ok(())
+}
+
+// The components of eight colours. They are told one by one, which the compiler makes a few moves.
+#[inline(always)]
+fn components_of(colours: &[Colour]) -> [u8; BYTES_PER_PLACE * PIECE]
+    requires { length colours.now ≡ PIECE }
+    ensures { result ≡ components colours.now }
+{
+    let (a, b, c, d) = (colours[0], colours[1], colours[2], colours[3]);
+    let (e, f, g, h) = (colours[4], colours[5], colours[6], colours[7]);
+    [
+        a.r, a.g, a.b, b.r, b.g, b.b, c.r, c.g, c.b, d.r, d.g, d.b, e.r, e.g, e.b, f.r, f.g, f.b,
+        g.r, g.g, g.b, h.r, h.g, h.b,
+    ]
 }

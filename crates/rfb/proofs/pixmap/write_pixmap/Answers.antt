@@ -27,8 +27,8 @@ loop-y-preserved g c =
       row_is = l.invariant.row_is;
       width_is = l.invariant.width_is;
       height_is = l.invariant.height_is;
-      room = omega (arith, l.invariant.room, c.with_components-waiting.ensures.room, c.make_room.ensures.capacity);
-      gathered = gathered_more picture l.y old new c.make_room.new.waiting.items c.with_components-waiting.result.items c.row.result.now c.width-width.result so_far l.invariant.width_is c.row.ensures.value c.with_components-waiting.ensures.items;
+      room = omega (arith, l.invariant.room, c.append_components.ensures.room, c.make_room.ensures.capacity);
+      gathered = gathered_more picture l.y old new c.make_room.new.waiting.items c.append_components.new.bytes.items c.row.result.now c.width-width.result so_far l.invariant.width_is c.row.ensures.value c.in_ok-append_components.ensures.items;
     }
 
 pub returns-in_err-write-clause-stopped : goal.returns-in_err-write-clause-stopped
@@ -41,6 +41,16 @@ pub returns-in_err-make_room-clause-stopped : goal.returns-in_err-make_room-clau
 returns-in_err-make_room-clause-stopped g c =
     on_err c.from_residual-in_err-make_room.result _
     (beginning_written c.args.picture.now c.loop-y.y (g.W.Write.contents c.args.output.now) (g.W.Write.contents c.loop-y.output) (g.W.Write.contents c.make_room.new.output) c.loop-y.waiting.items c.loop-y.invariant.gathered c.in_err-make_room.ensures.stopped)
+
+pub returns-in_err-append_components-clause-stopped : goal.returns-in_err-append_components-clause-stopped
+returns-in_err-append_components-clause-stopped g c =
+    let l = c.loop-y in
+    let picture = c.args.picture.now in
+    let old = g.W.Write.contents c.args.output.now in
+    let new = g.W.Write.contents c.make_room.new.output in
+    let waiting = c.make_room.new.waiting.items in
+    let so_far = then_written old (g.W.Write.contents l.output) new (text_up_to picture l.y) l.waiting.items waiting l.invariant.gathered c.in_ok-make_room.ensures.done in
+    on_err c.from_residual-in_err-append_components.result _ (beginning_written picture l.y old new new waiting so_far (no_beginning new waiting))
 
 pub returns-in_err-write_whole-clause-stopped : goal.returns-in_err-write_whole-clause-stopped
 returns-in_err-write_whole-clause-stopped g c =
