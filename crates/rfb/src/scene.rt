@@ -21,19 +21,24 @@ impl TestScene {
         let width = server.screen().width();
         let height = server.screen().height();
         let mut row = Vec::new(alloc);
+        row.resize(usize::from(width), pattern(0, 0))?;
         for y in 0..height {
-            row.clear();
-            for x in 0..width {
-                row.push(pattern(x, y))?;
-            }
+            paint(usize::from(y), &mut row);
             let _ = server.put(0, y, &row);
         }
         Ok(TestScene { step: 0 })
     }
 }
 
+// Gives each place of row `y` the colour that it begins with.
+fn paint(y: usize, row: &mut [Colour]) {
+    for (x, colour) in row.iter_mut().enumerate() {
+        *colour = pattern(x, y);
+    }
+}
+
 // The colour that a place begins with.
-fn pattern(x: u16, y: u16) -> Colour {
+fn pattern(x: usize, y: usize) -> Colour {
     let (x, y) = (low(x), low(y));
     Colour {
         r: x.wrapping_mul(4),
@@ -43,7 +48,7 @@ fn pattern(x: u16, y: u16) -> Colour {
 }
 
 // A number modulo 256.
-fn low(number: u16) -> u8 {
+fn low(number: usize) -> u8 {
     (number % 256) as u8
 }
 
