@@ -7,6 +7,7 @@ cd "$(dirname "$0")/.."
 . bench/scratch.sh
 low_crates
 cat bench/kernels/rfb_picture.txt >> "$copy/crates/rfb_picture/src/tests.rt"
+sed -i "0,/^use std::alloc/s//use std::test::Fail;\nuse std::alloc/" "$copy/crates/rfb_picture/src/tests.rt"
 cat bench/kernels/rfb_pixel.txt >> "$copy/crates/rfb_pixel/src/format/tests.rt"
 cat bench/kernels/rfb_codec.txt >> "$copy/crates/rfb_codec/src/codec/tests.rt"
 # The test's own look at the pixels, which else is left out where nothing is encoded after it, is kept
