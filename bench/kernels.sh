@@ -13,7 +13,6 @@ cat bench/kernels/rfb_codec.txt >> "$copy/crates/rfb_codec/src/codec/tests.rt"
 # The test's own look at the pixels, which else is left out where nothing is encoded after it, is kept
 # in both sides of a difference.
 sed -i 's/^fn fits(/#[inline(never)]\n&/' "$copy/crates/rfb_codec/src/codec/tests.rt"
-cat bench/kernels/rfb_codec_decode.txt >> "$copy/crates/rfb_codec/src/painter/tests.rt"
 for crate in rfb_pixel rfb_picture rfb_codec; do
   (cd "$copy/crates/$crate" && rt test > "$copy/$crate.log" 2>&1) || { grep -A3 'error\|FAILED' "$copy/$crate.log"; exit 1; }
 done
@@ -71,12 +70,4 @@ difference 'Block::pack of a cell at rgb888' rfb_codec codec::tests::pack_cell c
 difference 'Block::pack of one place' rfb_codec codec::tests::pack_place codec::tests::pack_none 16
 for codec in raw rre hextile; do
   difference "$codec of an office tile at rgb888" rfb_codec "codec::tests::tile_office_rgb888_$codec" codec::tests::tile_office_rgb888_none 4096
-done
-for format in rgb888 rgb565; do
-  difference "Painter::feed, Raw at $format" rfb_codec "painter::tests::decode_raw_$format" painter::tests::decode_raw_none 4096
-done
-difference 'Painter::feed, RRE of one colour' rfb_codec painter::tests::decode_rre_flat painter::tests::decode_rre_none 4096
-difference 'Painter::feed, RRE of an office cell' rfb_codec painter::tests::decode_rre_office painter::tests::decode_rre_none 4096
-for cell in flat office; do
-  difference "Painter::feed, Hextile, $cell cell" rfb_codec "painter::tests::decode_hextile_$cell" "painter::tests::decode_hextile_${cell}_none" 4096
 done
