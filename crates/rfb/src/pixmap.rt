@@ -1,6 +1,6 @@
 //! Pictures as portable pixmaps (PPM), the files of Netpbm.
 
-ghost use Rattle.std.specs.Prelude.{◌≡◌, ◌≤◌, ◌+◌, ◌*◌, ◌++◌, [], length, vec_len, OnOk, OnErr, IfOk};
+ghost use Rattle.std.specs.Prelude.{◌≡◌, ◌≤◌, ◌+◌, ◌*◌, ◌++◌, [], length, vec_len, OnOk, OnErr, IfOk, IsOk};
 ghost use Rattle.std.specs.Vec.{vec_capacity};
 ghost use Rattle.std.specs.Io.KnownBytes.{Appends};
 ghost use Rattle.rfb.specs.Pixmap.{AppendsBeginning, AppendsUpTo, components, pixmap};
@@ -100,6 +100,8 @@ fn write_some<'a, W: Write>(bytes: &'a [u8], output: &mut W) -> io::Result<&'a [
 // where there is room for them.
 fn append_components(colours: &[Colour], bytes: &mut Vec<u8>) -> Result<(), AllocError>
     ensures items { OnOk result (bytes.new.items ≡ bytes.old.items ++ components colours.now) }
+    ensures fits { vec_len bytes.old + 3 * length colours.now ≤ vec_capacity bytes.old
+        → IsOk result }
     ensures room { vec_capacity bytes.old ≤ vec_capacity bytes.new }
 {
     let mut start = 0;
@@ -114,6 +116,8 @@ fn append_components(colours: &[Colour], bytes: &mut Vec<u8>) -> Result<(), Allo
 // The same, colour by colour.
 fn append_each(colours: &[Colour], bytes: &mut Vec<u8>) -> Result<(), AllocError>
     ensures items { OnOk result (bytes.new.items ≡ bytes.old.items ++ components colours.now) }
+    ensures fits { vec_len bytes.old + 3 * length colours.now ≤ vec_capacity bytes.old
+        → IsOk result }
     ensures room { vec_capacity bytes.old ≤ vec_capacity bytes.new }
 {
     for colour in colours {

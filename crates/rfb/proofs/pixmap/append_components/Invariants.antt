@@ -1,5 +1,5 @@
 -- The components of the colours so far stand behind the bytes that were there.
-use Rattle.std.proofs.Common.{◌≡◌, ◌≤◌, ◌-◌, ◌++◌, length, take}
+use Rattle.std.proofs.Common.{◌≡◌, ◌≤◌, ◌+◌, ◌-◌, ◌*◌, ◌++◌, length, vec_len, take}
 use Rattle.std.specs.Vec.{vec_capacity}
 use Rattle.rfb.specs.Pixmap.{components}
 use Rattle.rfb.proofs.pixmap.append_components.Given as goal
@@ -8,6 +8,7 @@ abbrev pub invariant-loop-start : goal.invariant-loop-start
 invariant-loop-start l = record {
   within : l.start ≤ length l.colours;
   items : l.bytes.items ≡ l.initial.bytes.items ++ components (take l.start l.colours);
+  len : vec_len l.bytes ≡ vec_len l.initial.bytes + 3 * l.start;
   room : vec_capacity l.initial.bytes ≤ vec_capacity l.bytes;
 }
 
