@@ -4,7 +4,7 @@ use Rattle.std.specs.Int.{div_ceil}
 use Rattle.std.proofs.lemmas.Nat.{div-mul-add, mod-mul-add}
 use Rattle.rfb_picture.specs.declared.rect.Rect.{Rect}
 use Rattle.rfb_picture.proofs.GridLemmas.{contains_true, contains_row}
-use Rattle.rfb_server.specs.inside.Cells.{cell_of, IsCell}
+use Rattle.rfb_server.specs.Cells.{cell_of, IsCell}
 
 -- the cell in that column and row of cells
 pub is_cell : (width height across column row index : ℕ) →

@@ -1,5 +1,5 @@
 -- When every cell is taken care of, a composing is done.
-use Rattle.std.proofs.Common.{◌≡◌, ℕ, suc, ◌+◌, ◌*◌, ◌/◌, ◌<◌, ◌≤◌, Bool, true, false, List, [], ◌∷◌, ◌++◌, length, map, Option, Some, None, refl, sym, ap, subst, ◌∙◌, arith, inl, inr, ◌⊎◌, append_assoc}
+use Rattle.std.proofs.Common.{◌≡◌, ℕ, suc, ◌+◌, ◌*◌, ◌/◌, ◌<◌, ◌≤◌, Bool, true, false, List, [], ◌∷◌, ◌++◌, length, map, Option, Some, None, refl, sym, ap, subst, ◌∙◌, arith, inl, inr, ◌⊎◌, append_assoc, if◌then◌else◌}
 use Rattle.std.specs.Int.{div_ceil}
 use Rattle.std.proofs.Math.Nat.{mul-le-mul_right}
 use Rattle.std.proofs.lemmas.Bool.{both_ways}
@@ -15,7 +15,7 @@ use Rattle.rfb_codec.proofs.EffectLaws.{effects_picture, effect_message}
 use Rattle.rfb_codec.proofs.WholeUpdateLaws.{update_read}
 use Rattle.rfb_server.specs.Server.{ServerState}
 use Rattle.rfb_server.specs.Request.{wanted, recorded, is_asked, is_whole}
-use Rattle.rfb_server.specs.inside.Cells.{cell_of}
+use Rattle.rfb_server.specs.Cells.{cell_of}
 use Rattle.rfb_server.specs.Composing.{Part, Move, sent_as, between, HaveTheirData, IsPlace, is_in_some, Composes}
 use Rattle.rfb_server.specs.inside.Sends.{Sends}
 use Rattle.rfb_server.specs.inside.Copying.{Copies}
@@ -50,7 +50,7 @@ module _ (s : ServerState) (moves : List Move) (copies parts : List Part) (known
           (sym (effect_message (between s) (FramebufferUpdate (length (map sent_as (copies ++ parts)))) picture))
           (agrees_both picture whole alike before);
       answered = λ x y p a. sends.answered x y p (all_cells s.screen.width s.screen.height x y p.0 p.1) a;
-      others = λ x y p a. by_others x y p a (is_in_some copies x y) refl (sends.others x y p);
+      others = λ x y p a. by_others x y p a (is_in_some copies x y) refl (kept_or_right (is_in_some parts x y) (sends.noted x y p));
       renewed = λ x y p w. (sends.renewed x y p (all_cells s.screen.width s.screen.height x y p.0 p.1) w, not_copied x y p w (is_in_some copies x y) refl);
       emptied = refl;
       same_point = refl;
@@ -63,6 +63,8 @@ module _ (s : ServerState) (moves : List Move) (copies parts : List Part) (known
       copies_listed = taken.copies_listed;
       gains = taken.gains;
       blocks_are = rw (taken.moved_is) sends.blocks_are;
+      boxes_are = rw (taken.moved_is) sends.boxes_are;
+      noted = λ x y p. rw (taken.moved_is) (sends.noted x y p);
     },
     refl,
   )
@@ -95,6 +97,10 @@ module _ (s : ServerState) (moves : List Move) (copies parts : List Part) (known
           (sends.agrees shown (kept.whole whole)
           (record { columns = kept.columns ∙ (alike.columns ∙ taken.alike.columns); rows = kept.rows ∙ (alike.rows ∙ taken.alike.rows) })
           (taken.agrees picture whole alike before))
+
+      kept_or_right : {A : Type 0} {at old right : A} (here : Bool) → at ≡ (if here then right else old) → (at ≡ old) ⊎ (at ≡ right)
+      kept_or_right true e = inr e
+      kept_or_right false e = inl e
 
       by_others : (x y : ℕ) → IsPlace s x y → is_asked s x y ≡ false → (here : Bool) → is_in_some copies x y ≡ here →
           (at_or now x y None ≡ at_or known x y None) ⊎ (at_or now x y None ≡ Some (wanted s x y)) →

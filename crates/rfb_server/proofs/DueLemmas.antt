@@ -9,7 +9,7 @@ use Rattle.rfb_picture.specs.Grid.{Grid}
 use Rattle.rfb_picture.proofs.GridLemmas.{contains_true}
 use Rattle.rfb_server.specs.declared.session.Session.{Session}
 use Rattle.rfb_server.specs.inside.Needing.{IsAbout, HasBox, needs_of}
-use Rattle.rfb_server.specs.inside.Cells.{cell_of, IsCell}
+use Rattle.rfb_server.specs.Cells.{cell_of, IsCell}
 use Rattle.rfb_server.specs.inside.Sends.{NoneMayNeed, state_of}
 use Rattle.rfb_server.specs.Composing.{IsDue}
 use Rattle.rfb_server.proofs.SentCells.{quiet_unless}

@@ -9,6 +9,7 @@ pub mod EncodingLemmas
 pub mod SendingLemmas
 pub mod CellLemmas
 pub mod NeedingLemmas
+pub mod BoxesLemmas
 pub mod SendsLemmas
 pub mod ComposesLemmas
 pub mod RoomLemmas

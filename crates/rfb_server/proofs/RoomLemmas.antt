@@ -9,7 +9,7 @@ use Rattle.rfb_picture.specs.declared.rect.Rect.{Rect}
 use Rattle.rfb_picture.specs.Rect.{contains}
 use Rattle.rfb_picture.specs.Box.{IsTight}
 use Rattle.rfb_picture.proofs.GridLemmas.{contains_true, contains_row}
-use Rattle.rfb_server.specs.inside.Cells.{cell_of, IsCell}
+use Rattle.rfb_server.specs.Cells.{cell_of, IsCell}
 use Rattle.rfb_server.specs.inside.Sends.{sum_below, IsCost, AreCosts}
 
 -- ---- sums

@@ -1,5 +1,5 @@
 -- A cell more in a composing: one that has nothing to send, and one of which a rectangle is sent.
-use Rattle.std.proofs.Common.{◌≡◌, ℕ, ◌+◌, ◌-◌, ◌<◌, ◌≤◌, ◌&&◌, ◌||◌, Bool, true, false, not, List, [], ◌∷◌, ◌++◌, map, Option, Some, None, if◌then◌else◌, refl, sym, ap, ◌∙◌, arith, inl, inr, ◌⊎◌, append_assoc, append-nil, length-append, ◌==◌}
+use Rattle.std.proofs.Common.{◌≡◌, ℕ, ◌+◌, ◌-◌, ◌<◌, ◌≤◌, ◌&&◌, ◌||◌, Bool, true, false, not, List, [], ◌∷◌, ◌++◌, map, Option, Some, None, if◌then◌else◌, refl, sym, ap, ◌∙◌, arith, inl, inr, append_assoc, append-nil, length-append, ◌==◌}
 use Rattle.std.proofs.lemmas.Bool.{cases_eq, cases_lt, both_ways, or_left, or_right}
 use Rattle.std.proofs.lemmas.Bool.Decides.{nat_tests}
 use Rattle.rfb_pixel.specs.declared.colour.Colour.{Colour}
@@ -18,9 +18,10 @@ use Rattle.rfb_codec.specs.WholeUpdate.{item_of, SpellsRectangles}
 use Rattle.rfb_codec.proofs.EffectLaws.{effect_painted, effects_picture, agrees_placed}
 use Rattle.rfb_server.specs.Server.{ServerState, black}
 use Rattle.rfb_server.specs.Request.{wanted_at, wanted, recorded, is_asked, is_whole, differs, needs_at, needs_sending}
-use Rattle.rfb_server.specs.inside.Cells.{cell_of, IsCell}
-use Rattle.rfb_server.specs.Composing.{Part, sent_as, between, IsPlace, HasItsData, HaveTheirData, IsBlockOf, AreBlocksOf, is_in_some}
+use Rattle.rfb_server.specs.Cells.{cell_of, IsCell}
+use Rattle.rfb_server.specs.Composing.{Part, sent_as, between, IsPlace, HasItsData, HaveTheirData, IsBlockOf, AreBlocksOf, IsBoxOf, is_in_some}
 use Rattle.rfb_server.specs.inside.Sends.{SendsPixels, Sends}
+use Rattle.rfb_server.proofs.BoxesLemmas.{boxes_none, boxes_push}
 
 -- ---- what needs no sending
 
@@ -113,9 +114,10 @@ module _ (across : ℕ) (s : ServerState) where
     spelled = refl;
     data_are = tt;
     blocks_are = tt;
+    boxes_are = λ x y p q above below. absurd (omega (arith, above, below));
     agrees = λ picture sound size agrees. agrees;
     answered = λ x y p l a. absurd (omega arith);
-    others = λ x y p. inl refl;
+    noted = λ x y p. refl;
     later = λ x y p l. refl;
     renewed = λ x y p l w. absurd (omega arith);
   }
@@ -134,13 +136,17 @@ module _ (across : ℕ) (s : ServerState) where
     spelled = sends.spelled;
     data_are = sends.data_are;
     blocks_are = sends.blocks_are;
+    boxes_are = boxes_none across s 0 n (n + 1) parts (omega arith) sends.boxes_are
+        (λ x y p q above below.
+        let none = clear_at x y (p, q) (omega (arith, above, below)) in
+        rw (sends.later x y (p, q) above) at none);
     agrees = sends.agrees;
     answered = λ x y p l a.
         elim (cases_eq (cell_of across x y) n) [
           | inl here ↦ (quiet x y p here a).0
           | inr other ↦ sends.answered x y p (omega arith) a
         ];
-    others = sends.others;
+    noted = sends.noted;
     later = λ x y p l. sends.later x y p (omega arith);
     renewed = λ x y p l w.
         elim (cases_eq (cell_of across x y) n) [
@@ -149,11 +155,14 @@ module _ (across : ℕ) (s : ServerState) where
         ];
   }
     where
+      clear_at : (x y : ℕ) → IsPlace s x y → cell_of across x y ≡ n → needs_at s.screen known s.area s.form x y ≡ false
+      clear_at x y p here =
+          let (f, g, h, i) = contains_true cell x y (is.all x y p.0 p.1 here) in
+          clear x y f g h i
+
       quiet : (x y : ℕ) → IsPlace s x y → cell_of across x y ≡ n → is_asked s x y ≡ true →
           (at_or known x y None ≡ Some (wanted s x y)) × (is_whole s x y ≡ false)
-      quiet x y p here a =
-          let (f, g, h, i) = contains_true cell x y (is.all x y p.0 p.1 here) in
-          quiet_place (is_asked s x y) (is_whole s x y) (wanted s x y) (at_or known x y None) (clear x y f g h i) a
+      quiet x y p here a = quiet_place (is_asked s x y) (is_whole s x y) (wanted s x y) (at_or known x y None) (clear_at x y p here) a
 
   -- cells of which nothing needs sending
   pub sends_skip : (n m : ℕ) (known : Grid (Option ℕ)) (parts : List Part) (bytes : List ℕ) → IsArea s.area →
@@ -168,13 +177,17 @@ module _ (across : ℕ) (s : ServerState) where
     spelled = sends.spelled;
     data_are = sends.data_are;
     blocks_are = sends.blocks_are;
+    boxes_are = boxes_none across s 0 n m parts order sends.boxes_are
+        (λ x y p q above below.
+        let none = clear x y (p, q) above below in
+        rw (sends.later x y (p, q) above) at none);
     agrees = sends.agrees;
     answered = λ x y p l a.
         elim (cases_lt (cell_of across x y) n) [
           | inl less ↦ sends.answered x y p less a
           | inr more ↦ (quiet_place (is_asked s x y) (is_whole s x y) (wanted s x y) (at_or known x y None) (clear x y p more l) a).0
         ];
-    others = sends.others;
+    noted = sends.noted;
     later = λ x y p l. sends.later x y p (omega (arith, l, order));
     renewed = λ x y p l w.
         elim (cases_lt (cell_of across x y) n) [
@@ -202,9 +215,10 @@ module _ (across : ℕ) (s : ServerState) where
     spelled = spelled_push s parts part bytes more sends.spelled spelled;
     data_are = data_push s parts part sends.data_are data_are;
     blocks_are = blocks_push s parts part sends.blocks_are block_is;
+    boxes_are = boxes_push across s 0 n parts part (omega arith) sends.boxes_are box_is;
     agrees = agrees;
     answered = answered;
-    others = others;
+    noted = noted;
     later = λ x y p l. step x y p ∙ (rw (outside x y p (omega arith)) (sends.later x y p (omega arith)));
     renewed = renewed;
   }
@@ -277,6 +291,21 @@ module _ (across : ℕ) (s : ServerState) where
         };
       }
 
+      box_is : IsBoxOf across s n rect
+      box_is = record {
+        cell = cell;
+        is_cell = is;
+        least = record {
+          within = box.within;
+          holds = λ x y c need.
+              let (f, g, h, i) = contains_true cell x y c in
+              let p : IsPlace s x y = (omega (arith, is.held), omega (arith, is.held)) in
+              let here : cell_of across x y ≡ n = is.inside x y c in
+              box.holds x y c (rw (sends.later x y p (omega (arith, here))) need);
+          tight = block_is.tight;
+        };
+      }
+
       agrees : (picture : Grid Colour) → IsGrid picture → IsAlike picture s.known → Agrees s.form picture s.known →
           Agrees s.form (effects (between s) (map item_of (map sent_as (parts ++ part ∷ []))) picture) now
       agrees picture whole alike before =
@@ -306,15 +335,17 @@ module _ (across : ℕ) (s : ServerState) where
             | inr other ↦ sends.answered x y p (omega arith) a
           ])
 
-      others_by : (x y : ℕ) (here : Bool) → (at_or known x y None ≡ recorded s x y) ⊎ (at_or known x y None ≡ Some (wanted s x y)) →
-          at_or now x y None ≡ (if here then Some (wanted s x y) else at_or known x y None) →
-          (at_or now x y None ≡ recorded s x y) ⊎ (at_or now x y None ≡ Some (wanted s x y))
-      others_by x y true old e = inr e
-      others_by x y false (inl same) e = inl (e ∙ same)
-      others_by x y false (inr right) e = inr (e ∙ right)
+      either : {A : Type 0} (in_old here : Bool) (right old : A) →
+          (if here then right else (if in_old then right else old)) ≡ (if in_old || here then right else old)
+      either true true right old = refl
+      either true false right old = refl
+      either false true right old = refl
+      either false false right old = refl
 
-      others : (x y : ℕ) → IsPlace s x y → (at_or now x y None ≡ recorded s x y) ⊎ (at_or now x y None ≡ Some (wanted s x y))
-      others x y p = others_by x y (contains rect x y) (sends.others x y p) (step x y p)
+      noted : (x y : ℕ) → IsPlace s x y → at_or now x y None ≡ (if is_in_some (parts ++ part ∷ []) x y then Some (wanted s x y) else recorded s x y)
+      noted x y p =
+          step x y p ∙
+          (rw (sends.noted x y p, in_push parts part x y) (either (is_in_some parts x y) (contains rect x y) (Some (wanted s x y)) (recorded s x y)))
 
       renewed_by : (x y : ℕ) (here : Bool) → IsPlace s x y → contains rect x y ≡ here → cell_of across x y < n + 1 → is_whole s x y ≡ true →
           (is_in_some parts x y || here) ≡ true

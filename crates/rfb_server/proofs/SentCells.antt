@@ -9,7 +9,7 @@ use Rattle.rfb_picture.specs.Box.{is_in, IsClear, IsBox}
 use Rattle.rfb_picture.specs.Area.{asked_at, whole_at}
 use Rattle.rfb_server.specs.declared.session.Session.{Session}
 use Rattle.rfb_server.specs.Request.{wanted_at, differs, needs_at}
-use Rattle.rfb_server.specs.inside.Cells.{IsCell}
+use Rattle.rfb_server.specs.Cells.{IsCell}
 use Rattle.rfb_server.specs.inside.Needing.{IsAbout, needs_of}
 use Rattle.rfb_server.specs.Composing.{Part}
 use Rattle.rfb_server.specs.inside.Sends.{IsKept, SendsPixels, SendsCell, state_of, AppendsCells, NoneMayNeed, may_need}

@@ -1,12 +1,13 @@
--- One composing: the update that is sent, and what is recorded of it. Which rectangles it has is
--- the composer's choice, within the bounds that stand here.
-use Rattle.std.specs.Prelude.{◌≡◌, ◌≢◌, ℕ, zero, suc, ◌+◌, ◌<◌, Bool, true, false, not, ◌||◌, List, [], ◌∷◌, ◌++◌, map, Some, ◌⊎◌, if◌then◌else◌}
+-- One composing: the update that is sent, and what is recorded of it. Which encoding its pixels are
+-- sent in is the composer's choice, within the bounds that stand here.
+use Rattle.std.specs.Prelude.{◌≡◌, ◌≢◌, ℕ, zero, suc, ◌+◌, ◌*◌, ◌<◌, ◌≤◌, Bool, true, false, not, ◌||◌, List, [], ◌∷◌, ◌++◌, map, Some, ◌⊎◌, if◌then◌else◌}
+use Rattle.std.specs.Int.{div_ceil}
 use Rattle.rfb_pixel.specs.declared.colour.Colour.{Colour}
 use Rattle.rfb_picture.specs.declared.rect.Rect.{Rect}
 use Rattle.rfb_picture.specs.Rect.{contains}
 use Rattle.rfb_picture.specs.Grid.{Grid, IsGrid, Holds, copied}
 use Rattle.rfb_picture.specs.Area.{nothing}
-use Rattle.rfb_picture.specs.Box.{IsTight}
+use Rattle.rfb_picture.specs.Box.{IsTight, IsBox}
 use Rattle.rfb_wire.specs.declared.encoding.Encoding.{Encoding}
 use Rattle.rfb_wire.specs.declared.encoding.Encoding.TheVariants.{Raw, CopyRect}
 use Rattle.rfb_wire.specs.declared.rect_head.RectHead.{RectHead}
@@ -19,6 +20,7 @@ use Rattle.rfb_codec.specs.WholeUpdate.{SentRect, update_of}
 use Rattle.rfb_server.specs.Encodings.{is_same, is_listed, preferred}
 use Rattle.rfb_server.specs.Server.{ServerState}
 use Rattle.rfb_server.specs.Request.{wanted, recorded, is_asked, is_whole, differs, needs_sending}
+use Rattle.rfb_server.specs.Cells.{cell_of, IsCell}
 
 -- ---- what is sent
 
@@ -127,6 +129,32 @@ abbrev pub AreBlocksOf : ServerState → List Part → Type 0
 AreBlocksOf s [] = Unit {0}
 AreBlocksOf s (part ∷ parts) = IsBlockOf s part × AreBlocksOf s parts
 
+-- no place of the cells from number `from` up to number `to` needs sending, where a row of the screen
+-- has `across` cells
+abbrev pub NoneNeeds : ℕ → ServerState → ℕ → ℕ → Type 0
+NoneNeeds across s from to = (x y : ℕ) → x < s.screen.width → y < s.screen.height →
+    from ≤ cell_of across x y → cell_of across x y < to → needs_sending s x y ≡ false
+
+-- the rectangle is the least one that holds what of that cell needs sending
+pub record IsBoxOf (across : ℕ) (s : ServerState) (index : ℕ) (rect : Rect) : Type 0 where
+  pub cell : Rect
+  pub is_cell : IsCell s.screen.width s.screen.height across index cell
+  pub least : IsBox (needs_sending s) cell rect
+
+-- of the cells from number `from` up to number `to` these are the rectangles, in the order of the
+-- cells: one of each that has a place that needs sending, and none of another
+abbrev pub AreBoxes : ℕ → ServerState → ℕ → ℕ → List Part → Type 0
+AreBoxes across s from to [] = NoneNeeds across s from to
+AreBoxes across s from to (part ∷ parts) =
+    (index : ℕ) × (from ≤ index) × (index < to) × NoneNeeds across s from index ×
+    IsBoxOf across s index part.head.rect × AreBoxes across s (index + 1) to parts
+
+-- of all cells of the screen
+abbrev pub AreAllBoxes : ServerState → List Part → Type 0
+AreAllBoxes s parts =
+    AreBoxes (div_ceil s.screen.width 64) s
+    0 (div_ceil s.screen.width 64 * div_ceil s.screen.height 64) parts
+
 -- a place lies in one of these rectangles
 abbrev pub is_in_some : List Part → ℕ → ℕ → Bool
 is_in_some [] x y = false
@@ -177,8 +205,13 @@ pub record Composes (old new : ServerState) (bytes : List ℕ)
   pub copies_are : AreCopies moves copies
   pub copies_listed : moves ≢ [] → is_listed CopyRect old.encodings ≡ true
   pub gains : AllGain old moves
-  -- of what the copies leave, the others take no more than needs sending
+  -- of what the copies leave, the others take cell by cell no more than needs sending
   pub blocks_are : AreBlocksOf (all_moved moves old) blocks
+  pub boxes_are : AreAllBoxes (all_moved moves old) blocks
+  -- the record is what the copies leave, with the wanted pixel in each place of the others
+  pub noted : (x y : ℕ) → IsPlace old x y →
+      recorded new x y ≡
+      (if is_in_some blocks x y then Some (wanted old x y) else recorded (all_moved moves old) x y)
 
 -- a composing is due: the server is ready, and a place needs sending
 pub record IsDue (s : ServerState) : Type 0 where

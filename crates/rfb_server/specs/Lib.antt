@@ -5,6 +5,7 @@ pub mod Record
 pub mod Encodings
 pub mod Server
 pub mod Request
+pub mod Cells
 pub mod Composing
 pub mod Progress
 pub mod Standing

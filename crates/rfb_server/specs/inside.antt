@@ -2,7 +2,6 @@
 pub mod Marks
 pub mod Sessions
 pub mod Sending
-pub mod Cells
 pub mod Needing
 pub mod Sends
 pub mod Composed

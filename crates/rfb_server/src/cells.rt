@@ -2,7 +2,7 @@
 
 ghost use Rattle.std.specs.Prelude.{◌≡◌, ◌*◌, ◌≤◌, ◌<◌};
 ghost use Rattle.std.specs.Int.{div_ceil};
-ghost use Rattle.rfb_server.specs.inside.Cells.{IsCell};
+ghost use Rattle.rfb_server.specs.Cells.{IsCell};
 
 use rfb_picture::Rect;
 

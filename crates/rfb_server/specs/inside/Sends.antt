@@ -1,5 +1,5 @@
 -- Composing, cell by cell: what the rectangles so far are, and what they leave known.
-use Rattle.std.specs.Prelude.{◌≡◌, ℕ, zero, suc, ◌+◌, ◌*◌, ◌<◌, ◌≤◌, ◌&&◌, Bool, List, [], ◌++◌, length, map, true, false, Option, Some, None, ◌⊎◌, MatchOption}
+use Rattle.std.specs.Prelude.{◌≡◌, ℕ, zero, suc, ◌+◌, ◌*◌, ◌<◌, ◌≤◌, ◌&&◌, Bool, List, [], ◌++◌, length, map, true, false, Option, Some, None, MatchOption, if◌then◌else◌}
 use Rattle.std.specs.Int.{div_ceil}
 use Rattle.rfb_pixel.specs.declared.colour.Colour.{Colour}
 use Rattle.rfb_pixel.specs.Format.{PixelFormat, size_of}
@@ -18,8 +18,8 @@ use Rattle.rfb_server.specs.Server.{ServerState}
 use Rattle.rfb_server.specs.Request.{wanted, recorded, is_asked, is_whole}
 use Rattle.rfb_server.specs.inside.Needing.{HasBox, needs_of}
 use Rattle.rfb_server.specs.inside.Sending.{IsCoded}
-use Rattle.rfb_server.specs.inside.Cells.{cell_of, IsCell}
-use Rattle.rfb_server.specs.Composing.{Part, sent_as, between, may_send, IsForPixels, is_in_some, IsPlace, HaveTheirData, AreBlocksOf}
+use Rattle.rfb_server.specs.Cells.{cell_of, IsCell}
+use Rattle.rfb_server.specs.Composing.{Part, sent_as, between, may_send, IsForPixels, is_in_some, IsPlace, HaveTheirData, AreBlocksOf, AreBoxes}
 
 -- ---- one rectangle
 
@@ -88,13 +88,14 @@ pub record Sends (across n : ℕ) (s : ServerState) (known : Grid (Option ℕ))
   pub spelled : SpellsRectangles (between s) (map sent_as parts) bytes
   pub data_are : HaveTheirData s parts
   pub blocks_are : AreBlocksOf s parts
+  pub boxes_are : AreBoxes across s 0 n parts
   pub agrees : (picture : Grid Colour) → IsGrid picture → IsAlike picture s.known →
       Agrees s.form picture s.known →
       Agrees s.form (effects (between s) (map item_of (map sent_as parts)) picture) known
   pub answered : (x y : ℕ) → IsPlace s x y → cell_of across x y < n → is_asked s x y ≡ true →
       at_or known x y None ≡ Some (wanted s x y)
-  pub others : (x y : ℕ) → IsPlace s x y →
-      (at_or known x y None ≡ recorded s x y) ⊎ (at_or known x y None ≡ Some (wanted s x y))
+  pub noted : (x y : ℕ) → IsPlace s x y → at_or known x y None ≡
+      (if is_in_some parts x y then Some (wanted s x y) else recorded s x y)
   pub later : (x y : ℕ) → IsPlace s x y → n ≤ cell_of across x y →
       at_or known x y None ≡ recorded s x y
   pub renewed : (x y : ℕ) → IsPlace s x y → cell_of across x y < n → is_whole s x y ≡ true →

@@ -7,7 +7,7 @@ ghost use Rattle.std.specs.Vec.{vec_capacity};
 ghost use Rattle.rfb_picture.specs.Grid.{Holds};
 ghost use Rattle.rfb_codec.specs.Raw.{raw_length};
 ghost use Rattle.rfb_server.specs.inside.Needing.{IsAbout};
-ghost use Rattle.rfb_server.specs.inside.Cells.{IsCell};
+ghost use Rattle.rfb_server.specs.Cells.{IsCell};
 ghost use Rattle.rfb_server.specs.inside.Sends.{IsKept, AppendsPixels, SendsCell, AppendsCells};
 ghost use Rattle.rfb_server.specs.inside.Sends.{IsCostIn, IsEnough, HasNext};
 ghost use Rattle.rfb_server.specs.inside.Sessions.{IsSame};

@@ -1,6 +1,6 @@
 use Rattle.std.proofs.Common.{◌*◌, arith}
 use Rattle.std.specs.Int.{div_ceil}
-use Rattle.rfb_server.specs.inside.Cells.{IsCell}
+use Rattle.rfb_server.specs.Cells.{IsCell}
 use Rattle.rfb_server.proofs.RoomLemmas.{few_cells}
 use Rattle.rfb_server.proofs.DueLemmas.{box_due, quiet_skip, quiet_more, quiet_not_due}
 use Rattle.rfb_server.proofs.session.Session.is_due.Goals as goal

@@ -1,6 +1,6 @@
 use Rattle.std.proofs.Common.{◌*◌, arith, ℕ}
 use Rattle.std.specs.Int.{div_ceil}
-use Rattle.rfb_server.specs.inside.Cells.{IsCell}
+use Rattle.rfb_server.specs.Cells.{IsCell}
 use Rattle.rfb_server.specs.inside.Sends.{may_need}
 use Rattle.rfb_server.proofs.RoomLemmas.{costs_none, costs_more, costs_skip, cut, sum_cut, with_cost, sum_with, few_cells}
 use Rattle.rfb_server.proofs.session.Session.room.Goals as goal

@@ -1,6 +1,6 @@
 use Rattle.std.proofs.Common.{◌≡◌, ◌+◌, ◌*◌, ◌<◌, ℕ, refl, subst, arith, ◌∙◌}
 use Rattle.std.specs.Int.{div_ceil}
-use Rattle.rfb_server.specs.inside.Cells.{IsCell}
+use Rattle.rfb_server.specs.Cells.{IsCell}
 use Rattle.rfb_server.specs.inside.Sends.{IsCost, AppendsCells, NoneMayNeed, may_need}
 use Rattle.rfb_server.proofs.RoomLemmas.{sum_more, sum_order, few_cells}
 use Rattle.rfb_server.proofs.SentCells.{cells_start, cells_more, cells_skip, same_wide, same_high, kept_then, kept_same}
