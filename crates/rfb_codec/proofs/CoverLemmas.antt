@@ -8,7 +8,7 @@ use Rattle.rfb_picture.proofs.GridLemmas.{place_below, contains_true}
 use Rattle.rfb_wire.specs.RectHead.{IsOnScreen}
 use Rattle.rfb_codec.specs.declared.subrect.Subrect.{Subrect}
 use Rattle.rfb_codec.specs.Rre.{pixel_at}
-use Rattle.rfb_codec.specs.inside.Cover.{IsPartOf, ArePartsOf, IsCover, IsGivenUp}
+use Rattle.rfb_codec.specs.inside.Cover.{IsPartOf, ArePartsOf, IsCover}
 use Rattle.rfb_codec.proofs.RreLaws.{pixel_at-last}
 
 -- ---- subrectangles
@@ -56,7 +56,7 @@ pub record Covering (width height x y : ℕ) (pixels until : List ℕ) (backgrou
   pub parts : ArePartsOf width height pixels background subs
   pub shown : (i j : ℕ) → i < width → j < height → pixel_at background subs i j ≡ (if is_done x y (slice_index until i) i j then slice_index pixels (j * width + i) else background)
 
-zeros : (n i : ℕ) → slice_index (replicate n 0) i ≡ 0
+pub zeros : (n i : ℕ) → slice_index (replicate n 0) i ≡ 0
 zeros zero i = refl
 zeros (suc n) zero = refl
 zeros (suc n) (suc i) = zeros n i
@@ -156,13 +156,3 @@ covering_all width height pixels until background subs old = record {
       let done : is_done 0 height u i j ≡ true = grind (arith, nat_tests) in
       rw done at (old.shown i j left below);
 }
-
--- where no further one may be taken, the place that the scan stands at is not shown
-pub given_up : (width height x y limit : ℕ) (pixels until : List ℕ) (background : ℕ) (subs : List Subrect) → x < width → y < height → length subs ≡ limit →
-    slice_index pixels (y * width + x) ≢ background → slice_index until x ≤ y → Covering width height x y pixels until background subs →
-    IsGivenUp width height pixels background limit subs
-given_up width height x y limit pixels until background subs left below full other free old =
-    let u = slice_index until x in
-    let passed : is_done x y u x y ≡ false = grind (arith, nat_tests) in
-    let shown : pixel_at background subs x y ≡ background = rw passed at (old.shown x y left below) in
-    record { full = full; x = x; y = y; column = left; row = below; differs = λ same. other (sym same ∙ shown) }

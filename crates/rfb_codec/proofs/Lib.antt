@@ -21,6 +21,9 @@ pub mod MaskFaultLaws
 pub mod TileLaws
 pub mod HextileLaws
 pub mod CoverLemmas
+pub mod RuleLemmas
+pub mod RuleCountLemmas
+pub mod NoShorterLemmas
 pub mod PaletteLemmas
 pub mod PlacesLemmas
 pub mod TallyLemmas
@@ -31,6 +34,8 @@ pub mod TileLengthLemmas
 pub mod TileSpellingLemmas
 pub mod CarriedLemmas
 pub mod HextileEncodeLemmas
+pub mod HextileRuleLemmas
+pub mod HextileTilesLemmas
 pub mod DrawLemmas
 pub mod PaintLemmas
 pub mod PaintRawLemmas

@@ -5,7 +5,8 @@ use Rattle.std.proofs.lemmas.List.{take_all}
 use Rattle.std.proofs.lemmas.Bool.{cases_lt}
 use Rattle.std.proofs.lemmas.Bool.Decides.{nat_tests}
 use Rattle.rfb_codec.specs.inside.Background.{Leads}
-use Rattle.rfb_codec.specs.inside.Palette.{places_of, IsMoreFrequent}
+use Rattle.rfb_codec.specs.Choice.{places_of}
+use Rattle.rfb_codec.specs.inside.Palette.{IsMoreFrequent}
 
 -- where each place has one of two, the places of both are all: first of so many
 counted_up_to : (a b n : ℕ) (pixels : List ℕ) → a ≢ b → ((i : ℕ) → i < length pixels → (slice_index pixels i ≡ a) ⊎ (slice_index pixels i ≡ b)) → n ≤ length pixels → places_of a (take n pixels) + places_of b (take n pixels) ≡ n

@@ -6,8 +6,7 @@ use Rattle.std.proofs.lemmas.List.Sums.{count_by_more_yes, count_by_more_no, sum
 use Rattle.std.proofs.lemmas.List.{take_all}
 use Rattle.std.proofs.lemmas.Bool.{cases_eq}
 use Rattle.std.proofs.lemmas.Bool.Decides.{nat_tests}
-use Rattle.rfb_codec.specs.inside.Cover.{IsPixelOf}
-use Rattle.rfb_codec.specs.inside.Palette.{places_of}
+use Rattle.rfb_codec.specs.Choice.{IsPixelOf, places_of}
 
 pub more_yes : (p : ℕ) (xs : List ℕ) (i : ℕ) → i < length xs → get_or xs i 0 ≡ p → places_of p (take (i + 1) xs) ≡ places_of p (take i xs) + 1
 more_yes p xs i below is =

@@ -16,9 +16,10 @@ use Rattle.rfb_wire.specs.stream.Reading.{Listed}
 use Rattle.rfb_wire.specs.RectHead.{IsOnScreen}
 use Rattle.rfb_codec.specs.declared.subrect.Subrect.{Subrect}
 use Rattle.rfb_codec.specs.Pixels.{IsPixel, HasPixels}
-use Rattle.rfb_codec.specs.Rre.{SpellsRreHead, SpellsSubrect, SpellsInside, StandsRre}
+use Rattle.rfb_codec.specs.Rre.{SpellsRreHead, SpellsSubrect, SpellsInside}
 use Rattle.rfb_codec.specs.inside.Encode.{subrect_bytes}
-use Rattle.rfb_codec.specs.inside.Cover.{IsPixelOf, ArePartsOf, IsCover}
+use Rattle.rfb_codec.specs.Choice.{IsPixelOf, IsBackground, AreRuleSubs, StandsRreByRule}
+use Rattle.rfb_codec.specs.inside.Cover.{ArePartsOf, IsCover}
 use Rattle.rfb_codec.proofs.PixelLemmas.{length-pixel_bytes}
 
 -- a pixel of the format is read back from its bytes
@@ -81,20 +82,23 @@ head_read f count background few small = record {
   background_is = ap (pixel_number f) (sym (append-nil (pixel_bytes f background))) ∙ pixel_read f background [] small;
 }
 
--- a cover's bytes stand for the block
-pub stands_rre : (f : PixelFormat) (block : Grid ℕ) (background : ℕ) (subs : List Subrect) → IsGrid block → block.width ≤ 64 → block.height ≤ 64 → length subs < 2 ^ 32 → HasPixels f block → IsPixelOf block.places background → IsCover block.width block.height block.places background subs → StandsRre f block (rre_head f (length subs) background ++ flat_map (subrect_bytes f) subs)
-stands_rre f block background subs whole wide high few small plain cover = record {
-  background = background;
-  subs = subs;
-  head = rre_head f (length subs) background;
-  list = flat_map (subrect_bytes f) subs;
-  whole = refl;
-  head_is = head_read f (length subs) background few (pixel_of_block f block background small plain);
-  listed = subrects_listed f block background subs wide high small cover.parts;
-  shows = λ x y d left below.
-      let under = place_below block.width block.height x y left below in
-      get_or_default block.places (y * block.width + x) d 0 (omega (arith, whole)) ∙ sym (cover.shows x y left below);
-}
+-- the bytes of the rule's cover stand for the block, by the rule
+pub stands_rre : (f : PixelFormat) (block : Grid ℕ) (background : ℕ) (subs : List Subrect) → IsGrid block → block.width ≤ 64 → block.height ≤ 64 → length subs < 2 ^ 32 → HasPixels f block → IsBackground block.places background → IsCover block.width block.height block.places background subs → AreRuleSubs block.width block.height block.places background subs → StandsRreByRule f block (rre_head f (length subs) background ++ flat_map (subrect_bytes f) subs)
+stands_rre f block background subs whole wide high few small chosen cover rule = (
+  record {
+    background = background;
+    subs = subs;
+    head = rre_head f (length subs) background;
+    list = flat_map (subrect_bytes f) subs;
+    whole = refl;
+    head_is = head_read f (length subs) background few (pixel_of_block f block background small chosen.there);
+    listed = subrects_listed f block background subs wide high small cover.parts;
+    shows = λ x y d left below.
+        let under = place_below block.width block.height x y left below in
+        get_or_default block.places (y * block.width + x) d 0 (omega (arith, whole)) ∙ sym (cover.shows x y left below);
+  },
+  record { background_is = chosen; subs_are = rule },
+)
 
 -- so many places can be covered by a third as many subrectangles, where that is shorter than Raw
 pub limit_fits : (places size n : ℕ) → places ≤ 3 * n → size ≤ 4 → places * size / (size + 8) ≤ n

@@ -4,7 +4,7 @@ use Rattle.std.proofs.lemmas.Bool.{cases_lt, cases_eq}
 use Rattle.std.proofs.lemmas.List.{take_all}
 use Rattle.std.proofs.lemmas.List.{take-append-le}
 use Rattle.std.specs.List.{refill}
-use Rattle.rfb_codec.specs.inside.Palette.{places_of}
+use Rattle.rfb_codec.specs.Choice.{places_of}
 use Rattle.rfb_codec.specs.inside.Background.{IsLed, IsRun, Leads}
 use Rattle.rfb_codec.proofs.PlacesLemmas.{run_counted, run_passed, none_before}
 

@@ -129,10 +129,6 @@ abbrev pub CarriesColours : List Tile → List Tile → Type 0
 CarriesColours before [] = Unit {0}
 CarriesColours before (t ∷ tiles) = KeepsRule before t × CarriesColours (before ++ t ∷ []) tiles
 
--- the bytes stand for the block, and their tiles keep the rule
-abbrev pub StandsByRule : PixelFormat → Grid ℕ → List ℕ → Type 0
-StandsByRule f block bytes = (s : StandsHextile f block bytes) × CarriesColours [] s.tiles
-
 -- ---- the reading
 
 -- the reading of Hextile data

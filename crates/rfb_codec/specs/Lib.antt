@@ -2,9 +2,12 @@ pub mod Pixels
 pub mod Raw
 pub mod Rre
 pub mod Codec
+pub mod Choice
 pub mod Tile
 pub mod MaskFaults
 pub mod Hextile
+pub mod HextileRule
+pub mod ByRule
 pub mod RectData
 pub mod UpdateStream
 pub mod Effect

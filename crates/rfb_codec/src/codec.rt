@@ -11,6 +11,7 @@ ghost use Rattle.rfb_wire.specs.Encoding.{number_of};
 ghost use Rattle.rfb_codec.specs.Pixels.{HasPixels, IsSized};
 ghost use Rattle.rfb_codec.specs.RectData.{Pixels, SpellsData};
 ghost use Rattle.rfb_codec.specs.Codec.{Appends, raw_of, shortens};
+ghost use Rattle.rfb_codec.specs.ByRule.{StandsIn, GivesUp};
 
 use crate::block::Block;
 use rfb_pixel::Format;
@@ -29,8 +30,8 @@ pub trait Codec {
     const NUMBER: i32;
 
     /// Appends to `out` data that stand for the block in this format, no more bytes than its pixels
-    /// have by themselves (Raw), and answers true. False is for a block that the encoding gives up,
-    /// as one whose data would not be shorter than Raw; then `out` has what it had.
+    /// have by themselves (Raw), and answers true. False is for a block that the encoding gives up:
+    /// its data, as the rule has them, would not be shorter than Raw. Then `out` has what it had.
     ///
     /// The caller owns all three. It has made the room that Raw would need, so no memory is taken
     /// and the capacity stays, and no pixel has more bits than the format gives it.
@@ -42,6 +43,7 @@ pub trait Codec {
             (Appends stands format.now block.now out.old.items out.new.items) }
         ensures shorter { OnTrue (shortens encoding)
             (OnTrue result (vec_len out.new < vec_len out.old + raw_of format.now block.now)) }
+        ensures given_up { OnFalse result (GivesUp encoding format.now block.now) }
         ensures kept { OnFalse result (out.new.items ≡ out.old.items) }
         ensures room { vec_capacity out.new ≡ vec_capacity out.old };
 
@@ -53,6 +55,10 @@ pub trait Codec {
         (block : Grid ℕ) (bytes : List ℕ) →
         IsSized rect.w rect.h block → stands f block bytes →
         SpellsData f width height rect encoding (Pixels block) bytes };
+
+    // It is what the rule of the encoding makes of the block.
+    ghost by_rule: { (f : PixelFormat) (block : Grid ℕ) (bytes : List ℕ) →
+        stands f block bytes → StandsIn encoding f block bytes };
 }
 
 #[cfg(test)]

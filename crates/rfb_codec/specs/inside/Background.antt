@@ -3,15 +3,7 @@
 use Rattle.std.specs.Prelude.{◌≡◌, ◌≢◌, ℕ, ◌*◌, ◌/◌, ◌%◌, ◌<◌, ◌≤◌, ◌⊎◌, slice_index, List, [], ◌∷◌, length, All}
 use Rattle.rfb_codec.specs.declared.choice.background.Stop.{Stop}
 use Rattle.rfb_codec.specs.declared.choice.background.Stop.TheVariants.{Pixels, Room}
-use Rattle.rfb_codec.specs.inside.Cover.{IsPixelOf}
-use Rattle.rfb_codec.specs.inside.Palette.{places_of}
-
--- it is the pixel that the most places have, and the least of those that as many have
-pub record IsBackground (pixels : List ℕ) (pixel : ℕ) : Type 0 where
-  pub there : IsPixelOf pixels pixel
-  pub most : (other : ℕ) → IsPixelOf pixels other → places_of other pixels ≤ places_of pixel pixels
-  pub least : (other : ℕ) → IsPixelOf pixels other →
-      places_of other pixels ≡ places_of pixel pixels → pixel ≤ other
+use Rattle.rfb_codec.specs.Choice.{IsPixelOf, places_of}
 
 -- no two of them are the same
 abbrev pub AllDiffer : List ℕ → Type 0

@@ -7,7 +7,13 @@ use Rattle.rfb_codec.specs.declared.hextile.layout.TileLayout.{TileLayout}
 use Rattle.rfb_codec.specs.declared.hextile.encode.carried.Carried.{Carried}
 use Rattle.rfb_codec.specs.Tile.{Tile, background_of, foreground_of, last_of, tile_pixel, FitsTile, SpellsTile}
 use Rattle.rfb_codec.specs.inside.TileSpelling.{tile_of, tile_bytes}
+use Rattle.rfb_codec.specs.HextileRule.{Held}
 use Rattle.rfb_codec.specs.Hextile.{behind_last, is_raw_tile, is_raw_or_colored, NoneIs, KeepsRule}
+
+-- what is remembered, as the rule has it
+abbrev pub held_of : Carried → Held
+held_of carried =
+    record { background = carried.background; foreground = carried.foreground }
 
 -- the last of the tiles that specify that colour specified this one, and none that stops it stands
 -- after

@@ -4,10 +4,7 @@ use Rattle.std.specs.Prelude.{◌≡◌, ◌≢◌, ℕ, ◌+◌, ◌*◌, ◌<�
 use Rattle.rfb_wire.specs.RectHead.{IsOnScreen}
 use Rattle.rfb_codec.specs.declared.subrect.Subrect.{Subrect}
 use Rattle.rfb_codec.specs.Rre.{pixel_at}
-
--- one of the pixels has this value
-abbrev pub IsPixelOf : List ℕ → ℕ → Type 0
-IsPixelOf pixels pixel = (i : ℕ) × (i < length pixels) × (pixel ≡ slice_index pixels i)
+use Rattle.rfb_codec.specs.Choice.{IsPixelOf, IsLeft, AreNextSubs}
 
 -- a subrectangle over that background in a block of that width and height: it has one of the
 -- pixels, another than the background, and places that there are
@@ -32,15 +29,16 @@ pub record IsCover (width height : ℕ) (pixels : List ℕ) (background : ℕ) (
   pub shows : (x y : ℕ) → x < width → y < height →
       pixel_at background subs x y ≡ slice_index pixels (y * width + x)
 
--- as many subrectangles as that were taken, and over the background they do not show every pixel
+-- as many of the rule's subrectangles as that were taken, and a place is left
 pub record IsGivenUp (width height : ℕ) (pixels : List ℕ) (background limit : ℕ)
     (subs : List Subrect) : Type 0 where
   pub full : length subs ≡ limit
+  pub each : AreNextSubs width height pixels background [] subs
   pub x : ℕ
   pub y : ℕ
   pub column : x < width
   pub row : y < height
-  pub differs : pixel_at background subs x y ≢ slice_index pixels (y * width + x)
+  pub left : IsLeft width pixels background subs x y
 
 -- ---- the rule's choices
 

@@ -13,12 +13,6 @@ abbrev pub PacksRows : PixelFormat → Grid Colour → Rect → ℕ → List ℕ
 PacksRows f picture rect rows pixels = (x y : ℕ) (d : Colour) → x < rect.w → y < rows →
     slice_index pixels (y * rect.w + x) ≡ pixel_of f (at_or picture (rect.x + x) (rect.y + y) d)
 
--- row by row, these are the pixels that a block has at the places of one of its tiles
-abbrev pub HasPixelsOf : Grid ℕ → Rect → List ℕ → Type 0
-HasPixelsOf block tile pixels = (x y : ℕ) → x < tile.w → y < tile.h →
-    slice_index pixels (y * tile.w + x) ≡
-    slice_index block.places ((tile.y + y) * block.width + (tile.x + x))
-
 -- the bytes that a subrectangle is written as
 abbrev pub subrect_bytes : PixelFormat → Subrect → List ℕ
 subrect_bytes f s = pixel_bytes f s.pixel ++ rect_bytes s.rect

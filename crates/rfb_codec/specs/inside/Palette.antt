@@ -1,25 +1,10 @@
 -- Which pixels a tile has.
 -- No public clause reads these words.
-use Rattle.std.specs.Prelude.{◌≡◌, ◌≢◌, ℕ, ◌<◌, ◌⊎◌, List, length, slice_index, nat_eq, count_by}
+use Rattle.std.specs.Prelude.{◌≡◌, ℕ, ◌<◌, ◌⊎◌, List, length, slice_index}
 use Rattle.rfb_codec.specs.declared.hextile.encode.palette.Palette.{Palette}
 use Rattle.rfb_codec.specs.declared.hextile.encode.palette.Palette.TheVariants.{One, Two, More}
-use Rattle.rfb_codec.specs.inside.Cover.{IsPixelOf}
-
--- some place has neither of the two pixels, which differ and are there
-pub record HasThird (pixels : List ℕ) : Type 0 where
-  pub first : ℕ
-  pub second : ℕ
-  pub third : ℕ
-  pub has_first : IsPixelOf pixels first
-  pub has_second : IsPixelOf pixels second
-  pub has_third : IsPixelOf pixels third
-  pub differ : first ≢ second
-  pub not_first : third ≢ first
-  pub not_second : third ≢ second
-
--- how many places have the pixel
-abbrev pub places_of : ℕ → List ℕ → ℕ
-places_of pixel pixels = count_by (λ p. nat_eq p pixel) pixels
+use Rattle.rfb_codec.specs.Choice.{IsPixelOf, places_of}
+use Rattle.rfb_codec.specs.HextileRule.{HasThird}
 
 -- more places have the background than the other pixel, or as many and it is the lesser
 abbrev pub IsMoreFrequent : ℕ → ℕ → List ℕ → Type 0

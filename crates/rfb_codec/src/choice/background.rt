@@ -2,7 +2,8 @@
 
 ghost use Rattle.std.specs.Prelude.{◌≡◌, ◌+◌, ◌<◌, ◌≤◌, ◌++◌, length, replicate, IfOk, IfErr, IfSome, IfNone};
 ghost use Rattle.std.specs.Bool.{OnTrue, OnFalse};
-ghost use Rattle.rfb_codec.specs.inside.Background.{IsBackground, HasMore, IsStopped, IsLed, IsRun, EndsRun, Leads, hash_of};
+ghost use Rattle.rfb_codec.specs.Choice.{IsBackground};
+ghost use Rattle.rfb_codec.specs.inside.Background.{HasMore, IsStopped, IsLed, IsRun, EndsRun, Leads, hash_of};
 
 use crate::block::PLACES;
 use arrayvec::ArrayVec;

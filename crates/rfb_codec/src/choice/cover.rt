@@ -4,6 +4,7 @@ ghost use Rattle.std.specs.Prelude.{◌≡◌, ◌≢◌, ℕ, ◌+◌, ◌*◌,
 ghost use Rattle.std.specs.Bool.{OnTrue, OnFalse};
 ghost use Rattle.arrayvec.specs.ArrayVec.{array_vec_len};
 ghost use Rattle.rfb_wire.specs.RectHead.{IsOnScreen};
+ghost use Rattle.rfb_codec.specs.Choice.{AreRuleSubs};
 ghost use Rattle.rfb_codec.specs.inside.Cover.{IsCover, IsGivenUp, IsOpen, IsUncovered, AreNoted, HasRun, HasRuns};
 
 use crate::block::SIDE;
@@ -32,6 +33,7 @@ pub(crate) fn cover<const N: usize>(
     requires limit { limit ≤ N }
     requires empty { subs.old.items ≡ [] }
     ensures cover { OnTrue result (IsCover width height pixels.now background subs.new.items) }
+    ensures rule { OnTrue result (AreRuleSubs width height pixels.now background subs.new.items) }
     ensures over { OnFalse result
         (IsGivenUp width height pixels.now background limit subs.new.items) }
     ensures few { array_vec_len subs.new ≤ limit }

@@ -4,7 +4,7 @@ ghost use Rattle.std.specs.Prelude.{refl, ◌≡◌, ◌+◌, ◌*◌, ◌<◌, 
 ghost use Rattle.std.specs.Bool.{OnTrue, OnFalse};
 ghost use Rattle.std.specs.Vec.{vec_capacity};
 ghost use Rattle.rfb_codec.specs.Pixels.{HasPixels};
-ghost use Rattle.rfb_codec.specs.Hextile.{StandsByRule};
+ghost use Rattle.rfb_codec.specs.HextileRule.{StandsByRule, AreNoShorter};
 ghost use Rattle.rfb_wire.specs.declared.encoding.Encoding.TheVariants.{Hextile as HextileEncoding};
 ghost use Rattle.rfb_codec.specs.Codec.{Appends, raw_of};
 
@@ -28,7 +28,7 @@ use spelling::{append, spelled_length};
 
 /// Hextile: tiles of 16 by 16, each of one pixel, of two or of more, or Raw where that is as short.
 /// A tile names its colours where they are not those that are carried to it. It gives up a block
-/// whose tiles all together are no shorter than Raw.
+/// whose tiles all together are no shorter than Raw, and no other.
 #[derive(Clone, Copy, Debug, PartialEq, Eq)]
 pub struct Hextile;
 
@@ -41,7 +41,9 @@ impl Codec for Hextile {
 
     ghost numbered = { refl };
 
-    ghost read_back = { λ f width height rect block bytes sized stands. (sized, stands.0) };
+    ghost read_back = { λ f width height rect block bytes sized stands. (sized, stands.stands) };
+
+    ghost by_rule = { λ f block bytes stands. stands };
 
     const NUMBER: i32 = 5;
 
@@ -64,6 +66,7 @@ fn spell(block: &Block, format: &Format, out: &mut Vec<u8>) -> bool
         format.now block.now out.old.items out.new.items) }
     ensures shorter { OnTrue result
         (vec_len out.new < vec_len out.old + raw_of format.now block.now) }
+    ensures given_up { OnFalse result (AreNoShorter format.now block.now) }
     ensures front { take (vec_len out.old) out.new.items ≡ out.old.items }
     ensures room { vec_capacity out.new ≡ vec_capacity out.old }
 {

@@ -8,6 +8,7 @@ ghost use Rattle.rfb_pixel.specs.Format.{size_of, pixel_bytes};
 ghost use Rattle.rfb_codec.specs.Pixels.{HasPixels};
 ghost use Rattle.rfb_codec.specs.Raw.{StandsRaw};
 ghost use Rattle.rfb_wire.specs.declared.encoding.Encoding.TheVariants.{Raw as RawEncoding};
+ghost use Rattle.rfb_codec.specs.ByRule.{GivesUp};
 ghost use Rattle.rfb_codec.specs.Codec.{Appends, raw_of, shortens};
 
 use crate::block::Block;
@@ -33,6 +34,8 @@ impl Codec for Raw {
 
     ghost read_back = { λ f width height rect block bytes sized stands. (sized, stands) };
 
+    ghost by_rule = { λ f block bytes stands. stands };
+
     const NUMBER: i32 = 0;
 
     fn encode(block: &Block, format: &Format, out: &mut Vec<u8>) -> bool
@@ -44,6 +47,7 @@ impl Codec for Raw {
             (Appends StandsRaw format.now block.now out.old.items out.new.items) }
         ensures shorter { OnTrue (shortens RawEncoding)
             (OnTrue result (vec_len out.new < vec_len out.old + raw_of format.now block.now)) }
+        ensures given_up { OnFalse result (GivesUp RawEncoding format.now block.now) }
         ensures kept { OnFalse result (out.new.items ≡ out.old.items) }
         ensures room { vec_capacity out.new ≡ vec_capacity out.old }
     {

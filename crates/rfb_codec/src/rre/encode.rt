@@ -8,7 +8,7 @@ ghost use Rattle.byteorder.specs.Endian.{big_bytes};
 ghost use Rattle.rfb_pixel.specs.Format.{size_of, pixel_bytes};
 ghost use Rattle.rfb_wire.specs.Fields.{rect_bytes};
 ghost use Rattle.rfb_codec.specs.Pixels.{HasPixels};
-ghost use Rattle.rfb_codec.specs.Rre.{StandsRre};
+ghost use Rattle.rfb_codec.specs.Choice.{StandsRreByRule, IsNoShorter};
 ghost use Rattle.rfb_wire.specs.declared.encoding.Encoding.TheVariants.{Rre as RreEncoding};
 ghost use Rattle.rfb_codec.specs.Codec.{Appends, raw_of};
 ghost use Rattle.rfb_codec.specs.inside.Encode.{subrect_bytes};
@@ -33,13 +33,13 @@ const FEW: usize = 86;
 
 const MANY: usize = 1366;
 
-/// RRE: the number of subrectangles and the background, then each subrectangle. It gives up a block
-/// whose data would not be shorter than Raw.
+/// RRE: the number of subrectangles and the background, then each subrectangle, as the rule chooses
+/// them. It gives up a block whose data would not be shorter than Raw, and no other.
 #[derive(Clone, Copy, Debug, PartialEq, Eq)]
 pub struct Rre;
 
 impl Codec for Rre {
-    ghost stands = { StandsRre };
+    ghost stands = { λ f block bytes. StandsRreByRule f block bytes };
 
     ghost encoding = { RreEncoding };
 
@@ -47,7 +47,9 @@ impl Codec for Rre {
 
     ghost numbered = { refl };
 
-    ghost read_back = { λ f width height rect block bytes sized stands. (sized, stands) };
+    ghost read_back = { λ f width height rect block bytes sized stands. (sized, stands.0) };
+
+    ghost by_rule = { λ f block bytes stands. stands };
 
     const NUMBER: i32 = 2;
 
@@ -68,9 +70,11 @@ fn encode_with<const N: usize>(block: &Block, format: &Format, out: &mut Vec<u8>
     requires room { vec_len out.old + raw_of format.now block.now ≤ vec_capacity out.old }
 
     ensures spelled { OnTrue result
-        (Appends StandsRre format.now block.now out.old.items out.new.items) }
+        (Appends (λ f block bytes. StandsRreByRule f block bytes)
+        format.now block.now out.old.items out.new.items) }
     ensures shorter { OnTrue result
         (vec_len out.new < vec_len out.old + raw_of format.now block.now) }
+    ensures given_up { OnFalse result (IsNoShorter format.now block.now) }
     ensures kept { OnFalse result (out.new.items ≡ out.old.items) }
     ensures room { vec_capacity out.new ≡ vec_capacity out.old }
 {

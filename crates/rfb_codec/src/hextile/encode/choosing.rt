@@ -1,9 +1,12 @@
 //! How a tile is sent, by this project's rules.
 
-ghost use Rattle.std.specs.Prelude.{◌≡◌, ℕ, ◌<◌, ◌≤◌, ◌*◌, length, slice_index, IfSome, []};
+ghost use Rattle.std.specs.Prelude.{◌≡◌, ℕ, ◌+◌, ◌<◌, ◌≤◌, ◌*◌, length, slice_index, IfSome, IfNone, []};
 ghost use Rattle.rfb_codec.specs.Pixels.{IsPixel};
-ghost use Rattle.rfb_codec.specs.inside.TileSpelling.{AreTileParts};
-ghost use Rattle.rfb_codec.specs.inside.Carried.{Sends};
+ghost use Rattle.rfb_codec.specs.Raw.{raw_length};
+ghost use Rattle.rfb_codec.specs.Tile.{Tile};
+ghost use Rattle.rfb_codec.specs.HextileRule.{IsDrawn, IsRuleTile, left_by, tile_length};
+ghost use Rattle.rfb_codec.specs.inside.TileSpelling.{AreTileParts, tile_of};
+ghost use Rattle.rfb_codec.specs.inside.Carried.{Sends, held_of};
 
 use super::carried::{Carried, named};
 use super::palette::{Palette, palette_of};
@@ -47,6 +50,10 @@ pub fn choose(
     requires pixels { (i : ℕ) → IsPixel format.now (slice_index pixels.now i) }
     ensures sends { Sends format.now width height result
         pixels.now subs.new.items carried.old carried.new }
+    ensures rule { IsRuleTile format.now width height pixels.now (held_of carried.old)
+        (tile_of format.now result pixels.now subs.new.items) }
+    ensures leaves { held_of carried.new ≡ left_by (held_of carried.old)
+        (tile_of format.now result pixels.now subs.new.items) }
     ensures parts { AreTileParts format.now 16 16 subs.new.items }
 {
     let raw = 1 + pixels.len() * format.size();
@@ -64,7 +71,8 @@ pub fn choose(
     TileLayout::Raw
 }
 
-// The tile over its background, if it has room for the subrectangles. Of one pixel it is a
+// The tile over its background, if it has room for the subrectangles and they are not longer than
+// its pixels. Of one pixel it is a
 // background alone, of two the other is the foreground, and of more each subrectangle has a pixel
 // of its own.
 fn over_background(
@@ -82,6 +90,13 @@ fn over_background(
     requires pixels { (i : ℕ) → IsPixel format.now (slice_index pixels.now i) }
     ensures sends { IfSome result (λ choice. Sends format.now width height choice.layout
         pixels.now subs.new.items carried choice.leaves) }
+    ensures drawn { IfSome result (λ choice. IsDrawn width height pixels.now (held_of carried)
+        (tile_of format.now choice.layout pixels.now subs.new.items)) }
+    ensures leaves { IfSome result (λ choice. held_of choice.leaves ≡ left_by (held_of carried)
+        (tile_of format.now choice.layout pixels.now subs.new.items)) }
+    ensures long { IfNone result ((drawn : Tile)
+        → IsDrawn width height pixels.now (held_of carried) drawn
+        → 1 + raw_length format.now width height ≤ tile_length format.now drawn) }
     ensures parts { IfSome result (λ choice. AreTileParts format.now 16 16 subs.new.items) }
 {
     subs.clear();

@@ -3,7 +3,7 @@
 ghost use Rattle.std.specs.Prelude.{◌≡◌, ℕ, ◌+◌, ◌<◌, ◌≤◌, ◌*◌, ◌++◌, length, slice_index};
 ghost use Rattle.arrayvec.specs.ArrayVec.{array_vec_len};
 ghost use Rattle.rfb_wire.specs.RectHead.{IsOnScreen};
-ghost use Rattle.rfb_codec.specs.inside.Encode.{HasPixelsOf};
+ghost use Rattle.rfb_codec.specs.HextileRule.{HasPixelsOf};
 
 use crate::block::Block;
 use arrayvec::ArrayVec;

@@ -1,7 +1,8 @@
 //! Whether a tile has one pixel, two, or more.
 
 ghost use Rattle.std.specs.Prelude.{◌≡◌, ◌≢◌, ℕ, ◌<◌, ◌≤◌, ◌⊎◌, length, slice_index};
-ghost use Rattle.rfb_codec.specs.inside.Palette.{HasPalette, places_of};
+ghost use Rattle.rfb_codec.specs.Choice.{places_of};
+ghost use Rattle.rfb_codec.specs.inside.Palette.{HasPalette};
 
 use crate::choice::background::leads;
 

@@ -1,7 +1,7 @@
 use Rattle.std.proofs.Common.{◌≡◌, ℕ, ◌≤◌, ◌<◌, length, get_or, take, ap, ◌∙◌}
 use Rattle.std.proofs.lemmas.List.{take_all}
 use Rattle.std.proofs.lemmas.List.Sorted.{IsNonDecreasingBy-from_sort}
-use Rattle.rfb_codec.specs.inside.Palette.{places_of}
+use Rattle.rfb_codec.specs.Choice.{places_of}
 use Rattle.rfb_codec.proofs.PlacesLemmas.{places-sorted}
 use Rattle.rfb_codec.proofs.TallyLemmas.{run_taken, run_left, run_apart, led_all, sort_left}
 use Rattle.rfb_codec.proofs.choice.background.with_aside.Goals as goal

@@ -1,11 +1,16 @@
-use Rattle.std.proofs.Common.{rules, ◌≡◌, ◌∙◌, ◌<◌, ◌^◌, ◌++◌, ◌+◌, ◌*◌, arith, ap, refl, append_assoc, length, length-append}
+use Rattle.std.proofs.Common.{rules, ◌≡◌, ◌∙◌, ◌<◌, ◌^◌, ◌++◌, ◌+◌, ◌*◌, ◌/◌, ◌≤◌, arith, ap, refl, append_assoc, length, length-append}
 use Rattle.std.specs.List.{flat_map}
 use Rattle.rfb_pixel.specs.Format.{size_of}
 use Rattle.rfb_codec.specs.inside.Encode.{subrect_bytes}
-use Rattle.rfb_codec.specs.inside.Cover.{IsCover, IsPixelOf}
+use Rattle.rfb_codec.specs.Choice.{IsBackground, AreRuleSubs}
+use Rattle.rfb_codec.specs.inside.Cover.{IsCover}
 use Rattle.rfb_codec.specs.Raw.{raw_length}
 use Rattle.rfb_codec.proofs.PixelLemmas.{length-pixel_bytes}
 use Rattle.rfb_codec.proofs.RreEncodeLemmas.{length-subrects, limit_fits, rre_head, stands_rre}
+use Rattle.rfb_codec.specs.Codec.{raw_of}
+use Rattle.rfb_codec.specs.inside.Background.{HasMore}
+use Rattle.rfb_codec.specs.inside.Cover.{IsGivenUp}
+use Rattle.rfb_codec.proofs.NoShorterLemmas.{many_pixels, many_subs, long_data}
 use Rattle.rfb_codec.proofs.rre.encode.encode_with.Goals as goal
 
 pub cover-requires : goal.cover-requires
@@ -25,7 +30,8 @@ returns-clause-spelled g c =
     let subs = c.cover.new.subs.items in
     let head = rre_head f (length subs) background in
     let list = flat_map (subrect_bytes f) subs in
-    let plain : IsPixelOf block.places background = rw c.pixels-pixels.ensures.value at c.in-Some.ensures.background.there in
+    let rule : AreRuleSubs block.width block.height block.places background subs = rw (c.from-width.ensures, c.width.ensures.value, c.from-height.ensures, c.height.ensures.value, c.pixels-pixels.ensures.value) at c.if-not-cover.ensures.rule in
+    let chosen : IsBackground block.places background = rw c.pixels-pixels.ensures.value at c.in-Some.ensures.background in
     let cover : IsCover block.width block.height block.places background subs = rw (c.from-width.ensures, c.width.ensures.value, c.from-height.ensures, c.height.ensures.value, c.pixels-pixels.ensures.value) at c.if-not-cover.ensures.cover in
     let few : length subs < 2 ^ 32 = omega arith in
     let count : c.len.result ≡ length subs = c.len.ensures.value in
@@ -37,6 +43,33 @@ returns-clause-spelled g c =
       c.append_subrects.ensures.items ∙ ap (λ some. c.append_head.new.out.items ++ flat_map (subrect_bytes f) some) c.as_slice.ensures.value
           ∙ ap (λ front. front ++ list) (c.append_head.ensures.items ∙ ap (λ n. c.args.out.now.items ++ rre_head f n background) c.len-2.ensures.value)
           ∙ append_assoc c.args.out.now.items head list,
-      stands_rre f block background subs c.pixels-pixels.ensures.whole (omega arith) (omega arith) few c.requires.pixels plain cover,
+      stands_rre f block background subs c.pixels-pixels.ensures.whole (omega arith) (omega arith) few c.requires.pixels chosen cover rule,
       rw length-append (omega (arith, first, more, raw, data_of)),
     )
+
+pub returns-in_default-clause-given_up : goal.returns-in_default-clause-given_up
+returns-in_default-clause-given_up g c =
+    let f = c.args.format.now in
+    let block = c.args.block.now in
+    let more : HasMore (raw_of f block / (size_of f + 8) + 1) block.places = rw (c.from-width.ensures, c.width.ensures.value, c.from-height.ensures, c.height.ensures.value, c.size-size.ensures.value, c.pixels-pixels.ensures.value) at c.in_default.ensures.more in
+    many_pixels f block (raw_of f block / (size_of f + 8)) c.pixels-pixels.ensures.whole refl more
+
+pub returns-then-not-cover-clause-given_up : goal.returns-then-not-cover-clause-given_up
+returns-then-not-cover-clause-given_up g c =
+    let f = c.args.format.now in
+    let block = c.args.block.now in
+    let background = c.in-Some.background in
+    let chosen : IsBackground block.places background = rw c.pixels-pixels.ensures.value at c.in-Some.ensures.background in
+    let given : IsGivenUp block.width block.height block.places background (raw_of f block / (size_of f + 8)) c.cover.new.subs.items = rw (c.from-width.ensures, c.width.ensures.value, c.from-height.ensures, c.height.ensures.value, c.size-size.ensures.value, c.pixels-pixels.ensures.value) at c.if-not-cover.ensures.over in
+    many_subs f block background (raw_of f block / (size_of f + 8)) c.cover.new.subs.items chosen refl given
+
+pub returns-then-raw-size-clause-given_up : goal.returns-then-raw-size-clause-given_up
+returns-then-raw-size-clause-given_up g c =
+    let f = c.args.format.now in
+    let block = c.args.block.now in
+    let background = c.in-Some.background in
+    let subs = c.cover.new.subs.items in
+    let chosen : IsBackground block.places background = rw c.pixels-pixels.ensures.value at c.in-Some.ensures.background in
+    let rule : AreRuleSubs block.width block.height block.places background subs = rw (c.from-width.ensures, c.width.ensures.value, c.from-height.ensures, c.height.ensures.value, c.pixels-pixels.ensures.value) at c.if-not-cover.ensures.rule in
+    let long : raw_of f block ≤ 4 + size_of f + length subs * (size_of f + 8) = rw (c.from-width.ensures, c.width.ensures.value, c.from-height.ensures, c.height.ensures.value, c.size-size.ensures.value, c.len.ensures.value) at c.if-raw-size.true in
+    long_data f block background subs chosen rule long

@@ -1,5 +1,5 @@
 use Rattle.std.proofs.Common.{◌≡◌, ◌≤◌, take}
-use Rattle.rfb_codec.specs.inside.Palette.{places_of}
+use Rattle.rfb_codec.specs.Choice.{places_of}
 use Rattle.rfb_codec.proofs.hextile.encode.palette.places_of.Given as goal
 
 abbrev pub invariant-loop-other : goal.invariant-loop-other
