@@ -7,13 +7,15 @@ use Rattle.rfb_wire.specs.declared.encoding.Encoding.{Encoding}
 use Rattle.rfb_wire.specs.RectHead.{SpellsRectHead}
 use Rattle.rfb_codec.specs.RectData.{Pixels, SpellsData}
 use Rattle.rfb_codec.specs.Codec.{Appends}
+use Rattle.rfb_codec.specs.ByRule.{StandsIn}
 use Rattle.rfb_server.specs.inside.Sending.{AppendsIn}
 
 pub coded_in : (stands : PixelFormat → Grid ℕ → List ℕ → Type 0) (f : PixelFormat) (rect : Rect) (encoding : Encoding) (block : Grid ℕ) (old mid new head : List ℕ) →
     ((width height : ℕ) (bytes : List ℕ) → stands f block bytes → SpellsData f width height rect encoding (Pixels block) bytes) →
+    ((bytes : List ℕ) → stands f block bytes → StandsIn encoding f block bytes) →
     mid ≡ old ++ head → SpellsRectHead (record { rect = rect; encoding = encoding }) head →
     Appends stands f block mid new → AppendsIn f rect encoding block old new
-coded_in stands f rect encoding block old mid new head reads e spelled appends =
+coded_in stands f rect encoding block old mid new head reads rule e spelled appends =
     record {
       bytes = head ++ appends.0;
       appended = appends.1 ∙ (rw e (append_assoc old head appends.0));
@@ -23,6 +25,7 @@ coded_in stands f rect encoding block old mid new head reads e spelled appends =
         whole = refl;
         head_is = spelled;
         body_is = λ width height. reads width height appends.0 appends.2;
+        by_rule = rule appends.0 appends.2;
         short = rw (length-append head appends.0, spelled.size) (omega (arith, appends.3));
       };
     }

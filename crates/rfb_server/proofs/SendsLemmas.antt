@@ -280,8 +280,11 @@ module _ (across : ℕ) (s : ServerState) where
       block_is = record {
         block = sent.block;
         contents_are = refl;
+        sized = sent.sized;
+        packed = sent.packed;
         may_be_sent = sent.may_be_sent;
         chosen = sent.chosen;
+        by_rule = sent.coded.by_rule;
         tight = record {
           some = box.tight.some;
           left = let (j, c, e) = box.tight.left in (j, c, same_need rect.x j c e);

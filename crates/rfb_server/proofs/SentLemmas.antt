@@ -1,5 +1,5 @@
 -- A rectangle that is sent, for the session that sends it.
-use Rattle.std.proofs.Common.{◌≡◌, ℕ, ◌+◌, ◌-◌, ◌*◌, ◌<◌, ◌≤◌, ◌&&◌, ◌||◌, Bool, true, false, List, ◌++◌, length, Option, Some, None, if◌then◌else◌, refl, ◌∙◌, arith, inl, inr, length-append}
+use Rattle.std.proofs.Common.{◌≡◌, ℕ, ◌+◌, ◌-◌, ◌*◌, ◌<◌, ◌≤◌, ◌&&◌, ◌||◌, Bool, true, false, List, ◌++◌, length, Option, Some, None, if◌then◌else◌, refl, subst, ◌∙◌, arith, inl, inr, length-append}
 use Rattle.rfb_pixel.specs.declared.colour.Colour.{Colour}
 use Rattle.rfb_pixel.specs.Format.{PixelFormat, size_of}
 use Rattle.rfb_picture.specs.declared.rect.Rect.{Rect}
@@ -11,6 +11,7 @@ use Rattle.rfb_picture.proofs.GridLemmas.{contains_true}
 use Rattle.rfb_wire.specs.declared.encoding.Encoding.{Encoding}
 use Rattle.rfb_wire.specs.declared.encoding.Encoding.TheVariants.{Raw}
 use Rattle.rfb_codec.specs.Codec.{PacksRect}
+use Rattle.rfb_codec.specs.ByRule.{GivesUp}
 use Rattle.rfb_codec.specs.Pixels.{IsSized}
 use Rattle.rfb_codec.specs.Raw.{raw_length}
 use Rattle.rfb_codec.specs.Effect.{IsAlike, IsRecorded}
@@ -64,8 +65,8 @@ pub appends_pixels : (screen : Grid Colour) (form : PixelFormat) (encodings : Li
     (bytes : List ℕ) × (after ≡ before ++ bytes) × SendsPixels screen form encodings rect known now bytes
 appends_pixels screen form encodings rect encoding block known now before after first may sized packed noted whole alike (inl a) =
     (a.bytes, a.appended, record { block = block; encoding = encoding; sized = sized; packed = packed; coded = a.coded; may_be_sent = may; chosen = inl first; noted = noted; whole = whole; alike = alike })
-appends_pixels screen form encodings rect encoding block known now before after first may sized packed noted whole alike (inr a) =
-    (a.bytes, a.appended, record { block = block; encoding = Raw; sized = sized; packed = packed; coded = a.coded; may_be_sent = refl; chosen = inr refl; noted = noted; whole = whole; alike = alike })
+appends_pixels screen form encodings rect encoding block known now before after first may sized packed noted whole alike (inr (up, a)) =
+    (a.bytes, a.appended, record { block = block; encoding = Raw; sized = sized; packed = packed; coded = a.coded; may_be_sent = refl; chosen = inr (refl, subst (λ (k : Encoding). GivesUp k form block) first up); noted = noted; whole = whole; alike = alike })
 
 -- how long it is
 pub length_sent : (screen : Grid Colour) (rect : Rect) (old new : Session) (before after : List ℕ) → AppendsPixels screen rect old new before after →

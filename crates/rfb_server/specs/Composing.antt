@@ -1,8 +1,8 @@
--- One composing: the update that is sent, and what is recorded of it. Which encoding its pixels are
--- sent in is the composer's choice, within the bounds that stand here.
+-- One composing: the update that is sent, and what is recorded of it.
 use Rattle.std.specs.Prelude.{◌≡◌, ◌≢◌, ℕ, zero, suc, ◌+◌, ◌*◌, ◌<◌, ◌≤◌, Bool, true, false, not, ◌||◌, List, [], ◌∷◌, ◌++◌, map, Some, ◌⊎◌, if◌then◌else◌}
 use Rattle.std.specs.Int.{div_ceil}
 use Rattle.rfb_pixel.specs.declared.colour.Colour.{Colour}
+use Rattle.rfb_pixel.specs.Format.{PixelFormat}
 use Rattle.rfb_picture.specs.declared.rect.Rect.{Rect}
 use Rattle.rfb_picture.specs.Rect.{contains}
 use Rattle.rfb_picture.specs.Grid.{Grid, IsGrid, Holds, copied}
@@ -14,6 +14,9 @@ use Rattle.rfb_wire.specs.declared.rect_head.RectHead.{RectHead}
 use Rattle.rfb_wire.specs.stream.Grammar.{ReadsAll}
 use Rattle.rfb_wire.specs.stream.Sequel.{Second}
 use Rattle.rfb_codec.specs.RectData.{RectData, Pixels, Source, SpellsData, moved_to}
+use Rattle.rfb_codec.specs.Pixels.{IsSized}
+use Rattle.rfb_codec.specs.Codec.{PacksRect}
+use Rattle.rfb_codec.specs.ByRule.{StandsIn, GivesUp}
 use Rattle.rfb_codec.specs.UpdateStream.{UpdatePoint, update_stream}
 use Rattle.rfb_codec.specs.Effect.{effects, IsAlike, Agrees}
 use Rattle.rfb_codec.specs.WholeUpdate.{SentRect, update_of}
@@ -48,9 +51,12 @@ HasItsData s part =
 abbrev pub may_send : List Encoding → Encoding → Bool
 may_send encodings encoding = is_same encoding Raw || is_listed encoding encodings
 
--- pixels go in the first listed encoding that brings pixels, or in Raw
-abbrev pub IsForPixels : List Encoding → Encoding → Type 0
-IsForPixels encodings encoding = (encoding ≡ preferred encodings) ⊎ (encoding ≡ Raw)
+-- a block goes in the first listed encoding that brings pixels, or in Raw where the rule of that
+-- one gives it up
+abbrev pub IsForPixels : PixelFormat → List Encoding → Grid ℕ → Encoding → Type 0
+IsForPixels f encodings block encoding =
+    (encoding ≡ preferred encodings) ⊎
+    ((encoding ≡ Raw) × GivesUp (preferred encodings) f block)
 
 -- ---- rectangles that are copied
 
@@ -115,13 +121,16 @@ AreCopies (move ∷ moves) (part ∷ parts) = IsCopy move part × AreCopies move
 
 -- ---- rectangles whose pixels are sent
 
--- the part brings pixels, in the first encoding for pixels that the viewer listed or in Raw; its
--- first and last row and column have a place each that needs sending
+-- the part brings the wanted pixels of its rectangle, in the encoding for them and as the rule of
+-- that has it; its first and last row and column have a place each that needs sending
 pub record IsBlockOf (s : ServerState) (part : Part) : Type 0 where
   pub block : Grid ℕ
   pub contents_are : part.contents ≡ Pixels block
+  pub sized : IsSized part.head.rect.w part.head.rect.h block
+  pub packed : PacksRect s.form s.screen part.head.rect block
   pub may_be_sent : may_send s.encodings part.head.encoding ≡ true
-  pub chosen : IsForPixels s.encodings part.head.encoding
+  pub chosen : IsForPixels s.form s.encodings block part.head.encoding
+  pub by_rule : StandsIn part.head.encoding s.form block part.body
   pub tight : IsTight (needs_sending s) part.head.rect
 
 -- each of these is one

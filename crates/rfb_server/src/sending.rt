@@ -6,6 +6,7 @@ ghost use Rattle.std.specs.Vec.{vec_capacity};
 ghost use Rattle.rfb_wire.specs.declared.encoding.Encoding.TheVariants.{Raw as RawEncoding};
 ghost use Rattle.rfb_codec.specs.Pixels.{HasPixels, IsSized};
 ghost use Rattle.rfb_codec.specs.Codec.{raw_of};
+ghost use Rattle.rfb_codec.specs.ByRule.{GivesUp};
 ghost use Rattle.rfb_server.specs.inside.Sending.{AppendsIn, SendsRect};
 ghost use Rattle.rfb_server.specs.inside.Copying.{AppendsCopy};
 
@@ -65,7 +66,7 @@ fn append_raw(rect: Rect, block: &Block, format: &Format, out: &mut Vec<u8>)
     }
 }
 
-// Appends the rectangle by a codec, which may give the block up: then nothing was appended.
+// Appends the rectangle by a codec, whose rule may give the block up: then nothing was appended.
 fn append_coded<C: Codec>(
     encoding: Encoding,
     rect: Rect,
@@ -79,6 +80,7 @@ fn append_coded<C: Codec>(
     requires room { vec_len out.old + 12 + raw_of format.now block.now ≤ vec_capacity out.old }
     ensures sent { OnTrue result
         (AppendsIn format.now rect encoding block.now out.old.items out.new.items) }
+    ensures given_up { OnFalse result (GivesUp encoding format.now block.now) }
     ensures kept { OnFalse result (out.new.items ≡ out.old.items) }
     ensures room { vec_capacity out.new ≡ vec_capacity out.old }
 {

@@ -8,6 +8,7 @@ use Rattle.rfb_wire.specs.declared.encoding.Encoding.TheVariants.{Raw}
 use Rattle.rfb_wire.specs.RectHead.{SpellsRectHead}
 use Rattle.rfb_codec.specs.RectData.{Pixels, SpellsData}
 use Rattle.rfb_codec.specs.Codec.{raw_of}
+use Rattle.rfb_codec.specs.ByRule.{StandsIn, GivesUp}
 
 -- the bytes are a rectangle in that encoding, whose data are the block's pixels, on a screen of any
 -- size
@@ -18,6 +19,7 @@ pub record IsCoded (f : PixelFormat) (rect : Rect) (encoding : Encoding)
   pub whole : bytes ≡ head ++ body
   pub head_is : SpellsRectHead (record { rect = rect; encoding = encoding }) head
   pub body_is : (width height : ℕ) → SpellsData f width height rect encoding (Pixels block) body
+  pub by_rule : StandsIn encoding f block body
   pub short : length bytes ≤ 12 + raw_of f block
 
 -- such bytes were appended, in this encoding
@@ -27,7 +29,8 @@ pub record AppendsIn (f : PixelFormat) (rect : Rect) (encoding : Encoding)
   pub appended : new ≡ old ++ bytes
   pub coded : IsCoded f rect encoding block bytes
 
--- they were appended in that encoding or in Raw
+-- they were appended in that encoding, or in Raw where its rule gives the block up
 abbrev pub SendsRect : PixelFormat → Rect → Encoding → Grid ℕ → List ℕ → List ℕ → Type 0
 SendsRect f rect encoding block old new =
-    AppendsIn f rect encoding block old new ⊎ AppendsIn f rect Raw block old new
+    AppendsIn f rect encoding block old new ⊎
+    (GivesUp encoding f block × AppendsIn f rect Raw block old new)

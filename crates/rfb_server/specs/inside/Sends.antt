@@ -44,7 +44,7 @@ pub record SendsPixels (screen : Grid Colour) (form : PixelFormat) (encodings : 
   pub packed : PacksRect form screen rect block
   pub coded : IsCoded form rect encoding block bytes
   pub may_be_sent : may_send encodings encoding ≡ true
-  pub chosen : IsForPixels encodings encoding
+  pub chosen : IsForPixels form encodings block encoding
   pub noted : IsRecorded rect block known now
   pub whole : IsGrid now
   pub alike : IsAlike known now
