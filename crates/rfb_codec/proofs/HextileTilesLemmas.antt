@@ -41,7 +41,7 @@ left_more held [] t = refl
 left_more held (u ∷ tiles) t = left_more (left_by held u) tiles t
 
 module _ (f : PixelFormat) (block : Grid ℕ) where
-  one_tile : (n : ℕ) (held : Held) (t u : Tile) → n < tile_count block.width block.height → IsRuleTileOf f block n held t → IsRuleTileOf f block n held u → t ≡ u
+  pub one_tile : (n : ℕ) (held : Held) (t u : Tile) → n < tile_count block.width block.height → IsRuleTileOf f block n held t → IsRuleTileOf f block n held u → t ≡ u
   one_tile n held t u below first second =
       let tile = tile_part block.width block.height n in
       let some = tile_some block.width block.height n below in

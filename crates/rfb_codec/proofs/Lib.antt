@@ -24,6 +24,8 @@ pub mod CoverLemmas
 pub mod RuleLemmas
 pub mod RuleCountLemmas
 pub mod NoShorterLemmas
+pub mod ChoiceLemmas
+pub mod ChoiceLaws
 pub mod PaletteLemmas
 pub mod PlacesLemmas
 pub mod TallyLemmas
@@ -36,6 +38,7 @@ pub mod CarriedLemmas
 pub mod HextileEncodeLemmas
 pub mod HextileRuleLemmas
 pub mod HextileTilesLemmas
+pub mod TileChoiceLemmas
 pub mod DrawLemmas
 pub mod PaintLemmas
 pub mod PaintRawLemmas

@@ -130,7 +130,7 @@ module _ (width height : ℕ) (pixels : List ℕ) (background : ℕ) where
       neither false b e = (refl, e)
 
   -- where each place that is left comes from a number on: as many as there are numbers, and one less where a place of the background is among them
-  in_order : (before subs : List Subrect) (from place : ℕ) → AreNextSubs width height pixels background before subs → from ≤ height * width → place < height * width → slice_index pixels place ≡ background →
+  pub in_order : (before subs : List Subrect) (from place : ℕ) → AreNextSubs width height pixels background before subs → from ≤ height * width → place < height * width → slice_index pixels place ≡ background →
       ((x y : ℕ) → x < width → y < height → IsLeft width pixels background before x y → from ≤ y * width + x) →
       (length subs + from ≤ height * width) × (from ≤ place → length subs + from + 1 ≤ height * width)
   in_order before [] from place each within below plain low = (omega arith, λ l. omega arith)

@@ -1,5 +1,5 @@
--- What an encoder makes of a block by this project's rules, encoding by encoding. CopyRect brings no
--- pixels.
+-- What an encoder makes of a block by this project's rules, encoding by encoding. CopyRect brings
+-- no pixels.
 use Rattle.std.specs.Prelude.{ℕ, List}
 use Rattle.rfb_pixel.specs.Format.{PixelFormat}
 use Rattle.rfb_picture.specs.Grid.{Grid}

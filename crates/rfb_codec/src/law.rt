@@ -13,6 +13,7 @@ ghost use Rattle.rfb_codec.specs.Rre.{pixel_at};
 ghost use Rattle.rfb_codec.specs.RectData.{RectData, SpellsData, data_says, rect_data};
 ghost use Rattle.rfb_codec.specs.UpdateStream.{update_says, update_stream};
 
+pub mod choices;
 pub mod effects;
 pub mod painters;
 pub mod pending;

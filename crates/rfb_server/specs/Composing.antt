@@ -138,8 +138,8 @@ abbrev pub AreBlocksOf : ServerState → List Part → Type 0
 AreBlocksOf s [] = Unit {0}
 AreBlocksOf s (part ∷ parts) = IsBlockOf s part × AreBlocksOf s parts
 
--- no place of the cells from number `from` up to number `to` needs sending, where a row of the screen
--- has `across` cells
+-- no place of the cells from number `from` up to number `to` needs sending, where a row of the
+-- screen has `across` cells
 abbrev pub NoneNeeds : ℕ → ServerState → ℕ → ℕ → Type 0
 NoneNeeds across s from to = (x y : ℕ) → x < s.screen.width → y < s.screen.height →
     from ≤ cell_of across x y → cell_of across x y < to → needs_sending s x y ≡ false
