@@ -71,10 +71,9 @@ pub fn choose(
     TileLayout::Raw
 }
 
-// The tile over its background, if it has room for the subrectangles and they are not longer than
-// its pixels. Of one pixel it is a
-// background alone, of two the other is the foreground, and of more each subrectangle has a pixel
-// of its own.
+// The tile over its background, if it has room for the subrectangles and they are no longer than its
+// pixels. Of one pixel it is a background alone, of two the other is the foreground, and of more
+// each subrectangle has a pixel of its own.
 fn over_background(
     format: &Format,
     pixels: &[u32],
