@@ -1,5 +1,5 @@
--- This project's rule for senders of RRE: which background is chosen for a block's pixels, which
--- subrectangles over it, and when the block is given up. Pixels stand row by row.
+-- This project's rule for senders: which background is chosen for the pixels of a block or a tile,
+-- and which subrectangles over it; and when RRE gives a block up. Pixels stand row by row.
 use Rattle.std.specs.Prelude.{◌≡◌, ◌≢◌, ℕ, ◌+◌, ◌*◌, ◌<◌, ◌≤◌, ◌||◌, ◌⊎◌, Bool, false, nat_eq, count_by, List, [], ◌∷◌, ◌++◌, length, slice_index}
 use Rattle.rfb_pixel.specs.Format.{PixelFormat, size_of}
 use Rattle.rfb_picture.specs.Rect.{contains}

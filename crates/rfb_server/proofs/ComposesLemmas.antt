@@ -1,8 +1,9 @@
 -- When every cell is taken care of, a composing is done.
-use Rattle.std.proofs.Common.{◌≡◌, ℕ, suc, ◌+◌, ◌*◌, ◌/◌, ◌<◌, ◌≤◌, Bool, true, false, List, [], ◌∷◌, ◌++◌, length, map, Option, Some, None, refl, sym, ap, subst, ◌∙◌, arith, inl, inr, ◌⊎◌, append_assoc, if◌then◌else◌}
+use Rattle.std.proofs.Common.{◌≡◌, ℕ, ◌+◌, ◌*◌, ◌/◌, ◌<◌, ◌≤◌, Bool, true, false, List, [], ◌∷◌, ◌++◌, length, map, Option, Some, None, refl, sym, subst, ◌∙◌, arith, inl, inr, ◌⊎◌, append_assoc, if◌then◌else◌}
 use Rattle.std.specs.Int.{div_ceil}
 use Rattle.std.proofs.Math.Nat.{mul-le-mul_right}
 use Rattle.std.proofs.lemmas.Bool.{both_ways}
+use Rattle.std.proofs.lemmas.List.{length-map}
 use Rattle.rfb_pixel.specs.declared.colour.Colour.{Colour}
 use Rattle.rfb_picture.specs.Grid.{Grid, IsGrid, at_or}
 use Rattle.rfb_picture.specs.Area.{IsArea, nothing}
@@ -28,10 +29,6 @@ all_cells w h x y p q =
     let rows : (y / 64 + 1) * div_ceil w 64 ≤ div_ceil h 64 * div_ceil w 64 = mul-le-mul_right (div_ceil w 64) row in
     omega arith
 
-length-map : {A B : Type 0} (f : A → B) (xs : List A) → length (map f xs) ≡ length xs
-length-map f [] = refl
-length-map f (x ∷ xs) = ap (λ (n : ℕ). suc n) (length-map f xs)
-
 -- ---- copies and cells
 
 module _ (s : ServerState) (moves : List Move) (copies parts : List Part) (known now : Grid (Option ℕ)) (head front bytes : List ℕ) where
@@ -43,7 +40,7 @@ module _ (s : ServerState) (moves : List Move) (copies parts : List Part) (known
   composes area wide high taken sends head_is = (
     record {
       is_update = update_read (between s) (map sent_as (copies ++ parts)) (head ++ (front ++ bytes)) refl
-          (record { head = head; list = front ++ bytes; whole = refl; head_is = rw (length-map sent_as (copies ++ parts)) head_is; sent_are = spelled_both copies parts front bytes taken.spelled sends.spelled });
+          (record { head = head; list = front ++ bytes; whole = refl; head_is = rw (length-map (copies ++ parts) sent_as) head_is; sent_are = spelled_both copies parts front bytes taken.spelled sends.spelled });
       data_are = data_both copies parts taken.data_are (data_same parts sends.data_are);
       agrees = λ picture whole alike before.
           subst (λ (g : Grid Colour). Agrees s.form (effects (between s) (map item_of (map sent_as (copies ++ parts))) g) now)
