@@ -1,7 +1,8 @@
 -- A tile that is drawn over a background, or Raw, is sent as this project's rules have it.
 use Rattle.std.proofs.Common.{◌≡◌, ℕ, ◌+◌, ◌*◌, ◌/◌, ◌%◌, ◌<◌, ◌≤◌, ◌⊎◌, inl, inr, List, [], ◌∷◌, ◌++◌, true, false, Option, Some, None, length, slice_index, refl, sym, subst, ◌∙◌, ap, arith, length-append}
 use Rattle.std.proofs.lemmas.Bool.{cases_lt}
-use Rattle.std.proofs.lemmas.List.{get_or_default, get_or_past}
+use Rattle.std.specs.List.{flat_map}
+use Rattle.std.proofs.lemmas.List.{get_or_default, get_or_past, flat_map_more}
 use Rattle.std.proofs.lemmas.Nat.{div-add-mod', mod_below, div_below, pow_pos}
 use Rattle.rfb_pixel.specs.Format.{PixelFormat, size_of}
 use Rattle.rfb_picture.specs.Grid.{Grid, IsGrid}
@@ -16,13 +17,14 @@ use Rattle.rfb_codec.specs.Rre.{pixel_at}
 use Rattle.rfb_codec.specs.Choice.{IsPixelOf}
 use Rattle.rfb_codec.specs.inside.Cover.{ArePartsOf, IsCover}
 use Rattle.rfb_codec.specs.Tile.{Tile, background_of, foreground_of, tile_pixel, FitsTile, SpellsTile}
-use Rattle.rfb_codec.specs.inside.TileSpelling.{tile_of, tile_bytes, are_some, AreTileParts}
+use Rattle.rfb_codec.specs.inside.TileSpelling.{tile_of, tile_bytes, AreTileParts}
+use Rattle.rfb_codec.specs.SentTile.{are_some, sent_as}
 use Rattle.rfb_codec.specs.Hextile.{across, tile_count, tile_width, tile_height, tile_at, SpellsNextTile, pixel_of_tiles, CarriesColours, is_raw_tile, is_raw_or_colored, uses_foreground}
 use Rattle.rfb_codec.specs.HextileRule.{Held, nothing_held, left_by, IsRuleTile, IsRuleTileOf, AreRuleTiles, tiles_length, StandsByRule}
 use Rattle.rfb_codec.specs.inside.Carried.{Remembers, IsNamed, Sends, held_of}
 use Rattle.rfb_codec.proofs.TileSpellingLemmas.{IsTileSize, IsColourOf, spells_raw, spells_plain, spells_colored_tile, fits_tile}
 use Rattle.rfb_codec.proofs.CarriedLemmas.{carried_kept, carried_on, in_force, unbroken, carries_more}
-use Rattle.rfb_codec.proofs.HextileRuleLemmas.{tile_length_is}
+use Rattle.rfb_codec.proofs.HextileRuleLemmas.{tile_length_is, sent_is}
 use Rattle.rfb_codec.proofs.HextileTilesLemmas.{left_by_all, left_more, tiles_more, length_more}
 use Rattle.rfb_codec.proofs.HextileEncodeLemmas.{AreAll, shows_raw, shows_plain, shows_colored, listed_more, shown_before, shown_here, column_of, row_of_tiles, in_tile, tile_below}
 
@@ -162,6 +164,7 @@ pub record SpelledUpTo (f : PixelFormat) (block : Grid ℕ) (n : ℕ) (carried :
   pub rule_tiles : AreRuleTiles f block 0 nothing_held tiles
   pub held : left_by_all nothing_held tiles ≡ held_of carried
   pub length_is : tiles_length f tiles ≡ length bytes
+  pub bytes_are : bytes ≡ flat_map (sent_as f) tiles
   pub shown : (x y : ℕ) → x < block.width → y < block.height → tile_at block.width x y < n → pixel_of_tiles f block.width tiles x y ≡ slice_index block.places (y * block.width + x)
 
 -- none
@@ -175,6 +178,7 @@ spelled_none f block carried bytes background foreground none = record {
   rule_tiles = tt;
   held = λ i. record { background = sym background i; foreground = sym foreground i };
   length_is = rw none refl;
+  bytes_are = none;
   shown = λ x y p q below. absurd (omega arith);
 }
 
@@ -204,6 +208,10 @@ spelled_more f block n carried leaves bytes layout pixels subs old sends cut siz
           let both = length-append bytes more in
           let before = old.length_is in
           omega (arith, all, last, both, before);
+      bytes_are =
+          ap (λ (front : List ℕ). front ++ more) old.bytes_are
+          ∙ ap (λ (last : List ℕ). flat_map (sent_as f) old.tiles ++ last) (sent_is f layout pixels subs)
+          ∙ flat_map_more (sent_as f) [] old.tiles t;
       shown = λ x y p q below. elim (cases_lt (tile_at w x y) n) [
         | inl before ↦ shown_before f w old.tiles t x y (omega (arith, old.number)) ∙ old.shown x y p q before
         | inr from ↦
@@ -234,6 +242,7 @@ spelled_all f block carried bytes whole all = record {
   };
   carries = all.rule;
   rule = all.rule_tiles;
+  bytes_are = all.bytes_are;
 }
 
 -- the pixels of a tile are those of its block

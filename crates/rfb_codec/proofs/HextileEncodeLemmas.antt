@@ -13,7 +13,8 @@ use Rattle.rfb_codec.specs.declared.hextile.layout.TileLayout.TheVariants.{Raw, 
 use Rattle.rfb_codec.specs.Pixels.{IsPixel}
 use Rattle.rfb_codec.specs.Rre.{pixel_at}
 use Rattle.rfb_codec.specs.Tile.{Tile, RawTile, PlainTile, ColoredTile, background_of, foreground_of, last_of, colour_or_zero, in_pixel, rect_in, tile_pixel}
-use Rattle.rfb_codec.specs.inside.TileSpelling.{tile_of, are_some}
+use Rattle.rfb_codec.specs.inside.TileSpelling.{tile_of}
+use Rattle.rfb_codec.specs.SentTile.{are_some}
 use Rattle.rfb_codec.specs.Hextile.{across, tile_count, tile_width, tile_at, pixel_of_tiles}
 use Rattle.rfb_codec.proofs.PixelLemmas.{pixel_number-pixels}
 use Rattle.rfb_codec.proofs.TileSpellingLemmas.{IsInForce}

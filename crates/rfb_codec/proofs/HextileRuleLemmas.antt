@@ -1,7 +1,9 @@
 -- A tile by the rule of Hextile: there is one at most, how long it is, and when it is raw.
-use Rattle.std.proofs.Common.{◌≡◌, ◌≢◌, ℕ, ◌+◌, ◌*◌, ◌/◌, ◌<◌, ◌≤◌, ◌⊎◌, inl, inr, List, [], ◌∷◌, length, map, min, slice_index, Option, Some, None, if◌then◌else◌, refl, sym, subst, ◌∙◌, ap, arith}
+use Rattle.std.proofs.Common.{◌≡◌, ◌≢◌, ℕ, ◌+◌, ◌*◌, ◌/◌, ◌<◌, ◌≤◌, ◌⊎◌, inl, inr, List, [], ◌∷◌, ◌++◌, length, map, min, slice_index, Option, Some, None, if◌then◌else◌, refl, sym, subst, ◌∙◌, ap, arith}
 use Rattle.std.proofs.Math.Nat.{mul-le-mul_right}
+use Rattle.std.specs.List.{flat_map}
 use Rattle.std.proofs.lemmas.List.{length-map}
+use Rattle.std.proofs.lemmas.List.Folds.{flat_map-map}
 use Rattle.rfb_pixel.specs.Format.{PixelFormat, size_of}
 use Rattle.rfb_codec.specs.declared.subrect.Subrect.{Subrect}
 use Rattle.rfb_codec.specs.declared.hextile.layout.TileLayout.{TileLayout}
@@ -14,7 +16,8 @@ use Rattle.rfb_codec.specs.HextileRule.{Held, named_in, IsOnePixel, IsTwoPixels,
 use Rattle.rfb_codec.specs.inside.Background.{HasMore}
 use Rattle.rfb_codec.specs.inside.Cover.{IsGivenUp}
 use Rattle.rfb_codec.specs.inside.Palette.{HasPalette}
-use Rattle.rfb_codec.specs.inside.TileSpelling.{tile_of, tile_bytes, colour_bytes, are_some}
+use Rattle.rfb_codec.specs.inside.TileSpelling.{tile_of, mask_of, own_place, tile_bytes}
+use Rattle.rfb_codec.specs.SentTile.{are_some, colour_bytes, place_bytes, counted_bytes, sent_as}
 use Rattle.rfb_codec.proofs.PixelLemmas.{length-pixel_bytes}
 use Rattle.rfb_codec.proofs.TileLengthLemmas.{length-spelled_plain, length-spelled_colored}
 use Rattle.rfb_codec.proofs.RuleCountLemmas.{same_background, same_subs, fewer, few_subs, enough_subs, over_limit}
@@ -147,6 +150,23 @@ tile_length_is f (Colored background) pixels subs =
     let first = colour_is f background in
     let list = parts_are (size_of f + 2) subs in
     omega (arith, all, first, list)
+
+-- ---- its bytes
+
+-- subrectangles of one pixel are sent as their places
+places_sent : (subs : List Subrect) → counted_bytes own_place subs ≡ counted_bytes place_bytes (map rect_in subs)
+places_sent [] = refl
+places_sent (s ∷ subs) =
+    let count : length (s ∷ subs) ≡ length (map rect_in (s ∷ subs)) = sym (length-map (s ∷ subs) rect_in) in
+    let places : flat_map own_place (s ∷ subs) ≡ flat_map place_bytes (map rect_in (s ∷ subs)) = sym (flat_map-map place_bytes rect_in (s ∷ subs)) in
+    λ i. count i ∷ places i
+
+-- the bytes of a layout are those that its tile is sent as
+pub sent_is : (f : PixelFormat) (layout : TileLayout) (pixels : List ℕ) (subs : List Subrect) → tile_bytes f layout pixels subs ≡ sent_as f (tile_of f layout pixels subs)
+sent_is f Raw pixels subs = refl
+sent_is f (Plain background foreground) pixels [] = refl
+sent_is f (Plain background foreground) pixels (s ∷ subs) = ap (λ (places : List ℕ). mask_of (Plain background foreground) (s ∷ subs) ∷ (colour_bytes f background ++ (colour_bytes f foreground ++ places))) (places_sent (s ∷ subs))
+sent_is f (Colored background) pixels subs = refl
 
 -- ---- drawn tiles that are no shorter than raw
 

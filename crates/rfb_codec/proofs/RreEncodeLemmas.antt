@@ -17,8 +17,7 @@ use Rattle.rfb_wire.specs.RectHead.{IsOnScreen}
 use Rattle.rfb_codec.specs.declared.subrect.Subrect.{Subrect}
 use Rattle.rfb_codec.specs.Pixels.{IsPixel, HasPixels}
 use Rattle.rfb_codec.specs.Rre.{SpellsRreHead, SpellsSubrect, SpellsInside}
-use Rattle.rfb_codec.specs.inside.Encode.{subrect_bytes}
-use Rattle.rfb_codec.specs.Choice.{IsPixelOf, IsBackground, AreRuleSubs, StandsRreByRule}
+use Rattle.rfb_codec.specs.Choice.{IsPixelOf, IsBackground, AreRuleSubs, subrect_bytes, StandsRreByRule}
 use Rattle.rfb_codec.specs.inside.Cover.{ArePartsOf, IsCover}
 use Rattle.rfb_codec.proofs.PixelLemmas.{length-pixel_bytes}
 
@@ -84,8 +83,8 @@ head_read f count background few small = record {
 
 -- the bytes of the rule's cover stand for the block, by the rule
 pub stands_rre : (f : PixelFormat) (block : Grid ℕ) (background : ℕ) (subs : List Subrect) → IsGrid block → block.width ≤ 64 → block.height ≤ 64 → length subs < 2 ^ 32 → HasPixels f block → IsBackground block.places background → IsCover block.width block.height block.places background subs → AreRuleSubs block.width block.height block.places background subs → StandsRreByRule f block (rre_head f (length subs) background ++ flat_map (subrect_bytes f) subs)
-stands_rre f block background subs whole wide high few small chosen cover rule = (
-  record {
+stands_rre f block background subs whole wide high few small chosen cover rule = record {
+  stands = record {
     background = background;
     subs = subs;
     head = rre_head f (length subs) background;
@@ -96,9 +95,10 @@ stands_rre f block background subs whole wide high few small chosen cover rule =
     shows = λ x y d left below.
         let under = place_below block.width block.height x y left below in
         get_or_default block.places (y * block.width + x) d 0 (omega (arith, whole)) ∙ sym (cover.shows x y left below);
-  },
-  record { background_is = chosen; subs_are = rule },
-)
+  };
+  choice = record { background_is = chosen; subs_are = rule };
+  bytes_are = refl;
+}
 
 -- so many places can be covered by a third as many subrectangles, where that is shorter than Raw
 pub limit_fits : (places size n : ℕ) → places ≤ 3 * n → size ≤ 4 → places * size / (size + 8) ≤ n

@@ -11,7 +11,8 @@ use Rattle.rfb_codec.specs.declared.hextile.layout.TileLayout.{TileLayout}
 use Rattle.rfb_codec.specs.declared.hextile.layout.TileLayout.TheVariants.{Raw, Plain, Colored}
 use Rattle.rfb_codec.specs.Pixels.{IsPixel}
 use Rattle.rfb_codec.specs.Tile.{is_raw, background_specified, foreground_specified, any_subrects, subrects_colored, Tile, background_of, foreground_of, later, last_of, is_missing, mask_fault, AreInside, FitsTile, rect_in, SpellsPixel, SpellsPlace, SpellsColored, CountedIf, SpellsTile}
-use Rattle.rfb_codec.specs.inside.TileSpelling.{tile_of, bit_if, is_there, are_some, mask_of, colour_bytes, place_bytes, colored_bytes, counted_bytes, behind_bytes, tile_bytes, IsTilePart, AreTileParts}
+use Rattle.rfb_codec.specs.inside.TileSpelling.{tile_of, mask_of, own_place, behind_bytes, tile_bytes, IsTilePart, AreTileParts}
+use Rattle.rfb_codec.specs.SentTile.{bit_if, is_there, are_some, colour_bytes, colored_bytes, counted_bytes}
 use Rattle.rfb_codec.proofs.PixelLemmas.{length-pixel_bytes, length-pixels}
 
 -- ---- subrectangles
@@ -30,7 +31,7 @@ spells_pixel f pixel small = record {
   pixel_is = subst (λ (bytes : List ℕ). pixel_number f bytes ≡ pixel) (append-nil (pixel_bytes f pixel)) (pixel_back f pixel [] small);
 }
 
-spells_place : (f : PixelFormat) (w h : ℕ) (s : Subrect) → IsTileSize w h → IsTilePart f w h s → SpellsPlace s.rect (place_bytes s)
+spells_place : (f : PixelFormat) (w h : ℕ) (s : Subrect) → IsTileSize w h → IsTilePart f w h s → SpellsPlace s.rect (own_place s)
 spells_place f w h s small part = record {
   size = refl;
   position_is = refl;
@@ -43,14 +44,14 @@ spells_place f w h s small part = record {
 
 spells_colored : (f : PixelFormat) (w h : ℕ) (s : Subrect) → IsTileSize w h → IsTilePart f w h s → SpellsColored f s (colored_bytes f s)
 spells_colored f w h s small part = record {
-  size = rw (length-append (pixel_bytes f s.pixel) (place_bytes s), length-pixel_bytes f s.pixel) refl;
-  pixel_is = pixel_back f s.pixel (place_bytes s) part.pixel;
-  place_is = rw (drop_at (pixel_bytes f s.pixel) (place_bytes s) (size_of f) (length-pixel_bytes f s.pixel)) (spells_place f w h s small part);
+  size = rw (length-append (pixel_bytes f s.pixel) (own_place s), length-pixel_bytes f s.pixel) refl;
+  pixel_is = pixel_back f s.pixel (own_place s) part.pixel;
+  place_is = rw (drop_at (pixel_bytes f s.pixel) (own_place s) (size_of f) (length-pixel_bytes f s.pixel)) (spells_place f w h s small part);
 }
 
-listed_places : (f : PixelFormat) (w h : ℕ) (subs : List Subrect) → IsTileSize w h → AreTileParts f w h subs → Listed SpellsPlace (map rect_in subs) (flat_map place_bytes subs)
+listed_places : (f : PixelFormat) (w h : ℕ) (subs : List Subrect) → IsTileSize w h → AreTileParts f w h subs → Listed SpellsPlace (map rect_in subs) (flat_map own_place subs)
 listed_places f w h [] small parts = refl
-listed_places f w h (s ∷ subs) small parts = (place_bytes s, flat_map place_bytes subs, refl, spells_place f w h s small parts.0, listed_places f w h subs small parts.1)
+listed_places f w h (s ∷ subs) small parts = (own_place s, flat_map own_place subs, refl, spells_place f w h s small parts.0, listed_places f w h subs small parts.1)
 
 listed_colored : (f : PixelFormat) (w h : ℕ) (subs : List Subrect) → IsTileSize w h → AreTileParts f w h subs → Listed (SpellsColored f) subs (flat_map (colored_bytes f) subs)
 listed_colored f w h [] small parts = refl
@@ -60,11 +61,11 @@ length-places : (subs : List Subrect) → length (map rect_in subs) ≡ length s
 length-places [] = refl
 length-places (s ∷ subs) = ap suc (length-places subs)
 
-counted_places : (f : PixelFormat) (w h : ℕ) (subs : List Subrect) → IsTileSize w h → AreTileParts f w h subs → CountedIf (are_some subs) SpellsPlace (map rect_in subs) (counted_bytes place_bytes subs)
+counted_places : (f : PixelFormat) (w h : ℕ) (subs : List Subrect) → IsTileSize w h → AreTileParts f w h subs → CountedIf (are_some subs) SpellsPlace (map rect_in subs) (counted_bytes own_place subs)
 counted_places f w h [] small parts = (refl, refl)
 counted_places f w h (s ∷ subs) small parts = record {
   head = length (s ∷ subs) ∷ [];
-  list = flat_map place_bytes (s ∷ subs);
+  list = flat_map own_place (s ∷ subs);
   whole = refl;
   one = refl;
   count_is = sym (length-places (s ∷ subs));
@@ -188,7 +189,7 @@ spells_plain f w h before background foreground pixels subs b small parts one tw
         record {
           first = colour_bytes f background;
           second = colour_bytes f foreground;
-          third = counted_bytes place_bytes subs;
+          third = counted_bytes own_place subs;
           whole = refl;
           background_is = rw bits.background_is (spells_colour f background one);
           foreground_is = rw bits.foreground_is (spells_colour f foreground two);

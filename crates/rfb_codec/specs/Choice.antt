@@ -1,9 +1,12 @@
 -- This project's rule for senders: which background is chosen for the pixels of a block or a tile,
 -- and which subrectangles over it; and when RRE gives a block up. Pixels stand row by row.
 use Rattle.std.specs.Prelude.{◌≡◌, ◌≢◌, ℕ, ◌+◌, ◌*◌, ◌<◌, ◌≤◌, ◌||◌, ◌⊎◌, Bool, false, nat_eq, count_by, List, [], ◌∷◌, ◌++◌, length, slice_index}
-use Rattle.rfb_pixel.specs.Format.{PixelFormat, size_of}
+use Rattle.std.specs.List.{flat_map}
+use Rattle.byteorder.specs.Endian.{big_bytes}
+use Rattle.rfb_pixel.specs.Format.{PixelFormat, size_of, pixel_bytes}
 use Rattle.rfb_picture.specs.Rect.{contains}
 use Rattle.rfb_picture.specs.Grid.{Grid}
+use Rattle.rfb_wire.specs.Fields.{rect_bytes}
 use Rattle.rfb_wire.specs.RectHead.{IsOnScreen}
 use Rattle.rfb_codec.specs.declared.subrect.Subrect.{Subrect}
 use Rattle.rfb_codec.specs.Rre.{StandsRre}
@@ -92,10 +95,20 @@ pub record IsRuleChoice (block : Grid ℕ) (background : ℕ) (subs : List Subre
   pub background_is : IsBackground block.places background
   pub subs_are : AreRuleSubs block.width block.height block.places background subs
 
--- the bytes stand for the block, by the rule
-abbrev pub StandsRreByRule : PixelFormat → Grid ℕ → List ℕ → Type 0
-StandsRreByRule f block bytes =
-    (s : StandsRre f block bytes) × IsRuleChoice block s.background s.subs
+-- the bytes that a subrectangle is sent as
+abbrev pub subrect_bytes : PixelFormat → Subrect → List ℕ
+subrect_bytes f s = pixel_bytes f s.pixel ++ rect_bytes s.rect
+
+-- those of all data: how many subrectangles there are, the background, and they
+abbrev pub rre_bytes : PixelFormat → ℕ → List Subrect → List ℕ
+rre_bytes f background subs =
+    (big_bytes 4 (length subs) ++ pixel_bytes f background) ++ flat_map (subrect_bytes f) subs
+
+-- the bytes stand for the block, by the rule: they are those of its choice, and no others
+pub record StandsRreByRule (f : PixelFormat) (block : Grid ℕ) (bytes : List ℕ) : Type 0 where
+  pub stands : StandsRre f block bytes
+  pub choice : IsRuleChoice block stands.background stands.subs
+  pub bytes_are : bytes ≡ rre_bytes f stands.background stands.subs
 
 -- by the rule the data would be no shorter than Raw
 abbrev pub IsNoShorter : PixelFormat → Grid ℕ → Type 0

@@ -10,6 +10,7 @@ use Rattle.rfb_codec.specs.Raw.{raw_length}
 use Rattle.rfb_codec.specs.Codec.{raw_of}
 use Rattle.rfb_codec.specs.Choice.{IsPixelOf, IsBackground, AreRuleSubs}
 use Rattle.rfb_codec.specs.Tile.{Tile, RawTile, PlainTile, ColoredTile, later, rect_in}
+use Rattle.rfb_codec.specs.SentTile.{sent_as}
 use Rattle.rfb_codec.specs.Hextile.{tile_count, tile_part, StandsHextile, CarriesColours}
 
 -- ---- colours that are held
@@ -160,11 +161,12 @@ abbrev pub tiles_length : PixelFormat → List Tile → ℕ
 tiles_length f [] = 0
 tiles_length f (tile ∷ tiles) = tile_length f tile + tiles_length f tiles
 
--- the bytes stand for the block, by the rule
+-- the bytes stand for the block, by the rule: they are those of its tiles, and no others
 pub record StandsByRule (f : PixelFormat) (block : Grid ℕ) (bytes : List ℕ) : Type 0 where
   pub stands : StandsHextile f block bytes
   pub carries : CarriesColours [] stands.tiles
   pub rule : AreRuleTiles f block 0 nothing_held stands.tiles
+  pub bytes_are : bytes ≡ flat_map (sent_as f) stands.tiles
 
 -- by the rule the tiles all together would be no shorter than Raw
 abbrev pub AreNoShorter : PixelFormat → Grid ℕ → Type 0

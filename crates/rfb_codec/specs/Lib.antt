@@ -4,6 +4,7 @@ pub mod Rre
 pub mod Codec
 pub mod Choice
 pub mod Tile
+pub mod SentTile
 pub mod MaskFaults
 pub mod Hextile
 pub mod HextileRule

@@ -1,18 +1,12 @@
 -- What the parts of the encoders promise. No public clause reads these words.
-use Rattle.std.specs.Prelude.{◌≡◌, ℕ, ◌+◌, ◌*◌, ◌<◌, List, ◌++◌, slice_index}
+use Rattle.std.specs.Prelude.{◌≡◌, ℕ, ◌+◌, ◌*◌, ◌<◌, List, slice_index}
 use Rattle.rfb_pixel.specs.declared.colour.Colour.{Colour}
-use Rattle.rfb_pixel.specs.Format.{PixelFormat, pixel_bytes, pixel_of}
+use Rattle.rfb_pixel.specs.Format.{PixelFormat, pixel_of}
 use Rattle.rfb_picture.specs.declared.rect.Rect.{Rect}
 use Rattle.rfb_picture.specs.Grid.{Grid, at_or}
-use Rattle.rfb_wire.specs.Fields.{rect_bytes}
-use Rattle.rfb_codec.specs.declared.subrect.Subrect.{Subrect}
 
 -- of the first rows of a rectangle of a picture, one after another, each place has its colour's
 -- pixel
 abbrev pub PacksRows : PixelFormat → Grid Colour → Rect → ℕ → List ℕ → Type 0
 PacksRows f picture rect rows pixels = (x y : ℕ) (d : Colour) → x < rect.w → y < rows →
     slice_index pixels (y * rect.w + x) ≡ pixel_of f (at_or picture (rect.x + x) (rect.y + y) d)
-
--- the bytes that a subrectangle is written as
-abbrev pub subrect_bytes : PixelFormat → Subrect → List ℕ
-subrect_bytes f s = pixel_bytes f s.pixel ++ rect_bytes s.rect

@@ -1,6 +1,6 @@
 -- How an encoder spells a tile of Hextile: the value that it sends, and the bytes.
 -- No public clause reads these words.
-use Rattle.std.specs.Prelude.{ℕ, ◌+◌, ◌-◌, ◌*◌, ◌≤◌, Bool, true, false, List, [], ◌∷◌, ◌++◌, length, map, Option, Some, None, bit_or, if◌then◌else◌}
+use Rattle.std.specs.Prelude.{ℕ, ◌≤◌, List, [], ◌∷◌, ◌++◌, map, Option, bit_or}
 use Rattle.std.specs.List.{flat_map}
 use Rattle.rfb_pixel.specs.Format.{PixelFormat, pixel_bytes}
 use Rattle.rfb_codec.specs.declared.subrect.Subrect.{Subrect}
@@ -9,6 +9,7 @@ use Rattle.rfb_codec.specs.declared.hextile.layout.TileLayout.TheVariants.{Raw, 
 use Rattle.rfb_wire.specs.RectHead.{IsOnScreen}
 use Rattle.rfb_codec.specs.Pixels.{IsPixel}
 use Rattle.rfb_codec.specs.Tile.{Tile, RawTile, PlainTile, ColoredTile, rect_in}
+use Rattle.rfb_codec.specs.SentTile.{bit_if, is_there, are_some, colour_bytes, place_bytes, colored_bytes, counted_bytes}
 
 -- the tile that is sent of these pixels, or of these subrectangles
 abbrev pub tile_of : PixelFormat → TileLayout → List ℕ → List Subrect → Tile
@@ -19,18 +20,6 @@ tile_of f (Colored background) pixels subs = ColoredTile background subs
 
 -- ---- its bytes
 
--- the value of a bit of the mask, where it is set
-abbrev pub bit_if : ℕ → Bool → ℕ
-bit_if value set = if set then value else 0
-
-abbrev pub is_there : Option ℕ → Bool
-is_there None = false
-is_there (Some colour) = true
-
-abbrev pub are_some : List Subrect → Bool
-are_some [] = false
-are_some (s ∷ subs) = true
-
 -- a mask with these bits; SubrectsColored and ForegroundSpecified are never both set
 abbrev pub mask_of : TileLayout → List Subrect → ℕ
 mask_of Raw subs = 1
@@ -40,32 +29,15 @@ mask_of (Plain background foreground) subs =
 mask_of (Colored background) subs =
     bit_or (bit_or (bit_if 2 (is_there background)) (bit_if 8 (are_some subs))) 16
 
-abbrev pub colour_bytes : PixelFormat → Option ℕ → List ℕ
-colour_bytes f None = []
-colour_bytes f (Some colour) = pixel_bytes f colour
-
 -- a subrectangle's place and size
-abbrev pub place_bytes : Subrect → List ℕ
-place_bytes s = (s.rect.x * 16 + s.rect.y) ∷ ((s.rect.w - 1) * 16 + (s.rect.h - 1)) ∷ []
-
--- the same after its pixel
-abbrev pub colored_bytes : PixelFormat → Subrect → List ℕ
-colored_bytes f s = pixel_bytes f s.pixel ++ place_bytes s
-
--- how many there are, if there are any
-abbrev pub count_bytes : List Subrect → List ℕ
-count_bytes [] = []
-count_bytes (s ∷ subs) = length (s ∷ subs) ∷ []
-
--- their count and they
-abbrev pub counted_bytes : (Subrect → List ℕ) → List Subrect → List ℕ
-counted_bytes bytes subs = count_bytes subs ++ flat_map bytes subs
+abbrev pub own_place : Subrect → List ℕ
+own_place s = place_bytes s.rect
 
 -- what follows the mask
 abbrev pub behind_bytes : PixelFormat → TileLayout → List ℕ → List Subrect → List ℕ
 behind_bytes f Raw pixels subs = flat_map (pixel_bytes f) pixels
 behind_bytes f (Plain background foreground) pixels subs =
-    colour_bytes f background ++ (colour_bytes f foreground ++ counted_bytes place_bytes subs)
+    colour_bytes f background ++ (colour_bytes f foreground ++ counted_bytes own_place subs)
 behind_bytes f (Colored background) pixels subs =
     colour_bytes f background ++ counted_bytes (colored_bytes f) subs
 

@@ -5,21 +5,25 @@ ghost use Rattle.rfb_pixel.specs.Format.{PixelFormat};
 ghost use Rattle.rfb_picture.specs.Grid.{Grid};
 ghost use Rattle.rfb_codec.specs.declared.subrect.Subrect.{Subrect};
 ghost use Rattle.rfb_codec.specs.Codec.{IsBlock};
-ghost use Rattle.rfb_codec.specs.Choice.{IsRuleChoice};
+ghost use Rattle.rfb_codec.specs.Choice.{IsRuleChoice, StandsRreByRule};
 ghost use Rattle.rfb_codec.specs.Tile.{Tile};
 ghost use Rattle.rfb_codec.specs.Hextile.{tile_count};
-ghost use Rattle.rfb_codec.specs.HextileRule.{nothing_held, AreRuleTiles};
+ghost use Rattle.rfb_codec.specs.HextileRule.{nothing_held, AreRuleTiles, StandsByRule};
 
-/// The rule of RRE has a background and subrectangles for each block, and no others.
+/// The rule of RRE has a background and subrectangles for each block, and no others. So the bytes
+/// that stand for a block by the rule are one list.
 pub fn rre_has_one_choice()
     ensures some { (block : Grid ℕ) → IsBlock block →
         (background : ℕ) × (subs : List Subrect) × IsRuleChoice block background subs }
     ensures one { (block : Grid ℕ) (background other : ℕ) (subs others : List Subrect) →
         IsRuleChoice block background subs → IsRuleChoice block other others →
         (background ≡ other) × (subs ≡ others) }
+    ensures bytes { (f : PixelFormat) (block : Grid ℕ) (bytes others : List ℕ) →
+        StandsRreByRule f block bytes → StandsRreByRule f block others → bytes ≡ others }
 {}
 
-/// The rule of Hextile has a tile for each part of a block, and no others.
+/// The rule of Hextile has a tile for each part of a block, and no others. So the bytes that stand
+/// for a block by the rule are one list.
 pub fn hextile_has_one_choice()
     ensures some { (f : PixelFormat) (block : Grid ℕ) → (tiles : List Tile)
         × (length tiles ≡ tile_count block.width block.height)
@@ -29,4 +33,6 @@ pub fn hextile_has_one_choice()
         length others ≡ tile_count block.width block.height →
         AreRuleTiles f block 0 nothing_held tiles →
         AreRuleTiles f block 0 nothing_held others → tiles ≡ others }
+    ensures bytes { (f : PixelFormat) (block : Grid ℕ) (bytes others : List ℕ) →
+        StandsByRule f block bytes → StandsByRule f block others → bytes ≡ others }
 {}

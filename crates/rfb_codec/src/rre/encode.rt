@@ -8,10 +8,9 @@ ghost use Rattle.byteorder.specs.Endian.{big_bytes};
 ghost use Rattle.rfb_pixel.specs.Format.{size_of, pixel_bytes};
 ghost use Rattle.rfb_wire.specs.Fields.{rect_bytes};
 ghost use Rattle.rfb_codec.specs.Pixels.{HasPixels};
-ghost use Rattle.rfb_codec.specs.Choice.{StandsRreByRule, IsNoShorter};
+ghost use Rattle.rfb_codec.specs.Choice.{StandsRreByRule, IsNoShorter, subrect_bytes};
 ghost use Rattle.rfb_wire.specs.declared.encoding.Encoding.TheVariants.{Rre as RreEncoding};
 ghost use Rattle.rfb_codec.specs.Codec.{Appends, raw_of};
-ghost use Rattle.rfb_codec.specs.inside.Encode.{subrect_bytes};
 
 use crate::block::Block;
 use crate::choice::background::background_of;
@@ -47,7 +46,7 @@ impl Codec for Rre {
 
     ghost numbered = { refl };
 
-    ghost read_back = { λ f width height rect block bytes sized stands. (sized, stands.0) };
+    ghost read_back = { λ f width height rect block bytes sized stands. (sized, stands.stands) };
 
     ghost by_rule = { λ f block bytes stands. stands };
 

@@ -4,7 +4,8 @@ ghost use Rattle.std.specs.Prelude.{◌≡◌, ◌+◌, ◌-◌, ◌≤◌, ◌*
 ghost use Rattle.std.specs.List.{flat_map};
 ghost use Rattle.arrayvec.specs.ArrayVec.{array_vec_len};
 ghost use Rattle.rfb_pixel.specs.Format.{size_of, pixel_bytes};
-ghost use Rattle.rfb_codec.specs.inside.TileSpelling.{IsTilePart, AreTileParts, colour_bytes, count_bytes, place_bytes, colored_bytes};
+ghost use Rattle.rfb_codec.specs.inside.TileSpelling.{IsTilePart, AreTileParts, own_place};
+ghost use Rattle.rfb_codec.specs.SentTile.{colour_bytes, count_bytes, colored_bytes};
 
 use super::choosing::TileSubrects;
 use crate::raw::put_pixels;
@@ -81,7 +82,7 @@ pub fn append_count(subs: &TileSubrects, tile: &mut TileBytes)
 pub fn append_places(format: &Format, subs: &TileSubrects, tile: &mut TileBytes)
     requires parts { AreTileParts format.now 16 16 subs.now.items }
     requires room { array_vec_len tile.old + length subs.now.items * 2 ≤ MAX_TILE_BYTES }
-    ensures { tile.new.items ≡ tile.old.items ++ flat_map place_bytes subs.now.items }
+    ensures { tile.new.items ≡ tile.old.items ++ flat_map own_place subs.now.items }
 {
     for sub in subs.as_slice() {
         append_place(format, *sub, tile);
@@ -106,7 +107,7 @@ pub fn append_colored(format: &Format, subs: &TileSubrects, tile: &mut TileBytes
 fn append_place(format: &Format, sub: Subrect, tile: &mut TileBytes)
     requires part { IsTilePart format.now 16 16 sub }
     requires room { array_vec_len tile.old + 2 ≤ MAX_TILE_BYTES }
-    ensures items { tile.new.items ≡ tile.old.items ++ place_bytes sub }
+    ensures items { tile.new.items ≡ tile.old.items ++ own_place sub }
     ensures len { array_vec_len tile.new ≡ array_vec_len tile.old + 2 }
 {
     let place = sub.rect;

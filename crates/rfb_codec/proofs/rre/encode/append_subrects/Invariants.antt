@@ -2,7 +2,7 @@ use Rattle.std.proofs.Common.{◌≡◌, ◌+◌, ◌*◌, ◌++◌, take, vec_l
 use Rattle.std.specs.List.{flat_map}
 use Rattle.std.specs.Vec.{vec_capacity}
 use Rattle.rfb_pixel.specs.Format.{size_of}
-use Rattle.rfb_codec.specs.inside.Encode.{subrect_bytes}
+use Rattle.rfb_codec.specs.Choice.{subrect_bytes}
 use Rattle.rfb_codec.proofs.rre.encode.append_subrects.Given as goal
 
 abbrev pub invariant-loop-s : goal.invariant-loop-s

@@ -1,7 +1,7 @@
 use Rattle.std.proofs.Common.{rules, ◌≡◌, ◌∙◌, ◌<◌, ◌^◌, ◌++◌, ◌+◌, ◌*◌, ◌/◌, ◌≤◌, arith, ap, refl, append_assoc, length, length-append}
 use Rattle.std.specs.List.{flat_map}
 use Rattle.rfb_pixel.specs.Format.{size_of}
-use Rattle.rfb_codec.specs.inside.Encode.{subrect_bytes}
+use Rattle.rfb_codec.specs.Choice.{subrect_bytes}
 use Rattle.rfb_codec.specs.Choice.{IsBackground, AreRuleSubs}
 use Rattle.rfb_codec.specs.inside.Cover.{IsCover}
 use Rattle.rfb_codec.specs.Raw.{raw_length}

@@ -2,7 +2,7 @@ use Rattle.std.proofs.Common.{◌≡◌, ◌+◌, ◌*◌, ◌++◌, take}
 use Rattle.std.specs.List.{flat_map}
 use Rattle.arrayvec.specs.ArrayVec.{array_vec_len}
 use Rattle.rfb_pixel.specs.Format.{size_of}
-use Rattle.rfb_codec.specs.inside.TileSpelling.{colored_bytes}
+use Rattle.rfb_codec.specs.SentTile.{colored_bytes}
 use Rattle.rfb_codec.proofs.hextile.encode.pieces.append_colored.Given as goal
 
 abbrev pub invariant-loop-sub : goal.invariant-loop-sub
