@@ -40,6 +40,7 @@ pub mod HextileRuleLemmas
 pub mod HextileTilesLemmas
 pub mod TileChoiceLemmas
 pub mod DrawLemmas
+mod SpelledTilesLemmas
 pub mod PaintLemmas
 pub mod PaintRawLemmas
 pub mod PaintRreLemmas

@@ -1,6 +1,6 @@
 -- How an encoder spells a tile of Hextile: the value that it sends, and the bytes.
 -- No public clause reads these words.
-use Rattle.std.specs.Prelude.{ℕ, ◌≤◌, List, [], ◌∷◌, ◌++◌, map, Option, bit_or}
+use Rattle.std.specs.Prelude.{ℕ, ◌≤◌, List, [], ◌∷◌, ◌++◌, map, bit_or}
 use Rattle.std.specs.List.{flat_map}
 use Rattle.rfb_pixel.specs.Format.{PixelFormat, pixel_bytes}
 use Rattle.rfb_codec.specs.declared.subrect.Subrect.{Subrect}

@@ -1,12 +1,12 @@
-use Rattle.std.proofs.Common.{◌≡◌, ◌∙◌, ℕ, ◌+◌, ◌*◌, ◌/◌, ◌%◌, ◌<◌, ◌≤◌, ◌++◌, [], arith, ap, refl, sym, length, slice_index, length-append, append_assoc}
+use Rattle.std.proofs.Common.{◌≡◌, ◌∙◌, ◌*◌, ◌≤◌, ◌++◌, [], arith, ap, refl, sym, length, length-append, append_assoc}
 use Rattle.std.proofs.lemmas.List.{append-nil, take_at}
-use Rattle.rfb_codec.specs.Hextile.{across, tile_count, tile_width, tile_height}
+use Rattle.rfb_codec.specs.Hextile.{tile_count}
 use Rattle.rfb_codec.specs.Raw.{raw_length}
-use Rattle.rfb_codec.specs.HextileRule.{nothing_held, left_by, IsRuleTile}
-use Rattle.rfb_codec.specs.inside.Carried.{Sends, held_of}
-use Rattle.rfb_codec.specs.inside.TileSpelling.{tile_of, tile_bytes}
+use Rattle.rfb_codec.specs.HextileRule.{nothing_held}
+use Rattle.rfb_codec.specs.inside.TileSpelling.{tile_bytes}
 use Rattle.rfb_codec.proofs.HextileTilesLemmas.{no_longer}
-use Rattle.rfb_codec.proofs.DrawLemmas.{spelled_none, spelled_more, spelled_all, tile_small}
+use Rattle.rfb_codec.proofs.DrawLemmas.{tile_small}
+use Rattle.rfb_codec.proofs.SpelledTilesLemmas.{spelled_none, spelled_next, spelled_all}
 use Rattle.rfb_codec.proofs.hextile.encode.spell.Goals as goal
 
 pub loop-n-init : goal.loop-n-init
@@ -30,28 +30,23 @@ choose-layout-requires-clause-pixels c =
 pub loop-n-preserved : goal.loop-n-preserved
 loop-n-preserved c =
     let block = c.args.block.now in
-    let tile = c.tile_rect-tile.result in
-    let n = c.loop-n.n in
-    let width : tile.w ≡ tile_width block.width n = rw c.width-in-loop-n.ensures.value at c.tile_rect-tile.ensures.width in
-    let height : tile.h ≡ tile_height block.width block.height n = rw (c.width-in-loop-n.ensures.value, c.height-in-loop-n.ensures.value) at c.tile_rect-tile.ensures.height in
-    let column : tile.x ≡ n % across block.width * 16 = rw c.width-in-loop-n.ensures.value at c.tile_rect-tile.ensures.column in
-    let row : tile.y ≡ n / across block.width * 16 = rw c.width-in-loop-n.ensures.value at c.tile_rect-tile.ensures.row in
-    let sends : Sends c.args.format.now (tile_width block.width n) (tile_height block.width block.height n) c.choose-layout.result c.cut.new.pixels.items c.choose-layout.new.subs.items c.loop-n.carried c.choose-layout.new.carried = rw (c.from-width.ensures, width, c.from-height.ensures, height, c.as_slice-part.ensures.value) at c.choose-layout.ensures.sends in
-    let cut : (x y : ℕ) → x < tile_width block.width n → y < tile_height block.width block.height n → slice_index c.cut.new.pixels.items (y * tile_width block.width n + x) ≡ slice_index block.places ((n / across block.width * 16 + y) * block.width + (n % across block.width * 16 + x)) = rw (width, height, column, row) at c.cut.ensures.value in
-    let size_is : length c.cut.new.pixels.items ≡ tile_height block.width block.height n * tile_width block.width n = rw (width, height) at c.cut.ensures.size in
-    let rule : IsRuleTile c.args.format.now (tile_width block.width n) (tile_height block.width block.height n) c.cut.new.pixels.items (held_of c.loop-n.carried) (tile_of c.args.format.now c.choose-layout.result c.cut.new.pixels.items c.choose-layout.new.subs.items) = rw (c.from-width.ensures, width, c.from-height.ensures, height, c.as_slice-part.ensures.value) at c.choose-layout.ensures.rule in
-    let leaves : held_of c.choose-layout.new.carried ≡ left_by (held_of c.loop-n.carried) (tile_of c.args.format.now c.choose-layout.result c.cut.new.pixels.items c.choose-layout.new.subs.items) = rw c.as_slice-part.ensures.value at c.choose-layout.ensures.leaves in
-    let more = spelled_more c.args.format.now block n c.loop-n.carried c.choose-layout.new.carried c.loop-n.invariant.spelled.0 c.choose-layout.result c.cut.new.pixels.items c.choose-layout.new.subs.items c.loop-n.invariant.spelled.2 sends cut size_is rule leaves in
-    let sent = tile_bytes c.args.format.now c.choose-layout.result c.cut.new.pixels.items c.choose-layout.new.subs.items in
-    let appended : c.append.new.tile.items ≡ sent = rw (c.clear.ensures, c.as_slice-part.ensures.value) at c.append.ensures in
+    let tile = c.tile_rect-tile in
+    let layout = c.choose-layout in
+    let pixels = c.cut.new.pixels.items in
+    let part = c.as_slice-part.result.now in
+    let subs = layout.new.subs.items in
+    let bytes = c.loop-n.invariant.spelled.0 in
+    let more = spelled_next c.args.format.now block c.loop-n.n c.loop-n.carried layout.new.carried bytes layout.result pixels part subs tile.result _ _ _ _ c.loop-n.invariant.spelled.2 c.width-in-loop-n.ensures.value c.height-in-loop-n.ensures.value tile.ensures.width tile.ensures.height tile.ensures.column tile.ensures.row c.from-width.ensures c.from-height.ensures c.as_slice-part.ensures.value layout.ensures.sends c.cut.ensures.value c.cut.ensures.size layout.ensures.rule layout.ensures.leaves in
+    let sent = tile_bytes c.args.format.now layout.result part subs in
+    let appended : c.append.new.tile.items ≡ sent = rw c.clear.ensures at c.append.ensures in
     let is : c.as_slice.result.now ≡ sent = c.as_slice.ensures.value ∙ appended in
-    let size : c.spelled_length.result ≡ length sent = rw c.as_slice-part.ensures.value at c.spelled_length.ensures.value in
+    let size = c.spelled_length.ensures.value in
     let same = ap length is in
     record {
       spelled = (
-        c.loop-n.invariant.spelled.0 ++ sent,
+        bytes ++ sent,
         c.append_within.ensures.items ∙ ap (λ front. front ++ c.as_slice.result.now) c.loop-n.invariant.spelled.1
-            ∙ append_assoc c.args.out.now.items c.loop-n.invariant.spelled.0 c.as_slice.result.now ∙ ap (λ back. c.args.out.now.items ++ (c.loop-n.invariant.spelled.0 ++ back)) is,
+            ∙ append_assoc c.args.out.now.items bytes c.as_slice.result.now ∙ ap (λ back. c.args.out.now.items ++ (bytes ++ back)) is,
         more,
       );
       shorter =
@@ -80,20 +75,13 @@ returns-clause-front c = rw c.loop-n.invariant.spelled.1 (take_at c.args.out.now
 pub returns-then-len-spelled_length-clause-given_up : goal.returns-then-len-spelled_length-clause-given_up
 returns-then-len-spelled_length-clause-given_up c =
     let block = c.args.block.now in
-    let tile = c.tile_rect-tile.result in
-    let n = c.loop-n.n in
-    let width : tile.w ≡ tile_width block.width n = rw c.width-in-loop-n.ensures.value at c.tile_rect-tile.ensures.width in
-    let height : tile.h ≡ tile_height block.width block.height n = rw (c.width-in-loop-n.ensures.value, c.height-in-loop-n.ensures.value) at c.tile_rect-tile.ensures.height in
-    let column : tile.x ≡ n % across block.width * 16 = rw c.width-in-loop-n.ensures.value at c.tile_rect-tile.ensures.column in
-    let row : tile.y ≡ n / across block.width * 16 = rw c.width-in-loop-n.ensures.value at c.tile_rect-tile.ensures.row in
-    let sends : Sends c.args.format.now (tile_width block.width n) (tile_height block.width block.height n) c.choose-layout.result c.cut.new.pixels.items c.choose-layout.new.subs.items c.loop-n.carried c.choose-layout.new.carried = rw (c.from-width.ensures, width, c.from-height.ensures, height, c.as_slice-part.ensures.value) at c.choose-layout.ensures.sends in
-    let cut : (x y : ℕ) → x < tile_width block.width n → y < tile_height block.width block.height n → slice_index c.cut.new.pixels.items (y * tile_width block.width n + x) ≡ slice_index block.places ((n / across block.width * 16 + y) * block.width + (n % across block.width * 16 + x)) = rw (width, height, column, row) at c.cut.ensures.value in
-    let size_is : length c.cut.new.pixels.items ≡ tile_height block.width block.height n * tile_width block.width n = rw (width, height) at c.cut.ensures.size in
-    let rule : IsRuleTile c.args.format.now (tile_width block.width n) (tile_height block.width block.height n) c.cut.new.pixels.items (held_of c.loop-n.carried) (tile_of c.args.format.now c.choose-layout.result c.cut.new.pixels.items c.choose-layout.new.subs.items) = rw (c.from-width.ensures, width, c.from-height.ensures, height, c.as_slice-part.ensures.value) at c.choose-layout.ensures.rule in
-    let leaves : held_of c.choose-layout.new.carried ≡ left_by (held_of c.loop-n.carried) (tile_of c.args.format.now c.choose-layout.result c.cut.new.pixels.items c.choose-layout.new.subs.items) = rw c.as_slice-part.ensures.value at c.choose-layout.ensures.leaves in
-    let more = spelled_more c.args.format.now block n c.loop-n.carried c.choose-layout.new.carried c.loop-n.invariant.spelled.0 c.choose-layout.result c.cut.new.pixels.items c.choose-layout.new.subs.items c.loop-n.invariant.spelled.2 sends cut size_is rule leaves in
-    let sent = tile_bytes c.args.format.now c.choose-layout.result c.cut.new.pixels.items c.choose-layout.new.subs.items in
-    let size : c.spelled_length.result ≡ length sent = rw c.as_slice-part.ensures.value at c.spelled_length.ensures.value in
+    let tile = c.tile_rect-tile in
+    let layout = c.choose-layout in
+    let part = c.as_slice-part.result.now in
+    let subs = layout.new.subs.items in
+    let more = spelled_next c.args.format.now block c.loop-n.n c.loop-n.carried layout.new.carried c.loop-n.invariant.spelled.0 layout.result c.cut.new.pixels.items part subs tile.result _ _ _ _ c.loop-n.invariant.spelled.2 c.width-in-loop-n.ensures.value c.height-in-loop-n.ensures.value tile.ensures.width tile.ensures.height tile.ensures.column tile.ensures.row c.from-width.ensures c.from-height.ensures c.as_slice-part.ensures.value layout.ensures.sends c.cut.ensures.value c.cut.ensures.size layout.ensures.rule layout.ensures.leaves in
+    let sent = tile_bytes c.args.format.now layout.result part subs in
+    let size = c.spelled_length.ensures.value in
     let items = ap length c.loop-n.invariant.spelled.1 in
     let front = length-append c.args.out.now.items c.loop-n.invariant.spelled.0 in
     let both = length-append c.loop-n.invariant.spelled.0 sent in

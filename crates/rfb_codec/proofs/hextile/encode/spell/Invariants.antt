@@ -1,6 +1,6 @@
 use Rattle.std.proofs.Common.{◌≡◌, ◌<◌, ◌++◌, ℕ, List, vec_len}
 use Rattle.std.specs.Vec.{vec_capacity}
-use Rattle.rfb_codec.proofs.DrawLemmas.{SpelledUpTo}
+use Rattle.rfb_codec.proofs.SpelledTilesLemmas.{SpelledUpTo}
 use Rattle.rfb_codec.proofs.hextile.encode.spell.Given as goal
 
 abbrev pub invariant-loop-n : goal.invariant-loop-n
