@@ -18,11 +18,13 @@ mod needing;
 mod progress;
 mod telling;
 mod texts;
+mod tracking;
 
 use crate::encodings::EncodingList;
 use crate::hint::{Hint, MAX_HINTS};
 use crate::record::Record;
 use crate::session::progress::Progress;
+use crate::session::tracking::Tracking;
 use circular_buffer::HeapCircularBuffer;
 use rfb_codec::Block;
 use rfb_hello::{ServerHello, Version};
@@ -84,16 +86,8 @@ impl Session {
         ensures unseen { IfOk result IsUnseen }
         ensures unhinted { IfOk result (λ session. session.hints.items ≡ []) }
     {
-        let known = Record::new(alloc, width, height)?;
-        let area = Area::new(alloc, width, height)?;
-        let mut marks = PlaceSet::new(alloc, width, height)?;
-        marks.add(Rect {
-            x: 0,
-            y: 0,
-            w: width,
-            h: height,
-        });
         let hints = HeapCircularBuffer::with_capacity(alloc, MAX_HINTS)?;
+        let tracking = Tracking::new(alloc, width, height)?;
         Ok(Session {
             alloc,
             hello: ServerHello::new(offer, width, height, name),
@@ -101,9 +95,9 @@ impl Session {
             text_limit,
             format: Format::rgb888(),
             encodings: EncodingList::new(),
-            known,
-            area,
-            marks,
+            known: tracking.known,
+            area: tracking.area,
+            marks: tracking.marks,
             hints,
             block: Block::single(0),
         })

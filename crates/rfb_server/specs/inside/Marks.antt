@@ -1,12 +1,12 @@
 -- Where a screen may differ from what its viewer has: the places that a session has marked.
-use Rattle.std.specs.Prelude.{◌≡◌, ℕ, ◌<◌, ◌≤◌, Bool, false, Option, Some, None}
+use Rattle.std.specs.Prelude.{◌≡◌, ℕ, ◌<◌, ◌≤◌, Bool, true, false, Option, Some, None}
 use Rattle.rfb_pixel.specs.declared.colour.Colour.{Colour}
 use Rattle.rfb_pixel.specs.Format.{PixelFormat}
 use Rattle.rfb_picture.specs.declared.rect.Rect.{Rect}
 use Rattle.rfb_picture.specs.Rect.{contains}
-use Rattle.rfb_picture.specs.Grid.{Grid, IsGrid, at_or}
+use Rattle.rfb_picture.specs.Grid.{Grid, IsGrid, at_or, filled, uniform}
 use Rattle.rfb_picture.specs.Box.{is_in}
-use Rattle.rfb_picture.specs.Area.{Places, IsArea, whole_at}
+use Rattle.rfb_picture.specs.Area.{Places, IsArea, whole_at, no_places}
 use Rattle.rfb_server.specs.Server.{black}
 use Rattle.rfb_server.specs.Request.{wanted_at}
 
@@ -22,6 +22,24 @@ pub record AreAlike (known : Grid (Option ℕ)) (area : Places) (marks : Grid Bo
   pub marks_high : marks.height ≡ known.height
   pub columns : known.width ≤ 4096
   pub rows : known.height ≤ 4096
+
+-- these are all places of a screen of that size
+pub record AreAllPlaces (width height : ℕ) (marks : Grid Bool) : Type 0 where
+  pub value : marks ≡
+      filled (record { x = 0; y = 0; w = width; h = height }) true (uniform width height false)
+  pub columns : marks.width ≡ width
+  pub rows : marks.height ≡ height
+
+-- of a screen of that size nothing is known yet, nothing asked, and every place is marked
+pub record AreUntouched (width height : ℕ) (known : Grid (Option ℕ)) (area : Places)
+    (marks : Grid Bool) : Type 0 where
+  pub known_is : known ≡ uniform width height None
+  pub known_wide : known.width ≡ width
+  pub known_high : known.height ≡ height
+  pub area_is : area ≡ no_places width height
+  pub area_wide : area.asked.width ≡ width
+  pub area_high : area.asked.height ≡ height
+  pub marked : AreAllPlaces width height marks
 
 -- a place that is not marked is known to have the wanted pixel, and is not whole
 pub record IsCaughtUp (screen : Grid Colour) (known : Grid (Option ℕ)) (area : Places)

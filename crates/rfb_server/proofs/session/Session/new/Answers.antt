@@ -7,23 +7,25 @@ use Rattle.rfb_server.proofs.session.Session.new.Goals as goal
 
 pub invariant_of-result : goal.invariant_of-result
 invariant_of-result c =
+    let fresh = c.in_ok-tracking.ensures in
     record {
       alike = record {
-        known_whole = rw (c.in_ok-known.ensures.value) (whole-uniform _ _ _);
-        area_is = rw (c.in_ok-area.ensures.value) (area-no_places _ _);
-        marks_whole = rw (c.add.ensures.value, c.in_ok-marks.ensures.value) (whole-changed _ _ (whole-uniform _ _ _));
-        area_wide = c.in_ok-area.ensures.width ∙ sym c.in_ok-known.ensures.width;
-        area_high = c.in_ok-area.ensures.height ∙ sym c.in_ok-known.ensures.height;
-        marks_wide = c.add.ensures.width ∙ (c.in_ok-marks.ensures.width ∙ sym c.in_ok-known.ensures.width);
-        marks_high = c.add.ensures.height ∙ (c.in_ok-marks.ensures.height ∙ sym c.in_ok-known.ensures.height);
-        columns = rw (c.in_ok-known.ensures.width) c.requires.columns;
-        rows = rw (c.in_ok-known.ensures.height) c.requires.rows;
+        known_whole = rw fresh.known_is (whole-uniform _ _ _);
+        area_is = rw fresh.area_is (area-no_places _ _);
+        marks_whole = rw fresh.marked.value (whole-changed _ _ (whole-uniform _ _ _));
+        area_wide = fresh.area_wide ∙ sym fresh.known_wide;
+        area_high = fresh.area_high ∙ sym fresh.known_high;
+        marks_wide = fresh.marked.columns ∙ sym fresh.known_wide;
+        marks_high = fresh.marked.rows ∙ sym fresh.known_high;
+        columns = rw fresh.known_wide c.requires.columns;
+        rows = rw fresh.known_high c.requires.rows;
       };
-      partial = (server_stands _ c.new-4.result _ _ c.new-4.ensures).1;
+      partial = (server_stands _ c.new-2.result _ _ c.new-2.ensures).1;
       sixteen = ap (λ b. b.capacity) c.in_ok-hints.ensures;
     }
 
 pub returns-clause-unseen : goal.returns-clause-unseen
 returns-clause-unseen c = λ x y p q.
-    rw (c.add.ensures.value, c.in_ok-marks.ensures.value)
-    (in_all c.args.width c.args.height x y (rw (c.in_ok-known.ensures.width) at p) (rw (c.in_ok-known.ensures.height) at q))
+    let fresh = c.in_ok-tracking.ensures in
+    rw fresh.marked.value
+    (in_all c.args.width c.args.height x y (rw fresh.known_wide at p) (rw fresh.known_high at q))
