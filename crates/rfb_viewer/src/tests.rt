@@ -1,5 +1,6 @@
 //! Tests of a viewer that is fed what servers send. Streams, answers and colours were worked out by
-//! hand from RFC 6143.
+//! hand from RFC 6143. Most tests are lists of steps, written as constants behind a `&`: a list that
+//! is made in a test's body takes several times as long to prove.
 
 mod calls;
 mod cuts;
@@ -17,7 +18,6 @@ mod play;
 use crate::{Viewer, ViewerEvent};
 use arrayvec::ArrayVec;
 use rfb_hello::{Fed, Version};
-use rfb_picture::Picture;
 use rfb_pixel::{Colour, Format};
 use rfb_wire::Encoding;
 use std::alloc::{AllocError, Global};
@@ -61,11 +61,10 @@ fn taken(viewer: &mut Viewer, bytes: &[u8]) -> usize {
     }
 }
 
-// A row of a picture, or nothing where there is none.
-fn row_of(picture: &Picture<Colour>, y: u16) -> &[Colour] {
-    if y < picture.height() {
-        picture.row(0, y, picture.width())
-    } else {
-        &[]
+// A row that it shows, or nothing where there is none.
+fn row_of(viewer: &Viewer, y: u16) -> &[Colour] {
+    match viewer.picture() {
+        Some(picture) if y < picture.height() => picture.row(0, y, picture.width()),
+        _ => &[],
     }
 }

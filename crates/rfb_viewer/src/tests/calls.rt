@@ -2,7 +2,9 @@
 
 mod during;
 
-use super::play::{fault_at, request_fault, shows_row};
+use super::play::{
+    Call, Step, are_right, fault_at, format_fault, plays_at_rgb888, request_fault, shows_row,
+};
 use super::*;
 use crate::{CallFault, TextFault};
 use rfb_picture::Rect;
@@ -17,21 +19,12 @@ const ONE: Rect = Rect {
 
 const TWO: Rect = Rect { w: 2, ..ONE };
 
-// How a format is refused, if it is.
-fn format_fault(viewer: &mut Viewer) -> Option<CallFault> {
-    viewer.set_format(Format::bgr233()).err()
-}
-
-fn no_encodings() -> ArrayVec<Encoding, 4> {
-    ArrayVec::new()
-}
-
 // Whether all calls are refused, each with `NotReady`, and a text's buffer stays as it was.
 fn refuses_all(viewer: &mut Viewer, alloc: Global) -> bool {
     let mut out = Vec::new(alloc);
     request_fault(viewer, Rect { w: 0, ..ONE }) == Some(CallFault::NotReady)
         && format_fault(viewer) == Some(CallFault::NotReady)
-        && viewer.set_encodings(no_encodings()).err() == Some(CallFault::NotReady)
+        && viewer.set_encodings(ArrayVec::new()).err() == Some(CallFault::NotReady)
         && viewer.key(true, 1).err() == Some(CallFault::NotReady)
         && viewer.pointer(1, 2, 3).err() == Some(CallFault::NotReady)
         && viewer.cut_text(b"A", &mut out) == Err(TextFault::NotReady)
@@ -57,9 +50,11 @@ fn calls_wait_for_the_end_of_the_handshake(rt: HostRuntime) {
     assert!(rt; calls_wait(rt.alloc()));
 }
 
-// Whether the viewer fails at these bytes, and then refuses all calls and shows its picture still.
+// Whether the viewer fails at these bytes behind a request, and then refuses all calls and shows
+// its picture still.
 fn is_failed_by(viewer: &mut Viewer, alloc: Global, bytes: &[u8]) -> bool {
-    fault_at(viewer, bytes).is_some()
+    request_fault(viewer, ONE).is_none()
+        && fault_at(viewer, bytes).is_some()
         && refuses_all(viewer, alloc)
         && !viewer.between()
         && viewer.pending() == 0
@@ -68,7 +63,7 @@ fn is_failed_by(viewer: &mut Viewer, alloc: Global, bytes: &[u8]) -> bool {
 
 fn refuses_when_failed(alloc: Global) -> bool {
     let mut viewer = ready(alloc, Format::rgb888(), HELLO_1_BY_1);
-    request_fault(&mut viewer, ONE).is_none() && is_failed_by(&mut viewer, alloc, &[0xFF])
+    is_failed_by(&mut viewer, alloc, &[0xFF])
 }
 
 #[test]
@@ -76,81 +71,35 @@ fn a_failed_viewer_refuses_all_calls(rt: HostRuntime) {
     assert!(rt; refuses_when_failed(rt.alloc()));
 }
 
-// A call that is a message.
-#[derive(Clone, Copy)]
-enum Call<'a> {
-    Key(bool, u32),
-    Pointer(u8, u16, u16),
-    List(&'a [Encoding]),
-    Format(Format),
-    Request(bool, Rect),
-}
-
-// Whether a call answers these bytes.
-fn is_sent<const SIZE: usize>(answer: Result<[u8; SIZE], CallFault>, wanted: &[u8]) -> bool {
-    match answer {
-        Ok(bytes) => bytes.as_slice() == wanted,
-        Err(_) => false,
-    }
-}
-
-fn sends_list(viewer: &mut Viewer, list: &[Encoding], wanted: &[u8]) -> bool {
-    let mut listed = no_encodings();
-    let fits = listed.try_extend_from_slice(list).is_ok();
-    match viewer.set_encodings(listed) {
-        Ok(bytes) => fits && bytes.as_slice() == wanted,
-        Err(_) => false,
-    }
-}
-
-// Whether these bytes are to be sent for a call.
-fn sends(viewer: &mut Viewer, call: &Call<'_>, wanted: &[u8]) -> bool {
-    match *call {
-        Call::Key(down, key) => is_sent(viewer.key(down, key), wanted),
-        Call::Pointer(buttons, x, y) => is_sent(viewer.pointer(buttons, x, y), wanted),
-        Call::List(list) => sends_list(viewer, list, wanted),
-        Call::Format(format) => is_sent(viewer.set_format(format), wanted),
-        Call::Request(again, rect) => is_sent(viewer.request(again, rect), wanted),
-    }
-}
-
-fn sends_each(alloc: Global, rows: &[(Call<'_>, &[u8])]) -> bool {
-    let mut viewer = ready(alloc, Format::rgb888(), HELLO_2_BY_1);
-    let mut good = true;
-    for (call, bytes) in rows {
-        good &= sends(&mut viewer, call, bytes);
-    }
-    good
-}
-
-const LISTED: [Encoding; 4] = [
+const LISTED: &[Encoding] = &[
     Encoding::Hextile,
     Encoding::CopyRect,
     Encoding::Raw,
     Encoding::Rre,
 ];
 
+const MESSAGES: &[Step<'static>] = &[
+    Step::Send(Call::Key(true, 0xFF0D), b"\x04\x01\0\0\0\0\xFF\x0D"),
+    Step::Send(Call::Key(false, 0x61), b"\x04\0\0\0\0\0\0a"),
+    Step::Send(
+        Call::Pointer(5, 0x1234, 0x5678),
+        b"\x05\x05\x12\x34\x56\x78",
+    ),
+    Step::Send(
+        Call::List(LISTED),
+        b"\x02\0\0\x04\0\0\0\x05\0\0\0\x01\0\0\0\0\0\0\0\x02",
+    ),
+    Step::Send(Call::List(&[]), b"\x02\0\0\0"),
+    Step::Send(
+        Call::SetRgb565,
+        b"\0\0\0\0\x10\x10\0\x01\0\x1F\0\x3F\0\x1F\x0B\x05\0\0\0\0",
+    ),
+    Step::Send(Call::Request(false, TWO), b"\x03\0\0\0\0\0\0\x02\0\x01"),
+];
+
 #[test]
 fn calls_are_their_messages(rt: HostRuntime) {
-    let rows: [(Call<'_>, &[u8]); 7] = [
-        (Call::Key(true, 0xFF0D), b"\x04\x01\0\0\0\0\xFF\x0D"),
-        (Call::Key(false, 0x61), b"\x04\0\0\0\0\0\0a"),
-        (
-            Call::Pointer(5, 0x1234, 0x5678),
-            b"\x05\x05\x12\x34\x56\x78",
-        ),
-        (
-            Call::List(&LISTED),
-            b"\x02\0\0\x04\0\0\0\x05\0\0\0\x01\0\0\0\0\0\0\0\x02",
-        ),
-        (Call::List(&[]), b"\x02\0\0\0"),
-        (
-            Call::Format(Format::rgb565()),
-            b"\0\0\0\0\x10\x10\0\x01\0\x1F\0\x3F\0\x1F\x0B\x05\0\0\0\0",
-        ),
-        (Call::Request(false, TWO), b"\x03\0\0\0\0\0\0\x02\0\x01"),
-    ];
-    assert!(rt; sends_each(rt.alloc(), rows.as_slice()));
+    assert!(rt; plays_at_rgb888(rt.alloc(), HELLO_2_BY_1, MESSAGES));
 }
 
 // Whether a text is appended behind what the buffer has.
@@ -173,17 +122,19 @@ fn a_text_is_appended_to_what_is_to_be_sent(rt: HostRuntime) {
     assert!(rt; appends_texts(rt.alloc()));
 }
 
-// Where the buffer cannot grow, that is told, and it stays as it was.
+// Where the buffer cannot grow, that is told, and it stays as it was. Where memory was wanting in
+// the handshake, no text is taken.
 fn keeps_or_appends(viewer: &Viewer, out: &mut Vec<u8>) -> bool {
     match viewer.cut_text(b"ABCDE", out) {
         Ok(()) => out.as_slice() == b"Z\x06\0\0\0\0\0\0\x05ABCDE".as_slice(),
-        Err(fault) => fault == TextFault::NoMemory && out.as_slice() == b"Z".as_slice(),
+        Err(TextFault::NoMemory) => out.as_slice() == b"Z".as_slice(),
+        Err(TextFault::NotReady) => !viewer.between(),
     }
 }
 
 fn keeps_the_buffer(alloc: Global, out: &mut Vec<u8>) -> bool {
     let viewer = ready(alloc, Format::rgb888(), HELLO_2_BY_1);
-    !viewer.between() || keeps_or_appends(&viewer, out)
+    keeps_or_appends(&viewer, out)
 }
 
 #[test]
@@ -193,7 +144,7 @@ fn a_text_without_memory_leaves_the_buffer(rt: HostRuntime) -> Result<(), AllocE
     Ok(())
 }
 
-const OUTSIDE: [Rect; 6] = [
+const OUTSIDE: &[Rect] = &[
     Rect { w: 0, ..ONE },
     Rect { h: 0, ..ONE },
     Rect { w: 3, ..ONE },
@@ -210,16 +161,21 @@ const OUTSIDE: [Rect; 6] = [
 fn refuses_each(viewer: &mut Viewer, wanted: CallFault) -> bool {
     let mut good = true;
     for rect in OUTSIDE {
-        good &= request_fault(viewer, rect) == Some(wanted);
+        good &= request_fault(viewer, *rect) == Some(wanted);
     }
     good
 }
 
+// Whether that is so before a request and behind it.
+fn refuses_areas(viewer: &mut Viewer) -> bool {
+    refuses_each(viewer, CallFault::AreaOutside)
+        && are_right(viewer, &[Step::Ask(TWO, None)])
+        && refuses_each(viewer, CallFault::Busy)
+}
+
 fn judges_areas_last(alloc: Global) -> bool {
     let mut viewer = ready(alloc, Format::rgb888(), HELLO_2_BY_1);
-    refuses_each(&mut viewer, CallFault::AreaOutside)
-        && request_fault(&mut viewer, TWO).is_none()
-        && refuses_each(&mut viewer, CallFault::Busy)
+    refuses_areas(&mut viewer)
 }
 
 #[test]

@@ -1,7 +1,7 @@
 //! What a hostile server sends behind the handshake: the fault, its byte, and the pieces shown
 //! before it.
 
-use super::play::{Step, Told, are_right, plays};
+use super::play::{Step, Told, plays_at_bgr233};
 use super::*;
 use crate::ViewerFault;
 
@@ -19,23 +19,8 @@ const RRE_HEAD: &[u8] = b"\0\0\0\0\0\x02\0\x01\0\0\0\x02";
 
 const HEXTILE_HEAD: &[u8] = b"\0\0\0\0\0\x02\0\x01\0\0\0\x05";
 
-// Whether slices are taken one after another but for the last byte, and then it tells this fault,
-// also when it is fed nothing.
-fn fails(viewer: &mut Viewer, slices: [&[u8]; 3], wanted: ViewerFault) -> bool {
-    let [first, second, last] = slices;
-    let (front, back) = last.split_at(last.len().saturating_sub(1));
-    let steps = [
-        Step::Feed(first, first.len(), Told::Nothing),
-        Step::Feed(second, second.len(), Told::Nothing),
-        Step::Feed(front, front.len(), Told::Nothing),
-        Step::Fail(back, wanted),
-        Step::Fail(b"", wanted),
-    ];
-    are_right(viewer, steps.as_slice())
-}
-
 // Slices that end in a fault, the fault, and the colour of both places before it.
-pub const FAULTS: [([&[u8]; 3], ViewerFault, Colour); 13] = [
+pub const FAULTS: &[([&[u8]; 3], ViewerFault, Colour)] = &[
     // A subrectangle that is one place too wide; one whose sum of 16 bits wraps.
     (
         [
@@ -107,91 +92,108 @@ pub const FAULTS: [([&[u8]; 3], ViewerFault, Colour); 13] = [
     ),
 ];
 
-// Whether a viewer of such a screen fails so, and then shows one row of these colours.
-fn fails_showing(
-    alloc: Global,
-    hello: &[u8],
-    slices: [&[u8]; 3],
-    wanted: ViewerFault,
-    row: &[Colour],
-) -> bool {
-    let mut viewer = ready(alloc, Format::bgr233(), hello);
-    fails(&mut viewer, slices, wanted) && are_right(&mut viewer, &[Step::Shows(row)])
+// Whether slices are taken one after another but for the last byte, and that one ends in this fault
+// for good, behind which both places have this colour.
+fn fails(alloc: Global, slices: [&[u8]; 3], wanted: ViewerFault, shown: Colour) -> bool {
+    let [first, second, last] = slices;
+    let row = [shown, shown];
+    let steps = [
+        Step::Feed(first, first.len(), Told::Nothing),
+        Step::Feed(second, second.len(), Told::Nothing),
+        Step::Break(last, wanted),
+        Step::Shows(row.as_slice()),
+    ];
+    plays_at_bgr233(alloc, HELLO_2_BY_1, steps.as_slice())
+}
+
+// The number of the first row of the table that goes wrong, if one does.
+fn first_wrong_fault(alloc: Global) -> Option<usize> {
+    for at in 0..FAULTS.len() {
+        let (slices, wanted, shown) = FAULTS[at];
+        if !fails(alloc, slices, wanted, shown) {
+            return Some(at);
+        }
+    }
+    None
 }
 
 #[test]
 fn a_fault_is_told_at_the_last_byte_of_its_piece(rt: HostRuntime) {
-    for (slices, wanted, shown) in FAULTS {
-        let row = [shown, shown];
-        let failed = fails_showing(rt.alloc(), HELLO_2_BY_1, slices, wanted, row.as_slice());
-        assert!(rt; failed, "{wanted:?}");
-    }
+    assert_eq!(rt; first_wrong_fault(rt.alloc()), None);
 }
+
+const TWO_COLOURS: &[Step<'static>] = &[
+    Step::Feed(ONE, 4, Told::Nothing),
+    Step::Feed(HEXTILE_HEAD, 12, Told::Nothing),
+    Step::Feed(b"\x0E\x10\x20\x01\x10\0\x02", 6, Told::UpdateDone),
+    Step::Shows(&[TEN, TWENTY]),
+];
 
 #[test]
 fn a_tile_of_two_colours_is_taken(rt: HostRuntime) {
-    let steps = [
-        Step::Feed(ONE, 4, Told::Nothing),
-        Step::Feed(HEXTILE_HEAD, 12, Told::Nothing),
-        Step::Feed(b"\x0E\x10\x20\x01\x10\0\x02", 6, Told::UpdateDone),
-        Step::Shows(&[TEN, TWENTY]),
-    ];
-    assert!(rt; plays(rt.alloc(), Format::bgr233(), HELLO_2_BY_1, steps.as_slice()));
+    assert!(rt; plays_at_bgr233(rt.alloc(), HELLO_2_BY_1, TWO_COLOURS));
 }
 
 // Colours of tiles do not go from a rectangle to the next one.
+const NEXT_RECTANGLE: &[Step<'static>] = &[
+    Step::Feed(TWO, 4, Told::Nothing),
+    Step::Feed(HEXTILE_HEAD, 12, Told::Nothing),
+    Step::Feed(b"\x06\x10\x20", 3, Told::Nothing),
+    Step::Shows(&[TEN, TEN]),
+    Step::Feed(HEXTILE_HEAD, 12, Told::Nothing),
+    Step::Break(b"\0", ViewerFault::NoBackground),
+    Step::Shows(&[TEN, TEN]),
+];
+
 #[test]
 fn a_background_ends_with_its_rectangle(rt: HostRuntime) {
-    let steps = [
-        Step::Feed(TWO, 4, Told::Nothing),
-        Step::Feed(HEXTILE_HEAD, 12, Told::Nothing),
-        Step::Feed(b"\x06\x10\x20", 3, Told::Nothing),
-        Step::Shows(&[TEN, TEN]),
-        Step::Feed(HEXTILE_HEAD, 12, Told::Nothing),
-        Step::Feed(b"", 0, Told::Nothing),
-        Step::Fail(b"\0", ViewerFault::NoBackground),
-        Step::Fail(b"", ViewerFault::NoBackground),
-        Step::Shows(&[TEN, TEN]),
-    ];
-    assert!(rt; plays(rt.alloc(), Format::bgr233(), HELLO_2_BY_1, steps.as_slice()));
+    assert!(rt; plays_at_bgr233(rt.alloc(), HELLO_2_BY_1, NEXT_RECTANGLE));
 }
 
 // The head of a rectangle of two tiles.
 const TILES_HEAD: &[u8] = b"\0\0\0\0\0\x11\0\x01\0\0\0\x05";
 
-// Whether masks of the second of two tiles fail so, behind a background of 10.
+// What is shown once the first tile came, of a background of 10.
+const FIRST_TILE: &[Colour] = &[
+    TEN, TEN, TEN, TEN, TEN, TEN, TEN, TEN, TEN, TEN, TEN, TEN, TEN, TEN, TEN, TEN, BLACK,
+];
+
+// Masks of the second of two tiles, behind a background of 10.
+const MASKS: &[(&[u8], ViewerFault)] = &[
+    (b"\x02\x10\x1C", ViewerFault::BothColourBits),
+    (b"\x02\x10\x14", ViewerFault::BothColourBits),
+    (b"\x02\x10\x08", ViewerFault::NoForeground),
+];
+
+// Whether a mask fails so.
 fn is_mask_judged(alloc: Global, data: &[u8], wanted: ViewerFault) -> bool {
-    let mut row = [TEN; 17];
-    row[16] = BLACK;
-    let slices = [ONE, TILES_HEAD, data];
-    fails_showing(alloc, HELLO_17_BY_1, slices, wanted, row.as_slice())
+    let steps = [
+        Step::Feed(ONE, 4, Told::Nothing),
+        Step::Feed(TILES_HEAD, 12, Told::Nothing),
+        Step::Break(data, wanted),
+        Step::Shows(FIRST_TILE),
+    ];
+    plays_at_bgr233(alloc, HELLO_17_BY_1, steps.as_slice())
 }
 
 #[test]
 fn a_mask_is_judged_before_what_follows_it(rt: HostRuntime) {
-    let rows: [(&[u8], ViewerFault); 3] = [
-        (b"\x02\x10\x1C", ViewerFault::BothColourBits),
-        (b"\x02\x10\x14", ViewerFault::BothColourBits),
-        (b"\x02\x10\x08", ViewerFault::NoForeground),
-    ];
-    for (data, wanted) in rows {
-        assert!(rt; is_mask_judged(rt.alloc(), data, wanted));
+    for (data, wanted) in MASKS {
+        assert!(rt; is_mask_judged(rt.alloc(), data, *wanted));
     }
 }
 
 // The first rectangle stays when the second is refused, and of that one the pixels before the
 // fault.
+const SECOND_REFUSED: &[Step<'static>] = &[
+    Step::Feed(TWO, 4, Told::Nothing),
+    Step::Feed(RAW_HEAD, 12, Told::Nothing),
+    Step::Feed(b"\x10\x20", 2, Told::Nothing),
+    Step::Break(b"\0\0\0\0\0\x03\0\x01\0\0\0\0", ViewerFault::RectOutside),
+    Step::Shows(&[TEN, TWENTY]),
+];
+
 #[test]
 fn what_came_before_a_fault_stays(rt: HostRuntime) {
-    let steps = [
-        Step::Feed(TWO, 4, Told::Nothing),
-        Step::Feed(RAW_HEAD, 12, Told::Nothing),
-        Step::Feed(b"\x10\x20", 2, Told::Nothing),
-        Step::Feed(b"", 0, Told::Nothing),
-        Step::Feed(b"\0\0\0\0\0\x03\0\x01\0\0\0", 11, Told::Nothing),
-        Step::Fail(b"\0", ViewerFault::RectOutside),
-        Step::Fail(b"", ViewerFault::RectOutside),
-        Step::Shows(&[TEN, TWENTY]),
-    ];
-    assert!(rt; plays(rt.alloc(), Format::bgr233(), HELLO_2_BY_1, steps.as_slice()));
+    assert!(rt; plays_at_bgr233(rt.alloc(), HELLO_2_BY_1, SECOND_REFUSED));
 }

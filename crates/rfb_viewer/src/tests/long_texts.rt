@@ -1,7 +1,7 @@
 //! A name and a text of all the bytes that a length can tell: their first MiB is kept, the rest
 //! taken.
 
-use super::play::{Told, fault_at, shows_row, tells};
+use super::play::{Step, Told, are_right, fault_at, tells};
 use super::*;
 use crate::ViewerFault;
 
@@ -28,66 +28,82 @@ fn takes_three_mib(viewer: &mut Viewer, slice: &[u8]) -> bool {
     good
 }
 
-fn takes_slices(viewer: &mut Viewer, alloc: Global) -> Result<bool, AllocError> {
-    let mut slice = Vec::new(alloc);
-    slice.resize(65_536, b'n')?;
-    Ok(takes_three_mib(viewer, &slice))
-}
+// A server of 3.3, up to ServerInit of a screen of 1 by 1.
+const VERSION: Step<'static> = Step::Feed(b"RFB 003.003\n", 12, Told::Reply(b"RFB 003.003\n"));
 
-// ServerInit of a screen of 1 by 1 whose name has 4,294,967,295 bytes.
-const LONGEST_NAME: &[u8] = b"\0\x01\0\x01................\xFF\xFF\xFF\xFF";
+const NONE: Step<'static> = Step::Feed(b"\0\0\0\x01", 4, Told::Reply(b"\x01"));
 
-// Whether the handshake is taken up to that ServerInit, and there is a screen then.
-fn is_named(viewer: &mut Viewer) -> bool {
-    taken(viewer, &HELLO_1_BY_1[..16]) == 12
-        && taken(viewer, &HELLO_1_BY_1[12..16]) == 4
-        && tells(viewer, LONGEST_NAME, 24, Told::Nothing)
-        && shows_row(viewer, &[BLACK])
-}
+// A name of 4,294,967,295 bytes, before which there is a screen.
+const LONGEST_NAME: &[Step<'static>] = &[
+    VERSION,
+    NONE,
+    Step::Feed(
+        b"\0\x01\0\x01................\xFF\xFF\xFF\xFF",
+        24,
+        Told::Nothing,
+    ),
+    Step::Shows(&[BLACK]),
+];
 
-// Whether all of the handshake is taken.
-fn is_greeted(viewer: &mut Viewer) -> bool {
-    taken(viewer, HELLO_1_BY_1) == 12
-        && taken(viewer, &HELLO_1_BY_1[12..]) == 4
-        && taken(viewer, &HELLO_1_BY_1[16..]) == 24
-}
+// The rest of the handshake, whose screen has no name.
+const NAMELESS: Step<'static> = Step::Feed(
+    b"\0\x01\0\x01................\0\0\0\0",
+    24,
+    Told::Ready(b"", 0),
+);
 
-// Whether the longest name is taken, or behind the handshake the longest text.
-fn takes_longest(alloc: Global, in_name: bool) -> Result<bool, AllocError> {
+// A text of 4,294,967,295 bytes, and one of 1 MiB.
+const LONGEST_TEXT: &[Step<'static>] = &[
+    VERSION,
+    NONE,
+    NAMELESS,
+    Step::Feed(b"\x03\0\0\0\xFF\xFF\xFF\xFF", 8, Told::Nothing),
+];
+
+const TEXT_AT_THE_LIMIT: &[Step<'static>] = &[
+    VERSION,
+    NONE,
+    NAMELESS,
+    Step::Feed(b"\x03\0\0\0\0\x10\0\0", 8, Told::Nothing),
+];
+
+// Whether these steps go as they should, and behind them 3 MiB of a text are taken.
+fn takes_longest(alloc: Global, steps: &[Step<'_>], slice: &[u8]) -> bool {
     let mut viewer = with_long_texts(alloc);
-    let begun = if in_name {
-        is_named(&mut viewer)
-    } else {
-        is_greeted(&mut viewer)
-            && tells(&mut viewer, b"\x03\0\0\0\xFF\xFF\xFF\xFF", 8, Told::Nothing)
-    };
-    Ok(begun && takes_slices(&mut viewer, alloc)?)
+    are_right(&mut viewer, steps) && takes_three_mib(&mut viewer, slice)
+}
+
+// So many bytes of a text.
+fn letters(alloc: Global, count: usize) -> Result<Vec<u8>, AllocError> {
+    let mut letters = Vec::new(alloc);
+    letters.resize(count, b'n')?;
+    Ok(letters)
 }
 
 #[test]
 fn the_longest_name_is_taken_slice_by_slice(rt: HostRuntime) -> Result<(), AllocError> {
-    assert!(rt; takes_longest(rt.alloc(), true)?);
+    let slice = letters(rt.alloc(), 65_536)?;
+    assert!(rt; takes_longest(rt.alloc(), LONGEST_NAME, &slice));
     Ok(())
 }
 
 #[test]
 fn the_longest_text_is_taken_slice_by_slice(rt: HostRuntime) -> Result<(), AllocError> {
-    assert!(rt; takes_longest(rt.alloc(), false)?);
+    let slice = letters(rt.alloc(), 65_536)?;
+    assert!(rt; takes_longest(rt.alloc(), LONGEST_TEXT, &slice));
     Ok(())
 }
 
 // Whether a text of 1 MiB is told whole.
 fn tells_whole(alloc: Global, text: &[u8]) -> bool {
     let mut viewer = with_long_texts(alloc);
-    is_greeted(&mut viewer)
-        && tells(&mut viewer, b"\x03\0\0\0\0\x10\0\0", 8, Told::Nothing)
+    are_right(&mut viewer, TEXT_AT_THE_LIMIT)
         && tells(&mut viewer, text, 1_048_576, Told::Text(text, 1_048_576))
 }
 
 #[test]
 fn a_text_at_the_limit_is_kept_whole(rt: HostRuntime) -> Result<(), AllocError> {
-    let mut text = Vec::new(rt.alloc());
-    text.resize(1_048_576, b't')?;
+    let text = letters(rt.alloc(), 1_048_576)?;
     assert!(rt; tells_whole(rt.alloc(), &text));
     Ok(())
 }

@@ -1,10 +1,10 @@
 //! Updates that are shown piece by piece, in the format that is in force.
 
-use super::play::{Step, Told, are_right, plays};
+use super::play::{Step, Told, are_right, plays_at_bgr233, plays_at_rgb888, tells};
 use super::*;
 
-// A place of Raw at rgb888, and one at bgr233.
-const ONE_PLACE: &[u8] = b"\0\0\0\x01\0\0\0\0\0\x01\0\x01\0\0\0\0\x01\x80\xFF\0";
+// A place of Raw at rgb888 but for its last byte, and one at bgr233.
+const ONE_PLACE_FRONT: &[u8] = b"\0\0\0\x01\0\0\0\0\0\x01\0\x01\0\0\0\0\x01\x80\xFF";
 
 const ONE_SMALL: &[u8] = b"\0\0\0\x01\0\0\0\0\0\x01\0\x01\0\0\0\0\x27";
 
@@ -14,28 +14,15 @@ const ORANGE: Colour = Colour {
     b: 1,
 };
 
-// Whether all bytes but the last are taken one by one, and nothing is shown behind any of them.
-fn stays_black(viewer: &mut Viewer) -> bool {
-    let mut good = true;
-    for byte in ONE_PLACE[..19].chunks(1) {
-        let steps = [Step::Feed(byte, 1, Told::Nothing), Step::Shows(&[BLACK])];
-        good &= are_right(viewer, steps.as_slice());
-    }
-    good
-}
-
-fn comes_byte_by_byte(alloc: Global) -> bool {
-    let mut viewer = ready(alloc, Format::rgb888(), HELLO_1_BY_1);
-    let steps = [
-        Step::Feed(b"\0", 1, Told::UpdateDone),
-        Step::Shows(&[ORANGE]),
-    ];
-    stays_black(&mut viewer) && are_right(&mut viewer, steps.as_slice())
-}
+const BYTE_BY_BYTE: &[Step<'static>] = &[
+    Step::Still(ONE_PLACE_FRONT, &[BLACK]),
+    Step::Feed(b"\0", 1, Told::UpdateDone),
+    Step::Shows(&[ORANGE]),
+];
 
 #[test]
 fn an_update_comes_byte_by_byte(rt: HostRuntime) {
-    assert!(rt; comes_byte_by_byte(rt.alloc()));
+    assert!(rt; plays_at_rgb888(rt.alloc(), HELLO_1_BY_1, BYTE_BY_BYTE));
 }
 
 const SEEN: Colour = Colour {
@@ -44,13 +31,14 @@ const SEEN: Colour = Colour {
     b: 0,
 };
 
+const SMALL: &[Step<'static>] = &[
+    Step::Feed(ONE_SMALL, 17, Told::UpdateDone),
+    Step::Shows(&[SEEN]),
+];
+
 #[test]
 fn an_update_is_read_in_the_format_of_the_viewer(rt: HostRuntime) {
-    let steps = [
-        Step::Feed(ONE_SMALL, 17, Told::UpdateDone),
-        Step::Shows(&[SEEN]),
-    ];
-    assert!(rt; plays(rt.alloc(), Format::bgr233(), HELLO_1_BY_1, steps.as_slice()));
+    assert!(rt; plays_at_bgr233(rt.alloc(), HELLO_1_BY_1, SMALL));
 }
 
 // One update of one rectangle, all of a row of 17 places at bgr233, in Hextile and in RRE.
@@ -58,48 +46,38 @@ const TILES: &[u8] = b"\0\0\0\x01\0\0\0\0\0\x11\0\x01\0\0\0\x05";
 
 const SUBRECTS: &[u8] = b"\0\0\0\x01\0\0\0\0\0\x11\0\x01\0\0\0\x02";
 
-// Whether each byte is taken and pending, and none of 17 black places changes.
-fn keeps_black(viewer: &mut Viewer, bytes: &[u8]) -> bool {
-    let mut good = true;
-    for (byte, pending) in bytes.chunks(1).zip(1..6usize) {
-        let steps = [
-            Step::Feed(byte, 1, Told::Nothing),
-            Step::Pending(pending),
-            Step::Shows(&[BLACK; 17]),
-        ];
-        good &= are_right(viewer, steps.as_slice());
-    }
-    good
-}
+const ALL_BLACK: &[Colour] = &[BLACK; 17];
 
-// Whether the last byte shows the first tile, and the next one, which has the background of the
-// first, the second tile.
-fn shows_both(viewer: &mut Viewer) -> bool {
-    let mut first = [TEN; 17];
-    first[0] = TWENTY;
-    first[16] = BLACK;
-    let mut both = first;
-    both[16] = TEN;
-    let steps = [
-        Step::Feed(b"\0", 1, Told::Nothing),
-        Step::Pending(0),
-        Step::Shows(&first),
-        Step::Feed(b"\0\x02", 1, Told::UpdateDone),
-        Step::Shows(&both),
-    ];
-    are_right(viewer, steps.as_slice())
-}
+const FIRST_TILE: &[Colour] = &[
+    TWENTY, TEN, TEN, TEN, TEN, TEN, TEN, TEN, TEN, TEN, TEN, TEN, TEN, TEN, TEN, TEN, BLACK,
+];
 
-fn shows_tiles(alloc: Global) -> bool {
-    let mut viewer = ready(alloc, Format::bgr233(), HELLO_17_BY_1);
-    are_right(&mut viewer, &[Step::Feed(TILES, 16, Told::Nothing)])
-        && keeps_black(&mut viewer, b"\x1A\x10\x01\x20\0")
-        && shows_both(&mut viewer)
-}
+const BOTH_TILES: &[Colour] = &[
+    TWENTY, TEN, TEN, TEN, TEN, TEN, TEN, TEN, TEN, TEN, TEN, TEN, TEN, TEN, TEN, TEN, TEN,
+];
+
+// Each byte of the first tile is pending up to its last, and the next tile has its background.
+const TILE_BY_TILE: &[Step<'static>] = &[
+    Step::Feed(TILES, 16, Told::Nothing),
+    Step::Still(b"\x1A", ALL_BLACK),
+    Step::Pending(1),
+    Step::Still(b"\x10", ALL_BLACK),
+    Step::Pending(2),
+    Step::Still(b"\x01", ALL_BLACK),
+    Step::Pending(3),
+    Step::Still(b"\x20", ALL_BLACK),
+    Step::Pending(4),
+    Step::Still(b"\0", ALL_BLACK),
+    Step::Pending(5),
+    Step::Still(b"\0", FIRST_TILE),
+    Step::Pending(0),
+    Step::Feed(b"\0\x02", 1, Told::UpdateDone),
+    Step::Shows(BOTH_TILES),
+];
 
 #[test]
 fn a_tile_is_shown_at_its_last_byte(rt: HostRuntime) {
-    assert!(rt; shows_tiles(rt.alloc()));
+    assert!(rt; plays_at_bgr233(rt.alloc(), HELLO_17_BY_1, TILE_BY_TILE));
 }
 
 // Subrectangles of one place at x-position 3, again and again.
@@ -114,15 +92,8 @@ fn subrects(alloc: Global, count: usize) -> Result<Vec<u8>, AllocError> {
 // Whether such a slice of 4,000 bytes is taken, and so many of its last are pending.
 fn takes_slice(viewer: &mut Viewer, parts: &[u8], before: usize) -> bool {
     let come = before % 9;
-    let steps = [
-        Step::Feed(
-            parts.get(come..come + 4_000).unwrap_or_default(),
-            4_000,
-            Told::Nothing,
-        ),
-        Step::Pending((come + 4_000) % 9),
-    ];
-    are_right(viewer, steps.as_slice())
+    let slice = parts.get(come..come + 4_000).unwrap_or_default();
+    tells(viewer, slice, 4_000, Told::Nothing) && viewer.pending() == (come + 4_000) % 9
 }
 
 fn takes_a_million(viewer: &mut Viewer, parts: &[u8]) -> bool {
@@ -133,20 +104,24 @@ fn takes_a_million(viewer: &mut Viewer, parts: &[u8]) -> bool {
     good
 }
 
-// Whether they are painted, behind a background that is shown at once.
+// A background, which is shown at once, and what is shown behind the subrectangles.
+const BACKGROUND: &[Step<'static>] = &[
+    Step::Feed(SUBRECTS, 16, Told::Nothing),
+    Step::Feed(b"\xFF\xFF\xFF\xFF\x10", 5, Told::Nothing),
+    Step::Shows(&[TEN; 17]),
+    Step::Pending(0),
+];
+
+const PAINTED: &[Colour] = &[
+    TEN, TEN, TEN, TWENTY, TEN, TEN, TEN, TEN, TEN, TEN, TEN, TEN, TEN, TEN, TEN, TEN, TEN,
+];
+
+// Whether they are painted, behind that background.
 fn paints_a_million(alloc: Global, parts: &[u8]) -> bool {
     let mut viewer = ready(alloc, Format::bgr233(), HELLO_17_BY_1);
-    let mut row = [TEN; 17];
-    row[3] = TWENTY;
-    let head = [
-        Step::Feed(SUBRECTS, 16, Told::Nothing),
-        Step::Feed(b"\xFF\xFF\xFF\xFF\x10", 5, Told::Nothing),
-        Step::Shows(&[TEN; 17]),
-        Step::Pending(0),
-    ];
-    are_right(&mut viewer, head.as_slice())
+    are_right(&mut viewer, BACKGROUND)
         && takes_a_million(&mut viewer, parts)
-        && are_right(&mut viewer, &[Step::Shows(&row)])
+        && are_right(&mut viewer, &[Step::Shows(PAINTED)])
 }
 
 // Of the most subrectangles that a count can tell, the first million. Slices of 4,000 bytes cut

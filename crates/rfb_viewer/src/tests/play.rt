@@ -32,19 +32,44 @@ pub enum Step<'a> {
     Feed(&'a [u8], usize, Told<'a>),
     /// These bytes end in that fault.
     Fail(&'a [u8], ViewerFault),
+    /// It takes all of these bytes but the last, and tells nothing. That one ends in that fault,
+    /// and so does all that comes then, also when it is fed nothing.
+    Break(&'a [u8], ViewerFault),
     /// It takes each byte by itself, and behind it so many bytes are pending.
     Keep(&'a [u8], &'a [usize]),
+    /// It takes each byte by itself, tells nothing, and shows one row of these colours behind it.
+    Still(&'a [u8], &'a [Colour]),
+    /// It takes each byte by itself, tells nothing, and behind it stands inside a message, where
+    /// another format is refused so, or set.
+    Inside(&'a [u8], Option<CallFault>),
+    /// The same, where a format and a request for that area are refused as busy.
+    Busy(&'a [u8], Rect),
     /// A request for all of an area is refused so, or sent.
     Ask(Rect, Option<CallFault>),
+    /// Another format is refused so, or set.
+    SetFormat(Option<CallFault>),
+    /// These bytes are to be sent for a call.
+    Send(Call<'a>, &'a [u8]),
     /// It shows one row of these colours.
     Shows(&'a [Colour]),
-    /// It has no picture.
-    Blank,
+    /// Whether it has no picture.
+    Blank(bool),
     Pending(usize),
     /// Whether no message has begun.
     Between(bool),
     /// What is kept of the reason for a refusal.
     Reason(&'a [u8]),
+}
+
+/// A call that is a message.
+#[derive(Clone, Copy)]
+pub enum Call<'a> {
+    Key(bool, u32),
+    Pointer(u8, u16, u16),
+    List(&'a [Encoding]),
+    SetRgb565,
+    SetBgr233,
+    Request(bool, Rect),
 }
 
 fn is_event(event: &Option<ViewerEvent>, told: Told<'_>) -> bool {
@@ -90,6 +115,20 @@ pub fn fault_at(viewer: &mut Viewer, bytes: &[u8]) -> Option<ViewerFault> {
     viewer.feed(bytes).err()
 }
 
+// Whether bytes end in that fault.
+fn fails(viewer: &mut Viewer, bytes: &[u8], wanted: ViewerFault) -> bool {
+    fault_at(viewer, bytes) == Some(wanted)
+}
+
+// Whether all bytes but the last are taken, and that one ends in that fault for good.
+fn breaks(viewer: &mut Viewer, bytes: &[u8], wanted: ViewerFault) -> bool {
+    let (front, back) = bytes.split_at(bytes.len().saturating_sub(1));
+    tells(viewer, front, front.len(), Told::Nothing)
+        && fails(viewer, back, wanted)
+        && fails(viewer, b"\0", wanted)
+        && fails(viewer, b"", wanted)
+}
+
 // Whether each byte of a stream is taken, and so many are pending behind it.
 fn keeps(viewer: &mut Viewer, stream: &[u8], wanted: &[usize]) -> bool {
     let mut good = stream.len() == wanted.len();
@@ -99,31 +138,117 @@ fn keeps(viewer: &mut Viewer, stream: &[u8], wanted: &[usize]) -> bool {
     good
 }
 
+// Whether each byte of a stream is taken, and behind it such a row is shown.
+fn stays(viewer: &mut Viewer, stream: &[u8], row: &[Colour]) -> bool {
+    let mut good = true;
+    for byte in stream.chunks(1) {
+        good &= tells(viewer, byte, 1, Told::Nothing) && shows_row(viewer, row);
+    }
+    good
+}
+
+// Whether each byte of a stream is taken, and behind it a format is refused so, or set.
+fn is_inside(viewer: &mut Viewer, stream: &[u8], wanted: Option<CallFault>) -> bool {
+    let mut good = true;
+    for byte in stream.chunks(1) {
+        good &= tells(viewer, byte, 1, Told::Nothing)
+            && !viewer.between()
+            && format_fault(viewer) == wanted;
+    }
+    good
+}
+
+// Whether each byte of a stream is taken, and behind it a request and a format are refused.
+fn is_busy(viewer: &mut Viewer, stream: &[u8], rect: Rect) -> bool {
+    let mut good = true;
+    for byte in stream.chunks(1) {
+        good &= tells(viewer, byte, 1, Told::Nothing)
+            && request_fault(viewer, rect) == Some(CallFault::Busy)
+            && format_fault(viewer) == Some(CallFault::Busy);
+    }
+    good
+}
+
 /// How a request for an area is refused, if it is.
 pub fn request_fault(viewer: &mut Viewer, rect: Rect) -> Option<CallFault> {
     viewer.request(true, rect).err()
 }
 
+/// How a format is refused, if it is.
+pub fn format_fault(viewer: &mut Viewer) -> Option<CallFault> {
+    viewer.set_format(Format::bgr233()).err()
+}
+
 /// Whether it shows one row of these colours.
 pub fn shows_row(viewer: &Viewer, wanted: &[Colour]) -> bool {
     match viewer.picture() {
-        Some(picture) => picture.height() == 1 && row_of(picture, 0) == wanted,
+        Some(picture) => picture.height() == 1 && row_of(viewer, 0) == wanted,
         None => false,
     }
 }
 
-/// Whether a step goes as it should.
-pub fn is_right(viewer: &mut Viewer, step: &Step<'_>) -> bool {
+// Whether a call answers these bytes.
+fn is_sent<const SIZE: usize>(answer: Result<[u8; SIZE], CallFault>, wanted: &[u8]) -> bool {
+    match answer {
+        Ok(bytes) => bytes.as_slice() == wanted,
+        Err(_) => false,
+    }
+}
+
+fn sends_list(viewer: &mut Viewer, list: &[Encoding], wanted: &[u8]) -> bool {
+    let mut listed = ArrayVec::new();
+    let fits = listed.try_extend_from_slice(list).is_ok();
+    match viewer.set_encodings(listed) {
+        Ok(bytes) => fits && bytes.as_slice() == wanted,
+        Err(_) => false,
+    }
+}
+
+// Whether these bytes are to be sent for a call.
+fn sends(viewer: &mut Viewer, call: Call<'_>, wanted: &[u8]) -> bool {
+    match call {
+        Call::Key(down, key) => is_sent(viewer.key(down, key), wanted),
+        Call::Pointer(buttons, x, y) => is_sent(viewer.pointer(buttons, x, y), wanted),
+        Call::List(list) => sends_list(viewer, list, wanted),
+        Call::SetRgb565 => is_sent(viewer.set_format(Format::rgb565()), wanted),
+        Call::SetBgr233 => is_sent(viewer.set_format(Format::bgr233()), wanted),
+        Call::Request(again, rect) => is_sent(viewer.request(again, rect), wanted),
+    }
+}
+
+// Whether that holds of it.
+fn holds(viewer: &Viewer, step: &Step<'_>) -> bool {
     match *step {
-        Step::Feed(bytes, used, told) => tells(viewer, bytes, used, told),
-        Step::Fail(bytes, fault) => fault_at(viewer, bytes) == Some(fault),
-        Step::Keep(bytes, pending) => keeps(viewer, bytes, pending),
-        Step::Ask(rect, fault) => request_fault(viewer, rect) == fault,
         Step::Shows(row) => shows_row(viewer, row),
-        Step::Blank => viewer.picture().is_none(),
+        Step::Blank(blank) => viewer.picture().is_none() == blank,
         Step::Pending(count) => viewer.pending() == count,
         Step::Between(between) => viewer.between() == between,
         Step::Reason(reason) => viewer.reason() == reason,
+        _ => false,
+    }
+}
+
+// Whether a call goes so.
+fn is_answered(viewer: &mut Viewer, step: &Step<'_>) -> bool {
+    match *step {
+        Step::Ask(rect, fault) => request_fault(viewer, rect) == fault,
+        Step::SetFormat(fault) => format_fault(viewer) == fault,
+        Step::Send(call, bytes) => sends(viewer, call, bytes),
+        _ => holds(viewer, step),
+    }
+}
+
+// Whether a step goes as it should.
+fn is_right(viewer: &mut Viewer, step: &Step<'_>) -> bool {
+    match *step {
+        Step::Feed(bytes, used, told) => tells(viewer, bytes, used, told),
+        Step::Fail(bytes, fault) => fails(viewer, bytes, fault),
+        Step::Break(bytes, fault) => breaks(viewer, bytes, fault),
+        Step::Keep(bytes, pending) => keeps(viewer, bytes, pending),
+        Step::Still(bytes, row) => stays(viewer, bytes, row),
+        Step::Inside(bytes, fault) => is_inside(viewer, bytes, fault),
+        Step::Busy(bytes, rect) => is_busy(viewer, bytes, rect),
+        _ => is_answered(viewer, step),
     }
 }
 
@@ -136,8 +261,34 @@ pub fn are_right(viewer: &mut Viewer, steps: &[Step<'_>]) -> bool {
     good
 }
 
-/// The same of a viewer behind such a handshake.
-pub fn plays(alloc: Global, format: Format, hello: &[u8], steps: &[Step<'_>]) -> bool {
+/// The same of a new viewer that goes up to that version.
+pub fn greets(alloc: Global, limit: Version, steps: &[Step<'_>]) -> bool {
+    let mut viewer = viewer(alloc, Format::rgb888(), limit);
+    are_right(&mut viewer, steps)
+}
+
+/// The number of the first list of steps that goes wrong, each with a new viewer, if one does.
+pub fn first_wrong_greeting(alloc: Global, lists: &[&[Step<'_>]]) -> Option<usize> {
+    for at in 0..lists.len() {
+        if !greets(alloc, Version::V38, lists[at]) {
+            return Some(at);
+        }
+    }
+    None
+}
+
+// Whether all steps go as they should of a viewer behind such a handshake.
+fn plays(alloc: Global, format: Format, hello: &[u8], steps: &[Step<'_>]) -> bool {
     let mut viewer = ready(alloc, format, hello);
     are_right(&mut viewer, steps)
+}
+
+/// The same with pixels of 32 bits.
+pub fn plays_at_rgb888(alloc: Global, hello: &[u8], steps: &[Step<'_>]) -> bool {
+    plays(alloc, Format::rgb888(), hello, steps)
+}
+
+/// The same with pixels of 8 bits.
+pub fn plays_at_bgr233(alloc: Global, hello: &[u8], steps: &[Step<'_>]) -> bool {
+    plays(alloc, Format::bgr233(), hello, steps)
 }
