@@ -1,30 +1,51 @@
 //! What a fault prints as.
 
 use super::*;
+use std::alloc::AllocError;
+use std::fmt::Display;
 use std::result::Result;
 
-#[test]
-fn a_fault_prints_as_its_number_and_its_name(
-    rt: HostRuntime,
-) -> Result<(), std::alloc::AllocError> {
-    for (fault, text) in [
-        (ServerFault::BadBits, "1 BadBits"),
-        (ServerFault::DepthTooLarge, "2 DepthTooLarge"),
-        (ServerFault::NotTrueColour, "3 NotTrueColour"),
-        (ServerFault::BadMax, "4 BadMax"),
-        (ServerFault::ShiftTooLarge, "5 ShiftTooLarge"),
-        (ServerFault::FieldsOverlap, "6 FieldsOverlap"),
-        (ServerFault::UnknownMessage(1), "7 UnknownMessage"),
-        (ServerFault::BadVersion, "15 BadVersion"),
-        (ServerFault::VersionTooHigh, "16 VersionTooHigh"),
-        (ServerFault::BadSecurityChoice, "17 BadSecurityChoice"),
-        (ServerFault::NoMemory, "30 NoMemory"),
-    ] {
-        let printed = format!(in rt.alloc(); "{fault}")?;
-        assert_eq!(rt; printed.as_str(), text);
+const FAULTS: &[ServerFault] = &[
+    ServerFault::BadBits,
+    ServerFault::DepthTooLarge,
+    ServerFault::NotTrueColour,
+    ServerFault::BadMax,
+    ServerFault::ShiftTooLarge,
+    ServerFault::FieldsOverlap,
+    ServerFault::UnknownMessage(1),
+    ServerFault::BadVersion,
+    ServerFault::VersionTooHigh,
+    ServerFault::BadSecurityChoice,
+    ServerFault::NoMemory,
+];
+
+const PRINTED: &str = "1 BadBits
+2 DepthTooLarge
+3 NotTrueColour
+4 BadMax
+5 ShiftTooLarge
+6 FieldsOverlap
+7 UnknownMessage
+15 BadVersion
+16 VersionTooHigh
+17 BadSecurityChoice
+30 NoMemory
+24 Outside
+";
+
+// Appends each fault as it is printed, one a line.
+fn print_each<T: Display>(faults: &[T], lines: &mut String) -> Result<(), AllocError> {
+    for fault in faults {
+        writeln!(lines, "{fault}")?;
     }
-    let refusal = Outside;
-    let printed = format!(in rt.alloc(); "{refusal}")?;
-    assert_eq!(rt; printed.as_str(), "24 Outside");
+    Ok(())
+}
+
+#[test]
+fn a_fault_prints_as_its_number_and_its_name(rt: HostRuntime) -> Result<(), AllocError> {
+    let mut lines = String::new(rt.alloc());
+    print_each(FAULTS, &mut lines)?;
+    print_each(&[Outside], &mut lines)?;
+    assert_eq!(rt; lines.as_str(), PRINTED);
     Ok(())
 }

@@ -4,7 +4,7 @@ use super::*;
 use rfb_wire::Encoding;
 
 // The handshake; 16, Hextile, CopyRect, -223 and Hextile again; then a list without numbers.
-const ROWS: [(&[u8], &[Encoding]); 6] = [
+const ROWS: &[(&[u8], &[Encoding])] = &[
     (b"RFB 003.003\n", &[]),
     (b"\x01", &[]),
     (b"\x02\0\0\x05", &[]),

@@ -1,12 +1,12 @@
 //! Single messages of a client: what is told of each, and what it changes.
 
-use super::scene::{Step, first_wrong, first_wrong_of, ready};
+use super::scene::{Step, first_wrong, first_wrong_of, ready, tells};
 use crate::Server;
 use rfb_pixel::Format;
 use std::alloc::{AllocError, Global};
 
 // Texts above the limit and without bytes, keys, the pointer, and the pointer behind a list.
-const MESSAGES: [(&[u8], &str); 6] = [
+const MESSAGES: &[(&[u8], &str)] = &[
     (
         b"\x06\0\0\0\0\0\0\x05ABCDE",
         "Ok(Fed { used: 13, event: Some(CutText { kept: [65, 66, 67, 68], length: 5 }) })",
@@ -33,35 +33,38 @@ const MESSAGES: [(&[u8], &str); 6] = [
     ),
 ];
 
-// Whether each is told of so, between messages before and behind it.
-fn tells_each(server: &mut Server, alloc: Global) -> bool {
-    let mut all = true;
-    for (bytes, printed) in MESSAGES {
-        let steps = [
-            Step::Between(true),
-            Step::Tells(bytes, printed),
-            Step::Between(true),
-        ];
-        all = all && first_wrong(server, alloc, steps.as_slice()) == None;
-    }
-    all
+// Whether one is told of so, between messages before and behind it.
+fn tells_one(server: &mut Server, alloc: Global, bytes: &[u8], printed: &str) -> bool {
+    let before = server.between();
+    before && tells(server, alloc, bytes, printed) && server.between()
 }
 
-fn is_told(alloc: Global) -> Result<bool, AllocError> {
+// The number of the first message that is not, if one is not.
+fn first_wrong_message(server: &mut Server, alloc: Global) -> Option<usize> {
+    for at in 0..MESSAGES.len() {
+        let (bytes, printed) = MESSAGES[at];
+        if !tells_one(server, alloc, bytes, printed) {
+            return Some(at);
+        }
+    }
+    None
+}
+
+fn wrong_message(alloc: Global) -> Result<Option<usize>, AllocError> {
     let mut server = ready(alloc, 2, 1)?;
-    let told = tells_each(&mut server, alloc);
+    let wrong = first_wrong_message(&mut server, alloc);
     drop(server);
-    Ok(told)
+    Ok(wrong)
 }
 
 #[test]
 fn a_message_is_told_at_its_last_byte(rt: HostRuntime) -> Result<(), AllocError> {
-    assert!(rt; is_told(rt.alloc())?);
+    assert_eq!(rt; wrong_message(rt.alloc())?, None);
     Ok(())
 }
 
 // Types that no client message has; a format without true colour, and one of 24 bits.
-const FAULTS: [(&[u8], &str); 4] = [
+const FAULTS: &[(&[u8], &str)] = &[
     (b"\x01", "Err(UnknownMessage(1))"),
     (b"\xFF", "Err(UnknownMessage(255))"),
     (
@@ -74,69 +77,77 @@ const FAULTS: [(&[u8], &str); 4] = [
     ),
 ];
 
+// Behind a fault nothing is pending, and no message begins.
+const FAILED: &[Step<'static>] = &[Step::Between(false), Step::Pending(0)];
+
 // Whether it waits with all of the bytes but the last, and then fails for good.
-fn is_fault(alloc: Global, bytes: &[u8], printed: &str) -> Result<bool, AllocError> {
+fn fails(server: &mut Server, alloc: Global, bytes: &[u8], printed: &str) -> bool {
     let (front, last) = bytes.split_at(bytes.len().saturating_sub(1));
-    let steps = [
-        Step::Feed(front),
-        Step::Tells(last, printed),
-        Step::Tells(b"\x06\0\0\0\0\0\0\0".as_slice(), printed),
-        Step::Between(false),
-        Step::Pending(0),
-    ];
-    Ok(first_wrong_of(alloc, 2, 1, steps.as_slice())? == None)
+    server.feed(front).is_ok()
+        && tells(server, alloc, last, printed)
+        && tells(server, alloc, b"\x06\0\0\0\0\0\0\0", printed)
+        && first_wrong(server, alloc, FAILED) == None
 }
 
-fn are_faults(alloc: Global) -> Result<bool, AllocError> {
-    let mut all = true;
-    for (bytes, printed) in FAULTS {
-        all = all && is_fault(alloc, bytes, printed)?;
+fn is_fault(alloc: Global, bytes: &[u8], printed: &str) -> Result<bool, AllocError> {
+    let mut server = ready(alloc, 2, 1)?;
+    let failed = fails(&mut server, alloc, bytes, printed);
+    drop(server);
+    Ok(failed)
+}
+
+// The number of the first fault that is not told so, if one is not.
+fn first_wrong_fault(alloc: Global) -> Result<Option<usize>, AllocError> {
+    for at in 0..FAULTS.len() {
+        let (bytes, printed) = FAULTS[at];
+        if !is_fault(alloc, bytes, printed)? {
+            return Ok(Some(at));
+        }
     }
-    Ok(all)
+    Ok(None)
 }
 
 #[test]
 fn a_fault_is_told_at_its_last_byte_and_stays(rt: HostRuntime) -> Result<(), AllocError> {
-    assert!(rt; are_faults(rt.alloc())?);
+    assert_eq!(rt; first_wrong_fault(rt.alloc())?, None);
     Ok(())
 }
 
 // Requests: of no width; from (1, 0) to beyond the edges, whole; the same incremental; all
 // incremental.
+const REQUESTS: &[Step<'static>] = &[
+    Step::Feed(b"\x03\0\0\0\0\0\0\0\0\x01"),
+    Step::Asks(0, 0, Some((false, false))),
+    Step::Asks(1, 0, Some((false, false))),
+    Step::Feed(b"\x03\0\0\x01\0\0\xFF\xFF\xFF\xFF"),
+    Step::Asks(0, 0, Some((false, false))),
+    Step::Asks(1, 0, Some((true, true))),
+    Step::Feed(b"\x03\x01\0\x01\0\0\xFF\xFF\xFF\xFF"),
+    Step::Asks(0, 0, Some((false, false))),
+    Step::Asks(1, 0, Some((true, true))),
+    Step::Feed(b"\x03\x01\0\0\0\0\0\x02\0\x01"),
+    Step::Asks(0, 0, Some((true, false))),
+    Step::Asks(1, 0, Some((true, true))),
+];
+
 #[test]
-fn a_request_is_cut_to_the_screen_and_whole_stays_whole(rt: HostRuntime) -> Result<(), AllocError> {
-    let steps = [
-        Step::Feed(b"\x03\0\0\0\0\0\0\0\0\x01"),
-        Step::Asks(0, 0, Some((false, false))),
-        Step::Asks(1, 0, Some((false, false))),
-        Step::Feed(b"\x03\0\0\x01\0\0\xFF\xFF\xFF\xFF"),
-        Step::Asks(0, 0, Some((false, false))),
-        Step::Asks(1, 0, Some((true, true))),
-        Step::Feed(b"\x03\x01\0\x01\0\0\xFF\xFF\xFF\xFF"),
-        Step::Asks(0, 0, Some((false, false))),
-        Step::Asks(1, 0, Some((true, true))),
-        Step::Feed(b"\x03\x01\0\0\0\0\0\x02\0\x01"),
-        Step::Asks(0, 0, Some((true, false))),
-        Step::Asks(1, 0, Some((true, true))),
-    ];
-    assert_eq!(rt; first_wrong_of(rt.alloc(), 2, 1, steps.as_slice())?, None);
-    Ok(())
+fn a_request_is_cut_to_the_screen_and_whole_stays_whole(rt: HostRuntime) {
+    assert_eq!(rt; first_wrong_of(rt.alloc(), 2, 1, REQUESTS), None);
 }
 
 // Whether a format of 16 bits is the server's at its last byte, and not before.
-fn sets_a_format(server: &mut Server, alloc: Global) -> bool {
+fn sets_a_format(server: &mut Server) -> bool {
     let bytes = b"\0\0\0\0\x10\x10\0\x01\0\x1F\0\x3F\0\x1F\x0B\x05\0\0\0\0".as_slice();
     let mut before = true;
     for byte in bytes.chunks(1) {
-        let steps = [Step::Has(Format::rgb888()), Step::Feed(byte)];
-        before = before && first_wrong(server, alloc, steps.as_slice()) == None;
+        before = before && server.format() == Format::rgb888() && server.feed(byte).is_ok();
     }
     before && server.format() == Format::rgb565()
 }
 
 fn is_set(alloc: Global) -> Result<bool, AllocError> {
     let mut server = ready(alloc, 2, 1)?;
-    let set = sets_a_format(&mut server, alloc);
+    let set = sets_a_format(&mut server);
     drop(server);
     Ok(set)
 }

@@ -3,7 +3,6 @@
 use super::scene::{Step, first_wrong_of};
 use rfb_picture::Rect;
 use rfb_pixel::Colour;
-use std::alloc::AllocError;
 
 const ORANGE: Colour = Colour {
     r: 255,
@@ -17,10 +16,13 @@ const WHITE: Colour = Colour {
     b: 255,
 };
 
-// Columns of the one row.
-fn columns(x: u16, w: u16) -> Rect {
-    Rect { x, y: 0, w, h: 1 }
-}
+// The first place of the one row.
+const PLACE: Rect = Rect {
+    x: 0,
+    y: 0,
+    w: 1,
+    h: 1,
+};
 
 // Requests for all of a row of 1 and of 4 places.
 const WHOLE_1: &[u8] = b"\x03\0\0\0\0\0\0\x01\0\x01";
@@ -38,21 +40,21 @@ const WHOLE_ROW: &[u8] = b"\x03\0\0\0\0\0\xFF\xFF\0\x01";
 const ONE_PLACE: &[u8] = b"\0\0\0\x01\0\0\0\0\0\x01\0\x01\0\0\0\0\x01\x80\xFF\0";
 
 // A whole request is answered though nothing changed, an incremental one is not.
+const ONCE: &[Step<'static>] = &[
+    Step::Fill(PLACE, ORANGE),
+    Step::Quiet,
+    Step::Feed(WHOLE_1),
+    Step::Sends(ONE_PLACE),
+    Step::Quiet,
+    Step::Feed(WHOLE_1),
+    Step::Sends(ONE_PLACE),
+    Step::Feed(INCREMENTAL_1),
+    Step::Quiet,
+];
+
 #[test]
-fn an_update_answers_a_request_once(rt: HostRuntime) -> Result<(), AllocError> {
-    let steps = [
-        Step::Fill(columns(0, 1), ORANGE),
-        Step::Quiet,
-        Step::Feed(WHOLE_1),
-        Step::Sends(ONE_PLACE),
-        Step::Quiet,
-        Step::Feed(WHOLE_1),
-        Step::Sends(ONE_PLACE),
-        Step::Feed(INCREMENTAL_1),
-        Step::Quiet,
-    ];
-    assert_eq!(rt; first_wrong_of(rt.alloc(), 1, 1, steps.as_slice())?, None);
-    Ok(())
+fn an_update_answers_a_request_once(rt: HostRuntime) {
+    assert_eq!(rt; first_wrong_of(rt.alloc(), 1, 1, ONCE), None);
 }
 
 // SetPixelFormat of eight bits: 7, 7, 3 at 0, 3, 6.
@@ -61,18 +63,18 @@ const EIGHT_BITS: &[u8] = b"\0\0\0\0\x08\x08\0\x01\0\x07\0\x07\0\x03\0\x03\x06\0
 // The same place in that format.
 const ONE_PLACE_IN_EIGHT_BITS: &[u8] = b"\0\0\0\x01\0\0\0\0\0\x01\0\x01\0\0\0\0\x27";
 
+const SENT_AGAIN: &[Step<'static>] = &[
+    Step::Fill(PLACE, ORANGE),
+    Step::Feed(WHOLE_1),
+    Step::Sends(ONE_PLACE),
+    Step::Feed(EIGHT_BITS),
+    Step::Feed(INCREMENTAL_1),
+    Step::Sends(ONE_PLACE_IN_EIGHT_BITS),
+];
+
 #[test]
-fn after_another_format_all_is_sent_again(rt: HostRuntime) -> Result<(), AllocError> {
-    let steps = [
-        Step::Fill(columns(0, 1), ORANGE),
-        Step::Feed(WHOLE_1),
-        Step::Sends(ONE_PLACE),
-        Step::Feed(EIGHT_BITS),
-        Step::Feed(INCREMENTAL_1),
-        Step::Sends(ONE_PLACE_IN_EIGHT_BITS),
-    ];
-    assert_eq!(rt; first_wrong_of(rt.alloc(), 1, 1, steps.as_slice())?, None);
-    Ok(())
+fn after_another_format_all_is_sent_again(rt: HostRuntime) {
+    assert_eq!(rt; first_wrong_of(rt.alloc(), 1, 1, SENT_AGAIN), None);
 }
 
 // Four black places, and then those that changed.
@@ -82,18 +84,18 @@ const FOUR_PLACES: &[u8] =
 const THREE_PLACES: &[u8] =
     b"\0\0\0\x01\0\x01\0\0\0\x03\0\x01\0\0\0\0\xFF\xFF\xFF\0\0\0\0\0\xFF\xFF\xFF\0";
 
+const CHANGED: &[Step<'static>] = &[
+    Step::Feed(WHOLE_4),
+    Step::Sends(FOUR_PLACES),
+    Step::Fill(Rect { x: 1, ..PLACE }, WHITE),
+    Step::Fill(Rect { x: 3, ..PLACE }, WHITE),
+    Step::Feed(INCREMENTAL_4),
+    Step::Sends(THREE_PLACES),
+];
+
 #[test]
-fn a_rectangle_reaches_no_further_than_what_changed(rt: HostRuntime) -> Result<(), AllocError> {
-    let steps = [
-        Step::Feed(WHOLE_4),
-        Step::Sends(FOUR_PLACES),
-        Step::Fill(columns(1, 1), WHITE),
-        Step::Fill(columns(3, 1), WHITE),
-        Step::Feed(INCREMENTAL_4),
-        Step::Sends(THREE_PLACES),
-    ];
-    assert_eq!(rt; first_wrong_of(rt.alloc(), 4, 1, steps.as_slice())?, None);
-    Ok(())
+fn a_rectangle_reaches_no_further_than_what_changed(rt: HostRuntime) {
+    assert_eq!(rt; first_wrong_of(rt.alloc(), 4, 1, CHANGED), None);
 }
 
 // SetEncodings with RRE alone, and with Hextile alone.
@@ -110,38 +112,38 @@ const EIGHT_IN_RRE: &[u8] =
 
 const SEVENTEEN_IN_HEXTILE: &[u8] = b"\0\0\0\x01\0\0\0\0\0\x11\0\x01\0\0\0\x05\x02\x01\x80\xFF\0\0";
 
-#[test]
-fn four_places_are_sent_in_raw_where_rre_is_no_shorter(rt: HostRuntime) -> Result<(), AllocError> {
-    let steps = [
-        Step::Feed(RRE),
-        Step::Fill(columns(3, 1), WHITE),
-        Step::Feed(WHOLE_ROW),
-        Step::Sends(FOUR_IN_RAW),
-    ];
-    assert_eq!(rt; first_wrong_of(rt.alloc(), 4, 1, steps.as_slice())?, None);
-    Ok(())
-}
+const FOUR_PLACES_AT_RRE: &[Step<'static>] = &[
+    Step::Feed(RRE),
+    Step::Fill(Rect { x: 3, ..PLACE }, WHITE),
+    Step::Feed(WHOLE_ROW),
+    Step::Sends(FOUR_IN_RAW),
+];
 
 #[test]
-fn eight_places_are_sent_in_rre_where_it_is_shorter(rt: HostRuntime) -> Result<(), AllocError> {
-    let steps = [
-        Step::Feed(RRE),
-        Step::Fill(columns(7, 1), WHITE),
-        Step::Feed(WHOLE_ROW),
-        Step::Sends(EIGHT_IN_RRE),
-    ];
-    assert_eq!(rt; first_wrong_of(rt.alloc(), 8, 1, steps.as_slice())?, None);
-    Ok(())
+fn four_places_are_sent_in_raw_where_rre_is_no_shorter(rt: HostRuntime) {
+    assert_eq!(rt; first_wrong_of(rt.alloc(), 4, 1, FOUR_PLACES_AT_RRE), None);
 }
 
+const EIGHT_PLACES_AT_RRE: &[Step<'static>] = &[
+    Step::Feed(RRE),
+    Step::Fill(Rect { x: 7, ..PLACE }, WHITE),
+    Step::Feed(WHOLE_ROW),
+    Step::Sends(EIGHT_IN_RRE),
+];
+
 #[test]
-fn two_tiles_of_one_colour_are_sent_in_hextile(rt: HostRuntime) -> Result<(), AllocError> {
-    let steps = [
-        Step::Feed(HEXTILE),
-        Step::Fill(columns(0, 17), ORANGE),
-        Step::Feed(WHOLE_ROW),
-        Step::Sends(SEVENTEEN_IN_HEXTILE),
-    ];
-    assert_eq!(rt; first_wrong_of(rt.alloc(), 17, 1, steps.as_slice())?, None);
-    Ok(())
+fn eight_places_are_sent_in_rre_where_it_is_shorter(rt: HostRuntime) {
+    assert_eq!(rt; first_wrong_of(rt.alloc(), 8, 1, EIGHT_PLACES_AT_RRE), None);
+}
+
+const TWO_TILES: &[Step<'static>] = &[
+    Step::Feed(HEXTILE),
+    Step::Fill(Rect { w: 17, ..PLACE }, ORANGE),
+    Step::Feed(WHOLE_ROW),
+    Step::Sends(SEVENTEEN_IN_HEXTILE),
+];
+
+#[test]
+fn two_tiles_of_one_colour_are_sent_in_hextile(rt: HostRuntime) {
+    assert_eq!(rt; first_wrong_of(rt.alloc(), 17, 1, TWO_TILES), None);
 }

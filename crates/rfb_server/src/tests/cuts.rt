@@ -9,7 +9,7 @@ use std::fmt::Debug;
 // Each message in turn, behind the handshakes of 3.8, 3.7 and 3.3: a format of 16 bits, a list with
 // unknown encodings, a request, a key, the pointer, a text above its limit and one without bytes;
 // and a format whose green maximum is no power of two less one.
-const CLIENTS: [&[u8]; 4] = [
+const CLIENTS: &[&[u8]] = &[
     b"RFB 003.008\n\x01\x01\0\0\0\0\x10\x10\0\x01\0\x1F\0\x3F\0\x1F\x0B\x05\0\0\0\0\x02\0\0\x04\0\0\0\x10\0\0\0\x05\0\0\0\x01\xFF\xFF\xFF\x21\x03\0\0\x01\0\0\xFF\xFF\xFF\xFF\x04\x01\0\0\0\0\0A",
     b"RFB 003.007\n\x01\0\x05\x02\0\x07\0\x08\x06\0\0\0\0\0\0\x05ABCDE\x06\0\0\0\0\0\0\0\x04\0\0\0\0\0\0B",
     b"RFB 003.003\n\x01\x02\0\0\0\x03\x01\0\0\0\0\0\x01\0\x01\x02\0\0\x02\0\0\0\x02\0\0\0\x02",

@@ -3,8 +3,7 @@
 use super::scene::{Step, first_wrong, ready};
 use crate::Server;
 use rfb_picture::Rect;
-use rfb_pixel::Colour;
-use std::alloc::{AllocError, Global};
+use std::alloc::Global;
 
 // SetEncodings with CopyRect alone, and with Raw alone.
 const COPY_RECT: &[u8] = b"\x02\0\0\x01\0\0\0\x01";
@@ -18,62 +17,60 @@ const FIRST_TWO: &[u8] = b"\x03\0\0\0\0\0\0\x02\0\x01";
 
 const CHANGED: &[u8] = b"\x03\x01\0\0\0\0\0\x04\0\x01";
 
-// Gives the place of that column a colour whose pixel at rgb888 is `r`, 0, 0 from the top byte.
-fn draw(x: u16, r: u8) -> Step<'static> {
-    Step::Fill(columns(x, 1), Colour { r, g: 0, b: 0 })
-}
-
-// Hints that so many places from column `x` on look as those from `from` on.
-fn hint(x: u16, w: u16, from: u16) -> Step<'static> {
-    Step::Hints(1, columns(x, w), from, 0)
-}
-
-fn columns(x: u16, w: u16) -> Rect {
-    Rect { x, y: 0, w, h: 1 }
-}
-
-// The viewer has 1, 2, 3, 4 in those of its four places that it asked for, and asks what changes.
-fn send_first<'a>(
-    server: &mut Server,
-    alloc: Global,
-    list: &'a [u8],
-    request: &'a [u8],
-) -> Option<usize> {
-    let steps = [
-        Step::Feed(list),
-        draw(0, 1),
-        draw(1, 2),
-        draw(2, 3),
-        draw(3, 4),
-        Step::Feed(request),
-        Step::Sends(if request == ALL {
-            ONE_TO_FOUR
-        } else {
-            ONE_AND_TWO
-        }),
-        Step::Feed(CHANGED),
-    ];
-    first_wrong(server, alloc, steps.as_slice())
-}
-
 const ONE_TO_FOUR: &[u8] =
     b"\0\0\0\x01\0\0\0\0\0\x04\0\x01\0\0\0\0\0\0\x01\0\0\0\x02\0\0\0\x03\0\0\0\x04\0";
 
 const ONE_AND_TWO: &[u8] = b"\0\0\0\x01\0\0\0\0\0\x02\0\x01\0\0\0\0\0\0\x01\0\0\0\x02\0";
 
-// Whether the steps are right of a server of one row of four places, of which a viewer with that
-// list of encodings has what it asked for.
-fn are_right(
-    alloc: Global,
-    list: &[u8],
-    request: &[u8],
-    steps: &[Step],
-) -> Result<bool, AllocError> {
-    let mut server = ready(alloc, 4, 1)?;
-    let known = send_first(&mut server, alloc, list, request) == None;
+// The viewer has 1, 2, 3, 4 in those of its four places that it asked for, and asks what changes:
+// all four, the first two, and all four of a viewer that takes Raw alone.
+const ALL_KNOWN: &[Step<'static>] = &[
+    Step::Feed(COPY_RECT),
+    Step::Draw(0, 1),
+    Step::Draw(1, 2),
+    Step::Draw(2, 3),
+    Step::Draw(3, 4),
+    Step::Feed(ALL),
+    Step::Sends(ONE_TO_FOUR),
+    Step::Feed(CHANGED),
+];
+
+const TWO_KNOWN: &[Step<'static>] = &[
+    Step::Feed(COPY_RECT),
+    Step::Draw(0, 1),
+    Step::Draw(1, 2),
+    Step::Draw(2, 3),
+    Step::Draw(3, 4),
+    Step::Feed(FIRST_TWO),
+    Step::Sends(ONE_AND_TWO),
+    Step::Feed(CHANGED),
+];
+
+const ALL_KNOWN_BY_RAW: &[Step<'static>] = &[
+    Step::Feed(RAW),
+    Step::Draw(0, 1),
+    Step::Draw(1, 2),
+    Step::Draw(2, 3),
+    Step::Draw(3, 4),
+    Step::Feed(ALL),
+    Step::Sends(ONE_TO_FOUR),
+    Step::Feed(CHANGED),
+];
+
+// Whether the steps are right of a server of one row of four places, behind the first ones.
+fn are_right(alloc: Global, first: &[Step], steps: &[Step]) -> bool {
+    match ready(alloc, 4, 1) {
+        Ok(server) => are_right_then_drop(server, alloc, first, steps),
+        Err(_) => false,
+    }
+}
+
+fn are_right_then_drop(server: Server, alloc: Global, first: &[Step], steps: &[Step]) -> bool {
+    let mut server = server;
+    let known = first_wrong(&mut server, alloc, first) == None;
     let right = known && first_wrong(&mut server, alloc, steps) == None;
     drop(server);
-    Ok(right)
+    right
 }
 
 // ---- one hint
@@ -81,27 +78,31 @@ fn are_right(
 // Place 0 copied from place 2, and no other rectangle.
 const PLACE_0_FROM_2: &[u8] = b"\0\0\0\x01\0\0\0\0\0\x01\0\x01\0\0\0\x01\0\x02\0\0";
 
+const COPIED: &[Step<'static>] = &[
+    Step::Draw(0, 3),
+    Step::Hint(0, 1, 2),
+    Step::Sends(PLACE_0_FROM_2),
+];
+
 #[test]
-fn a_hint_is_sent_as_copy_rect(rt: HostRuntime) -> Result<(), AllocError> {
-    let steps = [draw(0, 3), hint(0, 1, 2), Step::Sends(PLACE_0_FROM_2)];
-    assert!(rt; are_right(rt.alloc(), COPY_RECT, ALL, steps.as_slice())?);
-    Ok(())
+fn a_hint_is_sent_as_copy_rect(rt: HostRuntime) {
+    assert!(rt; are_right(rt.alloc(), ALL_KNOWN, COPIED));
 }
 
 // Places 0 and 1 copied from 2 and 3, then place 1 in Raw.
 const TWO_COPIED_ONE_SENT: &[u8] =
     b"\0\0\0\x02\0\0\0\0\0\x02\0\x01\0\0\0\x01\0\x02\0\0\0\x01\0\0\0\x01\0\x01\0\0\0\0\0\0\x06\0";
 
+const LEFT_WRONG: &[Step<'static>] = &[
+    Step::Draw(0, 3),
+    Step::Draw(1, 6),
+    Step::Hint(0, 2, 2),
+    Step::Sends(TWO_COPIED_ONE_SENT),
+];
+
 #[test]
-fn what_a_copy_leaves_wrong_is_sent_behind_it(rt: HostRuntime) -> Result<(), AllocError> {
-    let steps = [
-        draw(0, 3),
-        draw(1, 6),
-        hint(0, 2, 2),
-        Step::Sends(TWO_COPIED_ONE_SENT),
-    ];
-    assert!(rt; are_right(rt.alloc(), COPY_RECT, ALL, steps.as_slice())?);
-    Ok(())
+fn what_a_copy_leaves_wrong_is_sent_behind_it(rt: HostRuntime) {
+    assert!(rt; are_right(rt.alloc(), ALL_KNOWN, LEFT_WRONG));
 }
 
 // ---- hints that are not used
@@ -109,53 +110,62 @@ fn what_a_copy_leaves_wrong_is_sent_behind_it(rt: HostRuntime) -> Result<(), All
 // Places 0 and 1 in Raw: 5 and 6.
 const TWO_SENT: &[u8] = b"\0\0\0\x01\0\0\0\0\0\x02\0\x01\0\0\0\0\0\0\x05\0\0\0\x06\0";
 
+const GAINS_NONE: &[Step<'static>] = &[
+    Step::Draw(0, 5),
+    Step::Draw(1, 6),
+    Step::Hint(0, 2, 2),
+    Step::Sends(TWO_SENT),
+];
+
 #[test]
-fn a_copy_that_gains_no_place_is_not_sent(rt: HostRuntime) -> Result<(), AllocError> {
-    let steps = [draw(0, 5), draw(1, 6), hint(0, 2, 2), Step::Sends(TWO_SENT)];
-    assert!(rt; are_right(rt.alloc(), COPY_RECT, ALL, steps.as_slice())?);
-    Ok(())
+fn a_copy_that_gains_no_place_is_not_sent(rt: HostRuntime) {
+    assert!(rt; are_right(rt.alloc(), ALL_KNOWN, GAINS_NONE));
 }
 
 // All four places in Raw: 3, 6, 3, 4.
 const FOUR_SENT: &[u8] =
     b"\0\0\0\x01\0\0\0\0\0\x04\0\x01\0\0\0\0\0\0\x03\0\0\0\x06\0\0\0\x03\0\0\0\x04\0";
 
+const NEVER_SENT: &[Step<'static>] = &[
+    Step::Draw(0, 3),
+    Step::Draw(1, 6),
+    Step::Hint(0, 2, 2),
+    Step::Sends(FOUR_SENT),
+];
+
 #[test]
-fn what_was_never_sent_is_not_copied(rt: HostRuntime) -> Result<(), AllocError> {
-    let steps = [
-        draw(0, 3),
-        draw(1, 6),
-        hint(0, 2, 2),
-        Step::Sends(FOUR_SENT),
-    ];
-    assert!(rt; are_right(rt.alloc(), COPY_RECT, FIRST_TWO, steps.as_slice())?);
-    Ok(())
+fn what_was_never_sent_is_not_copied(rt: HostRuntime) {
+    assert!(rt; are_right(rt.alloc(), TWO_KNOWN, NEVER_SENT));
 }
 
 // Place 0 in Raw: 3.
 const PLACE_0_SENT: &[u8] = b"\0\0\0\x01\0\0\0\0\0\x01\0\x01\0\0\0\0\0\0\x03\0";
 
+const NOT_LISTED: &[Step<'static>] = &[
+    Step::Draw(0, 3),
+    Step::Hint(0, 1, 2),
+    Step::Sends(PLACE_0_SENT),
+];
+
 #[test]
-fn a_viewer_that_listed_no_copy_rect_gets_none(rt: HostRuntime) -> Result<(), AllocError> {
-    let steps = [draw(0, 3), hint(0, 1, 2), Step::Sends(PLACE_0_SENT)];
-    assert!(rt; are_right(rt.alloc(), RAW, ALL, steps.as_slice())?);
-    Ok(())
+fn a_viewer_that_listed_no_copy_rect_gets_none(rt: HostRuntime) {
+    assert!(rt; are_right(rt.alloc(), ALL_KNOWN_BY_RAW, NOT_LISTED));
 }
 
 // All four places in Raw: 3, 2, 3, 4.
 const ALL_SENT: &[u8] =
     b"\0\0\0\x01\0\0\0\0\0\x04\0\x01\0\0\0\0\0\0\x03\0\0\0\x02\0\0\0\x03\0\0\0\x04\0";
 
+const ASKED_WHOLE: &[Step<'static>] = &[
+    Step::Draw(0, 3),
+    Step::Hint(0, 1, 2),
+    Step::Feed(ALL),
+    Step::Sends(ALL_SENT),
+];
+
 #[test]
-fn a_whole_request_is_not_answered_by_a_copy(rt: HostRuntime) -> Result<(), AllocError> {
-    let steps = [
-        draw(0, 3),
-        hint(0, 1, 2),
-        Step::Feed(ALL),
-        Step::Sends(ALL_SENT),
-    ];
-    assert!(rt; are_right(rt.alloc(), COPY_RECT, ALL, steps.as_slice())?);
-    Ok(())
+fn a_whole_request_is_not_answered_by_a_copy(rt: HostRuntime) {
+    assert!(rt; are_right(rt.alloc(), ALL_KNOWN, ASKED_WHOLE));
 }
 
 // ---- several hints
@@ -164,17 +174,17 @@ fn a_whole_request_is_not_answered_by_a_copy(rt: HostRuntime) -> Result<(), Allo
 const ONE_FROM_THE_OTHER: &[u8] =
     b"\0\0\0\x02\0\0\0\0\0\x01\0\x01\0\0\0\x01\0\x02\0\0\0\x01\0\0\0\x01\0\x01\0\0\0\x01\0\0\0\0";
 
+const TWO_COPIES: &[Step<'static>] = &[
+    Step::Draw(0, 3),
+    Step::Draw(1, 3),
+    Step::Hint(0, 1, 2),
+    Step::Hint(1, 1, 0),
+    Step::Sends(ONE_FROM_THE_OTHER),
+];
+
 #[test]
-fn a_copy_may_take_what_an_older_one_brought(rt: HostRuntime) -> Result<(), AllocError> {
-    let steps = [
-        draw(0, 3),
-        draw(1, 3),
-        hint(0, 1, 2),
-        hint(1, 1, 0),
-        Step::Sends(ONE_FROM_THE_OTHER),
-    ];
-    assert!(rt; are_right(rt.alloc(), COPY_RECT, ALL, steps.as_slice())?);
-    Ok(())
+fn a_copy_may_take_what_an_older_one_brought(rt: HostRuntime) {
+    assert!(rt; are_right(rt.alloc(), ALL_KNOWN, TWO_COPIES));
 }
 
 // Fifteen hints that gain nothing.
@@ -187,29 +197,29 @@ const LAST_PLACE: Rect = Rect {
     h: 1,
 };
 
-#[test]
-fn sixteen_hints_are_kept(rt: HostRuntime) -> Result<(), AllocError> {
-    let steps = [
-        draw(0, 3),
-        hint(0, 1, 2),
-        HINTS_IN_VAIN,
-        Step::Sends(PLACE_0_FROM_2),
-    ];
-    assert!(rt; are_right(rt.alloc(), COPY_RECT, ALL, steps.as_slice())?);
-    Ok(())
-}
+const SIXTEEN: &[Step<'static>] = &[
+    Step::Draw(0, 3),
+    Step::Hint(0, 1, 2),
+    HINTS_IN_VAIN,
+    Step::Sends(PLACE_0_FROM_2),
+];
 
 #[test]
-fn the_oldest_of_seventeen_hints_is_dropped(rt: HostRuntime) -> Result<(), AllocError> {
-    let steps = [
-        draw(0, 3),
-        hint(0, 1, 2),
-        HINTS_IN_VAIN,
-        hint(3, 1, 3),
-        Step::Sends(PLACE_0_SENT),
-    ];
-    assert!(rt; are_right(rt.alloc(), COPY_RECT, ALL, steps.as_slice())?);
-    Ok(())
+fn sixteen_hints_are_kept(rt: HostRuntime) {
+    assert!(rt; are_right(rt.alloc(), ALL_KNOWN, SIXTEEN));
+}
+
+const SEVENTEEN: &[Step<'static>] = &[
+    Step::Draw(0, 3),
+    Step::Hint(0, 1, 2),
+    HINTS_IN_VAIN,
+    Step::Hint(3, 1, 3),
+    Step::Sends(PLACE_0_SENT),
+];
+
+#[test]
+fn the_oldest_of_seventeen_hints_is_dropped(rt: HostRuntime) {
+    assert!(rt; are_right(rt.alloc(), ALL_KNOWN, SEVENTEEN));
 }
 
 // ---- how long they stay
@@ -218,39 +228,39 @@ fn the_oldest_of_seventeen_hints_is_dropped(rt: HostRuntime) -> Result<(), Alloc
 const PLACE_3_SENT: &[u8] = b"\0\0\0\x01\0\x03\0\0\0\x01\0\x01\0\0\0\0\0\0\x05\0";
 
 // The hint comes while nothing is asked.
+const NOT_DUE: &[Step<'static>] = &[
+    Step::Quiet,
+    Step::Draw(3, 5),
+    Step::Sends(PLACE_3_SENT),
+    Step::Draw(0, 3),
+    Step::Hint(0, 1, 2),
+    Step::Quiet,
+    Step::Feed(CHANGED),
+    Step::Sends(PLACE_0_FROM_2),
+];
+
 #[test]
-fn a_hint_stays_while_no_update_is_due(rt: HostRuntime) -> Result<(), AllocError> {
-    let steps = [
-        Step::Quiet,
-        draw(3, 5),
-        Step::Sends(PLACE_3_SENT),
-        draw(0, 3),
-        hint(0, 1, 2),
-        Step::Quiet,
-        Step::Feed(CHANGED),
-        Step::Sends(PLACE_0_FROM_2),
-    ];
-    assert!(rt; are_right(rt.alloc(), COPY_RECT, ALL, steps.as_slice())?);
-    Ok(())
+fn a_hint_stays_while_no_update_is_due(rt: HostRuntime) {
+    assert!(rt; are_right(rt.alloc(), ALL_KNOWN, NOT_DUE));
 }
 
 // Place 0 in Raw: 1.
 const PLACE_0_AS_BEFORE: &[u8] = b"\0\0\0\x01\0\0\0\0\0\x01\0\x01\0\0\0\0\0\0\x01\0";
 
 // Place 0 becomes 3, 1 and 3 again, each time asked; the hint comes once.
+const GONE: &[Step<'static>] = &[
+    Step::Draw(0, 3),
+    Step::Hint(0, 1, 2),
+    Step::Sends(PLACE_0_FROM_2),
+    Step::Draw(0, 1),
+    Step::Feed(CHANGED),
+    Step::Sends(PLACE_0_AS_BEFORE),
+    Step::Draw(0, 3),
+    Step::Feed(CHANGED),
+    Step::Sends(PLACE_0_SENT),
+];
+
 #[test]
-fn a_hint_is_gone_with_its_update(rt: HostRuntime) -> Result<(), AllocError> {
-    let steps = [
-        draw(0, 3),
-        hint(0, 1, 2),
-        Step::Sends(PLACE_0_FROM_2),
-        draw(0, 1),
-        Step::Feed(CHANGED),
-        Step::Sends(PLACE_0_AS_BEFORE),
-        draw(0, 3),
-        Step::Feed(CHANGED),
-        Step::Sends(PLACE_0_SENT),
-    ];
-    assert!(rt; are_right(rt.alloc(), COPY_RECT, ALL, steps.as_slice())?);
-    Ok(())
+fn a_hint_is_gone_with_its_update(rt: HostRuntime) {
+    assert!(rt; are_right(rt.alloc(), ALL_KNOWN, GONE));
 }

@@ -4,14 +4,11 @@ use super::scene::{Step, feed, first_wrong_of, ready};
 use crate::Server;
 use std::alloc::{AllocError, Global};
 
+const OF_NO_WIDTH: &[Step<'static>] = &[Step::Feed(b"\x03\0\0\0\0\0\0\0\0\x01"), Step::Quiet];
+
 #[test]
-fn a_request_of_no_width_brings_nothing(rt: HostRuntime) -> Result<(), AllocError> {
-    let steps = [
-        Step::Feed(b"\x03\0\0\0\0\0\0\0\0\x01".as_slice()),
-        Step::Quiet,
-    ];
-    assert_eq!(rt; first_wrong_of(rt.alloc(), 4, 1, steps.as_slice())?, None);
-    Ok(())
+fn a_request_of_no_width_brings_nothing(rt: HostRuntime) {
+    assert_eq!(rt; first_wrong_of(rt.alloc(), 4, 1, OF_NO_WIDTH), None);
 }
 
 // Whether the bytes are an update of 65 black places: 64 of the first cell, and one of the second.

@@ -16,11 +16,16 @@ pub(super) enum Step<'a> {
     /// The same, and what is told of them prints so.
     Tells(&'a [u8], &'a str),
     Fill(Rect, Colour),
+    /// The place of that column of the first row gets the colour whose red is that, with no green
+    /// and no blue.
+    Draw(u16, u8),
     /// Colours for a part of a row, from a column on.
     Put(u16, u16, &'a [Colour]),
     Copy(Rect, u16, u16),
     /// The same hint so many times.
     Hints(u16, Rect, u16, u16),
+    /// A hint that so many places of the first row, from a column on, look as those from another.
+    Hint(u16, u16, u16),
     /// An update of exactly these bytes is composed.
     Sends(&'a [u8]),
     /// No update is composed, and no byte.
@@ -29,7 +34,8 @@ pub(super) enum Step<'a> {
     Shows(u16, u16, Option<Colour>),
     /// Whether a place is asked for, and whether whole; none beyond the edges.
     Asks(u16, u16, Option<(bool, bool)>),
-    Has(Format),
+    /// Whether its format is rgb888.
+    HasRgb888(bool),
     /// Whether the client's bytes end between two messages.
     Between(bool),
     /// How many bytes are pending.
@@ -37,8 +43,8 @@ pub(super) enum Step<'a> {
     Greets(&'a [u8]),
 }
 
-// Whether what is told of the bytes prints so.
-fn tells(server: &mut Server, alloc: Global, bytes: &[u8], printed: &str) -> bool {
+/// Whether what is told of the bytes prints so.
+pub(super) fn tells(server: &mut Server, alloc: Global, bytes: &[u8], printed: &str) -> bool {
     let told = server.feed(bytes);
     match format!(in alloc; "{told:?}") {
         Ok(text) => text.as_str() == printed,
@@ -78,22 +84,48 @@ fn asked(server: &Server, x: u16, y: u16) -> Option<(bool, bool)> {
     }
 }
 
+// Columns of the first row.
+fn columns(x: u16, w: u16) -> Rect {
+    Rect { x, y: 0, w, h: 1 }
+}
+
+fn draws(server: &mut Server, x: u16, r: u8) -> bool {
+    server.fill(columns(x, 1), Colour { r, g: 0, b: 0 }).is_ok()
+}
+
+// Whether that holds of it.
+fn holds(server: &Server, step: &Step) -> bool {
+    match *step {
+        Step::Shows(x, y, colour) => shown(server, x, y) == colour,
+        Step::Asks(x, y, asks) => asked(server, x, y) == asks,
+        Step::HasRgb888(has) => (server.format() == Format::rgb888()) == has,
+        Step::Between(between) => server.between() == between,
+        Step::Pending(count) => server.pending() == count,
+        Step::Greets(text) => server.greeting().as_slice() == text,
+        _ => false,
+    }
+}
+
+// Whether it is drawn or hinted so.
+fn is_drawn(server: &mut Server, step: &Step) -> bool {
+    match *step {
+        Step::Fill(rect, colour) => server.fill(rect, colour).is_ok(),
+        Step::Draw(x, r) => draws(server, x, r),
+        Step::Put(x, y, row) => server.put(x, y, row).is_ok(),
+        Step::Copy(to, sx, sy) => server.copy(to, sx, sy).is_ok(),
+        Step::Hints(times, to, sx, sy) => hints(server, times, to, sx, sy),
+        Step::Hint(x, w, from) => hints(server, 1, columns(x, w), from, 0),
+        _ => holds(server, step),
+    }
+}
+
 fn is_right(server: &mut Server, alloc: Global, step: &Step) -> bool {
     match *step {
         Step::Feed(bytes) => server.feed(bytes).is_ok(),
         Step::Tells(bytes, printed) => tells(server, alloc, bytes, printed),
-        Step::Fill(rect, colour) => server.fill(rect, colour).is_ok(),
-        Step::Put(x, y, row) => server.put(x, y, row).is_ok(),
-        Step::Copy(to, sx, sy) => server.copy(to, sx, sy).is_ok(),
-        Step::Hints(times, to, sx, sy) => hints(server, times, to, sx, sy),
         Step::Sends(bytes) => composes(server, alloc, true, bytes),
-        Step::Quiet => composes(server, alloc, false, [].as_slice()),
-        Step::Shows(x, y, colour) => shown(server, x, y) == colour,
-        Step::Asks(x, y, asks) => asked(server, x, y) == asks,
-        Step::Has(format) => server.format() == format,
-        Step::Between(between) => server.between() == between,
-        Step::Pending(count) => server.pending() == count,
-        Step::Greets(text) => server.greeting().as_slice() == text,
+        Step::Quiet => composes(server, alloc, false, &[]),
+        _ => is_drawn(server, step),
     }
 }
 
@@ -125,18 +157,31 @@ pub(super) fn feed(server: &mut Server, bytes: &[u8]) {
     let _told = server.feed(bytes);
 }
 
-/// The number of the first step that is wrong of such a server, if one is.
+/// The number of the first step that is wrong of such a server, if one is; and how many steps there
+/// are, where memory is wanting for a server.
 pub(super) fn first_wrong_of(
     alloc: Global,
     width: u16,
     height: u16,
     steps: &[Step],
-) -> Result<Option<usize>, AllocError>
+) -> Option<usize>
     requires columns { (1 ≤ width) × (width ≤ 4096) }
     requires rows { (1 ≤ height) × (height ≤ 4096) }
 {
-    let mut server = ready(alloc, width, height)?;
+    match ready(alloc, width, height) {
+        Ok(server) => first_wrong_then_drop(server, alloc, steps),
+        Err(_) => Some(steps.len()),
+    }
+}
+
+/// The number of the first step that is wrong of a server that is then let go.
+pub(super) fn first_wrong_then_drop(
+    server: Server,
+    alloc: Global,
+    steps: &[Step],
+) -> Option<usize> {
+    let mut server = server;
     let wrong = first_wrong(&mut server, alloc, steps);
     drop(server);
-    Ok(wrong)
+    wrong
 }

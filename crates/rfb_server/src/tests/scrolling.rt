@@ -42,13 +42,6 @@ fn draw(server: &mut Server) {
     }
 }
 
-// Whether an update is composed, and its bytes.
-fn composed(server: &mut Server, alloc: Global) -> (bool, Vec<u8>) {
-    let mut out = Vec::new(alloc);
-    let did = server.compose(&mut out) == Ok(true);
-    (did, out)
-}
-
 // Two rectangles: 63 rows copied from row 1 on, and the heads of row 63 in Raw.
 const HEADS: &[u8] =
     b"\0\0\0\x02\0\0\0\0\0\x40\0\x3F\0\0\0\x01\0\0\0\x01\0\0\0\x3F\0\x40\0\x01\0\0\0\0";
@@ -63,22 +56,44 @@ fn is_scrolled(bytes: &[u8]) -> bool {
     blue
 }
 
-// Whether all that a viewer has is scrolled for it.
-fn scrolls(server: &mut Server, alloc: Global) -> bool {
+// The screen is drawn a row higher, which is hinted, and its last row is blue.
+const SCROLLED: &[Step<'static>] = &[
+    Step::Copy(ALL_BUT_LAST_ROW, 0, 1),
+    Step::Hints(1, ALL_BUT_LAST_ROW, 0, 1),
+    Step::Fill(
+        Rect {
+            x: 0,
+            y: 63,
+            w: 64,
+            h: 1,
+        },
+        BLUE,
+    ),
+    Step::Feed(CHANGED),
+];
+
+const BLUE: Colour = Colour { r: 0, g: 0, b: 255 };
+
+// Whether the viewer gets all that it asks for.
+fn sends_all(server: &mut Server, alloc: Global) -> bool {
     draw(server);
     feed(server, LIST);
     feed(server, ALL);
-    let (first, _all) = composed(server, alloc);
-    let blue = Colour { r: 0, g: 0, b: 255 };
-    let steps = [
-        Step::Copy(ALL_BUT_LAST_ROW, 0, 1),
-        Step::Hints(1, ALL_BUT_LAST_ROW, 0, 1),
-        Step::Fill(row(63), blue),
-        Step::Feed(CHANGED),
-    ];
-    let drawn = first_wrong(server, alloc, steps.as_slice()) == None;
-    let (second, bytes) = composed(server, alloc);
-    first && drawn && second && is_scrolled(bytes.as_slice())
+    let mut out = Vec::new(alloc);
+    server.compose(&mut out) == Ok(true)
+}
+
+// Whether it is scrolled for the viewer.
+fn sends_scrolled(server: &mut Server, alloc: Global) -> bool {
+    let mut out = Vec::new(alloc);
+    server.compose(&mut out) == Ok(true) && is_scrolled(out.as_slice())
+}
+
+// Whether all that a viewer has is scrolled for it.
+fn scrolls(server: &mut Server, alloc: Global) -> bool {
+    sends_all(server, alloc)
+        && first_wrong(server, alloc, SCROLLED) == None
+        && sends_scrolled(server, alloc)
 }
 
 fn is_sent(alloc: Global) -> Result<bool, AllocError> {
