@@ -1,5 +1,7 @@
 pub mod ArgumentLemmas
 pub mod CommandLemmas
+pub mod ComposingLemmas
+pub mod EndsLemmas
 pub mod LoopbackLemmas
 pub mod OptionLemmas
 pub mod PixmapLemmas

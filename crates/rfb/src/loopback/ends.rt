@@ -1,6 +1,6 @@
 //! A server, its viewer, and the bytes in flight between them.
 
-ghost use Rattle.std.specs.Prelude.{◌≡◌, ◌≤◌, [], min, length, drop, IfOk, OnOk};
+ghost use Rattle.std.specs.Prelude.{◌≡◌, ◌≤◌, [], min, length, drop, IfOk, OnOk, OnErr};
 ghost use Rattle.rfb_hello.specs.Version.{version_text};
 ghost use Rattle.rfb_hello.specs.declared.version.Version.TheVariants.{V38};
 ghost use Rattle.rfb.specs.Few.{cut_by};
@@ -31,6 +31,8 @@ pub struct Ends {
 }
 
 impl Ends {
+    ghost use Rattle.rfb.specs.Loopback.{AsksMemory, TakesEvent};
+
     /// Two fresh ends; the server's greeting is in flight.
     pub fn new(alloc: Global, screen: Screen, wants: &Option<Wants>) -> Result<Ends, Fault>
         ensures server { IfOk result (λ ends. IsFreshServer screen ends.server) }
@@ -52,29 +54,18 @@ impl Ends {
     }
 
     /// Takes an event that is no delivery, and answers its refusal, if it was refused. At a
-    /// delivery nothing happens here.
+    /// delivery nothing happens here. An error comes only where memory is asked for; what was to be
+    /// sent may be lost then.
     pub fn take(&mut self, event: &Event) -> Result<Option<Refused>, Fault>
         requires few { cut_by event.now ≤ 1048576 }
+        ensures takes { IfOk result (λ refused. TakesEvent self.old event.now refused self.new) }
+        ensures stopped { OnErr result (AsksMemory self.old event.now) }
     {
         match event {
             Event::Fill(rect, colour) => Ok(of_drawing(self.server.fill(*rect, *colour))),
             Event::Put(x, y, row) => Ok(of_drawing(self.server.put(*x, *y, row))),
             Event::Copy(rect, sx, sy) => Ok(of_drawing(self.server.copy(*rect, *sx, *sy))),
             Event::Hint(rect, sx, sy) => Ok(of_drawing(self.server.hint(*rect, *sx, *sy))),
-            Event::Compose => {
-                compose(self.alloc, &mut self.server, &mut self.to_viewer)?;
-                Ok(None)
-            }
-            Event::CutText(text) => {
-                cut_text(self.alloc, &self.viewer, text, &mut self.to_server)
-            }
-            _ => self.call(event),
-        }
-    }
-
-    // A call on the viewer that becomes a short message. At any other event nothing happens.
-    fn call(&mut self, event: &Event) -> Result<Option<Refused>, Fault> {
-        match event {
             Event::Request(incremental, rect) => {
                 let called = self.viewer.request(*incremental, *rect);
                 send(called, &mut self.to_server)
@@ -92,7 +83,14 @@ impl Ends {
                 let called = self.viewer.pointer(*buttons, *x, *y);
                 send(called, &mut self.to_server)
             }
-            _ => Ok(None),
+            Event::CutText(text) => {
+                cut_text(self.alloc, &self.viewer, text, &mut self.to_server)
+            }
+            Event::Compose => {
+                compose(self.alloc, &mut self.server, &mut self.to_viewer)?;
+                Ok(None)
+            }
+            Event::ToServer(_) | Event::ToViewer(_) => Ok(None),
         }
     }
 
