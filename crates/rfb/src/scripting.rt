@@ -46,7 +46,9 @@ fn run<W: Write, E: Write>(
         (W.contents output.old) (W.contents output.new)) }
 {
     let mut world = fresh_world(alloc, script.screen, &script.wants)?;
-    finish(alloc, &mut world, &script.steps, output, errors)
+    let done = finish(alloc, &mut world, &script.steps, output, errors);
+    drop(world);
+    done
 }
 
 // Takes all steps, and writes what the viewer shows then.
