@@ -27,7 +27,7 @@ fn a_handshake_keeps_what_stands_behind_its_last_whole_piece(rt: HostRuntime) {
     assert!(rt; keeps_a_handshake(rt.alloc()));
 }
 
-// A text of two bytes, of which each is taken as it comes; two colours, and an update of none.
+// A bell, a text of two bytes, a colour map of one colour, and an update of no rectangles.
 const MESSAGES: &[Step<'static>] = &[
     Step::Keep(
         b"\x02\x03\0\0\0\0\0\0\x02ab",
