@@ -1,6 +1,6 @@
 //! True-colour pixel formats, RFC 6143 section 7.4.
 
-ghost use Rattle.std.specs.Prelude.{◌≡◌, ℕ, ◌*◌, ◌%◌, ◌^◌, ◌<◌, length, IfOk, ◌≤◌, List};
+ghost use Rattle.std.specs.Prelude.{◌≡◌, ℕ, ◌*◌, ◌+◌, ◌%◌, ◌^◌, ◌<◌, length, IfOk, ◌≤◌, List};
 ghost use Rattle.std.specs.Result.{result_err};
 ghost use Rattle.std.specs.Int.{bit_at};
 ghost use Rattle.rfb_pixel.specs.Format.{pixel_format, IsPixelSize, size_of, pixel_of, colour_of};
@@ -8,7 +8,7 @@ ghost use Rattle.rfb_pixel.specs.Format.{pixel_bytes, pixel_number, seen_through
 ghost use Rattle.rfb_pixel.specs.Format.{IsColour, FieldsHold, IsOutsideFields, AgreeInFields};
 ghost use Rattle.rfb_pixel.specs.Format.{KeepsColours, FieldsKept};
 ghost use Rattle.rfb_pixel.specs.Reading.{AreBytes, Spells, Passes, IsFirstFault, first_fault};
-ghost use Rattle.rfb_pixel.specs.Reading.{fault_of_fields, format_bytes};
+ghost use Rattle.rfb_pixel.specs.Reading.{fault_of_fields, format_bytes, number_at};
 ghost use Rattle.rfb_pixel.specs.inside.Fields.{HasWidth};
 
 use crate::channel::{Channel, are_apart, are_within};
@@ -124,9 +124,9 @@ impl Format {
         if bytes[3] == 0 {
             return Err(FormatFault::NotTrueColour);
         }
-        let red = Channel::read(BigEndian::read_u16(&bytes[4..]), bytes[10])?;
-        let green = Channel::read(BigEndian::read_u16(&bytes[6..]), bytes[11])?;
-        let blue = Channel::read(BigEndian::read_u16(&bytes[8..]), bytes[12])?;
+        let red = Channel::read(max_at(4, bytes), bytes[10])?;
+        let green = Channel::read(max_at(6, bytes), bytes[11])?;
+        let blue = Channel::read(max_at(8, bytes), bytes[12])?;
         Format::of_fields(bits_per_pixel, depth, bytes[2] != 0, red, green, blue)
     }
 
@@ -276,6 +276,14 @@ impl Format {
             (_, false) => LittleEndian::read_u32(bytes),
         }
     }
+}
+
+// The maximum of a field: the two bytes that begin at `at`, the high one first.
+fn max_at(at: usize, bytes: &[u8; FORMAT_SIZE]) -> u16
+    requires { at + 2 ≤ 16 }
+    ensures { result ≡ number_at at bytes.now }
+{
+    BigEndian::read_u16(&bytes[at..])
 }
 
 mod rows;
