@@ -1,3 +1,4 @@
+use Rattle.std.proofs.Common.{arith}
 use Rattle.rfb_picture.specs.Places.{has_bit}
 use Rattle.rfb_picture.specs.inside.Plane.{has_at}
 use Rattle.rfb_picture.proofs.WordLemmas.{one_column_more}
@@ -11,3 +12,6 @@ loop-column-preserved c =
     one_column_more c.args.rect c.loop-column.column k y i _ _
     (has_at c.args.words.now c.args.across y k i) (has_bit c.columns_between-mask.result i)
     (λ _. mask) (c.loop-column.invariant k y i p l) here
+
+pub returns : goal.returns
+returns c = grind arith

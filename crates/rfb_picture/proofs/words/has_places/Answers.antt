@@ -26,3 +26,6 @@ loop-column-preserved c =
           c.columns_between-mask.result c.args.rect x y mask (has.0 (search rules)) right
           (omega arith) inside
     ]
+
+pub returns : goal.returns
+returns c = grind arith

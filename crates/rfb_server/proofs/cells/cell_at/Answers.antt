@@ -1,4 +1,5 @@
 use Rattle.std.proofs.Common.{ℕ, zero, suc, ◌≡◌, ◌<◌, ◌*◌, ◌/◌, ◌%◌, ◌∙◌, arith}
+use Rattle.std.proofs.lemmas.Grind.{common_steps}
 use Rattle.std.specs.Int.{div_ceil}
 use Rattle.std.proofs.lemmas.Nat.{div-add-mod', mod_below, div_below}
 use Rattle.rfb_server.proofs.CellLemmas.{is_cell}
@@ -19,3 +20,9 @@ returns c =
     let row : index / across < down = div_below index across down some (omega (arith, c.requires.index)) in
     rw (c.min.ensures, c.min-2.ensures, same)
     (is_cell c.args.width c.args.height across (index % across) (index / across) index (omega arith) (omega arith) column (omega arith) (div-add-mod' index across))
+
+pub overflow_mul-y : goal.overflow_mul-y
+overflow_mul-y c = grind (arith, common_steps)
+
+pub overflow_sub-height : goal.overflow_sub-height
+overflow_sub-height c = grind (arith, common_steps)

@@ -1,4 +1,5 @@
-use Rattle.std.proofs.Common.{ℕ, List, ◌++◌, ap, subst, ◌∙◌}
+use Rattle.std.proofs.Common.{ℕ, List, ◌++◌, ap, subst, ◌∙◌, arith}
+use Rattle.std.proofs.lemmas.Grind.{common_steps}
 use Rattle.rfb_wire.specs.declared.encoding.Encoding.{Encoding}
 use Rattle.rfb_codec.specs.RectData.{Pixels, SpellsData}
 use Rattle.rfb_codec.specs.ByRule.{StandsIn}
@@ -16,3 +17,6 @@ returns-then-encode-clause-sent g c =
     (g.met.C.Codec.by_rule c.args.format.now c.args.block.now bytes stands))
     (c.append_within.ensures.items ∙ ap (λ (xs : List ℕ). c.args.out.now.items ++ xs) c.as_slice.ensures.value)
     c.spell.ensures.spells c.if-encode.ensures.spelled
+
+pub returns-clause-kept : goal.returns-clause-kept
+returns-clause-kept g c = grind (arith, common_steps)

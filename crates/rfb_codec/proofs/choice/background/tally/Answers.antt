@@ -1,4 +1,5 @@
 use Rattle.std.proofs.Common.{◌≡◌, ℕ, ◌%◌, ◌<◌, [], length, get_or, inl, inr, arith, ap, ◌∙◌, sym}
+use Rattle.std.proofs.lemmas.Grind.{common_steps}
 use Rattle.std.proofs.lemmas.List.{length-set, nil_from_length}
 use Rattle.std.proofs.lemmas.Bool.Decides.{nat_tests}
 use Rattle.rfb_codec.specs.inside.Background.{hash_of}
@@ -108,3 +109,6 @@ pub returns-clause-found : goal.returns-clause-found
 returns-clause-found g c =
     let l = c.loop-start in
     background_found (λ (p : ℕ). hash_of p % g.row.SLOTS) c.args.pixels.now l.firsts l.counts l.aside.items l.start l.better l.most c.with_aside.result c.loop-start-test.false l.invariant.tallied (rw (← c.from-2.ensures) c.with_aside.ensures)
+
+pub loop-start-init : goal.loop-start-init
+loop-start-init g c = grind (arith, common_steps)

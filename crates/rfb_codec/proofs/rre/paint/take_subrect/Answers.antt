@@ -1,4 +1,5 @@
 use Rattle.std.proofs.Common.{◌≡◌, ◌∙◌, ◌+◌, ◌-◌, ◌++◌, [], ℕ, length, take, refl, ap, arith}
+use Rattle.std.proofs.lemmas.Grind.{common_steps}
 use Rattle.std.proofs.lemmas.Bool.Decides.{nat_tests}
 use Rattle.std.proofs.lemmas.Result.{err_from_is_err_and}
 use Rattle.arrayvec.specs.ArrayVec.{array_vec_len}
@@ -49,3 +50,6 @@ returns-clause-goes_on c = λ before body stands.
     let xs = c.as_slice.result.now in
     let whole : length xs ≡ size_of f + 8 = ap length c.as_slice.ensures.value ∙ omega (arith, c.size-size.ensures.value) in
     subrect_taken f c.args.rect c.args.left (c.args.left - 1) c.args.pending.now.items (take used c.args.bytes.now) xs c.clear.new.self.items c.args.picture.now c.draw_subrect-drawn.new.picture before body c.requires.left refl (c.as_slice.ensures.value ∙ c.gather-used.ensures.items) whole c.clear.ensures c.in_ok-drawn.ensures.inside c.requires.place.whole c.in_ok-drawn.ensures.value stands
+
+pub returns-then-len-size-clause-goes_on : goal.returns-then-len-size-clause-goes_on
+returns-then-len-size-clause-goes_on c = grind (arith, common_steps)

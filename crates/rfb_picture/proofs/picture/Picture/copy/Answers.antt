@@ -1,4 +1,5 @@
 use Rattle.std.proofs.Common.{◌≡◌, ◌+◌, ◌-◌, length, if◌then◌else◌, arith, ap, ◌∙◌}
+use Rattle.std.proofs.lemmas.Grind.{common_steps}
 use Rattle.std.proofs.lemmas.List.{with_items_is}
 use Rattle.rfb_picture.specs.Rect.{contains}
 use Rattle.rfb_picture.specs.Grid.{grid, at_or}
@@ -27,3 +28,12 @@ returns-clause-value g c =
     source_read c.args.dst c.args.sx c.args.sy
     (grid c.self.inside.width c.self.inside.height c.self.inside.places.items)
     x y _ _ d _ c.self.invariant held read))
+
+pub copy_rows-requires-clause-rows : goal.copy_rows-requires-clause-rows
+copy_rows-requires-clause-rows g c = grind (arith, common_steps)
+
+pub copy_rows-requires-clause-source_rows : goal.copy_rows-requires-clause-source_rows
+copy_rows-requires-clause-source_rows g c = grind (arith, common_steps)
+
+pub invariant_of-self : goal.invariant_of-self
+invariant_of-self g c = grind (arith, common_steps)

@@ -1,4 +1,5 @@
 use Rattle.std.proofs.Common.{◌≡◌, length, if◌then◌else◌, arith, ap, ◌∙◌}
+use Rattle.std.proofs.lemmas.Grind.{common_steps}
 use Rattle.std.proofs.lemmas.List.{with_items_is}
 use Rattle.rfb_picture.specs.Rect.{contains}
 use Rattle.rfb_picture.specs.Grid.{grid}
@@ -20,3 +21,9 @@ returns-clause-value g c =
     (λ x y d p q.
     let wide = rw (← c.from.ensures) at p in
     rw (c.from.ensures, c.deref_mut.ensures.value) at (c.fill_rows.ensures x y d wide)))
+
+pub fill_rows-requires-clause-rows : goal.fill_rows-requires-clause-rows
+fill_rows-requires-clause-rows g c = grind (arith, common_steps)
+
+pub invariant_of-self : goal.invariant_of-self
+invariant_of-self g c = grind (arith, common_steps)

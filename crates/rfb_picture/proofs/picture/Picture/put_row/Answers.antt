@@ -1,4 +1,5 @@
 use Rattle.std.proofs.Common.{◌≡◌, ◌+◌, ◌-◌, ◌*◌, length, slice_index_or, if◌then◌else◌, arith, ap, ◌∙◌}
+use Rattle.std.proofs.lemmas.Grind.{common_steps}
 use Rattle.std.proofs.lemmas.List.{with_items_is}
 use Rattle.rfb_picture.specs.Rect.{contains}
 use Rattle.rfb_picture.specs.Grid.{grid}
@@ -29,3 +30,6 @@ returns-clause-value g c =
       c.deref_mut.ensures.value,
     ) at (c.put_places.ensures (j * c.self.inside.width + i) d) in
     row_written c.args.x c.args.y c.self.inside.width i j c.args.row.now d _ _ room p written))
+
+pub invariant_of-self : goal.invariant_of-self
+invariant_of-self g c = grind (arith, common_steps)

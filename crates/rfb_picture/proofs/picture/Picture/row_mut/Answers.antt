@@ -1,4 +1,5 @@
 use Rattle.std.proofs.Common.{arith, refl, rules}
+use Rattle.std.proofs.lemmas.Grind.{common_steps}
 use Rattle.rfb_picture.proofs.LoanLemmas.{run_left}
 use Rattle.rfb_picture.proofs.picture.Picture.row_mut.Goals as goal
 
@@ -15,3 +16,6 @@ returns g c = (
   ),
   record { writes_back = tt; value = search rules; len = search rules; whole = search rules },
 )
+
+pub invariant_of-self-lent : goal.invariant_of-self-lent
+invariant_of-self-lent g c = grind (arith, common_steps)

@@ -34,3 +34,21 @@ returns g c =
     let end : c.loop-done.done ≡ c.args.dst.h = omega arith in
     rw (← rows_all_done c.args.dst c.args.sy c.loop-done.done x y end)
     (c.loop-done.invariant x y d p)
+
+pub overflow_mul-from : goal.overflow_mul-from
+overflow_mul-from g c = grind arith
+
+pub overflow_add-from-in-loop-done : goal.overflow_add-from-in-loop-done
+overflow_add-from-in-loop-done g c = grind arith
+
+pub overflow_mul-to : goal.overflow_mul-to
+overflow_mul-to g c = grind arith
+
+pub overflow_add-to-in-loop-done : goal.overflow_add-to-in-loop-done
+overflow_add-to-in-loop-done g c = grind arith
+
+pub copy_places-requires-clause-source : goal.copy_places-requires-clause-source
+copy_places-requires-clause-source g c = grind arith
+
+pub copy_places-requires-clause-target : goal.copy_places-requires-clause-target
+copy_places-requires-clause-target g c = grind arith

@@ -1,4 +1,5 @@
 use Rattle.std.proofs.Common.{◌≡◌, length, arith}
+use Rattle.std.proofs.lemmas.Grind.{common_steps}
 use Rattle.std.proofs.lemmas.List.{with_items_is}
 use Rattle.rfb_picture.proofs.PlaneLemmas.{plane-cell_cleared}
 use Rattle.rfb_picture.proofs.plane.Plane.clear_cell.Goals as goal
@@ -16,3 +17,6 @@ returns-clause-value c =
       c.from-2.ensures,
       c.deref_mut.ensures.value,
     ) at c.clear_column.ensures))
+
+pub invariant_of-self : goal.invariant_of-self
+invariant_of-self c = grind (arith, common_steps)

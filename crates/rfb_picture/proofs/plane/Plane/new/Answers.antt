@@ -1,4 +1,4 @@
-use Rattle.std.proofs.Common.{◌*◌}
+use Rattle.std.proofs.Common.{◌*◌, arith}
 use Rattle.rfb_picture.proofs.PlaneLemmas.{plane-zeros, resized_zeros}
 use Rattle.rfb_picture.proofs.plane.Plane.new.Goals as goal
 
@@ -9,3 +9,6 @@ returns-clause-value c =
     c.in_ok-words.ensures.len in
     rw (c.into_boxed_slice.ensures.items, zeros)
     (plane-zeros c.args.width c.args.height c.div_ceil-across.result count)
+
+pub invariant_of-result : goal.invariant_of-result
+invariant_of-result c = grind arith

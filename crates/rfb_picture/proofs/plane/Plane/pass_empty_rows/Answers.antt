@@ -34,3 +34,6 @@ invariant_of-self-else-row-self c =
           c.self.inside.words.items.items (c.next_used.result / c.self.inside.across)
           c.self.inside.last c.self.inside.height 0 (omega arith) passed;
     }
+
+pub overflow_cast-row : goal.overflow_cast-row
+overflow_cast-row c = grind arith

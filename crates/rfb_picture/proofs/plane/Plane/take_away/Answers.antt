@@ -1,4 +1,5 @@
 use Rattle.std.proofs.Common.{◌≡◌, ◌∙◌, length, arith}
+use Rattle.std.proofs.lemmas.Grind.{common_steps}
 use Rattle.std.proofs.lemmas.List.{with_items_is}
 use Rattle.rfb_picture.proofs.TakenPlaneLemmas.{plane-taken}
 use Rattle.rfb_picture.proofs.plane.Plane.take_away.Goals as goal
@@ -25,3 +26,6 @@ returns-clause-value c =
       c.deref_mut.ensures.value,
       c.deref.ensures.value,
     ) at c.take_places.ensures))
+
+pub invariant_of-self : goal.invariant_of-self
+invariant_of-self c = grind (arith, common_steps)

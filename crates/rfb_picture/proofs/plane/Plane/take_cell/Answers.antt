@@ -1,4 +1,5 @@
 use Rattle.std.proofs.Common.{◌≡◌, length, arith}
+use Rattle.std.proofs.lemmas.Grind.{common_steps}
 use Rattle.std.proofs.lemmas.List.{with_items_is}
 use Rattle.rfb_picture.proofs.TakenPlaneLemmas.{plane-cell_taken}
 use Rattle.rfb_picture.proofs.plane.Plane.take_cell.Goals as goal
@@ -26,3 +27,9 @@ returns-clause-value c =
       c.deref_mut.ensures.value,
       c.deref.ensures.value,
     ) at c.take_column.ensures))
+
+pub take_column-requires-clause-others : goal.take_column-requires-clause-others
+take_column-requires-clause-others c = grind arith
+
+pub invariant_of-self : goal.invariant_of-self
+invariant_of-self c = grind (arith, common_steps)

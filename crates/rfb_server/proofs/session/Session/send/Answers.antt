@@ -1,4 +1,5 @@
-use Rattle.std.proofs.Common.{sym, ◌∙◌}
+use Rattle.std.proofs.Common.{sym, ◌∙◌, arith}
+use Rattle.std.proofs.lemmas.Grind.{common_steps}
 use Rattle.rfb_codec.specs.Effect.{IsAlike}
 use Rattle.rfb_server.proofs.SentLemmas.{caught_sent, appends_pixels}
 use Rattle.rfb_server.proofs.session.Session.send.Goals as goal
@@ -21,3 +22,6 @@ returns-clause-sent c =
     let a = appends_pixels c.args.screen.now s.format s.encodings c.args.rect c.preferred-encoding.result c.take.new.block s.known c.take.new.self c.args.out.now.items c.append_rect.new.out.items
     c.preferred-encoding.ensures.first c.preferred-encoding.ensures.sendable c.take.ensures.sized c.take.ensures.packed c.take.ensures.recorded c.take.ensures.whole size c.append_rect.ensures.sent in
     record { bytes = a.0; appended = a.1; sent = a.2 }
+
+pub returns-clause-len : goal.returns-clause-len
+returns-clause-len c = grind (arith, common_steps)

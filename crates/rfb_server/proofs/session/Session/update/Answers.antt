@@ -1,4 +1,5 @@
 use Rattle.std.proofs.Common.{◌≡◌, ℕ, ◌+◌, List, [], ◌∷◌, ◌++◌, length, ap, subst, ◌∙◌, rules, arith, vec_len}
+use Rattle.std.proofs.lemmas.Grind.{common_steps}
 use Rattle.std.proofs.Math.Seq.{take-append_seam}
 use Rattle.rfb_server.specs.inside.Copying.{AppendsCopies, usable_hints}
 use Rattle.rfb_server.specs.inside.Composed.{IsCounted}
@@ -51,3 +52,6 @@ returns-then-count-eq0-clause-idle c =
     let same : c.truncate.new.self.items ≡ c.args.out.now.items = c.truncate.ensures.items ∙ (rw (long, whole) (take-append_seam c.args.out.now.items (0 ∷ 0 ∷ 0 ∷ 0 ∷ (copies.bytes ++ sent.ensures.sent.bytes)))) in
     stayed c.args.screen.now s copied.new.self sent.new.self c.args.out.now.items copied.new.out.items sent.new.out.items copied.result sent.result c.requires.about copied.ensures.about copied.ensures.kept sent.ensures.kept copies sent.ensures.sent
     c.truncate.new.self.items c.if-count-eq0.true same
+
+pub put_count-requires : goal.put_count-requires
+put_count-requires c = grind (arith, common_steps)

@@ -1,4 +1,5 @@
 use Rattle.std.proofs.Common.{◌<◌, ◌+◌, ◌∙◌, refl, arith, rules}
+use Rattle.std.proofs.lemmas.Grind.{common_steps}
 use Rattle.rfb_session.proofs.LookLemmas.{looking_none, looking_more, looking_stops}
 use Rattle.rfb_session.proofs.engine.viewing.look.Goals as goal
 
@@ -38,3 +39,6 @@ returns-in-Err-clause-stopped g c =
     c.in-Err.fault c.look_once.new.viewer l.invariant.looks some
     (omega (arith, l.invariant.none_unwritten, l.invariant.none_unkept))
     c.in-Err.ensures.stopped
+
+pub returns-else-not-is_empty-clause-looked : goal.returns-else-not-is_empty-clause-looked
+returns-else-not-is_empty-clause-looked g c = grind (arith, common_steps)

@@ -1,4 +1,5 @@
 use Rattle.std.proofs.Common.{refl, arith, rules}
+use Rattle.std.proofs.lemmas.Grind.{common_steps}
 use Rattle.std.proofs.lemmas.Bool.{false≢true}
 use Rattle.rfb_picture.specs.inside.PlaceSet.{in_set}
 use Rattle.rfb_picture.proofs.CoverLemmas.{column_inside, all_columns_more, all_columns_done}
@@ -28,3 +29,6 @@ returns c = (
       (omega arith) c.loop-column.invariant,
   λ all. refl,
 )
+
+pub returns-then-zone-eq0 : goal.returns-then-zone-eq0
+returns-then-zone-eq0 c = grind (arith, common_steps)

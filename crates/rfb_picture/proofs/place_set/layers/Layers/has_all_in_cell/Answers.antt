@@ -1,4 +1,4 @@
-use Rattle.std.proofs.Common.{◌≡◌, ◌/◌, true, false, sym, ◌∙◌}
+use Rattle.std.proofs.Common.{◌≡◌, ◌/◌, true, false, sym, ◌∙◌, arith}
 use Rattle.rfb_picture.specs.Box.{is_in}
 use Rattle.rfb_picture.proofs.CoverLemmas.{all_marked}
 use Rattle.rfb_picture.proofs.place_set.layers.Layers.has_all_in_cell.Goals as goal
@@ -13,3 +13,6 @@ returns-then-has-2 c =
       λ yes x y inside. same x y inside ∙ c.has_all.ensures.0 yes x y inside,
       λ all. c.has_all.ensures.1 (λ x y inside. sym (same x y inside) ∙ all x y inside),
     )
+
+pub returns-then-zone-eq0 : goal.returns-then-zone-eq0
+returns-then-zone-eq0 c = grind arith

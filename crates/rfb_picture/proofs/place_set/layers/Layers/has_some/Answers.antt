@@ -1,3 +1,4 @@
+use Rattle.std.proofs.Common.{arith}
 use Rattle.rfb_picture.specs.inside.PlaceSet.{in_set}
 use Rattle.rfb_picture.proofs.NextCellLemmas.{place_in_cell, none_in_cell}
 use Rattle.rfb_picture.proofs.place_set.layers.Layers.has_some.Goals as goal
@@ -29,3 +30,6 @@ returns-in-Some-clause-some c =
     ) at c.in-Some.ensures in
     place_in_cell (in_set l) l.places.width l.places.height l.full.width c.args.cell
     c.in-Some.field-0 c.requires.sound.full_wide edges
+
+pub overflow_cast-row : goal.overflow_cast-row
+overflow_cast-row c = grind arith

@@ -30,3 +30,6 @@ loop-row-preserved c =
       begins = inl refl;
       none = rows_none l c.args.from c.loop-row.row next none c.next_row_of_either.ensures.none;
     })
+
+pub returns : goal.returns
+returns c = grind arith

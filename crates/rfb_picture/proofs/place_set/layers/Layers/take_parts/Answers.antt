@@ -24,3 +24,6 @@ loop-row-preserved c =
           c.requires.sound_other c.requires.alike next.ensures.bounds.0 next.ensures.none taken;
       within = omega (arith, next.ensures.bounds.1, c.height-rows.ensures);
     }
+
+pub returns : goal.returns
+returns c = grind arith
