@@ -55,3 +55,6 @@ pub returns-then-len-limit-clause-over : goal.returns-then-len-limit-clause-over
 returns-then-len-limit-clause-over g c =
     none_further c.args.width c.args.height c.loop-x.x c.loop-y.y c.args.limit c.args.pixels.now c.loop-x.until c.args.background c.loop-x.subs.items
     (omega arith) (omega arith) (omega (arith, c.if-len-limit.true, c.len.ensures.value)) c.if-pixel-background.true c.if-until-x.true c.loop-x.invariant.choosing
+
+pub bounds-pixels-y : goal.bounds-pixels-y
+bounds-pixels-y g c = grind arith

@@ -91,3 +91,6 @@ returns-then-len-spelled_length-clause-given_up c =
     let count : c.tile_count-n-end.result ≡ tile_count block.width block.height = rw (c.width.ensures.value, c.height.ensures.value) at c.tile_count-n-end.ensures.value in
     let no_less = no_longer c.args.format.now block 0 nothing_held more.tiles tiles (omega (arith, number)) (omega (arith, more.number, number, count)) more.rule_tiles all in
     omega (arith, no_less, more.length_is, both, front, items, size, raw, over, c.len.ensures, c.len-in-loop-n.ensures)
+
+pub choose-layout-requires-clause-some : goal.choose-layout-requires-clause-some
+choose-layout-requires-clause-some c = grind arith

@@ -1,4 +1,5 @@
 use Rattle.std.proofs.Common.{rules, ◌≡◌, ◌∙◌, ◌<◌, ◌^◌, ◌++◌, ◌+◌, ◌*◌, ◌/◌, ◌≤◌, arith, ap, refl, append_assoc, length, length-append}
+use Rattle.std.proofs.lemmas.Grind.{common_steps}
 use Rattle.std.specs.List.{flat_map}
 use Rattle.rfb_pixel.specs.Format.{size_of}
 use Rattle.rfb_codec.specs.Choice.{subrect_bytes}
@@ -73,3 +74,6 @@ returns-then-raw-size-clause-given_up g c =
     let rule : AreRuleSubs block.width block.height block.places background subs = rw (c.from-width.ensures, c.width.ensures.value, c.from-height.ensures, c.height.ensures.value, c.pixels-pixels.ensures.value) at c.if-not-cover.ensures.rule in
     let long : raw_of f block ≤ 4 + size_of f + length subs * (size_of f + 8) = rw (c.from-width.ensures, c.width.ensures.value, c.from-height.ensures, c.height.ensures.value, c.size-size.ensures.value, c.len.ensures.value) at c.if-raw-size.true in
     long_data f block background subs chosen rule long
+
+pub returns-clause-shorter : goal.returns-clause-shorter
+returns-clause-shorter g c = grind (arith, common_steps)

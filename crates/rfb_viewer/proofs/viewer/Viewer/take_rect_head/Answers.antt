@@ -1,4 +1,5 @@
 use Rattle.std.proofs.Common.{◌≡◌, ◌∙◌, ◌+◌, ◌++◌, ℕ, List, true, false, [], length, take, drop, refl, sym, subst, ap, arith, take-append-drop}
+use Rattle.std.proofs.lemmas.Grind.{common_steps}
 use Rattle.std.proofs.lemmas.List.{take_all, take_rest}
 use Rattle.rfb_wire.specs.stream.End.{RefusedBy}
 use Rattle.rfb_wire.proofs.stream_laws.FeedLaws.{take_add, front_refuses, step_refuses}
@@ -160,3 +161,6 @@ returns-in-Err-clause-picture c =
 
 pub returns-in-Err-clause-reason : goal.returns-in-Err-clause-reason
 returns-in-Err-clause-reason c = rw (c.fail-in-Err.ensures.value, c.of_paint.ensures) (paint_keeps c.in-Err.fault c.args.self.now _ c.args.bytes.now refl)
+
+pub invariant_of-self-then-not-painted : goal.invariant_of-self-then-not-painted
+invariant_of-self-then-not-painted c = grind (arith, common_steps)

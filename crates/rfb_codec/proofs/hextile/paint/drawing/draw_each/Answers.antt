@@ -59,3 +59,9 @@ pub returns-clause-value : goal.returns-clause-value
 returns-clause-value c =
     let end : c.loop-n.n ≡ c.args.count = omega (arith, c.loop-n-test.false) in
     rw end at c.loop-n.invariant.shown
+
+pub moved_by-places-requires-clause-columns : goal.moved_by-places-requires-clause-columns
+moved_by-places-requires-clause-columns c = grind arith
+
+pub moved_by-places-requires-clause-rows : goal.moved_by-places-requires-clause-rows
+moved_by-places-requires-clause-rows c = grind arith
