@@ -1,4 +1,5 @@
 use Rattle.std.proofs.Common.{◌∙◌, sym, arith, true, false}
+use Rattle.std.proofs.lemmas.Grind.{common_steps}
 use Rattle.rfb.proofs.ArgumentLemmas.{is_request, no_request}
 use Rattle.rfb.proofs.ScriptLemmas.{same_word}
 use Rattle.rfb.proofs.script.arguments.read_request.Goals as goal
@@ -20,3 +21,12 @@ returns-in_err-read_rect-2 c =
 pub returns-then-eq-2 : goal.returns-then-eq-2
 returns-then-eq-2 c =
     is_request c.args.words.now _ (omega arith) true _ (same_word _ _ (sym c.eq-2.ensures ∙ c.if-eq-2.true)) c.in_ok-read_rect-2.ensures.value
+
+pub returns-in_default : goal.returns-in_default
+returns-in_default c = grind (arith, common_steps)
+
+pub returns-in_default-2 : goal.returns-in_default-2
+returns-in_default-2 c = grind (arith, common_steps)
+
+pub returns : goal.returns
+returns c = grind (arith, common_steps)

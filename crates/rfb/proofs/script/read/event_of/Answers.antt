@@ -1,4 +1,5 @@
-use Rattle.std.proofs.Common.{◌∙◌, sym, codes}
+use Rattle.std.proofs.Common.{◌∙◌, sym, codes, arith}
+use Rattle.std.proofs.lemmas.Grind.{common_steps}
 use Rattle.rfb.proofs.ScriptLemmas.{alone, empty_of, no_event_of, only_fill, only_copy, only_hint, only_request, only_format, only_toviewer, only_toserver}
 use Rattle.rfb.proofs.script.read.event_of.Goals as goal
 
@@ -33,3 +34,6 @@ returns-in_err-read_bytes-2 c =
 pub returns-then-is_empty : goal.returns-then-is_empty
 returns-then-is_empty c =
     alone c.args.keyword.now (codes "compose") c.args.rest.now (sym c.eq-8.ensures ∙ c.if-eq-8.true) (empty_of _ _ c.is_empty.ensures c.if-is_empty.true)
+
+pub returns : goal.returns
+returns c = grind (arith, common_steps)

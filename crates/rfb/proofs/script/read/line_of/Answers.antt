@@ -1,4 +1,5 @@
-use Rattle.std.proofs.Common.{◌∙◌, sym, codes}
+use Rattle.std.proofs.Common.{◌∙◌, sym, codes, arith}
+use Rattle.std.proofs.lemmas.Grind.{common_steps}
 use Rattle.rfb.proofs.ScriptLemmas.{empty_of, line_none, only_screen, only_viewer, says_settle, says_size, says_wants}
 use Rattle.rfb.proofs.script.read.line_of.Goals as goal
 
@@ -21,3 +22,9 @@ returns-then-eq-2 c =
 pub returns-then-is_empty : goal.returns-then-is_empty
 returns-then-is_empty c =
     says_settle c.args.words.now c.in_ok-keyword.keyword.now c.in_ok-keyword.rest.now c.in_ok-keyword.ensures.cases.0 (sym c.eq-3.ensures ∙ c.if-eq-3.true) (empty_of _ _ c.is_empty.ensures c.if-is_empty.true)
+
+pub returns-in_err-keyword : goal.returns-in_err-keyword
+returns-in_err-keyword c = grind (arith, common_steps)
+
+pub returns-then-eq-3 : goal.returns-then-eq-3
+returns-then-eq-3 c = grind (arith, common_steps)

@@ -1,4 +1,5 @@
 use Rattle.std.proofs.Common.{◌≡◌, ◌*◌, refl, arith, length}
+use Rattle.std.proofs.lemmas.Grind.{common_steps}
 use Rattle.std.proofs.lemmas.List.{with_items_is}
 use Rattle.rfb_picture.proofs.PlaneLemmas.{same_across}
 use Rattle.rfb_picture.proofs.plane.Plane.copy_from.Goals as goal
@@ -38,3 +39,6 @@ returns c =
       high,
       across,
     ) c.other.view_is
+
+pub invariant_of-self : goal.invariant_of-self
+invariant_of-self c = grind (arith, common_steps)

@@ -1,4 +1,5 @@
 use Rattle.std.proofs.Common.{arith}
+use Rattle.std.proofs.lemmas.Grind.{common_steps}
 use Rattle.rfb_picture.proofs.SpanLemmas.{rows_clear_within, rows_clear_past}
 use Rattle.rfb_picture.proofs.plane.Plane.next_row_of_either.Goals as goal
 
@@ -31,3 +32,12 @@ returns-clause-none c =
     c.self.inside.last c.other.inside.first c.other.inside.last c.args.y c.min-first.result
     c.next_used.result c.self.invariant c.other.invariant wide tall (search arith) (omega arith)
     (λ j q l. (omega arith, omega arith)) none)
+
+pub next_used-requires-clause-within : goal.next_used-requires-clause-within
+next_used-requires-clause-within c = grind (arith, common_steps)
+
+pub overflow_cast-result : goal.overflow_cast-result
+overflow_cast-result c = grind (arith, common_steps)
+
+pub returns-clause-bounds : goal.returns-clause-bounds
+returns-clause-bounds c = grind (arith, common_steps)

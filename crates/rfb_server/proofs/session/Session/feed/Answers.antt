@@ -56,3 +56,9 @@ loop-used-preserved c =
       up = up_then c.args.self.now c.loop-used.self c.take.new.self c.loop-used.invariant.up c.take.ensures.up;
       fed = λ serving screen. fed_more (server serving) (server_machine serving) (SessionStandsFor serving screen) c.args.self.now c.loop-used.self c.take.new.self c.loop-used.used fed.used c.args.bytes.now None (c.loop-used.invariant.fed serving screen) (rw (rest, none) at (c.in_ok-fed.ensures.fed serving screen));
     }
+
+pub loop-used-smaller-else-is_some-2 : goal.loop-used-smaller-else-is_some-2
+loop-used-smaller-else-is_some-2 c = grind arith
+
+pub loop-used-preserved-else-is_some-2 : goal.loop-used-preserved-else-is_some-2
+loop-used-preserved-else-is_some-2 c = grind arith

@@ -1,4 +1,5 @@
 use Rattle.std.proofs.Common.{rules, ◌≡◌, ◌∙◌, ◌++◌, ◌-◌, ◌≤◌, List, ℕ, length, take, min, refl, sym, ap, subst, true, arith}
+use Rattle.std.proofs.lemmas.Grind.{common_steps}
 use Rattle.std.proofs.lemmas.List.{take_all}
 use Rattle.rfb_wire.specs.ClientHead.{SpellsClientHead}
 use Rattle.rfb_wire.specs.Heads.{IsUnknown}
@@ -51,3 +52,6 @@ returns-in-Bad-clause-bad c =
     c.as_slice-2.ensures.value ∙ c.append-2.ensures.items ∙ ap (λ (ys : List ℕ). ys ++ take c.min.result bytes) (c.append.ensures.items ∙ ap (λ (ys : List ℕ). ys ++ c.as_slice.result.now) c.new-head.ensures ∙ c.as_slice.ensures.value) in
     let bad = bad_type c.in-Bad.fault part bytes c.min.result c.requires.partial (subst (λ (zs : List ℕ). IsUnknown SpellsClientHead c.in-Bad.fault zs) all c.in-Bad.ensures.bad) in
     (refl, bad.0, bad.1, bad.2)
+
+pub overflow_sub-result : goal.overflow_sub-result
+overflow_sub-result c = grind (arith, common_steps)
