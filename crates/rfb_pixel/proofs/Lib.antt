@@ -1,3 +1,4 @@
 pub mod ChannelLemmas
 pub mod FormatLemmas
+mod FieldsReadLemmas
 pub mod ReadingLemmas
