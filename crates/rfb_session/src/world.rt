@@ -57,7 +57,15 @@ impl World {
         ensures { IfOk result (λ world. (e : Ends) (screen : Grid Colour) →
             AreFresh e server viewer screen → StandsFor e world (first_network e screen)) }
     {
-        let (latest, to_viewer) = opening(alloc, &server)?;
+        let (latest, to_viewer) = match opening(alloc, &server) {
+            Ok(begun) => begun,
+            Err(error) => {
+                // By a call each: what a `?` lets go is proved field by field.
+                drop(server);
+                drop(viewer);
+                return Err(error);
+            }
+        };
         Ok(World {
             server,
             viewer,

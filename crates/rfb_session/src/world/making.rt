@@ -37,8 +37,14 @@ impl World {
         ensures { IfOk result (λ world. Played width height events.now world) }
     {
         let mut world = World::made(alloc, width, height)?;
-        world.run(events)?;
-        Ok(world)
+        match world.run(events) {
+            Ok(()) => Ok(world),
+            Err(error) => {
+                // By a call: what a `?` lets go is proved field by field.
+                drop(world);
+                Err(error)
+            }
+        }
     }
 
     // Those two ends, before any event.

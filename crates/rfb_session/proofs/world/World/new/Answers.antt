@@ -5,5 +5,5 @@ use Rattle.rfb_session.proofs.world.World.new.Goals as goal
 pub returns : goal.returns
 returns c = λ e screen fresh.
     fresh_world e screen _ fresh refl c.new.ensures
-    (c.in_ok-latest.ensures.greeting e.serving _ [] fresh.server_is)
-    c.in_ok-latest.ensures.none
+    (c.in-Ok.ensures.greeting e.serving _ [] fresh.server_is)
+    c.in-Ok.ensures.none
