@@ -8,6 +8,7 @@ use crate::script::Screen;
 use rfb_server::Server;
 use rfb_session::{EngineFault, Tally, serve};
 use std::alloc::Global;
+use std::io;
 use std::io::{Read, Write};
 use std::net::{Net, OpenListener, OpenStream, TcpListener};
 
@@ -77,7 +78,12 @@ fn serve_fresh<R: Read + Drop, W: Write + Drop>(
     writer: W,
 ) -> Result<u64, EngineFault> {
     match fresh_server(alloc, screen) {
-        Ok(mut server) => serve_scene(alloc, &mut server, reader, writer),
+        Ok(mut server) => {
+            let ended = serve_scene(alloc, &mut server, reader, writer);
+            // By a call: what a body's end lets go is proved field by field.
+            drop(server);
+            ended
+        }
         Err(_) => Err(EngineFault::NoMemory),
     }
 }
@@ -105,12 +111,21 @@ fn tell_end<W: Write>(
     ended: Result<u64, EngineFault>,
     output: &mut W,
 ) -> Result<(), Failure> {
-    let mut line = Vec::new(alloc);
-    match ended {
-        Ok(updates) => writeln!(&mut line, "ok {updates}")?,
-        Err(fault) => writeln!(&mut line, "fault {fault}")?,
-    }
+    let line = line_of(alloc, ended)?;
     write_whole(&line, output)?;
     output.flush()?;
     Ok(())
+}
+
+// The line that says how a connection has ended.
+fn line_of(alloc: Global, ended: Result<u64, EngineFault>) -> io::Result<Vec<u8>> {
+    let mut line = Vec::new(alloc);
+    let written = match ended {
+        Ok(updates) => writeln!(&mut line, "ok {updates}"),
+        Err(fault) => writeln!(&mut line, "fault {fault}"),
+    };
+    match written {
+        Ok(()) => Ok(line),
+        Err(error) => Err(error),
+    }
 }
