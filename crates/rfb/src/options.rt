@@ -3,7 +3,7 @@
 mod looking;
 mod replaying;
 
-ghost use Rattle.std.specs.Prelude.{◌≡◌, ◌≤◌, false, map, Some, IfOk, MatchResult};
+ghost use Rattle.std.specs.Prelude.{◌≡◌, ◌≤◌, codes, false, map, Some, IfOk, MatchResult};
 ghost use Rattle.clap.specs.Words.{FailsBy, fault_of, found_of, rows_of, rule_of, shape_of, subcommand_rows_of};
 ghost use Rattle.rfb.specs.Options.{AreAsked, AreWrong, IsWrongValue};
 ghost use Rattle.rfb.specs.Options.{GivesFormat, GivesNumber, GivesWanted, HasBadFormat, HasBadValue, IsTask, asked};
@@ -113,12 +113,8 @@ fn serve_words<'a>(alloc: Global) -> Result<Command<'a>, AllocError>
         .about("Serves a scrolling test picture to viewers on 127.0.0.1, one after another")
         .after_help(VIEWERS)
         .arg(port_word(alloc))?
-        .arg(side_word(
-            alloc,
-            "width",
-            "The places of a row of the screen, 1 to 4096",
-        ))?
-        .arg(side_word(alloc, "height", "The rows of the screen, 1 to 4096"))?
+        .arg(width_word(alloc))?
+        .arg(height_word(alloc))?
         .arg(connections_word(alloc))
 }
 
@@ -133,6 +129,26 @@ fn port_word<'a>(alloc: Global) -> Arg<'a>
         .value_parser(clap::value_parser!(u16).range(1..))
         .required(true)
         .help("The port, 1 to 65535")
+}
+
+// The word of the screen's width.
+fn width_word<'a>(alloc: Global) -> Arg<'a>
+    ensures rule { rule_of result ≡ side_rule (codes "width") }
+    ensures local { result.global ≡ false }
+{
+    side_word(
+        alloc,
+        "width",
+        "The places of a row of the screen, 1 to 4096",
+    )
+}
+
+// The word of the screen's height.
+fn height_word<'a>(alloc: Global) -> Arg<'a>
+    ensures rule { rule_of result ≡ side_rule (codes "height") }
+    ensures local { result.global ≡ false }
+{
+    side_word(alloc, "height", "The rows of the screen, 1 to 4096")
 }
 
 // The word of a side of the screen.

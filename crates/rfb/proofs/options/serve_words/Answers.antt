@@ -11,7 +11,7 @@ returns c =
     let one : app_of c.in_ok-arg.field-0 ≡ with_rule (new_app (codes "serve")) port_rule =
     c.in_ok-arg.ensures.shape c.port_word.ensures.local ∙ ap₂ with_rule old c.port_word.ensures.rule in
     let two : app_of c.in_ok-arg-2.field-0 ≡ with_rule (with_rule (new_app (codes "serve")) port_rule) (side_rule (codes "width")) =
-    c.in_ok-arg-2.ensures.shape c.side_word.ensures.local ∙ ap₂ with_rule one c.side_word.ensures.rule in
+    c.in_ok-arg-2.ensures.shape c.width_word.ensures.local ∙ ap₂ with_rule one c.width_word.ensures.rule in
     let three : app_of c.in_ok-arg-3.field-0 ≡ with_rule (with_rule (with_rule (new_app (codes "serve")) port_rule) (side_rule (codes "width"))) (side_rule (codes "height")) =
-    c.in_ok-arg-3.ensures.shape c.side_word-2.ensures.local ∙ ap₂ with_rule two c.side_word-2.ensures.rule in
+    c.in_ok-arg-3.ensures.shape c.height_word.ensures.local ∙ ap₂ with_rule two c.height_word.ensures.rule in
     IfOk-weaker c.arg-4.result _ _ (λ r adds. ap (λ (a : App). a.top) (adds.shape c.connections_word.ensures.local ∙ ap₂ with_rule three c.connections_word.ensures.rule)) c.arg-4.ensures
