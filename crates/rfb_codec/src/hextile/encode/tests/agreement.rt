@@ -304,13 +304,16 @@ fn checkered(alloc: Global, side: u16) -> Result<Vec<u32>, Fail> {
     Ok(pixels)
 }
 
+fn agrees_checkered(rt: &impl Abort, alloc: Global, side: u16) -> Result<(), Fail> {
+    let pixels = checkered(alloc, side)?;
+    agrees_in_each_size(rt, alloc, side, side, &pixels)
+}
+
 #[test]
 fn a_checkerboard_is_a_tile_of_two_pixels(rt: HostRuntime) -> Result<(), Fail> {
-    // It has 128 subrectangles, which are shorter than Raw at four bytes a pixel alone.
-    let tile = checkered(rt.alloc(), 16)?;
-    let cell = checkered(rt.alloc(), 64)?;
-    agrees_in_each_size(&rt, rt.alloc(), 16, 16, &tile)?;
-    agrees_in_each_size(&rt, rt.alloc(), 64, 64, &cell)
+    // A tile has 128 subrectangles, which are shorter than Raw at four bytes a pixel alone.
+    agrees_checkered(&rt, rt.alloc(), 16)?;
+    agrees_checkered(&rt, rt.alloc(), 64)
 }
 
 #[test]
