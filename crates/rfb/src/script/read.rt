@@ -1,6 +1,6 @@
 //! Reading one line of a script, by itself.
 
-ghost use Rattle.std.specs.Prelude.{◌≡◌, ◌<◌, ◌∷◌, MatchOption, length};
+ghost use Rattle.std.specs.Prelude.{◌≡◌, ◌≢◌, ◌<◌, ◌∷◌, MatchOption, codes, length};
 ghost use Rattle.rfb_session.specs.declared.event.Event.{Event};
 ghost use Rattle.rfb.specs.Script.{AsksForStep, GivesSize, GivesWants, Says, SaysEvent, SaysNothing, SaysStep, words_of};
 ghost use Rattle.rfb.specs.Words.{texts};
@@ -132,6 +132,18 @@ fn event_of(keyword: &[u8], rest: &[&[u8]]) -> Option<Event>
         let (rect, sx, sy) = read_move(rest)?;
         return Some(Event::Hint(rect, sx, sy));
     }
+    other_event_of(keyword, rest)
+}
+
+// The same, where the keyword is none of a drawing or a hint.
+fn other_event_of(keyword: &[u8], rest: &[&[u8]]) -> Option<Event>
+    requires fill { keyword.now ≢ codes "fill" }
+    requires copy { keyword.now ≢ codes "copy" }
+    requires hint { keyword.now ≢ codes "hint" }
+    ensures { MatchOption result
+        ((event : Event) → ¬ (SaysEvent (keyword.now ∷ texts rest.now) event))
+        (SaysEvent (keyword.now ∷ texts rest.now)) }
+{
     if keyword == REQUEST {
         let (incremental, area) = read_request(rest)?;
         return Some(Event::Request(incremental, area));

@@ -1,6 +1,5 @@
-use Rattle.std.proofs.Common.{◌∙◌, sym, codes, arith}
-use Rattle.std.proofs.lemmas.Grind.{common_steps}
-use Rattle.rfb.proofs.ScriptLemmas.{alone, empty_of, no_event_of, only_fill, only_copy, only_hint, only_request, only_format, only_toviewer, only_toserver}
+use Rattle.std.proofs.Common.{◌∙◌, sym, codes}
+use Rattle.rfb.proofs.ScriptLemmas.{no_event_of, only_fill, only_copy, only_hint}
 use Rattle.rfb.proofs.script.read.event_of.Goals as goal
 
 pub returns-in_err-rect : goal.returns-in_err-rect
@@ -14,26 +13,3 @@ returns-in_err-rect-2 c =
 pub returns-in_err-rect-3 : goal.returns-in_err-rect-3
 returns-in_err-rect-3 c =
     rw c.from_residual-in_err-rect-3.ensures (no_event_of c.args.keyword.now (codes "hint") _ (sym c.eq-3.ensures ∙ c.if-eq-3.true) (only_hint _ c.in_err-rect-3.ensures))
-
-pub returns-in_err-incremental : goal.returns-in_err-incremental
-returns-in_err-incremental c =
-    rw c.from_residual-in_err-incremental.ensures (no_event_of c.args.keyword.now (codes "request") _ (sym c.eq-4.ensures ∙ c.if-eq-4.true) (only_request _ c.in_err-incremental.ensures))
-
-pub returns-in_err-read_only_format : goal.returns-in_err-read_only_format
-returns-in_err-read_only_format c =
-    rw c.from_residual-in_err-read_only_format.ensures (no_event_of c.args.keyword.now (codes "format") _ (sym c.eq-5.ensures ∙ c.if-eq-5.true) (only_format _ c.in_err-read_only_format.ensures))
-
-pub returns-in_err-read_bytes : goal.returns-in_err-read_bytes
-returns-in_err-read_bytes c =
-    rw c.from_residual-in_err-read_bytes.ensures (no_event_of c.args.keyword.now (codes "toviewer") _ (sym c.eq-6.ensures ∙ c.if-eq-6.true) (only_toviewer _ c.in_err-read_bytes.ensures))
-
-pub returns-in_err-read_bytes-2 : goal.returns-in_err-read_bytes-2
-returns-in_err-read_bytes-2 c =
-    rw c.from_residual-in_err-read_bytes-2.ensures (no_event_of c.args.keyword.now (codes "toserver") _ (sym c.eq-7.ensures ∙ c.if-eq-7.true) (only_toserver _ c.in_err-read_bytes-2.ensures))
-
-pub returns-then-is_empty : goal.returns-then-is_empty
-returns-then-is_empty c =
-    alone c.args.keyword.now (codes "compose") c.args.rest.now (sym c.eq-8.ensures ∙ c.if-eq-8.true) (empty_of _ _ c.is_empty.ensures c.if-is_empty.true)
-
-pub returns : goal.returns
-returns c = grind (arith, common_steps)
