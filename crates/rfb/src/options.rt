@@ -2,21 +2,24 @@
 
 mod looking;
 mod replaying;
+mod serving;
 
-ghost use Rattle.std.specs.Prelude.{◌≡◌, ◌≤◌, codes, false, map, Some, IfOk, MatchResult};
+ghost use Rattle.std.specs.Prelude.{◌≡◌, ◌≤◌, false, map, Some, IfOk, MatchResult};
 ghost use Rattle.clap.specs.Words.{FailsBy, fault_of, found_of, rows_of, rule_of, shape_of, subcommand_rows_of};
+ghost use Rattle.clap.specs.Simple.{app_of, with_subcommand};
 ghost use Rattle.rfb.specs.Options.{AreAsked, AreWrong, IsWrongValue};
-ghost use Rattle.rfb.specs.Options.{GivesFormat, GivesNumber, GivesWanted, HasBadFormat, HasBadValue, IsTask, asked};
+ghost use Rattle.rfb.specs.Options.{GivesFormat, GivesNumber, HasBadFormat, HasBadValue, IsTask, asked};
 ghost use Rattle.rfb_pixel.specs.Format.{PixelFormat};
 ghost use Rattle.rfb.specs.Words.{IsFormatWord};
-ghost use Rattle.rfb.specs.Options.{connections_rule, format_rule, port_rule, side_rule};
-ghost use Rattle.rfb.specs.Options.{loop_shape, program, script_shape, serve_shape};
+ghost use Rattle.rfb.specs.Options.{format_rule, port_rule};
+ghost use Rattle.rfb.specs.Options.{loop_shape, program, script_shape, serve_shape, top, view_shape};
 
-use crate::help::{LANGUAGE, LOOPBACK, STATUSES, VERSION, VIEWERS};
+use crate::help::{LANGUAGE, LOOPBACK, STATUSES, VERSION};
 use crate::options::looking::{look_in, view_words};
 use crate::options::replaying::{play_words, replay_in};
+use crate::options::serving::{serve_words, wanted_in};
 use crate::recording::Replay;
-use crate::script::{MAX_SIDE, Screen, read_format};
+use crate::script::read_format;
 use crate::serving::Wanted;
 use crate::viewing::Look;
 use clap::{Arg, ArgMatches, Command, Error};
@@ -74,17 +77,48 @@ fn parse<'a, S: AsStr>(alloc: Global, words: &'a [S]) -> Result<ArgMatches<'a>, 
     ensures asked { IfOk result (λ matches.
         subcommand_rows_of matches ≡ asked (map S.text words.now)) }
 {
+    commands(alloc)?.try_get_matches_from(words)
+}
+
+// The commands that there are. Each function here adds two at most: with all of them in one, its
+// proof would be long.
+fn commands<'a>(alloc: Global) -> Result<Command<'a>, AllocError>
+    ensures { IfOk result (λ command. app_of command ≡ program) }
+{
+    let scripts = with_scripts(alloc, program_words(alloc))?;
+    let recordings = scripts.subcommand(play_words(alloc)?)?;
+    with_peers(alloc, recordings)
+}
+
+// The program, with no command yet.
+fn program_words<'a>(alloc: Global) -> Command<'a>
+    ensures { app_of result ≡ top }
+{
     Command::new(alloc, "rfb")
         .version(VERSION)
         .about("Both ends of the Remote Framebuffer protocol")
         .after_help(STATUSES)
         .subcommand_required(true)
+}
+
+// Adds the commands that run scripts.
+fn with_scripts<'a>(alloc: Global, command: Command<'a>) -> Result<Command<'a>, AllocError>
+    ensures { IfOk result (λ more. app_of more
+        ≡ with_subcommand (with_subcommand (app_of command.entry) script_shape) loop_shape) }
+{
+    command
         .subcommand(script_words(alloc))?
-        .subcommand(loop_words(alloc))?
-        .subcommand(play_words(alloc)?)?
+        .subcommand(loop_words(alloc))
+}
+
+// Adds the commands that are one end, with a peer of another process.
+fn with_peers<'a>(alloc: Global, command: Command<'a>) -> Result<Command<'a>, AllocError>
+    ensures { IfOk result (λ more. app_of more
+        ≡ with_subcommand (with_subcommand (app_of command.entry) serve_shape) view_shape) }
+{
+    command
         .subcommand(serve_words(alloc)?)?
-        .subcommand(view_words(alloc)?)?
-        .try_get_matches_from(words)
+        .subcommand(view_words(alloc)?)
 }
 
 // The words of `script`.
@@ -105,19 +139,6 @@ fn loop_words<'a>(alloc: Global) -> Command<'a>
         .after_help(LOOPBACK)
 }
 
-// The words of `serve`.
-fn serve_words<'a>(alloc: Global) -> Result<Command<'a>, AllocError>
-    ensures { IfOk result (λ command. shape_of command ≡ serve_shape) }
-{
-    Command::new(alloc, "serve")
-        .about("Serves a scrolling test picture to viewers on 127.0.0.1, one after another")
-        .after_help(VIEWERS)
-        .arg(port_word(alloc))?
-        .arg(width_word(alloc))?
-        .arg(height_word(alloc))?
-        .arg(connections_word(alloc))
-}
-
 // The word of a port.
 fn port_word<'a>(alloc: Global) -> Arg<'a>
     ensures rule { rule_of result ≡ port_rule }
@@ -129,52 +150,6 @@ fn port_word<'a>(alloc: Global) -> Arg<'a>
         .value_parser(clap::value_parser!(u16).range(1..))
         .required(true)
         .help("The port, 1 to 65535")
-}
-
-// The word of the screen's width.
-fn width_word<'a>(alloc: Global) -> Arg<'a>
-    ensures rule { rule_of result ≡ side_rule (codes "width") }
-    ensures local { result.global ≡ false }
-{
-    side_word(
-        alloc,
-        "width",
-        "The places of a row of the screen, 1 to 4096",
-    )
-}
-
-// The word of the screen's height.
-fn height_word<'a>(alloc: Global) -> Arg<'a>
-    ensures rule { rule_of result ≡ side_rule (codes "height") }
-    ensures local { result.global ≡ false }
-{
-    side_word(alloc, "height", "The rows of the screen, 1 to 4096")
-}
-
-// The word of a side of the screen.
-fn side_word<'a>(alloc: Global, name: &'a str, help: &'a str) -> Arg<'a>
-    ensures rule { rule_of result ≡ side_rule name.entry.now }
-    ensures local { result.global ≡ false }
-{
-    Arg::new(alloc, name)
-        .long(name)
-        .value_name("N")
-        .value_parser(clap::value_parser!(u16).range(1..=4096))
-        .default_value("64")
-        .help(help)
-}
-
-// The word of how many connections are served.
-fn connections_word<'a>(alloc: Global) -> Arg<'a>
-    ensures rule { rule_of result ≡ connections_rule }
-    ensures local { result.global ≡ false }
-{
-    Arg::new(alloc, "connections")
-        .long("connections")
-        .value_name("K")
-        .value_parser(clap::value_parser!(u16).range(1..))
-        .default_value("1")
-        .help("How many connections are served, 1 to 65535")
 }
 
 // The word of a format.
@@ -257,20 +232,6 @@ fn format_named<'a>(word: &'a str) -> Result<Format, BadValue<'a>>
     match read_format(word.as_bytes()) {
         Some(format) => Ok(format),
         None => Err(BadValue::Format(word)),
-    }
-}
-
-// What `serve` is asked for.
-fn wanted_in(given: &ArgMatches<'_>) -> Wanted
-    ensures { GivesWanted (rows_of (found_of given.now)) result }
-{
-    Wanted {
-        port: number_in(given, "port", 1, u16::MAX),
-        screen: Screen {
-            width: number_in(given, "width", 1, MAX_SIDE),
-            height: number_in(given, "height", 1, MAX_SIDE),
-        },
-        connections: number_in(given, "connections", 1, u16::MAX),
     }
 }
 

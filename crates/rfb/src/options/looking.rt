@@ -2,8 +2,9 @@
 
 ghost use Rattle.std.specs.Prelude.{◌≡◌, ◌≤◌, false, codes, List, IfOk, MatchResult};
 ghost use Rattle.clap.specs.Words.{found_of, rows_of, rule_of, shape_of};
+ghost use Rattle.clap.specs.Simple.{app_of, with_rule};
 ghost use Rattle.rfb_wire.specs.declared.encoding.Encoding.{Encoding};
-ghost use Rattle.rfb.specs.Options.{encodings_rule, host_rule, record_rule, updates_rule, view_shape};
+ghost use Rattle.rfb.specs.Options.{encodings_rule, format_rule, host_rule, record_rule, updates_rule, view_shape};
 ghost use Rattle.rfb.specs.Options.{GivesEncodings, GivesHost, GivesLook, GivesNumber, GivesSight, HasBadEncodings, HasBadSight, IsFlagged};
 ghost use Rattle.rfb.specs.Words.{AreEncodings, parts_of};
 
@@ -24,12 +25,21 @@ const LOOPBACK: &str = "127.0.0.1";
 pub fn view_words<'a>(alloc: Global) -> Result<Command<'a>, AllocError>
     ensures { IfOk result (λ command. shape_of command ≡ view_shape) }
 {
-    Command::new(alloc, "view")
+    let command = Command::new(alloc, "view")
         .about("Views a server, and writes the picture that it shows as PPM")
         .after_help(SERVERS)
         .arg(host_word(alloc))?
         .arg(port_word(alloc))?
-        .arg(updates_word(alloc))?
+        .arg(updates_word(alloc))?;
+    with_sight(alloc, command)
+}
+
+// Adds what is to be seen of the server, and how.
+fn with_sight<'a>(alloc: Global, command: Command<'a>) -> Result<Command<'a>, AllocError>
+    ensures { IfOk result (λ more. app_of more ≡ with_rule (with_rule
+        (with_rule (app_of command.entry) format_rule) encodings_rule) record_rule) }
+{
+    command
         .arg(format_word(alloc))?
         .arg(encodings_word(alloc))?
         .arg(record_word(alloc))

@@ -1,7 +1,7 @@
 use Rattle.std.proofs.Common.{◌≡◌, ◌∙◌, ap, ap₂, codes}
 use Rattle.std.proofs.lemmas.Result.{IfOk-weaker}
 use Rattle.clap.specs.Simple.{App, app_of, app_of_fields, new_app, with_rule}
-use Rattle.rfb.specs.Options.{encodings_rule, format_rule, host_rule, port_rule, updates_rule}
+use Rattle.rfb.specs.Options.{encodings_rule, format_rule, host_rule, port_rule, record_rule, updates_rule}
 use Rattle.rfb.proofs.options.looking.view_words.Goals as goal
 
 abbrev with_host : App
@@ -13,11 +13,8 @@ with_port = with_rule with_host port_rule
 abbrev with_updates : App
 with_updates = with_rule with_port updates_rule
 
-abbrev with_format : App
-with_format = with_rule with_updates format_rule
-
-abbrev with_encodings : App
-with_encodings = with_rule with_format encodings_rule
+abbrev seen : App → App
+seen app = with_rule (with_rule (with_rule app format_rule) encodings_rule) record_rule
 
 pub returns : goal.returns
 returns c =
@@ -27,10 +24,6 @@ returns c =
     c.in_ok-arg.ensures.shape c.host_word.ensures.local ∙ ap₂ with_rule old c.host_word.ensures.rule in
     let two : app_of c.in_ok-arg-2.field-0 ≡ with_port =
     c.in_ok-arg-2.ensures.shape c.port_word.ensures.local ∙ ap₂ with_rule one c.port_word.ensures.rule in
-    let three : app_of c.in_ok-arg-3.field-0 ≡ with_updates =
-    c.in_ok-arg-3.ensures.shape c.updates_word.ensures.local ∙ ap₂ with_rule two c.updates_word.ensures.rule in
-    let four : app_of c.in_ok-arg-4.field-0 ≡ with_format =
-    c.in_ok-arg-4.ensures.shape c.format_word.ensures.local ∙ ap₂ with_rule three c.format_word.ensures.rule in
-    let five : app_of c.in_ok-arg-5.field-0 ≡ with_encodings =
-    c.in_ok-arg-5.ensures.shape c.encodings_word.ensures.local ∙ ap₂ with_rule four c.encodings_word.ensures.rule in
-    IfOk-weaker c.arg-6.result _ _ (λ r adds. ap (λ (a : App). a.top) (adds.shape c.record_word.ensures.local ∙ ap₂ with_rule five c.record_word.ensures.rule)) c.arg-6.ensures
+    let three : app_of c.in_ok-command.command ≡ with_updates =
+    c.in_ok-command.ensures.shape c.updates_word.ensures.local ∙ ap₂ with_rule two c.updates_word.ensures.rule in
+    IfOk-weaker c.with_sight.result _ _ (λ r more. ap (λ (a : App). a.top) (more ∙ ap seen three)) c.with_sight.ensures

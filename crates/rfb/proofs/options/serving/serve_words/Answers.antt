@@ -2,7 +2,7 @@ use Rattle.std.proofs.Common.{◌≡◌, ◌∙◌, ap, ap₂, codes}
 use Rattle.std.proofs.lemmas.Result.{IfOk-weaker}
 use Rattle.clap.specs.Simple.{App, app_of, app_of_fields, new_app, with_rule}
 use Rattle.rfb.specs.Options.{port_rule, side_rule}
-use Rattle.rfb.proofs.options.serve_words.Goals as goal
+use Rattle.rfb.proofs.options.serving.serve_words.Goals as goal
 
 pub returns : goal.returns
 returns c =

@@ -1,0 +1,85 @@
+//! The words of `serve`.
+
+ghost use Rattle.std.specs.Prelude.{◌≡◌, codes, false, IfOk};
+ghost use Rattle.clap.specs.Words.{found_of, rows_of, rule_of, shape_of};
+ghost use Rattle.rfb.specs.Options.{GivesWanted, connections_rule, serve_shape, side_rule};
+
+use crate::help::VIEWERS;
+use crate::options::{number_in, port_word};
+use crate::script::{MAX_SIDE, Screen};
+use crate::serving::Wanted;
+use clap::{Arg, ArgMatches, Command};
+use std::alloc::{AllocError, Global};
+
+/// The words of `serve`.
+pub fn serve_words<'a>(alloc: Global) -> Result<Command<'a>, AllocError>
+    ensures { IfOk result (λ command. shape_of command ≡ serve_shape) }
+{
+    Command::new(alloc, "serve")
+        .about("Serves a scrolling test picture to viewers on 127.0.0.1, one after another")
+        .after_help(VIEWERS)
+        .arg(port_word(alloc))?
+        .arg(width_word(alloc))?
+        .arg(height_word(alloc))?
+        .arg(connections_word(alloc))
+}
+
+// The word of the screen's width.
+fn width_word<'a>(alloc: Global) -> Arg<'a>
+    ensures rule { rule_of result ≡ side_rule (codes "width") }
+    ensures local { result.global ≡ false }
+{
+    side_word(
+        alloc,
+        "width",
+        "The places of a row of the screen, 1 to 4096",
+    )
+}
+
+// The word of the screen's height.
+fn height_word<'a>(alloc: Global) -> Arg<'a>
+    ensures rule { rule_of result ≡ side_rule (codes "height") }
+    ensures local { result.global ≡ false }
+{
+    side_word(alloc, "height", "The rows of the screen, 1 to 4096")
+}
+
+// The word of a side of the screen.
+fn side_word<'a>(alloc: Global, name: &'a str, help: &'a str) -> Arg<'a>
+    ensures rule { rule_of result ≡ side_rule name.entry.now }
+    ensures local { result.global ≡ false }
+{
+    Arg::new(alloc, name)
+        .long(name)
+        .value_name("N")
+        .value_parser(clap::value_parser!(u16).range(1..=4096))
+        .default_value("64")
+        .help(help)
+}
+
+// The word of how many connections are served.
+fn connections_word<'a>(alloc: Global) -> Arg<'a>
+    ensures rule { rule_of result ≡ connections_rule }
+    ensures local { result.global ≡ false }
+{
+    Arg::new(alloc, "connections")
+        .long("connections")
+        .value_name("K")
+        .value_parser(clap::value_parser!(u16).range(1..))
+        .default_value("1")
+        .help("How many connections are served, 1 to 65535")
+}
+
+/// What `serve` is asked for.
+pub fn wanted_in(given: &ArgMatches<'_>) -> Wanted
+    ensures { GivesWanted (rows_of (found_of given.now)) result }
+{
+    Wanted {
+        port: number_in(given, "port", 1, u16::MAX),
+        screen: Screen {
+            width: number_in(given, "width", 1, MAX_SIDE),
+            height: number_in(given, "height", 1, MAX_SIDE),
+        },
+        connections: number_in(given, "connections", 1, u16::MAX),
+    }
+}
