@@ -23,14 +23,14 @@ impl Tracking {
         ensures { IfOk result (λ t. AreUntouched width height t.known t.area t.marks) }
     {
         let known = Record::new(alloc, width, height)?;
-        let (area, marks) = no_requests(alloc, width, height)?;
+        let (area, marks) = area_and_marks(alloc, width, height)?;
         Ok(Tracking { known, area, marks })
     }
 }
 
 // An area of which nothing is asked, and the set of all places. Each function here has one thing at
 // most to let go where memory is wanting: of several, its proof would be long.
-fn no_requests(alloc: Global, width: u16, height: u16) -> Result<(Area, PlaceSet), AllocError>
+fn area_and_marks(alloc: Global, width: u16, height: u16) -> Result<(Area, PlaceSet), AllocError>
     ensures area { IfOk result (λ both. both.0 ≡ no_places width height) }
     ensures columns { IfOk result (λ both. both.0.asked.width ≡ width) }
     ensures rows { IfOk result (λ both. both.0.asked.height ≡ height) }
