@@ -1,4 +1,4 @@
-use Rattle.std.proofs.Common.{◌*◌, ℕ, List, refl, sym, subst}
+use Rattle.std.proofs.Common.{◌*◌, ℕ, List, refl, sym, subst, rules}
 use Rattle.rfb_server.specs.inside.Composed.{HasComposed}
 use Rattle.std.specs.Int.{div_ceil}
 use Rattle.rfb_server.specs.Server.{ServerState}
@@ -29,3 +29,12 @@ returns-in-Ok-clause-composed c = λ did.
     composed_same c.args.screen.now c.args.self.now c.mark_hints.new.self c.update.new.self c.args.out.now.items c.update.new.out.items
     c.mark_hints.ensures.same c.mark_hints.ensures.hints
     (subst (λ (bytes : List ℕ). HasComposed c.args.screen.now c.mark_hints.new.self c.update.new.self bytes c.update.new.out.items) c.reserve.ensures.items done)
+
+pub returns-in-Err-clause-about : goal.returns-in-Err-clause-about
+returns-in-Err-clause-about c = c.mark_hints.ensures.about
+
+pub returns-in-Err-clause-due : goal.returns-in-Err-clause-due
+returns-in-Err-clause-due c = search rules
+
+pub returns-in-Err-clause-same : goal.returns-in-Err-clause-same
+returns-in-Err-clause-same c = c.mark_hints.ensures.same
