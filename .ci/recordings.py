@@ -14,7 +14,9 @@ def put(name, **files):
         else:
             open(os.path.join(d,k),'wb').write(v)
 MAX={'rgb888':(255,255,255),'rgb565':(31,63,31),'bgr233':(7,7,3)}
-short={}
+def ppm(w,h,places):
+    assert len(places)==6*w*h
+    return b'P6\n%d %d\n65535\n'%(w,h)+places
 for f in sorted(os.listdir(cap)):
     if not f.endswith('.json'): continue
     n=f[:-5]
@@ -23,31 +25,38 @@ for f in sorted(os.listdir(cap)):
     fields=gzip.open(f'{cap}/{n}.fields.gz').read()
     assert len(fields)==3*w*h,(n,len(fields),w,h)
     m=MAX[fmt]
-    comp=[bytes(min(255,(v*255+(mm-1)//2)//mm) for v in range(256)) for mm in m]
+    # What each field shows, two bytes, the high one first.
+    comp=[[min(65535,(v*65535+(mm-1)//2)//mm) for v in range(256)] for mm in m]
     for i in range(3): assert max(fields[i::3])<=m[i]
-    out=bytearray(len(fields))
-    for i in range(3): out[i::3]=fields[i::3].translate(comp[i])
-    ppm=b'P6\n%d %d\n255\n'%(w,h)+bytes(out)
+    out=bytearray(2*len(fields))
+    for i in range(3):
+        out[2*i::6]=fields[i::3].translate(bytes(c>>8 for c in comp[i]))
+        out[2*i+1::6]=fields[i::3].translate(bytes(c&255 for c in comp[i]))
     name='recording_of_'+n.replace('.','').replace('+','_').replace('-','_')
     args='play\n' if fmt=='rgb888' else f'play\n--format\n{fmt}\n'
-    put(name,args=args,stdin_gz=gzip.open(f'{cap}/{n}.rfb.gz').read(),stdout_gz=ppm,status='0\n')
+    put(name,args=args,stdin_gz=gzip.open(f'{cap}/{n}.rfb.gz').read(),stdout_gz=ppm(w,h,bytes(out)),status='0\n')
 HELLO=b'RFB 003.008\n'+b'\x01\x01'+b'\0\0\0\0'+struct.pack('>HH',2,1)+bytes.fromhex('20 18 00 01 00 FF 00 FF 00 FF 10 08 00 00 00 00'.replace(' ',''))+struct.pack('>I',3)+b'rfb'
 UPD=bytes.fromhex('00000001'+'0000000000020001'+'00000000'+'00000000'+'02000400')
 P=HELLO+UPD
 assert len(P)==69
-put('recording_of_one_update',args='play\n',stdin=P,stdout=bytes.fromhex('50360A3220310A3235350A'+'000000040002'),status='0\n')
+# What it shows: black, and (4, 0, 2) times 257.
+SCENE=bytes.fromhex('000000000000'+'040400000202')
+put('recording_of_one_update',args='play\n',stdin=P,stdout=ppm(2,1,SCENE),status='0\n')
 put('recording_in_another_format',args='play\n--format\nbgr233\n',stdin=P,stderr='fault 28 Truncated\n',status='1\n')
 put('recording_of_five_bytes',args='play\n',stdin=b'RFB 0',stderr='fault 28 Truncated\n',status='1\n')
 put('recording_of_nothing',args='play\n',stderr='fault 28 Truncated\n',status='1\n')
-put('recording_of_a_handshake',args='play\n',stdin=HELLO,stdout=b'P6\n2 1\n255\n'+bytes(6),status='0\n')
+put('recording_of_a_handshake',args='play\n',stdin=HELLO,stdout=ppm(2,1,bytes(12)),status='0\n')
 put('recording_cut_in_a_text',args='play\n',stdin=HELLO+bytes.fromhex('0300000000000005'+'41424344'),stderr='fault 28 Truncated\n',status='1\n')
-put('recording_with_a_text',args='play\n',stdin=HELLO+bytes.fromhex('0300000000000005'+'4142434402'),stdout=b'P6\n2 1\n255\n'+bytes(6),status='0\n')
+put('recording_with_a_text',args='play\n',stdin=HELLO+bytes.fromhex('0300000000000005'+'4142434402'),stdout=ppm(2,1,bytes(12)),status='0\n')
 put('recording_of_an_unknown_message',args='play\n',stdin=P+b'\x04',stderr='fault 7 UnknownMessage\n',status='1\n')
-# Another update: the right place becomes (255, 128, 1).
+# Another update: the right place becomes (255, 128, 1) times 257.
 MORE=bytes.fromhex('00000001'+'0001000000010001'+'00000000'+'0180FF00')
-put('recording_up_to_its_first_update',args='play\n--updates\n1\n',stdin=P+MORE[:9],stdout=b'P6\n2 1\n255\n'+bytes.fromhex('000000040002'),status='0\n')
-put('recording_of_fewer_updates',args='play\n--updates=3\n',stdin=P+MORE,stdout=b'P6\n2 1\n255\n'+bytes.fromhex('000000FF8001'),status='0\n')
+put('recording_up_to_its_first_update',args='play\n--updates\n1\n',stdin=P+MORE[:9],stdout=ppm(2,1,SCENE),status='0\n')
+put('recording_of_fewer_updates',args='play\n--updates=3\n',stdin=P+MORE,stdout=ppm(2,1,bytes.fromhex('000000000000'+'FFFF80800101')),status='0\n')
 put('recording_up_to_no_update',args='play\n--updates\n0\n',stderr="error: invalid value '0' for '--updates <U>': 0 is not in 1..=4294967295\n\nFor more information, try '--help'.\n",status='2\n')
 put('recording_to_a_full_device',args='play\n',stdin=P,stderr='fault 29 Device\n',status='1\n',device='/dev/full\n')
-put('recording_with_less_memory_than_its_screen',args='play\n',stdin=HELLO[:18]+struct.pack('>HH',4096,4096)+HELLO[22:],stderr='fault 30 NoMemory\n',status='1\n',memory='40000\n')
-put('format_of_no_meaning',args='play\n--format\nrgb\n',stderr="error: invalid value 'rgb' for '--format <F>'\n  [possible values: rgb888, rgb565, bgr233]\n\nFor more information, try '--help'.\n",status='2\n')
+put('recording_with_less_memory_than_its_screen',args='play\n',stdin=HELLO[:18]+struct.pack('>HH',4096,4096)+HELLO[22:],stderr='fault 30 NoMemory\n',status='1\n',memory='80000\n')
+put('format_of_no_meaning',args='play\n--format\nrgb\n',stderr="error: invalid value 'rgb' for '--format <F>'\n  [possible values: rgb888, rgb565, bgr233, rgb101010]\n\nFor more information, try '--help'.\n",status='2\n')
+# Fields of ten bits: (1023, 514, 4), and (0, 0, 1) under two bits that mean nothing.
+TEN=bytes.fromhex('00000001'+'0000000000020001'+'00000000'+'0408F83F'+'010000C0')
+put('recording_at_rgb101010',args='play\n--format\nrgb101010\n',stdin=HELLO+TEN,stdout=ppm(2,1,bytes.fromhex('FFFF80A00100'+'000000000040')),status='0\n')

@@ -39,7 +39,7 @@ difference 'first_diff of equal rows' rfb_pixel format::tests::diff_first format
 difference 'last_diff of equal rows' rfb_pixel format::tests::diff_last format::tests::diff_none 16384
 difference 'Picture::copy down by a row' rfb_picture tests::picture_copy_down tests::picture_new $((1024 * 1023))
 difference 'Picture::copy aside by a place' rfb_picture tests::picture_copy_aside tests::picture_new $((1024 * 1023))
-difference 'Picture::fill of places of three bytes' rfb_picture tests::picture_fill tests::picture_new $((1024 * 1023))
+difference 'Picture::fill of places of six bytes' rfb_picture tests::picture_fill tests::picture_new $((1024 * 1023))
 difference 'Picture::fill of places of four bytes' rfb_picture tests::picture_fill_words tests::picture_new_words $((1024 * 1023))
 difference 'Area::add of all' rfb_picture tests::area_add_all tests::area_new 1
 difference 'Area::add of all but a border' rfb_picture tests::area_add_most tests::area_new 1

@@ -11,8 +11,8 @@ low_crates() {
 }
 
 # program NAME LIBRARIES FILE: the same with the crate NAME, whose program is bench/NAME/main.txt,
-# and `fills`, the fill lines of the gzipped FILE: of each its four numbers, two bytes each, the
-# three bytes of its colour, and a 0.
+# and `fills`, the fill lines of the gzipped FILE, whose colours have six digits: of each its four
+# numbers, two bytes each, the three bytes of its colour, and a 0.
 program() {
   local lines
   lines=$(realpath "$3")

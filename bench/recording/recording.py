@@ -1,7 +1,8 @@
 """Prints what a server sends to a viewer of version 3.8: the handshake and, where an encoding is
 named, one update of the whole screen at rgb888. The screen is black under the fill lines on
-standard input. The update has the cells of 64 by 64 of our own server, encoded by the rules of
-docs/PROTOCOL.md; a cell that an encoding does not make shorter is in Raw.
+standard input, whose colours have six digits. The update has the cells of 64 by 64 of our own
+server, encoded by the rules of docs/PROTOCOL.md; a cell that an encoding does not make shorter is
+in Raw.
 
     recording.py WIDTH HEIGHT none|raw|rre|hextile < fills
 """

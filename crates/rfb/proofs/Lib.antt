@@ -4,7 +4,6 @@ pub mod ComposingLemmas
 pub mod EndsLemmas
 pub mod LoopbackLemmas
 pub mod OptionLemmas
-pub mod PixmapLemmas
 pub mod PlayingLemmas
 pub mod RecordingLemmas
 pub mod SceneLemmas

@@ -1,7 +1,7 @@
 -- The ends of a script meet the premises of the world's theorem.
 use Rattle.std.proofs.Common.{◌≡◌, ◌≤◌, ◌<◌, ◌^◌, ◌*◌, ◌∙◌, ℕ, List, [], ◌∷◌, Option, Some, None, ap, sym, refl, subst, inl, inr, length, map, arith}
 use Rattle.std.proofs.lemmas.Nat.{mul-le}
-use Rattle.rfb_pixel.specs.Format.{IsFormat, PixelFormat, bgr233, rgb565}
+use Rattle.rfb_pixel.specs.Format.{IsFormat, PixelFormat, bgr233, rgb565, rgb101010}
 use Rattle.rfb_pixel.proofs.FormatLemmas.{rgb888-is_format}
 use Rattle.rfb_wire.specs.declared.encoding.Encoding.{Encoding}
 use Rattle.rfb_session.specs.InFlight.{AreMade}
@@ -36,11 +36,24 @@ bgr233-is_format = record {
   green_blue = λ i here there. omega arith;
 }
 
+rgb101010-is_format : IsFormat rgb101010
+rgb101010-is_format = record {
+  whole = refl;
+  deep = omega arith;
+  red = (omega arith, omega arith, omega arith);
+  green = (omega arith, omega arith, omega arith);
+  blue = (omega arith, omega arith, omega arith);
+  red_green = λ i here there. omega arith;
+  red_blue = λ i here there. omega arith;
+  green_blue = λ i here there. omega arith;
+}
+
 -- what a name stands for is a format
 named : (word : List ℕ) (form : PixelFormat) → IsFormatWord word form → IsFormat form
 named word form (inl is) = subst (λ (f : PixelFormat). IsFormat f) (sym is.1) rgb888-is_format
 named word form (inr (inl is)) = subst (λ (f : PixelFormat). IsFormat f) (sym is.1) rgb565-is_format
-named word form (inr (inr is)) = subst (λ (f : PixelFormat). IsFormat f) (sym is.1) bgr233-is_format
+named word form (inr (inr (inl is))) = subst (λ (f : PixelFormat). IsFormat f) (sym is.1) bgr233-is_format
+named word form (inr (inr (inr is))) = subst (λ (f : PixelFormat). IsFormat f) (sym is.1) rgb101010-is_format
 
 format_made : (n : ℕ) (lines : List (List ℕ)) (wants : Option Wants) (steps : List Numbered) →
     AskForAll n lines wants steps → IsFormat (format_of wants)

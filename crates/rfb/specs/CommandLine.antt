@@ -12,7 +12,7 @@ use Rattle.rfb.specs.declared.script.line.Screen.{Screen as Size}
 use Rattle.rfb.specs.declared.script.line.Wants.{Wants}
 use Rattle.rfb.specs.Playing.{IsPlayed}
 use Rattle.rfb.specs.Script.{AreScript, StopsReading, lines_of}
-use Rattle.rfb.specs.Pixmap.{pixmap}
+use Rattle.rfb_session.specs.Pixmap.{pixmap}
 use Rattle.clap.specs.Words.{Text}
 use Rattle.rfb.specs.declared.options.Task.{Task}
 use Rattle.rfb.specs.declared.options.Task.TheVariants.{Script, Loop, Play, Serve, View}

@@ -4,7 +4,6 @@ pub mod Few
 pub mod Loopback
 pub mod Number
 pub mod Options
-pub mod Pixmap
 pub mod Playing
 pub mod Recording
 pub mod Scene

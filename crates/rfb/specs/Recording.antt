@@ -17,7 +17,7 @@ use Rattle.rfb_session.specs.Watching.{StandsBetween}
 use Rattle.rfb.specs.declared.fault.Failure.{Failure}
 use Rattle.rfb.specs.declared.fault.Failure.TheVariants.{BadLine, Fault, Engine}
 use Rattle.rfb.specs.declared.recording.replay.Replay.{Replay}
-use Rattle.rfb.specs.Pixmap.{pixmap}
+use Rattle.rfb_session.specs.Pixmap.{pixmap}
 
 -- what a viewer of the program is made with
 abbrev pub viewing_of : PixelFormat → List Encoding → Viewing

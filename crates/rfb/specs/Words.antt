@@ -1,12 +1,12 @@
 -- What the words of a line stand for, behind the first one.
-use Rattle.std.specs.Prelude.{◌≡◌, ◌==◌, ◌≤◌, ◌⊎◌, ℕ, Bool, true, false, List, [], ◌∷◌, Ok, codes, length, map}
+use Rattle.std.specs.Prelude.{◌≡◌, ◌==◌, ◌+◌, ◌*◌, ◌≤◌, ◌⊎◌, ℕ, Bool, true, false, List, [], ◌∷◌, Ok, codes, length, map}
 use Rattle.std.specs.Borrow.{Bor}
 use Rattle.std.specs.List.{AllPass, slice_split}
 use Rattle.std.specs.Str.Parse.{digits_value}
 use Rattle.hex.specs.Hex.{decode_of, is_hex_digit}
 use Rattle.rfb_picture.specs.declared.rect.Rect.{Rect}
 use Rattle.rfb_pixel.specs.declared.colour.Colour.{Colour}
-use Rattle.rfb_pixel.specs.Format.{PixelFormat, rgb888, rgb565, bgr233}
+use Rattle.rfb_pixel.specs.Format.{PixelFormat, colour_of_bytes, rgb888, rgb565, bgr233, rgb101010}
 use Rattle.rfb_wire.specs.declared.encoding.Encoding.{Encoding}
 use Rattle.rfb_wire.specs.declared.encoding.Encoding.TheVariants.{Raw, CopyRect, Rre, Hextile}
 use Rattle.rfb.specs.declared.script.line.Screen.{Screen as Size}
@@ -31,11 +31,32 @@ IsSide word = IsNumber word × (1 ≤ digits_value 10 word) × (digits_value 10 
 abbrev pub IsNumberOf : List ℕ → ℕ → Type 0
 IsNumberOf word n = IsNumber word × (n ≡ digits_value 10 word)
 
--- a word is a colour: six hexadecimal digits, of red, green and blue
-abbrev pub IsColourWord : List ℕ → Colour → Type 0
-IsColourWord word colour =
+-- a word has six hexadecimal digits, or twelve
+abbrev pub IsColourText : List ℕ → Type 0
+IsColourText word =
     ((length word ≡ 6) × AllPass is_hex_digit word)
-    × (decode_of word ≡ Ok (colour.r ∷ colour.g ∷ colour.b ∷ []))
+    ⊎ ((length word ≡ 12) × AllPass is_hex_digit word)
+
+-- its digits are those of three bytes, of red, green and blue; a component is 257 times its byte
+abbrev pub SaysBytes : List ℕ → Colour → Type 0
+SaysBytes word colour =
+    (r g b : ℕ) × (decode_of word ≡ Ok (r ∷ g ∷ b ∷ [])) × (colour ≡ colour_of_bytes r g b)
+
+-- they are those of six bytes: of red, green and blue the high byte, and then the low one
+abbrev pub SaysComponents : List ℕ → Colour → Type 0
+SaysComponents word colour =
+    (r low_r g low_g b low_b : ℕ)
+    × (decode_of word ≡ Ok (r ∷ low_r ∷ g ∷ low_g ∷ b ∷ low_b ∷ []))
+    × (colour.r ≡ r * 256 + low_r) × (colour.g ≡ g * 256 + low_g) × (colour.b ≡ b * 256 + low_b)
+
+-- six digits say bytes, and twelve components
+abbrev pub SaysColour : List ℕ → Colour → Type 0
+SaysColour word colour =
+    ((length word ≡ 6) × SaysBytes word colour) ⊎ ((length word ≡ 12) × SaysComponents word colour)
+
+-- a word is a colour
+abbrev pub IsColourWord : List ℕ → Colour → Type 0
+IsColourWord word colour = IsColourText word × SaysColour word colour
 
 -- a word is the name of a format
 abbrev pub IsFormatWord : List ℕ → PixelFormat → Type 0
@@ -43,6 +64,7 @@ IsFormatWord word format =
     ((word ≡ codes "rgb888") × (format ≡ rgb888))
     ⊎ ((word ≡ codes "rgb565") × (format ≡ rgb565))
     ⊎ ((word ≡ codes "bgr233") × (format ≡ bgr233))
+    ⊎ ((word ≡ codes "rgb101010") × (format ≡ rgb101010))
 
 -- the name of an encoding
 abbrev pub name_of : Encoding → List ℕ

@@ -111,7 +111,7 @@ fn tell_value<E: Write>(value: BadValue<'_>, errors: &mut E) {
         BadValue::Format(word) => writeln!(
             errors,
             "error: invalid value '{word}' for '--format <F>'
-  [possible values: rgb888, rgb565, bgr233]
+  [possible values: rgb888, rgb565, bgr233, rgb101010]
 
 For more information, try '--help'."
         ),

@@ -5,7 +5,7 @@ ghost use Rattle.rfb.specs.Fault.{IsFailureOf, IsFaultOf};
 ghost use Rattle.rfb.specs.declared.fault.Failure.TheVariants as Failure;
 ghost use Rattle.rfb.specs.declared.fault.Fault.TheVariants as Fault;
 
-use rfb_session::{EngineFault, NoMemory};
+use rfb_session::{Device, EngineFault, NoMemory};
 use std::alloc::{AllocError, AllocFailed};
 use std::io;
 use std::io::ErrorKind;
@@ -38,6 +38,14 @@ impl From<NoMemory> for Fault {
 
     fn from(_error: NoMemory) -> Fault {
         Fault::NoMemory
+    }
+}
+
+impl From<Device> for Fault {
+    ghost from_gives = { λ _ fault. fault ≡ Fault.Device };
+
+    fn from(_error: Device) -> Fault {
+        Fault::Device
     }
 }
 
@@ -80,6 +88,14 @@ impl From<EngineFault> for Failure {
 
     fn from(fault: EngineFault) -> Failure {
         Failure::Engine(fault)
+    }
+}
+
+impl From<Device> for Failure {
+    ghost from_gives = { λ _ failure. failure ≡ Failure.Fault Fault.Device };
+
+    fn from(_error: Device) -> Failure {
+        Failure::Fault(Fault::Device)
     }
 }
 

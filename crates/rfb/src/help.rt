@@ -15,7 +15,7 @@ pub const LANGUAGE: &str = "\
 A script has a line for each step. One space parts two words:
   screen W H                  first: the size of the screen, 1 to 4096 places a side
   viewer F E..                second, or not at all: the format and the encodings that it takes
-  fill X Y W H RRGGBB         the server draws
+  fill X Y W H RRGGBB         the server draws; twelve digits are four for each component
   copy X Y W H SX SY          the same, from the rectangle at (SX, SY)
   hint X Y W H SX SY          it is told that a rectangle looks as the one at (SX, SY) did
   request full|inc X Y W H    the viewer asks for a rectangle, or for what changed there
@@ -24,7 +24,7 @@ A script has a line for each step. One space parts two words:
   toserver N, toviewer N      at most N of the bytes in flight arrive
   settle                      all bytes arrive, eight times each way
 
-F is rgb888, rgb565 or bgr233; E is raw, copyrect, rre or hextile.
+F is rgb888, rgb565, bgr233 or rgb101010; E is raw, copyrect, rre or hextile.
 docs/PROTOCOL.md has the language of scripts, with all that is bad in it.
 
 Example:

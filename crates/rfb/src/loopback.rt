@@ -90,7 +90,7 @@ fn finish<C: Read + Write, W: Write, E: Write>(
         (WritesPicture ends.new.viewer (W.contents output.old) (W.contents output.new)) }
 {
     play_all(alloc, ends, link, steps, errors)?;
-    write_picture(alloc, &ends.viewer, output)
+    write_picture(&ends.viewer, output)
 }
 
 // Takes all steps. Those that are refused are told on `errors`, each in one write, and do not end

@@ -9,7 +9,6 @@ mod fault;
 mod help;
 mod loopback;
 mod options;
-mod pixmap;
 mod playing;
 mod recording;
 mod scene;
@@ -19,6 +18,7 @@ mod serving;
 #[cfg(test)]
 mod tests;
 mod viewing;
+mod writing;
 
 use command_line::{command, without_words};
 use std::process::ExitCode;

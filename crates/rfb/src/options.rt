@@ -161,7 +161,7 @@ fn format_word<'a>(alloc: Global) -> Arg<'a>
         .long("format")
         .value_name("F")
         .default_value("rgb888")
-        .help("The format of pixels, from the first update on: rgb888, rgb565 or bgr233")
+        .help("The format of pixels, from the first update on: rgb888, rgb565, bgr233 or rgb101010")
 }
 
 // What the words ask for, once they are parsed.

@@ -10,8 +10,8 @@ ghost use Rattle.rfb.specs.Recording.{WatchesAll, StopsWatchingAll, WatchesSome,
 mod replay;
 
 use crate::fault::{Failure, Fault};
-use crate::pixmap::write_pixmap;
 use crate::playing::{fresh_viewer, only_raw};
+use crate::writing::write_ppm;
 pub use replay::Replay;
 use rfb_session::{EngineFault, Tally};
 use rfb_viewer::Viewer;
@@ -36,7 +36,7 @@ pub fn play_recording<R: Read, W: Write>(
 {
     let mut viewer = fresh_viewer(alloc, replay.format, only_raw());
     match watch(input, &mut viewer, replay.updates) {
-        Ok(_updates) => show(alloc, &viewer, output),
+        Ok(_updates) => show(&viewer, output),
         Err(fault) => Err(Failure::Engine(fault)),
     }
 }
@@ -84,23 +84,23 @@ fn watch_all<R: Read>(input: &mut R, viewer: &mut Viewer) -> Result<u64, EngineF
 }
 
 /// Writes what a viewer shows. What ends it is a fault of the program's own, and no engine's.
-pub fn show<W: Write>(alloc: Global, viewer: &Viewer, output: &mut W) -> Result<(), Failure>
+pub fn show<W: Write>(viewer: &Viewer, output: &mut W) -> Result<(), Failure>
     ensures done { OnOk result
         (WritesPicture viewer.now (W.contents output.old) (W.contents output.new)) }
     ensures stopped { IfErr result (λ failure. (fault : Fault) × (failure ≡ Failure.Fault fault)) }
 {
-    match write_picture(alloc, viewer, output) {
+    match write_picture(viewer, output) {
         Ok(()) => Ok(()),
         Err(fault) => Err(Failure::Fault(fault)),
     }
 }
 
 /// Writes what a viewer shows, as PPM.
-pub fn write_picture<W: Write>(alloc: Global, viewer: &Viewer, output: &mut W) -> Result<(), Fault>
+pub fn write_picture<W: Write>(viewer: &Viewer, output: &mut W) -> Result<(), Fault>
     ensures { OnOk result
         (WritesPicture viewer.now (W.contents output.old) (W.contents output.new)) }
 {
     let picture = viewer.picture().ok_or(Fault::NotReady)?;
-    write_pixmap(alloc, picture, output)?;
+    write_ppm(picture, output)?;
     Ok(())
 }

@@ -40,11 +40,11 @@ fn paint(y: usize, row: &mut [Colour]) {
 // The colour that a place begins with.
 fn pattern(x: usize, y: usize) -> Colour {
     let (x, y) = (low(x), low(y));
-    Colour {
-        r: x.wrapping_mul(4),
-        g: y.wrapping_mul(4),
-        b: x.wrapping_add(y).wrapping_mul(2),
-    }
+    Colour::of_bytes(
+        x.wrapping_mul(4),
+        y.wrapping_mul(4),
+        x.wrapping_add(y).wrapping_mul(2),
+    )
 }
 
 // A number modulo 256.
@@ -122,9 +122,6 @@ fn fill(server: &mut Server, rect: Rect, colour: Colour)
 
 // The colour that a step fills the last row with.
 fn colour_of(step: u8) -> Colour {
-    Colour {
-        r: if step % 2 == 1 { 255 } else { 0 },
-        g: 0,
-        b: step.wrapping_mul(16),
-    }
+    let red = if step % 2 == 1 { 255 } else { 0 };
+    Colour::of_bytes(red, 0, step.wrapping_mul(16))
 }

@@ -19,9 +19,10 @@
 //! settle                     eight times, all bytes reach the server, and then all the viewer
 //! ```
 //!
-//! Numbers are decimal, of 1 to 10 digits, up to 65,535, and N up to 4,294,967,295; a colour has
-//! six hexadecimal digits. F is rgb888, rgb565 or bgr233, and E raw, copyrect, rre or hextile.
-//! A script with any other line is bad. Whether a rectangle lies on the screen is not judged here.
+//! Numbers are decimal, of 1 to 10 digits, up to 65,535, and N up to 4,294,967,295. A colour has
+//! two hexadecimal digits for each component, which is 257 times as much, or four. F is rgb888,
+//! rgb565, bgr233 or rgb101010, and E raw, copyrect, rre or hextile. A script with any other line
+//! is bad. Whether a rectangle lies on the screen is not judged here.
 
 ghost use Rattle.std.specs.Prelude.{◌≡◌, [], None, IfOk, IfErr, MatchOption};
 ghost use Rattle.rfb.specs.declared.script.line.Line.TheVariants as Line;

@@ -7,9 +7,9 @@ ghost use Rattle.rfb_session.specs.InFlight.{AreMade};
 ghost use Rattle.rfb.specs.declared.fault.Failure.TheVariants as Failure;
 
 use crate::fault::{Failure, Fault};
-use crate::pixmap::write_pixmap;
 use crate::playing::{fresh_world, play};
 use crate::script::{Numbered, Script, read_script};
+use crate::writing::write_ppm;
 use rfb_session::{Refused, World};
 use std::alloc::Global;
 use std::io::{LineWriter, Read, Write};
@@ -65,7 +65,7 @@ fn finish<W: Write, E: Write>(
 {
     play_all(alloc, world, steps, errors)?;
     let picture = world.picture().ok_or(Fault::NotReady)?;
-    write_pixmap(alloc, picture, output)?;
+    write_ppm(picture, output)?;
     Ok(())
 }
 

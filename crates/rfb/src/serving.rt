@@ -1,10 +1,10 @@
 //! A server of the test scene, over sockets: one connection after another.
 
 use crate::fault::Failure;
-use crate::pixmap::write_whole;
 use crate::playing::fresh_server;
 use crate::scene::TestScene;
 use crate::script::Screen;
+use crate::writing::write_whole;
 use rfb_server::Server;
 use rfb_session::{EngineFault, Tally, serve};
 use std::alloc::Global;

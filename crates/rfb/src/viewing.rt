@@ -64,7 +64,7 @@ fn view_over<R: Read + Drop, V: Write + Drop, W: Write>(
         return record(reader, writer, &mut viewer, updates, output);
     }
     match watch(reader, writer, &mut viewer, updates) {
-        Ok(_updates) => show(alloc, &viewer, output),
+        Ok(_updates) => show(&viewer, output),
         Err(fault) => Err(Failure::Engine(fault)),
     }
 }

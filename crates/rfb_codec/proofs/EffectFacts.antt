@@ -19,7 +19,7 @@ abbrev black : Colour
 black = record { r = 0; g = 0; b = 0 }
 
 abbrev red : Colour
-red = record { r = 255; g = 0; b = 0 }
+red = record { r = 65535; g = 0; b = 0 }
 
 abbrev left_place : Rect
 left_place = record { x = 0; y = 0; w = 1; h = 1 }

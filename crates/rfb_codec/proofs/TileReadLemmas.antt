@@ -28,6 +28,11 @@ map-more : (g : ℕ) (xs : List Rect) (r : Rect) → map (in_pixel g) (xs ++ r �
 map-more g [] r = refl
 map-more g (x ∷ xs) r = ap (λ (ys : List Subrect). in_pixel g x ∷ ys) (map-more g xs r)
 
+-- no subrectangles
+pub subs_in-none : (f : PixelFormat) (g : ℕ) (colored : Bool) (list : List ℕ) → [] ≡ subs_in f g colored 0 list
+subs_in-none f g false list = refl
+subs_in-none f g true list = refl
+
 -- one subrectangle more
 pub subs_in-more : (f : PixelFormat) (g : ℕ) (colored : Bool) (n : ℕ) (list : List ℕ) → subs_in f g colored n list ++ sub_behind f g colored n list ∷ [] ≡ subs_in f g colored (n + 1) list
 subs_in-more f g false n list =

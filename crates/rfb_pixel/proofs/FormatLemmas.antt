@@ -12,9 +12,9 @@ use Rattle.byteorder.specs.Numbers.{big_from-bytes, big_from-take, little_from-b
 use Rattle.byteorder.proofs.Bytes.{pow256}
 use Rattle.rfb_pixel.specs.declared.colour.Colour.{Colour}
 use Rattle.rfb_pixel.specs.declared.channel.Channel.{Channel}
-use Rattle.rfb_pixel.specs.Channel.{max_of, IsField, IsInField, AgreeInField, held_in, field_for, component_in}
-use Rattle.rfb_pixel.specs.Format.{PixelFormat, IsFormat, IsColour, IsOutsideFields, FieldsHold, AgreeInFields, KeepsColours, FieldsKept, size_of, pixel_of, colour_of, pixel_bytes, pixel_number, rgb888, seen_through}
-use Rattle.rfb_pixel.proofs.ChannelLemmas.{rescaled-le, rescaled-back, max_of-odd, bit_at-held_in, held_in-is, bit_at-placed, bit_at-outside}
+use Rattle.rfb_pixel.specs.Channel.{max_of, IsField, IsInField, AgreeInField, held_in, rescaled, field_for, field_for_byte, component_in, seen_in_byte}
+use Rattle.rfb_pixel.specs.Format.{PixelFormat, IsFormat, IsColour, IsOutsideFields, FieldsHold, AgreeInFields, KeepsFullFields, FieldsKept, size_of, pixel_of, pixel_of_bytes, colour_of, colour_of_bytes, pixel_bytes, pixel_number, rgb888, seen_through, seen_in_bytes}
+use Rattle.rfb_pixel.proofs.ChannelLemmas.{rescaled-le, rescaled-same, rescaled-back, max_of-odd, bit_at-held_in, held_in-is, bit_at-placed, bit_at-outside}
 
 -- ---- bytes
 
@@ -72,10 +72,10 @@ pub same_colour : (a b : Colour) → a.r ≡ b.r → a.g ≡ b.g → a.b ≡ b.b
 same_colour a b red green blue = λ i. record { r = red i; g = green i; b = blue i }
 
 -- a component is rounded into its field
-pub field_for-lt : (bits : ℕ) (c : Channel) (component : ℕ) → IsField bits c → component ≤ 255 →
+pub field_for-lt : (bits : ℕ) (c : Channel) (component : ℕ) → IsField bits c → component ≤ 65535 →
     field_for c component < 2 ^ c.width
 field_for-lt bits c component ok small =
-    omega (arith, rescaled-le 255 (max_of c) component (omega arith) small, pow_pos c.width)
+    omega (arith, rescaled-le 65535 (max_of c) component (omega arith) small, pow_pos c.width)
 
 -- a bit of a pixel value: the greatest of the three fields' bits there
 bit_at-pixel_of : (f : PixelFormat) (c : Colour) (i : ℕ) →
@@ -146,7 +146,7 @@ pixel_of-fields f c ok small =
     }
 
 -- a field at its shift fits the pixel
-field-below : (bits : ℕ) (c : Channel) (component : ℕ) → IsField bits c → component ≤ 255 →
+field-below : (bits : ℕ) (c : Channel) (component : ℕ) → IsField bits c → component ≤ 65535 →
     field_for c component * 2 ^ c.shift < 2 ^ bits
 field-below bits c component ok small =
     let held = field_for-lt bits c component ok small in
@@ -189,41 +189,47 @@ colour_of-agree f p q same =
     let blue = held_in-agree 32 f.blue p q same.blue in
     rw (red, green, blue) refl
 
--- a component comes back as it was from a field at least as fine
-component-exact : (c : Channel) (component pixel : ℕ) → 1 ≤ c.width → 255 ≤ max_of c →
+-- a component is seen as it is through a field as fine as a component
+component-exact : (c : Channel) (component pixel : ℕ) → max_of c ≡ 65535 →
     held_in c pixel ≡ field_for c component → component_in c pixel ≡ component
-component-exact c component pixel some fine held =
-    rw held (rescaled-back 255 (max_of c) 127 (2 ^ (c.width - 1) - 1) component refl
-    (max_of-odd c.width some) fine)
+component-exact c component pixel full held =
+    rw (held, full) (rescaled-same 65535 (rescaled 65535 65535 component) (omega arith)
+    ∙ rescaled-same 65535 component (omega arith))
 
--- a colour comes back as it was where each field is at least as fine as a component
-pub seen_through-exact : (f : PixelFormat) (c : Colour) → IsFormat f → KeepsColours f → IsColour c →
-    seen_through f c ≡ c
-seen_through-exact f c ok fine small =
+-- a colour keeps the components whose fields are as fine
+pub seen_through-full : (f : PixelFormat) (c : Colour) → IsFormat f → IsColour c →
+    KeepsFullFields f c (seen_through f c)
+seen_through-full f c ok small =
     let held = pixel_of-fields f c ok small in
-    let red = component-exact f.red c.r (pixel_of f c) (omega (arith, ok.red)) fine.0 held.red in
-    let green = component-exact f.green c.g (pixel_of f c) (omega (arith, ok.green)) fine.1
-    held.green in
-    let blue = component-exact f.blue c.b (pixel_of f c) (omega (arith, ok.blue)) fine.2
-    held.blue in
-    same_colour (seen_through f c) c red green blue
+    record {
+      red = λ full. component-exact f.red c.r (pixel_of f c) full held.red;
+      green = λ full. component-exact f.green c.g (pixel_of f c) full held.green;
+      blue = λ full. component-exact f.blue c.b (pixel_of f c) full held.blue;
+    }
 
--- what a field no finer than a component holds comes back as it was
-field-kept : (c : Channel) (p q : ℕ) → 1 ≤ c.width → max_of c ≤ 255 →
+-- a component through a field of eight bits
+in_byte : (component : ℕ) → rescaled 255 65535 (rescaled 65535 255 component) ≡ seen_in_byte component
+in_byte component =
+    let held : (component * 255 + 32767) / 65535 ≡ (component + 128) / 257 = omega arith in
+    let shown : ((component + 128) / 257 * 65535 + 127) / 255 ≡ 257 * ((component + 128) / 257) = omega arith in
+    rw held shown
+
+-- what a field holds comes back as it was: no field is finer than a component
+field-kept : (c : Channel) (p q : ℕ) → 1 ≤ c.width → c.width ≤ 16 →
     held_in c q ≡ field_for c (component_in c p) → held_in c q ≡ held_in c p
-field-kept c p q some coarse held =
-    held ∙ rescaled-back (max_of c) 255 (2 ^ (c.width - 1) - 1) 127 (held_in c p)
-    (max_of-odd c.width some) refl coarse
+field-kept c p q some narrow held =
+    let wide : 2 ^ c.width ≤ 2 ^ 16 = pow_mono narrow in
+    held ∙ rescaled-back (max_of c) 65535 (2 ^ (c.width - 1) - 1) 32767 (held_in c p)
+    (max_of-odd c.width some) refl (omega (arith, wide))
 
--- a component is at most 255
-component_in-le : (bits : ℕ) (c : Channel) (p : ℕ) → IsField bits c → component_in c p ≤ 255
+-- a component is at most 65535
+component_in-le : (bits : ℕ) (c : Channel) (p : ℕ) → IsField bits c → component_in c p ≤ 65535
 component_in-le bits c p ok =
     let some = pow_below 0 c.width (omega arith) in
     let held = mod_below (p / 2 ^ c.shift) (2 ^ c.width) (pow_pos c.width) in
-    rescaled-le (max_of c) 255 (held_in c p) (omega arith) (omega arith)
+    rescaled-le (max_of c) 65535 (held_in c p) (omega arith) (omega arith)
 
--- a pixel value's colour has a pixel value that agrees in the fields that are
--- no finer than a component
+-- a pixel value's colour has a pixel value that agrees in the fields
 pub colour_of-kept : (f : PixelFormat) (p : ℕ) → IsFormat f →
     FieldsKept f p (pixel_of f (colour_of f p))
 colour_of-kept f p ok =
@@ -235,10 +241,25 @@ colour_of-kept f p ok =
     let held = pixel_of-fields f (colour_of f p) ok small in
     let q = pixel_of f (colour_of f p) in
     record {
-      red = λ coarse. field-kept f.red p q (omega (arith, ok.red)) coarse held.red;
-      green = λ coarse. field-kept f.green p q (omega (arith, ok.green)) coarse held.green;
-      blue = λ coarse. field-kept f.blue p q (omega (arith, ok.blue)) coarse held.blue;
+      red = field-kept f.red p q (omega (arith, ok.red)) (omega (arith, ok.red)) held.red;
+      green = field-kept f.green p q (omega (arith, ok.green)) (omega (arith, ok.green)) held.green;
+      blue = field-kept f.blue p q (omega (arith, ok.blue)) (omega (arith, ok.blue)) held.blue;
     }
+
+-- a component of eight bits, 257 times as much, has the field of the byte
+pub field_for_byte-same : (c : Channel) (byte : ℕ) → field_for c (257 * byte) ≡ field_for_byte c byte
+field_for_byte-same c byte =
+    let product : 257 * byte * max_of c ≡ 257 * (byte * max_of c) = omega arith in
+    rw product (of_product (byte * max_of c))
+  where
+    of_product : (n : ℕ) → (257 * n + 32767) / 65535 ≡ (n + 127) / 255
+    of_product n = omega arith
+
+-- so has a colour its pixel
+pub pixel_of_bytes-same : (f : PixelFormat) (r g b : ℕ) →
+    pixel_of f (colour_of_bytes r g b) ≡ pixel_of_bytes f r g b
+pixel_of_bytes-same f r g b =
+    rw (field_for_byte-same f.red r, field_for_byte-same f.green g, field_for_byte-same f.blue b) refl
 
 -- rgb888 is a format
 pub rgb888-is_format : IsFormat rgb888
@@ -252,6 +273,13 @@ rgb888-is_format = record {
   red_blue = λ i here there. omega arith;
   green_blue = λ i here there. omega arith;
 }
+
+-- a colour as rgb888 shows it
+pub seen_in_rgb888 : (c : Colour) → IsColour c → seen_through rgb888 c ≡ seen_in_bytes c
+seen_in_rgb888 c small =
+    let held = pixel_of-fields rgb888 c rgb888-is_format small in
+    same_colour (seen_through rgb888 c) (seen_in_bytes c)
+    (rw held.red (in_byte c.r)) (rw held.green (in_byte c.g)) (rw held.blue (in_byte c.b))
 
 -- what a pixel's bytes read as
 pub low_bits : (f : PixelFormat) (pixel : ℕ) (bytes : List ℕ) → bytes ≡ pixel_bytes f pixel →

@@ -2,3 +2,4 @@ pub mod ChannelLemmas
 pub mod FormatLemmas
 mod FieldsReadLemmas
 pub mod ReadingLemmas
+mod WideningLemmas

@@ -29,9 +29,17 @@ rescaled from to v = (v * to + (from - 1) / 2) / from
 abbrev pub field_for : Channel → ℕ → ℕ
 field_for c component = rescaled COMPONENT_MAX (max_of c) component
 
+-- the value that the field gets for a component of eight bits
+abbrev pub field_for_byte : Channel → ℕ → ℕ
+field_for_byte c byte = rescaled 255 (max_of c) byte
+
 -- the component that the field shows in a pixel value
 abbrev pub component_in : Channel → ℕ → ℕ
 component_in c pixel = rescaled (max_of c) COMPONENT_MAX (held_in c pixel)
+
+-- a component as a field of eight bits shows it: the nearest multiple of 257
+abbrev pub seen_in_byte : ℕ → ℕ
+seen_in_byte component = 257 * ((component + 128) / 257)
 
 -- two pixel values have the same bits in the field
 abbrev pub AgreeInField : Channel → ℕ → ℕ → Type 0

@@ -4,7 +4,7 @@ use Rattle.byteorder.specs.Endian.{big_bytes, big_number, little_bytes, little_n
 use Rattle.rfb_pixel.specs.declared.colour.Colour.{Colour}
 use Rattle.rfb_pixel.specs.declared.channel.Channel.{Channel}
 use Rattle.rfb_pixel.specs.declared.colour.TheConstants.{COMPONENT_MAX}
-use Rattle.rfb_pixel.specs.Channel.{max_of, IsField, IsInField, AgreeInField, held_in, field_for, component_in}
+use Rattle.rfb_pixel.specs.Channel.{max_of, IsField, IsInField, AgreeInField, held_in, field_for, field_for_byte, component_in, seen_in_byte}
 
 -- the fields of a PIXEL_FORMAT whose true-colour-flag is set
 pub record PixelFormat : Type 0 where
@@ -57,6 +57,17 @@ pixel_of f c =
     (bit_or (field_for f.red c.r * 2 ^ f.red.shift) (field_for f.green c.g * 2 ^ f.green.shift))
     (field_for f.blue c.b * 2 ^ f.blue.shift)
 
+-- the pixel value of three components of eight bits
+abbrev pub pixel_of_bytes : PixelFormat → ℕ → ℕ → ℕ → ℕ
+pixel_of_bytes f r g b =
+    bit_or
+    (bit_or (field_for_byte f.red r * 2 ^ f.red.shift) (field_for_byte f.green g * 2 ^ f.green.shift))
+    (field_for_byte f.blue b * 2 ^ f.blue.shift)
+
+-- the colour of three components of eight bits: each is 257 times as much
+abbrev pub colour_of_bytes : ℕ → ℕ → ℕ → Colour
+colour_of_bytes r g b = record { r = 257 * r; g = 257 * g; b = 257 * b }
+
 -- each number of a list fits the bytes of a pixel
 abbrev pub ArePixels : PixelFormat → List ℕ → Type 0
 ArePixels f pixels = (i : ℕ) → i < length pixels → slice_index pixels i < 2 ^ (8 * size_of f)
@@ -92,17 +103,21 @@ colour_of f p =
 abbrev pub seen_through : PixelFormat → Colour → Colour
 seen_through f c = colour_of f (pixel_of f c)
 
--- each field is fine enough for a colour to come back from a pixel value as it was
-abbrev pub KeepsColours : PixelFormat → Type 0
-KeepsColours f =
-    (COMPONENT_MAX ≤ max_of f.red) × (COMPONENT_MAX ≤ max_of f.green)
-    × (COMPONENT_MAX ≤ max_of f.blue)
+-- a colour as rgb888 shows it: each component is the nearest multiple of 257
+abbrev pub seen_in_bytes : Colour → Colour
+seen_in_bytes c = record { r = seen_in_byte c.r; g = seen_in_byte c.g; b = seen_in_byte c.b }
 
--- each field that is no finer than a component holds the same in q as in p
+-- a component whose field is as fine as a component is seen as it is
+pub record KeepsFullFields (f : PixelFormat) (c seen : Colour) : Type 0 where
+  pub red : max_of f.red ≡ COMPONENT_MAX → seen.r ≡ c.r
+  pub green : max_of f.green ≡ COMPONENT_MAX → seen.g ≡ c.g
+  pub blue : max_of f.blue ≡ COMPONENT_MAX → seen.b ≡ c.b
+
+-- each field holds the same in q as in p
 pub record FieldsKept (f : PixelFormat) (p q : ℕ) : Type 0 where
-  pub red : max_of f.red ≤ COMPONENT_MAX → held_in f.red q ≡ held_in f.red p
-  pub green : max_of f.green ≤ COMPONENT_MAX → held_in f.green q ≡ held_in f.green p
-  pub blue : max_of f.blue ≤ COMPONENT_MAX → held_in f.blue q ≡ held_in f.blue p
+  pub red : held_in f.red q ≡ held_in f.red p
+  pub green : held_in f.green q ≡ held_in f.green p
+  pub blue : held_in f.blue q ≡ held_in f.blue p
 
 -- the bytes of a pixel value on the wire; bits above the size are not sent
 abbrev pub pixel_bytes : PixelFormat → ℕ → List ℕ
@@ -150,4 +165,15 @@ bgr233 = record {
   red = record { width = 3; shift = 0 };
   green = record { width = 3; shift = 3 };
   blue = record { width = 2; shift = 6 };
+}
+
+-- 32 bits: two that mean nothing above ten of red, ten of green and ten of blue
+abbrev pub rgb101010 : PixelFormat
+rgb101010 = record {
+  bits_per_pixel = 32;
+  depth = 30;
+  big_endian = false;
+  red = record { width = 10; shift = 20 };
+  green = record { width = 10; shift = 10 };
+  blue = record { width = 10; shift = 0 };
 }

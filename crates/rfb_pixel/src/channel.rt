@@ -63,25 +63,26 @@ impl Channel {
     }
 
     /// A pixel value with this component in the field, and no other bit.
-    pub fn place(self, component: u8) -> u32
+    #[inline(always)]
+    pub fn place(self, component: u16) -> u32
         requires { IsField 32 self }
         ensures { result ≡ field_for self component * 2 ^ self.shift }
     {
-        rescale(u32::from(component), COMPONENT_MAX, self.max()) << self.shift
+        narrow(component, self.max()) << self.shift
     }
 
     /// The component that the field shows in a pixel value. The other bits are not looked at.
     #[inline(always)]
-    pub fn component(self, pixel: u32) -> u8
+    pub fn component(self, pixel: u32) -> u16
         requires { IsField 32 self }
         ensures { result ≡ component_in self pixel }
     {
         let max = self.max();
         let held = (pixel >> self.shift) & max;
-        if self.width <= 8 {
-            widen(self.width, held as u16)
+        if self.width <= WIDEST {
+            widen(self.width, held)
         } else {
-            rescale(held, max, COMPONENT_MAX) as u8
+            rescale(held, max, COMPONENT_MAX) as u16
         }
     }
 }
@@ -107,6 +108,18 @@ fn is_apart(a: Channel, b: Channel) -> bool
     a.end() <= u32::from(b.shift) || b.end() <= u32::from(a.shift)
 }
 
+/// A component as the nearest value of a field with this maximum.
+#[inline(always)]
+fn narrow(component: u16, max: u32) -> u32
+    requires { max < 2 ^ 16 }
+    ensures value { result ≡ rescaled COMPONENT_MAX max component }
+    ensures bound { result ≤ max }
+{
+    // The sum by `COMPONENT_MAX`, which is 2^16 - 1, without a division.
+    let sum = u32::from(component) * max + 32_767;
+    (sum + (sum >> 16) + 1) >> 16
+}
+
 /// A value out of `0..=from` as the nearest out of `0..=to`.
 fn rescale(value: u32, from: u32, to: u32) -> u32
     requires some { 0 < from }
@@ -116,31 +129,38 @@ fn rescale(value: u32, from: u32, to: u32) -> u32
     ensures value { result ≡ rescaled from to value }
     ensures bound { result ≤ to }
 {
-    // Where the two maxima are one, rounding leaves the value as it is, and no division is needed.
-    if from == to {
-        value
-    } else {
-        (value * to + (from - 1) / 2) / from
-    }
+    (value * to + (from - 1) / 2) / from
 }
 
-// What a value of a field is multiplied by to be a component, and what is added to that, in 256ths.
+// The widest field that has a factor.
+const WIDEST: u8 = 10;
+
+// What a value of a field is multiplied by to be a component, in 65,536ths, rounded to the nearest.
 // They stand by the field's width.
-const FACTORS: [u16; 9] = [0, 65_277, 21_757, 9_322, 4_349, 2_105, 1_036, 513, 256];
+const FACTORS: [u32; 11] = [
+    0,
+    4_294_901_760,
+    1_431_633_920,
+    613_557_394,
+    286_326_784,
+    138_545_218,
+    68_173_044,
+    33_818_124,
+    16_842_752,
+    8_404_896,
+    4_198_340,
+];
 
-const OFFSETS: [u16; 9] = [0, 3, 9, 132, 45, 140, 132, 192, 0];
-
-/// A value of a field of 1 to 8 bits as the nearest component. It is what `rescale` gives for each
-/// of them, without a division, and sixteen bits are enough for it.
+/// A value of a field of 1 to 10 bits as the nearest component. It is what `rescale` gives for each
+/// of them, without a division.
 #[inline(always)]
-fn widen(width: u8, value: u16) -> u8
+fn widen(width: u8, value: u32) -> u16
     requires some { 1 ≤ width }
-    requires few { width ≤ 8 }
+    requires few { width ≤ 10 }
     requires value { value < 2 ^ width }
     ensures { result ≡ rescaled (2 ^ width - 1) COMPONENT_MAX value }
 {
-    let at = usize::from(width);
-    ((value * FACTORS[at] + OFFSETS[at]) / 256) as u8
+    ((value * FACTORS[usize::from(width)] + 32_768) >> 16) as u16
 }
 
 #[cfg(test)]

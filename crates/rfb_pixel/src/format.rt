@@ -1,12 +1,13 @@
 //! True-colour pixel formats, RFC 6143 section 7.4.
 
-ghost use Rattle.std.specs.Prelude.{◌≡◌, ℕ, ◌*◌, ◌+◌, ◌%◌, ◌^◌, ◌<◌, length, IfOk, ◌≤◌, List};
+ghost use Rattle.std.specs.Prelude.{◌≡◌, ℕ, ◌*◌, ◌+◌, ◌%◌, ◌^◌, ◌<◌, length, IfOk, ◌≤◌, List, ◌∷◌, []};
 ghost use Rattle.std.specs.Result.{result_err};
 ghost use Rattle.std.specs.Int.{bit_at};
 ghost use Rattle.rfb_pixel.specs.Format.{pixel_format, IsPixelSize, size_of, pixel_of, colour_of};
 ghost use Rattle.rfb_pixel.specs.Format.{pixel_bytes, pixel_number, seen_through};
 ghost use Rattle.rfb_pixel.specs.Format.{IsColour, FieldsHold, IsOutsideFields, AgreeInFields};
-ghost use Rattle.rfb_pixel.specs.Format.{KeepsColours, FieldsKept};
+ghost use Rattle.rfb_pixel.specs.Format.{KeepsFullFields, FieldsKept};
+ghost use Rattle.rfb_pixel.specs.Format.{colour_of_bytes, pixel_of_bytes, seen_in_bytes};
 ghost use Rattle.rfb_pixel.specs.Reading.{AreBytes, Spells, Passes, IsFirstFault, first_fault};
 ghost use Rattle.rfb_pixel.specs.Reading.{fault_of_fields, format_bytes, number_at};
 ghost use Rattle.rfb_pixel.specs.inside.Fields.{HasWidth};
@@ -54,13 +55,14 @@ impl Model for Format {
 
 impl Format {
     ghost use Rattle.rfb_pixel.specs.declared.colour.Colour.{Colour};
-    ghost use Rattle.rfb_pixel.specs.Format.{PixelFormat, IsFormat, rgb888, rgb565, bgr233};
+    ghost use Rattle.rfb_pixel.specs.Format.{PixelFormat, IsFormat};
+    ghost use Rattle.rfb_pixel.specs.Format.{rgb888, rgb565, bgr233, rgb101010};
 
     /// 32 bits, little-endian: eight bits each of red, green and blue at shifts 16, 8 and 0.
-    /// A colour comes back from it as it was.
+    /// A component is seen through it as the nearest multiple of 257.
     pub fn rgb888() -> Format
         ensures value { result ≡ rgb888 }
-        ensures exact { (c : Colour) → IsColour c → seen_through result c ≡ c }
+        ensures seen { (c : Colour) → IsColour c → seen_through result c ≡ seen_in_bytes c }
     {
         Format {
             bits_per_pixel: 32,
@@ -107,6 +109,31 @@ impl Format {
         }
     }
 
+    /// 32 bits, little-endian: ten bits each of red, green and blue at shifts 20, 10 and 0.
+    pub fn rgb101010() -> Format
+        ensures value { result ≡ rgb101010 }
+        ensures bytes { format_bytes result ≡ 32 ∷ 30 ∷ 0 ∷ 1 ∷ 3 ∷ 255 ∷ 3 ∷ 255 ∷ 3 ∷ 255
+            ∷ 20 ∷ 10 ∷ 0 ∷ 0 ∷ 0 ∷ 0 ∷ [] }
+    {
+        Format {
+            bits_per_pixel: 32,
+            depth: 30,
+            big_endian: false,
+            red: Channel {
+                width: 10,
+                shift: 20,
+            },
+            green: Channel {
+                width: 10,
+                shift: 10,
+            },
+            blue: Channel {
+                width: 10,
+                shift: 0,
+            },
+        }
+    }
+
     /// The format that a PIXEL_FORMAT is. A flag is true where it is not zero, depth is kept and
     /// compared with bits-per-pixel alone, and padding is ignored. The error is the first check
     /// that fails, in the order of `FormatFault`.
@@ -142,6 +169,20 @@ impl Format {
     /// A law about `format_bytes`, with nothing to run: the bytes of a format encode it.
     pub fn bytes_of_a_format_spell_it()
         ensures { (f : PixelFormat) → IsFormat f → Spells f (format_bytes f) }
+    {}
+
+    /// A law about `pack` and `unpack`, with nothing to run: each field of a pixel value is what its
+    /// colour is packed to again.
+    pub fn fields_come_back_through_their_colour()
+        ensures { (f : PixelFormat) (p : ℕ) → IsFormat f →
+            FieldsKept f p (pixel_of f (colour_of f p)) }
+    {}
+
+    /// A law about `pack`, with nothing to run. A colour of components of eight bits, each 257 times
+    /// as much, has the pixel value of these bytes: each rounded into its field, out of 255.
+    pub fn components_of_a_byte_keep_their_pixel()
+        ensures { (f : PixelFormat) (r g b : ℕ) →
+            pixel_of f (colour_of_bytes r g b) ≡ pixel_of_bytes f r g b }
     {}
 
     // A format of a red, a green and a blue field, if they lie in the pixel and share no bit.
@@ -222,11 +263,12 @@ impl Format {
 
     /// The pixel value of a colour. It fits the format's size, and bits outside
     /// the three fields are zero.
+    #[inline(always)]
     pub fn pack(&self, colour: Colour) -> u32
         ensures value { result ≡ pixel_of self.now colour }
         ensures fields { FieldsHold self.now colour result }
         ensures outside { (i : ℕ) → IsOutsideFields self.now i → bit_at result i ≡ 0 }
-        ensures exact { KeepsColours self.now → colour_of self.now result ≡ colour }
+        ensures exact { KeepsFullFields self.now colour (colour_of self.now result) }
         ensures bound { result < 2 ^ (8 * size_of self.now) }
     {
         self.red.place(colour.r) | self.green.place(colour.g) | self.blue.place(colour.b)
@@ -238,7 +280,6 @@ impl Format {
         ensures value { result ≡ colour_of self.now pixel }
         ensures ignored { (other : ℕ) → AgreeInFields self.now pixel other →
             result ≡ colour_of self.now other }
-        ensures kept { FieldsKept self.now pixel (pixel_of self.now result) }
     {
         Colour {
             r: self.red.component(pixel),

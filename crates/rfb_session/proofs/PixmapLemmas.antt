@@ -1,7 +1,9 @@
 -- The bytes of a pixmap's places, one row after the other.
 use Rattle.std.proofs.Common.{◌≡◌, ℕ, ◌+◌, ◌-◌, ◌*◌, List, [], ◌∷◌, ◌++◌, length, length-drop, take, take-add, drop, refl, ap, sym, ◌∙◌, arith}
 use Rattle.std.proofs.Common.{Option, subst, append-nil, append_assoc, take-append-drop}
+use Rattle.std.proofs.Common.{slice_index_or, ◌≤◌, ◌<◌, length-append, length-take}
 use Rattle.std.proofs.lemmas.List.{take_all}
+use Rattle.byteorder.specs.Endian.{big_bytes}
 use Rattle.std.specs.Io.KnownBytes.{Appends}
 use Rattle.rfb_picture.specs.Grid.{Grid}
 use Rattle.rfb_pixel.specs.declared.colour.Colour.{Colour}
@@ -9,10 +11,14 @@ use Rattle.rfb_session.specs.Pixmap.{components, header, header_of, pixmap}
 use Rattle.rfb_session.specs.Devices.{AppendsBeginning, AppendsUpTo}
 use Rattle.rfb_session.proofs.WrittenLemmas.{none_written, then_written, more_waits, then_all, then_stopped, beginning_more}
 
+-- the bytes of a colour, before others
+abbrev pub with_colour : Colour → List ℕ → List ℕ
+with_colour c more = big_bytes 2 c.r ++ (big_bytes 2 c.g ++ (big_bytes 2 c.b ++ more))
+
 pub components-append : (xs ys : List Colour) → components (xs ++ ys) ≡ components xs ++ components ys
 unfolding components
 components-append [] ys = refl
-components-append (c ∷ cs) ys = ap (λ (l : List ℕ). c.r ∷ c.g ∷ c.b ∷ l) (components-append cs ys)
+components-append (c ∷ cs) ys = ap (with_colour c) (components-append cs ys)
 
 -- The bytes of the rows so far and those of the next row are the bytes of one row more.
 pub components_more : (places row : List Colour) (bytes : List ℕ) (y width w : ℕ) → w ≡ width → row ≡ take w (drop (y * width + 0) places) → bytes ≡ components row → components (take (y * width) places) ++ bytes ≡ components (take ((y + 1) * width) places)
@@ -72,19 +78,59 @@ pub components_nil : components [] ≡ []
 unfolding components
 components_nil = refl
 
--- the components of one colour more
-pub components_push : (colours : List Colour) (colour : Colour) → components (colours ++ colour ∷ []) ≡ components colours ++ colour.r ∷ colour.g ∷ colour.b ∷ []
+-- the bytes of one colour, two by two
+pub colour_bytes : (c : Colour) (r g b : List ℕ) → r ≡ big_bytes 2 c.r → g ≡ big_bytes 2 c.g → b ≡ big_bytes 2 c.b →
+    slice_index_or r 0 0 ∷ slice_index_or r 1 0 ∷ slice_index_or g 0 0 ∷ slice_index_or g 1 0 ∷ slice_index_or b 0 0
+    ∷ slice_index_or b 1 0 ∷ [] ≡ components (c ∷ [])
 unfolding components
-components_push [] colour = refl
-components_push (c ∷ colours) colour = ap (λ (l : List ℕ). c.r ∷ c.g ∷ c.b ∷ l) (components_push colours colour)
+colour_bytes c r g b er eg eb = rw (er, eg, eb) refl
 
--- three bytes more
-pub three_more : (bytes one two three before : List ℕ) (colours now : List Colour) (colour : Colour) → bytes ≡ before ++ components colours → one ≡ bytes ++ colour.r ∷ [] → two ≡ one ++ colour.g ∷ [] → three ≡ two ++ colour.b ∷ [] → now ≡ colours ++ colour ∷ [] → three ≡ before ++ components now
-three_more bytes one two three before colours now colour so_far r g b is =
-    b ∙ ap (λ (l : List ℕ). l ++ colour.b ∷ []) g ∙ ap (λ (l : List ℕ). (l ++ colour.g ∷ []) ++ colour.b ∷ []) r
-    ∙ append_assoc (bytes ++ colour.r ∷ []) (colour.g ∷ []) (colour.b ∷ []) ∙ append_assoc bytes (colour.r ∷ []) (colour.g ∷ colour.b ∷ [])
-    ∙ ap (λ (l : List ℕ). l ++ colour.r ∷ colour.g ∷ colour.b ∷ []) so_far ∙ append_assoc before (components colours) (colour.r ∷ colour.g ∷ colour.b ∷ [])
-    ∙ ap (λ (l : List ℕ). before ++ l) (sym (components_push colours colour)) ∙ ap (λ (l : List Colour). before ++ components l) (sym is)
+-- a colour has six bytes
+pub components_len : (colours : List Colour) → length (components colours) ≡ 6 * length colours
+unfolding components
+components_len [] = refl
+components_len (c ∷ colours) = let more = components_len colours in omega (arith, more)
+
+-- behind fewer than eight colours there is room for one more
+pub room_for_one : (before waiting bytes : List ℕ) (colours : List Colour) (c : Colour) (k : ℕ) →
+    length before + 48 ≤ 8192 → length colours < 8 → k < length colours →
+    waiting ≡ before ++ components (take k colours) → bytes ≡ components (c ∷ []) →
+    length waiting + length bytes ≤ 8192
+room_for_one before waiting bytes colours c k room few more so_far is =
+    let all : length waiting ≡ length before + length (components (take k colours)) =
+    rw so_far (length-append before (components (take k colours))) in
+    let one : length bytes ≡ 6 * length (c ∷ []) = rw is (components_len (c ∷ [])) in
+    omega (arith, room, few, more, all, one, components_len (take k colours), length-take k colours)
+
+-- the six bytes of a list, one by one, before others
+abbrev pub six_of : List ℕ → List ℕ → List ℕ
+six_of xs more =
+    slice_index_or xs 0 0 ∷ slice_index_or xs 1 0 ∷ slice_index_or xs 2 0 ∷ slice_index_or xs 3 0
+    ∷ slice_index_or xs 4 0 ∷ slice_index_or xs 5 0 ∷ more
+
+six_are : (bytes more : List ℕ) (c : Colour) → bytes ≡ components (c ∷ []) → six_of bytes more ≡ with_colour c more
+unfolding components
+six_are bytes more c is = rw is refl
+
+-- the components of eight
+pub components_eight : (xs : List Colour) (none : Colour) (a b c d e f g h : List ℕ) → length xs ≡ 8 →
+    a ≡ components (slice_index_or xs 0 none ∷ []) → b ≡ components (slice_index_or xs 1 none ∷ []) →
+    c ≡ components (slice_index_or xs 2 none ∷ []) → d ≡ components (slice_index_or xs 3 none ∷ []) →
+    e ≡ components (slice_index_or xs 4 none ∷ []) → f ≡ components (slice_index_or xs 5 none ∷ []) →
+    g ≡ components (slice_index_or xs 6 none ∷ []) → h ≡ components (slice_index_or xs 7 none ∷ []) →
+    six_of a (six_of b (six_of c (six_of d (six_of e (six_of f (six_of g (six_of h []))))))) ≡ components xs
+unfolding components
+components_eight (p ∷ q ∷ r ∷ s ∷ t ∷ u ∷ v ∷ w ∷ []) none a b c d e f g h many ea eb ec ed ee ef eg eh =
+    rw (ea, eb, ec, ed, ee, ef, eg, eh) refl
+components_eight [] none a b c d e f g h many ea eb ec ed ee ef eg eh = absurd (omega (arith, many))
+components_eight (p ∷ []) none a b c d e f g h many ea eb ec ed ee ef eg eh = absurd (omega (arith, many))
+components_eight (p ∷ q ∷ []) none a b c d e f g h many ea eb ec ed ee ef eg eh = absurd (omega (arith, many))
+components_eight (p ∷ q ∷ r ∷ []) none a b c d e f g h many ea eb ec ed ee ef eg eh = absurd (omega (arith, many))
+components_eight (p ∷ q ∷ r ∷ s ∷ []) none a b c d e f g h many ea eb ec ed ee ef eg eh = absurd (omega (arith, many))
+components_eight (p ∷ q ∷ r ∷ s ∷ t ∷ []) none a b c d e f g h many ea eb ec ed ee ef eg eh = absurd (omega (arith, many))
+components_eight (p ∷ q ∷ r ∷ s ∷ t ∷ u ∷ []) none a b c d e f g h many ea eb ec ed ee ef eg eh = absurd (omega (arith, many))
+components_eight (p ∷ q ∷ r ∷ s ∷ t ∷ u ∷ v ∷ []) none a b c d e f g h many ea eb ec ed ee ef eg eh = absurd (omega (arith, many))
+components_eight (p ∷ q ∷ r ∷ s ∷ t ∷ u ∷ v ∷ w ∷ x ∷ xs) none a b c d e f g h many ea eb ec ed ee ef eg eh = absurd (omega (arith, many))
 
 -- the components of no colour yet
 pub no_components : (before : List ℕ) → before ++ components [] ≡ before
@@ -98,27 +144,35 @@ components_split before colours n =
     ∙ ap (λ (l : List ℕ). before ++ l) (components-append (take n colours) (drop n colours))
     ∙ sym (append_assoc before (components (take n colours)) (components (drop n colours)))
 
--- the components of some colours more wait behind the others, once there is room
-pub gathered_piece : (old mid new : Option (List ℕ)) (before waiting roomy bytes slice text : List ℕ)
+-- the components of some colours more stand behind the others
+pub more_components : (before bytes new : List ℕ) (colours more now : List Colour) → bytes ≡ before ++ components colours →
+    new ≡ bytes ++ components more → now ≡ colours ++ more → new ≡ before ++ components now
+more_components before bytes new colours more now so_far is all =
+    is ∙ ap (λ (l : List ℕ). l ++ components more) so_far ∙ append_assoc before (components colours) (components more)
+    ∙ ap (λ (l : List ℕ). before ++ l) (sym (components-append colours more))
+    ∙ ap (λ (l : List Colour). before ++ components l) (sym all)
+
+-- they wait behind the others, once there is room
+pub gathered_piece : (old mid new : Option (List ℕ)) (before waiting roomy bytes text : List ℕ)
     (colours piece now : List Colour) → AppendsUpTo old mid (before ++ components colours) waiting →
-    AppendsUpTo mid new waiting roomy → bytes ≡ components piece → slice ≡ bytes → text ≡ roomy ++ slice →
+    AppendsUpTo mid new waiting roomy → bytes ≡ components piece → text ≡ roomy ++ bytes →
     colours ++ piece ≡ now → AppendsUpTo old new (before ++ components now) text
-gathered_piece old mid new before waiting roomy bytes slice text colours piece now so_far room put lent all is =
+gathered_piece old mid new before waiting roomy bytes text colours piece now so_far room put all is =
     let parts : (before ++ components colours) ++ components piece ≡ before ++ components now =
     append_assoc before (components colours) (components piece)
     ∙ ap (λ (l : List ℕ). before ++ l) (sym (components-append colours piece))
     ∙ ap (λ (l : List Colour). before ++ components l) is in
-    let items : text ≡ roomy ++ components piece = all ∙ ap (λ (l : List ℕ). roomy ++ l) (lent ∙ put) in
+    let items : text ≡ roomy ++ components piece = all ∙ ap (λ (l : List ℕ). roomy ++ l) put in
     subst (λ (l : List ℕ). AppendsUpTo old new (before ++ components now) l) (sym items)
     (subst (λ (l : List ℕ). AppendsUpTo old new l (roomy ++ components piece)) parts
     (more_waits old new (before ++ components colours) roomy (components piece)
     (then_written old mid new (before ++ components colours) waiting roomy so_far room)))
 
--- the next sixteen, and all that are left
-pub sixteen_more : (colours : List Colour) (n : ℕ) →
-    take n colours ++ take (n + 16 - n) (drop n colours) ≡ take (n + 16) colours
-sixteen_more colours n =
-    let e : n + 16 - n ≡ 16 = omega arith in
+-- the next eight, and all that are left
+pub eight_more : (colours : List Colour) (n : ℕ) →
+    take n colours ++ take (n + 8 - n) (drop n colours) ≡ take (n + 8) colours
+eight_more colours n =
+    let e : n + 8 - n ≡ 8 = omega arith in
     rw (e, take-add) refl
 
 pub rest_more : (colours : List Colour) (n : ℕ) →

@@ -1,6 +1,8 @@
 -- What was written to a sink of some bytes; and a reader or writer with a count of its failures.
 use Rattle.std.specs.Prelude.{◌≡◌, ℕ, List, ◌++◌, Option}
 use Rattle.std.specs.Io.KnownBytes.{Appends}
+use Rattle.std.specs.Borrow.{GName}
+use Rattle.rfb_session.specs.declared.engine.lent.Lent.{Lent}
 use Rattle.rfb_session.specs.declared.engine.tally.Tally.{Tally}
 
 -- what is known of a sink's bytes grew by a text, up to a rest of it
@@ -19,3 +21,14 @@ counted tally = tally.failures
 
 abbrev pub within : {T : Type 0} → Tally T → T
 within tally = tally.inner
+
+-- how many failures were counted of a writer that was lent, that one itself, and the name of the
+-- reference to it
+abbrev pub lent_failures : {W : Type 0} → Lent W → ℕ
+lent_failures lent = lent.failures
+
+abbrev pub lent_writer : {W : Type 0} → Lent W → W
+lent_writer lent = lent.writer.now
+
+abbrev pub lent_name : {W : Type 0} → Lent W → GName
+lent_name lent = lent.writer.ghost_name

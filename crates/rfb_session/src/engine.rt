@@ -2,6 +2,7 @@
 
 mod device;
 mod fault;
+mod lent;
 mod nowhere;
 mod pixmap;
 mod playing;
@@ -16,10 +17,12 @@ mod viewing;
 
 pub use device::{Sink, Source};
 pub use fault::{Device, EngineFault};
+pub use lent::Lent;
 pub use pixmap::ppm;
 pub use playing::play;
 pub use playing_some::play_some;
 pub use scene::Scene;
+pub use sending::send;
 pub use serving::serve;
 pub use tally::Tally;
 pub use viewing::{view, view_recording};

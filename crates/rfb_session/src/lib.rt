@@ -16,7 +16,7 @@ mod told;
 mod world;
 
 pub use engine::{
-    Device, EngineFault, Scene, Sink, Source, Tally, play, play_some, ppm, serve, view,
+    Device, EngineFault, Lent, Scene, Sink, Source, Tally, play, play_some, ppm, send, serve, view,
     view_recording,
 };
 pub use event::Event;

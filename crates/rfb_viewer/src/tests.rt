@@ -25,9 +25,17 @@ use std::alloc::{AllocError, Global};
 const BLACK: Colour = Colour { r: 0, g: 0, b: 0 };
 
 // Pixels 10 and 20 at bgr233: 2 and 4 sevenths of green, rounded.
-const TEN: Colour = Colour { r: 0, g: 73, b: 0 };
+const TEN: Colour = Colour {
+    r: 0,
+    g: 18_724,
+    b: 0,
+};
 
-const TWENTY: Colour = Colour { r: 0, g: 146, b: 0 };
+const TWENTY: Colour = Colour {
+    r: 0,
+    g: 37_449,
+    b: 0,
+};
 
 // A viewer of shared screens of up to 1,024 places that takes Raw, and keeps four bytes of a text.
 fn viewer(alloc: Global, format: Format, limit: Version) -> Viewer {

@@ -3,7 +3,7 @@
 ghost use Rattle.std.specs.Prelude.{OnOk};
 ghost use Rattle.std.specs.Io.KnownBytes.{Appends, Consumes};
 
-use crate::pixmap::write_whole;
+use crate::writing::write_whole;
 use std::io;
 use std::io::{ErrorKind, Read, Write};
 use std::net::{Net, OpenListener, OpenStream, TcpListener, TcpStream};
@@ -57,8 +57,10 @@ fn carry<C: Read + Write>(bytes: &mut [u8], from: &mut C, to: &mut C) -> io::Res
     ensures sent { OnOk result (Appends (C.contents from.old) (C.contents from.new) bytes.old) }
     ensures came { OnOk result (Consumes (C.remaining to.old) (C.remaining to.new) bytes.new) }
 {
-    write_whole(bytes, from)?;
-    read_whole(bytes, to)
+    match write_whole(bytes, from) {
+        Ok(()) => read_whole(bytes, to),
+        Err(_) => Err(io::Error::from(ErrorKind::WriteZero)),
+    }
 }
 
 // Reads as many bytes as there is room for. A read that fails is not tried again, whatever its

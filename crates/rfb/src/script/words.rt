@@ -3,10 +3,11 @@
 ghost use Rattle.std.specs.Prelude.{◌≡◌, ◌≢◌, ◌<◌, ◌↔◌, ◌∷◌, [], ℕ, Ok, IfSome, IsSome, List, MatchOption, length};
 ghost use Rattle.std.specs.List.{AllPass};
 ghost use Rattle.std.specs.Str.Parse.{digits_value};
-ghost use Rattle.hex.specs.Hex.{decode_of, is_hex_digit};
+ghost use Rattle.hex.specs.Hex.{is_hex_digit};
 ghost use Rattle.rfb_pixel.specs.Format.{PixelFormat};
 ghost use Rattle.rfb_wire.specs.declared.encoding.Encoding.{Encoding};
 ghost use Rattle.rfb.specs.Words.{AreEncodings, AreNumbers, AreRect, IsFormatWord, IsSide, name_of, parts_of, texts};
+ghost use Rattle.rfb.specs.Words.{IsColourText, SaysBytes, SaysColour, SaysComponents};
 
 use crate::script::number::read_number;
 use arrayvec::ArrayVec;
@@ -23,6 +24,8 @@ const RGB888: &[u8] = b"rgb888";
 const RGB565: &[u8] = b"rgb565";
 
 const BGR233: &[u8] = b"bgr233";
+
+const RGB101010: &[u8] = b"rgb101010";
 
 const RAW: &[u8] = b"raw";
 
@@ -53,14 +56,38 @@ pub fn read_rect(x: &[u8], y: &[u8], w: &[u8], h: &[u8]) -> Option<Rect>
     })
 }
 
-/// Six hexadecimal digits of either case.
+/// A colour: hexadecimal digits of either case, two for each component or four.
 pub fn read_colour(word: &[u8]) -> Option<Colour>
-    ensures value { IfSome result (λ colour.
-        decode_of word.now ≡ Ok (colour.r ∷ colour.g ∷ colour.b ∷ [])) }
+    ensures value { IfSome result (SaysColour word.now) }
+    ensures found { IsSome result ↔ (IsColourText word.now) }
+{
+    match word.len() {
+        6 => read_bytes(word),
+        12 => read_components(word),
+        _ => None,
+    }
+}
+
+// Six digits: the bytes of red, green and blue.
+fn read_bytes(word: &[u8]) -> Option<Colour>
+    ensures value { IfSome result (SaysBytes word.now) }
     ensures found { IsSome result ↔ ((length word.now ≡ 6) × AllPass is_hex_digit word.now) }
 {
     let [r, g, b] = <[u8; 3] as FromHex>::from_hex(word).ok()?;
-    Some(Colour { r, g, b })
+    Some(Colour::of_bytes(r, g, b))
+}
+
+// Twelve digits: red, green and blue.
+fn read_components(word: &[u8]) -> Option<Colour>
+    ensures value { IfSome result (SaysComponents word.now) }
+    ensures found { IsSome result ↔ ((length word.now ≡ 12) × AllPass is_hex_digit word.now) }
+{
+    let [r, low_r, g, low_g, b, low_b] = <[u8; 6] as FromHex>::from_hex(word).ok()?;
+    Some(Colour {
+        r: u16::from(r) * 256 + u16::from(low_r),
+        g: u16::from(g) * 256 + u16::from(low_g),
+        b: u16::from(b) * 256 + u16::from(low_b),
+    })
 }
 
 /// A format, by its name.
@@ -76,6 +103,9 @@ pub fn read_format(word: &[u8]) -> Option<Format>
     }
     if word == BGR233 {
         return Some(Format::bgr233());
+    }
+    if word == RGB101010 {
+        return Some(Format::rgb101010());
     }
     None
 }

@@ -39,7 +39,7 @@ settle
 ";
 
 /// The picture of two places, of which the left one is filled.
-pub const LEFT_PLACE_FILLED: &[u8] = b"P6\n2 1\n255\n\xFF\x80\x01\0\0\0";
+pub const LEFT_PLACE_FILLED: &[u8] = b"P6\n2 1\n65535\n\xFF\xFF\x80\x80\x01\x01\0\0\0\0\0\0";
 
 /// A call of `command` with these words and this input.
 pub fn call(rt: &HostRuntime, words: &[&str], mut input: &[u8]) -> Ended {

@@ -130,13 +130,13 @@ line 5: refused 27 AreaOutside
     assert_eq!(rt; status, 0);
 }
 
-// Outputs that fail at a picture of 12,301 bytes or before.
+// Outputs that fail at a picture of 24,591 bytes or before.
 const FAILING_OUTPUTS: [(usize, bool); 6] = [
     (0, true),
     (5, true),
     (8_192, true),
-    (12_300, true),
-    (12_301, false),
+    (24_590, true),
+    (24_591, false),
     (usize::MAX, false),
 ];
 

@@ -4,7 +4,7 @@ use super::calls::{FILL_LEFT_PLACE, LEFT_PLACE_FILLED, run, run_all};
 use std::test::Fail;
 
 // Lines that are bad wherever they stand after the first, each for one reason.
-const BAD_LINES: [&[u8]; 82] = [
+const BAD_LINES: [&[u8]; 86] = [
     // No keyword, or none that is known.
     b"paint 0 0 1 1 FF8001",
     b"Fill 0 0 1 1 FF8001",
@@ -15,6 +15,7 @@ const BAD_LINES: [&[u8]; 82] = [
     b"request 0 0 2 1",
     b"format RGB565",
     b"format rgb555",
+    b"format rgb10101",
     b"format raw",
     // A screen is there already, and the viewer's line is not the second.
     b"screen 2 1",
@@ -91,6 +92,9 @@ const BAD_LINES: [&[u8]; 82] = [
     b"fill 0 0 1 1 FF800",
     b"fill 0 0 1 1 FF80011",
     b"fill 0 0 1 1 FF800100",
+    b"fill 0 0 1 1 FFFF8080010",
+    b"fill 0 0 1 1 FFFF808001011",
+    b"fill 0 0 1 1 FFFF8080010G",
     b"fill 0 0 1 1 #F8001",
     b"fill 0 0 1 1 FG8001",
     b"fill 0 0 1 1 0xFF80",
@@ -162,12 +166,15 @@ fn the_first_bad_line_is_told_by_its_number(rt: HostRuntime) -> Result<(), Fail>
     Ok(())
 }
 
-const SPELLINGS: [&[u8]; 6] = [
+const SPELLINGS: [&[u8]; 7] = [
     FILL_LEFT_PLACE,
     b"screen 2 1\nfill 0 0 1 1 ff8001\nsettle\nrequest full 0 0 2 1
 settle\ncompose\nsettle",
     b"\n\nscreen 0000000002 01\n\nfill 00 0000000000 0000000001 001 fF8001\n\n\nsettle
 request full 000 0 02 1\nsettle\ncompose\nsettle\n\n\n",
+    // All four digits of each component.
+    b"screen 2 1\nfill 0 0 1 1 FfFf80800101\nsettle\nrequest full 0 0 2 1
+settle\ncompose\nsettle\n",
     // The viewer's line says what holds without it, or names an encoding again.
     b"screen 2 1\nviewer rgb888 raw\nfill 0 0 1 1 FF8001\nsettle
 request full 0 0 2 1\nsettle\ncompose\nsettle\n",
@@ -188,9 +195,9 @@ fn each_spelling_of_a_script_is_read(rt: HostRuntime) {
 }
 
 const SIDES: [(&[u8], &[u8], usize); 3] = [
-    (b"screen 1 1\nsettle\n", b"P6\n1 1\n255\n", 14),
-    (b"screen 4096 1\nsettle\n", b"P6\n4096 1\n255\n", 12_302),
-    (b"screen 1 4096\nsettle\n", b"P6\n1 4096\n255\n", 12_302),
+    (b"screen 1 1\nsettle\n", b"P6\n1 1\n65535\n", 19),
+    (b"screen 4096 1\nsettle\n", b"P6\n4096 1\n65535\n", 24_592),
+    (b"screen 1 4096\nsettle\n", b"P6\n1 4096\n65535\n", 24_592),
 ];
 
 #[test]

@@ -54,8 +54,8 @@ compose
 settle
 ";
 
-// The left place, (255, 128, 1), as rgb565 has it.
-const SEEN_AT_RGB565: &[u8] = b"P6\n2 1\n255\n\xFF\x82\0\0\0\0";
+// The left place, of the bytes (255, 128, 1), as rgb565 has it.
+const SEEN_AT_RGB565: &[u8] = b"P6\n2 1\n65535\n\xFF\xFF\x82\x08\0\0\0\0\0\0\0\0";
 
 #[test]
 fn an_update_cut_anywhere_goes_through_a_connection(rt: HostRuntime) -> Result<(), Fail> {
@@ -90,13 +90,13 @@ settle
 fn a_large_update_goes_through_in_parts(rt: HostRuntime) {
     let ended = run(&rt, LARGE);
     assert!(rt; ended.tells(0, b""));
-    assert!(rt; ended.output.starts_with(b"P6\n128 96\n255\n\x01"));
-    assert_eq!(rt; ended.output.len(), 14 + 3 * 128 * 96);
+    assert!(rt; ended.output.starts_with(b"P6\n128 96\n65535\n\x01"));
+    assert_eq!(rt; ended.output.len(), 16 + 6 * 128 * 96);
     assert!(rt;
         ended
             .output
             .iter()
-            .skip(14)
+            .skip(16)
             .all(|component| *component == 1)
     );
 }
@@ -119,7 +119,7 @@ fn a_script_that_leads_to_no_picture_writes_none(rt: HostRuntime) {
 
 #[test]
 fn a_failing_output_ends_a_script_over_a_connection(rt: HostRuntime) {
-    for (room, can_flush) in [(0, true), (5, true), (16, true), (17, false)] {
+    for (room, can_flush) in [(0, true), (5, true), (24, true), (25, false)] {
         let words = LOOP.as_slice();
         let ended = call_to_failing_output(&rt, words, FILL_LEFT_PLACE, room, can_flush);
         assert!(rt; ended.tells(1, b"fault 29 Device\n"), "room {room}");

@@ -18,13 +18,13 @@ const RECTANGLE: [&[u8; 7]; 6] = [
 
 #[test]
 fn each_number_of_a_line_has_its_own_place(rt: HostRuntime) -> Result<(), Fail> {
-    let mut shown = b"P6\n7 6\n255\n".to_vec(rt.alloc())?;
+    let mut shown = b"P6\n7 6\n65535\n".to_vec(rt.alloc())?;
     for row in RECTANGLE {
         for place in row {
             let colour = if *place == b'#' {
-                b"\xFF\x80\x01"
+                b"\xFF\xFF\x80\x80\x01\x01"
             } else {
-                b"\0\0\0"
+                b"\0\0\0\0\0\0"
             };
             shown.extend_from_slice(colour.as_slice())?;
         }
@@ -119,12 +119,12 @@ fn without_a_picture_nothing_is_written(rt: HostRuntime) {
     assert!(rt; ended.is(1, b"", b"fault 25 NotReady\n"));
 }
 
-// The colour of a place of a picture of 4,096 by 4,096, whose header has 17 bytes.
+// The colour of a place of a picture of 4,096 by 4,096, whose header has 19 bytes.
 fn colour_at(ended: &Ended, x: usize, y: usize) -> Option<&[u8]>
     requires { (x < 4096) × (y < 4096) }
 {
-    let (_, colour) = ended.output.split_at_checked(17 + 3 * (4_096 * y + x))?;
-    colour.get(..3)
+    let (_, colour) = ended.output.split_at_checked(19 + 6 * (4_096 * y + x))?;
+    colour.get(..6)
 }
 
 #[test]
@@ -141,13 +141,13 @@ settle
     let ended = run(&rt, script);
     assert_eq!(rt; ended.errors.as_slice(), b"".as_slice());
     assert_eq!(rt; ended.status, 0);
-    assert_eq!(rt; ended.output.len(), 50_331_665);
+    assert_eq!(rt; ended.output.len(), 100_663_315);
     assert_eq!(rt;
-        ended.output.get(..17),
-        Some(b"P6\n4096 4096\n255\n".as_slice())
+        ended.output.get(..19),
+        Some(b"P6\n4096 4096\n65535\n".as_slice())
     );
-    let upper = Some(b"\xFF\x80\x01".as_slice());
-    let lower = Some(b"\x01\x80\xFF".as_slice());
+    let upper = Some(b"\xFF\xFF\x80\x80\x01\x01".as_slice());
+    let lower = Some(b"\x01\x01\x80\x80\xFF\xFF".as_slice());
     for (x, y, colour) in [
         (0, 0, upper),
         (4_095, 0, upper),

@@ -14,7 +14,10 @@ const PLAY_BGR233: [&str; 4] = ["rfb", "play", "--format", "bgr233"];
 fn a_recording_shows_its_last_picture(rt: HostRuntime) {
     for (recording, picture) in [
         (SERVER, PICTURE),
-        (HANDSHAKE, b"P6\n2 1\n255\n\0\0\0\0\0\0".as_slice()),
+        (
+            HANDSHAKE,
+            b"P6\n2 1\n65535\n\0\0\0\0\0\0\0\0\0\0\0\0".as_slice(),
+        ),
     ] {
         let ended = call(&rt, PLAY.as_slice(), recording);
         assert!(rt; ended.is(0, picture, b""));
@@ -72,7 +75,7 @@ fn a_failing_read_ends_a_recording(rt: HostRuntime) {
 
 #[test]
 fn a_failing_output_ends_a_recording(rt: HostRuntime) {
-    for (room, can_flush) in [(0, true), (5, true), (16, true), (17, false)] {
+    for (room, can_flush) in [(0, true), (5, true), (24, true), (25, false)] {
         let ended = call_to_failing_output(&rt, PLAY.as_slice(), SERVER, room, can_flush);
         assert!(rt; ended.tells(1, b"fault 29 Device\n"));
     }

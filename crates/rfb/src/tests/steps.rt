@@ -23,8 +23,8 @@ compose
 settle
 ";
 
-// The left place, (255, 128, 1), as rgb565 has it.
-const SEEN_AT_RGB565: &[u8] = b"P6\n2 1\n255\n\xFF\x82\0\0\0\0";
+// The left place, of the bytes (255, 128, 1), as rgb565 has it.
+const SEEN_AT_RGB565: &[u8] = b"P6\n2 1\n65535\n\xFF\xFF\x82\x08\0\0\0\0\0\0\0\0";
 
 #[test]
 fn a_format_waits_for_the_end_of_an_update(rt: HostRuntime) -> Result<(), Fail> {
@@ -61,7 +61,13 @@ compose
 settle
 ";
     let ended = run(&rt, script);
-    assert!(rt; ended.is(0, b"P6\n1 1\n255\n\xFF\x92\0", b"line 5: refused 26 Busy\n"));
+    assert!(rt;
+        ended.is(
+            0,
+            b"P6\n1 1\n65535\n\xFF\xFF\x92\x49\0\0",
+            b"line 5: refused 26 Busy\n"
+        )
+    );
 }
 
 // A place is filled, asked for and sent.
@@ -74,16 +80,23 @@ settle
 ";
 
 // What the line of the viewer says, and what it then shows.
-const WISHES: [(&[u8], &[u8]); 4] = [
-    (b"", b"P6\n1 1\n255\n\xFF\x80\x01"),
+const WISHES: [(&[u8], &[u8]); 5] = [
+    (b"", b"P6\n1 1\n65535\n\xFF\xFF\x80\x80\x01\x01"),
     (
         b"viewer rgb888 rre copyrect hextile raw\n",
-        b"P6\n1 1\n255\n\xFF\x80\x01",
+        b"P6\n1 1\n65535\n\xFF\xFF\x80\x80\x01\x01",
     ),
-    (b"viewer rgb565 raw\n", b"P6\n1 1\n255\n\xFF\x82\x00"),
+    (
+        b"viewer rgb565 raw\n",
+        b"P6\n1 1\n65535\n\xFF\xFF\x82\x08\0\0",
+    ),
     (
         b"viewer bgr233 hextile rre\n",
-        b"P6\n1 1\n255\n\xFF\x92\x00",
+        b"P6\n1 1\n65535\n\xFF\xFF\x92\x49\0\0",
+    ),
+    (
+        b"viewer rgb101010 raw\n",
+        b"P6\n1 1\n65535\n\xFF\xFF\x80\xA0\x01\x00",
     ),
 ];
 
@@ -133,13 +146,13 @@ settle
 
 #[test]
 fn a_copy_takes_its_source_to_its_rectangle(rt: HostRuntime) -> Result<(), Fail> {
-    let mut shown = b"P6\n9 8\n255\n".to_vec(rt.alloc())?;
+    let mut shown = b"P6\n9 8\n65535\n".to_vec(rt.alloc())?;
     for row in COPIED {
         for place in row {
             let colour = if *place == b'#' {
-                b"\xFF\x80\x01"
+                b"\xFF\xFF\x80\x80\x01\x01"
             } else {
-                b"\0\0\0"
+                b"\0\0\0\0\0\0"
             };
             shown.extend_from_slice(colour.as_slice())?;
         }
@@ -175,7 +188,7 @@ line 11: refused 24 Outside
 ";
     let ended = run(&rt, script);
     assert_eq!(rt; ended.errors.as_slice(), refused.as_slice());
-    assert_eq!(rt; ended.output.len(), 11 + 3 * 9 * 8);
+    assert_eq!(rt; ended.output.len(), 13 + 6 * 9 * 8);
     assert_eq!(rt; ended.status, 0);
 }
 
@@ -195,7 +208,7 @@ format rgb565
 ";
     let ended = run(&rt, script);
     let told = b"line 9: refused 25 NotReady\nline 10: refused 25 NotReady\n";
-    assert!(rt; ended.is(0, b"P6\n2 1\n255\n\0\0\0\0\0\0", told));
+    assert!(rt; ended.is(0, b"P6\n2 1\n65535\n\0\0\0\0\0\0\0\0\0\0\0\0", told));
 }
 
 #[test]

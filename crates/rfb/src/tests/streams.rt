@@ -14,7 +14,7 @@ pub const HANDSHAKE: &[u8] = b"RFB 003.008\n\
     \x20\x18\x00\x01\x00\xFF\x00\xFF\x00\xFF\x10\x08\x00\x00\x00\x00\
     \x00\x00\x00\x03rfb";
 
-/// The same, and one update: a rectangle of both places, Raw, black and (4, 0, 2).
+/// The same, and one update: a rectangle of both places, Raw, of the bytes (0, 0, 0) and (4, 0, 2).
 pub const SERVER: &[u8] = b"RFB 003.008\n\
     \x01\x01\
     \x00\x00\x00\x00\
@@ -28,16 +28,16 @@ pub const SERVER: &[u8] = b"RFB 003.008\n\
     \x02\x00\x04\x00";
 
 /// The picture behind that.
-pub const PICTURE: &[u8] = b"P6\n2 1\n255\n\x00\x00\x00\x04\x00\x02";
+pub const PICTURE: &[u8] = b"P6\n2 1\n65535\n\0\0\0\0\0\0\x04\x04\0\0\x02\x02";
 
-/// One update more: the right place, Raw, (255, 128, 1).
+/// One update more: the right place, Raw, of the bytes (255, 128, 1).
 pub const MORE: &[u8] = b"\x00\x00\x00\x01\
     \x00\x01\x00\x00\x00\x01\x00\x01\
     \x00\x00\x00\x00\
     \x01\x80\xFF\x00";
 
 /// The picture behind both.
-pub const LATER_PICTURE: &[u8] = b"P6\n2 1\n255\n\x00\x00\x00\xFF\x80\x01";
+pub const LATER_PICTURE: &[u8] = b"P6\n2 1\n65535\n\0\0\0\0\0\0\xFF\xFF\x80\x80\x01\x01";
 
 /// What a viewer of that sends: its version, None, a shared screen, rgb888, Raw alone, and a
 /// request for both places.

@@ -36,7 +36,7 @@ const BAD_WORDS: [&[&str]; 31] = [
     &["rfb", "view", "--port", "0"],
     &["rfb", "view", "--port", "9", "--updates", "0"],
     &["rfb", "view", "--port", "9", "--updates", "4294967296"],
-    &["rfb", "view", "--port", "9", "--format", "rgb101010"],
+    &["rfb", "view", "--port", "9", "--format", "bgr101010"],
 ];
 
 // Lists of encodings, none of which is one.

@@ -44,9 +44,23 @@ const PART: Rect = Rect {
     h: 1,
 };
 
+// The pixels at rgb888 of two colours, whose red is the least for its field and whose blue is the
+// greatest.
 const OLD: u32 = 0x01_0203;
 
+const OLD_COLOUR: Colour = Colour {
+    r: 129,
+    g: 514,
+    b: 899,
+};
+
 const NEW: u32 = 0x04_0506;
+
+const NEW_COLOUR: Colour = Colour {
+    r: 900,
+    g: 1285,
+    b: 1670,
+};
 
 fn is_packed_again_and_again(picture: &Picture<Colour>) -> bool {
     let mut block = Block::single(7);
@@ -62,8 +76,8 @@ fn is_packed_again_and_again(picture: &Picture<Colour>) -> bool {
 
 #[test]
 fn a_block_is_packed_again_and_again(rt: HostRuntime) -> Result<(), AllocError> {
-    let mut picture = Picture::new(rt.alloc(), 3, 2, Colour { r: 1, g: 2, b: 3 })?;
-    picture.put_row(2, 1, &[Colour { r: 4, g: 5, b: 6 }]);
+    let mut picture = Picture::new(rt.alloc(), 3, 2, OLD_COLOUR)?;
+    picture.put_row(2, 1, &[NEW_COLOUR]);
     assert!(rt; is_packed_again_and_again(&picture));
     Ok(())
 }

@@ -19,11 +19,23 @@ mod placing;
 
 const BLACK: Colour = Colour { r: 0, g: 0, b: 0 };
 
-const RED: Colour = Colour { r: 255, g: 0, b: 0 };
+const RED: Colour = Colour {
+    r: 65_535,
+    g: 0,
+    b: 0,
+};
 
-const GREEN: Colour = Colour { r: 0, g: 255, b: 0 };
+const GREEN: Colour = Colour {
+    r: 0,
+    g: 65_535,
+    b: 0,
+};
 
-const BLUE: Colour = Colour { r: 0, g: 0, b: 255 };
+const BLUE: Colour = Colour {
+    r: 0,
+    g: 0,
+    b: 65_535,
+};
 
 // CopyRect to the last three of four places, from the first on.
 const COPY: [u8; 4] = [0, 0, 0, 0];

@@ -8,7 +8,11 @@ use std::test::Fail;
 
 const BLACK: Colour = Colour { r: 0, g: 0, b: 0 };
 
-const RED: Colour = Colour { r: 255, g: 0, b: 0 };
+const RED: Colour = Colour {
+    r: 65_535,
+    g: 0,
+    b: 0,
+};
 
 // Three places by one.
 const WHOLE: Rect = Rect {

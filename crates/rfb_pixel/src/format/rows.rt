@@ -13,10 +13,13 @@ impl Format {
         ensures value { pixels.new ≡ map (pixel_of self.now) colours.now }
         ensures bound { ArePixels self.now pixels.new }
     {
-        // A copy, which no pixel that is written can change: what it alone decides stays the same.
-        let format = *self;
-        for i in 0..colours.len() {
-            pixels[i] = format.pack(colours[i]);
+        // The loops for the formats that most viewers ask for are far shorter.
+        if *self == Format::rgb888() {
+            pack_each(Format::rgb888(), colours, pixels);
+        } else if *self == Format::rgb565() {
+            pack_each(Format::rgb565(), colours, pixels);
+        } else {
+            pack_each(*self, colours, pixels);
         }
     }
 
@@ -26,7 +29,7 @@ impl Format {
         requires { length bytes.now ≡ length colours.old * size_of self.now }
         ensures { AreColours self.now bytes.now colours.new }
     {
-        // The loops for the formats that most viewers ask for are far shorter.
+        // As for `pack_row`, a loop each.
         if *self == Format::rgb888() {
             unpack_each(Format::rgb888(), bytes, colours);
         } else if *self == Format::rgb565() {
@@ -37,7 +40,19 @@ impl Format {
     }
 }
 
-// The same, by one loop for every format.
+// Writes the pixel value of each colour, by one loop for every format.
+#[inline(always)]
+fn pack_each(format: Format, colours: &[Colour], pixels: &mut [u32])
+    requires { length colours.now ≡ length pixels.old }
+    ensures value { pixels.new ≡ map (pixel_of format) colours.now }
+    ensures bound { ArePixels format pixels.new }
+{
+    for i in 0..colours.len() {
+        pixels[i] = format.pack(colours[i]);
+    }
+}
+
+// Writes the colour of each pixel, by one loop for every format.
 #[inline(always)]
 fn unpack_each(format: Format, bytes: &[u8], colours: &mut [Colour])
     requires { length bytes.now ≡ length colours.old * size_of format }

@@ -4,16 +4,24 @@ use super::scene::{Step, first_wrong_of};
 use rfb_picture::Rect;
 use rfb_pixel::Colour;
 
+// Its red is the least that is sent as FF at rgb888, its blue the greatest that is sent as 01.
 const ORANGE: Colour = Colour {
-    r: 255,
-    g: 128,
-    b: 1,
+    r: 65_407,
+    g: 32_896,
+    b: 385,
+};
+
+// Another colour of the same pixel.
+const NEAR_ORANGE: Colour = Colour {
+    r: 65_535,
+    g: 32_768,
+    b: 129,
 };
 
 const WHITE: Colour = Colour {
-    r: 255,
-    g: 255,
-    b: 255,
+    r: 65_535,
+    g: 65_535,
+    b: 65_535,
 };
 
 // The first place of the one row.
@@ -39,7 +47,8 @@ const WHOLE_ROW: &[u8] = b"\x03\0\0\0\0\0\xFF\xFF\0\x01";
 // One place in Raw at rgb888, orange.
 const ONE_PLACE: &[u8] = b"\0\0\0\x01\0\0\0\0\0\x01\0\x01\0\0\0\0\x01\x80\xFF\0";
 
-// A whole request is answered though nothing changed, an incremental one is not.
+// A whole request is answered though nothing changed, an incremental one is not; nor is it where a
+// colour changed and its pixel did not.
 const ONCE: &[Step<'static>] = &[
     Step::Fill(PLACE, ORANGE),
     Step::Quiet,
@@ -49,6 +58,8 @@ const ONCE: &[Step<'static>] = &[
     Step::Feed(WHOLE_1),
     Step::Sends(ONE_PLACE),
     Step::Feed(INCREMENTAL_1),
+    Step::Quiet,
+    Step::Fill(PLACE, NEAR_ORANGE),
     Step::Quiet,
 ];
 

@@ -9,9 +9,17 @@ use std::alloc::Global;
 
 const BLACK: Colour = Colour { r: 0, g: 0, b: 0 };
 
-const RED: Colour = Colour { r: 255, g: 0, b: 0 };
+const RED: Colour = Colour {
+    r: 65_535,
+    g: 0,
+    b: 0,
+};
 
-const BLUE: Colour = Colour { r: 0, g: 0, b: 255 };
+const BLUE: Colour = Colour {
+    r: 0,
+    g: 0,
+    b: 65_535,
+};
 
 const LEFT_HALF: Rect = Rect {
     x: 0,

@@ -27,9 +27,9 @@ fn feed(server: &mut Server, bytes: &[u8]) {
 // Behind the handshake of 3.3, with one orange place that is asked for whole.
 fn ask(server: &mut Server) {
     let orange = Colour {
-        r: 255,
-        g: 128,
-        b: 1,
+        r: 65_535,
+        g: 32_896,
+        b: 257,
     };
     let place = Rect {
         x: 0,

@@ -16,8 +16,8 @@ pub(super) enum Step<'a> {
     /// The same, and what is told of them prints so.
     Tells(&'a [u8], &'a str),
     Fill(Rect, Colour),
-    /// The place of that column of the first row gets the colour whose red is that, with no green
-    /// and no blue.
+    /// The place of that column of the first row gets the colour whose red is that byte at rgb888,
+    /// with no green and no blue.
     Draw(u16, u8),
     /// Colours for a part of a row, from a column on.
     Put(u16, u16, &'a [Colour]),
@@ -90,7 +90,12 @@ fn columns(x: u16, w: u16) -> Rect {
 }
 
 fn draws(server: &mut Server, x: u16, r: u8) -> bool {
-    server.fill(columns(x, 1), Colour { r, g: 0, b: 0 }).is_ok()
+    let colour = Colour {
+        r: u16::from(r) * 257,
+        g: 0,
+        b: 0,
+    };
+    server.fill(columns(x, 1), colour).is_ok()
 }
 
 // Whether that holds of it.

@@ -34,7 +34,7 @@ fn row(y: u16) -> Rect {
 fn draw(server: &mut Server) {
     for y in 0..64 {
         let colour = Colour {
-            r: y as u8,
+            r: y * 257,
             g: 0,
             b: 0,
         };
@@ -72,7 +72,11 @@ const SCROLLED: &[Step<'static>] = &[
     Step::Feed(CHANGED),
 ];
 
-const BLUE: Colour = Colour { r: 0, g: 0, b: 255 };
+const BLUE: Colour = Colour {
+    r: 0,
+    g: 0,
+    b: 65_535,
+};
 
 // Whether the viewer gets all that it asks for.
 fn sends_all(server: &mut Server, alloc: Global) -> bool {

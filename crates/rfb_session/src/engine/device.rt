@@ -2,6 +2,7 @@
 //! count of their failures.
 
 ghost use Rattle.std.specs.Prelude.{◌≡◌, ◌<◌, ◌+◌, ◌-◌, ◌^◌, ℕ, List, Option, length, MatchResult};
+ghost use Rattle.std.specs.Borrow.{GName};
 ghost use Rattle.std.specs.Io.{ReadsAtMost, WritesAtMost};
 ghost use Rattle.std.specs.Io.KnownBytes.{ReadConsumes, WriteAppends};
 
@@ -39,6 +40,9 @@ pub trait Sink {
     // How many writes have failed.
     ghost failed: { Self → ℕ };
 
+    // The name of the reference to what it writes to, if it was lent that.
+    ghost reference: { Self → Option GName };
+
     /// Writes a front of `buf`, and tells how many bytes it has. A write that fails is counted, and
     /// so is one that takes none of the bytes that there are.
     fn write(&mut self, buf: &[u8]) -> io::Result<usize>
@@ -49,7 +53,8 @@ pub trait Sink {
             (λ taken. (0 < taken → failed self.new ≡ failed self.old)
             × (taken ≡ 0 → 0 < length buf.now → failed self.new ≡ failed self.old + 1)
             × (length buf.now ≡ 0 → failed self.new ≡ failed self.old))
-            (λ error. failed self.new ≡ failed self.old + 1) };
+            (λ error. failed self.new ≡ failed self.old + 1) }
+        ensures same_reference { reference self.new ≡ reference self.old };
 
     /// How many writes have failed.
     fn failures(&self) -> u64

@@ -14,6 +14,8 @@ impl Sink for Nowhere {
 
     ghost failed = { λ n. 0 };
 
+    ghost reference = { λ n. None };
+
     fn write(&mut self, buf: &[u8]) -> io::Result<usize> {
         Ok(buf.len())
     }

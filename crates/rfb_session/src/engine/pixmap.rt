@@ -1,32 +1,29 @@
 //! Pictures as portable pixmaps (PPM), the files of Netpbm.
 
-ghost use Rattle.std.specs.Prelude.{◌≡◌, ◌≤◌, ◌<◌, ◌+◌, ◌-◌, ◌*◌, ◌^◌, ◌++◌, length, OnOk, OnErr};
+ghost use Rattle.std.specs.Prelude.{◌≡◌, ◌≤◌, ◌<◌, ◌+◌, ◌-◌, ◌^◌, ◌++◌, ℕ, List, [], ◌∷◌, length, take, OnOk, OnErr};
 ghost use Rattle.std.specs.Io.KnownBytes.{Appends};
-ghost use Rattle.arrayvec.specs.ArrayVec.{array_vec_len};
 ghost use Rattle.rfb_session.specs.Devices.{AppendsBeginning, AppendsUpTo};
 ghost use Rattle.rfb_session.specs.Pixmap.{components, header_of, pixmap};
 
 use crate::engine::device::Sink;
 use crate::engine::fault::Device;
 use crate::engine::sending::send;
-use arrayvec::ArrayVec;
 use itoa::Buffer;
 use rfb_picture::Picture;
 use rfb_pixel::Colour;
-use rfb_wire::pieces::append;
+use std::marker::Model;
 
 // How many bytes wait for a write, at most.
 const ROOM: usize = 8192;
 
-// How many colours are taken at once. Where their number is known beforehand, the compiler moves
-// sixteen bytes at a time.
-const PIECE: usize = 16;
+// How many colours are taken at once.
+const PIECE: usize = 8;
 
 // The bytes of so many.
 const PIECE_BYTES: usize = 48;
 
 /// Writes a picture as PPM: the header `P6`, the width and the height, the largest component, then
-/// three bytes a place, row by row from the top. All is written where it gives `Ok`; where it gives
+/// six bytes a place, row by row from the top. All is written where it gives `Ok`; where it gives
 /// an error, a beginning was. It takes no memory.
 pub fn ppm<W: Sink>(picture: &Picture<Colour>, sink: &mut W) -> Result<(), Device>
     requires countable { W.failed sink.old < 2 ^ 64 - 1 }
@@ -36,6 +33,7 @@ pub fn ppm<W: Sink>(picture: &Picture<Colour>, sink: &mut W) -> Result<(), Devic
         (AppendsBeginning (W.written sink.old) (W.written sink.new) (pixmap picture.now)) }
     ensures none_failed { OnOk result (W.failed sink.new ≡ W.failed sink.old) }
     ensures one_failed { OnErr result (W.failed sink.new ≡ W.failed sink.old + 1) }
+    ensures same_reference { W.reference sink.new ≡ W.reference sink.old }
 {
     let width = picture.width();
     let height = picture.height();
@@ -47,77 +45,161 @@ pub fn ppm<W: Sink>(picture: &Picture<Colour>, sink: &mut W) -> Result<(), Devic
 }
 
 // What stands before the places of a picture of that size.
-fn header(width: u16, height: u16) -> ArrayVec<u8, ROOM>
-    ensures { result.items ≡ header_of width height }
+fn header(width: u16, height: u16) -> Waiting
+    ensures { result ≡ header_of width height }
 {
     let mut digits = Buffer::new();
-    let mut text = ArrayVec::new();
-    append(&mut text, b"P6\n");
-    append(&mut text, digits.format(width).as_bytes());
-    append(&mut text, b" ");
-    append(&mut text, digits.format(height).as_bytes());
-    append(&mut text, b"\n255\n");
+    let mut text = Waiting::new();
+    text.append(b"P6\n");
+    text.append(digits.format(width).as_bytes());
+    text.append(b" ");
+    text.append(digits.format(height).as_bytes());
+    text.append(b"\n65535\n");
     text
 }
 
 // The components of each colour, red first, wait behind the bytes that do. Where there is no room
 // for more, what waits is written.
-fn gather<W: Sink>(
-    colours: &[Colour],
-    waiting: &mut ArrayVec<u8, ROOM>,
-    sink: &mut W,
-) -> Result<(), Device>
+fn gather<W: Sink>(colours: &[Colour], waiting: &mut Waiting, sink: &mut W) -> Result<(), Device>
     requires countable { W.failed sink.old < 2 ^ 64 - 1 }
     ensures done { OnOk result (AppendsUpTo (W.written sink.old) (W.written sink.new)
-        (waiting.old.items ++ components colours.now) waiting.new.items) }
+        (waiting.old ++ components colours.now) waiting.new) }
     ensures stopped { OnErr result (AppendsBeginning (W.written sink.old) (W.written sink.new)
-        (waiting.old.items ++ components colours.now)) }
+        (waiting.old ++ components colours.now)) }
     ensures none_failed { OnOk result (W.failed sink.new ≡ W.failed sink.old) }
     ensures one_failed { OnErr result (W.failed sink.new ≡ W.failed sink.old + 1) }
+    ensures same_reference { W.reference sink.new ≡ W.reference sink.old }
 {
     let mut start = 0;
     while colours.len() - start >= PIECE {
         let end = start + PIECE;
         make_room(waiting, sink)?;
-        append(waiting, components_of(&colours[start..end]).as_slice());
+        waiting.append(&components_of(&colours[start..end]));
         start = end;
     }
     make_room(waiting, sink)?;
-    append(waiting, components_of(&colours[start..]).as_slice());
+    append_each(&colours[start..], waiting);
     Ok(())
 }
 
-// The components of each colour, red first.
-#[inline(always)]
-fn components_of(colours: &[Colour]) -> ArrayVec<u8, PIECE_BYTES>
-    requires { length colours.now ≤ PIECE }
-    ensures items { result.items ≡ components colours.now }
-    ensures len { array_vec_len result ≡ 3 * length colours.now }
-{
-    let mut bytes = ArrayVec::new();
-    for colour in colours {
-        bytes.push(colour.r);
-        bytes.push(colour.g);
-        bytes.push(colour.b);
-    }
-    bytes
-}
-
 // Writes what waits, where there is no room for the components of a piece.
-fn make_room<W: Sink>(waiting: &mut ArrayVec<u8, ROOM>, sink: &mut W) -> Result<(), Device>
+#[inline(always)]
+fn make_room<W: Sink>(waiting: &mut Waiting, sink: &mut W) -> Result<(), Device>
     requires countable { W.failed sink.old < 2 ^ 64 - 1 }
-    ensures room { OnOk result (array_vec_len waiting.new + 48 ≤ 8192) }
+    ensures room { OnOk result (length waiting.new + PIECE_BYTES ≤ ROOM) }
     ensures done { OnOk result (AppendsUpTo (W.written sink.old) (W.written sink.new)
-        waiting.old.items waiting.new.items) }
+        waiting.old waiting.new) }
     ensures stopped { OnErr result (AppendsBeginning (W.written sink.old) (W.written sink.new)
-        waiting.old.items) }
+        waiting.old) }
     ensures none_failed { OnOk result (W.failed sink.new ≡ W.failed sink.old) }
     ensures one_failed { OnErr result (W.failed sink.new ≡ W.failed sink.old + 1) }
+    ensures same_reference { W.reference sink.new ≡ W.reference sink.old }
 {
-    if waiting.remaining_capacity() >= PIECE_BYTES {
+    if waiting.room() >= PIECE_BYTES {
         return Ok(());
     }
     send(waiting.as_slice(), sink)?;
     waiting.clear();
     Ok(())
+}
+
+// The components of fewer colours than a piece has, colour by colour.
+fn append_each(colours: &[Colour], waiting: &mut Waiting)
+    requires few { length colours.now < PIECE }
+    requires room { length waiting.old + PIECE_BYTES ≤ ROOM }
+    ensures { waiting.new ≡ waiting.old ++ components colours.now }
+{
+    for colour in colours {
+        waiting.append(&bytes_of(*colour));
+    }
+}
+
+// The components of eight colours. Their bytes are written one by one, of which the compiler makes
+// shuffles of vectors.
+#[inline(always)]
+fn components_of(colours: &[Colour]) -> [u8; PIECE_BYTES]
+    requires { length colours.now ≡ PIECE }
+    ensures { result ≡ components colours.now }
+{
+    let (a, b) = (bytes_of(colours[0]), bytes_of(colours[1]));
+    let (c, d) = (bytes_of(colours[2]), bytes_of(colours[3]));
+    let (e, f) = (bytes_of(colours[4]), bytes_of(colours[5]));
+    let (g, h) = (bytes_of(colours[6]), bytes_of(colours[7]));
+    [
+        a[0], a[1], a[2], a[3], a[4], a[5], b[0], b[1], b[2], b[3], b[4], b[5], c[0], c[1], c[2],
+        c[3], c[4], c[5], d[0], d[1], d[2], d[3], d[4], d[5], e[0], e[1], e[2], e[3], e[4], e[5],
+        f[0], f[1], f[2], f[3], f[4], f[5], g[0], g[1], g[2], g[3], g[4], g[5], h[0], h[1], h[2],
+        h[3], h[4], h[5],
+    ]
+}
+
+// The components of a colour, two bytes each, the most significant first.
+#[inline(always)]
+fn bytes_of(colour: Colour) -> [u8; 6]
+    ensures { result ≡ components (colour ∷ []) }
+{
+    let [r1, r0] = colour.r.to_be_bytes();
+    let [g1, g0] = colour.g.to_be_bytes();
+    let [b1, b0] = colour.b.to_be_bytes();
+    [r1, r0, g1, g0, b1, b0]
+}
+
+// Bytes that wait for a write. An `ArrayVec` would write zeros over all that it lets go.
+#[derive(Drop)]
+struct Waiting {
+    bytes: [u8; ROOM],
+    len: usize,
+}
+
+impl Model for Waiting {
+    ghost Value = { List ℕ };
+
+    ghost view = { λ w. take w.len w.bytes };
+
+    ghost invariant = { λ w. w.len ≤ 8192 };
+}
+
+impl Waiting {
+    // No bytes.
+    fn new() -> Self
+        ensures { result ≡ [] }
+    {
+        Waiting {
+            bytes: [0; ROOM],
+            len: 0,
+        }
+    }
+
+    // The bytes, in their order.
+    fn as_slice(&self) -> &[u8]
+        ensures { result.now ≡ self.now }
+    {
+        &self.bytes[..self.len]
+    }
+
+    // For how many bytes more there is room.
+    #[inline(always)]
+    fn room(&self) -> usize
+        ensures { result + length self.now ≡ ROOM }
+    {
+        ROOM - self.len
+    }
+
+    // Puts these bytes behind the others.
+    #[inline(always)]
+    fn append(&mut self, bytes: &[u8])
+        requires { length self.old + length bytes.now ≤ ROOM }
+        ensures { self.new ≡ self.old ++ bytes.now }
+    {
+        let end = self.len + bytes.len();
+        self.bytes[self.len..end].copy_from_slice(bytes);
+        self.len = end;
+    }
+
+    // Lets all bytes go.
+    fn clear(&mut self)
+        ensures { self.new ≡ [] }
+    {
+        self.len = 0;
+    }
 }

@@ -7,9 +7,9 @@ ghost use Rattle.rfb_session.specs.Devices.{AppendsBeginning};
 use crate::engine::device::Sink;
 use crate::engine::fault::Device;
 
-// Writes all of these bytes. A short write is gone on with. Where a write fails, or takes none of
-// them, a beginning of them was written, and it is not tried again.
-pub(crate) fn send<W: Sink>(bytes: &[u8], sink: &mut W) -> Result<(), Device>
+/// Writes all of these bytes. A short write is gone on with. Where a write fails, or takes none of
+/// them, a beginning of them was written, and it is not tried again.
+pub fn send<W: Sink>(bytes: &[u8], sink: &mut W) -> Result<(), Device>
     requires countable { W.failed sink.old < 2 ^ 64 - 1 }
     ensures done { OnOk result
         (Appends (W.written sink.old) (W.written sink.new) bytes.now) }
@@ -17,6 +17,7 @@ pub(crate) fn send<W: Sink>(bytes: &[u8], sink: &mut W) -> Result<(), Device>
         (AppendsBeginning (W.written sink.old) (W.written sink.new) bytes.now) }
     ensures none_failed { OnOk result (W.failed sink.new ≡ W.failed sink.old) }
     ensures one_failed { OnErr result (W.failed sink.new ≡ W.failed sink.old + 1) }
+    ensures same_reference { W.reference sink.new ≡ W.reference sink.old }
 {
     let mut rest = bytes;
     while !rest.is_empty() {

@@ -1,6 +1,6 @@
 //! Any reader or writer, with a count of its failures.
 
-ghost use Rattle.std.specs.Prelude.{◌≡◌, ◌<◌, ◌+◌, ◌-◌, ◌^◌, length, MatchResult};
+ghost use Rattle.std.specs.Prelude.{◌≡◌, ◌<◌, ◌+◌, ◌-◌, ◌^◌, length, MatchResult, None};
 ghost use Rattle.std.specs.Io.{ReadsAtMost, WritesAtMost};
 ghost use Rattle.std.specs.Io.KnownBytes.{ReadConsumes, WriteAppends};
 
@@ -56,6 +56,8 @@ impl<W: Write> Sink for Tally<W> {
     ghost written = { λ t. W.contents t.inner };
 
     ghost failed = { λ t. t.failures };
+
+    ghost reference = { λ t. None };
 
     fn write(&mut self, buf: &[u8]) -> io::Result<usize> {
         let result = self.inner.write(buf);

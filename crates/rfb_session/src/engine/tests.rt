@@ -23,7 +23,8 @@ fn viewer_in(alloc: Global, format: Format) -> Viewer {
     Viewer::new(alloc, format, encodings, Version::V38, true, 4096, 4)
 }
 
-// A server of version 3.8 with the name `rfb`, whose screen of two places is black and (4, 0, 2).
+// A server of version 3.8 with the name `rfb`, whose screen of two places is black and
+// (1028, 0, 514).
 fn server_of_two_places(alloc: Global) -> Result<Server, AllocError> {
     let mut server = Server::new(alloc, 2, 1, b"rfb", Version::V38, 1024)?;
     let right = Rect {
@@ -32,7 +33,14 @@ fn server_of_two_places(alloc: Global) -> Result<Server, AllocError> {
         w: 1,
         h: 1,
     };
-    let _ = server.fill(right, Colour { r: 4, g: 0, b: 2 });
+    let _ = server.fill(
+        right,
+        Colour {
+            r: 1028,
+            g: 0,
+            b: 514,
+        },
+    );
     Ok(server)
 }
 

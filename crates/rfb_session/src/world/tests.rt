@@ -24,16 +24,24 @@ use std::alloc::{AllocError, Global};
 // More bytes than are ever in flight here.
 const ALL: u32 = 4_294_967_295;
 
+// Its red is the least that is sent as FF at rgb888, its blue the greatest that is sent as 01.
 const ORANGE: Colour = Colour {
-    r: 255,
-    g: 128,
-    b: 1,
+    r: 65_407,
+    g: 32_896,
+    b: 385,
+};
+
+// Orange, as rgb888 shows it: 255, 128 and 1 of 255.
+const ORANGE_OF_888: Colour = Colour {
+    r: 65_535,
+    g: 32_896,
+    b: 257,
 };
 
 // Orange, as RFC 6143's rgb565 of 5, 6 and 5 bits shows it: 31 of 31, 32 of 63 and 0 of 31.
 const ORANGE_OF_565: Colour = Colour {
-    r: 255,
-    g: 130,
+    r: 65_535,
+    g: 33_288,
     b: 0,
 };
 

@@ -9,9 +9,9 @@ const ONE_PLACE_FRONT: &[u8] = b"\0\0\0\x01\0\0\0\0\0\x01\0\x01\0\0\0\0\x01\x80\
 const ONE_SMALL: &[u8] = b"\0\0\0\x01\0\0\0\0\0\x01\0\x01\0\0\0\0\x27";
 
 const ORANGE: Colour = Colour {
-    r: 255,
-    g: 128,
-    b: 1,
+    r: 65_535,
+    g: 32_896,
+    b: 257,
 };
 
 const BYTE_BY_BYTE: &[Step<'static>] = &[
@@ -26,8 +26,8 @@ fn an_update_comes_byte_by_byte(rt: HostRuntime) {
 }
 
 const SEEN: Colour = Colour {
-    r: 255,
-    g: 146,
+    r: 65_535,
+    g: 37_449,
     b: 0,
 };
 

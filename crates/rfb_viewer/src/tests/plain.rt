@@ -250,11 +250,11 @@ fn colour_of(pixel: usize, pixels: &Pixels) -> Colour {
     }
 }
 
-// A field of a pixel as 0 to 255, rounded to the nearest.
-fn component(pixel: usize, (max, unit): (usize, usize)) -> u8 {
+// A field of a pixel as 0 to 65,535, rounded to the nearest.
+fn component(pixel: usize, (max, unit): (usize, usize)) -> u16 {
     let value = pixel.checked_div(unit).unwrap_or_default() & max;
-    let scaled = value.wrapping_mul(255).wrapping_add(max / 2);
-    u8::try_from(scaled.checked_div(max).unwrap_or_default()).unwrap_or_default()
+    let scaled = value.wrapping_mul(65_535).wrapping_add(max / 2);
+    u16::try_from(scaled.checked_div(max).unwrap_or_default()).unwrap_or_default()
 }
 
 fn place(x: usize, y: usize) -> usize {

@@ -5,12 +5,25 @@ use super::hextile::THREE;
 use super::*;
 use std::alloc::AllocError;
 
-const TEN: Colour = Colour { r: 0, g: 73, b: 0 };
+const TEN: Colour = Colour {
+    r: 0,
+    g: 18_724,
+    b: 0,
+};
 
-const TWENTY: Colour = Colour { r: 0, g: 146, b: 0 };
+const TWENTY: Colour = Colour {
+    r: 0,
+    g: 37_449,
+    b: 0,
+};
 
-const THIRTY: Colour = Colour { r: 0, g: 219, b: 0 };
+const THIRTY: Colour = Colour {
+    r: 0,
+    g: 56_173,
+    b: 0,
+};
 
+// No pixel of either format shows it.
 const GREY: Colour = Colour { r: 1, g: 2, b: 3 };
 
 // A piece: the number of the bytes up to its end, what it gives a colour, and the mask of a raw

@@ -4,11 +4,23 @@ use super::cuts::picture_of;
 use super::*;
 
 // Pixels 0x10, 0x20 and 0x30 at bgr233: 2, 4 and 6 sevenths of green. Pixel 0 is black.
-const TEN: Colour = Colour { r: 0, g: 73, b: 0 };
+const TEN: Colour = Colour {
+    r: 0,
+    g: 18_724,
+    b: 0,
+};
 
-const TWENTY: Colour = Colour { r: 0, g: 146, b: 0 };
+const TWENTY: Colour = Colour {
+    r: 0,
+    g: 37_449,
+    b: 0,
+};
 
-const THIRTY: Colour = Colour { r: 0, g: 219, b: 0 };
+const THIRTY: Colour = Colour {
+    r: 0,
+    g: 56_173,
+    b: 0,
+};
 
 // Three tiles at bgr233: two coloured subrectangles; one of a foreground; one of the same, carried,
 // as the background of both is.
@@ -69,9 +81,9 @@ fn shows_small(
 #[test]
 fn a_tile_of_its_mask_alone_is_whole(rt: HostRuntime) -> Result<(), Fail> {
     let colour = Colour {
-        r: 255,
-        g: 128,
-        b: 1,
+        r: 65_535,
+        g: 32_896,
+        b: 257,
     };
     let data = [0x02, 0x01, 0x80, 0xFF, 0x00, 0x00];
     shows(&rt, rt.alloc(), Format::rgb888(), &data, &[(17, colour)])
@@ -91,10 +103,18 @@ fn around_raw(alloc: Global, last: &[u8]) -> Result<Vec<u8>, Fail> {
 
 // What these tiles show.
 fn shown_around_raw(alloc: Global) -> Result<Vec<Colour>, Fail> {
-    let colour = Colour { r: 3, g: 2, b: 1 };
+    let colour = Colour {
+        r: 771,
+        g: 514,
+        b: 257,
+    };
     let mut want = places_of(alloc, &[(16, colour)])?;
     for b in 0..16u8 {
-        want.push(Colour { r: 9, g: 7, b })?;
+        want.push(Colour {
+            r: 2313,
+            g: 1799,
+            b: u16::from(b) * 257,
+        })?;
     }
     want.resize(48, colour)?;
     Ok(want)

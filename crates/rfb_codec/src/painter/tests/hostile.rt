@@ -4,7 +4,11 @@ use super::*;
 use std::alloc::AllocError;
 
 // Pixel 0x10 at bgr233.
-const TEN: Colour = Colour { r: 0, g: 73, b: 0 };
+const TEN: Colour = Colour {
+    r: 0,
+    g: 18_724,
+    b: 0,
+};
 
 // Whether RRE data over two red places are answered so. These have the background once its pixel is
 // there.

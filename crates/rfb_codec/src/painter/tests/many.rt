@@ -4,9 +4,17 @@ use super::cuts::{answers, has_pending, picture_of};
 use super::*;
 
 // Pixels 0x10 and 0x20 at bgr233.
-const TEN: Colour = Colour { r: 0, g: 73, b: 0 };
+const TEN: Colour = Colour {
+    r: 0,
+    g: 18_724,
+    b: 0,
+};
 
-const TWENTY: Colour = Colour { r: 0, g: 146, b: 0 };
+const TWENTY: Colour = Colour {
+    r: 0,
+    g: 37_449,
+    b: 0,
+};
 
 // The greatest number of subrectangles, and background 0x10.
 const HEAD: [u8; 5] = [0xFF, 0xFF, 0xFF, 0xFF, 0x10];

@@ -14,6 +14,10 @@ const BGR233: [u8; 16] = [
     0x08, 0x08, 0, 1, 0x00, 0x07, 0x00, 0x07, 0x00, 0x03, 0x00, 0x03, 0x06, 0, 0, 0,
 ];
 
+const RGB101010: [u8; 16] = [
+    0x20, 0x1E, 0, 1, 0x03, 0xFF, 0x03, 0xFF, 0x03, 0xFF, 0x14, 0x0A, 0x00, 0, 0, 0,
+];
+
 // The rgb565 bytes with some of them changed, each given by its place.
 fn changed(changes: &[(usize, u8)]) -> [u8; 16] {
     let mut bytes = RGB565;
@@ -31,6 +35,7 @@ fn the_formats_with_a_name_have_their_bytes(rt: HostRuntime) {
         (Format::rgb888(), RGB888),
         (Format::rgb565(), RGB565),
         (Format::bgr233(), BGR233),
+        (Format::rgb101010(), RGB101010),
     ] {
         assert_eq!(rt; Format::read(&bytes), Ok(format));
         assert_eq!(rt; format.write(), bytes);
@@ -123,10 +128,10 @@ fn the_narrowest_and_the_widest_field_are_read(rt: HostRuntime) {
     assert_eq!(rt; format.write(), bytes);
     assert_eq!(rt;
         format.pack(Colour {
-            r: 1,
-            g: 127,
-            b: 128
+            r: 0x1234,
+            g: 32_767,
+            b: 32_768
         }),
-        0x8000_0101
+        0x8000_1234
     );
 }

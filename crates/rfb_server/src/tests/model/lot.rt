@@ -46,29 +46,26 @@ impl Lot {
         Rect { x, y, w, h }
     }
 
-    /// A colour, mostly one of three.
+    /// A colour, mostly one of four, the last two of which are the same pixel in each format.
     pub(super) fn colour(&mut self) -> Colour {
         match self.up_to(7) {
             0 => Colour {
-                r: self.byte(),
-                g: self.byte(),
-                b: self.byte(),
+                r: self.up_to(65_535),
+                g: self.up_to(65_535),
+                b: self.up_to(65_535),
             },
             1..=3 => Colour {
-                r: 255,
-                g: 128,
-                b: 1,
+                r: 65_535,
+                g: 32_896,
+                b: 257,
             },
             4..=5 => Colour {
                 r: 0,
-                g: 40,
-                b: 255,
+                g: 10_280,
+                b: 65_535,
             },
+            6 => Colour { r: 32, g: 0, b: 32 },
             _ => Colour { r: 0, g: 0, b: 0 },
         }
-    }
-
-    fn byte(&mut self) -> u8 {
-        (self.up_to(255) % 256) as u8
     }
 }

@@ -64,7 +64,7 @@ impl Write for Writer {
     }
 }
 
-// Makes both places (255, 0, 16).
+// Makes both places (65535, 0, 4112).
 #[derive(Drop)]
 pub struct Reddening;
 
@@ -79,9 +79,9 @@ impl Scene for Reddening {
         let _ = server.fill(
             row,
             Colour {
-                r: 255,
+                r: 65_535,
                 g: 0,
-                b: 16,
+                b: 4112,
             },
         );
     }

@@ -6,12 +6,12 @@ use rfb_picture::{Picture, Rect};
 use rfb_pixel::Colour;
 use std::alloc::{AllocError, Global};
 
-// The colour of a place.
+// The colour of a place. Both bytes of a component differ from place to place.
 fn colour_at(x: u16, y: u16) -> Colour {
     Colour {
-        r: x.to_le_bytes()[0],
-        g: y.to_le_bytes()[0],
-        b: (x ^ y).to_le_bytes()[0],
+        r: x.wrapping_mul(0x0291).wrapping_add(y),
+        g: y.wrapping_mul(0x8E03).wrapping_sub(x),
+        b: (x ^ y).wrapping_mul(0x0BF5).wrapping_add(0x1234),
     }
 }
 
@@ -31,13 +31,16 @@ fn picture(alloc: Global) -> Result<Picture<Colour>, AllocError> {
     Ok(picture)
 }
 
-// Its pixmap: 15 bytes, and 30,000.
+// Its pixmap: 17 bytes, and 60,000.
 fn expected(alloc: Global) -> Result<Vec<u8>, AllocError> {
-    let mut bytes = b"P6\n100 100\n255\n".to_vec(alloc)?;
+    let mut bytes = b"P6\n100 100\n65535\n".to_vec(alloc)?;
     for y in 0..SIDE {
         for x in 0..SIDE {
             let colour = colour_at(x, y);
-            bytes.extend_from_slice(&[colour.r, colour.g, colour.b])?;
+            for component in [colour.r, colour.g, colour.b] {
+                bytes.push((component / 256) as u8)?;
+                bytes.push((component % 256) as u8)?;
+            }
         }
     }
     Ok(bytes)
@@ -71,7 +74,7 @@ fn is_whole(alloc: Global, picture: &Picture<Colour>, pixmap: &[u8], most: usize
 fn a_pixmap_is_whole_whatever_writes_take(rt: HostRuntime) -> Result<(), AllocError> {
     let picture = picture(rt.alloc())?;
     let pixmap = expected(rt.alloc())?;
-    for most in [1, 3, 127, 4096, 8191, 8192, 30_015] {
+    for most in [1, 5, 127, 4096, 8191, 8192, 60_017] {
         let whole = is_whole(rt.alloc(), &picture, &pixmap, most);
         assert!(rt; whole, "writes of {most}");
     }
@@ -89,8 +92,8 @@ fn has_beginning(alloc: Global, picture: &Picture<Colour>, pixmap: &[u8], calls:
 fn a_pixmap_that_cannot_be_written_has_its_beginning(rt: HostRuntime) -> Result<(), AllocError> {
     let picture = picture(rt.alloc())?;
     let pixmap = expected(rt.alloc())?;
-    // 30 writes of 1,000 bytes, and one of 15, where no write is cut short by the room.
-    for calls in [0, 1, 8, 9, 29] {
+    // 60 writes of 1,000 bytes, and one of 17, where no write is cut short by the room.
+    for calls in [0, 1, 8, 9, 60] {
         let beginning = has_beginning(rt.alloc(), &picture, &pixmap, calls);
         assert!(rt; beginning, "behind {calls} writes");
     }

@@ -45,10 +45,10 @@ fn picture_of(alloc: Global, bytes: &[u8], most: usize) -> Vec<u8> {
     sink.into_inner()
 }
 
-// Whether the viewer shows black and (4, 0, 2) behind a recording.
+// Whether the viewer shows black and (1028, 0, 514) behind a recording.
 fn shows_both(alloc: Global, bytes: &[u8], most: usize) -> bool {
     let picture = picture_of(alloc, bytes, most);
-    picture.as_slice() == b"P6\n2 1\n255\n\0\0\0\x04\0\x02".as_slice()
+    picture.as_slice() == b"P6\n2 1\n65535\n\0\0\0\0\0\0\x04\x04\0\0\x02\x02".as_slice()
 }
 
 #[test]

@@ -134,7 +134,9 @@ fn the_picture_is_that_behind_the_last_update(rt: HostRuntime) -> Result<(), All
     let bytes = behind_a_handshake(rt.alloc(), UPDATE, RED_UPDATE)?;
     let first = picture_of(rt.alloc(), &bytes, 1);
     let second = picture_of(rt.alloc(), &bytes, 2);
-    assert!(rt; first.as_slice() == b"P6\n2 1\n255\n\0\0\0\x04\0\x02".as_slice());
-    assert!(rt; second.as_slice() == b"P6\n2 1\n255\n\xFF\0\x10\xFF\0\x10".as_slice());
+    assert!(rt; first.as_slice() == b"P6\n2 1\n65535\n\0\0\0\0\0\0\x04\x04\0\0\x02\x02".as_slice());
+    assert!(rt;
+        second.as_slice() == b"P6\n2 1\n65535\n\xFF\xFF\0\0\x10\x10\xFF\xFF\0\0\x10\x10".as_slice()
+    );
     Ok(())
 }

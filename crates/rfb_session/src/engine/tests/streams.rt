@@ -11,10 +11,10 @@ pub const NEXT_REQUEST: &[u8] = b"\x03\x01\0\0\0\0\0\x02\0\x01";
 pub const HANDSHAKE: &[u8] = b"RFB 003.008\n\x01\x01\0\0\0\0\0\x02\0\x01\x20\x18\0\x01\
 \0\xFF\0\xFF\0\xFF\x10\x08\0\0\0\0\0\0\0\x03rfb";
 
-// Its update: one rectangle, Raw, black and (4, 0, 2).
+// Its update: one rectangle, Raw, black and (1028, 0, 514).
 pub const UPDATE: &[u8] = b"\0\0\0\x01\0\0\0\0\0\x02\0\x01\0\0\0\0\0\0\0\0\x02\0\x04\0";
 
-// One where both places are (255, 0, 16).
+// One where both places are (65535, 0, 4112).
 pub const RED_UPDATE: &[u8] = b"\0\0\0\x01\0\0\0\0\0\x02\0\x01\0\0\0\0\x10\0\xFF\0\x10\0\xFF\0";
 
 // ServerCutText with `ABCDE`.

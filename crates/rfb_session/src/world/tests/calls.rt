@@ -169,7 +169,7 @@ fn puts_a_row(alloc: Global) -> Result<Option<[Option<Colour>; 2]>, AllocError> 
 #[test]
 fn a_row_is_put(rt: HostRuntime) -> Result<(), AllocError> {
     let shown = puts_a_row(rt.alloc())?;
-    assert_eq!(rt; shown, Some([Some(BLACK), Some(ORANGE)]));
+    assert_eq!(rt; shown, Some([Some(BLACK), Some(ORANGE_OF_888)]));
     Ok(())
 }
 
@@ -217,6 +217,6 @@ fn a_hinted_copy_arrives_as_its_source(rt: HostRuntime) -> Result<(), AllocError
     let copied = copies_on_a_row(rt.alloc())?;
     // Behind two heads of 4 and 12 bytes: four pixels of four bytes; then a column and a row, where
     // two pixels would be 8 bytes.
-    assert_eq!(rt; copied, (32, 20, Some(ORANGE)));
+    assert_eq!(rt; copied, (32, 20, Some(ORANGE_OF_888)));
     Ok(())
 }

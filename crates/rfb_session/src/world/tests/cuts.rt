@@ -23,7 +23,7 @@ fn runs_in_single_bytes(world: &mut World) -> bool {
         && byte_by_byte(world) == (10, 0)
         && composes(world)
         && byte_by_byte(world) == (0, 20)
-        && shown(world, 0) == Some(ORANGE)
+        && shown(world, 0) == Some(ORANGE_OF_888)
 }
 
 fn arrives_in_single_bytes(alloc: Global) -> Result<bool, AllocError> {
@@ -78,7 +78,7 @@ fn waits_in(world: &mut World, count: u32) -> bool {
     is_cut_at(world, count)
         && refuses(world, rgb565(), Refused::Busy)
         && to_viewer(world, ALL) == 24_u32.saturating_sub(count)
-        && shown(world, 0) == Some(ORANGE)
+        && shown(world, 0) == Some(ORANGE_OF_888)
         && changes_format(world, 0)
 }
 

@@ -87,7 +87,7 @@ fn shown_behind_single_bytes(alloc: Global) -> Result<Option<Colour>, AllocError
 #[test]
 fn a_session_in_single_bytes_is_one_list(rt: HostRuntime) -> Result<(), AllocError> {
     let shown = shown_behind_single_bytes(rt.alloc())?;
-    assert_eq!(rt; shown, Some(ORANGE));
+    assert_eq!(rt; shown, Some(ORANGE_OF_888));
     Ok(())
 }
 

@@ -16,8 +16,8 @@ const LAST: &[u8] = b"\0";
 const ONE_SMALL: &[u8] = b"\0\0\0\x01\0\0\0\0\0\x01\0\x01\0\0\0\0\x27";
 
 const SEEN: Colour = Colour {
-    r: 255,
-    g: 146,
+    r: 65_535,
+    g: 37_449,
     b: 0,
 };
 

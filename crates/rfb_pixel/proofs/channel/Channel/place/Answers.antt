@@ -4,5 +4,5 @@ use Rattle.rfb_pixel.proofs.channel.Channel.place.Goals as goal
 
 pub returns : goal.returns
 returns c =
-    let fits : c.rescale.result < 2 ^ c.args.self.width = omega arith in
-    rw (shl_whole c.rescale.result c.args.self.width c.args.self.shift 32 fits (omega arith)) (cc)
+    let fits : c.narrow.result < 2 ^ c.args.self.width = omega arith in
+    rw (shl_whole c.narrow.result c.args.self.width c.args.self.shift 32 fits (omega arith)) (cc)

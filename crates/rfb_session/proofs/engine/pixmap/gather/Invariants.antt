@@ -11,6 +11,7 @@ abbrev pub invariant-loop-start : goal.invariant-loop-start
 invariant-loop-start g l = record {
   within : l.start ≤ length l.colours;
   gathered : AppendsUpTo (g.W.Sink.written l.initial.sink) (g.W.Sink.written l.sink)
-      (l.initial.waiting.items ++ components (take l.start l.colours)) l.waiting.items;
+      (l.initial.waiting ++ components (take l.start l.colours)) l.waiting;
   none_failed : g.W.Sink.failed l.sink ≡ g.W.Sink.failed l.initial.sink;
+  same_reference : g.W.Sink.reference l.sink ≡ g.W.Sink.reference l.initial.sink;
 }

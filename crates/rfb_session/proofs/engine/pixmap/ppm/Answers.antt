@@ -8,9 +8,10 @@ loop-y-init g c = record {
   width_is = c.width-width.ensures.value;
   height_is = c.height-height.ensures;
   gathered = header_waits c.args.picture.now c.width-width.result c.height-height.result
-      (g.W.Sink.written c.args.sink.now) c.header-waiting.result.items c.width-width.ensures.value
+      (g.W.Sink.written c.args.sink.now) c.header-waiting.result c.width-width.ensures.value
       c.height-height.ensures c.header-waiting.ensures;
   none_failed = refl;
+  same_reference = refl;
 }
 
 pub returns-in_err-gather-clause-stopped : goal.returns-in_err-gather-clause-stopped
@@ -19,7 +20,7 @@ returns-in_err-gather-clause-stopped g c =
     on_err c.from_residual.result _
     (row_failed c.args.picture.now l.y c.width-width.result c.row.result.now
     (g.W.Sink.written c.args.sink.now) (g.W.Sink.written l.sink) (g.W.Sink.written c.gather.new.sink)
-    l.waiting.items l.invariant.gathered l.invariant.width_is c.row.ensures.value
+    l.waiting l.invariant.gathered l.invariant.width_is c.row.ensures.value
     c.in_err-gather.ensures.stopped)
 
 pub loop-y-preserved : goal.loop-y-preserved
@@ -30,9 +31,10 @@ loop-y-preserved g c =
       height_is = l.invariant.height_is;
       gathered = row_gathered c.args.picture.now l.y c.width-width.result c.row.result.now
           (g.W.Sink.written c.args.sink.now) (g.W.Sink.written l.sink)
-          (g.W.Sink.written c.gather.new.sink) l.waiting.items c.gather.new.waiting.items
+          (g.W.Sink.written c.gather.new.sink) l.waiting c.gather.new.waiting
           l.invariant.gathered l.invariant.width_is c.row.ensures.value c.in_ok-gather.ensures.done;
       none_failed = c.in_ok-gather.ensures.none_failed ∙ l.invariant.none_failed;
+      same_reference = c.gather.ensures.same_reference ∙ l.invariant.same_reference;
     }
 
 pub returns-clause-done : goal.returns-clause-done
@@ -42,14 +44,14 @@ returns-clause-done g c =
     omega (arith, l.auto.y-end, c.loop-y-test.false, l.invariant.height_is) in
     ok_so c.send.result _ _
     (picture_written c.args.picture.now l.y (g.W.Sink.written c.args.sink.now)
-    (g.W.Sink.written l.sink) (g.W.Sink.written c.send.new.sink) l.waiting.items
+    (g.W.Sink.written l.sink) (g.W.Sink.written c.send.new.sink) l.waiting
     c.as_slice.result.now l.invariant.gathered rows c.width-width.ensures.whole
-    c.as_slice.ensures.value) c.send.ensures.done
+    c.as_slice.ensures) c.send.ensures.done
 
 pub returns-clause-stopped : goal.returns-clause-stopped
 returns-clause-stopped g c =
     let l = c.loop-y in
     err_so c.send.result _ _
     (picture_stopped c.args.picture.now l.y (g.W.Sink.written c.args.sink.now)
-    (g.W.Sink.written l.sink) (g.W.Sink.written c.send.new.sink) l.waiting.items
-    c.as_slice.result.now l.invariant.gathered c.as_slice.ensures.value) c.send.ensures.stopped
+    (g.W.Sink.written l.sink) (g.W.Sink.written c.send.new.sink) l.waiting
+    c.as_slice.result.now l.invariant.gathered c.as_slice.ensures) c.send.ensures.stopped

@@ -9,6 +9,7 @@ invariant-loop-y g l = record {
   width_is : l.width ≡ l.picture.width;
   height_is : l.height ≡ l.picture.height;
   gathered : AppendsUpTo (g.W.Sink.written l.initial.sink) (g.W.Sink.written l.sink)
-      (text_up_to l.picture l.y) l.waiting.items;
+      (text_up_to l.picture l.y) l.waiting;
   none_failed : g.W.Sink.failed l.sink ≡ g.W.Sink.failed l.initial.sink;
+  same_reference : g.W.Sink.reference l.sink ≡ g.W.Sink.reference l.initial.sink;
 }

@@ -15,4 +15,5 @@ loop-rest-preserved g c =
           (then_written old mid new c.args.bytes.now l.rest.now _ l.invariant.written
           (some_written mid new l.rest.now c.in-Ok.taken c.in-Ok.ensures.bytes));
       none_failed = c.in-Ok.ensures.count.0 (search rules) ∙ l.invariant.none_failed;
+      same_reference = c.write.ensures.same_reference ∙ l.invariant.same_reference;
     }

@@ -7,6 +7,7 @@ abbrev pub invariant-loop-rest : goal.invariant-loop-rest
 invariant-loop-rest g l = record {
   written : AppendsUpTo (g.W.Sink.written l.initial.sink) (g.W.Sink.written l.sink) l.bytes l.rest;
   none_failed : g.W.Sink.failed l.sink ≡ g.W.Sink.failed l.initial.sink;
+  same_reference : g.W.Sink.reference l.sink ≡ g.W.Sink.reference l.initial.sink;
 }
 
 abbrev pub decreases-loop-rest : goal.decreases-loop-rest

@@ -68,20 +68,21 @@ impl Lot {
         Rect { x, y, w, h }
     }
 
-    // A colour, mostly one of three.
+    // A colour, mostly one of four, the last two of which are the same pixel in each format.
     fn colour(&mut self) -> Colour {
         match self.up_to(7) {
             0 => Colour {
-                r: self.byte(),
-                g: self.byte(),
-                b: self.byte(),
+                r: self.up_to(65_535),
+                g: self.up_to(65_535),
+                b: self.up_to(65_535),
             },
             1..=3 => super::ORANGE,
             4..=5 => Colour {
                 r: 0,
-                g: 40,
-                b: 255,
+                g: 10_280,
+                b: 65_535,
             },
+            6 => Colour { r: 32, g: 0, b: 32 },
             _ => super::BLACK,
         }
     }

@@ -9,8 +9,22 @@ use Rattle.rfb_codec.specs.Rre.{pixel_at}
 use Rattle.rfb_codec.specs.inside.TileRead.{sub_behind, subs_in}
 use Rattle.rfb_codec.specs.Painter.{over}
 use Rattle.rfb_codec.proofs.PaintRreLemmas.{moved, moved_inside, over_filled}
-use Rattle.rfb_codec.proofs.TileReadLemmas.{subs_in-more}
+use Rattle.rfb_codec.proofs.TileReadLemmas.{subs_in-none, subs_in-more}
 use Rattle.rfb_codec.proofs.hextile.paint.drawing.draw_each.Goals as goal
+
+pub loop-n-init : goal.loop-n-init
+loop-n-init c =
+    let f = c.args.format in
+    let rect = c.args.rect in
+    let before = c.args.picture.now in
+    record {
+      shown =
+          c.fill_tile.ensures.value
+          ∙ ap (λ k. filled rect k before) c.unpacked.ensures
+          ∙ ap (λ (all : List Subrect). over rect (λ x y. colour_of f (pixel_at c.args.pixels.background all x y)) before) (subs_in-none f c.args.pixels.foreground c.args.colored c.args.list.now);
+      width = c.fill_tile.ensures.width;
+      height = c.fill_tile.ensures.height;
+    }
 
 pub fill_part-requires : goal.fill_part-requires
 fill_part-requires c =
