@@ -11,6 +11,7 @@ mod channel;
 mod colour;
 mod fault;
 mod format;
+mod lanes;
 mod rows;
 
 pub use colour::Colour;

@@ -1,7 +1,13 @@
 //! Where two rows of pixel values differ.
 
-ghost use Rattle.std.specs.Prelude.{◌≡◌, ℕ, ◌<◌, ◌↔◌, length, slice_index, IfSome, IsNone};
+ghost use Rattle.std.specs.Prelude.{◌≡◌, ℕ, ◌<◌, ◌≤◌, ◌+◌, ◌↔◌, length, slice_index, IfSome, IsNone};
+ghost use Rattle.std.specs.Bool.{OnTrue};
 ghost use Rattle.rfb_pixel.specs.Rows.{IsFirstDiff, IsLastDiff};
+
+use std::simd::u32x16;
+
+// How many places are compared at once.
+const LANES: usize = 16;
 
 /// The first place where two rows of one length differ. None where they are the same.
 pub fn first_diff(a: &[u32], b: &[u32]) -> Option<usize>
@@ -9,7 +15,11 @@ pub fn first_diff(a: &[u32], b: &[u32]) -> Option<usize>
     ensures found { IfSome result (λ i. IsFirstDiff a.now b.now i) }
     ensures same { IsNone result ↔ (a.now ≡ b.now) }
 {
-    for i in 0..a.len() {
+    let mut at = 0;
+    while a.len() - at >= LANES && are_same(a, b, at) {
+        at += LANES;
+    }
+    for i in at..a.len() {
         if a[i] != b[i] {
             return Some(i);
         }
@@ -24,6 +34,9 @@ pub fn last_diff(a: &[u32], b: &[u32]) -> Option<usize>
     ensures same { IsNone result ↔ (a.now ≡ b.now) }
 {
     let mut end = a.len();
+    while end >= LANES && are_same(a, b, end - LANES) {
+        end -= LANES;
+    }
     while end > 0 {
         end -= 1;
         if a[end] != b[end] {
@@ -31,6 +44,17 @@ pub fn last_diff(a: &[u32], b: &[u32]) -> Option<usize>
         }
     }
     None
+}
+
+// Whether the sixteen places of two rows that begin at `at` are the same.
+#[inline(always)]
+fn are_same(a: &[u32], b: &[u32], at: usize) -> bool
+    requires left { at + 16 ≤ length a.now }
+    requires right { at + 16 ≤ length b.now }
+    ensures { OnTrue result ((k : ℕ) → at ≤ k → k < at + 16 →
+        slice_index a.now k ≡ slice_index b.now k) }
+{
+    u32x16::from_slice(&a[at..]) == u32x16::from_slice(&b[at..])
 }
 
 #[cfg(test)]

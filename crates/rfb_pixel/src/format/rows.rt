@@ -1,10 +1,11 @@
 //! Rows of pixels: their values of colours, and colours of their bytes.
 
 ghost use Rattle.std.specs.Prelude.{◌≡◌, ◌*◌, length, map};
-ghost use Rattle.rfb_pixel.specs.Format.{size_of, pixel_of, ArePixels, AreColours};
+ghost use Rattle.rfb_pixel.specs.Format.{rgb888, size_of, pixel_of, ArePixels, AreColours};
 
 use crate::colour::Colour;
 use crate::format::Format;
+use crate::lanes::{LANES, pack_eight_rgb888, unpack_eight_rgb888};
 
 impl Format {
     /// Writes the pixel value of each colour of a row. Each fits the format's size.
@@ -15,7 +16,7 @@ impl Format {
     {
         // The loops for the formats that most viewers ask for are far shorter.
         if *self == Format::rgb888() {
-            pack_each(Format::rgb888(), colours, pixels);
+            pack_rgb888(colours, pixels);
         } else if *self == Format::rgb565() {
             pack_each(Format::rgb565(), colours, pixels);
         } else {
@@ -31,7 +32,7 @@ impl Format {
     {
         // As for `pack_row`, a loop each.
         if *self == Format::rgb888() {
-            unpack_each(Format::rgb888(), bytes, colours);
+            unpack_rgb888(bytes, colours);
         } else if *self == Format::rgb565() {
             unpack_each(Format::rgb565(), bytes, colours);
         } else {
@@ -52,6 +53,20 @@ fn pack_each(format: Format, colours: &[Colour], pixels: &mut [u32])
     }
 }
 
+// The same in rgb888, by eight colours at once.
+fn pack_rgb888(colours: &[Colour], pixels: &mut [u32])
+    requires { length colours.now ≡ length pixels.old }
+    ensures value { pixels.new ≡ map (pixel_of rgb888) colours.now }
+    ensures bound { ArePixels rgb888 pixels.new }
+{
+    let mut at = 0;
+    while colours.len() - at >= LANES {
+        pack_eight_rgb888(&colours[at..at + LANES]).copy_to_slice(&mut pixels[at..]);
+        at += LANES;
+    }
+    pack_each(Format::rgb888(), &colours[at..], &mut pixels[at..]);
+}
+
 // Writes the colour of each pixel, by one loop for every format.
 #[inline(always)]
 fn unpack_each(format: Format, bytes: &[u8], colours: &mut [Colour])
@@ -62,4 +77,18 @@ fn unpack_each(format: Format, bytes: &[u8], colours: &mut [Colour])
     for (k, colour) in colours.iter_mut().enumerate() {
         *colour = format.unpack(format.take(&bytes[k * size..k * size + size]));
     }
+}
+
+// The same of rgb888, by eight pixels at once.
+#[inline(always)]
+fn unpack_rgb888(bytes: &[u8], colours: &mut [Colour])
+    requires { length bytes.now ≡ length colours.old * 4 }
+    ensures { AreColours rgb888 bytes.now colours.new }
+{
+    let mut at = 0;
+    while colours.len() - at >= LANES {
+        unpack_eight_rgb888(&bytes[at * 4..at * 4 + 32], &mut colours[at..at + LANES]);
+        at += LANES;
+    }
+    unpack_each(Format::rgb888(), &bytes[at * 4..], &mut colours[at..]);
 }

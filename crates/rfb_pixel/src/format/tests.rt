@@ -90,4 +90,5 @@ fn a_row_of_colours_is_packed_in_order(rt: HostRuntime) {
     assert_eq!(rt; pixels[0], 0x3FF0_0000, "a row of no colours");
 }
 
+mod rows;
 mod spelling;

@@ -1,0 +1,88 @@
+-- Eight pixels' bytes as colours.
+use Rattle.std.proofs.Common.{◌≡◌, ◌∙◌, ℕ, ◌+◌, ◌-◌, ◌*◌, ◌/◌, ◌%◌, ◌<◌, ◌≤◌, zero, suc, List, [], ◌∷◌, ◌++◌, drop, take, length, slice_index_or, slice_set, sym, ap, refl, arith}
+use Rattle.std.proofs.lemmas.List.{get_or-drop, get_or-take, get_or_append_left, get_or-append-add, length-take-le}
+use Rattle.std.proofs.lemmas.Slice.{take-put_mid, take-put_mid_below}
+use borrow.Rule.Slice.PartMut.{put_mid}
+use lib.ListN.{get_or}
+use mir.Syntax.{w8}
+use mir.Val.{Fits}
+use Rattle.rfb_pixel.specs.declared.colour.Colour.{Colour}
+use Rattle.rfb_pixel.specs.Channel.{rescaled}
+use Rattle.rfb_pixel.specs.Format.{colour_of, pixel_number, rgb888}
+use Rattle.rfb_pixel.proofs.FormatLemmas.{same_colour}
+
+-- eight places of a row are written one by one
+pub eight_written : (P : ℕ → Colour → Type 0) (row : List Colour) (a b c d e f g h : Colour) → length row ≡ 8 →
+    P 0 a → P 1 b → P 2 c → P 3 d → P 4 e → P 5 f → P 6 g → P 7 h → (k : ℕ) (none : Colour) →
+    k < length (slice_set (slice_set (slice_set (slice_set (slice_set (slice_set (slice_set (slice_set row 0 a) 1 b) 2 c) 3 d) 4 e) 5 f) 6 g) 7 h) →
+    P k (slice_index_or (slice_set (slice_set (slice_set (slice_set (slice_set (slice_set (slice_set (slice_set row 0 a) 1 b) 2 c) 3 d) 4 e) 5 f) 6 g) 7 h) k none)
+eight_written P [] a b c d e f g h long = absurd (omega arith)
+eight_written P (s ∷ []) a b c d e f g h long = absurd (omega arith)
+eight_written P (s ∷ t ∷ []) a b c d e f g h long = absurd (omega arith)
+eight_written P (s ∷ t ∷ u ∷ []) a b c d e f g h long = absurd (omega arith)
+eight_written P (s ∷ t ∷ u ∷ v ∷ []) a b c d e f g h long = absurd (omega arith)
+eight_written P (s ∷ t ∷ u ∷ v ∷ w ∷ []) a b c d e f g h long = absurd (omega arith)
+eight_written P (s ∷ t ∷ u ∷ v ∷ w ∷ x ∷ []) a b c d e f g h long = absurd (omega arith)
+eight_written P (s ∷ t ∷ u ∷ v ∷ w ∷ x ∷ y ∷ []) a b c d e f g h long = absurd (omega arith)
+eight_written P (s ∷ t ∷ u ∷ v ∷ w ∷ x ∷ y ∷ z ∷ []) a b c d e f g h long = λ is_a is_b is_c is_d is_e is_f is_g is_h. go is_a is_b is_c is_d is_e is_f is_g is_h
+  where
+    go : P 0 a → P 1 b → P 2 c → P 3 d → P 4 e → P 5 f → P 6 g → P 7 h → (k : ℕ) (none : Colour) → k < 8 → P k (slice_index_or (a ∷ b ∷ c ∷ d ∷ e ∷ f ∷ g ∷ h ∷ []) k none)
+    go is_a is_b is_c is_d is_e is_f is_g is_h zero none below = is_a
+    go is_a is_b is_c is_d is_e is_f is_g is_h (suc zero) none below = is_b
+    go is_a is_b is_c is_d is_e is_f is_g is_h (suc (suc zero)) none below = is_c
+    go is_a is_b is_c is_d is_e is_f is_g is_h (suc (suc (suc zero))) none below = is_d
+    go is_a is_b is_c is_d is_e is_f is_g is_h (suc (suc (suc (suc zero)))) none below = is_e
+    go is_a is_b is_c is_d is_e is_f is_g is_h (suc (suc (suc (suc (suc zero))))) none below = is_f
+    go is_a is_b is_c is_d is_e is_f is_g is_h (suc (suc (suc (suc (suc (suc zero)))))) none below = is_g
+    go is_a is_b is_c is_d is_e is_f is_g is_h (suc (suc (suc (suc (suc (suc (suc zero))))))) none below = is_h
+    go is_a is_b is_c is_d is_e is_f is_g is_h (suc (suc (suc (suc (suc (suc (suc (suc k)))))))) none below = absurd (omega arith)
+eight_written P (s ∷ t ∷ u ∷ v ∷ w ∷ x ∷ y ∷ z ∷ more ∷ row) a b c d e f g h long = absurd (omega arith)
+
+-- a byte of a pixel of rgb888 as a component
+red_in : (b g r x : ℕ) → b < 256 → g < 256 → r < 256 → x < 256 → rescaled 255 65535 ((b + 256 * (g + 256 * (r + 256 * (x + 0)))) / 65536 % 256) ≡ 257 * r
+red_in b g r x small_b small_g small_r small_x = omega (arith, small_b, small_g, small_r, small_x)
+
+green_in : (b g r x : ℕ) → b < 256 → g < 256 → r < 256 → x < 256 → rescaled 255 65535 ((b + 256 * (g + 256 * (r + 256 * (x + 0)))) / 256 % 256) ≡ 257 * g
+green_in b g r x small_b small_g small_r small_x = omega (arith, small_b, small_g, small_r, small_x)
+
+blue_in : (b g r x : ℕ) → b < 256 → g < 256 → r < 256 → x < 256 → rescaled 255 65535 ((b + 256 * (g + 256 * (r + 256 * (x + 0)))) / 1 % 256) ≡ 257 * b
+blue_in b g r x small_b small_g small_r small_x = omega (arith, small_b, small_g, small_r, small_x)
+
+-- a lane of the eight pixels' bytes
+lane : (bytes : List ℕ) (i : ℕ) → length bytes ≡ 32 → i < 32 → get_or (take 32 bytes ++ take 32 bytes) i 0 ≡ get_or bytes i 0
+lane bytes i long low =
+    let front : length (take 32 bytes) ≡ 32 = length-take-le 32 bytes (omega (arith, long)) in
+    get_or_append_left (take 32 bytes) (take 32 bytes) 0 i (omega (arith, front, low)) ∙ get_or-take 32 bytes i 0 low
+
+component_is : (byte lane : ℕ) → lane ≡ byte → byte < 256 → lane * 257 % 65536 ≡ 257 * byte
+component_is byte lane is small = omega (arith, is, small)
+
+-- three lanes are the colour of the pixel whose bytes they are of
+pub shown : (bytes : List ℕ) (at : ℕ) → length bytes ≡ 32 → ((i : ℕ) → Fits w8 (get_or bytes i 0)) → at + 4 ≤ 32 →
+    record {
+      r = get_or (take 32 bytes ++ take 32 bytes) (at + 2) 0 * 257 % 65536;
+      g = get_or (take 32 bytes ++ take 32 bytes) (at + 1) 0 * 257 % 65536;
+      b = get_or (take 32 bytes ++ take 32 bytes) (at + 0) 0 * 257 % 65536;
+    } ≡ colour_of rgb888 (pixel_number rgb888 (drop at bytes))
+shown bytes at long fit within =
+    let byte = λ (i : ℕ). get_or bytes (at + i) 0 in
+    let small = λ (i : ℕ). (fit (at + i)).fits in
+    let is = λ (i : ℕ). get_or-drop at bytes i 0 in
+    same_colour _ (colour_of rgb888 (pixel_number rgb888 (drop at bytes)))
+    (component_is (byte 2) _ (lane bytes (at + 2) long (omega arith)) (small 2) ∙ sym (rw (is 0, is 1, is 2, is 3) (red_in (byte 0) (byte 1) (byte 2) (byte 3) (small 0) (small 1) (small 2) (small 3))))
+    (component_is (byte 1) _ (lane bytes (at + 1) long (omega arith)) (small 1) ∙ sym (rw (is 0, is 1, is 2, is 3) (green_in (byte 0) (byte 1) (byte 2) (byte 3) (small 0) (small 1) (small 2) (small 3))))
+    (component_is (byte 0) _ (lane bytes (at + 0) long (omega arith)) (small 0) ∙ sym (rw (is 0, is 1, is 2, is 3) (blue_in (byte 0) (byte 1) (byte 2) (byte 3) (small 0) (small 1) (small 2) (small 3))))
+
+-- a place of a list whose end from a place on is written anew
+pub below_end : {X : Type 0} (a k : ℕ) (xs ys : List X) (i : ℕ) (d : X) → a ≤ length xs → i < a → slice_index_or (put_mid a k xs ys) i d ≡ slice_index_or xs i d
+below_end a k xs ys i d within low =
+    sym (get_or-take a (put_mid a k xs ys) i d low) ∙ ap (λ l. slice_index_or l i d) (take-put_mid_below a k xs ys a (omega arith) within) ∙ get_or-take a xs i d low
+
+pub in_end : {X : Type 0} (a k : ℕ) (xs ys : List X) (i : ℕ) (d : X) → a ≤ length xs → a ≤ i → i < a + length ys → slice_index_or (put_mid a k xs ys) i d ≡ slice_index_or ys (i - a) d
+in_end a k xs ys i d within high low =
+    let front : length (take a xs) ≡ a = length-take-le a xs within in
+    let place : length (take a xs) + (i - a) ≡ i = omega (arith, front, high) in
+    sym (get_or-take (a + length ys) (put_mid a k xs ys) i d low)
+    ∙ ap (λ l. slice_index_or l i d) (take-put_mid a k xs ys (a + length ys) refl within)
+    ∙ ap (λ j. slice_index_or (take a xs ++ ys) j d) (sym place)
+    ∙ get_or-append-add (take a xs) ys (i - a) d
