@@ -6,3 +6,9 @@ mod WideningLemmas
 mod LaneLemmas
 mod UnpackLemmas
 mod PackLemmas
+mod CountLemmas
+mod DifferingLemmas
+mod Pack565Lemmas
+mod Unpack565Lemmas
+mod Unpack233Lemmas
+mod Pack888Lemmas

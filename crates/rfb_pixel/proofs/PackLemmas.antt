@@ -1,18 +1,11 @@
--- Eight colours as pixels of rgb888.
-use Rattle.std.proofs.Common.{◌≡◌, ◌∙◌, ℕ, ◌+◌, ◌*◌, ◌/◌, ◌%◌, ◌^◌, ◌<◌, ◌≤◌, zero, suc, List, [], ◌∷◌, Bool, true, false, cond, nat_lt, drop, take, length, slice_index_or, sym, ap, refl, arith, length-drop}
-use Rattle.std.specs.Prelude.{bit_and, bit_or}
-use Rattle.std.proofs.lemmas.Bool.Decides.{nat_tests}
-use Rattle.std.proofs.lemmas.Nat.{and_mask, or_shifted}
-use Rattle.std.proofs.lemmas.Simd.{below_from_Fits, get_or_wider}
-use Rattle.byteorder.specs.Endian.{little_number}
-use lib.Lanes.{Each1, digits_l, number_l, top}
-use lib.ListN.{get_or}
+-- Eight colours as pixels, in any format.
+use Rattle.std.proofs.Common.{◌≡◌, ℕ, ◌<◌, zero, suc, List, [], ◌∷◌, length, map, slice_index, slice_index_or, ap, refl, arith}
 use Rattle.std.proofs.lemmas.List.{get_or_default}
-use mir.Syntax.{w8}
+use mir.Syntax.{w16}
 use mir.Val.{Fits}
 use Rattle.rfb_pixel.specs.declared.colour.Colour.{Colour}
-use Rattle.rfb_pixel.specs.Channel.{rescaled}
-use Rattle.rfb_pixel.specs.Format.{pixel_of, rgb888}
+use Rattle.rfb_pixel.specs.Format.{IsColour}
+use Rattle.rfb_pixel.specs.inside.Lanes.{of_three}
 
 -- each of eight places by itself
 pub eight_below : (P : ℕ → Type 0) → P 0 → P 1 → P 2 → P 3 → P 4 → P 5 → P 6 → P 7 → (k : ℕ) → k < 8 → P k
@@ -26,43 +19,25 @@ eight_below P a b c d e f g h (suc (suc (suc (suc (suc (suc zero)))))) below = g
 eight_below P a b c d e f g h (suc (suc (suc (suc (suc (suc (suc zero))))))) below = h
 eight_below P a b c d e f g h (suc (suc (suc (suc (suc (suc (suc (suc k)))))))) below = absurd (omega arith)
 
--- a lane's component as a byte
-by_test : (component : ℕ) (small : Bool) → small ≡ nat_lt component 65407 → component < 65536 →
-    bit_and ((cond (top 15 (cond small 65535 0)) component 65407 + 128) % 65536 / 257) 255 ≡ rescaled 65535 255 component
-by_test component true is fits =
-    let low : component < 65407 = grind (arith, nat_tests, is) in
-    and_mask ((component + 128) % 65536 / 257) 8 ∙ omega (arith, low)
-by_test component false is fits =
-    let high : 65407 ≤ component = grind (arith, nat_tests, is) in
-    omega (arith, high, fits)
+-- eight colours of a row, each as a pixel
+pub eight_packed : (pixel : Colour → ℕ) (row : List Colour) (none d : Colour) → length row ≡ 8 → (k : ℕ) → k < 8 →
+    slice_index (map pixel (slice_index_or row 0 none ∷ slice_index_or row 1 none ∷ slice_index_or row 2 none ∷ slice_index_or row 3 none
+    ∷ slice_index_or row 4 none ∷ slice_index_or row 5 none ∷ slice_index_or row 6 none ∷ slice_index_or row 7 none ∷ [])) k
+    ≡ pixel (slice_index_or row k d)
+eight_packed pixel row none d long =
+    let at = λ (k : ℕ) (below : k < 8). ap pixel (get_or_default row k none d (omega (arith, long, below))) in
+    eight_below (λ k. slice_index (map pixel (slice_index_or row 0 none ∷ slice_index_or row 1 none ∷ slice_index_or row 2 none ∷ slice_index_or row 3 none
+    ∷ slice_index_or row 4 none ∷ slice_index_or row 5 none ∷ slice_index_or row 6 none ∷ slice_index_or row 7 none ∷ [])) k ≡ pixel (slice_index_or row k d))
+    (at 0 (omega arith)) (at 1 (omega arith)) (at 2 (omega arith)) (at 3 (omega arith))
+    (at 4 (omega arith)) (at 5 (omega arith)) (at 6 (omega arith)) (at 7 (omega arith))
 
-pub byte_of : (component : ℕ) → component < 65536 →
-    bit_and ((cond (top 15 (cond (nat_lt component 65407) 65535 0)) component 65407 + 128) % 65536 / 257) 255 ≡ rescaled 65535 255 component
-byte_of component fits = by_test component (nat_lt component 65407) refl fits
+-- eight colours one by one, where a lane of each is its pixel
+pub eight_same : (lane pixel : Colour → ℕ) (a b c d e f g h : Colour) → lane a ≡ pixel a → lane b ≡ pixel b → lane c ≡ pixel c → lane d ≡ pixel d →
+    lane e ≡ pixel e → lane f ≡ pixel f → lane g ≡ pixel g → lane h ≡ pixel h →
+    lane a ∷ lane b ∷ lane c ∷ lane d ∷ lane e ∷ lane f ∷ lane g ∷ lane h ∷ [] ≡ map pixel (a ∷ b ∷ c ∷ d ∷ e ∷ f ∷ g ∷ h ∷ [])
+eight_same lane pixel a b c d e f g h is_a is_b is_c is_d is_e is_f is_g is_h =
+    rw (is_a, is_b, is_c, is_d, is_e, is_f, is_g, is_h) refl
 
--- the bytes of a pixel of rgb888, the lowest first
-pub pixel_of_four : (row : List Colour) (k n r g b : ℕ) (none d : Colour) → k < length row →
-    n ≡ b + 256 * (g + 256 * (r + 256 * (0 + 256 * 0))) → g < 256 → b < 256 →
-    r ≡ rescaled 65535 255 (slice_index_or row k none).r → g ≡ rescaled 65535 255 (slice_index_or row k none).g →
-    b ≡ rescaled 65535 255 (slice_index_or row k none).b → n ≡ pixel_of rgb888 (slice_index_or row k d)
-pixel_of_four row k n r g b none d within is small_g small_b red green blue =
-    let two : bit_or (r * 2 ^ 16) (g * 2 ^ 8) ≡ (r * 256 + g) * 2 ^ 8 = or_shifted r 16 (g * 2 ^ 8) (omega (arith, small_g)) ∙ omega arith in
-    let one : b * 2 ^ 0 ≡ b = omega arith in
-    let packed : bit_or (bit_or (r * 2 ^ 16) (g * 2 ^ 8)) (b * 2 ^ 0) ≡ n = rw (two, one) (or_shifted (r * 256 + g) 8 b small_b ∙ omega (arith, is)) in
-    sym packed
-    ∙ rw (red, green, blue) refl
-    ∙ ap (pixel_of rgb888) (get_or_default row k none d within)
-
--- four bytes as a number
-four : (bytes : List ℕ) → 4 ≤ length bytes → number_l 256 (take 4 bytes) ≡ little_number 4 bytes
-four [] long = absurd (omega arith)
-four (a ∷ []) long = absurd (omega arith)
-four (a ∷ b ∷ []) long = absurd (omega arith)
-four (a ∷ b ∷ c ∷ []) long = absurd (omega arith)
-four (a ∷ b ∷ c ∷ d ∷ bytes) long = omega arith
-
-pub numbers : (bytes : List ℕ) → length bytes ≡ 32 → Each1 (Fits w8) bytes → (k : ℕ) → k < 8 →
-    get_or (digits_l 4294967296 8 (number_l 256 bytes)) k 0 ≡ little_number 4 (drop (4 * k) bytes)
-numbers bytes long fit k below =
-    get_or_wider 256 4 4294967296 8 bytes k refl (below_from_Fits w8 bytes fit) below
-    ∙ four (drop (4 * k) bytes) (omega (arith, length-drop (4 * k) bytes))
+-- colours of components that fit sixteen bits
+pub three_fit : (r g b : ℕ) → Fits w16 r → Fits w16 g → Fits w16 b → IsColour (of_three r g b)
+three_fit r g b red green blue = (omega (arith, red.fits), omega (arith, green.fits), omega (arith, blue.fits))

@@ -1,5 +1,6 @@
 -- Eight pixels' bytes as colours.
 use Rattle.std.proofs.Common.{◌≡◌, ◌∙◌, ℕ, ◌+◌, ◌-◌, ◌*◌, ◌/◌, ◌%◌, ◌<◌, ◌≤◌, zero, suc, List, [], ◌∷◌, ◌++◌, drop, take, length, slice_index_or, slice_set, sym, ap, refl, arith}
+use Rattle.std.specs.Prelude.{bit_and}
 use Rattle.std.proofs.lemmas.List.{get_or-drop, get_or-take, get_or_append_left, get_or-append-add, length-take-le}
 use Rattle.std.proofs.lemmas.Slice.{take-put_mid, take-put_mid_below}
 use borrow.Rule.Slice.PartMut.{put_mid}
@@ -12,31 +13,37 @@ use Rattle.rfb_pixel.specs.Format.{colour_of, pixel_number, rgb888}
 use Rattle.rfb_pixel.proofs.FormatLemmas.{same_colour}
 
 -- eight places of a row are written one by one
-pub eight_written : (P : ℕ → Colour → Type 0) (row : List Colour) (a b c d e f g h : Colour) → length row ≡ 8 →
-    P 0 a → P 1 b → P 2 c → P 3 d → P 4 e → P 5 f → P 6 g → P 7 h → (k : ℕ) (none : Colour) →
-    k < length (slice_set (slice_set (slice_set (slice_set (slice_set (slice_set (slice_set (slice_set row 0 a) 1 b) 2 c) 3 d) 4 e) 5 f) 6 g) 7 h) →
-    P k (slice_index_or (slice_set (slice_set (slice_set (slice_set (slice_set (slice_set (slice_set (slice_set row 0 a) 1 b) 2 c) 3 d) 4 e) 5 f) 6 g) 7 h) k none)
-eight_written P [] a b c d e f g h long = absurd (omega arith)
-eight_written P (s ∷ []) a b c d e f g h long = absurd (omega arith)
-eight_written P (s ∷ t ∷ []) a b c d e f g h long = absurd (omega arith)
-eight_written P (s ∷ t ∷ u ∷ []) a b c d e f g h long = absurd (omega arith)
-eight_written P (s ∷ t ∷ u ∷ v ∷ []) a b c d e f g h long = absurd (omega arith)
-eight_written P (s ∷ t ∷ u ∷ v ∷ w ∷ []) a b c d e f g h long = absurd (omega arith)
-eight_written P (s ∷ t ∷ u ∷ v ∷ w ∷ x ∷ []) a b c d e f g h long = absurd (omega arith)
-eight_written P (s ∷ t ∷ u ∷ v ∷ w ∷ x ∷ y ∷ []) a b c d e f g h long = absurd (omega arith)
-eight_written P (s ∷ t ∷ u ∷ v ∷ w ∷ x ∷ y ∷ z ∷ []) a b c d e f g h long = λ is_a is_b is_c is_d is_e is_f is_g is_h. go is_a is_b is_c is_d is_e is_f is_g is_h
-  where
-    go : P 0 a → P 1 b → P 2 c → P 3 d → P 4 e → P 5 f → P 6 g → P 7 h → (k : ℕ) (none : Colour) → k < 8 → P k (slice_index_or (a ∷ b ∷ c ∷ d ∷ e ∷ f ∷ g ∷ h ∷ []) k none)
-    go is_a is_b is_c is_d is_e is_f is_g is_h zero none below = is_a
-    go is_a is_b is_c is_d is_e is_f is_g is_h (suc zero) none below = is_b
-    go is_a is_b is_c is_d is_e is_f is_g is_h (suc (suc zero)) none below = is_c
-    go is_a is_b is_c is_d is_e is_f is_g is_h (suc (suc (suc zero))) none below = is_d
-    go is_a is_b is_c is_d is_e is_f is_g is_h (suc (suc (suc (suc zero)))) none below = is_e
-    go is_a is_b is_c is_d is_e is_f is_g is_h (suc (suc (suc (suc (suc zero))))) none below = is_f
-    go is_a is_b is_c is_d is_e is_f is_g is_h (suc (suc (suc (suc (suc (suc zero)))))) none below = is_g
-    go is_a is_b is_c is_d is_e is_f is_g is_h (suc (suc (suc (suc (suc (suc (suc zero))))))) none below = is_h
-    go is_a is_b is_c is_d is_e is_f is_g is_h (suc (suc (suc (suc (suc (suc (suc (suc k)))))))) none below = absurd (omega arith)
-eight_written P (s ∷ t ∷ u ∷ v ∷ w ∷ x ∷ y ∷ z ∷ more ∷ row) a b c d e f g h long = absurd (omega arith)
+pub eight_written : (row : List Colour) (a b c d e f g h : Colour) → length row ≡ 8 →
+    slice_set (slice_set (slice_set (slice_set (slice_set (slice_set (slice_set (slice_set row 0 a) 1 b) 2 c) 3 d) 4 e) 5 f) 6 g) 7 h
+    ≡ a ∷ b ∷ c ∷ d ∷ e ∷ f ∷ g ∷ h ∷ []
+eight_written [] a b c d e f g h long = absurd (omega arith)
+eight_written (s ∷ []) a b c d e f g h long = absurd (omega arith)
+eight_written (s ∷ t ∷ []) a b c d e f g h long = absurd (omega arith)
+eight_written (s ∷ t ∷ u ∷ []) a b c d e f g h long = absurd (omega arith)
+eight_written (s ∷ t ∷ u ∷ v ∷ []) a b c d e f g h long = absurd (omega arith)
+eight_written (s ∷ t ∷ u ∷ v ∷ w ∷ []) a b c d e f g h long = absurd (omega arith)
+eight_written (s ∷ t ∷ u ∷ v ∷ w ∷ x ∷ []) a b c d e f g h long = absurd (omega arith)
+eight_written (s ∷ t ∷ u ∷ v ∷ w ∷ x ∷ y ∷ []) a b c d e f g h long = absurd (omega arith)
+eight_written (s ∷ t ∷ u ∷ v ∷ w ∷ x ∷ y ∷ z ∷ []) a b c d e f g h long = refl
+eight_written (s ∷ t ∷ u ∷ v ∷ w ∷ x ∷ y ∷ z ∷ more ∷ row) a b c d e f g h long = absurd (omega arith)
+
+-- each of eight colours by itself
+pub eight_shown : (P : ℕ → Colour → Type 0) (a b c d e f g h : Colour) →
+    P 0 a → P 1 b → P 2 c → P 3 d → P 4 e → P 5 f → P 6 g → P 7 h → (k : ℕ) (none : Colour) → k < 8 →
+    P k (slice_index_or (a ∷ b ∷ c ∷ d ∷ e ∷ f ∷ g ∷ h ∷ []) k none)
+eight_shown P a b c d e f g h is_a is_b is_c is_d is_e is_f is_g is_h zero none below = is_a
+eight_shown P a b c d e f g h is_a is_b is_c is_d is_e is_f is_g is_h (suc zero) none below = is_b
+eight_shown P a b c d e f g h is_a is_b is_c is_d is_e is_f is_g is_h (suc (suc zero)) none below = is_c
+eight_shown P a b c d e f g h is_a is_b is_c is_d is_e is_f is_g is_h (suc (suc (suc zero))) none below = is_d
+eight_shown P a b c d e f g h is_a is_b is_c is_d is_e is_f is_g is_h (suc (suc (suc (suc zero)))) none below = is_e
+eight_shown P a b c d e f g h is_a is_b is_c is_d is_e is_f is_g is_h (suc (suc (suc (suc (suc zero))))) none below = is_f
+eight_shown P a b c d e f g h is_a is_b is_c is_d is_e is_f is_g is_h (suc (suc (suc (suc (suc (suc zero)))))) none below = is_g
+eight_shown P a b c d e f g h is_a is_b is_c is_d is_e is_f is_g is_h (suc (suc (suc (suc (suc (suc (suc zero))))))) none below = is_h
+eight_shown P a b c d e f g h is_a is_b is_c is_d is_e is_f is_g is_h (suc (suc (suc (suc (suc (suc (suc (suc k)))))))) none below = absurd (omega arith)
+
+-- a lane that a pixel is shifted up in, without the bits below a field
+abbrev pub upper : ℕ → ℕ → ℕ → ℕ
+upper scale low p = (p * scale % 65536 + (65536 - bit_and (p * scale % 65536) low)) % 65536
 
 -- a byte of a pixel of rgb888 as a component
 red_in : (b g r x : ℕ) → b < 256 → g < 256 → r < 256 → x < 256 → rescaled 255 65535 ((b + 256 * (g + 256 * (r + 256 * (x + 0)))) / 65536 % 256) ≡ 257 * r

@@ -1,8 +1,9 @@
 //! Where two rows of pixel values differ.
 
-ghost use Rattle.std.specs.Prelude.{◌≡◌, ℕ, ◌<◌, ◌≤◌, ◌+◌, ◌↔◌, length, slice_index, IfSome, IsNone};
+ghost use Rattle.std.specs.Prelude.{◌≡◌, ℕ, ◌<◌, ◌≤◌, ◌+◌, ◌^◌, ◌==◌, ◌↔◌, not, nat_eq, drop, take, length, slice_index, IfSome, IsNone};
 ghost use Rattle.std.specs.Bool.{OnTrue};
-ghost use Rattle.rfb_pixel.specs.Rows.{IsFirstDiff, IsLastDiff};
+ghost use Rattle.std.specs.Int.{bit_at};
+ghost use Rattle.rfb_pixel.specs.Rows.{IsFirstDiff, IsLastDiff, equal_places, TellsDifferences};
 
 use std::simd::u32x16;
 
@@ -44,6 +45,68 @@ pub fn last_diff(a: &[u32], b: &[u32]) -> Option<usize>
         }
     }
     None
+}
+
+/// At how many places two rows of one length have the same pixel.
+pub fn count_equal(a: &[u32], b: &[u32]) -> usize
+    requires { length a.now ≡ length b.now }
+    ensures value { result ≡ equal_places a.now b.now }
+    ensures bound { result ≤ length a.now }
+{
+    let mut count = 0;
+    let mut at = 0;
+    while a.len() - at >= LANES {
+        count += count_same(a, b, at);
+        at += LANES;
+    }
+    for place in at..a.len() {
+        count += usize::from(a[place] == b[place]);
+    }
+    count
+}
+
+// How many of the sixteen places of two rows that begin at `at` are the same.
+#[inline(always)]
+fn count_same(a: &[u32], b: &[u32], at: usize) -> usize
+    requires left { at + 16 ≤ length a.now }
+    requires right { at + 16 ≤ length b.now }
+    ensures value { result ≡ equal_places (take 16 (drop at a.now)) (take 16 (drop at b.now)) }
+    ensures bound { result ≤ 16 }
+{
+    let same = u32x16::from_slice(&a[at..]).simd_eq(u32x16::from_slice(&b[at..]));
+    same.to_bitmask().count_ones() as usize
+}
+
+/// Which of the places of two rows of one length, at most 64, differ: bit `i` is set where place
+/// `i` does. A bit past their end is not set.
+pub fn differing(a: &[u32], b: &[u32]) -> u64
+    requires alike { length a.now ≡ length b.now }
+    requires few { length a.now ≤ 64 }
+    ensures { TellsDifferences a.now b.now result }
+{
+    let mut bits = 0;
+    let mut at = 0;
+    while a.len() - at >= LANES {
+        bits |= sixteen_differing(a, b, at) << at;
+        at += LANES;
+    }
+    for place in at..a.len() {
+        bits |= u64::from(a[place] != b[place]) << place;
+    }
+    bits
+}
+
+// Which of the sixteen places of two rows that begin at `at` differ.
+#[inline(always)]
+fn sixteen_differing(a: &[u32], b: &[u32], at: usize) -> u64
+    requires left { at + 16 ≤ length a.now }
+    requires right { at + 16 ≤ length b.now }
+    ensures value { (i : ℕ) → i < 16 → nat_eq (bit_at result i) 1
+        ≡ not (slice_index a.now (at + i) == slice_index b.now (at + i)) }
+    ensures bound { result < 2 ^ 16 }
+{
+    let differ = u32x16::from_slice(&a[at..]).simd_ne(u32x16::from_slice(&b[at..]));
+    differ.to_bitmask()
 }
 
 // Whether the sixteen places of two rows that begin at `at` are the same.

@@ -1,11 +1,15 @@
 //! Rows of pixels: their values of colours, and colours of their bytes.
 
 ghost use Rattle.std.specs.Prelude.{◌≡◌, ◌*◌, length, map};
-ghost use Rattle.rfb_pixel.specs.Format.{rgb888, size_of, pixel_of, ArePixels, AreColours};
+ghost use Rattle.rfb_pixel.specs.Format.{bgr233, rgb565, rgb888, size_of, pixel_of};
+ghost use Rattle.rfb_pixel.specs.Format.{ArePixels, AreColours};
 
 use crate::colour::Colour;
 use crate::format::Format;
-use crate::lanes::{LANES, pack_eight_rgb888, unpack_eight_rgb888};
+use crate::lanes::{
+    LANES, pack_eight_rgb565, pack_eight_rgb888, unpack_eight_bgr233, unpack_eight_rgb565,
+    unpack_eight_rgb888,
+};
 
 impl Format {
     /// Writes the pixel value of each colour of a row. Each fits the format's size.
@@ -18,7 +22,7 @@ impl Format {
         if *self == Format::rgb888() {
             pack_rgb888(colours, pixels);
         } else if *self == Format::rgb565() {
-            pack_each(Format::rgb565(), colours, pixels);
+            pack_rgb565(colours, pixels);
         } else {
             pack_each(*self, colours, pixels);
         }
@@ -34,7 +38,9 @@ impl Format {
         if *self == Format::rgb888() {
             unpack_rgb888(bytes, colours);
         } else if *self == Format::rgb565() {
-            unpack_each(Format::rgb565(), bytes, colours);
+            unpack_rgb565(bytes, colours);
+        } else if *self == Format::bgr233() {
+            unpack_bgr233(bytes, colours);
         } else {
             unpack_each(*self, bytes, colours);
         }
@@ -67,6 +73,20 @@ fn pack_rgb888(colours: &[Colour], pixels: &mut [u32])
     pack_each(Format::rgb888(), &colours[at..], &mut pixels[at..]);
 }
 
+// The same in rgb565.
+fn pack_rgb565(colours: &[Colour], pixels: &mut [u32])
+    requires { length colours.now ≡ length pixels.old }
+    ensures value { pixels.new ≡ map (pixel_of rgb565) colours.now }
+    ensures bound { ArePixels rgb565 pixels.new }
+{
+    let mut at = 0;
+    while colours.len() - at >= LANES {
+        pack_eight_rgb565(&colours[at..at + LANES]).copy_to_slice(&mut pixels[at..]);
+        at += LANES;
+    }
+    pack_each(Format::rgb565(), &colours[at..], &mut pixels[at..]);
+}
+
 // Writes the colour of each pixel, by one loop for every format.
 #[inline(always)]
 fn unpack_each(format: Format, bytes: &[u8], colours: &mut [Colour])
@@ -91,4 +111,32 @@ fn unpack_rgb888(bytes: &[u8], colours: &mut [Colour])
         at += LANES;
     }
     unpack_each(Format::rgb888(), &bytes[at * 4..], &mut colours[at..]);
+}
+
+// The same of rgb565.
+#[inline(always)]
+fn unpack_rgb565(bytes: &[u8], colours: &mut [Colour])
+    requires { length bytes.now ≡ length colours.old * 2 }
+    ensures { AreColours rgb565 bytes.now colours.new }
+{
+    let mut at = 0;
+    while colours.len() - at >= LANES {
+        unpack_eight_rgb565(&bytes[at * 2..at * 2 + 16], &mut colours[at..at + LANES]);
+        at += LANES;
+    }
+    unpack_each(Format::rgb565(), &bytes[at * 2..], &mut colours[at..]);
+}
+
+// The same of bgr233.
+#[inline(always)]
+fn unpack_bgr233(bytes: &[u8], colours: &mut [Colour])
+    requires { length bytes.now ≡ length colours.old }
+    ensures { AreColours bgr233 bytes.now colours.new }
+{
+    let mut at = 0;
+    while colours.len() - at >= LANES {
+        unpack_eight_bgr233(&bytes[at..at + LANES], &mut colours[at..at + LANES]);
+        at += LANES;
+    }
+    unpack_each(Format::bgr233(), &bytes[at..], &mut colours[at..]);
 }

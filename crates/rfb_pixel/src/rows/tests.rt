@@ -1,6 +1,6 @@
 //! Rows that differ at each of their places, at two of them, and nowhere.
 
-ghost use Rattle.std.specs.Prelude.{◌≡◌, ◌≤◌, length};
+ghost use Rattle.std.specs.Prelude.{◌≡◌, ◌+◌, ◌≤◌, length};
 
 use super::*;
 
@@ -54,6 +54,69 @@ fn differences_are_found_at_each_place_of_each_length(rt: HostRuntime) {
     }
     for from in 1..5 {
         let told = tells_all(from, LONGEST);
+        assert!(rt; told, "a row from {from} on");
+    }
+}
+
+// Whether so many places are counted as equal, where every third of a row differs.
+fn counts(from: usize, to: usize) -> bool
+    requires order { from ≤ to }
+    requires end { to ≤ 200 }
+{
+    let a = row();
+    let mut b = a;
+    let mut equal: usize = 0;
+    for place in from..to {
+        if place % 3 == 1 {
+            b[place] = !a[place];
+        } else {
+            equal = equal.wrapping_add(1);
+        }
+    }
+    count_equal(&a[from..to], &b[from..to]) == equal
+        && count_equal(&a[from..to], &a[from..to]) == to - from
+}
+
+#[test]
+fn equal_places_are_counted_in_rows_of_each_length(rt: HostRuntime) {
+    for to in 0..=LONGEST {
+        let counted = counts(0, to);
+        assert!(rt; counted, "a row of {to}");
+    }
+    for from in 1..5 {
+        let counted = counts(from, LONGEST);
+        assert!(rt; counted, "a row from {from} on");
+    }
+}
+
+// Whether each difference of two rows of at most 64 places is told by its bit alone.
+fn tells_each(from: usize, to: usize) -> bool
+    requires order { from ≤ to }
+    requires end { to ≤ from + 64 }
+    requires within { to ≤ 200 }
+{
+    let a = row();
+    let mut all = a;
+    for place in from..to {
+        let mut b = a;
+        b[place] = !a[place];
+        all[place] = !a[place];
+        if differing(&a[from..to], &b[from..to]) != 1 << (place - from) {
+            return false;
+        }
+    }
+    let told = differing(&a[from..to], &all[from..to]);
+    told.count_ones() as usize == to - from && told.trailing_ones() as usize == to - from
+}
+
+#[test]
+fn each_difference_of_a_row_has_its_bit(rt: HostRuntime) {
+    for to in 0..=64 {
+        let told = tells_each(0, to);
+        assert!(rt; told, "a row of {to}");
+    }
+    for from in 1..5 {
+        let told = tells_each(from, from + 64);
         assert!(rt; told, "a row from {from} on");
     }
 }

@@ -1,0 +1,14 @@
+use Rattle.std.proofs.Common.{◌≡◌, ℕ, ◌-◌, ◌*◌, ◌<◌, ◌≤◌, drop, length, slice_index_or}
+use Rattle.rfb_pixel.specs.declared.colour.Colour.{Colour}
+use Rattle.rfb_pixel.specs.Format.{colour_of, pixel_number, bgr233}
+use Rattle.rfb_pixel.proofs.format.rows.unpack_bgr233.Given as goal
+
+abbrev pub invariant-loop-colours : goal.invariant-loop-colours
+invariant-loop-colours l = record {
+  within : l.at ≤ length l.colours;
+  len : length l.colours ≡ length l.fn.colours;
+  shown : (k : ℕ) (d : Colour) → k < l.at → slice_index_or l.colours k d ≡ colour_of bgr233 (pixel_number bgr233 (drop (k * 1) l.bytes));
+}
+
+abbrev pub decreases-loop-colours : goal.decreases-loop-colours
+decreases-loop-colours l = length l.colours - l.at

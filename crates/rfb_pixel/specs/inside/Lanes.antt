@@ -1,0 +1,19 @@
+-- Eight colours in three vectors, whose components stand one behind another.
+use Rattle.std.specs.Prelude.{ℕ, List, [], ◌∷◌, slice_index}
+use Rattle.rfb_pixel.specs.declared.colour.Colour.{Colour}
+
+abbrev pub of_three : ℕ → ℕ → ℕ → Colour
+of_three red green blue = record { r = red; g = green; b = blue }
+
+-- the eight colours
+abbrev pub colours_in : List ℕ → List ℕ → List ℕ → List Colour
+colours_in x y z =
+    of_three (slice_index x 0) (slice_index x 1) (slice_index x 2)
+    ∷ of_three (slice_index x 3) (slice_index x 4) (slice_index x 5)
+    ∷ of_three (slice_index x 6) (slice_index x 7) (slice_index y 0)
+    ∷ of_three (slice_index y 1) (slice_index y 2) (slice_index y 3)
+    ∷ of_three (slice_index y 4) (slice_index y 5) (slice_index y 6)
+    ∷ of_three (slice_index y 7) (slice_index z 0) (slice_index z 1)
+    ∷ of_three (slice_index z 2) (slice_index z 3) (slice_index z 4)
+    ∷ of_three (slice_index z 5) (slice_index z 6) (slice_index z 7)
+    ∷ []
