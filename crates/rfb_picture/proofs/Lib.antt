@@ -16,3 +16,4 @@ pub mod CoverLemmas
 pub mod AreaLemmas
 pub mod NextCellLemmas
 pub mod SpanLemmas
+mod ShiftLemmas

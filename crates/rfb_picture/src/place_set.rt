@@ -1,6 +1,6 @@
 //! A set of the places of a picture.
 
-ghost use Rattle.std.specs.Prelude.{◌≡◌, ◌↔◌, ◌%◌, ◌<◌, ◌&&◌, false, true, IfOk, IsTrue};
+ghost use Rattle.std.specs.Prelude.{◌≡◌, ◌↔◌, ◌%◌, ◌<◌, ◌≤◌, ◌+◌, ◌*◌, ◌/◌, ◌&&◌, false, true, IfOk, IsTrue};
 
 use crate::plane::Plane;
 use crate::rect::Rect;
@@ -48,7 +48,7 @@ impl PlaceSet {
     ghost use Rattle.rfb_picture.specs.Box.{is_in, HasBox};
     ghost use Rattle.rfb_picture.specs.inside.Cells.{IsOfCells};
     ghost use Rattle.rfb_picture.specs.CellOrder.{HasNextCell, HasNextOfBoth, HasCandidate};
-    ghost use Rattle.rfb_picture.specs.Places.{AllMarked, HasRowBits, without};
+    ghost use Rattle.rfb_picture.specs.Places.{AllMarked, HasRowBits, HasBitsBetween, without};
 
     /// The set with no place, of a picture of `width` by `height` places. It asks for room for all
     /// its bits, in three pieces; where there is none it gives the error, and nothing is kept.
@@ -122,6 +122,20 @@ impl PlaceSet {
         } else {
             0
         }
+    }
+
+    /// Which places of row `y` from column `from` up to column `to`, all of one cell, are in the
+    /// set: bit `i` is set for the place `i` columns right of the cell's left edge, and no other.
+    #[inline]
+    pub fn row_bits_between(&self, y: u16, from: u16, to: u16) -> u64
+        requires row { y < self.now.height }
+        requires some { from < to }
+        requires columns { to ≤ self.now.width }
+        requires cell { to ≤ from / 64 * 64 + 64 }
+        ensures { HasBitsBetween (is_in self.now) y from to result }
+    {
+        let mask = columns_between(usize::from(from) / 64, usize::from(from), usize::from(to));
+        self.row_bits(from / 64 * 64, y) & mask
     }
 
     /// The least rectangle that holds the set's places in the cell, which lies in the picture;

@@ -33,14 +33,53 @@ fn copy_places<T: Copy>(places: &mut [T], from: usize, to: usize, count: usize)
     requires target { to + count ≤ length places.old }
     ensures { RunCopied from to count places.old places.new }
 {
-    // Where they lie apart they are moved as whole pieces of memory, else one after the other.
-    if from + count <= to {
-        let (before, after) = places.split_at_mut(to);
-        after[..count].copy_from_slice(&before[from..from + count]);
-    } else if to + count <= from {
-        let (before, after) = places.split_at_mut(from);
-        before[to..to + count].copy_from_slice(&after[..count]);
+    if to < from {
+        shift_left(places, from, to, count);
     } else {
-        places.copy_within(from..from + count, to);
+        shift_right(places, from, to, count);
     }
+}
+
+// How many places are moved at once.
+const PIECE: usize = 32;
+
+// The same where the target lies to the left of the source: from the left on, so that a place is
+// read before it is written.
+fn shift_left<T: Copy>(places: &mut [T], from: usize, to: usize, count: usize)
+    requires order { to ≤ from }
+    requires source { from + count ≤ length places.old }
+    ensures { RunCopied from to count places.old places.new }
+{
+    let mut done = 0;
+    while count - done >= PIECE {
+        move_piece(places, from + done, to + done);
+        done += PIECE;
+    }
+    places.copy_within(from + done..from + count, to + done);
+}
+
+// The same where it lies to the right: from the right on.
+fn shift_right<T: Copy>(places: &mut [T], from: usize, to: usize, count: usize)
+    requires order { from ≤ to }
+    requires target { to + count ≤ length places.old }
+    ensures { RunCopied from to count places.old places.new }
+{
+    let mut left = count;
+    while left >= PIECE {
+        left -= PIECE;
+        move_piece(places, from + left, to + left);
+    }
+    places.copy_within(from..from + left, to);
+}
+
+// Moves a piece, all of which is read before any of it is written.
+#[inline(always)]
+fn move_piece<T: Copy>(places: &mut [T], from: usize, to: usize)
+    requires source { from + PIECE ≤ length places.old }
+    requires target { to + PIECE ≤ length places.old }
+    ensures { RunCopied from to PIECE places.old places.new }
+{
+    let mut piece = [places[from]; PIECE];
+    piece.copy_from_slice(&places[from..from + PIECE]);
+    places[to..to + PIECE].copy_from_slice(&piece);
 }
