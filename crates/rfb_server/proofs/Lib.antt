@@ -25,6 +25,12 @@ pub mod ListLemmas
 pub mod CutTextLemmas
 pub mod SliceLemmas
 pub mod CountLemmas
+pub mod BitCountLemmas
+pub mod RightLemmas
+pub mod RightRowsLemmas
 pub mod CopyingLemmas
 pub mod UsingLemmas
 pub mod CopiedLemmas
+mod NeedingBits
+mod NeededLemmas
+mod SingleLemmas

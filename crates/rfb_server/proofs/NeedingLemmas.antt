@@ -11,7 +11,8 @@ use Rattle.rfb_picture.specs.Area.{asked_at}
 use Rattle.rfb_picture.proofs.GridLemmas.{contains_true, contains_row}
 use Rattle.rfb_server.specs.declared.session.Session.{Session}
 use Rattle.rfb_server.specs.Request.{wanted_at, differs}
-use Rattle.rfb_server.specs.inside.Needing.{IsAbout, IsFirst, IsEnd, HasBox, needs_of, rows_above}
+use Rattle.rfb_server.specs.declared.session.needing.Columns.{Columns}
+use Rattle.rfb_server.specs.inside.Needing.{IsAbout, IsFirst, IsEnd, HasBox, HasInRow, IsLastOf, SpansRows, needs_of, rows_above}
 
 -- ---- marks
 
@@ -67,52 +68,6 @@ row_clear p zone y order above first = λ x j a b c d.
       | inr other ↦ above x j a b c (omega arith)
     ]
 
--- this one is the first that has
-pub row_first : (p : ℕ → ℕ → Bool) (zone : Rect) (y left right : ℕ) → zone.y ≤ y →
-    HasBox p (rows_above zone y) None → left < zone.x + zone.w →
-    IsFirst p y zone.x (zone.x + zone.w) left → IsEnd p y (left + 1) (zone.x + zone.w) right →
-    IsBox p (rows_above zone (y + 1)) (record { x = left; y = y; w = right - left; h = 1 })
-row_first p zone y left right order above some first end =
-    let box : Rect = record { x = left; y = y; w = right - left; h = 1 } in
-    let wide : left < right = omega (arith, end.order) in
-    let rows : Rect = rows_above zone (y + 1) in
-    let here : p left y ≡ true = first.here some in
-    let last : p (right - 1) y ≡ true = by_end (cases_lt (left + 1) right) in
-    let column : left + (right - left) - 1 ≡ right - 1 = omega arith in
-    record {
-      within = (omega (arith, first.order), omega (arith, end.order), omega arith, omega arith);
-      holds = λ x j c m.
-          let (a, b, d, e) = contains_true rows x j c in
-          in_box x j a b d (omega arith) m;
-      tight = record {
-        some = (omega arith, omega arith);
-        left = (y, contains_row box left y (omega arith) (omega arith) (omega arith) (omega arith), here);
-        right = rw column (y, contains_row box (right - 1) y (omega arith) (omega arith) (omega arith) (omega arith), last);
-        top = (left, contains_row box left y (omega arith) (omega arith) (omega arith) (omega arith), here);
-        bottom = let row : y + 1 - 1 ≡ y = omega arith in rw row (left, contains_row box left y (omega arith) (omega arith) (omega arith) (omega arith), here);
-      };
-    }
-  where
-    by_end : (left + 1 < right) ⊎ (right ≤ left + 1) → p (right - 1) y ≡ true
-    by_end (inl more) = end.here more
-    by_end (inr less) = let same : right - 1 ≡ left = omega (arith, end.order) in rw same (first.here some)
-
-    in_box : (x j : ℕ) → zone.x ≤ x → x < zone.x + zone.w → zone.y ≤ j → j ≤ y → p x j ≡ true →
-        contains (record { x = left; y = y; w = right - left; h = 1 }) x j ≡ true
-    in_box x j a b d e m =
-        elim (cases_eq j y) [
-          | inr other ↦ absurd (both_ways (p x j) (above x j a b d (omega arith)) m)
-          | inl same ↦
-              let m' : p x y ≡ true = rw same at m in
-              elim (cases_lt x left) [
-                | inl before ↦ absurd (both_ways (p x y) (first.none x a before) m')
-                | inr from ↦ elim (cases_lt x right) [
-                  | inr behind ↦ absurd (both_ways (p x y) (end.none x behind b) m')
-                  | inl to ↦ contains_row (record { x = left; y = y; w = right - left; h = 1 }) x j from (omega arith) (omega arith) (omega arith)
-                ]
-              ]
-        ]
-
 move_column : (p : ℕ → ℕ → Bool) (box : Rect) (from to : ℕ) → from ≡ to →
     ((j : ℕ) × (contains box from j ≡ true) × (p from j ≡ true)) → (j : ℕ) × (contains box to j ≡ true) × (p to j ≡ true)
 move_column p box from to e t = subst (λ (k : ℕ). (j : ℕ) × (contains box k j ≡ true) × (p k j ≡ true)) e t
@@ -121,114 +76,161 @@ move_row : (p : ℕ → ℕ → Bool) (box : Rect) (from to : ℕ) → from ≡ 
     ((i : ℕ) × (contains box i from ≡ true) × (p i from ≡ true)) → (i : ℕ) × (contains box i to ≡ true) × (p i to ≡ true)
 move_row p box from to e t = subst (λ (k : ℕ). (i : ℕ) × (contains box i k ≡ true) × (p i k ≡ true)) e t
 
--- a row more that has a marked place, from one column up to another
-pub row_some : (p : ℕ → ℕ → Bool) (zone r : Rect) (y left right at : ℕ) → zone.y ≤ y →
-    IsBox p (rows_above zone y) r →
-    IsFirst p y zone.x r.x left → IsEnd p y (r.x + r.w) (zone.x + zone.w) right →
-    left ≤ at → at < right → p at y ≡ true →
-    IsBox p (rows_above zone (y + 1)) (record { x = left; y = r.y; w = right - left; h = y + 1 - r.y })
-row_some p zone r y left right at order above first end from to here =
-    record {
-      within = (first.order.0, omega (arith, end.order), above.within.2, omega (arith, above.within));
-      holds = holds;
-      tight = record {
-        some = (omega arith, omega (arith, above.within));
-        left = by_left (cases_lt left r.x);
-        right = by_right (cases_lt (r.x + r.w) right);
-        top = let (i, c, m) = above.tight.top in (i, up i r.y c, m);
-        bottom = move_row p box y (r.y + (y + 1 - r.y) - 1) (omega (arith, above.within, above.tight.some))
-            (at, contains_row box at y from (omega arith) (omega (arith, above.within, above.tight.some)) (omega (arith, above.within, above.tight.some)), here);
-      };
-    }
+-- ---- from the first row to the last
+
+-- row y of the zone has a marked place where its first one is before the end
+pub first_in_row : (p : ℕ → ℕ → Bool) (zone : Rect) (y first : ℕ) → first < zone.x + zone.w →
+    IsFirst p y zone.x (zone.x + zone.w) first → HasInRow p zone y
+first_in_row p zone y first some is = (first, is.order.0, some, is.here some)
+
+-- the columns of one row
+pub row_spans : (p : ℕ → ℕ → Bool) (zone : Rect) (y first end : ℕ) → first < zone.x + zone.w →
+    IsFirst p y zone.x (zone.x + zone.w) first → IsEnd p y (first + 1) (zone.x + zone.w) end →
+    SpansRows p zone y y (record { first = first; end = end })
+row_spans p zone y first end some is until = record {
+  order = (is.order.0, omega (arith, until.order), until.order.1);
+  left = λ x j a b d e. let same : j ≡ y = omega arith in rw same (is.none x a b);
+  right = λ x j a b d e. let same : j ≡ y = omega arith in rw same (until.none x a b);
+  first = (y, omega arith, omega arith, is.here some);
+  last = (y, omega arith, omega arith, by_end (cases_lt (first + 1) end));
+}
   where
-    box : Rect
-    box = record { x = left; y = r.y; w = right - left; h = y + 1 - r.y }
+    by_end : (first + 1 < end) ⊎ (end ≤ first + 1) → p (end - 1) y ≡ true
+    by_end (inl more) = until.here more
+    by_end (inr less) = let same : end - 1 ≡ first = omega (arith, until.order) in rw same (is.here some)
 
-    up : (x j : ℕ) → contains r x j ≡ true → contains (record { x = left; y = r.y; w = right - left; h = y + 1 - r.y }) x j ≡ true
-    up x j c =
-        let (a, b, d, e) = contains_true r x j c in
-        contains_row (record { x = left; y = r.y; w = right - left; h = y + 1 - r.y }) x j (omega (arith, first.order)) (omega (arith, end.order, first.order)) d (omega (arith, above.within))
+-- the columns of row `top`, and of the rows below row y down to row `bottom`
+pub record IsWide (p : ℕ → ℕ → Bool) (zone : Rect) (top bottom y : ℕ) (columns : Columns) : Type 0 where
+  pub order : (zone.x ≤ columns.first) × (columns.first < columns.end) × (columns.end ≤ zone.x + zone.w)
+  pub row : (top ≤ y) × (y ≤ bottom)
+  pub top_left : IsClear p zone.x columns.first top (top + 1)
+  pub top_right : IsClear p columns.end (zone.x + zone.w) top (top + 1)
+  pub left : IsClear p zone.x columns.first (y + 1) (bottom + 1)
+  pub right : IsClear p columns.end (zone.x + zone.w) (y + 1) (bottom + 1)
+  pub first : (j : ℕ) × (top ≤ j) × (j ≤ bottom) × (p columns.first j ≡ true)
+  pub last : (j : ℕ) × (top ≤ j) × (j ≤ bottom) × (p (columns.end - 1) j ≡ true)
 
-    holds : (x j : ℕ) → contains (rows_above zone (y + 1)) x j ≡ true → p x j ≡ true → contains (record { x = left; y = r.y; w = right - left; h = y + 1 - r.y }) x j ≡ true
-    holds x j c m =
-        let (a, b, d, e) = contains_true (rows_above zone (y + 1)) x j c in
-        elim (cases_eq j y) [
-          | inr other ↦ up x j (above.holds x j (contains_row (rows_above zone y) x j a b d (omega arith)) m)
-          | inl same ↦
-              let m' : p x y ≡ true = rw same at m in
-              elim (cases_lt x left) [
-                | inl before ↦ absurd (both_ways (p x y) (first.none x a before) m')
-                | inr from_left ↦ elim (cases_lt x right) [
-                  | inr behind ↦ absurd (both_ways (p x y) (end.none x behind b) m')
-                  | inl to_right ↦ contains_row (record { x = left; y = r.y; w = right - left; h = y + 1 - r.y }) x j from_left (omega arith) (omega (arith, above.within, above.tight.some)) (omega arith)
-                ]
-              ]
-        ]
+pub wide_top : (p : ℕ → ℕ → Bool) (zone : Rect) (top bottom : ℕ) (columns : Columns) → top ≤ bottom →
+    SpansRows p zone top top columns → IsWide p zone top bottom bottom columns
+wide_top p zone top bottom columns order spans = record {
+  order = spans.order;
+  row = (order, omega arith);
+  top_left = spans.left;
+  top_right = spans.right;
+  left = λ x j a b d e. absurd (omega arith);
+  right = λ x j a b d e. absurd (omega arith);
+  first = let (j, a, b, m) = spans.first in (j, a, omega arith, m);
+  last = let (j, a, b, m) = spans.last in (j, a, omega arith, m);
+}
 
-    by_left : (left < r.x) ⊎ (r.x ≤ left) → (j : ℕ) × (contains (record { x = left; y = r.y; w = right - left; h = y + 1 - r.y }) left j ≡ true) × (p left j ≡ true)
-    by_left (inl less) = (y, contains_row (record { x = left; y = r.y; w = right - left; h = y + 1 - r.y }) left y (omega arith) (omega arith) (omega (arith, above.within, above.tight.some)) (omega (arith, above.within, above.tight.some)), first.here less)
-    by_left (inr same) =
-        let (j, c, m) = above.tight.left in
-        move_column p (record { x = left; y = r.y; w = right - left; h = y + 1 - r.y }) r.x left (omega (arith, first.order)) (j, up r.x j c, m)
+pub wide_more : (p : ℕ → ℕ → Bool) (zone : Rect) (top bottom y first end : ℕ) (columns : Columns) → top < y →
+    IsWide p zone top bottom y columns → IsFirst p y zone.x columns.first first → IsEnd p y columns.end (zone.x + zone.w) end →
+    IsWide p zone top bottom (y - 1) (record { first = first; end = end })
+wide_more p zone top bottom y first end columns order wide is until = record {
+  order = (is.order.0, omega (arith, is.order, until.order, wide.order), until.order.1);
+  row = (omega arith, omega (arith, wide.row));
+  top_left = λ x j a b d e. wide.top_left x j a (omega (arith, is.order)) d e;
+  top_right = λ x j a b d e. wide.top_right x j (omega (arith, until.order)) b d e;
+  left = λ x j a b d e. elim (cases_eq j y) [
+    | inl same ↦ rw same (is.none x a b)
+    | inr other ↦ wide.left x j a (omega (arith, is.order)) (omega arith) e
+  ];
+  right = λ x j a b d e. elim (cases_eq j y) [
+    | inl same ↦ rw same (until.none x a b)
+    | inr other ↦ wide.right x j (omega (arith, until.order)) b (omega arith) e
+  ];
+  first = by_first (cases_lt first columns.first);
+  last = by_last (cases_lt columns.end end);
+}
+  where
+    by_first : (first < columns.first) ⊎ (columns.first ≤ first) → (j : ℕ) × (top ≤ j) × (j ≤ bottom) × (p first j ≡ true)
+    by_first (inl less) = (y, omega arith, wide.row.1, is.here less)
+    by_first (inr more) =
+        let same : first ≡ columns.first = omega (arith, is.order) in
+        let (j, a, b, m) = wide.first in
+        (j, a, b, rw same m)
 
-    by_right : (r.x + r.w < right) ⊎ (right ≤ r.x + r.w) → (j : ℕ) × (contains (record { x = left; y = r.y; w = right - left; h = y + 1 - r.y }) (left + (right - left) - 1) j ≡ true) × (p (left + (right - left) - 1) j ≡ true)
-    by_right (inl more) =
-        move_column p (record { x = left; y = r.y; w = right - left; h = y + 1 - r.y }) (right - 1) (left + (right - left) - 1) (omega arith)
-        (y, contains_row (record { x = left; y = r.y; w = right - left; h = y + 1 - r.y }) (right - 1) y (omega arith) (omega arith) (omega (arith, above.within, above.tight.some)) (omega (arith, above.within, above.tight.some)), end.here more)
-    by_right (inr same) =
-        let (j, c, m) = above.tight.right in
-        move_column p (record { x = left; y = r.y; w = right - left; h = y + 1 - r.y }) (r.x + r.w - 1) (left + (right - left) - 1) (omega (arith, end.order)) (j, up (r.x + r.w - 1) j c, m)
+    by_last : (columns.end < end) ⊎ (end ≤ columns.end) → (j : ℕ) × (top ≤ j) × (j ≤ bottom) × (p (end - 1) j ≡ true)
+    by_last (inl more) = (y, omega arith, wide.row.1, until.here more)
+    by_last (inr less) =
+        let same : end ≡ columns.end = omega (arith, until.order) in
+        let (j, a, b, m) = wide.last in
+        (j, a, b, rw same m)
 
--- one that reaches further has one
-pub row_wider : (p : ℕ → ℕ → Bool) (zone r : Rect) (y left right : ℕ) → zone.y ≤ y →
-    IsBox p (rows_above zone y) r →
-    IsFirst p y zone.x r.x left → IsEnd p y (r.x + r.w) (zone.x + zone.w) right →
-    r.w < right - left →
-    IsBox p (rows_above zone (y + 1)) (record { x = left; y = r.y; w = right - left; h = y + 1 - r.y })
-row_wider p zone r y left right order above first end wide =
-    elim (cases_lt left r.x) [
-      | inl less ↦ row_some p zone r y left right left order above first end (omega arith) (omega arith) (first.here less)
-      | inr same ↦ row_some p zone r y left right (right - 1) order above first end (omega arith) (omega arith) (end.here (omega (arith, first.order)))
+-- that is all where no row is left, or no column
+pub wide_all : (p : ℕ → ℕ → Bool) (zone : Rect) (top bottom y : ℕ) (columns : Columns) →
+    (y ≤ top) ⊎ ((columns.first ≤ zone.x) × (zone.x + zone.w ≤ columns.end)) →
+    IsWide p zone top bottom y columns → SpansRows p zone top bottom columns
+wide_all p zone top bottom y columns all wide = record {
+  order = wide.order;
+  left = by_left all;
+  right = by_right all;
+  first = wide.first;
+  last = wide.last;
+}
+  where
+    by_left : (y ≤ top) ⊎ ((columns.first ≤ zone.x) × (zone.x + zone.w ≤ columns.end)) → IsClear p zone.x columns.first top (bottom + 1)
+    by_left (inr full) = λ x j a b d e. absurd (omega (arith, full))
+    by_left (inl less) = λ x j a b d e. elim (cases_eq j top) [
+      | inl same ↦ wide.top_left x j a b d (omega arith)
+      | inr other ↦ wide.left x j a b (omega arith) e
     ]
 
--- one that reaches no further, and has one
-pub row_within : (p : ℕ → ℕ → Bool) (zone r : Rect) (y left right at : ℕ) → zone.y ≤ y →
-    IsBox p (rows_above zone y) r →
-    IsFirst p y zone.x r.x left → IsEnd p y (r.x + r.w) (zone.x + zone.w) right → right - left ≤ r.w →
-    IsFirst p y r.x (r.x + r.w) at → at < r.x + r.w →
-    IsBox p (rows_above zone (y + 1)) (record r { h = y + 1 - r.y })
-row_within p zone r y left right at order above first end narrow middle some =
-    let column : left ≡ r.x = omega (arith, first.order, end.order) in
-    let width : right - left ≡ r.w = omega (arith, first.order, end.order) in
-    let box = row_some p zone r y left right at order above first end (omega (arith, middle.order)) (omega (arith, end.order)) (middle.here some) in
-    subst (λ (w : ℕ). IsBox p (rows_above zone (y + 1)) (record { x = r.x; y = r.y; w = w; h = y + 1 - r.y })) width
-    (subst (λ (x : ℕ). IsBox p (rows_above zone (y + 1)) (record { x = x; y = r.y; w = right - left; h = y + 1 - r.y })) column box)
+    by_right : (y ≤ top) ⊎ ((columns.first ≤ zone.x) × (zone.x + zone.w ≤ columns.end)) → IsClear p columns.end (zone.x + zone.w) top (bottom + 1)
+    by_right (inr full) = λ x j a b d e. absurd (omega (arith, full))
+    by_right (inl less) = λ x j a b d e. elim (cases_eq j top) [
+      | inl same ↦ wide.top_right x j a b d (omega arith)
+      | inr other ↦ wide.right x j a b (omega arith) e
+    ]
 
--- one that has none
-pub row_none : (p : ℕ → ℕ → Bool) (zone r : Rect) (y left right at : ℕ) → zone.y ≤ y →
-    IsBox p (rows_above zone y) r →
-    IsFirst p y zone.x r.x left → IsEnd p y (r.x + r.w) (zone.x + zone.w) right → right - left ≤ r.w →
-    IsFirst p y r.x (r.x + r.w) at → r.x + r.w ≤ at →
-    IsBox p (rows_above zone (y + 1)) r
-row_none p zone r y left right at order above first end narrow middle none =
-    record {
-      within = (above.within.0, above.within.1, above.within.2, omega (arith, above.within));
-      holds = λ x j c m.
-          let (a, b, d, e) = contains_true (rows_above zone (y + 1)) x j c in
-          elim (cases_eq j y) [
-            | inr other ↦ above.holds x j (contains_row (rows_above zone y) x j a b d (omega arith)) m
-            | inl same ↦
-                let m' : p x y ≡ true = rw same at m in
-                elim (cases_lt x r.x) [
-                  | inl before ↦ absurd (both_ways (p x y) (first.none x a (omega (arith, first.order, end.order))) m')
-                  | inr from ↦ elim (cases_lt x (r.x + r.w)) [
-                    | inr behind ↦ absurd (both_ways (p x y) (end.none x (omega (arith, first.order, end.order)) b) m')
-                    | inl to ↦ absurd (both_ways (p x y) (middle.none x from (omega arith)) m')
-                  ]
-                ]
-          ];
-      tight = above.tight;
-    }
+-- the rectangle of those rows and columns
+pub box_is : (p : ℕ → ℕ → Bool) (zone : Rect) (top bottom : ℕ) (columns : Columns) → zone.y ≤ top →
+    HasBox p (rows_above zone top) None → HasInRow p zone top → IsLastOf p zone top bottom →
+    SpansRows p zone top bottom columns →
+    IsBox p zone (record { x = columns.first; y = top; w = columns.end - columns.first; h = bottom + 1 - top })
+box_is p zone top bottom columns order above some last spans = record {
+  within = (spans.order.0, omega (arith, spans.order), order, omega (arith, last.order));
+  holds = λ x j c m.
+      let (a, b, d, e) = contains_true zone x j c in
+      let (f, g, h, i) = inside x j a b d e m in
+      contains_row box x j f (omega arith) h (omega arith);
+  tight = record {
+    some = (omega (arith, spans.order), omega (arith, last.order));
+    left = let (j, a, b, m) = spans.first in
+        (j, contains_row box columns.first j (omega arith) (omega (arith, spans.order)) a (omega (arith, last.order)), m);
+    right = let (j, a, b, m) = spans.last in
+        move_column p box (columns.end - 1) (columns.first + (columns.end - columns.first) - 1) (omega (arith, spans.order))
+        (j, contains_row box (columns.end - 1) j (omega (arith, spans.order)) (omega (arith, spans.order)) a (omega (arith, last.order)), m);
+    top = in_row top (omega arith) last.order.0 some;
+    bottom = move_row p box bottom (top + (bottom + 1 - top) - 1) (omega (arith, last.order)) (in_row bottom last.order.0 (omega arith) last.some);
+  };
+}
+  where
+    box : Rect
+    box = record { x = columns.first; y = top; w = columns.end - columns.first; h = bottom + 1 - top }
+
+    inside : (x j : ℕ) → zone.x ≤ x → x < zone.x + zone.w → zone.y ≤ j → j < zone.y + zone.h → p x j ≡ true →
+        (columns.first ≤ x) × (x < columns.end) × (top ≤ j) × (j ≤ bottom)
+    inside x j a b d e m =
+        elim (cases_lt j top) [
+          | inl before ↦ absurd (both_ways (p x j) (above x j a b d (omega arith)) m)
+          | inr from ↦ elim (cases_lt bottom j) [
+            | inl behind ↦ absurd (both_ways (p x j) (last.below x j a b (omega arith) e) m)
+            | inr to ↦ elim (cases_lt x columns.first) [
+              | inl left ↦ absurd (both_ways (p x j) (spans.left x j a left from (omega arith)) m)
+              | inr more ↦ elim (cases_lt x columns.end) [
+                | inl less ↦ (more, less, from, to)
+                | inr right ↦ absurd (both_ways (p x j) (spans.right x j right b from (omega arith)) m)
+              ]
+            ]
+          ]
+        ]
+
+    in_row : (y : ℕ) → top ≤ y → y ≤ bottom → HasInRow p zone y →
+        (x : ℕ) × (contains (record { x = columns.first; y = top; w = columns.end - columns.first; h = bottom + 1 - top }) x y ≡ true) × (p x y ≡ true)
+    in_row y from to (x, a, b, m) =
+        let (f, g, h, i) = inside x y a b (omega arith) (omega (arith, last.order)) m in
+        (x, contains_row box x y f (omega arith) h (omega arith), m)
 
 -- ---- the cell from its marked zone
 

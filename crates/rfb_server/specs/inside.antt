@@ -7,3 +7,4 @@ pub mod Sends
 pub mod Composed
 pub mod Feeding
 pub mod Copying
+pub mod Gaining

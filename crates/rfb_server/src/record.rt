@@ -1,6 +1,6 @@
 //! What a session knows of its viewer's picture.
 
-ghost use Rattle.std.specs.Prelude.{◌≡◌, ◌<◌, None, IfOk};
+ghost use Rattle.std.specs.Prelude.{◌≡◌, None, IfOk};
 
 mod taking;
 
@@ -34,7 +34,7 @@ impl Model for Record {
 
 impl Record {
     ghost use Rattle.std.specs.Bool.{OnTrue, OnFalse};
-    ghost use Rattle.rfb_picture.specs.Grid.{IsGrid, Holds, at_or, uniform};
+    ghost use Rattle.rfb_picture.specs.Grid.{IsGrid, Holds, uniform};
     ghost use Rattle.rfb_server.specs.Record.{AreKnown, forgotten, ShowsKnown, TellsKnown};
 
     /// A record of a screen of `width` by `height` places, of which none is known. It asks for room
@@ -65,20 +65,6 @@ impl Record {
         ensures { result ≡ self.now.height }
     {
         self.pixels.height()
-    }
-
-    /// The pixel of the place at column `x` of row `y`, where it is known.
-    #[inline]
-    pub(crate) fn at(&self, x: u16, y: u16) -> Option<u32>
-        requires column { x < self.now.width }
-        requires row { y < self.now.height }
-        ensures { result ≡ at_or self.now x y None }
-    {
-        if self.known.is_asked(x, y) {
-            Some(self.pixels.at(x, y))
-        } else {
-            None
-        }
     }
 
     /// Whether each place of the rectangle is known.

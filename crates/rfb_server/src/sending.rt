@@ -38,6 +38,11 @@ pub(crate) fn append_rect(
     ensures sent { SendsRect format.now rect encoding block.now out.old.items out.new.items }
     ensures room { vec_capacity out.new ≡ vec_capacity out.old }
 {
+    // Of one place no cover is shorter than its pixel.
+    if rect.w == 1 && rect.h == 1 {
+        append_raw(rect, block, format, out);
+        return;
+    }
     let sent = match encoding {
         Encoding::Rre => append_coded::<Rre>(Encoding::Rre, rect, block, format, out),
         Encoding::Hextile => append_coded::<Hextile>(Encoding::Hextile, rect, block, format, out),

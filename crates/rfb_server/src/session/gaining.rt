@@ -1,18 +1,23 @@
 //! What the viewer gains if it copies a rectangle.
 
-ghost use Rattle.std.specs.Prelude.{◌≡◌, ◌+◌, ◌≤◌, ◌<◌, not, None};
+ghost use Rattle.std.specs.Prelude.{◌≡◌, ◌+◌, ◌*◌, ◌/◌, ◌≤◌, ◌<◌};
 ghost use Rattle.std.specs.Bool.{OnTrue, OnFalse};
-ghost use Rattle.rfb_picture.specs.Grid.{Holds, at_or};
-ghost use Rattle.rfb_codec.specs.RectData.{moved_to};
-ghost use Rattle.rfb_server.specs.Request.{wanted_at, differs};
-ghost use Rattle.rfb_server.specs.Composing.{count_row, count_in};
+ghost use Rattle.rfb_picture.specs.Grid.{Holds};
 ghost use Rattle.rfb_server.specs.inside.Needing.{IsAbout};
-ghost use Rattle.rfb_server.specs.inside.Copying.{IsFree, IsUseful, is_right_from};
+ghost use Rattle.rfb_server.specs.inside.Copying.{IsFree, IsUseful};
+ghost use Rattle.rfb_server.specs.inside.Gaining.{MayCopy, HasMoreRight, AreRight};
 
 use crate::hint::Hint;
 use crate::session::Session;
 use rfb_picture::{Picture, Rect};
-use rfb_pixel::Colour;
+use rfb_pixel::{Colour, count_equal, differing};
+
+// How many places have the wanted pixel as they are, and how many would behind the copy.
+#[derive(Clone, Copy, Drop)]
+struct Right {
+    before: u32,
+    behind: u32,
+}
 
 impl Session {
     /// Whether the viewer is to copy: all of the rectangle is asked and none of it whole, all of
@@ -35,9 +40,7 @@ impl Session {
         if !self.is_free(to) || !self.known.knows(from) {
             return false;
         }
-        let before = self.right_from(screen, to, to.x, to.y);
-        let behind = self.right_from(screen, to, hint.sx, hint.sy);
-        if before >= behind {
+        if !self.has_more_right(screen, hint) {
             return false;
         }
         true
@@ -59,53 +62,106 @@ impl Session {
         false
     }
 
-    // How many places of the rectangle would have the wanted pixel if each took over what is known
-    // of the place that lies as far from (`sx`, `sy`).
-    fn right_from(&self, screen: &Picture<Colour>, to: Rect, sx: u16, sy: u16) -> u32
+    // Whether more places of the rectangle have the wanted pixel behind the copy than before. It
+    // ends as soon as the rows that are left cannot change that.
+    fn has_more_right(&self, screen: &Picture<Colour>, hint: Hint) -> bool
         requires about { IsAbout screen.now self.now }
-        requires target { Holds self.now.known to }
-        requires source { Holds self.now.known (moved_to sx sy to) }
-        ensures { result
-            ≡ count_in (is_right_from screen.now self.now.known self.now.format to sx sy) to }
+        requires copy { MayCopy self.now.known hint }
+        ensures more { OnTrue result (HasMoreRight screen.now self.now hint) }
+        ensures no_more { OnFalse result (HasMoreRight screen.now self.now hint → ⊥) }
     {
-        let mut count = 0;
+        let to = hint.to;
+        let mut before = 0;
+        let mut behind = 0;
         for row in 0..to.h {
-            count += self.right_in_row(screen, to, sx, sy, row);
+            let line = Rect {
+                y: to.y + row,
+                h: 1,
+                ..to
+            };
+            let right = self.right_in_row(
+                screen,
+                Hint {
+                    to: line,
+                    sx: hint.sx,
+                    sy: hint.sy + row,
+                },
+            );
+            before += right.before;
+            behind += right.behind;
+            // So many places are left, in the rows below.
+            let left = u32::from(to.h - row - 1) * u32::from(to.w);
+            if behind > before + left {
+                return true;
+            }
+            if before >= behind + left {
+                return false;
+            }
         }
-        count
+        false
     }
 
-    // How many of its row of that number.
-    fn right_in_row(&self, screen: &Picture<Colour>, to: Rect, sx: u16, sy: u16, row: u16) -> u32
+    // How many places have the wanted pixel before a copy of one row, and behind it.
+    fn right_in_row(&self, screen: &Picture<Colour>, row: Hint) -> Right
         requires about { IsAbout screen.now self.now }
-        requires target { Holds self.now.known to }
-        requires source { Holds self.now.known (moved_to sx sy to) }
-        requires row { row < to.h }
-        ensures value { result
-            ≡ count_row (is_right_from screen.now self.now.known self.now.format to sx sy)
-            to.x (to.y + row) to.w }
-        ensures bound { result ≤ to.w }
+        requires copy { MayCopy self.now.known row }
+        requires single { row.to.h ≡ 1 }
+        ensures value { AreRight screen.now self.now row result }
+        ensures before { result.before ≤ row.to.w }
+        ensures behind { result.behind ≤ row.to.w }
     {
-        let mut count = 0;
-        for column in 0..to.w {
-            let x = to.x + column;
-            let right = self.is_right(screen, x, to.y + row, sx + column, sy + row);
-            count += u32::from(right);
+        let end = row.to.x + row.to.w;
+        let mut right = Right {
+            before: 0,
+            behind: 0,
+        };
+        let mut x = row.to.x;
+        while x < end {
+            let next = end.min(x / 64 * 64 + 64);
+            let to = Rect {
+                x,
+                w: next - x,
+                ..row.to
+            };
+            let part = self.right_in_part(
+                screen,
+                Hint {
+                    to,
+                    sx: row.sx + (x - row.to.x),
+                    sy: row.sy,
+                },
+            );
+            right.before += part.before;
+            right.behind += part.behind;
+            x = next;
         }
-        count
+        right
     }
 
-    // Whether what is known of the second place is the pixel that is wanted at the first.
-    fn is_right(&self, screen: &Picture<Colour>, x: u16, y: u16, from_x: u16, from_y: u16) -> bool
+    // The same where all places that it copies to are of one cell.
+    fn right_in_part(&self, screen: &Picture<Colour>, part: Hint) -> Right
         requires about { IsAbout screen.now self.now }
-        requires place { (x < self.now.known.width) × (y < self.now.known.height) }
-        requires source { (from_x < self.now.known.width) × (from_y < self.now.known.height) }
-        ensures { result ≡ not (differs (wanted_at screen.now self.now.format x y)
-            (at_or self.now.known from_x from_y None)) }
+        requires copy { MayCopy self.now.known part }
+        requires single { part.to.h ≡ 1 }
+        requires some { 0 < part.to.w }
+        requires cell { part.to.x + part.to.w ≤ part.to.x / 64 * 64 + 64 }
+        ensures value { AreRight screen.now self.now part result }
+        ensures before { result.before ≤ part.to.w }
+        ensures behind { result.behind ≤ part.to.w }
     {
-        match self.known.at(from_x, from_y) {
-            None => false,
-            Some(pixel) => pixel == self.format.pack(screen.at(x, y)),
+        let to = part.to;
+        let pixels = self.known.pixels();
+        let known = self.known.known().asked();
+        let mut row = [0; 64];
+        let wanted = &mut row[..usize::from(to.w)];
+        self.format.pack_row(screen.row(to.x, to.y, to.w), wanted);
+        let other = differing(wanted, pixels.row(to.x, to.y, to.w)) << (to.x % 64);
+        let right = known.row_bits_between(to.y, to.x, to.x + to.w) & !other;
+        // All of the source is known.
+        let behind = count_equal(wanted, pixels.row(part.sx, part.sy, to.w));
+        Right {
+            before: right.count_ones(),
+            behind: behind as u32,
         }
     }
 }

@@ -1,24 +1,32 @@
-use Rattle.std.proofs.Common.{sym, ◌∙◌, arith, inl, inr}
-use Rattle.std.proofs.lemmas.Bool.{cases_eq}
+use Rattle.std.proofs.Common.{ℕ, inl, inr, subst, arith}
+use Rattle.std.proofs.lemmas.Bool.{cases_lt}
+use Rattle.rfb_picture.specs.Places.{HasBitsBetween}
+use Rattle.rfb_server.specs.inside.Needing.{needs_of}
+use Rattle.rfb_server.proofs.NeedingBits.{first_between, none_between}
 use Rattle.rfb_server.proofs.session.Session.first_needed.Goals as goal
 
-pub returns-then-needs : goal.returns-then-needs
-returns-then-needs c = record {
-  order = (omega arith, omega arith);
-  none = c.loop-x.invariant;
-  here = λ _. sym c.needs.ensures ∙ c.if-needs.true;
-}
+pub returns-then-due-ne0 : goal.returns-then-due-ne0
+returns-then-due-ne0 c =
+    let (a, b, here, none) = first_between (needs_of c.args.screen.now c.args.self.now) c.args.y c.loop-at.at c.min-end.result c.needed_between-due.result
+    c.needed_between-due.ensures (omega (arith, c.min-end.ensures)) (omega (arith, c.if-due-ne0.true)) c.needed_between-due.type_inv in
+    record {
+      order = (omega (arith, c.loop-at.invariant.order), omega (arith, c.min-end.ensures));
+      none = λ x p q. elim (cases_lt x c.loop-at.at) [
+        | inl before ↦ c.loop-at.invariant.none x p before
+        | inr from ↦ none x from q
+      ];
+      here = λ _. here;
+    }
 
-pub loop-x-preserved : goal.loop-x-preserved
-loop-x-preserved c = λ x a b.
-    elim (cases_eq x c.loop-x.x) [
-      | inl e ↦ rw e (sym c.needs.ensures ∙ c.if-needs.false)
-      | inr other ↦ c.loop-x.invariant x a (omega arith)
-    ]
-
-pub returns : goal.returns
-returns c = record {
-  order = (omega arith, omega arith);
-  none = λ x a b. c.loop-x.invariant x a (omega arith);
-  here = λ l. absurd (omega arith);
-}
+pub loop-at-preserved : goal.loop-at-preserved
+loop-at-preserved c =
+    let none = none_between (needs_of c.args.screen.now c.args.self.now) c.args.y c.loop-at.at c.min-end.result
+    (subst (λ (word : ℕ). HasBitsBetween (needs_of c.args.screen.now c.args.self.now) c.args.y c.loop-at.at c.min-end.result word) (omega (arith, c.if-due-ne0.false)) c.needed_between-due.ensures)
+    (omega (arith, c.min-end.ensures)) in
+    record {
+      order = (omega (arith, c.loop-at.invariant.order, c.min-end.ensures), omega (arith, c.min-end.ensures));
+      none = λ x p q. elim (cases_lt x c.loop-at.at) [
+        | inl before ↦ c.loop-at.invariant.none x p before
+        | inr from ↦ none x from q
+      ];
+    }

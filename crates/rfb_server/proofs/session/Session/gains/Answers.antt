@@ -1,10 +1,7 @@
-use Rattle.std.proofs.Common.{◌<◌, arith}
 use Rattle.rfb_picture.specs.Grid.{Holds}
 use Rattle.rfb_codec.specs.RectData.{moved_to}
 use Rattle.rfb_server.specs.inside.Sends.{state_of}
-use Rattle.rfb_server.specs.Composing.{count_in}
 use Rattle.rfb_server.specs.Using.{move_of}
-use Rattle.rfb_server.specs.inside.Copying.{is_right_from}
 use Rattle.rfb_server.proofs.CountLemmas.{gain_is, gain_only}
 use Rattle.rfb_server.proofs.session.Session.gains.Goals as goal
 
@@ -22,21 +19,16 @@ returns-clause-useful c =
         on_screen = on;
         source_on_screen = from;
         source_known = c.if-not-knows.ensures.known;
-        more_right = gain_is (state_of c.args.screen.now s) (move_of hint) s.alike.known_whole target source
-            (rw (c.right_from-before.ensures, c.right_from-behind.ensures) at c.if-before-behind.false);
+        more_right = gain_is (state_of c.args.screen.now s) (move_of hint) s.alike.known_whole target source c.if-not-has_more_right.ensures.more;
       };
       free = c.if-not-is_free.ensures.free;
     }
 
-pub returns-then-before-behind-clause-useless : goal.returns-then-before-behind-clause-useless
-returns-then-before-behind-clause-useless c = λ useful.
+pub returns-then-not-has_more_right-clause-useless : goal.returns-then-not-has_more_right-clause-useless
+returns-then-not-has_more_right-clause-useless c = λ useful.
     let s = c.args.self.now in
     let hint = c.args.hint in
     let size = c.requires.alike in
     let target : Holds s.known c.args.hint.to = (rw (← size.columns) useful.gain.on_screen.0, rw (← size.rows) useful.gain.on_screen.1) in
     let source : Holds s.known (moved_to c.args.hint.sx c.args.hint.sy c.args.hint.to) = (rw (← size.columns) useful.gain.source_on_screen.0, rw (← size.rows) useful.gain.source_on_screen.1) in
-    let more : count_in (is_right_from c.args.screen.now s.known s.format c.args.hint.to c.args.hint.to.x c.args.hint.to.y) c.args.hint.to
-    < count_in (is_right_from c.args.screen.now s.known s.format c.args.hint.to c.args.hint.sx c.args.hint.sy) c.args.hint.to =
-    gain_only (state_of c.args.screen.now s) (move_of hint) s.alike.known_whole target source useful.gain.more_right in
-    let fewer : c.right_from-before.result < c.right_from-behind.result = rw (c.right_from-before.ensures, c.right_from-behind.ensures) more in
-    omega (arith, fewer, c.if-before-behind.true)
+    c.if-not-has_more_right.ensures.no_more (gain_only (state_of c.args.screen.now s) (move_of hint) s.alike.known_whole target source useful.gain.more_right)

@@ -1,17 +1,25 @@
-use Rattle.std.proofs.Common.{◌≡◌, ◌+◌, ◌-◌, refl, sym, arith}
-use Rattle.rfb_server.specs.inside.Copying.{is_right_from}
-use Rattle.rfb_server.proofs.CountLemmas.{byte_is, at_most, row_more}
+use Rattle.std.proofs.Common.{◌+◌, ◌-◌, arith}
+use Rattle.rfb_server.specs.declared.hint.Hint.{Hint}
+use Rattle.rfb_server.specs.inside.Gaining.{right_before, right_behind}
+use Rattle.rfb_server.proofs.RightRowsLemmas.{same_source, row_joined}
 use Rattle.rfb_server.proofs.session.Session.right_in_row.Goals as goal
 
-pub loop-column-preserved : goal.loop-column-preserved
-loop-column-preserved c =
+pub loop-x-preserved : goal.loop-x-preserved
+loop-x-preserved c =
+    let screen = c.args.screen.now in
     let s = c.args.self.now in
-    let to = c.args.to in
-    let column = c.loop-column.column in
-    let e : c.args.to.x + column - c.args.to.x ≡ column = omega arith in
-    let f : c.args.to.y + c.args.row - c.args.to.y ≡ c.args.row = omega arith in
-    let same : is_right_from c.args.screen.now s.known s.format to c.args.sx c.args.sy (to.x + column) (to.y + c.args.row) ≡ c.is_right-right.result = rw (e, f) (sym c.is_right-right.ensures) in
+    let row = c.args.row in
+    let x = c.loop-x.x in
+    let next = c.min-next.result in
+    let counted = c.right_in_part-part.ensures in
+    let part : Hint = record { to = record row.to { x = x; w = next - x }; sx = row.sx + (x - row.to.x); sy = row.sy } in
+    let before = row_joined (right_before screen s row) (right_before screen s part) row.to.x row.to.y x next (omega arith) (omega arith)
+    (λ i l. same_source screen s.known s.format row.to part.to row.to.x row.to.y x row.to.y (x + i) row.to.y (omega arith) (omega arith)) in
+    let behind = row_joined (right_behind screen s row) (right_behind screen s part) row.to.x row.to.y x next (omega arith) (omega arith)
+    (λ i l. same_source screen s.known s.format row.to part.to row.sx row.sy part.sx part.sy (x + i) row.to.y (omega arith) (omega arith)) in
     record {
-      value = rw (c.from-count.ensures, row_more (is_right_from c.args.screen.now s.known s.format to c.args.sx c.args.sy) to.x (to.y + c.args.row) column, same, byte_is c.is_right-right.result, c.loop-column.invariant.value) refl;
-      bound = rw (c.from-count.ensures, byte_is c.is_right-right.result) (omega (arith, at_most c.is_right-right.result, c.loop-column.invariant.bound));
+      order = (omega arith, omega arith);
+      before_is = rw (c.loop-x.invariant.before_is, counted.value.before_is) before;
+      behind_is = rw (c.loop-x.invariant.behind_is, counted.value.behind_is) behind;
+      few = (omega (arith, c.loop-x.invariant.few, counted.before), omega (arith, c.loop-x.invariant.few, counted.behind));
     }

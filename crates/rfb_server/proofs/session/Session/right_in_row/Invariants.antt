@@ -1,11 +1,16 @@
-use Rattle.std.proofs.Common.{◌≡◌, ◌+◌, ◌≤◌}
+use Rattle.std.proofs.Common.{◌≡◌, ◌+◌, ◌-◌, ◌≤◌}
 use Rattle.rfb_server.specs.Composing.{count_row}
-use Rattle.rfb_server.specs.inside.Copying.{is_right_from}
+use Rattle.rfb_server.specs.inside.Gaining.{right_before, right_behind}
 use Rattle.rfb_server.proofs.session.Session.right_in_row.Given as goal
 
--- the count is that of the places so far
-abbrev pub invariant-loop-column : goal.invariant-loop-column
-invariant-loop-column l = record {
-  value : l.count ≡ count_row (is_right_from l.screen l.self.known l.self.format l.to l.sx l.sy) l.to.x (l.to.y + l.row) l.column;
-  bound : l.count ≤ l.column;
+-- the places so far are counted
+abbrev pub invariant-loop-x : goal.invariant-loop-x
+invariant-loop-x l = record {
+  order : (l.row.to.x ≤ l.x) × (l.x ≤ l.row.to.x + l.row.to.w);
+  before_is : l.right.before ≡ count_row (right_before l.screen l.self l.row) l.row.to.x l.row.to.y (l.x - l.row.to.x);
+  behind_is : l.right.behind ≡ count_row (right_behind l.screen l.self l.row) l.row.to.x l.row.to.y (l.x - l.row.to.x);
+  few : (l.right.before ≤ l.x - l.row.to.x) × (l.right.behind ≤ l.x - l.row.to.x);
 }
+
+abbrev pub decreases-loop-x : goal.decreases-loop-x
+decreases-loop-x l = l.row.to.x + l.row.to.w - l.x

@@ -1,0 +1,75 @@
+-- Places of a copy that have the wanted pixel, counted part by part and row by row.
+use Rattle.std.proofs.Common.{◌≡◌, ◌∙◌, ℕ, zero, suc, ◌+◌, ◌-◌, ◌*◌, ◌<◌, ◌≤◌, Bool, Option, sym, ap, refl, arith}
+use Rattle.std.proofs.Math.Nat.{suc-mul}
+use Rattle.rfb_pixel.specs.declared.colour.Colour.{Colour}
+use Rattle.rfb_pixel.specs.Format.{PixelFormat}
+use Rattle.rfb_picture.specs.declared.rect.Rect.{Rect}
+use Rattle.rfb_picture.specs.Grid.{Grid}
+use Rattle.rfb_server.specs.declared.hint.Hint.{Hint}
+use Rattle.rfb_server.specs.declared.session.Session.{Session}
+use Rattle.rfb_server.specs.Composing.{count_row, count_rows}
+use Rattle.rfb_server.specs.inside.Copying.{is_right_from}
+use Rattle.rfb_server.specs.inside.Gaining.{right_before, right_behind}
+use Rattle.rfb_server.proofs.CountLemmas.{row_same, rows_more}
+use Rattle.rfb_server.proofs.BitCountLemmas.{row_split, row_le}
+
+-- a place is judged by the same one, if that lies as far from the source of a part of the rectangle
+pub same_source : (screen : Grid Colour) (known : Grid (Option ℕ)) (form : PixelFormat) (to part : Rect) (sx sy px py x y : ℕ) →
+    px + (x - part.x) ≡ sx + (x - to.x) → py + (y - part.y) ≡ sy + (y - to.y) →
+    is_right_from screen known form part px py x y ≡ is_right_from screen known form to sx sy x y
+same_source screen known form to part sx sy px py x y column row = rw (column, row) refl
+
+-- the places of a row up to a column, and those from it on
+pub row_joined : (p q : ℕ → ℕ → Bool) (from y at to : ℕ) → from ≤ at → at ≤ to → ((i : ℕ) → i < to - at → q (at + i) y ≡ p (at + i) y) →
+    count_row p from y (at - from) + count_row q at y (to - at) ≡ count_row p from y (to - from)
+row_joined p q from y at to order rest same =
+    let parts : to - from ≡ at - from + (to - at) = omega arith in
+    let column : from + (at - from) ≡ at = omega arith in
+    let split = row_split p from y (at - from) (to - at) in
+    let behind = rw column at split in
+    let here = row_same q p at y (to - at) same in
+    ap (λ n. count_row p from y (at - from) + n) here ∙ sym behind ∙ sym (ap (count_row p from y) parts)
+
+-- one row more
+rows_joined : (p q : ℕ → ℕ → Bool) (x y w k : ℕ) → ((i : ℕ) → i < w → q (x + i) (y + k) ≡ p (x + i) (y + k)) →
+    count_rows p x y w k + count_row q x (y + k) w ≡ count_rows p x y w (k + 1)
+rows_joined p q x y w k same = ap (λ n. count_rows p x y w k + n) (row_same q p x (y + k) w same) ∙ sym (rows_more p x y w k)
+
+module _ (screen : Grid Colour) (s : Session) (copy : Hint) (row n m : ℕ) where
+  -- of a copy, that of one of its rows
+  abbrev line : Hint
+  line = record { to = record copy.to { y = copy.to.y + row; h = 1 }; sx = copy.sx; sy = copy.sy + row }
+
+  pub before_row : n ≡ count_rows (right_before screen s copy) copy.to.x copy.to.y copy.to.w row →
+      m ≡ count_row (right_before screen s line) copy.to.x (copy.to.y + row) copy.to.w →
+      n + m ≡ count_rows (right_before screen s copy) copy.to.x copy.to.y copy.to.w (row + 1)
+  before_row above here =
+      rw (above, here)
+      (rows_joined (right_before screen s copy) (right_before screen s line) copy.to.x copy.to.y copy.to.w row
+      (λ i l. same_source screen s.known s.format copy.to line.to copy.to.x copy.to.y copy.to.x (copy.to.y + row) (copy.to.x + i) (copy.to.y + row) refl (omega arith)))
+
+  pub behind_row : n ≡ count_rows (right_behind screen s copy) copy.to.x copy.to.y copy.to.w row →
+      m ≡ count_row (right_behind screen s line) copy.to.x (copy.to.y + row) copy.to.w →
+      n + m ≡ count_rows (right_behind screen s copy) copy.to.x copy.to.y copy.to.w (row + 1)
+  behind_row above here =
+      rw (above, here)
+      (rows_joined (right_behind screen s copy) (right_behind screen s line) copy.to.x copy.to.y copy.to.w row
+      (λ i l. same_source screen s.known s.format copy.to line.to copy.sx copy.sy copy.sx (copy.sy + row) (copy.to.x + i) (copy.to.y + row) refl (omega arith)))
+
+-- ---- the rows that are left
+
+rows_on : (p : ℕ → ℕ → Bool) (x y w k j : ℕ) →
+    (count_rows p x y w k ≤ count_rows p x y w (k + j)) × (count_rows p x y w (k + j) ≤ count_rows p x y w k + j * w)
+rows_on p x y w k zero = let all : k + 0 ≡ k = omega arith in rw all (omega arith, omega arith)
+rows_on p x y w k (suc j) =
+    let next : k + suc j ≡ suc (k + j) = omega arith in
+    let more = rows_on p x y w k j in
+    let row = row_le p x (y + (k + j)) w in
+    rw next (omega (arith, more), omega (arith, more, row, suc-mul j w))
+
+-- they add no place twice, and lose none
+pub rows_left : (p : ℕ → ℕ → Bool) (x y w k h : ℕ) → k ≤ h →
+    (count_rows p x y w k ≤ count_rows p x y w h) × (count_rows p x y w h ≤ count_rows p x y w k + (h - k) * w)
+rows_left p x y w k h order =
+    let all : k + (h - k) ≡ h = omega arith in
+    rw all at (rows_on p x y w k (h - k))

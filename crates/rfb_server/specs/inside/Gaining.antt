@@ -1,0 +1,41 @@
+-- How many places of a rectangle have the wanted pixel, before it is copied and behind the copy.
+use Rattle.std.specs.Prelude.{◌≡◌, ℕ, ◌<◌, Bool, Option}
+use Rattle.rfb_pixel.specs.declared.colour.Colour.{Colour}
+use Rattle.rfb_picture.specs.Grid.{Grid, Holds}
+use Rattle.rfb_codec.specs.RectData.{moved_to}
+use Rattle.rfb_server.specs.declared.hint.Hint.{Hint}
+use Rattle.rfb_server.specs.declared.session.Session.{Session}
+use Rattle.rfb_server.specs.declared.session.gaining.Right.{Right}
+use Rattle.rfb_server.specs.Record.{AreKnown}
+use Rattle.rfb_server.specs.Composing.{count_row, count_in}
+use Rattle.rfb_server.specs.inside.Copying.{is_right_from}
+
+-- a copy's rectangle and its source lie on the screen, and each place of the source is known
+pub record MayCopy (known : Grid (Option ℕ)) (copy : Hint) : Type 0 where
+  pub target : Holds known copy.to
+  pub source : Holds known (moved_to copy.sx copy.sy copy.to)
+  pub source_known : AreKnown known (moved_to copy.sx copy.sy copy.to)
+
+-- a place of the rectangle has the wanted pixel as it is
+abbrev pub right_before : Grid Colour → Session → Hint → ℕ → ℕ → Bool
+right_before screen session copy =
+    is_right_from screen session.known session.format copy.to copy.to.x copy.to.y
+
+-- it would have it behind the copy
+abbrev pub right_behind : Grid Colour → Session → Hint → ℕ → ℕ → Bool
+right_behind screen session copy =
+    is_right_from screen session.known session.format copy.to copy.sx copy.sy
+
+-- more places of the rectangle would have it than have it
+abbrev pub HasMoreRight : Grid Colour → Session → Hint → Type 0
+HasMoreRight screen session copy =
+    count_in (right_before screen session copy) copy.to
+    < count_in (right_behind screen session copy) copy.to
+
+-- so many places of the rectangle's first row have it, and so many would
+pub record AreRight (screen : Grid Colour) (session : Session) (copy : Hint) (right : Right)
+    : Type 0 where
+  pub before_is : right.before
+      ≡ count_row (right_before screen session copy) copy.to.x copy.to.y copy.to.w
+  pub behind_is : right.behind
+      ≡ count_row (right_behind screen session copy) copy.to.x copy.to.y copy.to.w
