@@ -1,8 +1,10 @@
 -- The bytes of a pixmap's places, one row after the other.
-use Rattle.std.proofs.Common.{◌≡◌, ℕ, ◌+◌, ◌-◌, ◌*◌, List, [], ◌∷◌, ◌++◌, length, length-drop, take, take-add, drop, refl, ap, sym, ◌∙◌, arith}
+use Rattle.std.proofs.Common.{◌≡◌, ℕ, ◌+◌, ◌-◌, ◌*◌, ◌/◌, min, List, [], ◌∷◌, ◌++◌, length, length-drop, take, take-add, drop, drop-cons, refl, ap, sym, ◌∙◌, arith}
 use Rattle.std.proofs.Common.{Option, subst, append-nil, append_assoc, take-append-drop}
-use Rattle.std.proofs.Common.{slice_index_or, ◌≤◌, ◌<◌, length-append, length-take}
-use Rattle.std.proofs.lemmas.List.{take_all}
+use Rattle.std.proofs.Common.{slice_index_or, ◌≤◌, ◌<◌, length-take}
+use Rattle.std.proofs.lemmas.List.{take_all, length-take-le}
+use Rattle.std.proofs.lemmas.Slice.{take-put_mid}
+use borrow.Rule.Slice.PartMut.{put_mid}
 use Rattle.byteorder.specs.Endian.{big_bytes}
 use Rattle.std.specs.Io.KnownBytes.{Appends}
 use Rattle.rfb_picture.specs.Grid.{Grid}
@@ -91,17 +93,6 @@ unfolding components
 components_len [] = refl
 components_len (c ∷ colours) = let more = components_len colours in omega (arith, more)
 
--- behind fewer than eight colours there is room for one more
-pub room_for_one : (before waiting bytes : List ℕ) (colours : List Colour) (c : Colour) (k : ℕ) →
-    length before + 48 ≤ 8192 → length colours < 8 → k < length colours →
-    waiting ≡ before ++ components (take k colours) → bytes ≡ components (c ∷ []) →
-    length waiting + length bytes ≤ 8192
-room_for_one before waiting bytes colours c k room few more so_far is =
-    let all : length waiting ≡ length before + length (components (take k colours)) =
-    rw so_far (length-append before (components (take k colours))) in
-    let one : length bytes ≡ 6 * length (c ∷ []) = rw is (components_len (c ∷ [])) in
-    omega (arith, room, few, more, all, one, components_len (take k colours), length-take k colours)
-
 -- the six bytes of a list, one by one, before others
 abbrev pub six_of : List ℕ → List ℕ → List ℕ
 six_of xs more =
@@ -144,43 +135,53 @@ components_split before colours n =
     ∙ ap (λ (l : List ℕ). before ++ l) (components-append (take n colours) (drop n colours))
     ∙ sym (append_assoc before (components (take n colours)) (components (drop n colours)))
 
--- the components of some colours more stand behind the others
-pub more_components : (before bytes new : List ℕ) (colours more now : List Colour) → bytes ≡ before ++ components colours →
-    new ≡ bytes ++ components more → now ≡ colours ++ more → new ≡ before ++ components now
-more_components before bytes new colours more now so_far is all =
-    is ∙ ap (λ (l : List ℕ). l ++ components more) so_far ∙ append_assoc before (components colours) (components more)
-    ∙ ap (λ (l : List ℕ). before ++ l) (sym (components-append colours more))
-    ∙ ap (λ (l : List Colour). before ++ components l) (sym all)
+-- behind those of the colours before, so many colours' bytes are written over the others
+pub put_more : (colours : List Colour) (bytes part : List ℕ) (start n k : ℕ) → start + n ≤ length colours →
+    6 * start ≤ length bytes → take (6 * start) bytes ≡ components (take start colours) →
+    part ≡ components (take n (drop start colours)) →
+    take (6 * (start + n)) (put_mid (6 * start) k bytes part) ≡ components (take (start + n) colours)
+put_more colours bytes part start n k within room so_far is =
+    let rest = length-drop start colours in
+    let piece : length (take n (drop start colours)) ≡ n = length-take-le n (drop start colours) (omega (arith, rest, within)) in
+    let long : length part ≡ 6 * n = ap length is ∙ components_len (take n (drop start colours)) ∙ ap (λ (m : ℕ). 6 * m) piece in
+    take-put_mid (6 * start) k bytes part (6 * (start + n)) (omega (arith, long)) room
+    ∙ rw (so_far, is, take-add) (sym (components-append (take start colours) (take n (drop start colours))))
+
+-- the colour at a place, as a list
+pub one_taken : (colours : List Colour) (k : ℕ) (none : Colour) → k < length colours →
+    slice_index_or colours k none ∷ [] ≡ take 1 (drop k colours)
+one_taken colours k none below =
+    let next = drop-cons colours k none below in
+    sym (ap (take 1) next)
 
 -- they wait behind the others, once there is room
-pub gathered_piece : (old mid new : Option (List ℕ)) (before waiting roomy bytes text : List ℕ)
-    (colours piece now : List Colour) → AppendsUpTo old mid (before ++ components colours) waiting →
-    AppendsUpTo mid new waiting roomy → bytes ≡ components piece → text ≡ roomy ++ bytes →
-    colours ++ piece ≡ now → AppendsUpTo old new (before ++ components now) text
-gathered_piece old mid new before waiting roomy bytes text colours piece now so_far room put all is =
-    let parts : (before ++ components colours) ++ components piece ≡ before ++ components now =
-    append_assoc before (components colours) (components piece)
-    ∙ ap (λ (l : List ℕ). before ++ l) (sym (components-append colours piece))
+pub gathered_block : (old mid new : Option (List ℕ)) (before waiting roomy text : List ℕ)
+    (colours block now : List Colour) → AppendsUpTo old mid (before ++ components colours) waiting →
+    AppendsUpTo mid new waiting roomy → text ≡ roomy ++ components block → colours ++ block ≡ now →
+    AppendsUpTo old new (before ++ components now) text
+gathered_block old mid new before waiting roomy text colours block now so_far room all is =
+    let parts : (before ++ components colours) ++ components block ≡ before ++ components now =
+    append_assoc before (components colours) (components block)
+    ∙ ap (λ (l : List ℕ). before ++ l) (sym (components-append colours block))
     ∙ ap (λ (l : List Colour). before ++ components l) is in
-    let items : text ≡ roomy ++ components piece = all ∙ ap (λ (l : List ℕ). roomy ++ l) put in
-    subst (λ (l : List ℕ). AppendsUpTo old new (before ++ components now) l) (sym items)
-    (subst (λ (l : List ℕ). AppendsUpTo old new l (roomy ++ components piece)) parts
-    (more_waits old new (before ++ components colours) roomy (components piece)
+    subst (λ (l : List ℕ). AppendsUpTo old new (before ++ components now) l) (sym all)
+    (subst (λ (l : List ℕ). AppendsUpTo old new l (roomy ++ components block)) parts
+    (more_waits old new (before ++ components colours) roomy (components block)
     (then_written old mid new (before ++ components colours) waiting roomy so_far room)))
 
--- the next eight, and all that are left
-pub eight_more : (colours : List Colour) (n : ℕ) →
-    take n colours ++ take (n + 8 - n) (drop n colours) ≡ take (n + 8) colours
-eight_more colours n =
-    let e : n + 8 - n ≡ 8 = omega arith in
-    rw (e, take-add) refl
+-- a block more
+pub block_more : (colours : List Colour) (start end : ℕ) → start ≤ end →
+    take start colours ++ take (end - start) (drop start colours) ≡ take end colours
+block_more colours start end up =
+    let split : start + (end - start) ≡ end = omega (arith, up) in
+    sym (ap (λ (n : ℕ). take n colours) (sym split) ∙ take-add start (end - start) colours)
 
-pub rest_more : (colours : List Colour) (n : ℕ) →
-    take n colours ++ take (length colours - n) (drop n colours) ≡ colours
-rest_more colours n =
-    ap (λ (l : List Colour). take n colours ++ l)
-    (take_all (length colours - n) (drop n colours) (omega (arith, length-drop n colours)))
-    ∙ take-append-drop n colours
+-- it ends where the colours do, or the room for their bytes
+pub room_for_block : (colours : List Colour) (start end room waiting : ℕ) → room + waiting ≡ 8192 →
+    end ≡ min (length colours) (start + room / 6) → waiting + 6 * length (take (end - start) (drop start colours)) ≤ 8192
+room_for_block colours start end room waiting all is =
+    let some : length (take (end - start) (drop start colours)) ≡ min (end - start) (length (drop start colours)) = length-take (end - start) (drop start colours) in
+    omega (arith, all, is, some)
 
 -- where it stops at some colour, a beginning of all was written
 pub gathering_stopped : (old mid new : Option (List ℕ)) (before waiting : List ℕ) (colours : List Colour) (n : ℕ) →

@@ -1,6 +1,7 @@
 //! Engines: one end of a connection, run over any reader and writer until its input ends.
 
 mod device;
+mod failure;
 mod fault;
 mod lent;
 mod nowhere;

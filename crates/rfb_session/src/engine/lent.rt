@@ -5,6 +5,7 @@ ghost use Rattle.std.specs.Io.{WritesAtMost};
 ghost use Rattle.std.specs.Io.KnownBytes.{WriteAppends};
 
 use crate::engine::device::Sink;
+use crate::engine::failure::is_failure;
 use std::io;
 use std::io::Write;
 
@@ -41,9 +42,8 @@ impl<'a, W: Write> Sink for Lent<'a, W> {
 
     fn write(&mut self, buf: &[u8]) -> io::Result<usize> {
         let result = self.writer.write(buf);
-        match &result {
-            Ok(taken) if *taken > 0 || buf.is_empty() => {}
-            _ => self.failures += 1,
+        if is_failure(&result, buf) {
+            self.failures += 1;
         }
         result
     }

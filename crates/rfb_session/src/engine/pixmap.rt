@@ -1,6 +1,6 @@
 //! Pictures as portable pixmaps (PPM), the files of Netpbm.
 
-ghost use Rattle.std.specs.Prelude.{◌≡◌, ◌≤◌, ◌<◌, ◌+◌, ◌-◌, ◌^◌, ◌++◌, ℕ, List, [], ◌∷◌, length, take, OnOk, OnErr};
+ghost use Rattle.std.specs.Prelude.{◌≡◌, ◌≤◌, ◌<◌, ◌+◌, ◌-◌, ◌*◌, ◌^◌, ◌++◌, ℕ, List, [], ◌∷◌, length, take, OnOk, OnErr};
 ghost use Rattle.std.specs.Io.KnownBytes.{Appends};
 ghost use Rattle.rfb_session.specs.Devices.{AppendsBeginning, AppendsUpTo};
 ghost use Rattle.rfb_session.specs.Pixmap.{components, header_of, pixmap};
@@ -15,6 +15,9 @@ use std::marker::Model;
 
 // How many bytes wait for a write, at most.
 const ROOM: usize = 8192;
+
+// How many bytes a colour has.
+const COLOUR_BYTES: usize = 6;
 
 // How many colours are taken at once.
 const PIECE: usize = 8;
@@ -71,22 +74,19 @@ fn gather<W: Sink>(colours: &[Colour], waiting: &mut Waiting, sink: &mut W) -> R
     ensures same_reference { W.reference sink.new ≡ W.reference sink.old }
 {
     let mut start = 0;
-    while colours.len() - start >= PIECE {
-        let end = start + PIECE;
+    while start < colours.len() {
         make_room(waiting, sink)?;
-        waiting.append(&components_of(&colours[start..end]));
+        let end = colours.len().min(start + waiting.room() / COLOUR_BYTES);
+        waiting.append_components(&colours[start..end]);
         start = end;
     }
-    make_room(waiting, sink)?;
-    append_each(&colours[start..], waiting);
     Ok(())
 }
 
-// Writes what waits, where there is no room for the components of a piece.
-#[inline(always)]
+// Writes what waits, where there is no room for the components of a colour.
 fn make_room<W: Sink>(waiting: &mut Waiting, sink: &mut W) -> Result<(), Device>
     requires countable { W.failed sink.old < 2 ^ 64 - 1 }
-    ensures room { OnOk result (length waiting.new + PIECE_BYTES ≤ ROOM) }
+    ensures room { OnOk result (length waiting.new + COLOUR_BYTES ≤ ROOM) }
     ensures done { OnOk result (AppendsUpTo (W.written sink.old) (W.written sink.new)
         waiting.old waiting.new) }
     ensures stopped { OnErr result (AppendsBeginning (W.written sink.old) (W.written sink.new)
@@ -95,7 +95,7 @@ fn make_room<W: Sink>(waiting: &mut Waiting, sink: &mut W) -> Result<(), Device>
     ensures one_failed { OnErr result (W.failed sink.new ≡ W.failed sink.old + 1) }
     ensures same_reference { W.reference sink.new ≡ W.reference sink.old }
 {
-    if waiting.room() >= PIECE_BYTES {
+    if waiting.room() >= COLOUR_BYTES {
         return Ok(());
     }
     send(waiting.as_slice(), sink)?;
@@ -103,15 +103,38 @@ fn make_room<W: Sink>(waiting: &mut Waiting, sink: &mut W) -> Result<(), Device>
     Ok(())
 }
 
-// The components of fewer colours than a piece has, colour by colour.
-fn append_each(colours: &[Colour], waiting: &mut Waiting)
-    requires few { length colours.now < PIECE }
-    requires room { length waiting.old + PIECE_BYTES ≤ ROOM }
-    ensures { waiting.new ≡ waiting.old ++ components colours.now }
+// Writes the components of each colour over all of the bytes.
+fn put_components(bytes: &mut [u8], colours: &[Colour])
+    requires { length bytes.old ≡ 6 * length colours.now }
+    ensures { bytes.new ≡ components colours.now }
 {
-    for colour in colours {
-        waiting.append(&bytes_of(*colour));
+    let mut start = 0;
+    while colours.len() - start >= PIECE {
+        let at = COLOUR_BYTES * start;
+        put_piece(
+            &mut bytes[at..at + PIECE_BYTES],
+            &colours[start..start + PIECE],
+        );
+        start += PIECE;
     }
+    for place in start..colours.len() {
+        let at = COLOUR_BYTES * place;
+        bytes[at..at + COLOUR_BYTES].copy_from_slice(&bytes_of(colours[place]));
+    }
+}
+
+// Writes the components of eight colours. They are given to an array, as `copy_from_slice` would
+// have them on the stack first.
+#[inline(always)]
+fn put_piece(bytes: &mut [u8], colours: &[Colour])
+    requires room { length bytes.old ≡ PIECE_BYTES }
+    requires many { length colours.now ≡ PIECE }
+    ensures { bytes.new ≡ components colours.now }
+{
+    let Some(array) = bytes.as_mut_array() else {
+        unreachable!()
+    };
+    *array = components_of(colours);
 }
 
 // The components of eight colours. Their bytes are written one by one, of which the compiler makes
@@ -135,7 +158,7 @@ fn components_of(colours: &[Colour]) -> [u8; PIECE_BYTES]
 
 // The components of a colour, two bytes each, the most significant first.
 #[inline(always)]
-fn bytes_of(colour: Colour) -> [u8; 6]
+fn bytes_of(colour: Colour) -> [u8; COLOUR_BYTES]
     ensures { result ≡ components (colour ∷ []) }
 {
     let [r1, r0] = colour.r.to_be_bytes();
@@ -178,7 +201,6 @@ impl Waiting {
     }
 
     // For how many bytes more there is room.
-    #[inline(always)]
     fn room(&self) -> usize
         ensures { result + length self.now ≡ ROOM }
     {
@@ -186,13 +208,22 @@ impl Waiting {
     }
 
     // Puts these bytes behind the others.
-    #[inline(always)]
     fn append(&mut self, bytes: &[u8])
         requires { length self.old + length bytes.now ≤ ROOM }
         ensures { self.new ≡ self.old ++ bytes.now }
     {
         let end = self.len + bytes.len();
         self.bytes[self.len..end].copy_from_slice(bytes);
+        self.len = end;
+    }
+
+    // Puts the components of these colours behind them.
+    fn append_components(&mut self, colours: &[Colour])
+        requires { length self.old + 6 * length colours.now ≤ ROOM }
+        ensures { self.new ≡ self.old ++ components colours.now }
+    {
+        let end = self.len + COLOUR_BYTES * colours.len();
+        put_components(&mut self.bytes[self.len..end], colours);
         self.len = end;
     }
 

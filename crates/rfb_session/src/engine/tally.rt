@@ -5,6 +5,7 @@ ghost use Rattle.std.specs.Io.{ReadsAtMost, WritesAtMost};
 ghost use Rattle.std.specs.Io.KnownBytes.{ReadConsumes, WriteAppends};
 
 use crate::engine::device::{Sink, Source};
+use crate::engine::failure::is_failure;
 use std::io;
 use std::io::{Read, Write};
 
@@ -61,9 +62,8 @@ impl<W: Write> Sink for Tally<W> {
 
     fn write(&mut self, buf: &[u8]) -> io::Result<usize> {
         let result = self.inner.write(buf);
-        match &result {
-            Ok(taken) if *taken > 0 || buf.is_empty() => {}
-            _ => self.failures += 1,
+        if is_failure(&result, buf) {
+            self.failures += 1;
         }
         result
     }
