@@ -9,7 +9,7 @@ use Rattle.rfb_server.specs.declared.hint.Hint.{Hint}
 use Rattle.rfb_server.specs.declared.session.Session.{Session}
 use Rattle.rfb_server.specs.Composing.{count_row, count_rows}
 use Rattle.rfb_server.specs.inside.Copying.{is_right_from}
-use Rattle.rfb_server.specs.inside.Gaining.{right_before, right_behind}
+use Rattle.rfb_server.specs.inside.Gaining.{line, part, right_before, right_behind}
 use Rattle.rfb_server.proofs.CountLemmas.{row_same, rows_more}
 use Rattle.rfb_server.proofs.BitCountLemmas.{row_split, row_le}
 
@@ -36,25 +36,40 @@ rows_joined : (p q : ℕ → ℕ → Bool) (x y w k : ℕ) → ((i : ℕ) → i 
 rows_joined p q x y w k same = ap (λ n. count_rows p x y w k + n) (row_same q p x (y + k) w same) ∙ sym (rows_more p x y w k)
 
 module _ (screen : Grid Colour) (s : Session) (copy : Hint) (row n m : ℕ) where
-  -- of a copy, that of one of its rows
-  abbrev line : Hint
-  line = record { to = record copy.to { y = copy.to.y + row; h = 1 }; sx = copy.sx; sy = copy.sy + row }
-
   pub before_row : n ≡ count_rows (right_before screen s copy) copy.to.x copy.to.y copy.to.w row →
-      m ≡ count_row (right_before screen s line) copy.to.x (copy.to.y + row) copy.to.w →
+      m ≡ count_row (right_before screen s (line copy row)) copy.to.x (copy.to.y + row) copy.to.w →
       n + m ≡ count_rows (right_before screen s copy) copy.to.x copy.to.y copy.to.w (row + 1)
   before_row above here =
       rw (above, here)
-      (rows_joined (right_before screen s copy) (right_before screen s line) copy.to.x copy.to.y copy.to.w row
-      (λ i l. same_source screen s.known s.format copy.to line.to copy.to.x copy.to.y copy.to.x (copy.to.y + row) (copy.to.x + i) (copy.to.y + row) refl (omega arith)))
+      (rows_joined (right_before screen s copy) (right_before screen s (line copy row)) copy.to.x copy.to.y copy.to.w row
+      (λ i l. same_source screen s.known s.format copy.to (line copy row).to copy.to.x copy.to.y copy.to.x (copy.to.y + row) (copy.to.x + i) (copy.to.y + row) refl (omega arith)))
 
   pub behind_row : n ≡ count_rows (right_behind screen s copy) copy.to.x copy.to.y copy.to.w row →
-      m ≡ count_row (right_behind screen s line) copy.to.x (copy.to.y + row) copy.to.w →
+      m ≡ count_row (right_behind screen s (line copy row)) copy.to.x (copy.to.y + row) copy.to.w →
       n + m ≡ count_rows (right_behind screen s copy) copy.to.x copy.to.y copy.to.w (row + 1)
   behind_row above here =
       rw (above, here)
-      (rows_joined (right_behind screen s copy) (right_behind screen s line) copy.to.x copy.to.y copy.to.w row
-      (λ i l. same_source screen s.known s.format copy.to line.to copy.sx copy.sy copy.sx (copy.sy + row) (copy.to.x + i) (copy.to.y + row) refl (omega arith)))
+      (rows_joined (right_behind screen s copy) (right_behind screen s (line copy row)) copy.to.x copy.to.y copy.to.w row
+      (λ i l. same_source screen s.known s.format copy.to (line copy row).to copy.sx copy.sy copy.sx (copy.sy + row) (copy.to.x + i) (copy.to.y + row) refl (omega arith)))
+
+-- ---- parts of a row
+
+module _ (screen : Grid Colour) (s : Session) (row : Hint) (x next n m : ℕ) (order : row.to.x ≤ x) (rest : x ≤ next) where
+  pub before_part : n ≡ count_row (right_before screen s row) row.to.x row.to.y (x - row.to.x) →
+      m ≡ count_row (right_before screen s (part row x next)) x row.to.y (next - x) →
+      n + m ≡ count_row (right_before screen s row) row.to.x row.to.y (next - row.to.x)
+  before_part above here =
+      rw (above, here)
+      (row_joined (right_before screen s row) (right_before screen s (part row x next)) row.to.x row.to.y x next order rest
+      (λ i l. same_source screen s.known s.format row.to (part row x next).to row.to.x row.to.y x row.to.y (x + i) row.to.y (omega arith) (omega arith)))
+
+  pub behind_part : n ≡ count_row (right_behind screen s row) row.to.x row.to.y (x - row.to.x) →
+      m ≡ count_row (right_behind screen s (part row x next)) x row.to.y (next - x) →
+      n + m ≡ count_row (right_behind screen s row) row.to.x row.to.y (next - row.to.x)
+  behind_part above here =
+      rw (above, here)
+      (row_joined (right_behind screen s row) (right_behind screen s (part row x next)) row.to.x row.to.y x next order rest
+      (λ i l. same_source screen s.known s.format row.to (part row x next).to row.sx row.sy (part row x next).sx row.sy (x + i) row.to.y (omega arith) (omega arith)))
 
 -- ---- the rows that are left
 

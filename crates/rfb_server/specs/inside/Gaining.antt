@@ -1,13 +1,12 @@
 -- How many places of a rectangle have the wanted pixel, before it is copied and behind the copy.
-use Rattle.std.specs.Prelude.{◌≡◌, ℕ, ◌<◌, Bool, Option}
+use Rattle.std.specs.Prelude.{ℕ, ◌+◌, ◌-◌, ◌<◌, Bool, Option}
 use Rattle.rfb_pixel.specs.declared.colour.Colour.{Colour}
 use Rattle.rfb_picture.specs.Grid.{Grid, Holds}
 use Rattle.rfb_codec.specs.RectData.{moved_to}
 use Rattle.rfb_server.specs.declared.hint.Hint.{Hint}
 use Rattle.rfb_server.specs.declared.session.Session.{Session}
-use Rattle.rfb_server.specs.declared.session.gaining.Right.{Right}
 use Rattle.rfb_server.specs.Record.{AreKnown}
-use Rattle.rfb_server.specs.Composing.{count_row, count_in}
+use Rattle.rfb_server.specs.Composing.{count_in}
 use Rattle.rfb_server.specs.inside.Copying.{is_right_from}
 
 -- a copy's rectangle and its source lie on the screen, and each place of the source is known
@@ -32,10 +31,16 @@ HasMoreRight screen session copy =
     count_in (right_before screen session copy) copy.to
     < count_in (right_behind screen session copy) copy.to
 
--- so many places of the rectangle's first row have it, and so many would
-pub record AreRight (screen : Grid Colour) (session : Session) (copy : Hint) (right : Right)
-    : Type 0 where
-  pub before_is : right.before
-      ≡ count_row (right_before screen session copy) copy.to.x copy.to.y copy.to.w
-  pub behind_is : right.behind
-      ≡ count_row (right_behind screen session copy) copy.to.x copy.to.y copy.to.w
+-- the copy of one of its rows
+abbrev pub line : Hint → ℕ → Hint
+line copy row =
+    record { to = record copy.to { y = copy.to.y + row; h = 1 }; sx = copy.sx; sy = copy.sy + row }
+
+-- the copy of its columns from one up to another
+abbrev pub part : Hint → ℕ → ℕ → Hint
+part copy from to =
+    record {
+      to = record copy.to { x = from; w = to - from };
+      sx = copy.sx + (from - copy.to.x);
+      sy = copy.sy;
+    }

@@ -1,23 +1,18 @@
 //! What the viewer gains if it copies a rectangle.
 
-ghost use Rattle.std.specs.Prelude.{◌≡◌, ◌+◌, ◌*◌, ◌/◌, ◌≤◌, ◌<◌};
+ghost use Rattle.std.specs.Prelude.{◌≡◌, ◌+◌, ◌-◌, ◌*◌, ◌/◌, ◌≤◌, ◌<◌};
 ghost use Rattle.std.specs.Bool.{OnTrue, OnFalse};
 ghost use Rattle.rfb_picture.specs.Grid.{Holds};
 ghost use Rattle.rfb_server.specs.inside.Needing.{IsAbout};
 ghost use Rattle.rfb_server.specs.inside.Copying.{IsFree, IsUseful};
-ghost use Rattle.rfb_server.specs.inside.Gaining.{MayCopy, HasMoreRight, AreRight};
+ghost use Rattle.rfb_server.specs.Composing.{count_row, count_in};
+ghost use Rattle.rfb_server.specs.inside.Gaining.{MayCopy, HasMoreRight, line, part};
+ghost use Rattle.rfb_server.specs.inside.Gaining.{right_before, right_behind};
 
 use crate::hint::Hint;
 use crate::session::Session;
 use rfb_picture::{Picture, Rect};
 use rfb_pixel::{Colour, count_equal, differing};
-
-// How many places have the wanted pixel as they are, and how many would behind the copy.
-#[derive(Clone, Copy, Drop)]
-struct Right {
-    before: u32,
-    behind: u32,
-}
 
 impl Session {
     /// Whether the viewer is to copy: all of the rectangle is asked and none of it whole, all of
@@ -62,8 +57,8 @@ impl Session {
         false
     }
 
-    // Whether more places of the rectangle have the wanted pixel behind the copy than before. It
-    // ends as soon as the rows that are left cannot change that.
+    // Whether more places of the rectangle have the wanted pixel behind the copy than before. All are
+    // counted behind it; those before it until the rows that are left cannot change the answer.
     fn has_more_right(&self, screen: &Picture<Colour>, hint: Hint) -> bool
         requires about { IsAbout screen.now self.now }
         requires copy { MayCopy self.now.known hint }
@@ -71,83 +66,104 @@ impl Session {
         ensures no_more { OnFalse result (HasMoreRight screen.now self.now hint → ⊥) }
     {
         let to = hint.to;
+        let behind = self.behind_in(screen, hint);
         let mut before = 0;
-        let mut behind = 0;
         for row in 0..to.h {
-            let line = Rect {
-                y: to.y + row,
-                h: 1,
-                ..to
-            };
-            let right = self.right_in_row(
-                screen,
-                Hint {
-                    to: line,
-                    sx: hint.sx,
-                    sy: hint.sy + row,
-                },
-            );
-            before += right.before;
-            behind += right.behind;
+            before += self.before_in_row(screen, row_of(hint, row));
             // So many places are left, in the rows below.
             let left = u32::from(to.h - row - 1) * u32::from(to.w);
             if behind > before + left {
                 return true;
             }
-            if before >= behind + left {
+            if before >= behind {
                 return false;
             }
         }
         false
     }
 
-    // How many places have the wanted pixel before a copy of one row, and behind it.
-    fn right_in_row(&self, screen: &Picture<Colour>, row: Hint) -> Right
+    // How many places of the rectangle have the wanted pixel behind the copy.
+    fn behind_in(&self, screen: &Picture<Colour>, hint: Hint) -> u32
+        requires about { IsAbout screen.now self.now }
+        requires copy { MayCopy self.now.known hint }
+        ensures value { result ≡ count_in (right_behind screen.now self.now hint) hint.to }
+        ensures few { result ≤ hint.to.h * 65535 }
+    {
+        let mut count = 0;
+        for row in 0..hint.to.h {
+            count += self.behind_in_row(screen, row_of(hint, row));
+        }
+        count
+    }
+
+    // The same of one row, in parts of 64 places.
+    fn behind_in_row(&self, screen: &Picture<Colour>, row: Hint) -> u32
         requires about { IsAbout screen.now self.now }
         requires copy { MayCopy self.now.known row }
         requires single { row.to.h ≡ 1 }
-        ensures value { AreRight screen.now self.now row result }
-        ensures before { result.before ≤ row.to.w }
-        ensures behind { result.behind ≤ row.to.w }
+        ensures value { result
+            ≡ count_row (right_behind screen.now self.now row) row.to.x row.to.y row.to.w }
+        ensures few { result ≤ row.to.w }
     {
         let end = row.to.x + row.to.w;
-        let mut right = Right {
-            before: 0,
-            behind: 0,
-        };
+        let mut count = 0;
+        let mut x = row.to.x;
+        while x < end {
+            let next = end.min(x + 64);
+            count += self.behind_in_part(screen, part_of(row, x, next));
+            x = next;
+        }
+        count
+    }
+
+    // The same of at most 64 places of a row. All of the source is known.
+    fn behind_in_part(&self, screen: &Picture<Colour>, part: Hint) -> u32
+        requires about { IsAbout screen.now self.now }
+        requires copy { MayCopy self.now.known part }
+        requires single { part.to.h ≡ 1 }
+        requires few { part.to.w ≤ 64 }
+        ensures value { result
+            ≡ count_row (right_behind screen.now self.now part) part.to.x part.to.y part.to.w }
+        ensures few { result ≤ part.to.w }
+    {
+        let to = part.to;
+        let mut row = [0; 64];
+        let wanted = &mut row[..usize::from(to.w)];
+        self.format.pack_row(screen.row(to.x, to.y, to.w), wanted);
+        let pixels = self.known.pixels();
+        count_equal(wanted, pixels.row(part.sx, part.sy, to.w)) as u32
+    }
+
+    // How many places of one row have the wanted pixel as they are, in parts of one cell each.
+    fn before_in_row(&self, screen: &Picture<Colour>, row: Hint) -> u32
+        requires about { IsAbout screen.now self.now }
+        requires copy { MayCopy self.now.known row }
+        requires single { row.to.h ≡ 1 }
+        ensures value { result
+            ≡ count_row (right_before screen.now self.now row) row.to.x row.to.y row.to.w }
+        ensures few { result ≤ row.to.w }
+    {
+        let end = row.to.x + row.to.w;
+        let mut count = 0;
         let mut x = row.to.x;
         while x < end {
             let next = end.min(x / 64 * 64 + 64);
-            let to = Rect {
-                x,
-                w: next - x,
-                ..row.to
-            };
-            let part = self.right_in_part(
-                screen,
-                Hint {
-                    to,
-                    sx: row.sx + (x - row.to.x),
-                    sy: row.sy,
-                },
-            );
-            right.before += part.before;
-            right.behind += part.behind;
+            count += self.before_in_part(screen, part_of(row, x, next));
             x = next;
         }
-        right
+        count
     }
 
-    // The same where all places that it copies to are of one cell.
-    fn right_in_part(&self, screen: &Picture<Colour>, part: Hint) -> Right
+    // The same of places of one cell: those that are known, and have that pixel.
+    fn before_in_part(&self, screen: &Picture<Colour>, part: Hint) -> u32
         requires about { IsAbout screen.now self.now }
         requires copy { MayCopy self.now.known part }
         requires single { part.to.h ≡ 1 }
         requires some { 0 < part.to.w }
         requires cell { part.to.x + part.to.w ≤ part.to.x / 64 * 64 + 64 }
-        ensures value { AreRight screen.now self.now part result }
-        ensures before { result.before ≤ part.to.w }
-        ensures behind { result.behind ≤ part.to.w }
+        ensures value { result
+            ≡ count_row (right_before screen.now self.now part) part.to.x part.to.y part.to.w }
+        ensures few { result ≤ part.to.w }
     {
         let to = part.to;
         let pixels = self.known.pixels();
@@ -157,11 +173,40 @@ impl Session {
         self.format.pack_row(screen.row(to.x, to.y, to.w), wanted);
         let other = differing(wanted, pixels.row(to.x, to.y, to.w)) << (to.x % 64);
         let right = known.row_bits_between(to.y, to.x, to.x + to.w) & !other;
-        // All of the source is known.
-        let behind = count_equal(wanted, pixels.row(part.sx, part.sy, to.w));
-        Right {
-            before: right.count_ones(),
-            behind: behind as u32,
-        }
+        right.count_ones()
     }
+}
+
+// The copy of one row of a hint's rectangle.
+fn row_of(hint: Hint, row: u16) -> Hint
+    requires row { row < hint.to.h }
+    requires last { (hint.to.y + hint.to.h ≤ 4096) × (hint.sy + hint.to.h ≤ 4096) }
+    ensures { result ≡ line hint row }
+{
+    let to = Rect {
+        y: hint.to.y + row,
+        h: 1,
+        ..hint.to
+    };
+    Hint {
+        to,
+        sx: hint.sx,
+        sy: hint.sy + row,
+    }
+}
+
+// The copy of the columns of a row from one up to another.
+fn part_of(row: Hint, from: u16, to: u16) -> Hint
+    requires from { row.to.x ≤ from }
+    requires order { from ≤ to }
+    requires last { row.sx + (from - row.to.x) ≤ 4096 }
+    ensures { result ≡ part row from to }
+{
+    let sx = row.sx + (from - row.to.x);
+    let to = Rect {
+        x: from,
+        w: to - from,
+        ..row.to
+    };
+    Hint { to, sx, ..row }
 }
