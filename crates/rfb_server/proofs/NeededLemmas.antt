@@ -1,10 +1,11 @@
 -- Which places of a row need sending, by the bits of sets and the pixels that are known.
-use Rattle.std.proofs.Common.{◌≡◌, ◌∙◌, ℕ, ◌+◌, ◌-◌, ◌*◌, ◌/◌, ◌%◌, ◌^◌, ◌<◌, ◌≤◌, ◌&&◌, ◌||◌, ◌==◌, subst, Bool, true, false, not, nat_le, nat_lt, bit_and, bit_or, Option, Some, None, length, map, slice_index, sym, ap, refl, arith}
+use Rattle.std.proofs.Common.{List, ◌≡◌, ◌∙◌, ℕ, ◌+◌, ◌-◌, ◌*◌, ◌/◌, ◌%◌, ◌^◌, ◌<◌, ◌≤◌, ◌&&◌, ◌||◌, ◌==◌, subst, Bool, true, false, not, nat_le, nat_lt, bit_and, bit_or, Option, Some, None, length, map, slice_index, sym, ap, refl, arith}
 use Rattle.std.specs.Int.{w64, trailing_zeros, leading_zeros}
 use Rattle.std.specs.Int.Bits.{and_lt}
 use Rattle.std.proofs.lemmas.Bool.{both_ways}
 use Rattle.std.proofs.lemmas.List.{get_or-map}
 use Rattle.std.proofs.lemmas.Bool.Decides.{nat_tests}
+use Rattle.std.proofs.lemmas.Nat.Bits.{bit_at-zero}
 use Rattle.rfb_pixel.specs.declared.colour.Colour.{Colour}
 use Rattle.rfb_pixel.specs.Format.{PixelFormat, pixel_of}
 use Rattle.rfb_pixel.specs.Rows.{TellsDifferences}
@@ -50,6 +51,25 @@ other_told screen form known pixels y from to word some cell columns row shows f
     ∙ ap (pixel_of form) (slice_index_or-row_of screen from y (to - from) j black inside ∙ ap (λ c. at_or screen c y black) place) in
     let reached : nat_lt j (length (row_of pixels from y (to - from))) ≡ true = rw long (within j (to - from) inside) in
     has_bit-up word k i low (omega arith) ∙ told j (omega arith) ∙ (λ h. reached h && not (old h == new h))
+
+-- two rows that are the same have no differences
+none_differs : (a b : List ℕ) → a ≡ b → TellsDifferences a b 0
+none_differs a b e = λ i low.
+    rw (bit_at-zero i) (sym (by_place (nat_lt i (length a)) (slice_index a i) (slice_index b i) (ap (λ (l : List ℕ). slice_index l i) e)))
+  where
+    by_place : (inside : Bool) (v w : ℕ) → v ≡ w → (inside && not (v == w)) ≡ false
+    by_place false v w same = refl
+    by_place true v w same = grind (arith, nat_tests)
+
+pub none_told : (screen : Grid Colour) (form : PixelFormat) (known : Grid (Option ℕ)) (pixels : Grid ℕ) (y from to : ℕ) →
+    from < to → to ≤ from / 64 * 64 + 64 → to ≤ known.width → y < known.height → ShowsKnown known pixels →
+    row_of pixels from y (to - from) ≡ map (pixel_of form) (row_of screen from y (to - from)) →
+    length (row_of pixels from y (to - from)) ≡ to - from → length (row_of screen from y (to - from)) ≡ to - from →
+    TellsOther (wanted_at screen form) known y from to 0
+none_told screen form known pixels y from to some cell columns row shows same long long_screen =
+    let zero : 0 * 2 ^ (from % 64) % 2 ^ 64 ≡ 0 = omega arith in
+    subst (λ (word : ℕ). TellsOther (wanted_at screen form) known y from to word) zero
+    (other_told screen form known pixels y from to 0 some cell columns row shows (omega arith) (none_differs _ _ same) long long_screen)
 
 -- ---- one place
 

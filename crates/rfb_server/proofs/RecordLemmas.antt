@@ -10,7 +10,8 @@ use Rattle.rfb_codec.specs.RectData.{moved_to}
 use Rattle.rfb_picture.specs.Box.{is_in}
 use Rattle.rfb_picture.proofs.GridLemmas.{at-changed, width-changed, height-changed, whole-changed, at-uniform, width-uniform, height-uniform, whole-uniform, same_grid, place_below, contains_more, contains_true, at-with_row, at-filled, slice_index_or-row_of}
 use Rattle.rfb_codec.specs.Effect.{IsRecorded}
-use Rattle.rfb_picture.specs.Area.{Places}
+use Rattle.rfb_picture.specs.Area.{Places, IsArea, added}
+use Rattle.rfb_picture.specs.Places.{AllMarked}
 use Rattle.rfb_server.specs.Record.{AreKnown, ShowsKnown, TellsKnown, is_known, forgotten, record_of}
 
 -- the size of a record is that of its pixels
@@ -249,3 +250,21 @@ record_copied pixels known to sx sy whole sound wide high held all =
         let pixel = at-changed (λ i j old. if contains to i j then at_or pixels (sx + (i - to.x)) (sy + (j - to.y)) old else old) pixels x y 0 whole pp qq in
         let right = at-changed (λ i j old. if contains to i j then at_or (record_of pixels known) (sx + (i - to.x)) (sy + (j - to.y)) old else old) (record_of pixels known) x y d (whole-record_of pixels known) pr qr in
         left ∙ (rw (now, pixel) (by_place x y d (contains to x y) refl pp qq) ∙ sym right)
+
+-- ---- places that are known already
+
+filled_already : (g : Grid Bool) (rect : Rect) → IsGrid g → AllMarked (is_in g) rect → g ≡ filled rect true g
+filled_already g rect whole all =
+    same_grid g (filled rect true g) whole (whole-changed _ g whole) (sym (width-changed _ g)) (sym (height-changed _ g))
+    (λ x y d p q. sym (at-filled rect true g x y d whole p q ∙ by_place x y d p q (contains rect x y) refl))
+  where
+    by_place : (x y : ℕ) (d : Bool) → x < g.width → y < g.height → (inside : Bool) → contains rect x y ≡ inside →
+        (if inside then true else at_or g x y d) ≡ at_or g x y d
+    by_place x y d p q true e =
+        let below : y * g.width + x < length g.places = rw whole (place_below g.width g.height x y p q) in
+        sym (get_or_default g.places (y * g.width + x) d false below ∙ all x y e)
+    by_place x y d p q false e = refl
+
+pub added_already : (area : Places) (rect : Rect) → IsArea area → AllMarked (is_in area.asked) rect → area ≡ added rect false area
+added_already area rect sound all =
+    ap (λ (g : Grid Bool). record { asked = g; whole = area.whole }) (filled_already area.asked rect sound.asks all)

@@ -1,5 +1,5 @@
 -- Places of a copy of one row that have the wanted pixel, told by bits and by rows of pixels.
-use Rattle.std.proofs.Common.{◌≡◌, ◌∙◌, ℕ, zero, suc, ◌+◌, ◌-◌, ◌*◌, ◌/◌, ◌%◌, ◌^◌, ◌<◌, ◌≤◌, ◌==◌, ◌&&◌, Bool, true, false, cond, not, nat_le, nat_lt, List, [], ◌∷◌, length, map, slice_index, bit_and, Option, Some, None, ap, refl, arith}
+use Rattle.std.proofs.Common.{sym, ◌≡◌, ◌∙◌, ℕ, zero, suc, ◌+◌, ◌-◌, ◌*◌, ◌/◌, ◌%◌, ◌^◌, ◌<◌, ◌≤◌, ◌==◌, ◌&&◌, Bool, true, false, cond, not, nat_le, nat_lt, List, [], ◌∷◌, length, map, slice_index, bit_and, Option, Some, None, ap, refl, arith}
 use Rattle.std.specs.Int.{w64, bit_not}
 use Rattle.std.proofs.Math.Nat.{mod-lt}
 use Rattle.std.proofs.lemmas.Bool.Decides.{nat_tests}
@@ -43,6 +43,17 @@ equal_row (v ∷ a) (w ∷ b) p x y (suc n) long_a long_b same =
     let split : count_row p x y (suc n) ≡ count_row p x y 1 + count_row p (x + 1) y n = ap (count_row p x y) next ∙ row_split p x y 1 n in
     let one : count_row p x y 1 ≡ cond (p (x + 0) y) 1 0 = omega arith in
     omega (arith, rest, here, split, one)
+
+-- rows that are the same are so at each place
+with_itself : (a : List ℕ) → equal_places a a ≡ length a
+unfolding equal_places
+with_itself [] = refl
+with_itself (v ∷ a) =
+    let same : (v == v) ≡ true = grind (arith, nat_tests) in
+    rw same (omega (arith, with_itself a))
+
+pub all_equal : (a b : List ℕ) → a ≡ b → equal_places a b ≡ length a
+all_equal a b e = ap (equal_places a) (sym e) ∙ with_itself a
 
 -- ---- one place
 

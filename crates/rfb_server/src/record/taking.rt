@@ -1,8 +1,9 @@
 //! What a record takes over from blocks of pixels.
 
-ghost use Rattle.std.specs.Prelude.{◌≡◌, ◌≤◌, ◌<◌, ◌-◌, ℕ, if◌then◌else◌};
+ghost use Rattle.std.specs.Prelude.{◌≡◌, ◌≤◌, ◌<◌, ◌-◌, ℕ, false, if◌then◌else◌};
 ghost use Rattle.rfb_picture.specs.Rect.{contains};
 ghost use Rattle.rfb_picture.specs.Grid.{IsGrid, Holds, at_or, copied};
+ghost use Rattle.rfb_picture.specs.Area.{added};
 ghost use Rattle.rfb_codec.specs.Pixels.{HasPixels, IsSized};
 ghost use Rattle.rfb_codec.specs.Codec.{PacksRect};
 ghost use Rattle.rfb_codec.specs.RectData.{moved_to};
@@ -10,7 +11,7 @@ ghost use Rattle.rfb_codec.specs.Effect.{IsAlike, IsRecorded};
 
 use crate::record::Record;
 use rfb_codec::Block;
-use rfb_picture::{Picture, Rect};
+use rfb_picture::{Area, Picture, Rect};
 use rfb_pixel::{Colour, Format};
 
 impl Record {
@@ -40,7 +41,7 @@ impl Record {
     {
         block.pack(format, screen, rect);
         put_block(&mut self.pixels, rect, block);
-        self.known.add(rect, false);
+        learn(&mut self.known, rect);
     }
 
     /// What is known of the rectangle of that size at (`sx`, `sy`), of which each place is known,
@@ -54,7 +55,21 @@ impl Record {
         ensures height { self.new.height ≡ self.old.height }
     {
         self.pixels.copy(to, sx, sy);
-        self.known.add(to, false);
+        learn(&mut self.known, to);
+    }
+}
+
+// The places of the rectangle are known from here on. Mostly they were, and nothing is written.
+fn learn(known: &mut Area, rect: Rect)
+    requires { Holds known.old.asked rect }
+    ensures value { known.new ≡ added rect false known.old }
+    ensures width { known.new.asked.width ≡ known.old.asked.width }
+    ensures height { known.new.asked.height ≡ known.old.asked.height }
+{
+    // It tells that each place is known or not.
+    let _width = known.width();
+    if !known.asked().has_all(rect) {
+        known.add(rect, false);
     }
 }
 

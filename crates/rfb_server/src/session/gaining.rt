@@ -12,7 +12,7 @@ ghost use Rattle.rfb_server.specs.inside.Gaining.{right_before, right_behind};
 use crate::hint::Hint;
 use crate::session::Session;
 use rfb_picture::{Picture, Rect};
-use rfb_pixel::{Colour, count_equal, differing};
+use rfb_pixel::{Colour, count_equal, differing, first_diff};
 
 impl Session {
     /// Whether the viewer is to copy: all of the rectangle is asked and none of it whole, all of
@@ -130,8 +130,12 @@ impl Session {
         let mut row = [0; 64];
         let wanted = &mut row[..usize::from(to.w)];
         self.format.pack_row(screen.row(to.x, to.y, to.w), wanted);
-        let pixels = self.known.pixels();
-        count_equal(wanted, pixels.row(part.sx, part.sy, to.w)) as u32
+        let source = self.known.pixels().row(part.sx, part.sy, to.w);
+        // Mostly all are the same, which one compare tells.
+        if first_diff(wanted, source).is_none() {
+            return u32::from(to.w);
+        }
+        count_equal(wanted, source) as u32
     }
 
     // How many places of one row have the wanted pixel as they are, in parts of one cell each.

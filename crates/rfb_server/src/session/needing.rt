@@ -15,7 +15,7 @@ ghost use Rattle.rfb_server.specs.inside.Sends.{state_of};
 use crate::cells::cell_at;
 use crate::session::Session;
 use rfb_picture::{Picture, Rect};
-use rfb_pixel::{Colour, differing};
+use rfb_pixel::{Colour, differing, first_diff};
 
 // The columns from a first one up to an end.
 #[derive(Clone, Copy, Drop)]
@@ -216,6 +216,11 @@ impl Session {
         let mut row = [0; 64];
         let wanted = &mut row[..usize::from(to - from)];
         self.format.pack_row(screen.row(from, y, to - from), wanted);
-        differing(self.known.pixels().row(from, y, to - from), wanted) << (from % 64)
+        let known = self.known.pixels().row(from, y, to - from);
+        // Mostly none is another, which one compare tells.
+        if first_diff(known, wanted).is_none() {
+            return 0;
+        }
+        differing(known, wanted) << (from % 64)
     }
 }

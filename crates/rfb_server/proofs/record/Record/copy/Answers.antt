@@ -10,8 +10,8 @@ copy-requires-clause-target c = rw (← c.self.view_is, width-record_of, height-
 pub copy-requires-clause-source : goal.copy-requires-clause-source
 copy-requires-clause-source c = rw (← c.self.view_is, width-record_of, height-record_of) at c.requires.source
 
-pub add-requires : goal.add-requires
-add-requires c =
+pub learn-requires : goal.learn-requires
+learn-requires c =
     let held = rw (← c.self.view_is, width-record_of, height-record_of) at c.requires.target in (
       rw (c.self.invariant.wide) held.0,
       rw (c.self.invariant.high) held.1,
@@ -21,15 +21,15 @@ pub invariant_of-self : goal.invariant_of-self
 invariant_of-self c =
     record {
       whole = rw (c.copy.ensures.value) (whole-changed _ _ c.self.invariant.whole);
-      area = rw (c.add.ensures.value) (area-added c.args.to false c.self.inside.known c.self.invariant.area);
-      wide = c.add.ensures.width ∙ (c.self.invariant.wide ∙ sym c.copy.ensures.width);
-      high = c.add.ensures.height ∙ (c.self.invariant.high ∙ sym c.copy.ensures.height);
+      area = rw (c.learn.ensures.value) (area-added c.args.to false c.self.inside.known c.self.invariant.area);
+      wide = c.learn.ensures.width ∙ (c.self.invariant.wide ∙ sym c.copy.ensures.width);
+      high = c.learn.ensures.height ∙ (c.self.invariant.high ∙ sym c.copy.ensures.height);
     }
 
 pub returns-clause-value : goal.returns-clause-value
 returns-clause-value c =
     let source = rw (← c.self.view_is, width-record_of, height-record_of) at c.requires.source in
-    rw (c.copy.ensures.value, c.add.ensures.value, ← c.self.view_is)
+    rw (c.copy.ensures.value, c.learn.ensures.value, ← c.self.view_is)
     (record_copied c.self.inside.pixels c.self.inside.known.asked c.args.to c.args.sx c.args.sy c.self.invariant.whole c.self.invariant.area.asks
     c.self.invariant.wide c.self.invariant.high source (rw (← c.self.view_is) at c.requires.known))
 

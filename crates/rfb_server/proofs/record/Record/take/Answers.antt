@@ -15,8 +15,8 @@ put_block-requires-clause-held c = rw (← c.self.view_is, width-record_of, heig
 pub put_block-requires-clause-bound : goal.put_block-requires-clause-bound
 put_block-requires-clause-bound c = rw (← c.self.view_is, height-record_of) at c.requires.bound
 
-pub add-requires : goal.add-requires
-add-requires c =
+pub learn-requires : goal.learn-requires
+learn-requires c =
     let held = rw (← c.self.view_is, width-record_of, height-record_of) at c.requires.held in (
       rw (c.self.invariant.wide) held.0,
       rw (c.self.invariant.high) held.1,
@@ -26,9 +26,9 @@ pub invariant_of-self : goal.invariant_of-self
 invariant_of-self c =
     record {
       whole = c.put_block.ensures.whole;
-      area = rw (c.add.ensures.value) (area-added c.args.rect false c.self.inside.known c.self.invariant.area);
-      wide = c.add.ensures.width ∙ (c.self.invariant.wide ∙ sym c.put_block.ensures.width);
-      high = c.add.ensures.height ∙ (c.self.invariant.high ∙ sym c.put_block.ensures.height);
+      area = rw (c.learn.ensures.value) (area-added c.args.rect false c.self.inside.known c.self.invariant.area);
+      wide = c.learn.ensures.width ∙ (c.self.invariant.wide ∙ sym c.put_block.ensures.width);
+      high = c.learn.ensures.height ∙ (c.self.invariant.high ∙ sym c.put_block.ensures.height);
     }
 
 pub returns-clause-width : goal.returns-clause-width
@@ -41,7 +41,7 @@ returns-clause-height c =
 
 pub returns-clause-recorded : goal.returns-clause-recorded
 returns-clause-recorded c =
-    rw (c.add.ensures.value, ← c.self.view_is)
+    rw (c.learn.ensures.value, ← c.self.view_is)
     (recorded_of c.self.inside.pixels c.put_block.new.pixels c.pack.new.self c.self.inside.known.asked c.args.rect c.self.invariant.area.asks c.self.invariant.wide c.self.invariant.high
     c.put_block.ensures.width c.put_block.ensures.height c.put_block.ensures.each)
 
