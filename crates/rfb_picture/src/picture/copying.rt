@@ -41,7 +41,7 @@ fn copy_places<T: Copy>(places: &mut [T], from: usize, to: usize, count: usize)
 }
 
 // How many places are moved at once.
-const PIECE: usize = 32;
+const PIECE: usize = 16;
 
 // The same where the target lies to the left of the source: from the left on, so that a place is
 // read before it is written.

@@ -7,6 +7,6 @@ loop-done-preserved g c =
     let l = c.loop-done in
     record {
       within = omega arith;
-      moved = left_more c.args.from c.args.to l.done 32 c.args.places.now l.places c.move_piece.new.places c.requires.order l.invariant.moved c.move_piece.ensures;
+      moved = left_more c.args.from c.args.to l.done 16 c.args.places.now l.places c.move_piece.new.places c.requires.order l.invariant.moved c.move_piece.ensures;
       len = omega arith;
     }
