@@ -17,4 +17,4 @@ mod rows;
 pub use colour::Colour;
 pub use fault::FormatFault;
 pub use format::{FORMAT_SIZE, Format};
-pub use rows::{count_equal, differing, first_diff, last_diff};
+pub use rows::{count_equal, differing, first_diff, last_diff, run_of};

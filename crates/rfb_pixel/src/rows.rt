@@ -1,6 +1,6 @@
 //! Where two rows of pixel values differ.
 
-ghost use Rattle.std.specs.Prelude.{◌≡◌, ℕ, ◌<◌, ◌≤◌, ◌+◌, ◌^◌, ◌==◌, ◌↔◌, not, nat_eq, drop, take, length, slice_index, IfSome, IsNone};
+ghost use Rattle.std.specs.Prelude.{◌≡◌, ◌≢◌, ℕ, ◌<◌, ◌≤◌, ◌+◌, ◌^◌, ◌==◌, ◌↔◌, not, nat_eq, drop, take, length, slice_index, IfSome, IsNone};
 ghost use Rattle.std.specs.Bool.{OnTrue};
 ghost use Rattle.std.specs.Int.{bit_at};
 ghost use Rattle.rfb_pixel.specs.Rows.{IsFirstDiff, IsLastDiff, equal_places, TellsDifferences};
@@ -9,6 +9,9 @@ use std::simd::u32x16;
 
 // How many places are compared at once.
 const LANES: usize = 16;
+
+// How many places of a run are looked at one by one first.
+const NEAR: usize = 8;
 
 /// The first place where two rows of one length differ. None where they are the same.
 pub fn first_diff(a: &[u32], b: &[u32]) -> Option<usize>
@@ -45,6 +48,54 @@ pub fn last_diff(a: &[u32], b: &[u32]) -> Option<usize>
         }
     }
     None
+}
+
+/// How many places of a row, from the first on, have that pixel. Most runs are short: their places
+/// are looked at one by one, where it is called.
+#[inline(always)]
+pub fn run_of(row: &[u32], pixel: u32) -> usize
+    ensures within { result ≤ length row.now }
+    ensures run { (k : ℕ) → k < result → slice_index row.now k ≡ pixel }
+    ensures other { result < length row.now → slice_index row.now result ≢ pixel }
+{
+    let near = row.len().min(NEAR);
+    for i in 0..near {
+        if row[i] != pixel {
+            return i;
+        }
+    }
+    run_from(row, near, pixel)
+}
+
+// The same where the places before `near` have it.
+#[inline(never)]
+fn run_from(row: &[u32], near: usize, pixel: u32) -> usize
+    requires within { near ≤ length row.now }
+    requires run { (k : ℕ) → k < near → slice_index row.now k ≡ pixel }
+    ensures within { result ≤ length row.now }
+    ensures run { (k : ℕ) → k < result → slice_index row.now k ≡ pixel }
+    ensures other { result < length row.now → slice_index row.now result ≢ pixel }
+{
+    let mut at = near;
+    while row.len() - at >= LANES && are_all(row, at, pixel) {
+        at += LANES;
+    }
+    for place in at..row.len() {
+        if row[place] != pixel {
+            return place;
+        }
+    }
+    row.len()
+}
+
+// Whether the sixteen places of a row that begin at `at` have that pixel.
+#[inline(always)]
+fn are_all(row: &[u32], at: usize, pixel: u32) -> bool
+    requires { at + 16 ≤ length row.now }
+    ensures { OnTrue result ((k : ℕ) → at ≤ k → k < at + 16 → slice_index row.now k ≡ pixel) }
+{
+    let same = [pixel; LANES];
+    are_same(&row[at..at + LANES], &same, 0)
 }
 
 /// At how many places two rows of one length have the same pixel.

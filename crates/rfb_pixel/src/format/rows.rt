@@ -65,12 +65,17 @@ fn pack_rgb888(colours: &[Colour], pixels: &mut [u32])
     ensures value { pixels.new ≡ map (pixel_of rgb888) colours.now }
     ensures bound { ArePixels rgb888 pixels.new }
 {
+    if colours.len() < LANES {
+        pack_each(Format::rgb888(), colours, pixels);
+        return;
+    }
+    let last = colours.len() - LANES;
     let mut at = 0;
-    while colours.len() - at >= LANES {
+    while at < last {
         pack_eight_rgb888(&colours[at..at + LANES]).copy_to_slice(&mut pixels[at..]);
         at += LANES;
     }
-    pack_each(Format::rgb888(), &colours[at..], &mut pixels[at..]);
+    pack_eight_rgb888(&colours[last..]).copy_to_slice(&mut pixels[last..]);
 }
 
 // The same in rgb565.
@@ -79,12 +84,17 @@ fn pack_rgb565(colours: &[Colour], pixels: &mut [u32])
     ensures value { pixels.new ≡ map (pixel_of rgb565) colours.now }
     ensures bound { ArePixels rgb565 pixels.new }
 {
+    if colours.len() < LANES {
+        pack_each(Format::rgb565(), colours, pixels);
+        return;
+    }
+    let last = colours.len() - LANES;
     let mut at = 0;
-    while colours.len() - at >= LANES {
+    while at < last {
         pack_eight_rgb565(&colours[at..at + LANES]).copy_to_slice(&mut pixels[at..]);
         at += LANES;
     }
-    pack_each(Format::rgb565(), &colours[at..], &mut pixels[at..]);
+    pack_eight_rgb565(&colours[last..]).copy_to_slice(&mut pixels[last..]);
 }
 
 // Writes the colour of each pixel, by one loop for every format.
@@ -105,12 +115,20 @@ fn unpack_rgb888(bytes: &[u8], colours: &mut [Colour])
     requires { length bytes.now ≡ length colours.old * 4 }
     ensures { AreColours rgb888 bytes.now colours.new }
 {
+    if colours.len() < LANES {
+        unpack_each(Format::rgb888(), bytes, colours);
+        return;
+    }
     let mut at = 0;
     while colours.len() - at >= LANES {
         unpack_eight_rgb888(&bytes[at * 4..at * 4 + 32], &mut colours[at..at + LANES]);
         at += LANES;
     }
-    unpack_each(Format::rgb888(), &bytes[at * 4..], &mut colours[at..]);
+    if at < colours.len() {
+        // The last eight, of which some are written already.
+        let last = colours.len() - LANES;
+        unpack_eight_rgb888(&bytes[last * 4..], &mut colours[last..]);
+    }
 }
 
 // The same of rgb565.
@@ -119,12 +137,20 @@ fn unpack_rgb565(bytes: &[u8], colours: &mut [Colour])
     requires { length bytes.now ≡ length colours.old * 2 }
     ensures { AreColours rgb565 bytes.now colours.new }
 {
+    if colours.len() < LANES {
+        unpack_each(Format::rgb565(), bytes, colours);
+        return;
+    }
     let mut at = 0;
     while colours.len() - at >= LANES {
         unpack_eight_rgb565(&bytes[at * 2..at * 2 + 16], &mut colours[at..at + LANES]);
         at += LANES;
     }
-    unpack_each(Format::rgb565(), &bytes[at * 2..], &mut colours[at..]);
+    if at < colours.len() {
+        // The last eight, of which some are written already.
+        let last = colours.len() - LANES;
+        unpack_eight_rgb565(&bytes[last * 2..], &mut colours[last..]);
+    }
 }
 
 // The same of bgr233.
@@ -133,10 +159,18 @@ fn unpack_bgr233(bytes: &[u8], colours: &mut [Colour])
     requires { length bytes.now ≡ length colours.old }
     ensures { AreColours bgr233 bytes.now colours.new }
 {
+    if colours.len() < LANES {
+        unpack_each(Format::bgr233(), bytes, colours);
+        return;
+    }
     let mut at = 0;
     while colours.len() - at >= LANES {
         unpack_eight_bgr233(&bytes[at..at + LANES], &mut colours[at..at + LANES]);
         at += LANES;
     }
-    unpack_each(Format::bgr233(), &bytes[at..], &mut colours[at..]);
+    if at < colours.len() {
+        // The last eight, of which some are written already.
+        let last = colours.len() - LANES;
+        unpack_eight_bgr233(&bytes[last..], &mut colours[last..]);
+    }
 }

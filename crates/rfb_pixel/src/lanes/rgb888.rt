@@ -1,6 +1,6 @@
 //! Eight pixels of rgb888 at once.
 
-ghost use Rattle.std.specs.Prelude.{◌≡◌, ◌*◌, ◌<◌, ℕ, drop, length, map, slice_index, slice_index_or};
+ghost use Rattle.std.specs.Prelude.{◌≡◌, ◌*◌, ◌^◌, ◌<◌, ℕ, drop, length, map, slice_index, slice_index_or};
 ghost use Rattle.byteorder.specs.Endian.{little_number};
 ghost use Rattle.rfb_pixel.specs.declared.colour.Colour.{Colour};
 ghost use Rattle.rfb_pixel.specs.Format.{AreColours, pixel_of, rgb888};
@@ -40,6 +40,7 @@ pub fn pack_eight_rgb888(colours: &[Colour]) -> u32x8
     requires { length colours.now ≡ 8 }
     ensures value { (k : ℕ) (d : Colour) → k < 8 →
         slice_index result k ≡ pixel_of rgb888 (slice_index_or colours.now k d) }
+    ensures bound { (k : ℕ) → k < 8 → slice_index result k < 2 ^ 32 }
     ensures len { length result ≡ 8 }
 {
     let (a, b, c, d) = (colours[0], colours[1], colours[2], colours[3]);

@@ -1,6 +1,6 @@
 //! Rows that differ at each of their places, at two of them, and nowhere.
 
-ghost use Rattle.std.specs.Prelude.{◌≡◌, ◌+◌, ◌≤◌, length};
+ghost use Rattle.std.specs.Prelude.{◌≡◌, ◌+◌, ◌<◌, ◌≤◌, length};
 
 use super::*;
 
@@ -86,6 +86,25 @@ fn equal_places_are_counted_in_rows_of_each_length(rt: HostRuntime) {
     for from in 1..5 {
         let counted = counts(from, LONGEST);
         assert!(rt; counted, "a row from {from} on");
+    }
+}
+
+// Whether a run of sevens before a place is as long as that, in a row from its start on.
+fn ends_at(place: usize) -> bool
+    requires { place < 200 }
+{
+    let mut row = [7; LONGEST];
+    row[place] = 9;
+    run_of(&row, 7) == place
+        && run_of(&row[place..], 7) == 0
+        && run_of(&row[place + 1..], 7) == 199 - place
+}
+
+#[test]
+fn a_run_ends_at_the_first_other_place(rt: HostRuntime) {
+    for place in 0..LONGEST {
+        let ends = ends_at(place);
+        assert!(rt; ends, "place {place}");
     }
 }
 

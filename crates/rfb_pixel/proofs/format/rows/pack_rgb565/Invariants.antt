@@ -1,10 +1,11 @@
-use Rattle.std.proofs.Common.{◌≡◌, ℕ, ◌-◌, ◌^◌, ◌<◌, ◌≤◌, length, slice_index, slice_index_or}
+use Rattle.std.proofs.Common.{◌≡◌, ◌+◌, ℕ, ◌-◌, ◌^◌, ◌<◌, ◌≤◌, length, slice_index, slice_index_or}
 use Rattle.rfb_pixel.specs.declared.colour.Colour.{Colour}
 use Rattle.rfb_pixel.specs.Format.{pixel_of, rgb565}
 use Rattle.rfb_pixel.proofs.format.rows.pack_rgb565.Given as goal
 
 abbrev pub invariant-loop-at : goal.invariant-loop-at
 invariant-loop-at l = record {
+  last : l.last + 8 ≡ length l.colours;
   within : l.at ≤ length l.colours;
   len : length l.pixels ≡ length l.colours;
   packed : (k : ℕ) (d : Colour) → k < l.at → slice_index l.pixels k ≡ pixel_of rgb565 (slice_index_or l.colours k d);
@@ -12,4 +13,4 @@ invariant-loop-at l = record {
 }
 
 abbrev pub decreases-loop-at : goal.decreases-loop-at
-decreases-loop-at l = length l.colours - l.at
+decreases-loop-at l = l.last - l.at
