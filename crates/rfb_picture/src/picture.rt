@@ -14,6 +14,9 @@ use copying::copy_rows;
 use std::alloc::{AllocError, Global};
 use std::marker::Model;
 
+// How many places of a new picture are given their value at once.
+const PIECE: usize = 256;
+
 /// `height` rows of `width` places, each with a value of `T`. Place (0, 0) is at the top left. It
 /// owns its values, keeps its size, and has exactly one value for each place; either size may be 0.
 #[derive(Debug, Drop)]
@@ -42,6 +45,9 @@ impl<T: Copy> Picture<T> {
 
     /// A picture of `width` by `height` places with `value` at each. It asks for room for exactly
     /// that many values, in one piece; where there is none it gives the error, and nothing is kept.
+    ///
+    /// It is inlined, so that it is known there which value is written: zeros are cleared.
+    #[inline(always)]
     #[tactic(auto, unfolding(crate::specs::Grid::uniform))]
     pub fn new(alloc: Global, width: u16, height: u16, value: T) -> Result<Picture<T>, AllocError>
         ensures value { IfOk result (λ p. p ≡ uniform width height value) }
@@ -50,7 +56,10 @@ impl<T: Copy> Picture<T> {
     {
         let count = usize::from(height) * usize::from(width);
         let mut places = Vec::with_capacity(alloc, count)?;
-        places.resize(count, value)?;
+        while places.len() < count {
+            let len = count.min(places.len() + PIECE);
+            places.resize(len, value)?;
+        }
         Ok(Picture {
             width,
             height,

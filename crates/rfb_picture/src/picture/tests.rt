@@ -140,9 +140,11 @@ fn source_of(dst: Rect, sx: u16, sy: u16, x: u16, y: u16) -> (u16, u16) {
 fn no_call_takes_more_room(rt: HostRuntime) -> Result<(), AllocError> {
     let mut picture = bytes(rt.alloc(), 4, 3, 0)?;
     let other = bytes(rt.alloc(), 4, 3, 9)?;
-    assert!(rt; keeps_its_room(&mut picture, &other));
+    let large = bytes(rt.alloc(), 37, 23, 1)?;
+    assert!(rt; keeps_its_room(&mut picture, &other) && has_room(&large, 851));
     drop(picture);
     drop(other);
+    drop(large);
     Ok(())
 }
 
