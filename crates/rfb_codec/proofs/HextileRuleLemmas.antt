@@ -8,7 +8,7 @@ use Rattle.rfb_pixel.specs.Format.{PixelFormat, size_of}
 use Rattle.rfb_codec.specs.declared.subrect.Subrect.{Subrect}
 use Rattle.rfb_codec.specs.declared.hextile.layout.TileLayout.{TileLayout}
 use Rattle.rfb_codec.specs.declared.hextile.layout.TileLayout.TheVariants.{Raw, Plain, Colored}
-use Rattle.rfb_codec.specs.declared.hextile.encode.palette.Palette.TheVariants.{Two}
+use Rattle.rfb_codec.specs.declared.choice.palette.Palette.TheVariants.{One, Two}
 use Rattle.rfb_codec.specs.Raw.{raw_length}
 use Rattle.rfb_codec.specs.Choice.{IsPixelOf, places_of, IsBackground, AreRuleSubs}
 use Rattle.rfb_codec.specs.Tile.{Tile, PlainTile, ColoredTile, rect_in}
@@ -25,6 +25,16 @@ use Rattle.rfb_codec.proofs.RuleCountLemmas.{same_background, same_subs, fewer, 
 -- ---- pixels
 
 -- of two pixels the more frequent is the background
+pub one_background : (b : ℕ) (pixels : List ℕ) → 0 < length pixels → HasPalette (One b) pixels → IsBackground pixels b
+one_background b pixels some each =
+    let only : (other : ℕ) → IsPixelOf pixels other → b ≡ other = λ other is. sym (is.2 ∙ each is.0 is.1) in
+    record {
+      there = (0, some, sym (each 0 some));
+      most = λ other is. let same = only other is in subst (λ o. places_of o pixels ≤ places_of b pixels) same (omega arith);
+      least = λ other is tied. let same = only other is in omega (arith, same);
+    }
+
+-- of two the first
 pub two_background : (b g : ℕ) (pixels : List ℕ) → HasPalette (Two b g) pixels → IsBackground pixels b
 two_background b g pixels (has, other, both, more) = record {
   there = has;

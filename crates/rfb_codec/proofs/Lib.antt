@@ -6,6 +6,7 @@ mod UpdateFacts
 mod EffectFacts
 mod PendingFacts
 mod TilesFacts
+pub mod TakenLaws
 pub mod RawLaws
 pub mod RreLaws
 pub mod RectDataLaws

@@ -2,3 +2,4 @@
 
 pub mod background;
 pub mod cover;
+pub mod palette;

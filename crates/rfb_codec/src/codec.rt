@@ -30,8 +30,9 @@ pub trait Codec {
     const NUMBER: i32;
 
     /// Appends to `out` data that stand for the block in this format, no more bytes than its pixels
-    /// have by themselves (Raw), and answers true. False is for a block that the encoding gives up:
-    /// its data, as the rule has them, would not be shorter than Raw. Then `out` has what it had.
+    /// have by themselves (Raw), and answers true. False is for a block that the encoding gives up,
+    /// and for no other: its data, as the rule has them, would not be shorter than Raw. Then `out`
+    /// has what it had.
     ///
     /// The caller owns all three. It has made the room that Raw would need, so no memory is taken
     /// and the capacity stays, and no pixel has more bits than the format gives it.
@@ -44,6 +45,7 @@ pub trait Codec {
         ensures shorter { OnTrue (shortens encoding)
             (OnTrue result (vec_len out.new < vec_len out.old + raw_of format.now block.now)) }
         ensures given_up { OnFalse result (GivesUp encoding format.now block.now) }
+        ensures taken { OnTrue result (GivesUp encoding format.now block.now → ⊥) }
         ensures kept { OnFalse result (out.new.items ≡ out.old.items) }
         ensures room { vec_capacity out.new ≡ vec_capacity out.old };
 

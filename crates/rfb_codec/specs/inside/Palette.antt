@@ -1,8 +1,8 @@
 -- Which pixels a tile has.
 -- No public clause reads these words.
-use Rattle.std.specs.Prelude.{◌≡◌, ℕ, ◌<◌, ◌⊎◌, List, length, slice_index}
-use Rattle.rfb_codec.specs.declared.hextile.encode.palette.Palette.{Palette}
-use Rattle.rfb_codec.specs.declared.hextile.encode.palette.Palette.TheVariants.{One, Two, More}
+use Rattle.std.specs.Prelude.{◌≡◌, ◌≢◌, ℕ, ◌<◌, ◌⊎◌, List, length, slice_index}
+use Rattle.rfb_codec.specs.declared.choice.palette.Palette.{Palette}
+use Rattle.rfb_codec.specs.declared.choice.palette.Palette.TheVariants.{One, Two, More}
 use Rattle.rfb_codec.specs.Choice.{IsPixelOf, places_of}
 use Rattle.rfb_codec.specs.HextileRule.{HasThird}
 
@@ -11,6 +11,11 @@ abbrev pub IsMoreFrequent : ℕ → ℕ → List ℕ → Type 0
 IsMoreFrequent background other pixels =
     (places_of other pixels < places_of background pixels) ⊎
     ((places_of other pixels ≡ places_of background pixels) × (background < other))
+
+-- a place has neither of two pixels
+abbrev pub HasOther : ℕ → ℕ → List ℕ → Type 0
+HasOther first second pixels = (i : ℕ) × (i < length pixels) ×
+    (slice_index pixels i ≢ first) × (slice_index pixels i ≢ second)
 
 -- each place has the one pixel, or one of the two, both of which are there, or there are three at
 -- least

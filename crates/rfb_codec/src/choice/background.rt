@@ -7,6 +7,7 @@ ghost use Rattle.rfb_codec.specs.inside.Background.{HasMore, IsStopped, IsLed, I
 
 use crate::block::PLACES;
 use arrayvec::ArrayVec;
+use rfb_pixel::run_of;
 use std::result::Result;
 
 // The slots of the small table, for up to half as many pixels, which most blocks have, and how many
@@ -164,13 +165,7 @@ fn run_end(pixels: &[u32], start: usize) -> usize
     ensures run { IsRun pixels.now start result }
     ensures other { EndsRun pixels.now start result }
 {
-    let pixel = pixels[start];
-    for i in start + 1..pixels.len() {
-        if pixels[i] != pixel {
-            return i;
-        }
-    }
-    pixels.len()
+    start + 1 + run_of(&pixels[start + 1..], pixels[start])
 }
 
 // Spreads pixel values over a table.

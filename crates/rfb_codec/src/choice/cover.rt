@@ -11,6 +11,7 @@ use crate::block::SIDE;
 use crate::subrect::Subrect;
 use arrayvec::ArrayVec;
 use rfb_picture::Rect;
+use rfb_pixel::run_of;
 
 /// Gives `subs` the subrectangles that cover the places of another pixel than the background, or
 /// answers false once there are more than `limit`.
@@ -63,13 +64,7 @@ fn first_other(pixels: &[u32], width: usize, y: usize, background: u32) -> usize
     ensures within { result ≤ width }
     ensures plain { (i : ℕ) → i < result → slice_index pixels.now (y * width + i) ≡ background }
 {
-    let row = &pixels[y * width..y * width + width];
-    for (x, pixel) in row.iter().enumerate() {
-        if *pixel != background {
-            return x;
-        }
-    }
-    width
+    run_of(&pixels[y * width..y * width + width], background)
 }
 
 // Takes the subrectangle that begins at (x, y), which is not covered, and notes how far it reaches.

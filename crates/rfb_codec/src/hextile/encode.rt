@@ -11,7 +11,6 @@ ghost use Rattle.rfb_codec.specs.Codec.{Appends, raw_of};
 mod carried;
 mod choosing;
 mod cutting;
-mod palette;
 mod pieces;
 mod spelling;
 

@@ -1,7 +1,6 @@
 //! Tiles of Hextile, painted as they come.
 
 mod drawing;
-mod filling;
 mod least;
 mod next;
 mod pixels;

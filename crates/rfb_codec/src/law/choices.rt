@@ -1,10 +1,12 @@
 //! What the encoders' rules choose for a block, with nothing to run.
 
-ghost use Rattle.std.specs.Prelude.{◌≡◌, ℕ, List, length};
+ghost use Rattle.std.specs.Prelude.{◌≡◌, ◌<◌, ℕ, List, length};
 ghost use Rattle.rfb_pixel.specs.Format.{PixelFormat};
 ghost use Rattle.rfb_picture.specs.Grid.{Grid};
 ghost use Rattle.rfb_codec.specs.declared.subrect.Subrect.{Subrect};
-ghost use Rattle.rfb_codec.specs.Codec.{IsBlock};
+ghost use Rattle.rfb_wire.specs.declared.encoding.Encoding.{Encoding};
+ghost use Rattle.rfb_codec.specs.Codec.{IsBlock, raw_of};
+ghost use Rattle.rfb_codec.specs.ByRule.{StandsIn, GivesUp};
 ghost use Rattle.rfb_codec.specs.Choice.{IsRuleChoice, StandsRreByRule};
 ghost use Rattle.rfb_codec.specs.Tile.{Tile};
 ghost use Rattle.rfb_codec.specs.Hextile.{tile_count};
@@ -20,6 +22,14 @@ pub fn rre_has_one_choice()
         (background ≡ other) × (subs ≡ others) }
     ensures bytes { (f : PixelFormat) (block : Grid ℕ) (bytes others : List ℕ) →
         StandsRreByRule f block bytes → StandsRreByRule f block others → bytes ≡ others }
+{}
+
+/// Data by the rule of their encoding that are shorter than Raw are of a block that this rule does
+/// not give up.
+pub fn what_is_sent_shorter_is_not_given_up()
+    ensures { (encoding : Encoding) (f : PixelFormat) (block : Grid ℕ) (bytes : List ℕ) →
+        StandsIn encoding f block bytes → length bytes < raw_of f block →
+        GivesUp encoding f block → ⊥ }
 {}
 
 /// The rule of Hextile has a tile for each part of a block, and no others. So the bytes that stand

@@ -9,33 +9,88 @@ use rfb_picture::{Picture, Rect};
 use rfb_pixel::Colour;
 
 /// Gives the colour to each place of the rectangle, as `Picture::fill` does. It needs fewer
-/// instructions a place, since each row is lent as a slice and the type of a place is known here.
+/// instructions a place, since the type of a place is known here: rows are written by pieces of
+/// sixteen places, or of four, each as one array. Most rectangles of text are one place wide: these
+/// are filled where it is called.
+#[inline(always)]
 pub fn fill(rect: Rect, colour: Colour, picture: &mut Picture<Colour>)
     requires { IsPaintable picture.old rect }
     ensures value { picture.new ≡ filled rect colour picture.old }
     ensures width { picture.new.width ≡ picture.old.width }
     ensures height { picture.new.height ≡ picture.old.height }
 {
-    for row in 0..rect.h {
-        fill_row(picture.row_mut(rect.x, rect.y + row, rect.w), colour);
+    if rect.w == 1 {
+        fill_by::<1>(rect, colour, picture);
+    } else {
+        fill_wide(rect, colour, picture);
     }
 }
 
-/// Gives the colour to each place of a row. Sixteen are written as one array, which needs far fewer
-/// instructions.
-#[inline]
-pub fn fill_row(row: &mut [Colour], colour: Colour)
+// The same by the longest pieces that its rows have.
+#[inline(never)]
+fn fill_wide(rect: Rect, colour: Colour, picture: &mut Picture<Colour>)
+    requires { IsPaintable picture.old rect }
+    ensures value { picture.new ≡ filled rect colour picture.old }
+    ensures width { picture.new.width ≡ picture.old.width }
+    ensures height { picture.new.height ≡ picture.old.height }
+{
+    if rect.w >= 16 {
+        fill_by::<16>(rect, colour, picture);
+    } else if rect.w >= 4 {
+        fill_by::<4>(rect, colour, picture);
+    } else {
+        fill_narrow(rect, colour, picture);
+    }
+}
+
+// The same by pieces of N places, where a row has as many.
+#[inline(always)]
+fn fill_by<const N: usize>(rect: Rect, colour: Colour, picture: &mut Picture<Colour>)
+    requires place { IsPaintable picture.old rect }
+    requires some { 0 < N }
+    requires wide { N ≤ rect.w }
+    ensures value { picture.new ≡ filled rect colour picture.old }
+    ensures width { picture.new.width ≡ picture.old.width }
+    ensures height { picture.new.height ≡ picture.old.height }
+{
+    let line = line_of::<N>(colour);
+    for row in 0..rect.h {
+        fill_row(picture.row_mut(rect.x, rect.y + row, rect.w), colour, &line);
+    }
+}
+
+// The same of two or three columns, place by place.
+fn fill_narrow(rect: Rect, colour: Colour, picture: &mut Picture<Colour>)
+    requires { IsPaintable picture.old rect }
+    ensures value { picture.new ≡ filled rect colour picture.old }
+    ensures width { picture.new.width ≡ picture.old.width }
+    ensures height { picture.new.height ≡ picture.old.height }
+{
+    for row in 0..rect.h {
+        fill_each(picture.row_mut(rect.x, rect.y + row, rect.w), colour);
+    }
+}
+
+// Gives the colour to each place of a row. The last piece ends with the row, and may lie over the
+// one before it.
+#[inline(always)]
+fn fill_row<const N: usize>(row: &mut [Colour], colour: Colour, line: &[Colour; N])
+    requires some { 0 < N }
+    requires wide { N ≤ length row.old }
+    requires line { (k : ℕ) (d : Colour) → k < N → slice_index_or line.now k d ≡ colour }
     ensures { (k : ℕ) (d : Colour) → k < length row.new → slice_index_or row.new k d ≡ colour }
 {
-    if row.len() < 16 {
-        fill_each(row, colour);
-    } else {
-        fill_long(row, colour);
+    let last = row.len() - N;
+    let mut at = 0;
+    'pieces: while at < last {
+        put_line_at(row, at, line);
+        at += N;
     }
+    put_line_at(row, last, line);
 }
 
-// The same, one place after another.
-#[inline]
+// Gives the colour to each place of a row.
+#[inline(always)]
 fn fill_each(row: &mut [Colour], colour: Colour)
     ensures { (k : ℕ) (d : Colour) → k < length row.new → slice_index_or row.new k d ≡ colour }
 {
@@ -44,58 +99,37 @@ fn fill_each(row: &mut [Colour], colour: Colour)
     }
 }
 
-// The same, sixteen places at a time and then the others.
-fn fill_long(row: &mut [Colour], colour: Colour)
-    ensures { (k : ℕ) (d : Colour) → k < length row.new → slice_index_or row.new k d ≡ colour }
-{
-    let line = line_of(colour);
-    let whole = row.len() / 16;
-    'lines: for n in 0..whole {
-        put_line_at(row, n * 16, &line);
-    }
-    fill_from(row, whole * 16, colour);
-}
-
-// Gives the colour to the places from one on.
-#[inline]
-fn fill_from(row: &mut [Colour], start: usize, colour: Colour)
-    requires { start ≤ length row.old }
-    ensures behind { (k : ℕ) (d : Colour) → start ≤ k → k < length row.new →
-        slice_index_or row.new k d ≡ colour }
-    ensures before { (k : ℕ) (d : Colour) → k < start →
-        slice_index_or row.new k d ≡ slice_index_or row.old k d }
-{
-    fill_each(&mut row[start..], colour);
-}
-
-// Gives sixteen places, from one on, the colours of a line.
-#[inline]
-fn put_line_at(row: &mut [Colour], start: usize, line: &[Colour; 16])
-    requires { start + 16 ≤ length row.old }
-    ensures here { (k : ℕ) (d : Colour) → start ≤ k → k < start + 16 →
+// Gives places, from one on, the colours of a line.
+#[inline(always)]
+fn put_line_at<const N: usize>(row: &mut [Colour], start: usize, line: &[Colour; N])
+    requires { start + N ≤ length row.old }
+    ensures here { (k : ℕ) (d : Colour) → start ≤ k → k < start + N →
         slice_index_or row.new k d ≡ slice_index_or line.now (k - start) d }
     ensures before { (k : ℕ) (d : Colour) → k < start →
         slice_index_or row.new k d ≡ slice_index_or row.old k d }
+    ensures len { length row.new ≡ length row.old }
 {
-    put_line(&mut row[start..start + 16], line);
+    put_line(&mut row[start..start + N], line);
 }
 
-/// Sixteen places of that colour. It is taken apart, so that they are put together in registers:
-/// copies of it as a whole would be written to memory one by one.
-pub fn line_of(colour: Colour) -> [Colour; 16]
-    ensures { (k : ℕ) (d : Colour) → k < 16 → slice_index_or result k d ≡ colour }
-{
-    let Colour { r, g, b } = colour;
-    [Colour { r, g, b }; 16]
-}
-
-/// Gives the places of a row the colours of a line.
-pub fn put_line(row: &mut [Colour], line: &[Colour; 16])
-    requires { length row.old ≡ 16 }
+// Gives the places of a row the colours of a line.
+#[inline(always)]
+fn put_line<const N: usize>(row: &mut [Colour], line: &[Colour; N])
+    requires { length row.old ≡ N }
     ensures { row.new ≡ line.now }
 {
-    match row.as_mut_array::<16>() {
+    match row.as_mut_array::<N>() {
         Some(places) => *places = *line,
         None => unreachable!(),
     }
+}
+
+// N places of that colour. It is taken apart, so that they are put together in registers: copies of
+// it as a whole would be written to memory one by one.
+#[inline(always)]
+fn line_of<const N: usize>(colour: Colour) -> [Colour; N]
+    ensures { (k : ℕ) (d : Colour) → k < N → slice_index_or result k d ≡ colour }
+{
+    let Colour { r, g, b } = colour;
+    [Colour { r, g, b }; N]
 }

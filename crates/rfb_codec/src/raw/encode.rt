@@ -48,6 +48,7 @@ impl Codec for Raw {
         ensures shorter { OnTrue (shortens RawEncoding)
             (OnTrue result (vec_len out.new < vec_len out.old + raw_of format.now block.now)) }
         ensures given_up { OnFalse result (GivesUp RawEncoding format.now block.now) }
+        ensures taken { OnTrue result (GivesUp RawEncoding format.now block.now → ⊥) }
         ensures kept { OnFalse result (out.new.items ≡ out.old.items) }
         ensures room { vec_capacity out.new ≡ vec_capacity out.old }
     {

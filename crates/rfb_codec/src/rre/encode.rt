@@ -13,8 +13,8 @@ ghost use Rattle.rfb_wire.specs.declared.encoding.Encoding.TheVariants.{Rre as R
 ghost use Rattle.rfb_codec.specs.Codec.{Appends, raw_of};
 
 use crate::block::Block;
-use crate::choice::background::background_of;
 use crate::choice::cover::cover;
+use crate::choice::palette::background_by_palette;
 use crate::codec::Codec;
 use crate::subrect::Subrect;
 use arrayvec::ArrayVec;
@@ -84,7 +84,7 @@ fn encode_with<const N: usize>(block: &Block, format: &Format, out: &mut Vec<u8>
     // More subrectangles than that have as many bytes by themselves, and each pixel but the
     // background needs one.
     let limit = raw / (size + 8);
-    let Some(background) = background_of(pixels, limit + 1) else {
+    let Some(background) = background_by_palette(pixels, limit + 1) else {
         return false;
     };
     let mut subs: ArrayVec<Subrect, N> = ArrayVec::new();

@@ -9,10 +9,10 @@ ghost use Rattle.rfb_codec.specs.inside.TileSpelling.{AreTileParts, tile_of};
 ghost use Rattle.rfb_codec.specs.inside.Carried.{Sends, held_of};
 
 use super::carried::{Carried, named};
-use super::palette::{Palette, palette_of};
 use super::spelling::spelled_length;
 use crate::choice::background::background_of;
 use crate::choice::cover::cover;
+use crate::choice::palette::{Palette, palette_of};
 use crate::hextile::layout::TileLayout;
 use crate::subrect::Subrect;
 use arrayvec::ArrayVec;

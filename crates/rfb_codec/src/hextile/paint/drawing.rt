@@ -9,10 +9,10 @@ ghost use Rattle.rfb_codec.specs.Stage.{Sees};
 ghost use Rattle.rfb_codec.specs.inside.Step.{IsPaintable};
 ghost use Rattle.rfb_codec.specs.Painter.{over};
 
-use super::filling::{fill_part, fill_tile};
 use super::reading::place_of;
 use super::tile_read::{Seen, TileRead, or_zero};
 use crate::hextile::layout::TileLayout;
+use crate::painter::fill::fill;
 use crate::raw::paint_rows;
 use crate::subrect::Subrect;
 use rfb_picture::{Picture, Rect};
@@ -117,13 +117,13 @@ fn draw_each(
     ensures width { picture.new.width ≡ picture.old.width }
     ensures height { picture.new.height ≡ picture.old.height }
 {
-    fill_tile(rect, unpacked(format, pixels.background), picture);
+    fill(rect, unpacked(format, pixels.background), picture);
     let own = unpacked(format, pixels.foreground);
     for n in 0..count {
         let part = sub_at(format, pixels.foreground, colored, n, list);
         let colour = colour_at(format, colored, own, part.pixel);
         let places = part.rect.moved_by(rect.x, rect.y);
-        fill_part(places, colour, picture);
+        fill(places, colour, picture);
     }
 }
 

@@ -1,5 +1,5 @@
 use Rattle.std.proofs.Common.{◌≡◌, ◌≢◌, ℕ, ◌<◌, ◌≤◌, ◌⊎◌, get_or}
-use Rattle.rfb_codec.proofs.hextile.encode.palette.palette_of.Given as goal
+use Rattle.rfb_codec.proofs.choice.palette.has_other.Given as goal
 
 abbrev pub invariant-loop-pixel : goal.invariant-loop-pixel
 invariant-loop-pixel l = record {

@@ -1,6 +1,6 @@
 use Rattle.std.proofs.Common.{arith}
 use Rattle.std.proofs.lemmas.Grind.{common_steps}
-use Rattle.rfb_codec.proofs.hextile.encode.palette.places_of.Goals as goal
+use Rattle.rfb_codec.proofs.choice.palette.places_of.Goals as goal
 
 pub loop-other-preserved : goal.loop-other-preserved
 loop-other-preserved c = grind (arith, common_steps)

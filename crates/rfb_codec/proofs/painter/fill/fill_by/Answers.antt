@@ -1,25 +1,25 @@
-use Rattle.std.proofs.Common.{◌≡◌, ℕ, ◌∙◌, ◌+◌, ◌<◌, refl, ap, sym, subst, arith, List, length, slice_index_or}
+use Rattle.std.proofs.Common.{◌≡◌, ℕ, ◌∙◌, ◌+◌, ◌<◌, refl, ap, arith, length, slice_index_or}
 use Rattle.rfb_pixel.specs.declared.colour.Colour.{Colour}
 use Rattle.rfb_picture.specs.Grid.{with_row}
 use Rattle.rfb_picture.proofs.LoanLemmas.{run_in_row}
 use Rattle.rfb_codec.proofs.PaintLemmas.{over_more, over_none}
-use Rattle.rfb_codec.proofs.hextile.paint.filling.fill_lines.Goals as goal
+use Rattle.rfb_codec.proofs.painter.fill.fill_by.Goals as goal
 
 pub loop-row-init : goal.loop-row-init
-loop-row-init c = record {
+loop-row-init g c = record {
   shown = over_none c.args.rect (λ x y. c.args.colour) c.args.picture.now c.requires.place.whole;
   width = refl;
   height = refl;
 }
 
 pub loop-row-preserved : goal.loop-row-preserved
-loop-row-preserved c =
+loop-row-preserved g c =
     let rect = c.args.rect in
     let n = c.loop-row.row in
-    let row = c.put_line.new.row in
+    let row = c.fill_row.new.row in
     let len : length row ≡ rect.w = omega arith in
     let written = run_in_row rect.x (rect.y + n) row c.loop-row.picture c.row_mut.ensures.whole (omega arith) in
-    let each : (k : ℕ) (d : Colour) → k < rect.w → slice_index_or row k d ≡ c.args.colour = λ k d below. subst (λ (r : List Colour). slice_index_or r k d ≡ c.args.colour) (sym c.put_line.ensures) (c.line_of-line.ensures k d (omega (arith, c.requires.whole))) in
+    let each : (k : ℕ) (d : Colour) → k < rect.w → slice_index_or row k d ≡ c.args.colour = λ k d below. c.fill_row.ensures k d (omega arith) in
     record {
       shown = written ∙ ap (λ g. with_row rect.x (rect.y + n) row g) c.loop-row.invariant.shown ∙ over_more rect n (λ x y. c.args.colour) row c.args.picture.now c.requires.place.whole len each;
       width = c.loop-row.invariant.width;

@@ -1,6 +1,6 @@
 use Rattle.std.proofs.Common.{◌≡◌, ◌≤◌, take}
 use Rattle.rfb_codec.specs.Choice.{places_of}
-use Rattle.rfb_codec.proofs.hextile.encode.palette.places_of.Given as goal
+use Rattle.rfb_codec.proofs.choice.palette.places_of.Given as goal
 
 abbrev pub invariant-loop-other : goal.invariant-loop-other
 invariant-loop-other l = record {
