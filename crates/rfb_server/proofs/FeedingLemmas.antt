@@ -9,7 +9,7 @@ use Rattle.rfb_picture.proofs.GridLemmas.{width-uniform, height-uniform}
 use Rattle.rfb_wire.specs.stream.Reading.{Next, More, Got, Bad}
 use Rattle.rfb_wire.specs.stream.Parts.{named}
 use Rattle.rfb_wire.specs.stream.Sequel.{First, Second}
-use Rattle.rfb_wire.specs.stream.End.{Steps, StepsBy, RunsOutBy}
+use Rattle.rfb_wire.specs.stream.End.{Steps, StepsBy}
 use Rattle.rfb_wire.specs.ClientMessage.{ClientMessage, ClientFault, SpellsClientMessage, FaultsClientMessage}
 use Rattle.rfb_wire.specs.ClientStream.{client_message}
 use Rattle.rfb_wire.proofs.ClientStreamLaws.{client_message_reads}
@@ -142,7 +142,7 @@ stands_behind serving screen old new s prefix m now at up is acted = record {
   encodings_are = acted.encodings;
 }
 
--- ---- the three answers of a step, and want of memory
+-- ---- the three answers of a step
 
 next_message : (serving : Serving) (s : ServerState) (bytes : List ℕ) (n : Next ClientMessage ClientFault) → s.point ≡ Second tt → client_message bytes ≡ n →
     (client_bytes serving.hello.offer).next s.point bytes ≡ named (λ m. Second m) fault_of_message n
@@ -192,12 +192,6 @@ steps_bad serving screen old new unit fault step s prefix now =
     let next = next_message serving s (prefix ++ unit) (Bad fault) h.0 bad in
     subst (λ (n : Next FromClient ServerFault). Steps (server serving) (SessionStandsFor serving screen) new s (prefix ++ unit) n (Err (fault_of_message fault))) (sym next) refl
 
-pub steps_starved : (serving : Serving) (screen : Grid Colour) (old : Session) (unit : List ℕ) →
-    ((s : ServerState) (prefix : List ℕ) → SessionStandsFor serving screen old s prefix → AsksMemory s (prefix ++ unit)) →
-    RunsOutBy (server serving) AsksMemory (SessionStandsFor serving screen) old unit
-steps_starved serving screen old unit asked s prefix now =
-    record { items = []; front = prefix ++ unit; later = []; reads = sym (append-nil (prefix ++ unit)); quiet = refl; asked = asked s prefix now }
-
 -- ---- a step that begins where another session stands for the same
 
 pub steps_from : (serving : Serving) (screen : Grid Colour) (old mid new : Session) (unit : List ℕ) (answer : Result (Option ServerTold) ServerFault) →
@@ -207,7 +201,8 @@ steps_from serving screen old mid new unit answer steps still hello progress s p
     steps s prefix (stands_on serving screen old mid s prefix prefix now still (rw (hello, progress) now.progress_is))
 
 pub starved_from : (serving : Serving) (screen : Grid Colour) (old mid : Session) (unit : List ℕ) →
-    RunsOutBy (server serving) AsksMemory (SessionStandsFor serving screen) mid unit → IsStill old mid → mid.hello ≡ old.hello → mid.progress ≡ old.progress →
-    RunsOutBy (server serving) AsksMemory (SessionStandsFor serving screen) old unit
+    ((s : ServerState) (prefix : List ℕ) → SessionStandsFor serving screen mid s prefix → AsksMemory s (prefix ++ unit)) →
+    IsStill old mid → mid.hello ≡ old.hello → mid.progress ≡ old.progress →
+    (s : ServerState) (prefix : List ℕ) → SessionStandsFor serving screen old s prefix → AsksMemory s (prefix ++ unit)
 starved_from serving screen old mid unit out still hello progress s prefix now =
     out s prefix (stands_on serving screen old mid s prefix prefix now still (rw (hello, progress) now.progress_is))

@@ -7,7 +7,7 @@ use Rattle.rfb_wire.specs.stream.Reading.{Next, More}
 use Rattle.rfb_wire.specs.stream.Parts.{named}
 use Rattle.rfb_wire.specs.stream.Grammar.{ReadsAll}
 use Rattle.rfb_wire.specs.stream.Sequel.{First, Second, StaysFirst, past_in}
-use Rattle.rfb_wire.specs.stream.End.{acts, EndsWith, FedBy, RefusedBy}
+use Rattle.rfb_wire.specs.stream.End.{acts, EndsWith, FedBy}
 use Rattle.rfb_wire.proofs.stream_laws.EndLaws.{quiet_first}
 use Rattle.rfb_wire.proofs.stream_laws.SequelLaws.{all_first}
 use Rattle.rfb_hello.specs.declared.version.Version.TheVariants.{V33, V37, V38}
@@ -113,14 +113,14 @@ goes_first : (serving : Serving) (s : ServerState) (p : ClientPoint) (i : Client
     handshake_tells serving.hello p i ≡ None → (serves serving s (First i)).point ≡ First (past_client_item p i)
 goes_first serving s p i e quiet = rw (e, over_told serving.hello p i quiet) refl
 
-stays_first : (serving : Serving) (p : ClientPoint) (items : List ClientItem) (told : Option ServerStep) →
+pub stays_first : (serving : Serving) (p : ClientPoint) (items : List ClientItem) (told : Option ServerStep) →
     EndsWith (server_end serving.hello) p items told → StaysFirst (client_two serving.hello.offer) p items
 stays_first serving p [] told ends = tt
 stays_first serving p (i ∷ []) told ends = tt
 stays_first serving p (i ∷ j ∷ items) told ends =
     (over_told serving.hello p i ends.0, stays_first serving (past_client_item p i) (j ∷ items) told ends.1)
 
-told_first : (serving : Serving) (s : ServerState) (p : ClientPoint) (items : List ClientItem) (told : Option ServerStep) →
+pub told_first : (serving : Serving) (s : ServerState) (p : ClientPoint) (items : List ClientItem) (told : Option ServerStep) →
     s.point ≡ First p → EndsWith (server_end serving.hello) p items told →
     EndsWith (server serving) s (map (λ i. First i) items) (step_told told)
 told_first serving s p [] told e ends = ap step_told ends
@@ -139,7 +139,7 @@ lands serving s p (i ∷ j ∷ items) told e still ends =
     lands serving (serves serving s (First i)) (past_client_item p i) (j ∷ items) told (goes_first serving s p i e ends.0)
     (step_open p i still (over_told serving.hello p i ends.0)) ends.1
 
-quiet_stays : (serving : Serving) (s : ServerState) (p : ClientPoint) (items : List ClientItem) →
+pub quiet_stays : (serving : Serving) (s : ServerState) (p : ClientPoint) (items : List ClientItem) →
     s.point ≡ First p → EndsWith (server_end serving.hello) p items None →
     (acts (server serving) s (map (λ i. First i) items)).point ≡ First (acts (server_end serving.hello) p items)
 quiet_stays serving s p [] e ends = e
@@ -155,7 +155,7 @@ pub record IsSameBut (s t : ServerState) : Type 0 where
   pub form : t.form ≡ s.form
   pub encodings : t.encodings ≡ s.encodings
 
-same_but : (serving : Serving) (s : ServerState) (items : List ClientItem) → IsSameBut s (acts (server serving) s (map (λ i. First i) items))
+pub same_but : (serving : Serving) (s : ServerState) (items : List ClientItem) → IsSameBut s (acts (server serving) s (map (λ i. First i) items))
 same_but serving s [] = record { screen = refl; known = refl; area = refl; form = refl; encodings = refl }
 same_but serving s (i ∷ items) =
     let more = same_but serving (serves serving s (First i)) items in
@@ -164,7 +164,7 @@ same_but serving s (i ∷ items) =
 -- ---- calls
 
 -- a session in the handshake stands at a point of it, with the handshake's end
-at_hello : (serving : Serving) (hello : ServerHello) (at : ClientAt) (prefix : List ℕ) → ProgressStandsFor serving hello Handshake at prefix →
+pub at_hello : (serving : Serving) (hello : ServerHello) (at : ClientAt) (prefix : List ℕ) → ProgressStandsFor serving hello Handshake at prefix →
     (p : ClientPoint) × (at ≡ First p) × HelloStandsFor serving.hello hello p prefix × (is_open hello ≡ true)
 at_hello serving hello (First p) prefix h = (p, refl, h.0, h.1)
 at_hello serving hello (Second between) prefix h = absurd h
@@ -223,24 +223,6 @@ greets serving screen old new bytes told handshake greeted fed = λ s prefix now
         whole = whole_told told after.1 takes.whole;
       },
     )
-
-pub greets_not : (serving : Serving) (screen : Grid Colour) (old : Session) (bytes : List ℕ) (fault : HelloFault) →
-    old.progress ≡ Handshake →
-    RefusedBy (server_end serving.hello) (HelloStandsFor serving.hello) old.hello bytes fault →
-    RefusedBy (server serving) (SessionStandsFor serving screen) old bytes (fault_of_hello fault)
-greets_not serving screen old bytes fault handshake refused = λ s prefix now.
-    let began = at_hello serving old.hello s.point prefix (rw handshake at now.progress_is) in
-    let p = began.0 in
-    let refuses = refused p prefix began.2 in
-    let items = refuses.items in
-    let stays = quiet_stays serving s p items began.1 refuses.quiet in
-    record {
-      items = map (λ i. First i) items;
-      rest = refuses.rest;
-      reads = subst (λ (r : ClientAt). ReadsAll (client_bytes serving.hello.offer) r (prefix ++ bytes) (map (λ i. First i) items) refuses.rest) (sym began.1) (all_first (client_two serving.hello.offer) p (prefix ++ bytes) items refuses.rest (stays_first serving p items None refuses.quiet) refuses.reads);
-      quiet = told_first serving s p items None began.1 refuses.quiet;
-      bad = rw stays (ap (λ (n : Next ClientItem HelloFault). named (λ i. First i) fault_of_hello n) refuses.bad);
-    }
 
 -- what comes behind a call of the handshake's end is not all of an item
 pub partial_behind : (hello : ServerHello) (goes : Bool) → goes ≡ is_open hello → is_partial hello (progress_behind goes) ≡ true

@@ -24,6 +24,7 @@ pub mod MessageLemmas
 pub mod ListLemmas
 pub mod CutTextLemmas
 pub mod SliceLemmas
+pub mod EndingLemmas
 pub mod CountLemmas
 pub mod BitCountLemmas
 pub mod RightLemmas
@@ -31,6 +32,7 @@ pub mod RightRowsLemmas
 pub mod CopyingLemmas
 pub mod UsingLemmas
 pub mod CopiedLemmas
+pub mod QuietLemmas
 mod NeedingBits
 mod NeededLemmas
 mod SingleLemmas

@@ -11,7 +11,7 @@ use Rattle.rfb_picture.specs.Area.{Places, added}
 use Rattle.arrayvec.specs.ArrayVec.{ArrayVec}
 use Rattle.rfb_wire.specs.stream.Reading.{More}
 use Rattle.rfb_wire.specs.stream.Sequel.{Second}
-use Rattle.rfb_wire.specs.stream.End.{StepsBy, RunsOutBy}
+use Rattle.rfb_wire.specs.stream.End.{StepsBy}
 use Rattle.rfb_wire.specs.ClientHead.{SpellsSetPixelFormat, SpellsSetEncodings, SpellsRequest, SpellsKey, SpellsPointer, SpellsClientCutText}
 use Rattle.rfb_wire.specs.ClientMessage.{ClientMessage, SetPixelFormat, SetEncodings, FramebufferUpdateRequest, KeyEvent, PointerEvent, ClientCutText, ClientFault, BadFormat, UnknownType, SpellsClientMessage, FaultsClientMessage}
 use Rattle.rfb_wire.specs.ClientStream.{client_message}
@@ -30,7 +30,7 @@ use Rattle.rfb_server.specs.Progress.{ProgressStandsFor, IsHeadBegun, is_head_be
 use Rattle.rfb_server.proofs.HeadLemmas.{begun_is, begun_misses}
 use Rattle.rfb_server.specs.Standing.{SessionStandsFor}
 use Rattle.rfb_server.specs.inside.Sessions.{BeginsMessage, BeginsList, IsAskedFor, HasFormat, KeepsUp}
-use Rattle.rfb_server.proofs.FeedingLemmas.{IsStill, IsActed, in_head, stands_on, steps_more, steps_told, steps_bad, steps_starved, up_begun, up_then, up_asked, up_format, up_list}
+use Rattle.rfb_server.proofs.FeedingLemmas.{IsStill, IsActed, in_head, stands_on, steps_more, steps_told, steps_bad, up_begun, up_then, up_asked, up_format, up_list}
 
 -- ---- messages without more than a head
 
@@ -217,8 +217,7 @@ text_begins serving screen old new part unit n kept was s some is room still st 
 
 pub text_asks : (serving : Serving) (screen : Grid Colour) (old : Session) (part : ArrayVec ℕ) (unit : List ℕ) (n : ℕ) →
     old.progress ≡ Head part → SpellsClientCutText n (part.items ++ unit) → 0 < n →
-    RunsOutBy (server serving) AsksMemory (SessionStandsFor serving screen) old unit
-text_asks serving screen old part unit n was s some =
-    steps_starved serving screen old unit (λ st prefix now.
+    (st : ServerState) (prefix : List ℕ) → SessionStandsFor serving screen old st prefix → AsksMemory st (prefix ++ unit)
+text_asks serving screen old part unit n was s some = λ st prefix now.
     let at = in_head serving screen old part st prefix was now in
-    (at.0, n, subst (λ (zs : List ℕ). SpellsClientCutText n (zs ++ unit)) (sym at.1) s, some))
+    (at.0, n, subst (λ (zs : List ℕ). SpellsClientCutText n (zs ++ unit)) (sym at.1) s, some)

@@ -1,5 +1,6 @@
 -- A rectangle's head and the data behind it are the rectangle.
-use Rattle.std.proofs.Common.{◌≡◌, ℕ, List, ◌++◌, refl, ◌∙◌, arith, append_assoc, length-append}
+use Rattle.std.proofs.Common.{◌≡◌, ℕ, Bool, true, false, inl, List, ◌++◌, refl, ◌∙◌, arith, append_assoc, length-append}
+use Rattle.std.specs.Bool.{OnTrue}
 use Rattle.rfb_pixel.specs.Format.{PixelFormat}
 use Rattle.rfb_picture.specs.declared.rect.Rect.{Rect}
 use Rattle.rfb_picture.specs.Grid.{Grid}
@@ -7,8 +8,8 @@ use Rattle.rfb_wire.specs.declared.encoding.Encoding.{Encoding}
 use Rattle.rfb_wire.specs.RectHead.{SpellsRectHead}
 use Rattle.rfb_codec.specs.RectData.{Pixels, SpellsData}
 use Rattle.rfb_codec.specs.Codec.{Appends}
-use Rattle.rfb_codec.specs.ByRule.{StandsIn}
-use Rattle.rfb_server.specs.inside.Sending.{AppendsIn}
+use Rattle.rfb_codec.specs.ByRule.{StandsIn, GivesUp}
+use Rattle.rfb_server.specs.inside.Sending.{AppendsIn, SendsRect}
 
 pub coded_in : (stands : PixelFormat → Grid ℕ → List ℕ → Type 0) (f : PixelFormat) (rect : Rect) (encoding : Encoding) (block : Grid ℕ) (old mid new head : List ℕ) →
     ((width height : ℕ) (bytes : List ℕ) → stands f block bytes → SpellsData f width height rect encoding (Pixels block) bytes) →
@@ -29,3 +30,9 @@ coded_in stands f rect encoding block old mid new head reads rule e spelled appe
         short = rw (length-append head appends.0, spelled.size) (omega (arith, appends.3));
       };
     }
+
+-- a codec that answers true has sent it
+pub sent_coded : (result : Bool) (f : PixelFormat) (rect : Rect) (encoding given : Encoding) (block : Grid ℕ) (old new : List ℕ) → result ≡ true → encoding ≡ given →
+    OnTrue result (AppendsIn f rect given block old new) → OnTrue result (GivesUp given f block → ⊥) → SendsRect f rect encoding block old new
+sent_coded true f rect encoding given block old new e is sent taken = rw is (inl (taken, sent))
+sent_coded false f rect encoding given block old new e is sent taken = absurd cc

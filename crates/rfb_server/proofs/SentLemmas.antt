@@ -63,8 +63,8 @@ pub appends_pixels : (screen : Grid Colour) (form : PixelFormat) (encodings : Li
     encoding ≡ preferred encodings → may_send encodings encoding ≡ true → IsSized rect.w rect.h block → PacksRect form screen rect block → IsRecorded rect block known now → IsGrid now → IsAlike known now →
     SendsRect form rect encoding block before after →
     (bytes : List ℕ) × (after ≡ before ++ bytes) × SendsPixels screen form encodings rect known now bytes
-appends_pixels screen form encodings rect encoding block known now before after first may sized packed noted whole alike (inl a) =
-    (a.bytes, a.appended, record { block = block; encoding = encoding; sized = sized; packed = packed; coded = a.coded; may_be_sent = may; chosen = inl first; noted = noted; whole = whole; alike = alike })
+appends_pixels screen form encodings rect encoding block known now before after first may sized packed noted whole alike (inl (kept, a)) =
+    (a.bytes, a.appended, record { block = block; encoding = encoding; sized = sized; packed = packed; coded = a.coded; may_be_sent = may; chosen = inl (first, subst (λ (k : Encoding). GivesUp k form block → ⊥) first kept); noted = noted; whole = whole; alike = alike })
 appends_pixels screen form encodings rect encoding block known now before after first may sized packed noted whole alike (inr (up, a)) =
     (a.bytes, a.appended, record { block = block; encoding = Raw; sized = sized; packed = packed; coded = a.coded; may_be_sent = refl; chosen = inr (refl, subst (λ (k : Encoding). GivesUp k form block) first up); noted = noted; whole = whole; alike = alike })
 

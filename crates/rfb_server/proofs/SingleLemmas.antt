@@ -53,7 +53,7 @@ single_gives_up f block sized =
 -- so Raw stands in for it
 pub single_sent : (f : PixelFormat) (rect : Rect) (encoding : Encoding) (block : Grid ℕ) (old new : List ℕ) → IsSized 1 1 block →
     AppendsIn f rect Raw block old new → SendsRect f rect encoding block old new
-single_sent f rect Raw block old new sized appended = inl appended
+single_sent f rect Raw block old new sized appended = inl ((λ gives. gives), appended)
 single_sent f rect CopyRect block old new sized appended = inr (tt, appended)
 single_sent f rect Rre block old new sized appended = inr ((single_gives_up f block sized).0, appended)
 single_sent f rect Hextile block old new sized appended = inr ((single_gives_up f block sized).1, appended)

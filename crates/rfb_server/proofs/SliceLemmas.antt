@@ -1,18 +1,15 @@
 -- What a session takes of a slice, item by item.
-use Rattle.std.proofs.Common.{◌≡◌, ◌≢◌, ℕ, ◌+◌, ◌*◌, ◌<◌, ◌==◌, true, false, List, [], ◌∷◌, ◌++◌, Option, Some, None, is_some, Result, Ok, Err, length, take, refl, sym, ap, ◌∙◌, length-append, arith}
-use Rattle.rfb_pixel.specs.declared.colour.Colour.{Colour}
-use Rattle.rfb_picture.specs.Grid.{Grid}
+use Rattle.std.proofs.Common.{◌≡◌, ◌≢◌, ℕ, ◌+◌, ◌*◌, ◌<◌, ◌==◌, true, false, List, [], ◌∷◌, ◌++◌, Option, Some, None, is_some, Result, Ok, Err, length, refl, sym, ap, ◌∙◌, length-append, arith}
 use Rattle.rfb_wire.specs.stream.Reading.{Next, More, Bad}
 use Rattle.rfb_wire.specs.stream.Parts.{named}
 use Rattle.rfb_wire.specs.stream.Sequel.{First, Second}
-use Rattle.rfb_wire.specs.stream.End.{RefusedBy, acts}
 use Rattle.rfb_wire.specs.ClientMessage.{ClientMessage, ClientFault, BadFormat, UnknownType}
 use Rattle.rfb_wire.specs.ClientStream.{client_message}
 use Rattle.rfb_wire.proofs.stream_laws.PartLaws.{piece_short}
 use Rattle.rfb_wire.proofs.stream_laws.PendingLaws.{length-pieces, head_pending}
 use Rattle.rfb_wire.proofs.PendingLaws.{numbers_pending, client_text_pending}
 use Rattle.rfb_wire.proofs.WaitLaws.{client_head_waits, encodings_wait, client_text_waits}
-use Rattle.rfb_wire.proofs.stream_laws.FeedLaws.{fed_start, step_feeds, front_refuses, memory_step}
+use Rattle.rfb_wire.proofs.stream_laws.FeedLaws.{fed_start, step_feeds}
 use Rattle.rfb_pixel.specs.declared.fault.FormatFault.TheVariants.{BadBits, DepthTooLarge, NotTrueColour, BadMax, ShiftTooLarge, FieldsOverlap}
 use Rattle.rfb_hello.specs.declared.fault.HelloFault.{HelloFault}
 use Rattle.rfb_hello.specs.declared.fault.HelloFault.TheVariants.{BadVersion, VersionTooHigh, BadSecurityChoice, NoneNotOffered, Refused, BadSecurityWord, SecurityFailed, ScreenEmpty, ScreenTooLarge, NoMemory as HelloMemory}
@@ -40,10 +37,10 @@ use Rattle.rfb_server.specs.declared.session.progress.Progress.TheVariants.{Hand
 use Rattle.rfb_server.specs.Fault.{fault_of_hello, fault_of_message}
 use Rattle.rfb_server.specs.ClientBytes.{ClientAt, client_bytes, client_bytes_pending, is_between}
 use Rattle.rfb_server.specs.Told.{seen}
-use Rattle.rfb_server.specs.Server.{Serving, server, AsksMemory}
+use Rattle.rfb_server.specs.Server.{Serving, server}
 use Rattle.rfb_server.specs.Progress.{ProgressStandsFor, IsHeadBegun, fault_in, is_idle}
 use Rattle.rfb_server.specs.Standing.{SessionStandsFor}
-use Rattle.rfb_server.specs.inside.Feeding.{StepsAs, RunsOutAs, FeedsAs, RefusesAs, StarvesAs}
+use Rattle.rfb_server.specs.inside.Feeding.{StepsAs, FeedsAs}
 use Rattle.rfb_server.specs.inside.Sessions.{KeepsUp}
 use Rattle.rfb_server.proofs.ServerLaws.{client_bytes_spelled, server_machine}
 use Rattle.rfb_server.proofs.HeadLemmas.{begun_misses}
@@ -111,33 +108,20 @@ not_message (BadFormat ShiftTooLarge) e = cc
 not_message (BadFormat FieldsOverlap) e = cc
 not_message (UnknownType kind) e = cc
 
-not_memory : (offer : Version) (at : ClientAt) (bytes : List ℕ) → (client_bytes offer).next at bytes ≡ Bad NoMemory → ⊥
+pub not_memory : (offer : Version) (at : ClientAt) (bytes : List ℕ) → (client_bytes offer).next at bytes ≡ Bad NoMemory → ⊥
 not_memory offer (First at) bytes e =
     let h = ((client_bytes_spelled offer).reads (First at)).blamed bytes NoMemory e in not_hello offer at h.3.0 h.0 h.3.1 h.3.2
 not_memory offer (Second q) bytes e =
     let h = ((client_bytes_spelled offer).reads (Second q)).blamed bytes NoMemory e in not_message h.3.0 h.3.1
 
-pub never_starved : (old : Session) (bytes : List ℕ) (fault : ServerFault) →
-    ((serving : Serving) (screen : Grid Colour) → RefusedBy (server serving) (SessionStandsFor serving screen) old bytes fault) →
-    StarvesAs old bytes fault
-never_starved old bytes fault refused = λ memory serving screen s prefix now.
-    let r = refused serving screen s prefix now in
-    absurd (not_memory serving.hello.offer (acts (server serving) s r.items).point r.rest (r.bad ∙ ap (λ (f : ServerFault). Bad f) memory))
-
 -- ---- a session that has failed
 
-never_stands : (serving : Serving) (hello : ServerHello) (p : Progress) (fault : ServerFault) (at : ClientAt) (prefix : List ℕ) → fault_in p ≡ Some fault → ProgressStandsFor serving hello p at prefix → ⊥
+pub never_stands : (serving : Serving) (hello : ServerHello) (p : Progress) (fault : ServerFault) (at : ClientAt) (prefix : List ℕ) → fault_in p ≡ Some fault → ProgressStandsFor serving hello p at prefix → ⊥
 never_stands serving hello Handshake fault at prefix e h = cc
 never_stands serving hello (Head bytes) fault at prefix e h = cc
 never_stands serving hello (Encodings left number list) fault at prefix e h = cc
 never_stands serving hello (CutText text_length left kept) fault at prefix e h = cc
 never_stands serving hello (Failed other) fault at prefix e h = h
-
-pub failed_refuses : (old : Session) (bytes : List ℕ) (fault : ServerFault) → fault_in old.progress ≡ Some fault → RefusesAs old bytes fault
-failed_refuses old bytes fault e = λ other serving screen s prefix now. absurd (never_stands serving old.hello old.progress fault s.point prefix e now.progress_is)
-
-pub failed_starves : (old : Session) (bytes : List ℕ) (fault : ServerFault) → fault_in old.progress ≡ Some fault → StarvesAs old bytes fault
-failed_starves old bytes fault e = λ memory serving screen s prefix now. absurd (never_stands serving old.hello old.progress fault s.point prefix e now.progress_is)
 
 -- ---- a step as a call
 
@@ -147,16 +131,6 @@ step_fed old new unit event steps = λ serving screen.
   where
     apart : ◌≢◌ {A = Result (Option ServerEvent) ServerFault} (Ok event) (Err NoMemory)
     apart e = cc
-
-pub step_refused : (old new : Session) (n : ℕ) (bytes : List ℕ) (fault : ServerFault) → StepsAs old (take n bytes) (Err fault) new → RefusesAs old bytes fault
-step_refused old new n bytes fault steps = λ other serving screen.
-    let apart : ◌≢◌ {A = Result (Option ServerEvent) ServerFault} (Err fault) (Err NoMemory) = λ e. other (let same : fault ≡ NoMemory = cc in same) in
-    front_refuses (server serving) (server_machine serving) (SessionStandsFor serving screen) old new n bytes fault (steps apart serving screen)
-
-pub step_starved : (old : Session) (n : ℕ) (bytes : List ℕ) (fault : ServerFault) → RunsOutAs old (take n bytes) (Err fault) → StarvesAs old bytes fault
-step_starved old n bytes fault out = λ memory serving screen.
-    let same : Err fault ≡ Err NoMemory = ap (λ (f : ServerFault). Err f) memory in
-    memory_step (server serving) (server_machine serving) AsksMemory (SessionStandsFor serving screen) old old 0 n bytes (session_starts old serving screen) (out same serving screen)
 
 -- an event that is not there
 pub none_told : (event : Option ServerEvent) → is_some event ≡ false → event ≡ None

@@ -22,6 +22,7 @@ use Rattle.rfb_server.specs.Using.{AreUsed, usable}
 use Rattle.rfb_server.specs.inside.Sends.{state_of}
 use Rattle.rfb_server.specs.inside.Composed.{is_ready, HasComposed, StaysIdle}
 use Rattle.rfb_server.specs.Updating.{Updates, StaysUnsent}
+use Rattle.rfb_server.proofs.EndingLemmas.{same_notes}
 
 -- a session that is ready stands between messages, or in one
 pub point_ready : (serving : Serving) (hello : ServerHello) (progress : Progress) (point : ClientAt) (prefix : List ℕ) →
@@ -129,6 +130,7 @@ pub keeps : (old new : Server) → new.screen ≡ old.screen → IsSame old.sess
 keeps old new e same = record {
   screen_is = e;
   fault_is = ap fault_in same.progress;
+  notes_are = same_notes new.session.known old.session.known new.session.area old.session.area new.session.format old.session.format new.session.encodings old.session.encodings same.known same.area same.format same.encodings;
   stands = λ serving s prefix stands. stands_same serving old.screen new.screen old.session new.session s prefix e same stands;
 }
 

@@ -51,11 +51,11 @@ HasItsData s part =
 abbrev pub may_send : List Encoding → Encoding → Bool
 may_send encodings encoding = is_same encoding Raw || is_listed encoding encodings
 
--- a block goes in the first listed encoding that brings pixels, or in Raw where the rule of that
--- one gives it up
+-- a block goes in the first listed encoding that brings pixels where the rule of that one does not
+-- give it up, and in Raw where it does
 abbrev pub IsForPixels : PixelFormat → List Encoding → Grid ℕ → Encoding → Type 0
 IsForPixels f encodings block encoding =
-    (encoding ≡ preferred encodings) ⊎
+    ((encoding ≡ preferred encodings) × (GivesUp (preferred encodings) f block → ⊥)) ⊎
     ((encoding ≡ Raw) × GivesUp (preferred encodings) f block)
 
 -- ---- rectangles that are copied

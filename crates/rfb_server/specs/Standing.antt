@@ -2,8 +2,11 @@
 -- than it has.
 use Rattle.std.specs.Prelude.{◌≡◌, ℕ, List, Option}
 use Rattle.rfb_pixel.specs.declared.colour.Colour.{Colour}
+use Rattle.rfb_pixel.specs.Format.{PixelFormat}
 use Rattle.rfb_picture.specs.declared.rect.Rect.{Rect}
 use Rattle.rfb_picture.specs.Grid.{Grid, Holds}
+use Rattle.rfb_picture.specs.Area.{Places}
+use Rattle.rfb_wire.specs.declared.encoding.Encoding.{Encoding}
 use Rattle.rfb_codec.specs.RectData.{moved_to}
 use Rattle.rfb_hello.specs.declared.version.Version.{Version}
 use Rattle.rfb_hello.specs.ServerStanding.{setup_of}
@@ -51,6 +54,31 @@ abbrev pub serving_of : Server → Serving
 serving_of server =
     record { hello = setup_of server.session.hello; text_limit = server.session.text_limit }
 
+-- what is noted of a viewer: of each place the pixel that it has or will have, where that is known;
+-- the places that it asked for; the format, and the encodings that it listed
+pub record Notes : Type 0 where
+  pub known : Grid (Option ℕ)
+  pub area : Places
+  pub form : PixelFormat
+  pub encodings : List Encoding
+
+-- those of a session
+abbrev pub notes_in : Session → Notes
+notes_in session = record {
+  known = session.known;
+  area = session.area;
+  form = session.format;
+  encodings = session.encodings;
+}
+
+-- those of a server
+abbrev pub notes_of : Server → Notes
+notes_of server = notes_in server.session
+
+-- those of a state
+abbrev pub notes_at : ServerState → Notes
+notes_at s = record { known = s.known; area = s.area; form = s.form; encodings = s.encodings }
+
 -- ---- drawings
 
 -- the state with another screen
@@ -65,13 +93,14 @@ row_from x y n = record { x = x; y = y; w = n; h = 1 }
 abbrev pub HoldsBoth : Grid Colour → Rect → ℕ → ℕ → Type 0
 HoldsBoth screen rect sx sy = Holds screen rect × Holds screen (moved_to sx sy rect)
 
--- a drawing gave it this screen, and changed nothing else that it stands for
+-- a drawing gave it this screen, and changed nothing else that it stands for or has noted
 pub record Draws (screen : Grid Colour) (old new : Server) : Type 0 where
   pub screen_is : screen_of new ≡ screen
   pub fault_is : fault_of new ≡ fault_of old
+  pub notes_are : notes_of new ≡ notes_of old
   pub stands : (serving : Serving) (s : ServerState) (prefix : List ℕ) →
       StandsFor serving old s prefix → StandsFor serving new (with_screen screen s) prefix
 
--- nothing that it stands for has changed
+-- nothing that it stands for or has noted has changed
 abbrev pub Keeps : Server → Server → Type 0
 Keeps old new = Draws (screen_of old) old new

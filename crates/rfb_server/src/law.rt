@@ -16,7 +16,7 @@ ghost use Rattle.rfb_server.specs.Server.{Serving, ServerState, server, black};
 ghost use Rattle.rfb_server.specs.Server.{messages_end, behind_handshake};
 ghost use Rattle.rfb_server.specs.Told.{step_told};
 ghost use Rattle.rfb_server.specs.declared.server.Server.{Server};
-ghost use Rattle.rfb_server.specs.Standing.{StandsFor, fault_of};
+ghost use Rattle.rfb_server.specs.Standing.{StandsFor, fault_of, screen_of, notes_of, notes_at};
 ghost use Rattle.rfb_server.specs.Request.{wanted, recorded, is_asked};
 ghost use Rattle.rfb_server.specs.Composing.{Part, Composes, IsPlace, between, sent_as};
 
@@ -47,6 +47,14 @@ pub fn a_server_is_fed_as_the_ends_of_its_parts()
 pub fn a_server_that_stands_has_not_failed()
     ensures { (serving : Serving) (server : Server) (s : ServerState) (prefix : List ℕ) →
         StandsFor serving server s prefix → fault_of server ≡ None }
+{}
+
+/// A server that stands for a state has the screen and the notes of that.
+pub fn a_server_that_stands_has_the_notes_of_its_state()
+    ensures screen { (serving : Serving) (server : Server) (s : ServerState) (prefix : List ℕ) →
+        StandsFor serving server s prefix → screen_of server ≡ s.screen }
+    ensures notes { (serving : Serving) (server : Server) (s : ServerState) (prefix : List ℕ) →
+        StandsFor serving server s prefix → notes_of server ≡ notes_at s }
 {}
 
 /// A viewer whose picture agreed with the record shows, once it has the update, the screen over the

@@ -85,6 +85,7 @@ fn append_coded<C: Codec>(
     requires room { vec_len out.old + 12 + raw_of format.now block.now ≤ vec_capacity out.old }
     ensures sent { OnTrue result
         (AppendsIn format.now rect encoding block.now out.old.items out.new.items) }
+    ensures taken { OnTrue result (GivesUp encoding format.now block.now → ⊥) }
     ensures given_up { OnFalse result (GivesUp encoding format.now block.now) }
     ensures kept { OnFalse result (out.new.items ≡ out.old.items) }
     ensures room { vec_capacity out.new ≡ vec_capacity out.old }

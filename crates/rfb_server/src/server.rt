@@ -40,6 +40,8 @@ impl Server {
     ghost use Rattle.rfb_hello.specs.Version.{version_text};
     ghost use Rattle.rfb_server.specs.Standing.{StandsFor, serving_with, serving_of, fault_of};
     ghost use Rattle.rfb_server.specs.Standing.{screen_of, row_from, HoldsBoth, Draws, Keeps};
+    ghost use Rattle.rfb_server.specs.Standing.{notes_of};
+    ghost use Rattle.rfb_server.specs.Failing.{KeepsNotes};
     ghost use Rattle.rfb_server.specs.Updating.{Updates, WasDue, StaysUnsent};
     ghost use Rattle.rfb_server.specs.Record.{ShowsKnown, TellsKnown};
     ghost use Rattle.rfb_server.specs.Hints.{hints_of, with_hint};
@@ -191,9 +193,10 @@ impl Server {
     /// Takes bytes of the client's, up to the last of its first item that makes an event, or all.
     /// Events are steps of the handshake, keys, the pointer and texts. Formats, lists and requests
     /// change the server at their last byte, and make no event. A client's fault comes at its last
-    /// byte, and want of memory for a text at its length. Every later call gives the fault again,
-    /// and takes nothing. Up to
-    /// 19 bytes are kept of what is under way, and of one text as much as fits its limit.
+    /// byte, and want of memory for a text at its length. Then the record, what is asked, the
+    /// format and the list stay as the items before left them, and each later call gives the fault
+    /// again and takes nothing. Up to 19 bytes are kept of what is under way, and of one text as
+    /// much as fits its limit.
     pub fn feed(&mut self, bytes: &[u8]) -> Result<Fed<ServerEvent>, ServerFault>
         // What was taken, what it was, and what is left.
         ensures used { IfOk result (λ fed. fed.used ≤ length bytes.now) }
@@ -206,11 +209,12 @@ impl Server {
         ensures hints { hints_of self.new ≡ hints_of self.old }
         ensures screen { screen_of self.new ≡ screen_of self.old }
 
-        // When a fault comes, when memory is wanting, and that it stays.
+        // When a fault comes, when memory is wanting, what is kept, and that it stays.
         ensures fault { IfErr result (λ fault. fault ≢ NoMemory → (serving : Serving)
             → RefusedBy (server serving) (StandsFor serving) self.old bytes.now fault) }
         ensures memory { IfErr result (λ fault. fault ≡ NoMemory → (serving : Serving)
             → RunsOutBy (server serving) AsksMemory (StandsFor serving) self.old bytes.now) }
+        ensures kept { IfErr result (λ fault. KeepsNotes fault self.old bytes.now self.new) }
         ensures fails { IfErr result (λ fault. fault_of self.new ≡ Some fault) }
         ensures failed { StaysFailed (fault_of self.old) self.old result self.new }
     {
@@ -236,7 +240,7 @@ impl Server {
         ensures value { (serving : Serving) (s : ServerState) (prefix : List ℕ)
             → StandsFor serving self.now s prefix
             → result ≡ client_bytes_pending s.point prefix }
-        ensures few { result ≤ 20 }
+        ensures few { result < 20 }
         ensures failed { fault_of self.now ≢ None → result ≡ 0 }
     {
         self.session.pending()
@@ -261,6 +265,7 @@ impl Server {
     pub fn asked(&self) -> &Area
         ensures value { (serving : Serving) (s : ServerState) (prefix : List ℕ)
             → StandsFor serving self.now s prefix → result.now ≡ s.area }
+        ensures noted { result.now ≡ (notes_of self.now).area }
         ensures columns { result.now.asked.width ≡ (screen_of self.now).width }
         ensures rows { result.now.asked.height ≡ (screen_of self.now).height }
     {
@@ -272,6 +277,7 @@ impl Server {
     pub fn recorded(&self) -> &Picture<u32>
         ensures value { (serving : Serving) (s : ServerState) (prefix : List ℕ)
             → StandsFor serving self.now s prefix → ShowsKnown s.known result.now }
+        ensures noted { ShowsKnown (notes_of self.now).known result.now }
         ensures columns { result.now.width ≡ (screen_of self.now).width }
         ensures rows { result.now.height ≡ (screen_of self.now).height }
     {
@@ -282,6 +288,7 @@ impl Server {
     pub fn known(&self) -> &Area
         ensures value { (serving : Serving) (s : ServerState) (prefix : List ℕ)
             → StandsFor serving self.now s prefix → TellsKnown s.known result.now }
+        ensures noted { TellsKnown (notes_of self.now).known result.now }
         ensures columns { result.now.asked.width ≡ (screen_of self.now).width }
         ensures rows { result.now.asked.height ≡ (screen_of self.now).height }
     {
@@ -290,8 +297,9 @@ impl Server {
 
     /// The format that updates are sent in.
     pub fn format(&self) -> Format
-        ensures { (serving : Serving) (s : ServerState) (prefix : List ℕ)
+        ensures value { (serving : Serving) (s : ServerState) (prefix : List ℕ)
             → StandsFor serving self.now s prefix → result ≡ s.form }
+        ensures noted { result ≡ (notes_of self.now).form }
     {
         self.session.format()
     }

@@ -16,6 +16,7 @@ mod lists;
 mod messages;
 mod needing;
 mod progress;
+mod quiet;
 mod telling;
 mod texts;
 mod tracking;

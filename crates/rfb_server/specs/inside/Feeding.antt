@@ -1,15 +1,16 @@
 -- What a session makes of bytes that it is fed: of a unit of one item, and of a slice.
-use Rattle.std.specs.Prelude.{◌≡◌, ◌≢◌, ℕ, List, Option, Result, Err}
+use Rattle.std.specs.Prelude.{◌≡◌, ◌≢◌, ℕ, List, ◌++◌, Option, Result, Err}
 use Rattle.rfb_pixel.specs.declared.colour.Colour.{Colour}
 use Rattle.rfb_picture.specs.Grid.{Grid}
-use Rattle.rfb_wire.specs.stream.End.{FedBy, RefusedBy, RunsOutBy, StepsBy}
+use Rattle.rfb_wire.specs.stream.End.{FedBy, RunsOutBy, StepsBy}
 use Rattle.rfb_server.specs.declared.event.ServerEvent.{ServerEvent}
 use Rattle.rfb_server.specs.declared.fault.ServerFault.{ServerFault}
 use Rattle.rfb_server.specs.declared.fault.ServerFault.TheVariants.{NoMemory}
 use Rattle.rfb_server.specs.declared.session.Session.{Session}
 use Rattle.rfb_server.specs.Told.{seen, answer_told}
-use Rattle.rfb_server.specs.Server.{Serving, server, AsksMemory}
-use Rattle.rfb_server.specs.Standing.{SessionStandsFor}
+use Rattle.rfb_server.specs.Server.{Serving, ServerState, server, AsksMemory}
+use Rattle.rfb_server.specs.Standing.{SessionStandsFor, notes_in}
+use Rattle.rfb_server.specs.Failing.{EndsAt}
 
 -- what a step by a unit of one item answers, where memory is not wanting
 abbrev pub StepsAs : Session → List ℕ → Result (Option ServerEvent) ServerFault → Session → Type 0
@@ -17,11 +18,12 @@ StepsAs old unit result new =
     result ≢ Err NoMemory → (serving : Serving) (screen : Grid Colour)
     → StepsBy (server serving) (SessionStandsFor serving screen) old unit (answer_told result) new
 
--- where it is, the unit has led to where memory is asked for
+-- where it is, the unit is the last that comes before memory is asked for
 abbrev pub RunsOutAs : Session → List ℕ → Result (Option ServerEvent) ServerFault → Type 0
 RunsOutAs old unit result =
     result ≡ Err NoMemory → (serving : Serving) (screen : Grid Colour)
-    → RunsOutBy (server serving) AsksMemory (SessionStandsFor serving screen) old unit
+    (s : ServerState) (prefix : List ℕ) → SessionStandsFor serving screen old s prefix
+    → AsksMemory s (prefix ++ unit)
 
 -- what a call leaves that took these bytes
 abbrev pub FeedsAs : Session → List ℕ → Option ServerEvent → Session → Type 0
@@ -29,14 +31,9 @@ FeedsAs old bytes event new =
     (serving : Serving) (screen : Grid Colour)
     → FedBy (server serving) (SessionStandsFor serving screen) old bytes (seen event) new
 
--- what a fault says of the bytes that came, where it is a client's
-abbrev pub RefusesAs : Session → List ℕ → ServerFault → Type 0
-RefusesAs old bytes fault =
-    fault ≢ NoMemory → (serving : Serving) (screen : Grid Colour)
-    → RefusedBy (server serving) (SessionStandsFor serving screen) old bytes fault
-
--- and where it is want of memory
-abbrev pub StarvesAs : Session → List ℕ → ServerFault → Type 0
-StarvesAs old bytes fault =
-    fault ≡ NoMemory → (serving : Serving) (screen : Grid Colour)
-    → RunsOutBy (server serving) AsksMemory (SessionStandsFor serving screen) old bytes
+-- what a fault says of the bytes that came, and what the session then has noted
+abbrev pub EndsAs : Session → List ℕ → ServerFault → Session → Type 0
+EndsAs old bytes fault new =
+    (serving : Serving) (screen : Grid Colour)
+    → RunsOutBy (server serving) (EndsAt serving fault screen (notes_in new))
+    (SessionStandsFor serving screen) old bytes

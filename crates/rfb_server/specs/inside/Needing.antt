@@ -1,8 +1,11 @@
 -- What of a screen needs sending, as a session finds it.
-use Rattle.std.specs.Prelude.{◌≡◌, ℕ, ◌+◌, ◌-◌, ◌*◌, ◌/◌, ◌<◌, ◌≤◌, Bool, true, Option, Some, None, MatchOption}
+use Rattle.std.specs.Prelude.{◌≡◌, ℕ, ◌+◌, ◌-◌, ◌*◌, ◌/◌, ◌<◌, ◌≤◌, Bool, true, false, Option, Some, None, MatchOption}
 use Rattle.rfb_pixel.specs.declared.colour.Colour.{Colour}
+use Rattle.rfb_pixel.specs.Format.{PixelFormat}
 use Rattle.rfb_picture.specs.declared.rect.Rect.{Rect}
+use Rattle.rfb_picture.specs.Rect.{contains}
 use Rattle.rfb_picture.specs.Grid.{Grid, IsGrid, at_or}
+use Rattle.rfb_picture.specs.Area.{Places}
 use Rattle.rfb_picture.specs.Box.{IsClear, IsBox}
 use Rattle.rfb_picture.specs.Places.{NoneInRow, has_bit}
 use Rattle.rfb_codec.specs.Effect.{IsAlike}
@@ -20,6 +23,16 @@ pub record IsAbout (screen : Grid Colour) (session : Session) : Type 0 where
 -- a place of that screen needs sending
 abbrev pub needs_of : Grid Colour → Session → ℕ → ℕ → Bool
 needs_of screen session x y = needs_at screen session.known session.area session.format x y
+
+-- no place of the rectangle needs sending, by what is known, asked and shown
+abbrev pub AreQuiet : Grid Colour → Grid (Option ℕ) → Places → PixelFormat → Rect → Type 0
+AreQuiet screen known area form rect = (x y : ℕ) → x < known.width → y < known.height →
+    contains rect x y ≡ true → needs_at screen known area form x y ≡ false
+
+-- so it is for a session
+abbrev pub IsQuiet : Grid Colour → Session → Rect → Type 0
+IsQuiet screen session rect =
+    AreQuiet screen session.known session.area session.format rect
 
 -- the first marked place of row y from one column up to another is at that column, which is the
 -- last of them where there is none

@@ -29,8 +29,9 @@ pub record AppendsIn (f : PixelFormat) (rect : Rect) (encoding : Encoding)
   pub appended : new ≡ old ++ bytes
   pub coded : IsCoded f rect encoding block bytes
 
--- they were appended in that encoding, or in Raw where its rule gives the block up
+-- they were appended in that encoding where its rule does not give the block up, and in Raw where it
+-- does
 abbrev pub SendsRect : PixelFormat → Rect → Encoding → Grid ℕ → List ℕ → List ℕ → Type 0
 SendsRect f rect encoding block old new =
-    AppendsIn f rect encoding block old new ⊎
+    ((GivesUp encoding f block → ⊥) × AppendsIn f rect encoding block old new) ⊎
     (GivesUp encoding f block × AppendsIn f rect Raw block old new)

@@ -6,7 +6,7 @@ ghost use Rattle.std.specs.Int.{div_ceil};
 ghost use Rattle.std.specs.Vec.{vec_capacity};
 ghost use Rattle.rfb_picture.specs.Grid.{Holds};
 ghost use Rattle.rfb_codec.specs.Raw.{raw_length};
-ghost use Rattle.rfb_server.specs.inside.Needing.{IsAbout};
+ghost use Rattle.rfb_server.specs.inside.Needing.{IsAbout, IsQuiet};
 ghost use Rattle.rfb_server.specs.Cells.{IsCell};
 ghost use Rattle.rfb_server.specs.inside.Sends.{IsKept, AppendsPixels, SendsCell, AppendsCells};
 ghost use Rattle.rfb_server.specs.inside.Sends.{IsCostIn, IsEnough, HasNext};
@@ -19,6 +19,7 @@ use crate::cells::cell_at;
 use crate::sending::{COPY_SIZE, RECT_HEAD_SIZE, append_rect};
 use crate::session::Session;
 use crate::session::progress::Progress;
+use crate::session::quiet::NOWHERE;
 use rfb_picture::{Picture, Rect};
 use rfb_pixel::Colour;
 use rfb_wire::ServerHead;
@@ -93,8 +94,9 @@ impl Session {
     {
         let start = out.len();
         append_within(out, ServerHead::Update(0).spell().as_slice());
-        let copies = self.send_copies(screen, out);
-        let count = copies + self.send_cells(screen, out);
+        let mut quiet = NOWHERE;
+        let copies = self.send_copies(screen, out, &mut quiet);
+        let count = copies + self.send_cells(screen, quiet, out);
         if count == 0 {
             out.truncate(start);
             return false;
@@ -152,9 +154,10 @@ impl Session {
     }
 
     // Sends what of each cell needs sending, and tells how many rectangles that makes. There is
-    // room for it.
-    fn send_cells(&mut self, screen: &Picture<Colour>, out: &mut Vec<u8>) -> u16
+    // room for it. Of `quiet` no place does, and so no cell inside it is looked at.
+    fn send_cells(&mut self, screen: &Picture<Colour>, quiet: Rect, out: &mut Vec<u8>) -> u16
         requires about { IsAbout screen.now self.old }
+        requires quiet { IsQuiet screen.now self.old quiet }
         requires room { (room : ℕ) × IsEnough self.old (div_ceil self.old.known.width 64)
             (div_ceil self.old.known.width 64 * div_ceil self.old.known.height 64) room
             × (vec_len out.old + room ≤ vec_capacity out.old) }
@@ -170,7 +173,7 @@ impl Session {
         let mut count = 0;
         let mut next = 0;
         while let Some(index) = self.next_cell(next) {
-            let sent = self.send_cell(screen, cell_at(width, height, index), out);
+            let sent = self.send_cell(screen, cell_at(width, height, index), quiet, out);
             count += u16::from(sent);
             next = index + 1;
         }
@@ -178,8 +181,15 @@ impl Session {
     }
 
     // Sends what of the cell needs sending, if there is something. There is room for it.
-    fn send_cell(&mut self, screen: &Picture<Colour>, cell: Rect, out: &mut Vec<u8>) -> bool
+    fn send_cell(
+        &mut self,
+        screen: &Picture<Colour>,
+        cell: Rect,
+        quiet: Rect,
+        out: &mut Vec<u8>,
+    ) -> bool
         requires about { IsAbout screen.now self.old }
+        requires quiet { IsQuiet screen.now self.old quiet }
         requires held { Holds self.old.known cell }
         requires sides { (cell.w ≤ 64) × (cell.h ≤ 64) }
         requires room { (cost : ℕ) × IsCostIn self.old cell cost
@@ -188,11 +198,12 @@ impl Session {
         ensures about { IsAbout screen.now self.new }
         ensures sent { SendsCell result screen.now cell self.old self.new
             out.old.items out.new.items }
+        ensures quiet { IsQuiet screen.now self.new quiet }
         ensures len { (cost : ℕ) → IsCostIn self.old cell cost
             → vec_len out.new ≤ vec_len out.old + cost }
         ensures room { vec_capacity out.new ≡ vec_capacity out.old }
     {
-        match self.needed_in(screen, cell) {
+        match self.needed_outside(screen, cell, quiet) {
             None => return false,
             Some(rect) => self.send(screen, rect, out),
         }

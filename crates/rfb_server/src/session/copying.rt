@@ -2,7 +2,7 @@
 
 ghost use Rattle.std.specs.Prelude.{◌≡◌, ◌+◌, ◌*◌, ◌≤◌, slice_get, Some, vec_len};
 ghost use Rattle.std.specs.Vec.{vec_capacity};
-ghost use Rattle.rfb_server.specs.inside.Needing.{IsAbout};
+ghost use Rattle.rfb_server.specs.inside.Needing.{IsAbout, IsQuiet};
 ghost use Rattle.rfb_server.specs.inside.Sessions.{IsSame};
 ghost use Rattle.rfb_server.specs.inside.Sends.{IsKept};
 ghost use Rattle.rfb_server.specs.inside.Copying.{SendsHint, AppendsCopies, usable_hints};
@@ -12,7 +12,8 @@ ghost use Rattle.rfb_server.specs.declared.hint.Hint.{Hint};
 use crate::hint::Hint;
 use crate::sending::append_copy;
 use crate::session::Session;
-use rfb_picture::Picture;
+use crate::session::quiet::quiet_behind;
+use rfb_picture::{Picture, Rect};
 use rfb_pixel::Colour;
 use rfb_wire::Encoding;
 
@@ -61,35 +62,51 @@ impl Session {
     }
 
     /// Tells the viewer to copy by each hint that is of use, the oldest first, and tells how many
-    /// rectangles that makes. There is room for them.
-    pub(crate) fn send_copies(&mut self, screen: &Picture<Colour>, out: &mut Vec<u8>) -> u16
+    /// rectangles that makes. There is room for them. `quiet` becomes the last one's rectangle,
+    /// where no place of it is left to be sent, else an empty one.
+    pub(crate) fn send_copies(
+        &mut self,
+        screen: &Picture<Colour>,
+        out: &mut Vec<u8>,
+        quiet: &mut Rect,
+    ) -> u16
         requires about { IsAbout screen.now self.old }
+        requires quiet { IsQuiet screen.now self.old quiet.old }
         requires room { vec_len out.old + 16 * usable_hints self.old ≤ vec_capacity out.old }
         requires marked { AreMarkedFor screen.now self.old (usable_hints self.old) }
         ensures kept { IsKept self.old self.new }
         ensures about { IsAbout screen.now self.new }
         ensures sent { AppendsCopies screen.now (usable_hints self.old) self.old self.new
             out.old.items out.new.items result }
+        ensures quiet { IsQuiet screen.now self.new quiet.new }
         ensures few { result ≤ 16 }
         ensures len { vec_len out.new ≤ vec_len out.old + 16 * usable_hints self.old }
         ensures room { vec_capacity out.new ≡ vec_capacity out.old }
     {
         let mut count = 0;
         for index in 0..self.usable_hints() {
-            let sent = self.send_hint(screen, index, out);
+            let sent = self.send_hint(screen, index, out, quiet);
             count += u16::from(sent);
         }
         count
     }
 
     // Tells the viewer to copy by the hint of that number, if that is of use. There is room for it.
-    fn send_hint(&mut self, screen: &Picture<Colour>, index: usize, out: &mut Vec<u8>) -> bool
+    fn send_hint(
+        &mut self,
+        screen: &Picture<Colour>,
+        index: usize,
+        out: &mut Vec<u8>,
+        quiet: &mut Rect,
+    ) -> bool
         requires about { IsAbout screen.now self.old }
+        requires quiet { IsQuiet screen.now self.old quiet.old }
         requires room { vec_len out.old + 16 ≤ vec_capacity out.old }
         ensures kept { IsKept self.old self.new }
         ensures about { IsAbout screen.now self.new }
         ensures sent { (hint : Hint) → slice_get self.old.hints.items index ≡ Some hint →
             SendsHint result screen.now hint self.old self.new out.old.items out.new.items }
+        ensures quiet { IsQuiet screen.now self.new quiet.new }
         ensures len { vec_len out.new ≤ vec_len out.old + 16 }
         ensures room { vec_capacity out.new ≡ vec_capacity out.old }
     {
@@ -97,27 +114,36 @@ impl Session {
             None => false,
             Some(hint) => {
                 let hint = *hint;
-                self.send_copy(screen, hint, out)
+                self.send_copy(screen, hint, out, quiet)
             }
         }
     }
 
     // The same for a hint.
-    fn send_copy(&mut self, screen: &Picture<Colour>, hint: Hint, out: &mut Vec<u8>) -> bool
+    fn send_copy(
+        &mut self,
+        screen: &Picture<Colour>,
+        hint: Hint,
+        out: &mut Vec<u8>,
+        quiet: &mut Rect,
+    ) -> bool
         requires about { IsAbout screen.now self.old }
+        requires quiet { IsQuiet screen.now self.old quiet.old }
         requires room { vec_len out.old + 16 ≤ vec_capacity out.old }
         ensures kept { IsKept self.old self.new }
         ensures about { IsAbout screen.now self.new }
         ensures sent { SendsHint result screen.now hint self.old self.new
             out.old.items out.new.items }
+        ensures quiet { IsQuiet screen.now self.new quiet.new }
         ensures len { vec_len out.new ≤ vec_len out.old + 16 }
         ensures room { vec_capacity out.new ≡ vec_capacity out.old }
     {
-        if !self.gains(screen, hint) {
+        let Some(right) = self.gains(screen, hint) else {
             return false;
-        }
+        };
         append_copy(hint.to, hint.sx, hint.sy, out);
         self.known.copy(hint.to, hint.sx, hint.sy);
+        *quiet = quiet_behind(hint.to, right);
         true
     }
 }

@@ -10,7 +10,7 @@ ghost use Rattle.rfb_server.specs.Server.{Serving, ServerState};
 ghost use Rattle.rfb_server.specs.Progress.{fault_in, is_idle};
 ghost use Rattle.rfb_server.specs.Standing.{SessionStandsFor};
 ghost use Rattle.rfb_server.specs.inside.Sessions.{KeepsUp};
-ghost use Rattle.rfb_server.specs.inside.Feeding.{FeedsAs, RefusesAs, StarvesAs};
+ghost use Rattle.rfb_server.specs.inside.Feeding.{FeedsAs, EndsAs};
 
 use crate::event::ServerEvent;
 use crate::fault::ServerFault;
@@ -28,8 +28,7 @@ impl Session {
         ensures fed { IfOk result (λ fed.
             FeedsAs self.old (take fed.used bytes.now) fed.event self.new) }
         ensures up { KeepsUp self.old self.new }
-        ensures fault { IfErr result (λ fault. RefusesAs self.old bytes.now fault) }
-        ensures memory { IfErr result (λ fault. StarvesAs self.old bytes.now fault) }
+        ensures ends { IfErr result (λ fault. EndsAs self.old bytes.now fault self.new) }
         ensures fails { IfErr result (λ fault. fault_in self.new.progress ≡ Some fault) }
     {
         let mut used = 0;
@@ -54,8 +53,7 @@ impl Session {
         ensures fed { IfOk result (λ fed.
             FeedsAs self.old (take fed.used bytes.now) fed.event self.new) }
         ensures up { KeepsUp self.old self.new }
-        ensures fault { IfErr result (λ fault. RefusesAs self.old bytes.now fault) }
-        ensures memory { IfErr result (λ fault. StarvesAs self.old bytes.now fault) }
+        ensures ends { IfErr result (λ fault. EndsAs self.old bytes.now fault self.new) }
         ensures fails { fault_in self.new.progress ≡ result_err result }
     {
         match self.progress {
@@ -102,7 +100,7 @@ impl Session {
         ensures value { (serving : Serving) (screen : Grid Colour) (s : ServerState)
             (prefix : List ℕ) → SessionStandsFor serving screen self.now s prefix
             → result ≡ client_bytes_pending s.point prefix }
-        ensures few { result ≤ 20 }
+        ensures few { result < 20 }
         ensures failed { fault_in self.now.progress ≢ None → result ≡ 0 }
     {
         match &self.progress {

@@ -1,6 +1,6 @@
 //! What the viewer gains if it copies a rectangle.
 
-ghost use Rattle.std.specs.Prelude.{◌≡◌, ◌+◌, ◌-◌, ◌*◌, ◌/◌, ◌≤◌, ◌<◌};
+ghost use Rattle.std.specs.Prelude.{◌≡◌, ◌+◌, ◌-◌, ◌*◌, ◌/◌, ◌≤◌, ◌<◌, IfSome, IfNone};
 ghost use Rattle.std.specs.Bool.{OnTrue, OnFalse};
 ghost use Rattle.rfb_picture.specs.Grid.{Holds};
 ghost use Rattle.rfb_server.specs.inside.Needing.{IsAbout};
@@ -15,13 +15,15 @@ use rfb_picture::{Picture, Rect};
 use rfb_pixel::{Colour, count_equal, differing, first_diff};
 
 impl Session {
-    /// Whether the viewer is to copy: all of the rectangle is asked and none of it whole, all of
-    /// the source is known, and more of the rectangle has the wanted pixel behind the copy than
-    /// before.
-    pub(crate) fn gains(&self, screen: &Picture<Colour>, hint: Hint) -> bool
+    /// How many places of the rectangle have the wanted pixel behind the copy, if the viewer is to
+    /// copy: all of the rectangle is asked and none of it whole, all of the source is known, and
+    /// these are more than before.
+    pub(crate) fn gains(&self, screen: &Picture<Colour>, hint: Hint) -> Option<u32>
         requires { IsAbout screen.now self.now }
-        ensures useful { OnTrue result (IsUseful screen.now self.now hint) }
-        ensures useless { OnFalse result (IsUseful screen.now self.now hint → ⊥) }
+        ensures useful { IfSome result (λ right. IsUseful screen.now self.now hint) }
+        ensures right { IfSome result (λ right.
+            right ≡ count_in (right_behind screen.now self.now hint) hint.to) }
+        ensures useless { IfNone result (IsUseful screen.now self.now hint → ⊥) }
     {
         let to = hint.to;
         let from = Rect {
@@ -30,15 +32,16 @@ impl Session {
             ..to
         };
         if !screen.holds(to) || !screen.holds(from) {
-            return false;
+            return None;
         }
         if !self.is_free(to) || !self.known.knows(from) {
-            return false;
+            return None;
         }
-        if !self.has_more_right(screen, hint) {
-            return false;
+        let behind = self.behind_in(screen, hint);
+        if !self.has_more_right(screen, hint, behind) {
+            return None;
         }
-        true
+        Some(behind)
     }
 
     // Whether each place of the rectangle is asked and not whole, and is marked.
@@ -57,16 +60,16 @@ impl Session {
         false
     }
 
-    // Whether more places of the rectangle have the wanted pixel behind the copy than before. All are
-    // counted behind it; those before it until the rows that are left cannot change the answer.
-    fn has_more_right(&self, screen: &Picture<Colour>, hint: Hint) -> bool
+    // Whether more places of the rectangle have the wanted pixel behind the copy, where they are
+    // counted, than before. They are counted until the rows that are left cannot change the answer.
+    fn has_more_right(&self, screen: &Picture<Colour>, hint: Hint, behind: u32) -> bool
         requires about { IsAbout screen.now self.now }
         requires copy { MayCopy self.now.known hint }
+        requires behind { behind ≡ count_in (right_behind screen.now self.now hint) hint.to }
         ensures more { OnTrue result (HasMoreRight screen.now self.now hint) }
         ensures no_more { OnFalse result (HasMoreRight screen.now self.now hint → ⊥) }
     {
         let to = hint.to;
-        let behind = self.behind_in(screen, hint);
         let mut before = 0;
         for row in 0..to.h {
             before += self.before_in_row(screen, row_of(hint, row));

@@ -17,7 +17,7 @@ impl Session {
     ghost use Rattle.rfb_server.specs.declared.session.progress.Progress.{Progress};
     ghost use Rattle.rfb_server.specs.Progress.{fault_in};
     ghost use Rattle.rfb_server.specs.inside.Sessions.{KeepsUp};
-    ghost use Rattle.rfb_server.specs.inside.Feeding.{FeedsAs, RefusesAs, StarvesAs};
+    ghost use Rattle.rfb_server.specs.inside.Feeding.{FeedsAs, EndsAs};
 
     // Takes bytes of the client's handshake, up to the last of its first step that makes an
     // event, or all. Bytes behind the handshake are the messages'.
@@ -29,8 +29,7 @@ impl Session {
         ensures fed { IfOk result (λ fed.
             FeedsAs self.old (take fed.used bytes.now) fed.event self.new) }
         ensures up { KeepsUp self.old self.new }
-        ensures fault { IfErr result (λ fault. RefusesAs self.old bytes.now fault) }
-        ensures memory { IfErr result (λ fault. StarvesAs self.old bytes.now fault) }
+        ensures ends { IfErr result (λ fault. EndsAs self.old bytes.now fault self.new) }
         ensures fails { fault_in self.new.progress ≡ result_err result }
     {
         match self.hello.feed(bytes) {

@@ -1,11 +1,12 @@
 //! The messages of a client, as they come in slices.
 
-ghost use Rattle.std.specs.Prelude.{◌≡◌, ◌≤◌, ◌<◌, ◌++◌, ℕ, List, length, take};
+ghost use Rattle.std.specs.Prelude.{◌≡◌, ◌≤◌, ◌<◌, ◌++◌, ℕ, List, length, take, IfErr};
 ghost use Rattle.std.specs.Result.{result_err};
 ghost use Rattle.arrayvec.specs.ArrayVec.{ArrayVec as Items};
 ghost use Rattle.rfb_wire.specs.ClientHead.{SpellsClientHead};
 ghost use Rattle.rfb_server.specs.declared.session.progress.Progress.{Progress};
 ghost use Rattle.rfb_server.specs.Progress.{fault_in};
+ghost use Rattle.rfb_server.specs.Standing.{notes_in};
 ghost use Rattle.rfb_server.specs.inside.Sessions.{BeginsMessage, KeepsUp};
 ghost use Rattle.rfb_server.specs.inside.Feeding.{StepsAs, RunsOutAs};
 
@@ -32,6 +33,7 @@ impl Session {
         ensures memory { RunsOutAs self.old (take result.0 bytes.now) result.1 }
         ensures up { KeepsUp self.old self.new }
         ensures fault { fault_in self.new.progress ≡ result_err result.1 }
+        ensures kept { IfErr result.1 (λ _. notes_in self.new ≡ notes_in self.old) }
     {
         let Progress::Head(part) = &mut self.progress else {
             unreachable!()
@@ -55,6 +57,7 @@ impl Session {
             → RunsOutAs self.old unit result }
         ensures up { KeepsUp self.old self.new }
         ensures fault { fault_in self.new.progress ≡ result_err result }
+        ensures kept { IfErr result (λ _. notes_in self.new ≡ notes_in self.old) }
     {
         match head {
             ClientHead::SetPixelFormat(bytes) => match Format::read(&bytes) {
@@ -97,6 +100,7 @@ impl Session {
     pub(super) fn fail(&mut self, fault: ServerFault) -> ServerFault
         ensures value { result ≡ fault }
         ensures after { self.new.progress ≡ Progress.Failed fault }
+        ensures kept { notes_in self.new ≡ notes_in self.old }
         ensures up { KeepsUp self.old self.new }
     {
         self.progress = Progress::Failed(fault);

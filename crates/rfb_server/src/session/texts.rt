@@ -1,12 +1,13 @@
 //! The text of ClientCutText, RFC 6143 section 7.5.6, as it comes in slices.
 
-ghost use Rattle.std.specs.Prelude.{◌≡◌, ◌≤◌, ◌<◌, ◌++◌, ℕ, List, [], length, take, None, Ok, IfOk};
+ghost use Rattle.std.specs.Prelude.{◌≡◌, ◌≤◌, ◌<◌, ◌++◌, ℕ, List, [], length, take, None, Ok, IfOk, IfErr};
 ghost use Rattle.std.specs.Result.{result_err};
 ghost use Rattle.arrayvec.specs.ArrayVec.{ArrayVec as Items};
 ghost use Rattle.rfb_wire.specs.ClientHead.{SpellsClientCutText};
 ghost use Rattle.rfb_hello.specs.KeptText.{KeptText, kept_of};
 ghost use Rattle.rfb_server.specs.declared.session.progress.Progress.{Progress};
 ghost use Rattle.rfb_server.specs.Progress.{fault_in};
+ghost use Rattle.rfb_server.specs.Standing.{notes_in};
 ghost use Rattle.rfb_server.specs.inside.Sessions.{KeepsUp};
 ghost use Rattle.rfb_server.specs.inside.Feeding.{StepsAs, RunsOutAs};
 
@@ -32,6 +33,7 @@ impl Session {
             → RunsOutAs self.old unit result }
         ensures up { KeepsUp self.old self.new }
         ensures fault { fault_in self.new.progress ≡ result_err result }
+        ensures kept { IfErr result (λ _. notes_in self.new ≡ notes_in self.old) }
     {
         if length == 0 {
             self.begin_message();

@@ -157,3 +157,27 @@ fn a_format_is_set_at_its_last_byte(rt: HostRuntime) -> Result<(), AllocError> {
     assert!(rt; is_set(rt.alloc())?);
     Ok(())
 }
+
+// The format that ServerInit announces, RFC 6143 section 7.4: 32 bits of which 24 are used, the
+// lowest byte first, and maxima of 255 at the shifts 16, 8 and 0.
+const ANNOUNCED: &[u8] = b"\x20\x18\0\x01\0\xFF\0\xFF\0\xFF\x10\x08\0\0\0\0";
+
+// Whether one of 16 bits, whose green maximum is no power of two less one, is refused, and the
+// announced one stays.
+fn refuses_a_format(server: &mut Server) -> bool {
+    let bytes = b"\0\0\0\0\x10\x10\0\x01\0\x1F\0\x3E\0\x1F\x0B\x05\0\0\0\0".as_slice();
+    server.feed(bytes).is_err() && server.format().write().as_slice() == ANNOUNCED
+}
+
+fn is_refused(alloc: Global) -> Result<bool, AllocError> {
+    let mut server = ready(alloc, 2, 1)?;
+    let refused = refuses_a_format(&mut server);
+    drop(server);
+    Ok(refused)
+}
+
+#[test]
+fn a_format_that_is_refused_leaves_the_one_before_it(rt: HostRuntime) -> Result<(), AllocError> {
+    assert!(rt; is_refused(rt.alloc())?);
+    Ok(())
+}

@@ -2,7 +2,8 @@ use Rattle.std.proofs.Common.{refl, sym, ap, ◌∙◌, ◌≡◌, Some, None}
 use Rattle.circular_buffer.specs.Buffer.{Buffer}
 use Rattle.rfb_server.specs.declared.hint.Hint.{Hint}
 use Rattle.rfb_server.specs.Progress.{fault_in}
-use Rattle.rfb_server.proofs.SliceLemmas.{ok_map, err_map, serving_kept, failed_refuses, failed_starves}
+use Rattle.rfb_server.proofs.SliceLemmas.{ok_map, err_map, serving_kept}
+use Rattle.rfb_server.proofs.EndingLemmas.{ends_refuse, ends_starve, failed_ends}
 use Rattle.rfb_server.proofs.server.Server.feed.Goals as goal
 
 pub invariant_of-self : goal.invariant_of-self
@@ -19,6 +20,7 @@ pub returns-in-Some : goal.returns-in-Some
 returns-in-Some c =
     let session = c.args.self.now.session in
     let fails : fault_in session.progress ≡ Some c.in-Some.fault = sym c.fault.ensures ∙ c.in-Some.is in
+    let ends = failed_ends session session c.args.bytes.now c.in-Some.fault fails in
     record {
       used = tt;
       all = tt;
@@ -27,8 +29,9 @@ returns-in-Some c =
       made = refl;
       hints = refl;
       screen = refl;
-      fault = λ other serving. failed_refuses session c.args.bytes.now c.in-Some.fault fails other serving c.args.self.now.screen;
-      memory = λ memory serving. failed_starves session c.args.bytes.now c.in-Some.fault fails memory serving c.args.self.now.screen;
+      fault = λ other serving. ends_refuse session session c.args.bytes.now c.in-Some.fault ends other serving c.args.self.now.screen;
+      memory = λ memory serving. ends_starve session session c.args.bytes.now c.in-Some.fault ends memory serving c.args.self.now.screen;
+      kept = λ serving. ends serving c.args.self.now.screen;
       fails = fails;
       failed = λ f h. (cc, refl);
     }
@@ -45,8 +48,9 @@ returns c =
       made = serving_kept session c.feed.new.self c.feed.ensures.up;
       hints = ap (λ (kept : Buffer Hint). kept.items) c.feed.ensures.up.hints;
       screen = refl;
-      fault = err_map _ _ c.feed.result (λ fault h other serving. h other serving c.args.self.now.screen) c.feed.ensures.fault;
-      memory = err_map _ _ c.feed.result (λ fault h memory serving. h memory serving c.args.self.now.screen) c.feed.ensures.memory;
+      fault = err_map _ _ c.feed.result (λ fault h other serving. ends_refuse session c.feed.new.self c.args.bytes.now fault h other serving c.args.self.now.screen) c.feed.ensures.ends;
+      memory = err_map _ _ c.feed.result (λ fault h memory serving. ends_starve session c.feed.new.self c.args.bytes.now fault h memory serving c.args.self.now.screen) c.feed.ensures.ends;
+      kept = err_map _ _ c.feed.result (λ fault h serving. h serving c.args.self.now.screen) c.feed.ensures.ends;
       fails = c.feed.ensures.fails;
       failed = λ f h. absurd cc;
     }

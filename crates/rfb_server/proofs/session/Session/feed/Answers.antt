@@ -1,9 +1,10 @@
 use Rattle.std.proofs.Common.{◌≡◌, ◌∙◌, sym, refl, ◌≤◌, length, drop, length-drop, None, arith}
 use Rattle.std.proofs.lemmas.List.{take_rest}
 use Rattle.std.proofs.lemmas.Result.{err_from_is_err_and}
-use Rattle.rfb_wire.proofs.stream_laws.FeedLaws.{fed_more, refused_later, runs_out_later}
-use Rattle.rfb_server.specs.Server.{server, AsksMemory}
-use Rattle.rfb_server.specs.Standing.{SessionStandsFor}
+use Rattle.rfb_wire.proofs.stream_laws.FeedLaws.{fed_more, runs_out_later}
+use Rattle.rfb_server.specs.Server.{server}
+use Rattle.rfb_server.specs.Standing.{SessionStandsFor, notes_in}
+use Rattle.rfb_server.specs.Failing.{EndsAt}
 use Rattle.rfb_server.proofs.ServerLaws.{server_machine}
 use Rattle.rfb_server.proofs.FeedingLemmas.{up_same, up_then}
 use Rattle.rfb_server.proofs.SliceLemmas.{session_starts, none_told, some_told}
@@ -23,8 +24,7 @@ returns-in_err-fed c =
       some = tt;
       fed = tt;
       up = up_then c.args.self.now c.loop-used.self c.take.new.self c.loop-used.invariant.up c.take.ensures.up;
-      fault = λ other serving screen. refused_later (server serving) (server_machine serving) (SessionStandsFor serving screen) c.args.self.now c.loop-used.self c.loop-used.used c.args.bytes.now c.in_err-fed.field-0.0 (c.loop-used.invariant.fed serving screen) (rw rest at (c.in_err-fed.ensures.fault other serving screen));
-      memory = λ memory serving screen. runs_out_later (server serving) (server_machine serving) AsksMemory (SessionStandsFor serving screen) c.args.self.now c.loop-used.self c.loop-used.used c.args.bytes.now (c.loop-used.invariant.fed serving screen) (rw rest at (c.in_err-fed.ensures.memory memory serving screen));
+      ends = λ serving screen. runs_out_later (server serving) (server_machine serving) (EndsAt serving c.in_err-fed.field-0.0 screen (notes_in c.take.new.self)) (SessionStandsFor serving screen) c.args.self.now c.loop-used.self c.loop-used.used c.args.bytes.now (c.loop-used.invariant.fed serving screen) (rw rest at (c.in_err-fed.ensures.ends serving screen));
       fails = c.in_err-fed.ensures.fails;
     })
 
@@ -39,8 +39,7 @@ returns-then-is_some c =
       some = λ any. omega (arith, c.in_ok-fed.ensures.used.0);
       fed = λ serving screen. fed_more (server serving) (server_machine serving) (SessionStandsFor serving screen) c.args.self.now c.loop-used.self c.take.new.self c.loop-used.used fed.used c.args.bytes.now _ (c.loop-used.invariant.fed serving screen) (rw rest at (c.in_ok-fed.ensures.fed serving screen));
       up = up_then c.args.self.now c.loop-used.self c.take.new.self c.loop-used.invariant.up c.take.ensures.up;
-      fault = tt;
-      memory = tt;
+      ends = tt;
       fails = tt;
     }
 

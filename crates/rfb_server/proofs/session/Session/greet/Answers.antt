@@ -1,6 +1,6 @@
 use Rattle.std.proofs.Common.{refl, ◌∙◌}
-use Rattle.rfb_server.proofs.GreetLemmas.{partial_behind, goes_behind, done_behind, greets, greets_not}
-use Rattle.rfb_server.proofs.SliceLemmas.{never_starved}
+use Rattle.rfb_server.proofs.GreetLemmas.{partial_behind, goes_behind, done_behind, greets}
+use Rattle.rfb_server.proofs.EndingLemmas.{greets_end}
 use Rattle.rfb_server.proofs.session.Session.greet.Goals as goal
 
 pub invariant_of-self : goal.invariant_of-self
@@ -34,13 +34,7 @@ returns-in-Ok-clause-fed c = λ serving screen.
     })
     (c.in-Ok.ensures.fed serving.hello))
 
-pub returns-in-Err-clause-fault : goal.returns-in-Err-clause-fault
-returns-in-Err-clause-fault c = λ _ serving screen.
+pub returns-in-Err-clause-ends : goal.returns-in-Err-clause-ends
+returns-in-Err-clause-ends c =
     rw (c.of_hello-fault.ensures)
-    (greets_not serving screen c.args.self.now c.args.bytes.now c.in-Err.fault c.requires.handshake (c.in-Err.ensures.fault serving.hello))
-
-pub returns-in-Err-clause-memory : goal.returns-in-Err-clause-memory
-returns-in-Err-clause-memory c =
-    rw (c.of_hello-fault.ensures)
-    (never_starved c.args.self.now c.args.bytes.now _
-    (λ serving screen. greets_not serving screen c.args.self.now c.args.bytes.now c.in-Err.fault c.requires.handshake (c.in-Err.ensures.fault serving.hello)))
+    (greets_end c.args.self.now c.args.bytes.now c.in-Err.fault c.requires.handshake (λ serving. c.in-Err.ensures.fault serving.hello))

@@ -11,7 +11,7 @@ loop-row-init c =
     record {
       value = refl;
       few = omega arith;
-      unsure = omega (arith, c.behind_in-behind.ensures.value, all);
+      unsure = omega (arith, c.requires.behind, all);
     }
 
 pub returns-then-behind-before-clause-more : goal.returns-then-behind-before-clause-more
@@ -27,7 +27,7 @@ returns-then-behind-before-clause-more c =
     rw c.row_of.ensures at c.before_in_row-before.ensures.value in
     let before = before_row screen s hint l.row l.before c.before_in_row-before.result l.invariant.value here in
     let most = rows_left (right_before screen s hint) to.x to.y to.w (l.row + 1) to.h (omega arith) in
-    omega (arith, c.if-behind-before.true, left, before, c.behind_in-behind.ensures.value, most)
+    omega (arith, c.if-behind-before.true, left, before, c.requires.behind, most)
 
 pub returns-then-before-behind-clause-no_more : goal.returns-then-before-behind-clause-no_more
 returns-then-before-behind-clause-no_more c = λ more.
@@ -40,7 +40,7 @@ returns-then-before-behind-clause-no_more c = λ more.
     rw c.row_of.ensures at c.before_in_row-before.ensures.value in
     let before = before_row screen s hint l.row l.before c.before_in_row-before.result l.invariant.value here in
     let least = rows_left (right_before screen s hint) to.x to.y to.w (l.row + 1) to.h (omega arith) in
-    omega (arith, more, c.if-before-behind.true, before, c.behind_in-behind.ensures.value, least)
+    omega (arith, more, c.if-before-behind.true, before, c.requires.behind, least)
 
 pub loop-row-preserved : goal.loop-row-preserved
 loop-row-preserved c =

@@ -12,6 +12,7 @@ loop-index-init c =
     record {
       kept = kept_same s;
       about = c.requires.about;
+      quiet = c.requires.quiet;
       sent = cells_start (div_ceil s.known.width 64) c.args.screen.now s c.args.out.now.items;
       within = omega arith;
       few = omega arith;
@@ -52,6 +53,7 @@ loop-index-preserved c =
     record {
       kept = kept_then s l.self c.send_cell-sent.new.self l.invariant.kept c.send_cell-sent.ensures.kept;
       about = c.send_cell-sent.ensures.about;
+      quiet = c.send_cell-sent.ensures.quiet;
       sent = rw (c.from-count.ensures) (cells_more (div_ceil s.known.width 64) index c.args.screen.now s l.self c.send_cell-sent.new.self c.args.out.now.items l.out.items c.send_cell-sent.new.out.items l.count c.cell_at.result
           c.requires.about l.invariant.kept here so_far c.send_cell-sent.result c.send_cell-sent.ensures.sent);
       within = omega (arith, below);

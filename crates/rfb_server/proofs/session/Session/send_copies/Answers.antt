@@ -15,6 +15,7 @@ loop-index-init c =
     record {
       kept = kept_same s;
       about = c.requires.about;
+      quiet = c.requires.quiet;
       sent = copies_begin c.args.screen.now s c.args.out.now.items;
       few = omega arith;
       capacity = refl;
@@ -31,6 +32,7 @@ loop-index-preserved c =
     record {
       kept = kept_then s l.self c.send_hint-sent.new.self l.invariant.kept c.send_hint-sent.ensures.kept;
       about = c.send_hint-sent.ensures.about;
+      quiet = c.send_hint-sent.ensures.quiet;
       sent = rw (c.from-count.ensures)
           (copies_go_on c.args.screen.now s l.self c.send_hint-sent.new.self c.args.out.now.items l.out.items c.send_hint-sent.new.out.items l.index l.count hint
           c.requires.about l.invariant.kept (listed_usable s l.index below) this (c.requires.marked l.index hint below this) l.invariant.sent

@@ -1,6 +1,6 @@
 use Rattle.std.proofs.Common.{◌≡◌, ◌≤◌, ◌*◌, ◌+◌, vec_len}
 use Rattle.std.specs.Vec.{vec_capacity}
-use Rattle.rfb_server.specs.inside.Needing.{IsAbout}
+use Rattle.rfb_server.specs.inside.Needing.{IsAbout, IsQuiet}
 use Rattle.rfb_server.specs.inside.Sends.{IsKept}
 use Rattle.rfb_server.specs.inside.Copying.{AppendsCopies}
 use Rattle.rfb_server.proofs.session.Session.send_copies.Given as goal
@@ -10,6 +10,7 @@ abbrev pub invariant-loop-index : goal.invariant-loop-index
 invariant-loop-index l = record {
   kept : IsKept l.initial.self l.self;
   about : IsAbout l.screen l.self;
+  quiet : IsQuiet l.screen l.self l.quiet;
   sent : AppendsCopies l.screen l.index l.initial.self l.self l.initial.out.items l.out.items l.count;
   few : l.count ≤ l.index;
   capacity : vec_capacity l.out ≡ vec_capacity l.initial.out;

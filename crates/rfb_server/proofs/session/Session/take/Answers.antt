@@ -1,20 +1,15 @@
 use Rattle.std.proofs.lemmas.Result.{err_from_is_err_and}
-use Rattle.rfb_server.proofs.SliceLemmas.{step_fed, step_refused, step_starved}
+use Rattle.rfb_server.proofs.SliceLemmas.{step_fed}
+use Rattle.rfb_server.proofs.EndingLemmas.{step_ends}
 use Rattle.rfb_server.proofs.session.Session.take.Goals as goal
 
-pub returns-in_err-event-in-Head-clause-fault : goal.returns-in_err-event-in-Head-clause-fault
-returns-in_err-event-in-Head-clause-fault c =
+pub returns-in_err-event-in-Head-clause-ends : goal.returns-in_err-event-in-Head-clause-ends
+returns-in_err-event-in-Head-clause-ends c =
     let p = err_from_is_err_and c.from_residual.result c.from_residual.ensures.1 in
+    let was = c.in_err-event-in-Head.was in
     rw (p.1, p.2)
-    (step_refused c.args.self.now c.take_head-used.new.self c.take_head-used.result.0 c.args.bytes.now c.in_err-event-in-Head.field-0.0
-    (rw c.in_err-event-in-Head.was at c.take_head-used.ensures.steps))
-
-pub returns-in_err-event-in-Head-clause-memory : goal.returns-in_err-event-in-Head-clause-memory
-returns-in_err-event-in-Head-clause-memory c =
-    let p = err_from_is_err_and c.from_residual.result c.from_residual.ensures.1 in
-    rw (p.1, p.2)
-    (step_starved c.args.self.now c.take_head-used.result.0 c.args.bytes.now c.in_err-event-in-Head.field-0.0
-    (rw c.in_err-event-in-Head.was at c.take_head-used.ensures.memory))
+    (step_ends c.args.self.now c.take_head-used.new.self c.take_head-used.result.0 c.args.bytes.now c.in_err-event-in-Head.field-0.0
+    (rw was at c.take_head-used.ensures.steps) (rw was at c.take_head-used.ensures.memory) (rw was at c.take_head-used.ensures.kept))
 
 pub returns-in_ok-event-in-Head-clause-fed : goal.returns-in_ok-event-in-Head-clause-fed
 returns-in_ok-event-in-Head-clause-fed c =

@@ -4,6 +4,7 @@ use Rattle.std.proofs.Math.Seq.{take-append_seam}
 use Rattle.rfb_server.specs.inside.Copying.{AppendsCopies, usable_hints}
 use Rattle.rfb_server.specs.inside.Composed.{IsCounted}
 use Rattle.rfb_server.proofs.UpdateLemmas.{enough_kept, updated, about_updated, sent_whole, stayed}
+use Rattle.rfb_server.proofs.QuietLemmas.{quiet_nowhere}
 use Rattle.rfb_server.proofs.session.Session.update.Goals as goal
 
 pub send_cells-requires-clause-room : goal.send_cells-requires-clause-room
@@ -55,3 +56,7 @@ returns-then-count-eq0-clause-idle c =
 
 pub put_count-requires : goal.put_count-requires
 put_count-requires c = grind (arith, common_steps)
+
+pub send_copies-copies-requires-clause-quiet : goal.send_copies-copies-requires-clause-quiet
+send_copies-copies-requires-clause-quiet c = let s = c.args.self.now in
+    quiet_nowhere c.args.screen.now s.known s.area s.format
