@@ -1,11 +1,13 @@
 -- Drawings on the screen of a world.
-use Rattle.std.proofs.Common.{◌≡◌, ℕ, ◌<◌, ◌≤◌, ◌+◌, true, false, Option, ◌⊎◌, inl, inr, ◌↔◌, Result, Ok, Err, IsErr, OnOk, OnErr, refl, sym, ap, ◌∙◌, subst, arith}
+use Rattle.std.proofs.Common.{◌≡◌, ℕ, ◌<◌, ◌≤◌, ◌+◌, true, false, List, Option, Some, None, ◌⊎◌, inl, inr, ◌↔◌, Result, Ok, Err, IsErr, OnOk, OnErr, refl, sym, ap, ◌∙◌, subst, arith}
 use Rattle.std.proofs.lemmas.Bool.{cases_lt}
 use Rattle.rfb_pixel.specs.declared.colour.Colour.{Colour}
 use Rattle.rfb_picture.specs.declared.rect.Rect.{Rect}
 use Rattle.rfb_picture.specs.Grid.{Grid, Holds, changed}
 use Rattle.rfb_server.specs.declared.fault.Outside.{Outside as OutsideFault}
+use Rattle.rfb_server.specs.declared.hint.Hint.{Hint}
 use Rattle.rfb_server.specs.declared.server.Server.{Server}
+use Rattle.rfb_server.specs.Hints.{hints_of}
 use Rattle.rfb_server.specs.Standing.{Draws as ServerDraws, Keeps, screen_of, HoldsBoth}
 use Rattle.rfb_session.specs.declared.told.Refused.{Refused}
 use Rattle.rfb_session.specs.declared.world.World.{World}
@@ -75,6 +77,16 @@ same_stands e old new n server same stands = record {
   carries = rw (server, same.viewer, same.to_server, same.to_viewer) stands.carries;
   latest_is = stands.latest_is ∙ ap (λ l. composing_in l) (sym same.latest);
 }
+
+-- the hints of a server behind a hint that was not refused
+pub hinted_as : (old new : Server) (hints : List Hint) (result : Result (Unit {0}) OutsideFault)
+    (refused : Option Refused) → refused ≡ refused_by result → OnOk result (hints_of new ≡ hints) →
+    refused ≡ None → hints_of new ≡ hints
+hinted_as old new hints (Ok done) refused told kept none = kept
+hinted_as old new hints (Err fault) refused told kept none = absurd (apart (sym none ∙ told))
+  where
+    apart : {A : Type 0} {a : A} → None ≡ Some a → ⊥
+    apart e = absurd cc
 
 -- a hint on the screen: it changes nothing that the world stands for
 pub hinted : (e : Ends) (old new : World) (n : Network) (refused : Option Refused)

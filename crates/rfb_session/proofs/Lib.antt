@@ -21,6 +21,7 @@ pub mod CalledLemmas
 pub mod SizeLemmas
 pub mod RunLemmas
 pub mod PlayedLemmas
+pub mod VerdictLemmas
 pub mod ShownLemmas
 pub mod LossLemmas
 pub mod WrittenLemmas
@@ -30,5 +31,6 @@ pub mod PlayLemmas
 pub mod PlaySomeLemmas
 pub mod ServeLemmas
 pub mod ServingLemmas
+pub mod TurnLemmas
 pub mod ViewLemmas
 pub mod LookLemmas

@@ -5,13 +5,13 @@ use Rattle.std.proofs.KnownBytes.{Appends-nil, Appends-trans, Consumes-nil, Cons
 use Rattle.rfb_viewer.specs.declared.viewer.Viewer.{Viewer}
 use Rattle.rfb_session.specs.declared.engine.fault.EngineFault.{EngineFault}
 use Rattle.rfb_session.specs.declared.engine.fault.EngineFault.TheVariants.{Server as ServerEnded, Viewer as ViewerEnded, Truncated, Device, NoMemory as EngineNoMemory}
-use Rattle.rfb_session.specs.ViewEngine.{RunsInTurn, HasViewed, HasMissed, ViewedSome, StopsViewing}
+use Rattle.rfb_session.specs.ViewEngine.{RunsInTurn, HasViewed, HasMissed, ViewedSome, StopsViewing, KeepsLast}
 use Rattle.rfb_session.specs.Looking.{due_until, Looks, HasLooked, StopsLooking}
 use Rattle.rfb_session.proofs.WrittenLemmas.{rest_is, whole_beginning}
 use Rattle.rfb_session.proofs.PlayLemmas.{none_left}
 use Rattle.rfb_session.proofs.ServeLemmas.{begun_behind}
 use Rattle.rfb_session.proofs.EngineRunLemmas.{only_one}
-use Rattle.rfb_session.proofs.ViewLemmas.{turn_none, turn_then, until_some}
+use Rattle.rfb_session.proofs.ViewLemmas.{turn_none, turn_then, until_some, kept_as}
 
 -- where updates are looked for, none of a run's requests is due
 open_turn : (old now : Viewer) (fed sent : List ℕ) (n fewer : ℕ) → 0 < fewer →
@@ -119,7 +119,7 @@ looking_stops old bytes rest left mid before w after blank k copied last fb fm f
   kept = (
     stops.kept.0,
     Appends-trans blank k stops.kept.0 was.fed stops.fed was.looks.kept stops.kept.1,
-    stops.kept.2,
+    subst (λ (n : ℕ). KeepsLast stops.kept.0 copied stops.slice n failed) same stops.kept.2,
   );
   ends = stops.ends;
 }
@@ -282,10 +282,11 @@ pub looking_fails : (unread mid left before w after blank k copied : Option (Lis
     (reads asked still : ℕ) (last : Viewer) (bytes : List ℕ)
     (failing failed all_failing all_failed : ℕ) (fault : EngineFault) (new : Viewer) →
     ViewedSoFar unread mid before w blank k old reads asked still last → Consumes mid left bytes →
+    (failed ≡ failing → all_failed ≡ all_failing) →
     (failed ≡ failing + 1 → all_failed ≡ all_failing + 1) →
     StopsLooking last bytes w after k copied failing failed fault new →
     StopsViewing unread left before after blank copied all_failing all_failed old asked fault new
-looking_fails unread mid left before w after blank k copied old reads asked still last bytes fb failed fa af (ViewerEnded fault) new was more counted stops = record {
+looking_fails unread mid left before w after blank k copied old reads asked still last bytes fb failed fa af (ViewerEnded fault) new was more same counted stops = record {
   fed = was.fed ++ stops.fed;
   slice = stops.slice;
   sent = was.looks.sent ++ stops.sent;
@@ -300,11 +301,11 @@ looking_fails unread mid left before w after blank k copied old reads asked stil
   kept = (
     stops.kept.0,
     Appends-trans blank k stops.kept.0 was.fed stops.fed was.looks.kept stops.kept.1,
-    stops.kept.2,
+    kept_as stops.kept.0 copied stops.slice fb failed fa af same counted stops.kept.2,
   );
   ends = stops.ends;
 }
-looking_fails unread mid left before w after blank k copied old reads asked still last bytes fb failed fa af Device new was more counted stops =
+looking_fails unread mid left before w after blank k copied old reads asked still last bytes fb failed fa af Device new was more same counted stops =
     let cut = stops.1 in (
       counted stops.0,
       record {
@@ -322,9 +323,9 @@ looking_fails unread mid left before w after blank k copied old reads asked stil
         kept = begun_behind blank k copied was.fed cut.fed was.looks.kept cut.kept;
       },
     )
-looking_fails unread mid left before w after blank k copied old reads asked still last bytes fb failed fa af (ServerEnded fault) new was more counted stops = absurd stops
-looking_fails unread mid left before w after blank k copied old reads asked still last bytes fb failed fa af Truncated new was more counted stops = absurd stops
-looking_fails unread mid left before w after blank k copied old reads asked still last bytes fb failed fa af EngineNoMemory new was more counted stops = absurd stops
+looking_fails unread mid left before w after blank k copied old reads asked still last bytes fb failed fa af (ServerEnded fault) new was more same counted stops = absurd stops
+looking_fails unread mid left before w after blank k copied old reads asked still last bytes fb failed fa af Truncated new was more same counted stops = absurd stops
+looking_fails unread mid left before w after blank k copied old reads asked still last bytes fb failed fa af EngineNoMemory new was more same counted stops = absurd stops
 
 -- counts that are others
 pub stops_as : (unread left before after blank copied : Option (List ℕ)) (old : Viewer)

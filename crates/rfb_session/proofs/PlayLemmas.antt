@@ -10,6 +10,7 @@ use Rattle.rfb_viewer.specs.declared.viewer.Viewer.{Viewer}
 use Rattle.rfb_viewer.specs.Told.{seen}
 use Rattle.rfb_viewer.specs.Viewer.{Viewing, viewer, AsksMemory}
 use Rattle.rfb_viewer.specs.Standing.{StandsFor, fault_of}
+use Rattle.rfb_viewer.specs.Failing.{KeepsPicture, KeepsReason}
 use Rattle.rfb_session.specs.InFlight.{viewer_reply}
 use Rattle.rfb_session.specs.Watching.{viewer_driven, ViewerRuns, EndsWithin, IsWatched, ends_told}
 use Rattle.rfb_session.specs.Playing.{most, Played, AllPlayed, PlayedUntil}
@@ -84,8 +85,9 @@ pub watched_until : (old : Viewer) (bytes : List ℕ) (before : ℕ) (rest : Lis
     fault_of new ≡ Some fault →
     (fault ≢ NoMemory → (viewing : Viewing) → RefusedBy (viewer viewing) (StandsFor viewing) last rest fault) →
     (fault ≡ NoMemory → (viewing : Viewing) → RunsOutBy (viewer viewing) (AsksMemory viewing) (StandsFor viewing) last rest) →
-    EndsWithin old bytes fault new
-watched_until old bytes before rest told last fault new was fails refused starved = record {
+    (fault_of last ≡ None → KeepsPicture fault last rest new) →
+    (fault_of last ≡ None → KeepsReason fault last rest new) → EndsWithin old bytes fault new
+watched_until old bytes before rest told last fault new was fails refused starved picture reason = record {
   fed = was.fed;
   slice = rest;
   sent = was.sent;
@@ -93,7 +95,13 @@ watched_until old bytes before rest told last fault new was fails refused starve
   last = last;
   bytes_are = was.bytes_are;
   runs = was.runs;
-  ends = record { fails = fails; refused = refused; starved = starved };
+  ends = record {
+    fails = fails;
+    refused = refused;
+    starved = starved;
+    picture = picture;
+    reason = reason;
+  };
 }
 
 -- ---- all reads

@@ -11,7 +11,7 @@ use Rattle.rfb_session.specs.ServeEngine.{server_driven, ServerRuns, RunsToIdle,
 use Rattle.rfb_session.proofs.WrittenLemmas.{whole_beginning}
 use Rattle.rfb_session.proofs.PlayLemmas.{none_left}
 use Rattle.rfb_session.proofs.EngineRunLemmas.{none_more, joined, ran_none}
-use Rattle.rfb_session.proofs.ServeLemmas.{begun_behind}
+use Rattle.rfb_session.proofs.ServeLemmas.{begun_behind, hears_runs, composed_runs, kept_runs}
 
 -- ---- all reads
 
@@ -89,7 +89,7 @@ heard_behind old last new fed sent bytes n before after one h =
     subst (λ (k : ℕ). RunsFromIdle old (fed ++ bytes) (sent ++ h.sent) k new) (sym (none_more n))
     (idle_then old last new fed sent bytes h.sent n 0 one h.runs)
 
-goes_on : (n m told now : ℕ) → told ≡ min n (2 ^ 64 - 1) → now ≡ min (told + m) (2 ^ 64 - 1) →
+pub goes_on : (n m told now : ℕ) → told ≡ min n (2 ^ 64 - 1) → now ≡ min (told + m) (2 ^ 64 - 1) →
     now ≡ min (n + m) (2 ^ 64 - 1)
 goes_on n m told now was is = omega (arith, was, is)
 
@@ -164,7 +164,7 @@ serving_unread unread mid left before after old reads told now was kept = record
 behind : (fed bytes more later : List ℕ) → bytes ≡ more ++ later → fed ++ bytes ≡ (fed ++ more) ++ later
 behind fed bytes more later is = ap (λ (l : List ℕ). fed ++ l) is ∙ sym (append_assoc fed more later)
 
-one_of_two : (r s w x v : ℕ) → s ≡ r → w ≡ v → x ≡ w + 1 → s + x ≡ r + v + 1
+pub one_of_two : (r s w x v : ℕ) → s ≡ r → w ≡ v → x ≡ w + 1 → s + x ≡ r + v + 1
 one_of_two r s w x v a b c = omega (arith, a, b, c)
 
 -- it stopped within a read
@@ -181,7 +181,8 @@ hearing_fails unread mid left before w after old reads told last bytes fr fs st 
   last = stops.last;
   read = subst (λ (l : List ℕ). Consumes unread left l) (behind was.fed bytes stops.fed stops.slice stops.bytes_are)
       (Consumes-trans unread mid left was.fed bytes was.read more);
-  runs = idle_then old last stops.last was.fed was.sent stops.fed stops.sent was.updates 0 was.runs stops.runs;
+  runs = idle_then old last stops.last was.fed was.sent stops.fed stops.sent was.updates 0 was.runs
+      (hears_runs last stops.last stops.fed stops.sent stops.hears);
   wrote = Appends-trans before w after was.sent stops.sent was.wrote stops.wrote;
   ends = stops.ends;
 }
@@ -195,7 +196,8 @@ hearing_fails unread mid left before w after old reads told last bytes fr fs st 
         updates = was.updates + 0;
         read = subst (λ (l : List ℕ). Consumes unread left l) (behind was.fed bytes cut.fed cut.later cut.bytes_are)
             (Consumes-trans unread mid left was.fed bytes was.read more);
-        runs = idle_then old last new was.fed was.sent cut.fed cut.sent was.updates 0 was.runs cut.runs;
+        runs = idle_then old last new was.fed was.sent cut.fed cut.sent was.updates 0 was.runs
+            (hears_runs last new cut.fed cut.sent cut.hears);
         wrote = begun_behind before w after was.sent cut.sent was.wrote cut.wrote;
       },
     )
@@ -219,7 +221,8 @@ updating_fails unread mid left before w x after old reads told last heard bytes 
     read = subst (λ (l : List ℕ). Consumes unread left l) (sym (append-nil (was.fed ++ bytes)))
         (Consumes-trans unread mid left was.fed bytes was.read more);
     runs = from_idle_then old heard new (was.fed ++ bytes) (was.sent ++ h.sent) stops.1 was.updates 1
-        (heard_behind old last heard was.fed was.sent bytes was.updates w x was.runs h) stops.2;
+        (heard_behind old last heard was.fed was.sent bytes was.updates w x was.runs h)
+        (composed_runs heard new [] stops.1 stops.2 refl);
     wrote = begun_behind before x after (was.sent ++ h.sent) stops.1
         (Appends-trans before w x was.sent h.sent was.wrote h.wrote) stops.3;
   },
@@ -232,10 +235,11 @@ updating_fails unread mid left before w x after old reads told last heard bytes 
   read = subst (λ (l : List ℕ). Consumes unread left l) (sym (append-nil (was.fed ++ bytes)))
       (Consumes-trans unread mid left was.fed bytes was.read more);
   runs = from_idle_then old heard new (was.fed ++ bytes) (was.sent ++ h.sent) [] was.updates 0
-      (heard_behind old last heard was.fed was.sent bytes was.updates w x was.runs h) stops.0;
+      (heard_behind old last heard was.fed was.sent bytes was.updates w x was.runs h)
+      (kept_runs heard new stops.1);
   wrote = whole_beginning before after ((was.sent ++ h.sent) ++ [])
       (Appends-trans before x after (was.sent ++ h.sent) []
-      (Appends-trans before w x was.sent h.sent was.wrote h.wrote) stops.1);
+      (Appends-trans before w x was.sent h.sent was.wrote h.wrote) stops.2);
 }
 updating_fails unread mid left before w x after old reads told last heard bytes fr fs st fm failed (ServerEnded fault) new was more h same none stops = absurd stops
 updating_fails unread mid left before w x after old reads told last heard bytes fr fs st fm failed (ViewerEnded fault) new was more h same none stops = absurd stops

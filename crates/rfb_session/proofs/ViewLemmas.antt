@@ -1,5 +1,5 @@
 -- What an engine does with a viewer that it asks for updates, call by call.
-use Rattle.std.proofs.Common.{◌≡◌, ℕ, zero, suc, ◌+◌, ◌<◌, Bool, true, List, [], ◌∷◌, ◌++◌, Option, Some, None, IfSome, Result, Ok, Err, OnOk, OnErr, take, drop, refl, sym, ap, ◌∙◌, subst, append-nil, take-append-drop, arith}
+use Rattle.std.proofs.Common.{◌≡◌, ℕ, zero, suc, ◌+◌, ◌<◌, Bool, true, List, [], ◌∷◌, ◌++◌, Option, Some, None, IfSome, Result, Ok, Err, OnOk, OnErr, take, drop, refl, sym, ap, ◌∙◌, subst, append-nil, take-append-drop, inl, inr, arith}
 use Rattle.std.specs.Io.KnownBytes.{Appends}
 use Rattle.std.proofs.KnownBytes.{Appends-trans}
 use Rattle.rfb_pixel.specs.declared.colour.Colour.{Colour}
@@ -17,7 +17,7 @@ use Rattle.rfb_session.specs.Devices.{AppendsBeginning}
 use Rattle.rfb_session.specs.InFlight.{viewer_reply}
 use Rattle.rfb_session.specs.EngineRun.{Step, Fed, Did}
 use Rattle.rfb_session.specs.Watching.{ViewerAct, Asked, PassedOver, whole_area, viewer_driven, ends_told, WasFed}
-use Rattle.rfb_session.specs.ViewEngine.{due_behind, due, AsksInTurn, RunsInTurn}
+use Rattle.rfb_session.specs.ViewEngine.{due_behind, due, AsksInTurn, RunsInTurn, KeepsLast}
 use Rattle.rfb_session.specs.Looking.{AsksForScreen, HasAsked, IsCutInAsking, due_until, IsAnswered, IsCutInAnswer, Looks, IsLookCutOff}
 use Rattle.rfb_session.proofs.WrittenLemmas.{whole_beginning, no_beginning}
 use Rattle.rfb_session.proofs.EngineRunLemmas.{joined, only_one}
@@ -309,8 +309,25 @@ call_unkept old mid bytes used event before blank copied fed kept = record {
   kept = kept;
 }
 
-pub begun_anyway : {A E : Type 0} (r : Result A E) (old new : Option (List ℕ)) (bytes : List ℕ) →
-    OnOk r (Appends old new bytes) → OnErr r (AppendsBeginning old new bytes) →
-    AppendsBeginning old new bytes
-begun_anyway (Ok a) old new bytes done stopped = whole_beginning old new bytes done
-begun_anyway (Err e) old new bytes done stopped = stopped
+same_sum : (w a b : ℕ) → b ≡ a → w + b ≡ w + a
+same_sum w a b is = omega (arith, is)
+
+one_more_sum : (w a b : ℕ) → b ≡ a + 1 → w + b ≡ w + a + 1
+one_more_sum w a b is = omega (arith, is)
+
+-- the bytes that a viewer ended at, beside another writer that has failed so often
+pub kept_last : {A E : Type 0} (r : Result A E) (old new : Option (List ℕ)) (bytes : List ℕ)
+    (others failing failed : ℕ) → OnOk r (Appends old new bytes) → OnErr r (AppendsBeginning old new bytes) →
+    OnOk r (failed ≡ failing) → OnErr r (failed ≡ failing + 1) →
+    KeepsLast old new bytes (others + failing) (others + failed)
+kept_last (Ok a) old new bytes others failing failed done stopped none one =
+    inl (same_sum others failing failed none, done)
+kept_last (Err e) old new bytes others failing failed done stopped none one =
+    inr (one_more_sum others failing failed one, stopped)
+
+-- the same by other counts
+pub kept_as : (mid copied : Option (List ℕ)) (slice : List ℕ) (failing failed all_failing all_failed : ℕ) →
+    (failed ≡ failing → all_failed ≡ all_failing) → (failed ≡ failing + 1 → all_failed ≡ all_failing + 1) →
+    KeepsLast mid copied slice failing failed → KeepsLast mid copied slice all_failing all_failed
+kept_as mid copied slice failing failed fa af none one (inl (same, kept)) = inl (none same, kept)
+kept_as mid copied slice failing failed fa af none one (inr (more, begun)) = inr (one more, begun)

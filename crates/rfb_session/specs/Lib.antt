@@ -14,8 +14,10 @@ pub mod Pixmap
 pub mod EngineRun
 pub mod Watching
 pub mod Playing
+pub mod Verdict
 pub mod PlayingSome
 pub mod ServeEngine
+pub mod Turns
 pub mod ViewEngine
 pub mod Looking
 pub mod inside

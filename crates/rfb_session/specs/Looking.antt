@@ -92,7 +92,7 @@ pub record IsLookCutOff (old : Viewer) (bytes : List ℕ)
 
 -- some were fed, all answers were written, and the viewer ended at the others
 pub record IsLookEnded (old : Viewer) (bytes : List ℕ)
-    (before after blank copied : Option (List ℕ)) (fault : ViewerFault)
+    (before after blank copied : Option (List ℕ)) (failing failed : ℕ) (fault : ViewerFault)
     (new : Viewer) : Type 0 where
   pub fed : List ℕ
   pub slice : List ℕ
@@ -102,7 +102,7 @@ pub record IsLookEnded (old : Viewer) (bytes : List ℕ)
   pub bytes_are : bytes ≡ fed ++ slice
   pub runs : RunsInTurn old fed sent updates None last
   pub wrote : Appends before after sent
-  pub kept : KeepsUntil blank copied fed slice
+  pub kept : KeepsUntil blank copied fed slice failing failed
   pub ends : EndsBy fault last slice new
 
 abbrev pub StopsLooking : Viewer → List ℕ → Option (List ℕ) → Option (List ℕ) → Option (List ℕ) →
@@ -110,7 +110,7 @@ abbrev pub StopsLooking : Viewer → List ℕ → Option (List ℕ) → Option (
 StopsLooking old bytes before after blank copied failing failed Device new =
     (failed ≡ failing + 1) × IsLookCutOff old bytes before after blank copied new
 StopsLooking old bytes before after blank copied failing failed (ViewerEnded fault) new =
-    IsLookEnded old bytes before after blank copied fault new
+    IsLookEnded old bytes before after blank copied failing failed fault new
 StopsLooking old bytes before after blank copied failing failed (Server fault) new = ⊥
 StopsLooking old bytes before after blank copied failing failed Truncated new = ⊥
 StopsLooking old bytes before after blank copied failing failed NoMemory new = ⊥

@@ -1,6 +1,6 @@
 -- What an engine did with a server: bytes that it was fed, updates that it composed, and screens
 -- that it was given.
-use Rattle.std.specs.Prelude.{◌≡◌, ◌≢◌, ℕ, ◌<◌, ◌+◌, ◌-◌, ◌^◌, Bool, false, List, [], ◌++◌, length, Option, Some}
+use Rattle.std.specs.Prelude.{◌≡◌, ◌≢◌, ℕ, ◌<◌, ◌+◌, ◌-◌, ◌^◌, Bool, false, List, [], ◌∷◌, ◌++◌, length, Option, Some, ⊤}
 use Rattle.std.specs.Io.KnownBytes.{Appends, Consumes, IsAtEnd}
 use Rattle.rfb_pixel.specs.declared.colour.Colour.{Colour}
 use Rattle.rfb_picture.specs.Grid.{Grid}
@@ -12,8 +12,9 @@ use Rattle.rfb_server.specs.declared.server.Server.{Server}
 use Rattle.rfb_server.specs.ClientBytes.{ClientAt, FromClient, is_between}
 use Rattle.rfb_server.specs.Told.{ServerTold}
 use Rattle.rfb_server.specs.Server.{Serving, ServerState, server, AsksMemory}
-use Rattle.rfb_server.specs.Standing.{StandsFor, with_screen, fault_of}
+use Rattle.rfb_server.specs.Standing.{StandsFor, Keeps as KeepsAll, with_screen, fault_of}
 use Rattle.rfb_server.specs.Composing.{Part, Composes, IsDue}
+use Rattle.rfb_server.specs.Updating.{Updates, WasDue}
 use Rattle.rfb_session.specs.declared.engine.fault.EngineFault.{EngineFault}
 use Rattle.rfb_session.specs.declared.engine.fault.EngineFault.TheVariants.{Server as ServerEnded, Viewer, Truncated, Device, NoMemory}
 use Rattle.rfb_session.specs.Devices.{AppendsBeginning}
@@ -96,6 +97,18 @@ ServerBetween now between =
 
 -- ---- one read
 
+-- steps of which each feeds
+abbrev pub AreFed : List (Step ServerTold ServerAct) → Type 0
+AreFed [] = ⊤
+AreFed (Fed bytes event ∷ before) = AreFed before
+AreFed (Did act ∷ before) = ⊥
+
+-- it was fed these bytes, and nothing else was done; those are sent, and it became that one
+abbrev pub Hears : Server → List ℕ → List ℕ → Server → Type 0
+Hears old bytes sent new =
+    (serving : Serving) (s : ServerState) (prefix : List ℕ) → StandsFor serving old s prefix →
+    (r : Ran server_driven serving s prefix new bytes sent 0) × AreFed r.steps
+
 -- all of its bytes were fed, and all answers were written
 pub record IsHeard (old : Server) (bytes : List ℕ) (before after : Option (List ℕ))
     (new : Server) : Type 0 where
@@ -110,7 +123,7 @@ pub record IsCutOff (old : Server) (bytes : List ℕ) (before after : Option (Li
   pub later : List ℕ
   pub sent : List ℕ
   pub bytes_are : bytes ≡ fed ++ later
-  pub runs : ServerRuns old fed sent 0 new
+  pub hears : Hears old fed sent new
   pub wrote : AppendsBeginning before after sent
 
 -- some of them were fed, all answers were written, and the server ended at the others
@@ -121,7 +134,7 @@ pub record IsEnded (old : Server) (bytes : List ℕ) (before after : Option (Lis
   pub sent : List ℕ
   pub last : Server
   pub bytes_are : bytes ≡ fed ++ slice
-  pub runs : ServerRuns old fed sent 0 last
+  pub hears : Hears old fed sent last
   pub wrote : Appends before after sent
   pub ends : ServerEndsBy fault last slice new
 
@@ -142,14 +155,15 @@ pub record IsUpdated (old : Server) (before after : Option (List ℕ)) (updates 
   pub runs : RunsToIdle old [] sent updates new
   pub wrote : Appends before after sent
 
--- one was composed and not written whole; or there was no memory for one, and nothing has changed
+-- one was composed and not written whole; or one was due and there was no memory for it, and
+-- nothing has changed
 abbrev pub StopsUpdating : Server → Option (List ℕ) → Option (List ℕ) → ℕ → ℕ → EngineFault →
     Server → Type 0
 StopsUpdating old before after failed_before failed Device new =
-    (failed ≡ failed_before + 1) × (sent : List ℕ) × ServerRuns old [] sent 1 new
+    (failed ≡ failed_before + 1) × (sent : List ℕ) × Updates old new [] sent
     × AppendsBeginning before after sent
 StopsUpdating old before after failed_before failed NoMemory new =
-    ServerRuns old [] [] 0 new × Appends before after []
+    WasDue old × KeepsAll old new × Appends before after []
 StopsUpdating old before after failed_before failed (ServerEnded fault) new = ⊥
 StopsUpdating old before after failed_before failed (Viewer fault) new = ⊥
 StopsUpdating old before after failed_before failed Truncated new = ⊥

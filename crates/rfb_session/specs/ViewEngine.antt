@@ -1,6 +1,6 @@
 -- What an engine did with a viewer that it asks for updates: bytes that it was fed, and requests in
 -- turn with them.
-use Rattle.std.specs.Prelude.{◌≡◌, ℕ, ◌<◌, ◌+◌, ◌-◌, ◌^◌, Bool, true, false, List, [], ◌∷◌, ◌++◌, length, Option, Some, None, ⊤}
+use Rattle.std.specs.Prelude.{◌≡◌, ℕ, ◌<◌, ◌+◌, ◌-◌, ◌^◌, Bool, true, false, List, [], ◌∷◌, ◌++◌, length, Option, Some, None, ⊤, ◌⊎◌}
 use Rattle.std.specs.Io.KnownBytes.{Appends, Consumes, IsAtEnd}
 use Rattle.rfb_viewer.specs.declared.fault.ViewerFault.{ViewerFault}
 use Rattle.rfb_viewer.specs.declared.viewer.Viewer.{Viewer}
@@ -92,15 +92,22 @@ pub record ViewedSome (unread left before after blank copied : Option (List ℕ)
   pub wrote : AppendsBeginning before after sent
   pub kept : AppendsBeginning blank copied fed
 
--- all that it was fed was kept, and a beginning of the bytes that it ended at
-abbrev pub KeepsUntil : Option (List ℕ) → Option (List ℕ) → List ℕ → List ℕ → Type 0
-KeepsUntil blank copied fed slice =
-    (mid : Option (List ℕ)) × Appends blank mid fed × AppendsBeginning mid copied slice
+-- the bytes that it ended at were kept, all of them; or a beginning, where a write of them failed,
+-- which was counted
+abbrev pub KeepsLast : Option (List ℕ) → Option (List ℕ) → List ℕ → ℕ → ℕ → Type 0
+KeepsLast mid copied slice failing failed =
+    ((failed ≡ failing) × Appends mid copied slice)
+    ⊎ ((failed ≡ failing + 1) × AppendsBeginning mid copied slice)
+
+-- all that it was fed was kept, and then those
+abbrev pub KeepsUntil : Option (List ℕ) → Option (List ℕ) → List ℕ → List ℕ → ℕ → ℕ → Type 0
+KeepsUntil blank copied fed slice failing failed =
+    (mid : Option (List ℕ)) × Appends blank mid fed × KeepsLast mid copied slice failing failed
 
 -- it was fed the first bytes of what was read, all that is sent was written, and it ended at the
 -- next
-pub record ViewedUntil (unread left before after blank copied : Option (List ℕ)) (old : Viewer)
-    (fault : ViewerFault) (new : Viewer) : Type 0 where
+pub record ViewedUntil (unread left before after blank copied : Option (List ℕ))
+    (failing failed : ℕ) (old : Viewer) (fault : ViewerFault) (new : Viewer) : Type 0 where
   pub fed : List ℕ
   pub slice : List ℕ
   pub sent : List ℕ
@@ -109,7 +116,7 @@ pub record ViewedUntil (unread left before after blank copied : Option (List ℕ
   pub read : Consumes unread left (fed ++ slice)
   pub runs : RunsInTurn old fed sent updates None last
   pub wrote : Appends before after sent
-  pub kept : KeepsUntil blank copied fed slice
+  pub kept : KeepsUntil blank copied fed slice failing failed
   pub ends : EndsBy fault last slice new
 
 -- the bytes ended before so many updates had; a read or a write failed, which was counted; or the
@@ -122,6 +129,6 @@ StopsViewing unread left before after blank copied failing failed old updates De
     (failed ≡ failing + 1) × ViewedSome unread left before after blank copied old new
 StopsViewing unread left before after blank copied failing failed old updates
     (ViewerEnded fault) new =
-    ViewedUntil unread left before after blank copied old fault new
+    ViewedUntil unread left before after blank copied failing failed old fault new
 StopsViewing unread left before after blank copied failing failed old updates (Server fault) new = ⊥
 StopsViewing unread left before after blank copied failing failed old updates NoMemory new = ⊥

@@ -12,6 +12,7 @@ use Rattle.rfb_viewer.specs.ServerBytes.{ServerAt, FromServer, is_between}
 use Rattle.rfb_viewer.specs.Told.{ViewerTold, Reply, Ready, UpdateDone, Bell, CutText, ColourMapSkipped}
 use Rattle.rfb_viewer.specs.Viewer.{Viewing, ViewerState, viewer, AsksMemory}
 use Rattle.rfb_viewer.specs.Standing.{StandsFor, fault_of}
+use Rattle.rfb_viewer.specs.Failing.{KeepsPicture, KeepsReason}
 use Rattle.rfb_viewer.specs.Calls.{request_refusal, requested}
 use Rattle.rfb_viewer.specs.Messages.{request_message}
 use Rattle.rfb_session.specs.InFlight.{viewer_reply}
@@ -74,7 +75,8 @@ abbrev pub WasFed : Viewer → List ℕ → Option ViewerTold → Viewer → Typ
 WasFed first bytes event old =
     (viewing : Viewing) → FedBy (viewer viewing) (StandsFor viewing) first bytes event old
 
--- it ended at these bytes: by a fault of theirs, or because it asked for memory there
+-- it ended at these bytes: by a fault of theirs, or because it asked for memory there. It shows what
+-- came before, and keeps the reason that the server gave
 pub record EndsBy (fault : ViewerFault) (old : Viewer) (slice : List ℕ)
     (new : Viewer) : Type 0 where
   pub fails : fault_of new ≡ Some fault
@@ -82,6 +84,8 @@ pub record EndsBy (fault : ViewerFault) (old : Viewer) (slice : List ℕ)
       RefusedBy (viewer viewing) (StandsFor viewing) old slice fault
   pub starved : fault ≡ NoMemory → (viewing : Viewing) →
       RunsOutBy (viewer viewing) (AsksMemory viewing) (StandsFor viewing) old slice
+  pub picture : fault_of old ≡ None → KeepsPicture fault old slice new
+  pub reason : fault_of old ≡ None → KeepsReason fault old slice new
 
 -- a run over the first of some bytes, and then the viewer ended at those behind them
 pub record EndsWithin (old : Viewer) (bytes : List ℕ) (fault : ViewerFault)

@@ -6,6 +6,8 @@ use Rattle.rfb_picture.specs.Grid.{Grid}
 use Rattle.rfb_server.specs.declared.fault.ServerFault.{ServerFault}
 use Rattle.rfb_server.specs.declared.fault.ServerFault.TheVariants.{NoMemory as ServerWants}
 use Rattle.rfb_server.specs.declared.server.Server.{Server}
+use Rattle.rfb_server.specs.declared.hint.Hint.{Hint as ServerHint}
+use Rattle.rfb_server.specs.Hints.{hints_of, with_hint}
 use Rattle.rfb_server.specs.Server.{first_server}
 use Rattle.rfb_server.specs.Composing.{IsDue}
 use Rattle.rfb_server.specs.Standing.{StandsFor as ServerStandsFor, with_screen, screen_of}
@@ -102,6 +104,20 @@ LosesAs old (ToViewer count) told new =
     (fault : ViewerFault) → viewer_fault old ≡ Some fault →
     (told.moved ≡ min (length old.to_viewer) count) × LosesToViewer old told.moved new
 LosesAs old event told new = Unit {0}
+
+-- the hints that its server keeps
+abbrev pub hints_in : World → List ServerHint
+hints_in world = hints_of world.server
+
+-- a hint that is not refused reaches the server as it was given, once; a drawing changes none
+abbrev pub HintsAs : World → Event → Told → World → Type 0
+HintsAs old (Hint rect sx sy) told new =
+    told.refused ≡ None → hints_in new
+    ≡ with_hint (record { to = rect; sx = sx; sy = sy }) (hints_in old)
+HintsAs old (Fill rect colour) told new = hints_in new ≡ hints_in old
+HintsAs old (Put x y row) told new = hints_in new ≡ hints_in old
+HintsAs old (Copy rect sx sy) told new = hints_in new ≡ hints_in old
+HintsAs old event told new = Unit {0}
 
 -- a text has at most 1,048,576 bytes
 abbrev pub HasFewBytes : Event → Type 0

@@ -44,7 +44,7 @@ impl World {
     ghost use Rattle.rfb_session.specs.World.{StandsFor, AreFresh, first_network};
     ghost use Rattle.rfb_session.specs.World.{is_closed, shown_by};
     ghost use Rattle.rfb_session.specs.Network.{Network};
-    ghost use Rattle.rfb_session.specs.World.{Does, LosesAs, HasFewBytes, IsDrawing};
+    ghost use Rattle.rfb_session.specs.World.{Does, LosesAs, HintsAs, HasFewBytes, IsDrawing};
     ghost use Rattle.rfb_session.specs.World.{IsRefused, IsLost, ComposesNothing};
     ghost use Rattle.rfb_session.specs.World.{Reaches, NeitherFailed};
     ghost use Rattle.rfb_session.specs.Headline.{IsHeadline, ShowsKnown, ShowsLatest, due_picture};
@@ -88,6 +88,7 @@ impl World {
         ensures does { IfOk result (λ told. Does self.old event.now told self.new) }
         ensures kept { IfOk result (λ told. told.refused ≢ None → self.new ≡ self.old) }
         ensures lost { IfOk result (λ told. LosesAs self.old event.now told self.new) }
+        ensures hints { IfOk result (λ told. HintsAs self.old event.now told self.new) }
 
         // A drawing, a hint, what is refused, bytes that are lost and a composing where no update
         // is due take no memory.
@@ -156,6 +157,7 @@ impl World {
         ensures does { IfOk result (λ told. Does self.old event.now told self.new) }
         ensures kept { IfOk result (λ told. told.refused ≢ None → self.new ≡ self.old) }
         ensures lost { IfOk result (λ told. LosesAs self.old event.now told self.new) }
+        ensures hints { IfOk result (λ told. HintsAs self.old event.now told self.new) }
         ensures free { IsDrawing event.now → IsOk result }
         ensures spared { IsRefused self.old event.now → IsOk result }
         ensures dropped { IsLost self.old event.now → IsOk result }

@@ -2,6 +2,7 @@
 
 ghost use Rattle.std.specs.Prelude.{◌≡◌, ◌<◌, ◌+◌, ◌-◌, ◌^◌, min, true, IfOk, IfErr, OnOk};
 ghost use Rattle.rfb_session.specs.Playing.{AllPlayed, StopsPlaying};
+ghost use Rattle.rfb_session.specs.Verdict.{JudgesAll};
 ghost use Rattle.rfb_session.specs.Watching.{EndsWithin, IsWatched, StandsBetween, ends_told};
 ghost use Rattle.rfb_viewer.specs.Told.{seen};
 
@@ -23,8 +24,14 @@ pub fn play<R: Source>(source: &mut R, viewer: &mut Viewer) -> Result<u64, Engin
     ensures stopped { IfErr result (λ fault. StopsPlaying
         (R.unread source.old) (R.unread source.new) (R.failed source.old) (R.failed source.new)
         viewer.old fault viewer.new) }
+    // All of the bytes are answered by their verdict.
+    ensures verdict { JudgesAll (R.unread source.old) (R.failed source.old) (R.failed source.new)
+        viewer.old result viewer.new }
 {
-    let updates = feed_all(source, viewer)?;
+    let updates = match feed_all(source, viewer) {
+        Ok(updates) => updates,
+        Err(fault) => return Err(fault),
+    };
     if !viewer.between() {
         return Err(EngineFault::Truncated);
     }

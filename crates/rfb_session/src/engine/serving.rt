@@ -1,8 +1,11 @@
 //! A server run over a reader and a writer.
 
-ghost use Rattle.std.specs.Prelude.{◌≡◌, ◌<◌, ◌+◌, ◌-◌, ◌^◌, ◌≤◌, [], length, take, true, false, IfOk, IfErr, OnOk};
-ghost use Rattle.rfb_session.specs.ServeEngine.{AllServed, GoesOn, IsHeard, IsUpdated, ServerBetween};
+ghost use Rattle.std.specs.Prelude.{◌≡◌, ◌<◌, ◌+◌, ◌-◌, ◌^◌, ◌≤◌, [], length, take, true, false, None};
+ghost use Rattle.std.specs.Prelude.{IfOk, IfErr, IfSome, OnOk, OnErr};
+ghost use Rattle.rfb_session.specs.ServeEngine.{AllServed, GoesOn, ServerBetween};
 ghost use Rattle.rfb_session.specs.ServeEngine.{StopsHearing, StopsServing, StopsUpdating};
+ghost use Rattle.rfb_session.specs.Turns.{GreetsAndTurns, StopsByTurns, StopsInTurn, TakesTurns};
+ghost use Rattle.rfb_session.specs.Turns.{EndsTurn, IsAnswered, StopsTurn, Turns, TurnsNoMore};
 
 use crate::engine::READ_SIZE;
 use crate::engine::device::{Sink, Source};
@@ -31,6 +34,9 @@ pub fn serve<R: Source, W: Sink, S: Scene>(
     ensures served { IfOk result (λ updates. GoesOn (λ front. AllServed
         (R.unread source.old) (R.unread source.new) (W.written sink.old) (W.written sink.new)
         front server.old updates server.new) server.old) }
+    ensures turns { IfOk result (λ updates. GreetsAndTurns S.shows
+        (R.unread source.old) (R.unread source.new) (W.written sink.old) (W.written sink.new)
+        server.old scene.old updates server.new scene.new) }
     ensures between { OnOk result (ServerBetween server.new true) }
     ensures none_failed { OnOk result ((R.failed source.new ≡ R.failed source.old)
         × (W.failed sink.new ≡ W.failed sink.old)) }
@@ -38,6 +44,10 @@ pub fn serve<R: Source, W: Sink, S: Scene>(
         (R.unread source.old) (R.unread source.new) (R.failed source.old) (R.failed source.new)
         (W.written sink.old) (W.written sink.new) (W.failed sink.old) (W.failed sink.new)
         front server.old fault server.new) server.old) }
+    ensures in_turn { IfErr result (λ fault. StopsByTurns S.shows
+        (R.unread source.old) (R.unread source.new) (R.failed source.old) (R.failed source.new)
+        (W.written sink.old) (W.written sink.new) (W.failed sink.old) (W.failed sink.new)
+        server.old scene.old fault server.new scene.new) }
 {
     let greeting = server.greeting();
     match send(&greeting, sink) {
@@ -69,40 +79,80 @@ fn serve_all<R: Source, W: Sink, S: Scene>(
     ensures served { IfOk result (λ updates. AllServed
         (R.unread source.old) (R.unread source.new) (W.written sink.old) (W.written sink.new)
         [] server.old updates server.new) }
+    ensures turns { IfOk result (λ updates. TakesTurns S.shows
+        (R.unread source.old) (R.unread source.new) (W.written sink.old) (W.written sink.new)
+        server.old scene.old updates server.new scene.new) }
     ensures none_failed { OnOk result ((R.failed source.new ≡ R.failed source.old)
         × (W.failed sink.new ≡ W.failed sink.old)) }
     ensures stopped { IfErr result (λ fault. StopsServing
         (R.unread source.old) (R.unread source.new) (R.failed source.old) (R.failed source.new)
         (W.written sink.old) (W.written sink.new) (W.failed sink.old) (W.failed sink.new)
         [] server.old fault server.new) }
+    ensures in_turn { IfErr result (λ fault. StopsInTurn S.shows
+        (R.unread source.old) (R.unread source.new) (R.failed source.old) (R.failed source.new)
+        (W.written sink.old) (W.written sink.new) (W.failed sink.old) (W.failed sink.new)
+        server.old scene.old fault server.new scene.new) }
 {
     let mut part = [0; READ_SIZE];
     let mut out = Vec::new(alloc);
     let mut updates: u64 = 0;
     for _turn in 0..u64::MAX {
-        let Ok(count) = source.read(&mut part) else {
-            return Err(EngineFault::Device);
-        };
-        if count == 0 {
-            return Ok(updates);
-        }
-        match hear(&part[..count], sink, server) {
-            Ok(()) => {}
-            Err(fault) => return Err(fault),
-        }
-        match update(&mut out, sink, server, scene) {
-            Ok(more) => updates = updates.saturating_add(more),
+        match turn(&mut part, &mut out, source, sink, server, scene) {
+            Ok(Some(more)) => updates = updates.saturating_add(more),
+            Ok(None) => return Ok(updates),
             Err(fault) => return Err(fault),
         }
     }
     Ok(updates)
 }
 
+// Reads once, has the server hear that, and updates; and tells how many updates there were, one or
+// none. All that this sends is written then. Where the source has ended, that is told.
+fn turn<R: Source, W: Sink, S: Scene>(
+    part: &mut [u8; READ_SIZE],
+    out: &mut Vec<u8>,
+    source: &mut R,
+    sink: &mut W,
+    server: &mut Server,
+    scene: &mut S,
+) -> Result<Option<u64>, EngineFault>
+    requires readable { R.failed source.old < 2 ^ 64 - 1 }
+    requires writable { W.failed sink.old < 2 ^ 64 - 1 }
+    ensures turned { IfOk result (λ turned. IfSome turned (λ updates. Turns S.shows
+        (R.unread source.old) (R.unread source.new) server.old scene.old
+        (W.written sink.old) (W.written sink.new) updates server.new scene.new)) }
+    ensures ended { IfOk result (λ turned. turned ≡ None → TurnsNoMore
+        (R.unread source.old) (R.unread source.new) server.old scene.old
+        (W.written sink.old) (W.written sink.new) server.new scene.new) }
+    ensures none_failed { OnOk result ((R.failed source.new ≡ R.failed source.old)
+        × (W.failed sink.new ≡ W.failed sink.old)) }
+    ensures stopped { IfErr result (λ fault. StopsTurn
+        (R.unread source.old) (R.unread source.new) (R.failed source.old) (R.failed source.new)
+        (W.written sink.old) (W.written sink.new) (W.failed sink.old) (W.failed sink.new)
+        server.old fault server.new) }
+    ensures undrawn { OnErr result (scene.new ≡ scene.old) }
+{
+    let Ok(count) = source.read(part) else {
+        return Err(EngineFault::Device);
+    };
+    if count == 0 {
+        return Ok(None);
+    }
+    match hear(&part[..count], sink, server) {
+        Ok(()) => {}
+        Err(fault) => return Err(fault),
+    }
+    match update(out, sink, server, scene) {
+        Ok(updates) => Ok(Some(updates)),
+        Err(fault) => Err(fault),
+    }
+}
+
 // Feeds a server all of these bytes, and writes each answer as it comes.
 fn hear<W: Sink>(bytes: &[u8], sink: &mut W, server: &mut Server) -> Result<(), EngineFault>
     requires countable { W.failed sink.old < 2 ^ 64 - 1 }
-    ensures heard { OnOk result
-        (IsHeard server.old bytes.now (W.written sink.old) (W.written sink.new) server.new) }
+    ensures answered { OnOk result
+        (IsAnswered server.old bytes.now (W.written sink.old) (W.written sink.new) server.new) }
     ensures none_failed { OnOk result (W.failed sink.new ≡ W.failed sink.old) }
     ensures stopped { IfErr result (λ fault. StopsHearing server.old bytes.now
         (W.written sink.old) (W.written sink.new) (W.failed sink.old) (W.failed sink.new)
@@ -124,7 +174,7 @@ fn hear_some<W: Sink>(bytes: &[u8], sink: &mut W, server: &mut Server) -> Result
     requires countable { W.failed sink.old < 2 ^ 64 - 1 }
     requires some { 0 < length bytes.now }
     ensures used { IfOk result (λ used. (0 < used) × (used ≤ length bytes.now)) }
-    ensures heard { IfOk result (λ used. IsHeard server.old (take used bytes.now)
+    ensures answered { IfOk result (λ used. IsAnswered server.old (take used bytes.now)
         (W.written sink.old) (W.written sink.new) server.new) }
     ensures none_failed { OnOk result (W.failed sink.new ≡ W.failed sink.old) }
     ensures stopped { IfErr result (λ fault. StopsHearing server.old bytes.now
@@ -149,12 +199,13 @@ fn update<W: Sink, S: Scene>(
     scene: &mut S,
 ) -> Result<u64, EngineFault>
     requires countable { W.failed sink.old < 2 ^ 64 - 1 }
-    ensures updated { IfOk result (λ updates. IsUpdated server.old
-        (W.written sink.old) (W.written sink.new) updates server.new) }
+    ensures updated { IfOk result (λ updates. EndsTurn S.shows server.old scene.old
+        (W.written sink.old) (W.written sink.new) updates server.new scene.new) }
     ensures none_failed { OnOk result (W.failed sink.new ≡ W.failed sink.old) }
     ensures stopped { IfErr result (λ fault. StopsUpdating server.old
         (W.written sink.old) (W.written sink.new) (W.failed sink.old) (W.failed sink.new)
         fault server.new) }
+    ensures undrawn { OnErr result (scene.new ≡ scene.old) }
 {
     out.clear();
     match server.compose(out) {

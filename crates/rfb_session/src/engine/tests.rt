@@ -6,6 +6,7 @@ mod playing;
 mod playing_some;
 mod serving;
 mod streams;
+mod turns;
 mod viewing;
 
 use rfb_hello::Version;

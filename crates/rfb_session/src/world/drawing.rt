@@ -11,11 +11,12 @@ use rfb_pixel::Colour;
 use rfb_server::Outside;
 
 impl World {
-    ghost use Rattle.rfb_session.specs.World.{Does};
+    ghost use Rattle.rfb_session.specs.World.{Does, HintsAs};
 
     // A rectangle of the screen gets one colour.
     pub(super) fn fill(&mut self, rect: Rect, colour: Colour) -> Told
         ensures does { Does self.old (Fill rect colour) result self.new }
+        ensures hints { HintsAs self.old (Fill rect colour) result self.new }
         ensures kept { result.refused ≢ None → self.new ≡ self.old }
     {
         told_of(self.server.fill(rect, colour))
@@ -24,6 +25,7 @@ impl World {
     // A part of a row gets these colours.
     pub(super) fn put(&mut self, x: u16, y: u16, row: &Vec<Colour>) -> Told
         ensures does { Does self.old (Put x y row.now) result self.new }
+        ensures hints { HintsAs self.old (Put x y row.now) result self.new }
         ensures kept { result.refused ≢ None → self.new ≡ self.old }
     {
         told_of(self.server.put(x, y, row))
@@ -32,6 +34,7 @@ impl World {
     // A rectangle gets what another one had.
     pub(super) fn copy(&mut self, rect: Rect, sx: u16, sy: u16) -> Told
         ensures does { Does self.old (Copy rect sx sy) result self.new }
+        ensures hints { HintsAs self.old (Copy rect sx sy) result self.new }
         ensures kept { result.refused ≢ None → self.new ≡ self.old }
     {
         told_of(self.server.copy(rect, sx, sy))
@@ -40,6 +43,7 @@ impl World {
     // A rectangle looks as another one did.
     pub(super) fn hint(&mut self, rect: Rect, sx: u16, sy: u16) -> Told
         ensures does { Does self.old (Hint rect sx sy) result self.new }
+        ensures hints { HintsAs self.old (Hint rect sx sy) result self.new }
         ensures kept { result.refused ≢ None → self.new ≡ self.old }
     {
         told_of(self.server.hint(rect, sx, sy))

@@ -1,7 +1,7 @@
 //! What a viewer lends and tells: its picture, the server's reason, and how far the bytes have
 //! come.
 
-ghost use Rattle.std.specs.Prelude.{◌≡◌, ◌≢◌, ◌≤◌, ℕ, List, [], false, None, option_copied};
+ghost use Rattle.std.specs.Prelude.{◌≡◌, ◌≢◌, ◌<◌, ℕ, List, [], false, None, option_copied};
 ghost use Rattle.rfb_viewer.specs.ServerBytes.{is_between, server_bytes_pending};
 ghost use Rattle.rfb_viewer.specs.Showing.{Shows};
 ghost use Rattle.rfb_viewer.specs.inside.Sound.{is_idle};
@@ -54,7 +54,7 @@ impl Viewer {
         ensures value { (viewing : Viewing) (s : ViewerState) (prefix : List ℕ)
             → StandsFor viewing self.now s prefix
             → result ≡ server_bytes_pending s.point prefix }
-        ensures few { result ≤ 1536 }
+        ensures few { result < 1536 }
         ensures failed { fault_of self.now ≢ None → result ≡ 0 }
     {
         match &self.progress {

@@ -1,5 +1,6 @@
 //! Readers and writers that are short, and that fail at a call.
 
+ghost use Rattle.std.specs.Prelude.{⊤};
 ghost use Rattle.rfb_codec.specs.Effect.{IsAlike};
 
 use crate::engine::Scene;
@@ -64,26 +65,29 @@ impl Write for Writer {
     }
 }
 
-// Makes both places (65535, 0, 4112).
+// Makes both places (65535, 0, 4112), then (0, 65535, 8224), and then black.
 #[derive(Drop)]
-pub struct Reddening;
+pub struct Recolouring {
+    pub drawings: u8,
+}
 
-impl Scene for Reddening {
+impl Scene for Recolouring {
+    ghost shows = { λ old before after new. ⊤ };
+
     fn draw(&mut self, server: &mut Server) {
+        let (r, g, b) = match self.drawings {
+            0 => (65_535, 0, 4112),
+            1 => (0, 65_535, 8224),
+            _ => (0, 0, 0),
+        };
+        self.drawings = self.drawings.saturating_add(1);
         let row = Rect {
             x: 0,
             y: 0,
             w: 2,
             h: 1,
         };
-        let _ = server.fill(
-            row,
-            Colour {
-                r: 65_535,
-                g: 0,
-                b: 4112,
-            },
-        );
+        let _ = server.fill(row, Colour { r, g, b });
     }
 }
 

@@ -16,7 +16,7 @@ fn recording(alloc: Global, behind: &[u8], count: usize) -> Result<Vec<u8>, Allo
 }
 
 // What is answered to a recording in rgb888, by reads of at most so many bytes.
-fn answer_to(alloc: Global, bytes: &[u8], most: usize) -> Result<u64, EngineFault> {
+pub(super) fn answer_to(alloc: Global, bytes: &[u8], most: usize) -> Result<u64, EngineFault> {
     let mut viewer = viewer_in(alloc, Format::rgb888());
     let mut source = Tally::new(Reader {
         bytes,

@@ -1,7 +1,7 @@
 //! A server that is run over memory.
 
-use super::devices::{Reader, Reddening, Then, Writer, steady_reader, steady_writer};
-use super::streams::{CLIENT, HANDSHAKE, NEXT_REQUEST, RED_UPDATE, UPDATE};
+use super::devices::{Reader, Recolouring, Then, Writer, steady_reader, steady_writer};
+use super::streams::{CLIENT, GREEN_UPDATE, HANDSHAKE, NEXT_REQUEST, RED_UPDATE, UPDATE};
 use super::{joined, server_of_two_places};
 use crate::engine::{EngineFault, Sink, Source, Tally, serve};
 use rfb_server::ServerFault;
@@ -20,7 +20,8 @@ fn serving(alloc: Global, reader: Reader<'_>, writer: Writer) -> Result<Served, 
     let mut server = server_of_two_places(alloc)?;
     let mut source = Tally::new(reader);
     let mut sink = Tally::new(writer);
-    let answer = serve(alloc, &mut source, &mut sink, &mut server, &mut Reddening);
+    let mut scene = Recolouring { drawings: 0 };
+    let answer = serve(alloc, &mut source, &mut sink, &mut server, &mut scene);
     let failures = (source.failures(), sink.failures());
     drop(server);
     Ok(Served {
@@ -176,10 +177,10 @@ fn a_client_may_end_between_two_messages_alone(rt: HostRuntime) -> Result<(), Al
 }
 
 #[test]
-fn the_scene_draws_behind_each_update(rt: HostRuntime) -> Result<(), AllocError> {
-    let client = joined(rt.alloc(), &[CLIENT, NEXT_REQUEST])?;
-    let sent = joined(rt.alloc(), &[HANDSHAKE, UPDATE, RED_UPDATE])?;
-    let served = is_served_by(rt.alloc(), &client, (12, 4096), Ok(2), &sent)?;
+fn the_scene_draws_once_behind_each_update(rt: HostRuntime) -> Result<(), AllocError> {
+    let client = joined(rt.alloc(), &[CLIENT, NEXT_REQUEST, NEXT_REQUEST])?;
+    let sent = joined(rt.alloc(), &[HANDSHAKE, UPDATE, RED_UPDATE, GREEN_UPDATE])?;
+    let served = is_served_by(rt.alloc(), &client, (12, 4096), Ok(3), &sent)?;
     assert!(rt; served);
     Ok(())
 }

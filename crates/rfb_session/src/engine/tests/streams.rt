@@ -17,6 +17,9 @@ pub const UPDATE: &[u8] = b"\0\0\0\x01\0\0\0\0\0\x02\0\x01\0\0\0\0\0\0\0\0\x02\0
 // One where both places are (65535, 0, 4112).
 pub const RED_UPDATE: &[u8] = b"\0\0\0\x01\0\0\0\0\0\x02\0\x01\0\0\0\0\x10\0\xFF\0\x10\0\xFF\0";
 
+// One where both are (0, 65535, 8224).
+pub const GREEN_UPDATE: &[u8] = b"\0\0\0\x01\0\0\0\0\0\x02\0\x01\0\0\0\0\x20\xFF\0\0\x20\xFF\0\0";
+
 // ServerCutText with `ABCDE`.
 pub const CUT_TEXT: &[u8] = b"\x03\0\0\0\0\0\0\x05ABCDE";
 

@@ -1,10 +1,12 @@
 //! A viewer that is run over memory.
 
 use super::devices::{Reader, Then, Writer, steady_reader, steady_writer};
+use super::playing::answer_to;
 use super::streams::{HANDSHAKE, NEXT_REQUEST, RED_UPDATE, UPDATE, VIEWER};
 use super::{joined, viewer_in};
 use crate::engine::{EngineFault, Sink, Source, Tally, view, view_recording};
 use rfb_pixel::Format;
+use rfb_viewer::ViewerFault;
 use std::alloc::{AllocError, Global};
 
 // What viewing of so many updates answered and wrote, and how many reads and writes failed.
@@ -168,6 +170,24 @@ fn a_recording_ends_with_the_last_update(rt: HostRuntime) -> Result<(), AllocErr
             is_kept(rt.alloc(), &bytes, most, &whole),
             "reads of {most}"
         );
+    }
+    Ok(())
+}
+
+// What a recording of a server's bytes is answered, where it is played.
+fn answer_to_kept(alloc: Global, bytes: &[u8], most: usize) -> Result<u64, EngineFault> {
+    let kept = kept_of(alloc, bytes, most);
+    answer_to(alloc, &kept, 4096)
+}
+
+#[test]
+fn a_recording_of_a_faulty_server_ends_with_its_fault(rt: HostRuntime) -> Result<(), AllocError> {
+    // No server's message has the type 255.
+    let bytes = joined(rt.alloc(), &[HANDSHAKE, b"\xFF\x02"])?;
+    let fault = EngineFault::Viewer(ViewerFault::UnknownMessage(255));
+    for most in [1, 46, 4096] {
+        let answer = answer_to_kept(rt.alloc(), &bytes, most);
+        assert_eq!(rt; answer, Err(fault), "reads of {most}");
     }
     Ok(())
 }

@@ -13,4 +13,6 @@ returns-in-Err-clause-ends c = record {
   fails = c.in-Err.ensures.fails;
   refused = c.in-Err.ensures.fault;
   starved = c.in-Err.ensures.memory;
+  picture = c.in-Err.ensures.picture;
+  reason = c.in-Err.ensures.reason;
 }

@@ -16,12 +16,12 @@ loop-rest-preserved g c =
       heard = heard_more c.args.server.now c.args.bytes.now l.rest.now
           (g.W.Sink.written c.args.sink.now) (g.W.Sink.written l.sink)
           (g.W.Sink.written c.hear_some.new.sink) l.server c.in-Ok.used
-          c.hear_some.new.server l.invariant.heard c.in-Ok.ensures.heard;
+          c.hear_some.new.server l.invariant.heard c.in-Ok.ensures.answered;
       none_failed = c.in-Ok.ensures.none_failed ∙ l.invariant.none_failed;
     }
 
-pub returns-clause-heard : goal.returns-clause-heard
-returns-clause-heard g c =
+pub returns-clause-answered : goal.returns-clause-answered
+returns-clause-answered g c =
     let l = c.loop-rest in
     heard_all c.args.server.now c.args.bytes.now l.rest.now (g.W.Sink.written c.args.sink.now)
     (g.W.Sink.written l.sink) l.server l.invariant.heard (empty_rest l.rest.now (search rules))

@@ -1,8 +1,8 @@
 use Rattle.rfb_session.proofs.ServeLemmas.{call_heard, call_cut, call_ended}
 use Rattle.rfb_session.proofs.engine.serving.hear_some.Goals as goal
 
-pub returns-in-Ok-send-clause-heard : goal.returns-in-Ok-send-clause-heard
-returns-in-Ok-send-clause-heard g c =
+pub returns-in-Ok-send-clause-answered : goal.returns-in-Ok-send-clause-answered
+returns-in-Ok-send-clause-answered g c =
     call_heard c.args.server.now c.feed.new.self c.args.bytes.now c.in-Ok.fed.used
     c.in-Ok.fed.event (g.W.Sink.written c.args.sink.now) (g.W.Sink.written c.send.new.sink)
     c.server_reply.result.now c.in-Ok.ensures.fed c.server_reply.ensures c.in-Ok-send.ensures.done

@@ -1,34 +1,37 @@
-use Rattle.std.proofs.Common.{List, [], ℕ, subst, rules}
+use Rattle.std.proofs.Common.{List, ℕ, refl, subst, rules}
 use Rattle.std.specs.Io.KnownBytes.{Appends}
 use Rattle.std.proofs.KnownBytes.{Appends-nil}
+use Rattle.rfb_server.specs.Updating.{Updates}
 use Rattle.rfb_session.specs.Devices.{AppendsBeginning}
-use Rattle.rfb_session.proofs.ServeLemmas.{drawn_idle, composed_runs, unsent_idle}
+use Rattle.rfb_session.proofs.TurnLemmas.{unsent_of_none}
 use Rattle.rfb_session.proofs.engine.serving.update.Goals as goal
 
 pub returns-in-Ok-clause-updated : goal.returns-in-Ok-clause-updated
 returns-in-Ok-clause-updated g c = record {
-  sent = c.compose.new.out.items;
-  runs = drawn_idle c.args.server.now c.compose.new.self c.draw.new.server
-      c.clear.new.self.items c.compose.new.out.items
-      (c.in-Ok-true.ensures.composed (search rules)) c.clear.ensures.items c.draw.ensures.drawn;
+  bytes = c.compose.new.out.items;
+  composed = c.compose.new.self;
+  updates = subst (λ (l : List ℕ). Updates c.args.server.now c.compose.new.self l c.compose.new.out.items)
+      c.clear.ensures.items (c.in-Ok-true.ensures.composed (search rules));
   wrote = subst (λ (l : List ℕ). Appends (g.W.Sink.written c.args.sink.now)
       (g.W.Sink.written c.send.new.sink) l) c.deref.ensures.value c.in-Ok.ensures.done;
+  draws = c.draw.ensures.drawn;
+  shown = c.draw.ensures.shown;
 }
 
 pub returns-in-Err-send-clause-stopped : goal.returns-in-Err-send-clause-stopped
 returns-in-Err-send-clause-stopped g c = (
   c.in-Err-send.ensures.one_failed,
   c.compose.new.out.items,
-  composed_runs c.args.server.now c.compose.new.self c.clear.new.self.items
-      c.compose.new.out.items (c.in-Ok-true.ensures.composed (search rules)) c.clear.ensures.items,
+  subst (λ (l : List ℕ). Updates c.args.server.now c.compose.new.self l c.compose.new.out.items)
+      c.clear.ensures.items (c.in-Ok-true.ensures.composed (search rules)),
   subst (λ (l : List ℕ). AppendsBeginning (g.W.Sink.written c.args.sink.now)
       (g.W.Sink.written c.send.new.sink) l) c.deref.ensures.value c.in-Err-send.ensures.stopped,
 )
 
 pub returns-in-Ok-false-clause-updated : goal.returns-in-Ok-false-clause-updated
 returns-in-Ok-false-clause-updated g c = record {
-  sent = [];
-  runs = unsent_idle c.args.server.now c.compose.new.self c.clear.new.self.items
+  unsent = unsent_of_none c.args.server.now c.compose.new.self c.clear.new.self.items
       c.compose.new.out.items (c.in-Ok-false.ensures.idle (search rules));
   wrote = Appends-nil (g.W.Sink.written c.args.sink.now);
+  undrawn = refl;
 }

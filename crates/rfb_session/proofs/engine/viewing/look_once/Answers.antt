@@ -1,7 +1,7 @@
 use Rattle.std.proofs.Common.{[], refl, take, arith}
 use Rattle.std.proofs.KnownBytes.{Appends-nil}
 use Rattle.rfb_viewer.specs.Told.{seen}
-use Rattle.rfb_session.proofs.ViewLemmas.{turn_none, call_looks, call_unanswered, call_unkept, begun_anyway}
+use Rattle.rfb_session.proofs.ViewLemmas.{turn_none, call_looks, call_unanswered, call_unkept, kept_last}
 use Rattle.rfb_session.proofs.engine.viewing.look_once.Goals as goal
 
 pub returns-in-Ok-answer-clause-looked : goal.returns-in-Ok-answer-clause-looked
@@ -44,13 +44,18 @@ returns-clause-stopped g c = record {
   kept = (
     g.K.Sink.written c.args.kept.now,
     Appends-nil (g.K.Sink.written c.args.kept.now),
-    begun_anyway c.send-in-Err.result (g.K.Sink.written c.args.kept.now)
-        (g.K.Sink.written c.send-in-Err.new.sink) c.args.bytes.now c.send-in-Err.ensures.done
-        c.send-in-Err.ensures.stopped,
+    kept_last c.send-in-Err.result (g.K.Sink.written c.args.kept.now)
+        (g.K.Sink.written c.send-in-Err.new.sink) c.args.bytes.now
+        (g.W.Sink.failed c.args.sink.now) (g.K.Sink.failed c.args.kept.now)
+        (g.K.Sink.failed c.send-in-Err.new.sink) c.send-in-Err.ensures.done
+        c.send-in-Err.ensures.stopped c.send-in-Err.ensures.none_failed
+        c.send-in-Err.ensures.one_failed,
   );
   ends = record {
     fails = c.in-Err.ensures.fails;
     refused = c.in-Err.ensures.fault;
     starved = c.in-Err.ensures.memory;
+    picture = c.in-Err.ensures.picture;
+    reason = c.in-Err.ensures.reason;
   };
 }

@@ -78,6 +78,14 @@ returns-in-Err-clause-stopped g c =
     (g.R.Source.failed c.read.new.self + g.W.Sink.failed c.look.new.sink
     + g.K.Sink.failed c.look.new.kept)
     c.in-Err.fault c.look.new.viewer l.invariant.viewed c.in-Ok.ensures.bytes.0
+    (λ same. omega (
+      arith,
+      same,
+      c.in-Ok.ensures.count,
+      l.invariant.none_unread,
+      l.invariant.none_unwritten,
+      l.invariant.none_unkept,
+    ))
     (λ one. omega (
       arith,
       one,

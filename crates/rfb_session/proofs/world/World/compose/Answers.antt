@@ -35,7 +35,7 @@ returns-clause-does c =
     composed_does c.args.self.now _ _ c.begin.new.self.asked c.format.result
     (c.in_ok-composed.ensures.composed c.if-not-composed.false)
     (asks_noted c.args.self.now c.asked.result.now c.begin.new.self.asked c.asked.ensures.value
-    c.asked.ensures.columns c.asked.ensures.rows c.begin.ensures.asked) c.format.ensures
+    c.asked.ensures.columns c.asked.ensures.rows c.begin.ensures.asked) c.format.ensures.value
     (c.note.ensures.noted
     ∙ ap (λ (g : Grid Colour). noted g c.begin.new.self.asked (Some c.format.result))
     c.screen.ensures) refl refl refl refl refl refl

@@ -2,7 +2,7 @@ use Rattle.std.proofs.Common.{Result, Ok, Err, IfOk, sym, subst}
 use Rattle.rfb_session.specs.declared.event.Event.{Event}
 use Rattle.rfb_session.specs.declared.told.NoMemory.{NoMemory}
 use Rattle.rfb_session.specs.declared.told.Told.{Told}
-use Rattle.rfb_session.specs.World.{Does, LosesAs, IsDrawing, IsRefused, IsLost, ComposesNothing}
+use Rattle.rfb_session.specs.World.{Does, LosesAs, HintsAs, IsDrawing, IsRefused, IsLost, ComposesNothing}
 use Rattle.rfb_session.proofs.CalledLemmas.{no_refusal}
 use Rattle.rfb_session.proofs.world.World.happen.Goals as goal
 
@@ -293,3 +293,77 @@ returns-in-ToViewer-clause-idle c = λ none.
 pub returns-in-Compose-clause-idle : goal.returns-in-Compose-clause-idle
 returns-in-Compose-clause-idle c = λ none. c.compose.ensures.idle
     (subst (λ (event : Event). ComposesNothing c.args.self.now event) c.in-Compose.is none)
+
+pub returns-in-Fill-clause-hints : goal.returns-in-Fill-clause-hints
+returns-in-Fill-clause-hints c =
+    subst (λ (event : Event). HintsAs c.args.self.now event c.fill.result c.fill.new.self)
+    (sym c.in-Fill.is) c.fill.ensures.hints
+
+pub returns-in-Put-clause-hints : goal.returns-in-Put-clause-hints
+returns-in-Put-clause-hints c =
+    subst (λ (event : Event). HintsAs c.args.self.now event c.put.result c.put.new.self)
+    (sym c.in-Put.is) c.put.ensures.hints
+
+pub returns-in-Copy-clause-hints : goal.returns-in-Copy-clause-hints
+returns-in-Copy-clause-hints c =
+    subst (λ (event : Event). HintsAs c.args.self.now event c.copy.result c.copy.new.self)
+    (sym c.in-Copy.is) c.copy.ensures.hints
+
+pub returns-in-Hint-clause-hints : goal.returns-in-Hint-clause-hints
+returns-in-Hint-clause-hints c =
+    subst (λ (event : Event). HintsAs c.args.self.now event c.hint.result c.hint.new.self)
+    (sym c.in-Hint.is) c.hint.ensures.hints
+
+pub returns-in-Request-clause-hints : goal.returns-in-Request-clause-hints
+returns-in-Request-clause-hints c =
+    subst (λ (event : Event). IfOk c.request.result
+    (λ told. HintsAs c.args.self.now event told c.request.new.self)) (sym c.in-Request.is)
+    (nothing c.request.result)
+
+pub returns-in-SetFormat-clause-hints : goal.returns-in-SetFormat-clause-hints
+returns-in-SetFormat-clause-hints c =
+    subst (λ (event : Event). IfOk c.set_format.result
+    (λ told. HintsAs c.args.self.now event told c.set_format.new.self)) (sym c.in-SetFormat.is)
+    (nothing c.set_format.result)
+
+pub returns-in-SetEncodings-clause-hints : goal.returns-in-SetEncodings-clause-hints
+returns-in-SetEncodings-clause-hints c =
+    subst (λ (event : Event). IfOk c.set_encodings.result
+    (λ told. HintsAs c.args.self.now event told c.set_encodings.new.self)) (sym c.in-SetEncodings.is)
+    (nothing c.set_encodings.result)
+
+pub returns-in-Key-clause-hints : goal.returns-in-Key-clause-hints
+returns-in-Key-clause-hints c =
+    subst (λ (event : Event). IfOk c.key.result
+    (λ told. HintsAs c.args.self.now event told c.key.new.self)) (sym c.in-Key.is)
+    (nothing c.key.result)
+
+pub returns-in-Pointer-clause-hints : goal.returns-in-Pointer-clause-hints
+returns-in-Pointer-clause-hints c =
+    subst (λ (event : Event). IfOk c.pointer.result
+    (λ told. HintsAs c.args.self.now event told c.pointer.new.self)) (sym c.in-Pointer.is)
+    (nothing c.pointer.result)
+
+pub returns-in-CutText-clause-hints : goal.returns-in-CutText-clause-hints
+returns-in-CutText-clause-hints c =
+    subst (λ (event : Event). IfOk c.cut_text.result
+    (λ told. HintsAs c.args.self.now event told c.cut_text.new.self)) (sym c.in-CutText.is)
+    (nothing c.cut_text.result)
+
+pub returns-in-Compose-clause-hints : goal.returns-in-Compose-clause-hints
+returns-in-Compose-clause-hints c =
+    subst (λ (event : Event). IfOk c.compose.result
+    (λ told. HintsAs c.args.self.now event told c.compose.new.self)) (sym c.in-Compose.is)
+    (nothing c.compose.result)
+
+pub returns-in-ToServer-clause-hints : goal.returns-in-ToServer-clause-hints
+returns-in-ToServer-clause-hints c =
+    subst (λ (event : Event). IfOk c.move_to_server.result
+    (λ told. HintsAs c.args.self.now event told c.move_to_server.new.self)) (sym c.in-ToServer.is)
+    (nothing c.move_to_server.result)
+
+pub returns-in-ToViewer-clause-hints : goal.returns-in-ToViewer-clause-hints
+returns-in-ToViewer-clause-hints c =
+    subst (λ (event : Event). IfOk c.move_to_viewer.result
+    (λ told. HintsAs c.args.self.now event told c.move_to_viewer.new.self)) (sym c.in-ToViewer.is)
+    (nothing c.move_to_viewer.result)

@@ -1,6 +1,6 @@
 use Rattle.std.proofs.Common.{refl}
 use Rattle.rfb_server.specs.Standing.{HoldsBoth}
-use Rattle.rfb_session.proofs.DrawnLemmas.{hinted, both_held_or_not}
+use Rattle.rfb_session.proofs.DrawnLemmas.{hinted, hinted_as, both_held_or_not}
 use Rattle.rfb_session.proofs.world.World.hint.Goals as goal
 
 pub returns-clause-does : goal.returns-clause-does
@@ -20,3 +20,8 @@ returns-clause-does c = λ e n made reached stands.
       },
       one.1,
     )
+
+pub returns-clause-hints : goal.returns-clause-hints
+returns-clause-hints c =
+    hinted_as c.args.self.now.server c.hint.new.self _ c.hint.result c.told_of.result.refused
+    c.told_of.ensures.refused c.hint.ensures.hints

@@ -48,3 +48,12 @@ returns-in-Err-clause-spared c = λ refused. c.in-Err.ensures.spared refused
 
 pub returns-in-Err-clause-dropped : goal.returns-in-Err-clause-dropped
 returns-in-Err-clause-dropped c = λ lost going. c.in-Err.ensures.dropped lost
+
+pub returns-then-self-clause-hints : goal.returns-then-self-clause-hints
+returns-then-self-clause-hints c = tt
+
+pub returns-in-Ok-clause-hints : goal.returns-in-Ok-clause-hints
+returns-in-Ok-clause-hints c = c.in-Ok.ensures.hints
+
+pub returns-in-Err-clause-hints : goal.returns-in-Err-clause-hints
+returns-in-Err-clause-hints c = tt

@@ -6,7 +6,7 @@ use Rattle.rfb_server.specs.declared.server.Server.{Server}
 use Rattle.rfb_server.specs.declared.fault.Outside.{Outside}
 use Rattle.rfb_server.specs.Standing.{Draws, screen_of}
 use Rattle.rfb_session.proofs.SizeLemmas.{width-changed, height-changed}
-use Rattle.rfb_session.proofs.engine.tests.devices.ReddeningScene.draw.Goals as goal
+use Rattle.rfb_session.proofs.engine.tests.devices.RecolouringScene.draw.Goals as goal
 
 -- a drawing that was refused, or has this screen, leaves the size
 size_after : (old new : Server) (screen : Grid Colour) (result : Result (Unit {0}) Outside) →
