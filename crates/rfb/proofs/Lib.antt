@@ -1,13 +1,16 @@
 pub mod ArgumentLemmas
 pub mod CommandLemmas
 pub mod ComposingLemmas
+pub mod DeliveryLemmas
 pub mod EndsLemmas
+pub mod LeavingLemmas
 pub mod LoopbackLemmas
 pub mod OptionLemmas
 pub mod PlayingLemmas
 pub mod RecordingLemmas
 pub mod SceneLemmas
 pub mod ScriptLemmas
+pub mod ServingLemmas
 pub mod ViewingLemmas
 pub mod WordLemmas
 pub mod LinesLemmas

@@ -1,5 +1,5 @@
 -- A script over a connection, from its parts.
-use Rattle.std.proofs.Common.{◌≡◌, ◌∙◌, sym, ap, refl, subst, ℕ, ◌+◌, ◌-◌, [], ◌++◌, List, length, take, drop, append_assoc, append-nil, take-append-drop, Option, Some, None, IfSome, OnOk, Result, Ok, Err}
+use Rattle.std.proofs.Common.{◌≡◌, ◌∙◌, sym, ap, refl, subst, ℕ, ◌+◌, ◌-◌, [], ◌++◌, List, length, take, drop, append_assoc, append-nil, take-append-drop, Option, Some, None, IfSome, OnOk, OnErr, Result, Ok, Err, ◌⊎◌, inl, inr}
 use Rattle.std.specs.Io.KnownBytes.{Appends}
 use Rattle.std.proofs.KnownBytes.{Appends-nil, Appends-trans}
 use Rattle.rfb_wire.specs.stream.End.{FedBy}
@@ -16,14 +16,22 @@ use Rattle.rfb.specs.declared.fault.Fault.{Fault}
 use Rattle.rfb.specs.declared.script.line.Numbered.{Numbered}
 use Rattle.rfb.specs.declared.script.line.Screen.{Screen}
 use Rattle.rfb.specs.declared.script.line.Wants.{Wants}
-use Rattle.rfb.specs.Loopback.{IsFed, WritesSomePicture}
-use Rattle.rfb.specs.Recording.{WritesPicture}
+use Rattle.rfb.specs.Delivery.{IsFed}
+use Rattle.rfb.specs.Loopback.{LeavesSomePicture, WritesSomePicture}
+use Rattle.rfb.specs.Recording.{BeginsPicture, WritesPicture}
 use Rattle.rfb.specs.Script.{AreScript, AreSomeScript, lines_of}
 
 pub some_picture : (viewer : Viewer) (before after : Option (List ℕ)) (r : Result (Unit {0}) Fault) →
     OnOk r (WritesPicture viewer before after) → OnOk r (WritesSomePicture before after)
 some_picture viewer before after (Ok done) wrote = (viewer, wrote)
 some_picture viewer before after (Err fault) wrote = tt
+
+pub leaves_some_picture : {W : Type 0} (contents : W → Option (List ℕ)) (viewer : Viewer) (old new : W) (r : Result (Unit {0}) Fault) →
+    OnErr r ((new ≡ old) ⊎ BeginsPicture viewer (contents old) (contents new)) →
+    OnErr r (LeavesSomePicture (contents old) (contents new))
+leaves_some_picture contents viewer old new (Ok done) left = tt
+leaves_some_picture contents viewer old new (Err fault) (inl same) = inl (ap contents same)
+leaves_some_picture contents viewer old new (Err fault) (inr begun) = inr (viewer, begun)
 
 -- what was read behind nothing is what there was to read
 pub some_script : (read : Option (List ℕ)) (empty all : List ℕ) (size : Screen) (wants : Option Wants)

@@ -1,5 +1,5 @@
 -- A recording that was played, from its parts.
-use Rattle.std.proofs.Common.{◌≡◌, ℕ, [], ◌∷◌, List, Option, OnOk, IfErr, Result, Ok, Err}
+use Rattle.std.proofs.Common.{◌≡◌, ◌⊎◌, ap, inl, inr, ℕ, [], ◌∷◌, List, Option, OnOk, OnErr, IfErr, Result, Ok, Err}
 use Rattle.rfb_wire.specs.declared.encoding.Encoding.TheVariants.{Raw}
 use Rattle.rfb_viewer.specs.declared.viewer.Viewer.{Viewer}
 use Rattle.rfb_session.specs.declared.engine.fault.EngineFault.{EngineFault}
@@ -7,7 +7,7 @@ use Rattle.rfb.specs.declared.fault.Fault.{Fault}
 use Rattle.rfb.specs.declared.fault.Failure.{Failure}
 use Rattle.rfb.specs.declared.fault.Failure.TheVariants as failure
 use Rattle.rfb.specs.declared.recording.replay.Replay.{Replay}
-use Rattle.rfb.specs.Recording.{FailsToPlay, IsFresh, PlaysRecording, Watches, WritesPicture}
+use Rattle.rfb.specs.Recording.{BeginsPicture, FailsToPlay, IsFresh, LeavesRecording, PlaysRecording, Watches, WritesPicture}
 
 pub plays_recording : (replay : Replay) (read before after : Option (List ℕ)) (first last : Viewer) (told : ℕ)
     (r : Result (Unit {0}) Failure) → IsFresh replay.format (Raw ∷ []) first → Watches replay.updates read first told last →
@@ -21,6 +21,21 @@ plays_recording replay read before after first last told (Ok done) fresh watched
   written = written;
 }
 plays_recording replay read before after first last told (Err failure) fresh watched written = tt
+
+pub leaves_recording : {W : Type 0} (contents : W → Option (List ℕ)) (replay : Replay) (read : Option (List ℕ)) (old new : W) (first last : Viewer) (told : ℕ)
+    (r : Result (Unit {0}) Failure) → IsFresh replay.format (Raw ∷ []) first → Watches replay.updates read first told last →
+    OnErr r ((new ≡ old) ⊎ BeginsPicture last (contents old) (contents new)) →
+    OnErr r (LeavesRecording replay read (contents old) (contents new))
+leaves_recording contents replay read old new first last told (Ok done) fresh watched left = tt
+leaves_recording contents replay read old new first last told (Err failure) fresh watched (inl same) = inl (ap contents same)
+leaves_recording contents replay read old new first last told (Err failure) fresh watched (inr begun) = inr (record {
+  first = first;
+  fresh = fresh;
+  told = told;
+  last = last;
+  watches = watched;
+  written = begun;
+})
 
 pub fails_to_show : (replay : Replay) (read : Option (List ℕ)) (r : Result (Unit {0}) Failure) →
     IfErr r (λ f. (fault : Fault) × (f ≡ failure.Fault fault)) → IfErr r (FailsToPlay replay read)

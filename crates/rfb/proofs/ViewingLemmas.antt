@@ -1,5 +1,5 @@
 -- A view, from its parts.
-use Rattle.std.proofs.Common.{◌≡◌, ◌∙◌, sym, subst, ℕ, List, Option, OnOk, IfErr, Result, Ok, Err, true, false}
+use Rattle.std.proofs.Common.{◌≡◌, ◌∙◌, ◌⊎◌, ap, inl, inr, sym, subst, Bool, ℕ, List, Option, OnOk, OnErr, IfErr, Result, Ok, Err, true, false}
 use Rattle.rfb_viewer.specs.declared.viewer.Viewer.{Viewer}
 use Rattle.rfb_session.specs.declared.engine.fault.EngineFault.{EngineFault}
 use Rattle.rfb_session.specs.ViewEngine.{StopsViewing}
@@ -7,8 +7,8 @@ use Rattle.rfb.specs.declared.fault.Fault.{Fault}
 use Rattle.rfb.specs.declared.fault.Failure.{Failure}
 use Rattle.rfb.specs.declared.fault.Failure.TheVariants as failure
 use Rattle.rfb.specs.declared.viewing.look.Sight.{Sight}
-use Rattle.rfb.specs.Recording.{WritesPicture}
-use Rattle.rfb.specs.Viewing.{FailsToView, IsMadeFor, Saw, StopsSeeing, StopsView, Views}
+use Rattle.rfb.specs.Recording.{BeginsPicture, WritesPicture}
+use Rattle.rfb.specs.Viewing.{FailsToView, IsMadeFor, LeavesSomeView, LeavesView, Saw, StopsSeeing, StopsView, Views}
 
 pub views_recorded : (sight : Sight) (read answered before after : Option (List ℕ)) (first last : Viewer)
     (r : Result (Unit {0}) Failure) → IsMadeFor sight first → sight.is_recorded ≡ true →
@@ -34,6 +34,30 @@ views_shown sight read answered before after first last (Ok done) fresh saw writ
   shown = λ not. written;
 }
 views_shown sight read answered before after first last (Err f) fresh saw written = tt
+
+pub leaves_shown : {W : Type 0} (contents : W → Option (List ℕ)) (sight : Sight) (read answered : Option (List ℕ)) (old new : W) (first last : Viewer)
+    (r : Result (Unit {0}) Failure) → IsMadeFor sight first → Saw read answered first sight.updates last →
+    OnErr r ((new ≡ old) ⊎ BeginsPicture last (contents old) (contents new)) →
+    OnErr r (LeavesView sight read answered (contents old) (contents new))
+leaves_shown contents sight read answered old new first last (Ok done) fresh saw left = tt
+leaves_shown contents sight read answered old new first last (Err f) fresh saw (inl same) = inl (ap contents same)
+leaves_shown contents sight read answered old new first last (Err f) fresh saw (inr begun) = inr (record {
+  first = first;
+  fresh = fresh;
+  last = last;
+  saw = saw;
+  shown = begun;
+})
+
+pub never_recorded : (b : Bool) (P : Type 0) → b ≡ true → b ≡ false → P
+never_recorded b P is not = let bad : true ≡ false = sym is ∙ not in absurd (cc)
+
+-- of a connection of whose bytes nothing is known
+pub leaves_some : (sight : Sight) (read answered before after : Option (List ℕ)) (r : Result (Unit {0}) Failure) →
+    OnErr r (LeavesView sight read answered before after) → OnErr r (LeavesSomeView sight before after)
+leaves_some sight read answered before after (Ok done) left = tt
+leaves_some sight read answered before after (Err f) (inl same) = inl same
+leaves_some sight read answered before after (Err f) (inr views) = inr (read, answered, views)
 
 pub fails_recorded : (sight : Sight) (read answered : Option (List ℕ)) (first last : Viewer)
     (r : Result (Unit {0}) Failure) → IsMadeFor sight first →

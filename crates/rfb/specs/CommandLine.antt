@@ -1,5 +1,5 @@
 -- What the commands do.
-use Rattle.std.specs.Prelude.{◌≡◌, ⊤, ℕ, List, Option, Some, IfSome}
+use Rattle.std.specs.Prelude.{◌≡◌, ◌⊎◌, ⊤, ℕ, false, List, Option, Some, IfSome}
 use Rattle.std.specs.Io.KnownBytes.{Appends}
 use Rattle.rfb_pixel.specs.declared.colour.Colour.{Colour}
 use Rattle.rfb_picture.specs.Grid.{Grid}
@@ -12,13 +12,16 @@ use Rattle.rfb.specs.declared.script.line.Screen.{Screen as Size}
 use Rattle.rfb.specs.declared.script.line.Wants.{Wants}
 use Rattle.rfb.specs.Playing.{IsPlayed}
 use Rattle.rfb.specs.Script.{AreScript, StopsReading, lines_of}
+use Rattle.rfb_session.specs.Devices.{AppendsBeginning}
 use Rattle.rfb_session.specs.Pixmap.{pixmap}
 use Rattle.clap.specs.Words.{Text}
 use Rattle.rfb.specs.declared.options.Task.{Task}
 use Rattle.rfb.specs.declared.options.Task.TheVariants.{Script, Loop, Play, Serve, View}
-use Rattle.rfb.specs.Loopback.{PlaysSomeScript}
+use Rattle.rfb.specs.Loopback.{LeavesSomePicture, PlaysSomeScript}
 use Rattle.rfb.specs.Options.{AreAsked}
-use Rattle.rfb.specs.Recording.{PlaysRecording}
+use Rattle.rfb.specs.Recording.{LeavesRecording, PlaysRecording}
+use Rattle.rfb.specs.Serving.{ServesFewer, ServesSo}
+use Rattle.rfb.specs.Viewing.{LeavesSomeView, ViewsSome}
 
 -- ---- a script
 
@@ -32,24 +35,47 @@ pub record Plays (text : List ℕ) (picture : Grid Colour) : Type 0 where
   pub is_played : IsPlayed size wants steps world
   pub is_shown : shown_by world ≡ Some picture
 
--- the whole of what a world's viewer shows was written behind what stood there before
+-- this was written of what a world's viewer shows
+abbrev pub ShowsTo : (List ℕ → Type 0) → World → Type 0
+ShowsTo Writes world =
+    (picture : Grid Colour) × (shown_by world ≡ Some picture) × Writes (pixmap picture)
+
+-- the whole of it was written behind what stood there before; or the output is as it was, or a
+-- beginning was
 abbrev pub WritesShown : World → Option (List ℕ) → Option (List ℕ) → Type 0
-WritesShown world before after =
-    (picture : Grid Colour) × (shown_by world ≡ Some picture) ×
-    Appends before after (pixmap picture)
+WritesShown world before after = ShowsTo (Appends before after) world
+
+abbrev pub LeavesShown : World → Option (List ℕ) → Option (List ℕ) → Type 0
+LeavesShown world before after = (after ≡ before) ⊎ ShowsTo (AppendsBeginning before after) world
 
 -- the same of the world that steps lead to
+abbrev pub PlayedTo : (List ℕ → Type 0) → Size → Option Wants → List Numbered → Type 0
+PlayedTo Writes size wants steps =
+    (world : World) × IsPlayed size wants steps world × ShowsTo Writes world
+
 abbrev pub WritesPlayed : Size → Option Wants → List Numbered → Option (List ℕ) →
     Option (List ℕ) → Type 0
-WritesPlayed size wants steps before after =
-    (world : World) × IsPlayed size wants steps world × WritesShown world before after
+WritesPlayed size wants steps before after = PlayedTo (Appends before after) size wants steps
 
--- what was read, where its bytes are known, is a script, and the whole picture that it leads to was
--- written behind what stood there before
-pub record PlaysScript (read before after : Option (List ℕ)) : Type 0 where
+abbrev pub LeavesPlayed : Size → Option Wants → List Numbered → Option (List ℕ) →
+    Option (List ℕ) → Type 0
+LeavesPlayed size wants steps before after =
+    (after ≡ before) ⊎ PlayedTo (AppendsBeginning before after) size wants steps
+
+-- what was read, where its bytes are known, is a script, and this was written of the picture that
+-- it leads to
+pub record PlaysScriptTo (Writes : List ℕ → Type 0) (read : Option (List ℕ)) : Type 0 where
   pub picture : Grid Colour
   pub played : IfSome read (λ text. Plays text picture)
-  pub written : Appends before after (pixmap picture)
+  pub written : Writes (pixmap picture)
+
+-- the whole of it was; or the output is as it was, or a beginning was
+abbrev pub PlaysScript : Option (List ℕ) → Option (List ℕ) → Option (List ℕ) → Type 0
+PlaysScript read before after = PlaysScriptTo (Appends before after) read
+
+abbrev pub LeavesScript : Option (List ℕ) → Option (List ℕ) → Option (List ℕ) → Type 0
+LeavesScript read before after =
+    (after ≡ before) ⊎ PlaysScriptTo (AppendsBeginning before after) read
 
 -- a bad line that is told is the first one of what was read
 abbrev pub FailsAt : Option (List ℕ) → Failure → Type 0
@@ -59,15 +85,31 @@ FailsAt read (Engine fault) = ⊥
 
 -- ---- any command
 
--- what was read and written at a command; of what comes over a connection nothing is known
+-- what was read and written at a command; of the bytes that come over a connection nothing is known
 abbrev pub Does : Task → Option (List ℕ) → Option (List ℕ) → Option (List ℕ) → Type 0
 Does Script read before after = PlaysScript read before after
 Does Loop read before after = PlaysSomeScript read before after
-Does (Serve wanted) read before after = ⊤
-Does (View look) read before after = ⊤
+Does (Serve wanted) read before after = ServesSo wanted.screen wanted.connections before after
+Does (View look) read before after = ViewsSome look.sight before after
 Does (Play replay) read before after = PlaysRecording replay read before after
+
+-- what was written at a command that failed: nothing, or a beginning of what it was to write; what
+-- a view keeps of a server's bytes is written as they come
+abbrev pub Leaves : Task → Option (List ℕ) → Option (List ℕ) → Option (List ℕ) → Type 0
+Leaves Script read before after = LeavesScript read before after
+Leaves Loop read before after = LeavesSomePicture before after
+Leaves (Serve wanted) read before after =
+    ServesFewer wanted.screen wanted.connections before after
+Leaves (View look) read before after =
+    look.sight.is_recorded ≡ false → LeavesSomeView look.sight before after
+Leaves (Play replay) read before after = LeavesRecording replay read before after
 
 -- the same of what words ask for
 abbrev pub DoesAsked : List Text → Option (List ℕ) → Option (List ℕ) → Option (List ℕ) → Type 0
 DoesAsked words read before after =
     (task : Task) × AreAsked words task × Does task read before after
+
+-- and of a command that failed, or for which there was no memory
+abbrev pub LeavesAsked : List Text → Option (List ℕ) → Option (List ℕ) → Option (List ℕ) → Type 0
+LeavesAsked words read before after =
+    (after ≡ before) ⊎ ((task : Task) × AreAsked words task × Leaves task read before after)

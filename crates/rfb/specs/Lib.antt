@@ -1,4 +1,5 @@
 pub mod CommandLine
+pub mod Delivery
 pub mod Fault
 pub mod Few
 pub mod Loopback
@@ -7,6 +8,7 @@ pub mod Options
 pub mod Playing
 pub mod Recording
 pub mod Scene
+pub mod Serving
 pub mod Script
 pub mod Viewing
 pub mod Words

@@ -1,6 +1,5 @@
 -- Scripts over a connection. What a connection gives is not known, so the picture is some viewer's.
 use Rattle.std.specs.Prelude.{◌≡◌, ◌≢◌, ◌⊎◌, ℕ, List, [], ◌++◌, length, Option, Some, None, IfSome}
-use Rattle.std.specs.Io.KnownBytes.{Appends}
 use Rattle.rfb_pixel.specs.declared.colour.Colour.{Colour}
 use Rattle.rfb_picture.specs.Grid.{Grid, Holds, filled, copied, with_row}
 use Rattle.rfb_server.specs.declared.hint.Hint.{Hint}
@@ -25,27 +24,26 @@ use Rattle.rfb_session.specs.declared.event.Event.TheVariants.{ToServer, ToViewe
 use Rattle.rfb_session.specs.declared.told.Refused.{Refused}
 use Rattle.rfb_session.specs.declared.told.Refused.TheVariants.{NotReady}
 use Rattle.rfb_session.specs.Told.{RefusesUnless, refused_as}
-use Rattle.rfb_session.specs.Watching.{ViewerRuns}
 use Rattle.rfb.specs.declared.loopback.ends.Ends.{Ends}
-use Rattle.rfb.specs.Recording.{WritesPicture}
+use Rattle.rfb.specs.Recording.{BeginsPicture, WritesPicture}
 use Rattle.rfb.specs.Script.{AreSomeScript, lines_of}
 
 -- the whole of what some viewer shows was written behind what stood there before
 abbrev pub WritesSomePicture : Option (List ℕ) → Option (List ℕ) → Type 0
 WritesSomePicture before after = (viewer : Viewer) × WritesPicture viewer before after
 
+-- a beginning of such a picture was
+abbrev pub BeginsSomePicture : Option (List ℕ) → Option (List ℕ) → Type 0
+BeginsSomePicture before after = (viewer : Viewer) × BeginsPicture viewer before after
+
 -- what was read, where its bytes are known, is a script, and such a picture was written
 pub record PlaysSomeScript (read before after : Option (List ℕ)) : Type 0 where
   pub is_script : IfSome read (λ text. AreSomeScript (lines_of text))
   pub written : WritesSomePicture before after
 
--- a viewer was fed all of these bytes, and its answers were written behind what stood there before
-pub record IsFed (old : Viewer) (bytes : List ℕ) (before after : Option (List ℕ)) (new : Viewer)
-    : Type 0 where
-  pub sent : List ℕ
-  pub updates : ℕ
-  pub runs : ViewerRuns old bytes sent updates new
-  pub wrote : Appends before after sent
+-- the output is as it was, or a beginning was
+abbrev pub LeavesSomePicture : Option (List ℕ) → Option (List ℕ) → Type 0
+LeavesSomePicture before after = (after ≡ before) ⊎ BeginsSomePicture before after
 
 -- ---- what each kind of event does to both ends and what is in flight
 

@@ -6,7 +6,7 @@ use Rattle.rfb_wire.specs.declared.encoding.Encoding.{Encoding}
 use Rattle.rfb_wire.specs.declared.encoding.Encoding.TheVariants.{Raw}
 use Rattle.rfb_hello.specs.declared.version.Version.TheVariants.{V38}
 use Rattle.rfb_server.specs.declared.server.Server.{Server}
-use Rattle.rfb_server.specs.Server.{black, first_server}
+use Rattle.rfb_server.specs.Server.{Serving, black, first_server}
 use Rattle.rfb_server.specs.Standing.{StandsFor as ServerStandsFor, serving_with}
 use Rattle.rfb_viewer.specs.Standing.{viewing_with}
 use Rattle.rfb_session.specs.declared.event.Event.{Event}
@@ -57,18 +57,21 @@ encodings_of (Some wants) = wants.encodings.items
 abbrev pub name : List ℕ
 name = 114 ∷ 102 ∷ 98 ∷ []
 
+-- what a server is made with
+abbrev pub serving_of : Size → Serving
+serving_of size = serving_with V38 size.width size.height name 1024
+
 -- what both ends are made with
 abbrev pub ends_of : Size → Option Wants → Ends
 ends_of size wants = record {
-  serving = serving_with V38 size.width size.height name 1024;
+  serving = serving_of size;
   viewing = viewing_with (format_of wants) (encodings_of wants) V38 true 16777216 1024;
 }
 
 -- a server that was fed nothing
 abbrev pub IsFreshServer : Size → Server → Type 0
 IsFreshServer size server =
-    let serving = serving_with V38 size.width size.height name 1024 in
-    ServerStandsFor serving server (first_server serving) []
+    ServerStandsFor (serving_of size) server (first_server (serving_of size)) []
 
 -- the network of both ends before anything happened
 abbrev pub first_of : Size → Option Wants → Network

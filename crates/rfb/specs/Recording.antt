@@ -11,6 +11,7 @@ use Rattle.rfb_viewer.specs.declared.viewer.Viewer.{Viewer}
 use Rattle.rfb_viewer.specs.Viewer.{Viewing, first_viewer}
 use Rattle.rfb_viewer.specs.Standing.{StandsFor, picture_of, viewing_with}
 use Rattle.rfb_session.specs.declared.engine.fault.EngineFault.{EngineFault}
+use Rattle.rfb_session.specs.Devices.{AppendsBeginning}
 use Rattle.rfb_session.specs.Playing.{AllPlayed, StopsPlaying}
 use Rattle.rfb_session.specs.PlayingSome.{PlayedFirst, StopsPlayingSome}
 use Rattle.rfb_session.specs.Watching.{StandsBetween}
@@ -79,15 +80,32 @@ WritesPicture viewer before after =
     (picture : Grid Colour) × (picture_of viewer ≡ Some picture)
     × Appends before after (pixmap picture)
 
--- a fresh viewer was fed as much as is wanted of what was read, and the whole of what it then shows
--- was written
-pub record PlaysRecording (replay : Replay) (read before after : Option (List ℕ)) : Type 0 where
+-- a beginning of that was
+abbrev pub BeginsPicture : Viewer → Option (List ℕ) → Option (List ℕ) → Type 0
+BeginsPicture viewer before after =
+    (picture : Grid Colour) × (picture_of viewer ≡ Some picture)
+    × AppendsBeginning before after (pixmap picture)
+
+-- a fresh viewer was fed as much as is wanted of what was read, and this was written of what it
+-- then shows
+pub record PlaysTo (Writes : Viewer → Type 0) (replay : Replay) (read : Option (List ℕ))
+    : Type 0 where
   pub first : Viewer
   pub fresh : IsFresh replay.format (Raw ∷ []) first
   pub told : ℕ
   pub last : Viewer
   pub watches : Watches replay.updates read first told last
-  pub written : WritesPicture last before after
+  pub written : Writes last
+
+-- the whole of it was
+abbrev pub PlaysRecording : Replay → Option (List ℕ) → Option (List ℕ) → Option (List ℕ) → Type 0
+PlaysRecording replay read before after =
+    PlaysTo (λ viewer. WritesPicture viewer before after) replay read
+
+-- the output is as it was, or a beginning was
+abbrev pub LeavesRecording : Replay → Option (List ℕ) → Option (List ℕ) → Option (List ℕ) → Type 0
+LeavesRecording replay read before after =
+    (after ≡ before) ⊎ PlaysTo (λ viewer. BeginsPicture viewer before after) replay read
 
 -- what a fresh viewer was fed ended it, or ended where it must not
 abbrev pub FailsToPlay : Replay → Option (List ℕ) → Failure → Type 0

@@ -1,12 +1,13 @@
 -- What a fresh viewer saw of a server.
-use Rattle.std.specs.Prelude.{◌≡◌, ⊤, ℕ, false, List, Option}
+use Rattle.std.specs.Prelude.{◌≡◌, ◌⊎◌, ⊤, ℕ, false, List, Option}
 use Rattle.rfb_viewer.specs.declared.viewer.Viewer.{Viewer}
 use Rattle.rfb_session.specs.declared.engine.fault.EngineFault.{EngineFault}
 use Rattle.rfb_session.specs.ViewEngine.{HasViewed, StopsViewing}
 use Rattle.rfb.specs.declared.fault.Failure.{Failure}
+use Rattle.rfb.specs.declared.fault.Fault.{Fault as OwnFault}
 use Rattle.rfb.specs.declared.fault.Failure.TheVariants.{BadLine, Fault, Engine}
 use Rattle.rfb.specs.declared.viewing.look.Sight.{Sight}
-use Rattle.rfb.specs.Recording.{IsFresh, WritesPicture}
+use Rattle.rfb.specs.Recording.{BeginsPicture, IsFresh, WritesPicture}
 
 -- a viewer asked and was fed, up to the end of the last of so many updates; its bytes were there to
 -- be read, and what it sent stands behind what was written before
@@ -32,14 +33,27 @@ pub record StopsSeeing (read before : Option (List ℕ)) (old : Viewer) (updates
 abbrev pub IsMadeFor : Sight → Viewer → Type 0
 IsMadeFor sight viewer = IsFresh sight.wants.format sight.wants.encodings.items viewer
 
--- the sight was seen; and if no recording is wanted, the whole picture was written behind what
--- stood there before
-pub record Views (sight : Sight) (read answered before after : Option (List ℕ)) : Type 0 where
+-- the sight was seen, and this was written of what the viewer then shows
+pub record ViewsTo (Writes : Viewer → Type 0) (sight : Sight) (read answered : Option (List ℕ))
+    : Type 0 where
   pub first : Viewer
   pub fresh : IsMadeFor sight first
   pub last : Viewer
   pub saw : Saw read answered first sight.updates last
-  pub shown : sight.is_recorded ≡ false → WritesPicture last before after
+  pub shown : Writes last
+
+-- if no recording is wanted, the whole picture was written behind what stood there before
+abbrev pub Views : Sight → Option (List ℕ) → Option (List ℕ) → Option (List ℕ) →
+    Option (List ℕ) → Type 0
+Views sight read answered before after =
+    ViewsTo (λ last. sight.is_recorded ≡ false → WritesPicture last before after) sight
+    read answered
+
+-- the output is as it was, or a beginning of the picture was written
+abbrev pub LeavesView : Sight → Option (List ℕ) → Option (List ℕ) → Option (List ℕ) →
+    Option (List ℕ) → Type 0
+LeavesView sight read answered before after =
+    (after ≡ before) ⊎ ViewsTo (λ last. BeginsPicture last before after) sight read answered
 
 -- a viewer that was fed is the reason why nothing more is seen, or the machine is
 abbrev pub StopsView : Option (List ℕ) → Option (List ℕ) → Viewer → ℕ → Failure → Viewer → Type 0
@@ -53,3 +67,23 @@ abbrev pub FailsToView : Sight → Option (List ℕ) → Option (List ℕ) → F
 FailsToView sight read answered failure =
     (first last : Viewer) × IsMadeFor sight first
     × StopsView read answered first sight.updates failure last
+
+-- ---- a connection of whose bytes nothing is known
+
+-- a sight was seen over it
+abbrev pub ViewsSome : Sight → Option (List ℕ) → Option (List ℕ) → Type 0
+ViewsSome sight before after =
+    (read answered : Option (List ℕ)) × Views sight read answered before after
+
+-- or not, and then the output is so left
+abbrev pub LeavesSomeView : Sight → Option (List ℕ) → Option (List ℕ) → Type 0
+LeavesSomeView sight before after =
+    (after ≡ before)
+    ⊎ ((read answered : Option (List ℕ))
+    × ViewsTo (λ last. BeginsPicture last before after) sight read answered)
+
+-- there was none, or the machine failed; or what came over it ended a fresh viewer, or ended early
+abbrev pub FailsToViewSome : Sight → Failure → Type 0
+FailsToViewSome sight failure =
+    ((fault : OwnFault) × (failure ≡ Fault fault))
+    ⊎ ((read answered : Option (List ℕ)) × FailsToView sight read answered failure)

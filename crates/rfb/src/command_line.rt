@@ -1,8 +1,8 @@
 //! The command line: what the words ask for is done, and the exit status is chosen.
 
-ghost use Rattle.std.specs.Prelude.{◌≡◌, ◌≢◌, ◌≤◌, map, OnOk};
+ghost use Rattle.std.specs.Prelude.{◌≡◌, ◌≢◌, ◌≤◌, map, OnOk, OnErr};
 ghost use Rattle.rfb.specs.Options.{AreCommand, AreMistaken, HaveMeaning};
-ghost use Rattle.rfb.specs.CommandLine.{Does, DoesAsked};
+ghost use Rattle.rfb.specs.CommandLine.{Does, DoesAsked, Leaves, LeavesAsked};
 ghost use Rattle.std.specs.IoError.{error_kind};
 ghost use Rattle.std.specs.declared.io.ErrorKind.TheVariants.{InvalidData};
 
@@ -36,7 +36,8 @@ For more information, try '--help'.";
 ///
 /// - 0: the work is done. Help and the version count as work, and go to `output`.
 /// - 1: it failed, and a line on `errors` says why. Nothing was written to `output`, unless writing
-///   there is what failed.
+///   there is what failed: then a beginning of what was to be written. What `serve` and `view
+///   --record` write as they go stays.
 /// - 2: the words ask for nothing that there is, and `errors` has a text that says so.
 ///
 /// `output` is flushed before the status is chosen. A write to `errors` that fails changes nothing.
@@ -52,6 +53,9 @@ pub fn command<P: AllocGlobal + Net, S: AsStr, R: Read, W: Write, E: Write>(
     ensures mistake { result ≡ 2 → AreMistaken (map S.text words.now) }
     ensures played { result ≡ 0 → AreCommand (map S.text words.now) →
         DoesAsked (map S.text words.now)
+        (R.remaining input.old) (W.contents output.old) (W.contents output.new) }
+    ensures failed { result ≡ 1 → AreCommand (map S.text words.now) →
+        LeavesAsked (map S.text words.now)
         (R.remaining input.old) (W.contents output.old) (W.contents output.new) }
 {
     let alloc = rt.alloc();
@@ -84,7 +88,9 @@ fn work<P: AllocGlobal + Net, R: Read, W: Write, E: Write>(
     output: &mut W,
     errors: &mut E,
 ) -> Result<(), Failure>
-    ensures { OnOk result (Does task.entry
+    ensures done { OnOk result (Does task.entry
+        (R.remaining input.old) (W.contents output.old) (W.contents output.new)) }
+    ensures left { OnErr result (Leaves task.entry
         (R.remaining input.old) (W.contents output.old) (W.contents output.new)) }
 {
     let alloc = rt.alloc();

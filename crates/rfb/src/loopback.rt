@@ -1,8 +1,8 @@
 //! A script whose two ends talk over a connection of this process to itself.
 
-ghost use Rattle.std.specs.Prelude.{◌≡◌, ℕ, Err, OnOk, IfErr};
+ghost use Rattle.std.specs.Prelude.{◌≡◌, ℕ, Err, OnOk, OnErr, IfErr};
 ghost use Rattle.rfb.specs.CommandLine.{FailsAt};
-ghost use Rattle.rfb.specs.Loopback.{PlaysSomeScript, WritesSomePicture};
+ghost use Rattle.rfb.specs.Loopback.{LeavesSomePicture, PlaysSomeScript, WritesSomePicture};
 ghost use Rattle.rfb.specs.Recording.{WritesPicture};
 ghost use Rattle.rfb.specs.declared.fault.Failure.TheVariants as Failure;
 
@@ -37,6 +37,8 @@ pub fn script_through_loopback<N: Net, R: Read, W: Write, E: Write>(
         (PlaysSomeScript (R.remaining input.old) (W.contents output.old) (W.contents output.new)) }
     ensures stopped { IfErr result (FailsAt (R.remaining input.old)) }
     ensures unwritten { (n : ℕ) → result ≡ Err (Failure.BadLine n) → output.new ≡ output.old }
+    ensures left { OnErr result
+        (LeavesSomePicture (W.contents output.old) (W.contents output.new)) }
 {
     let mut text = Vec::new(alloc);
     input.read_to_end(&mut text)?;
@@ -53,7 +55,9 @@ fn run<N: Net, W: Write, E: Write>(
     output: &mut W,
     errors: &mut E,
 ) -> Result<(), Fault>
-    ensures { OnOk result (WritesSomePicture (W.contents output.old) (W.contents output.new)) }
+    ensures done { OnOk result (WritesSomePicture (W.contents output.old) (W.contents output.new)) }
+    ensures left { OnErr result
+        (LeavesSomePicture (W.contents output.old) (W.contents output.new)) }
 {
     let mut link = connected(net)?;
     let done = run_over(alloc, &mut link, script, output, errors);
@@ -69,7 +73,9 @@ fn run_over<C: Read + Write, W: Write, E: Write>(
     output: &mut W,
     errors: &mut E,
 ) -> Result<(), Fault>
-    ensures { OnOk result (WritesSomePicture (W.contents output.old) (W.contents output.new)) }
+    ensures done { OnOk result (WritesSomePicture (W.contents output.old) (W.contents output.new)) }
+    ensures left { OnErr result
+        (LeavesSomePicture (W.contents output.old) (W.contents output.new)) }
 {
     let mut ends = Ends::new(alloc, script.screen, &script.wants)?;
     let done = finish(alloc, &mut ends, link, &script.steps, output, errors);
@@ -86,8 +92,10 @@ fn finish<C: Read + Write, W: Write, E: Write>(
     output: &mut W,
     errors: &mut E,
 ) -> Result<(), Fault>
-    ensures { OnOk result
+    ensures done { OnOk result
         (WritesPicture ends.new.viewer (W.contents output.old) (W.contents output.new)) }
+    ensures left { OnErr result
+        (LeavesSomePicture (W.contents output.old) (W.contents output.new)) }
 {
     play_all(alloc, ends, link, steps, errors)?;
     write_picture(&ends.viewer, output)

@@ -1,10 +1,11 @@
 //! Recordings of a server, played to a viewer.
 
-ghost use Rattle.std.specs.Prelude.{◌≡◌, ◌≤◌, Err, IfOk, IfErr, IfSome, OnOk};
+ghost use Rattle.std.specs.Prelude.{◌≡◌, ◌≤◌, ◌⊎◌, Err, IfOk, IfErr, IfSome, OnOk, OnErr};
 ghost use Rattle.rfb.specs.declared.fault.Fault.{Fault};
 ghost use Rattle.rfb_session.specs.declared.engine.fault.EngineFault.{EngineFault};
 ghost use Rattle.rfb.specs.declared.fault.Failure.TheVariants as Failure;
-ghost use Rattle.rfb.specs.Recording.{FailsToPlay, PlaysRecording, WritesPicture, Watches, StopsWatching};
+ghost use Rattle.rfb.specs.Recording.{BeginsPicture, FailsToPlay, LeavesRecording, PlaysRecording};
+ghost use Rattle.rfb.specs.Recording.{WritesPicture, Watches, StopsWatching};
 ghost use Rattle.rfb.specs.Recording.{WatchesAll, StopsWatchingAll, WatchesSome, StopsWatchingSome};
 
 mod replay;
@@ -33,6 +34,8 @@ pub fn play_recording<R: Read, W: Write>(
     ensures stopped { IfErr result (FailsToPlay replay (R.remaining input.old)) }
     ensures unwritten { (fault : EngineFault) → result ≡ Err (Failure.Engine fault) →
         output.new ≡ output.old }
+    ensures left { OnErr result (LeavesRecording replay
+        (R.remaining input.old) (W.contents output.old) (W.contents output.new)) }
 {
     let mut viewer = fresh_viewer(alloc, replay.format, only_raw());
     match watch(input, &mut viewer, replay.updates) {
@@ -87,6 +90,8 @@ fn watch_all<R: Read>(input: &mut R, viewer: &mut Viewer) -> Result<u64, EngineF
 pub fn show<W: Write>(viewer: &Viewer, output: &mut W) -> Result<(), Failure>
     ensures done { OnOk result
         (WritesPicture viewer.now (W.contents output.old) (W.contents output.new)) }
+    ensures left { OnErr result ((output.new ≡ output.old)
+        ⊎ BeginsPicture viewer.now (W.contents output.old) (W.contents output.new)) }
     ensures stopped { IfErr result (λ failure. (fault : Fault) × (failure ≡ Failure.Fault fault)) }
 {
     match write_picture(viewer, output) {
@@ -95,10 +100,12 @@ pub fn show<W: Write>(viewer: &Viewer, output: &mut W) -> Result<(), Failure>
     }
 }
 
-/// Writes what a viewer shows, as PPM.
+/// Writes what a viewer shows, as PPM. Where there is no picture, nothing is written.
 pub fn write_picture<W: Write>(viewer: &Viewer, output: &mut W) -> Result<(), Fault>
-    ensures { OnOk result
+    ensures done { OnOk result
         (WritesPicture viewer.now (W.contents output.old) (W.contents output.new)) }
+    ensures left { OnErr result ((output.new ≡ output.old)
+        ⊎ BeginsPicture viewer.now (W.contents output.old) (W.contents output.new)) }
 {
     let picture = viewer.picture().ok_or(Fault::NotReady)?;
     write_ppm(picture, output)?;

@@ -1,8 +1,10 @@
 //! A script from its bytes to its picture.
 
-ghost use Rattle.std.specs.Prelude.{◌≡◌, ℕ, Err, OnOk, IfErr};
-ghost use Rattle.rfb.specs.CommandLine.{FailsAt, PlaysScript, WritesPlayed, WritesShown};
+ghost use Rattle.std.specs.Prelude.{◌≡◌, ◌⊎◌, ℕ, Err, OnOk, OnErr, IfErr};
+ghost use Rattle.rfb.specs.CommandLine.{FailsAt, LeavesPlayed, LeavesScript, PlaysScript};
+ghost use Rattle.rfb.specs.CommandLine.{ShowsTo, WritesPlayed, WritesShown};
 ghost use Rattle.rfb.specs.Playing.{TakesAll, ends_of};
+ghost use Rattle.rfb_session.specs.Devices.{AppendsBeginning};
 ghost use Rattle.rfb_session.specs.InFlight.{AreMade};
 ghost use Rattle.rfb.specs.declared.fault.Failure.TheVariants as Failure;
 
@@ -26,6 +28,8 @@ pub fn script<R: Read, W: Write, E: Write>(
         (PlaysScript (R.remaining input.old) (W.contents output.old) (W.contents output.new)) }
     ensures stopped { IfErr result (FailsAt (R.remaining input.old)) }
     ensures unwritten { (n : ℕ) → result ≡ Err (Failure.BadLine n) → output.new ≡ output.old }
+    ensures left { OnErr result
+        (LeavesScript (R.remaining input.old) (W.contents output.old) (W.contents output.new)) }
 {
     let mut text = Vec::new(alloc);
     input.read_to_end(&mut text)?;
@@ -41,8 +45,11 @@ fn run<W: Write, E: Write>(
     output: &mut W,
     errors: &mut E,
 ) -> Result<(), Fault>
-    ensures { AreMade (ends_of script.now.screen script.now.wants) → OnOk result
+    ensures done { AreMade (ends_of script.now.screen script.now.wants) → OnOk result
         (WritesPlayed script.now.screen script.now.wants script.now.steps.items
+        (W.contents output.old) (W.contents output.new)) }
+    ensures left { AreMade (ends_of script.now.screen script.now.wants) → OnErr result
+        (LeavesPlayed script.now.screen script.now.wants script.now.steps.items
         (W.contents output.old) (W.contents output.new)) }
 {
     let mut world = fresh_world(alloc, script.screen, &script.wants)?;
@@ -62,6 +69,9 @@ fn finish<W: Write, E: Write>(
     ensures taken { OnOk result (TakesAll world.old steps.now world.new) }
     ensures shown { OnOk result
         (WritesShown world.new (W.contents output.old) (W.contents output.new)) }
+    ensures left { OnErr result ((output.new ≡ output.old)
+        ⊎ (TakesAll world.old steps.now world.new
+        × ShowsTo (AppendsBeginning (W.contents output.old) (W.contents output.new)) world.new)) }
 {
     play_all(alloc, world, steps, errors)?;
     let picture = world.picture().ok_or(Fault::NotReady)?;

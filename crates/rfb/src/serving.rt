@@ -1,5 +1,15 @@
 //! A server of the test scene, over sockets: one connection after another.
 
+ghost use Rattle.std.specs.Prelude.{◌≡◌, ◌⊎◌, ℕ, List, Ok, Err, IfOk, IfErr, OnOk, OnErr};
+ghost use Rattle.std.specs.Io.KnownBytes.{Appends};
+ghost use Rattle.rfb_session.specs.Devices.{AppendsBeginning};
+ghost use Rattle.rfb.specs.Playing.{IsFreshServer};
+ghost use Rattle.rfb.specs.Scene.{ShowsScene};
+ghost use Rattle.rfb.specs.Serving.{IsLineOf, IsServed, IsServedFrom, IsServedSome};
+ghost use Rattle.rfb.specs.Serving.{ServesFewer, ServesSo};
+ghost use Rattle.rfb.specs.declared.fault.Failure.TheVariants as Failure;
+ghost use Rattle.rfb.specs.declared.fault.Fault.{Fault};
+
 use crate::fault::Failure;
 use crate::playing::fresh_server;
 use crate::scene::TestScene;
@@ -26,14 +36,22 @@ pub fn serve_at<N: Net, W: Write>(
     alloc: Global,
     wanted: Wanted,
     output: &mut W,
-) -> Result<(), Failure> {
+) -> Result<(), Failure>
+    ensures done { OnOk result (ServesSo wanted.screen wanted.connections
+        (W.contents output.old) (W.contents output.new)) }
+    ensures stopped { OnErr result (ServesFewer wanted.screen wanted.connections
+        (W.contents output.old) (W.contents output.new)) }
+    ensures why { IfErr result (λ failure.
+        (fault : Fault) × (failure ≡ Failure.Fault fault)) }
+{
     let listener = TcpListener::bind(net, ("127.0.0.1", wanted.port))?;
     serve_on(alloc, &listener, wanted.screen, wanted.connections, output)
 }
 
 /// Serves so many connections, each with a fresh screen. As soon as one ends, a line on `output`
 /// says how many updates were sent, or which fault ended it. One that cannot be accepted counts,
-/// as a fault of a device.
+/// as a fault of a device. It gives an error only where a line cannot be written or flushed, or
+/// there is no memory for it; then a beginning of the lines was written.
 pub fn serve_on<L: OpenListener, W: Write>(
     alloc: Global,
     listener: &L,
@@ -43,6 +61,12 @@ pub fn serve_on<L: OpenListener, W: Write>(
 ) -> Result<(), Failure>
 where
     L::Stream: Read + Write + OpenStream,
+    ensures done { OnOk result (ServesSo screen connections
+        (W.contents output.old) (W.contents output.new)) }
+    ensures stopped { OnErr result (ServesFewer screen connections
+        (W.contents output.old) (W.contents output.new)) }
+    ensures why { IfErr result (λ failure.
+        (fault : Fault) × (failure ≡ Failure.Fault fault)) }
 {
     for _connection in 0..connections {
         let ended = serve_next(alloc, listener, screen);
@@ -59,6 +83,7 @@ fn serve_next<L: OpenListener>(
 ) -> Result<u64, EngineFault>
 where
     L::Stream: Read + Write + OpenStream,
+    ensures { IsServedSome screen result }
 {
     let Ok((stream, _address)) = listener.accept() else {
         return Err(EngineFault::Device);
@@ -76,10 +101,12 @@ fn serve_fresh<R: Read + Drop, W: Write + Drop>(
     screen: Screen,
     reader: R,
     writer: W,
-) -> Result<u64, EngineFault> {
+) -> Result<u64, EngineFault>
+    ensures { IsServed screen (R.remaining reader) (W.contents writer) result }
+{
     match fresh_server(alloc, screen) {
         Ok(mut server) => {
-            let ended = serve_scene(alloc, &mut server, reader, writer);
+            let ended = serve_scene(alloc, screen, &mut server, reader, writer);
             // By a call: what a body's end lets go is proved field by field.
             drop(server);
             ended
@@ -88,21 +115,36 @@ fn serve_fresh<R: Read + Drop, W: Write + Drop>(
     }
 }
 
-// Serves them with the test scene.
+// Serves them with the test scene, on a server that was fed nothing.
 fn serve_scene<R: Read + Drop, W: Write + Drop>(
     alloc: Global,
+    screen: Screen,
     server: &mut Server,
     reader: R,
     writer: W,
-) -> Result<u64, EngineFault> {
+) -> Result<u64, EngineFault>
+    requires fresh { IsFreshServer screen server.old }
+    ensures { IsServed screen (R.remaining reader) (W.contents writer) result }
+{
     match TestScene::new(alloc, server) {
-        Ok(mut scene) => {
-            let mut source = Tally::new(reader);
-            let mut sink = Tally::new(writer);
-            serve(alloc, &mut source, &mut sink, server, &mut scene)
-        }
+        Ok(mut scene) => serve_shown(alloc, server, &mut scene, reader, writer),
         Err(_) => Err(EngineFault::NoMemory),
     }
+}
+
+// Serves them with a server and its scene.
+fn serve_shown<R: Read + Drop, W: Write + Drop>(
+    alloc: Global,
+    server: &mut Server,
+    scene: &mut TestScene,
+    reader: R,
+    writer: W,
+) -> Result<u64, EngineFault>
+    ensures { IsServedFrom (R.remaining reader) (W.contents writer) server.old result }
+{
+    let mut source = Tally::new(reader);
+    let mut sink = Tally::new(writer);
+    serve(alloc, &mut source, &mut sink, server, scene)
 }
 
 // Prints how a connection has ended, in one write, and flushes it.
@@ -110,7 +152,15 @@ fn tell_end<W: Write>(
     alloc: Global,
     ended: Result<u64, EngineFault>,
     output: &mut W,
-) -> Result<(), Failure> {
+) -> Result<(), Failure>
+    ensures done { OnOk result ((line : List ℕ) × IsLineOf ended line
+        × Appends (W.contents output.old) (W.contents output.new) line) }
+    ensures stopped { OnErr result ((output.new ≡ output.old)
+        ⊎ ((line : List ℕ) × IsLineOf ended line
+        × AppendsBeginning (W.contents output.old) (W.contents output.new) line)) }
+    ensures why { IfErr result (λ failure.
+        (fault : Fault) × (failure ≡ Failure.Fault fault)) }
+{
     let line = line_of(alloc, ended)?;
     write_whole(&line, output)?;
     output.flush()?;
@@ -118,14 +168,30 @@ fn tell_end<W: Write>(
 }
 
 // The line that says how a connection has ended.
-fn line_of(alloc: Global, ended: Result<u64, EngineFault>) -> io::Result<Vec<u8>> {
-    let mut line = Vec::new(alloc);
-    let written = match ended {
-        Ok(updates) => writeln!(&mut line, "ok {updates}"),
-        Err(fault) => writeln!(&mut line, "fault {fault}"),
-    };
-    match written {
-        Ok(()) => Ok(line),
-        Err(error) => Err(error),
+fn line_of(alloc: Global, ended: Result<u64, EngineFault>) -> io::Result<Vec<u8>>
+    ensures { IfOk result (λ line. IsLineOf ended line.items) }
+{
+    match ended {
+        Ok(updates) => line_of_updates(alloc, updates),
+        Err(fault) => line_of_fault(alloc, fault),
     }
+}
+
+// The line behind so many updates.
+fn line_of_updates(alloc: Global, updates: u64) -> io::Result<Vec<u8>>
+    ensures { IfOk result (λ line. IsLineOf (Ok updates) line.items) }
+{
+    let mut line = Vec::new(alloc);
+    writeln!(&mut line, "ok {updates}")?;
+    Ok(line)
+}
+
+// The line behind a fault.
+fn line_of_fault(alloc: Global, fault: EngineFault) -> io::Result<Vec<u8>>
+    ensures { IfOk result (λ line. IsLineOf (Err fault) line.items) }
+{
+    let text = format!(in alloc; "{fault}")?;
+    let mut line = Vec::new(alloc);
+    writeln!(&mut line, "fault {text}")?;
+    Ok(line)
 }

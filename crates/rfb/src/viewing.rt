@@ -1,9 +1,10 @@
 //! A viewer of a server over a socket.
 
-ghost use Rattle.std.specs.Prelude.{◌≡◌, ◌≤◌, false, Err, IfOk, IfErr, OnOk};
+ghost use Rattle.std.specs.Prelude.{◌≡◌, ◌≤◌, false, Err, IfOk, IfErr, OnOk, OnErr};
 ghost use Rattle.rfb_session.specs.declared.engine.fault.EngineFault.{EngineFault};
 ghost use Rattle.rfb.specs.declared.fault.Failure.TheVariants as Failure;
-ghost use Rattle.rfb.specs.Viewing.{FailsToView, Saw, StopsSeeing, StopsView, Views};
+ghost use Rattle.rfb.specs.Viewing.{FailsToView, FailsToViewSome, Saw, StopsSeeing, StopsView};
+ghost use Rattle.rfb.specs.Viewing.{LeavesSomeView, LeavesView, Views, ViewsSome};
 
 mod look;
 
@@ -17,25 +18,42 @@ use std::alloc::Global;
 use std::io::{Read, Write};
 use std::net::{Net, OpenStream, TcpStream};
 
-/// Connects to a server, and views it.
+/// Connects to a server, and views it. What is written, and why it fails, is as for `view_on`.
 pub fn view_at<N: Net, W: Write>(
     net: &N,
     alloc: Global,
     look: Look<'_>,
     output: &mut W,
-) -> Result<(), Failure> {
+) -> Result<(), Failure>
+    ensures done { OnOk result
+        (ViewsSome look.entry.sight (W.contents output.old) (W.contents output.new)) }
+    ensures stopped { IfErr result (FailsToViewSome look.entry.sight) }
+    ensures unwritten { look.entry.sight.is_recorded ≡ false → (fault : EngineFault) →
+        result ≡ Err (Failure.Engine fault) → output.new ≡ output.old }
+    ensures left { look.entry.sight.is_recorded ≡ false → OnErr result
+        (LeavesSomeView look.entry.sight (W.contents output.old) (W.contents output.new)) }
+{
     let stream = TcpStream::connect(net, (look.host, look.port))?;
     view_on(alloc, stream, look.sight, output)
 }
 
-/// Views the server at the other end of a connection. What is written goes out at once: the server
-/// waits for it.
+/// Views the server at the other end of a connection, up to the end of the last update that is
+/// wanted, and writes the picture that it shows then; or its bytes as they come, if these are
+/// wanted. What is sent goes out at once: the server waits for it.
 pub fn view_on<S: Read + Write + OpenStream + Drop, W: Write>(
     alloc: Global,
     stream: S,
     sight: Sight,
     output: &mut W,
-) -> Result<(), Failure> {
+) -> Result<(), Failure>
+    ensures done { OnOk result
+        (ViewsSome sight (W.contents output.old) (W.contents output.new)) }
+    ensures stopped { IfErr result (FailsToViewSome sight) }
+    ensures unwritten { sight.is_recorded ≡ false → (fault : EngineFault) →
+        result ≡ Err (Failure.Engine fault) → output.new ≡ output.old }
+    ensures left { sight.is_recorded ≡ false → OnErr result
+        (LeavesSomeView sight (W.contents output.old) (W.contents output.new)) }
+{
     let _ = stream.set_nodelay(true);
     let other = stream.try_clone()?;
     view_over(alloc, stream, other, sight, output)
@@ -56,6 +74,9 @@ fn view_over<R: Read + Drop, V: Write + Drop, W: Write>(
     ensures stopped { IfErr result (FailsToView sight (R.remaining reader) (V.contents writer)) }
     ensures unwritten { sight.is_recorded ≡ false → (fault : EngineFault) →
         result ≡ Err (Failure.Engine fault) → output.new ≡ output.old }
+    ensures left { sight.is_recorded ≡ false → OnErr result
+        (LeavesView sight (R.remaining reader) (V.contents writer)
+        (W.contents output.old) (W.contents output.new)) }
 {
     let updates = sight.updates;
     let is_recorded = sight.is_recorded;

@@ -1,17 +1,16 @@
 //! Bytes that arrive at an end, and what it answers.
 
-ghost use Rattle.std.specs.Prelude.{◌≡◌, ◌≤◌, drop, None, Some, IfOk, OnOk};
-ghost use Rattle.rfb_server.specs.Standing.{fault_of as server_fault};
+ghost use Rattle.std.specs.Prelude.{◌≡◌, ◌≢◌, ◌≤◌, ◌++◌, drop, take, IfOk, OnOk};
+ghost use Rattle.rfb_server.specs.declared.fault.ServerFault.TheVariants as ServerFault;
 ghost use Rattle.rfb_server.specs.Told.{seen as seen_by_server};
-ghost use Rattle.rfb_viewer.specs.Standing.{fault_of as viewer_fault};
+ghost use Rattle.rfb_viewer.specs.declared.fault.ViewerFault.TheVariants as ViewerFault;
 ghost use Rattle.rfb_viewer.specs.Told.{seen as seen_by_viewer};
 ghost use Rattle.rfb_session.specs.InFlight.{server_reply as reply_of_server};
 ghost use Rattle.rfb_session.specs.InFlight.{viewer_reply as reply_of_viewer};
-ghost use Rattle.rfb_session.specs.ServeEngine.{IsHeard};
-ghost use Rattle.rfb.specs.Loopback.{IsFed};
+ghost use Rattle.rfb.specs.Delivery.{Hears, ReachesServer, ReachesViewer, Watches, server_end, viewer_end};
 
 use crate::fault::Fault;
-use crate::loopback::link::PART;
+use crate::loopback::link::{Link, PART};
 use rfb_server::{Server, ServerEvent, ServerFault};
 use rfb_viewer::{Viewer, ViewerEvent, ViewerFault};
 use std::collections::VecDeque;
@@ -26,6 +25,8 @@ pub fn take_some(
     requires some { 1 ≤ most }
     ensures count { IfOk result (λ taken. (1 ≤ taken) × (taken ≤ most) × (taken ≤ 4096)) }
     ensures taken { IfOk result (λ taken. in_flight.new.items ≡ drop taken in_flight.old.items) }
+    ensures part { IfOk result (λ taken.
+        in_flight.old.items ≡ take taken part.new ++ in_flight.new.items) }
 {
     let wanted = most.min(PART);
     let taken = in_flight.read(&mut part[..wanted])?;
@@ -35,11 +36,43 @@ pub fn take_some(
     Ok(taken)
 }
 
-/// Feeds the server all of these bytes, and its answers are in flight. One that has failed takes
-/// them to no effect.
-pub fn hear(bytes: &[u8], server: &mut Server, to_viewer: &mut VecDeque<u8>) -> Result<(), Fault>
-    ensures { OnOk result (server_fault server.new ≡ None → IsHeard server.old bytes.now
-        (Some to_viewer.old.items) (Some to_viewer.new.items) server.new) }
+/// Sends these bytes over the connection, and feeds the server what comes there in their place.
+pub fn reach_server<C: Read + Write>(
+    bytes: &mut [u8],
+    link: &mut Link<C>,
+    server: &mut Server,
+    to_viewer: &mut VecDeque<u8>,
+) -> Result<(), Fault>
+    ensures { OnOk result (ReachesServer bytes.old
+        (C.contents (viewer_end link.old)) (C.contents (viewer_end link.new))
+        (C.remaining (server_end link.old)) (C.remaining (server_end link.new))
+        server.old to_viewer.old.items to_viewer.new.items server.new) }
+{
+    link.to_server(bytes)?;
+    hear(bytes, server, to_viewer)
+}
+
+/// The same the other way.
+pub fn reach_viewer<C: Read + Write>(
+    bytes: &mut [u8],
+    link: &mut Link<C>,
+    viewer: &mut Viewer,
+    to_server: &mut VecDeque<u8>,
+) -> Result<(), Fault>
+    ensures { OnOk result (ReachesViewer bytes.old
+        (C.contents (server_end link.old)) (C.contents (server_end link.new))
+        (C.remaining (viewer_end link.old)) (C.remaining (viewer_end link.new))
+        viewer.old to_server.old.items to_server.new.items viewer.new) }
+{
+    link.to_viewer(bytes)?;
+    watch(bytes, viewer, to_server)
+}
+
+// Feeds the server all of these bytes, and its answers are in flight. One that has failed takes
+// them to no effect.
+fn hear(bytes: &[u8], server: &mut Server, to_viewer: &mut VecDeque<u8>) -> Result<(), Fault>
+    ensures { OnOk result
+        (Hears server.old bytes.now to_viewer.old.items to_viewer.new.items server.new) }
 {
     let mut rest = bytes;
     while !rest.is_empty() {
@@ -48,17 +81,16 @@ pub fn hear(bytes: &[u8], server: &mut Server, to_viewer: &mut VecDeque<u8>) -> 
                 to_viewer.write_all(server_reply(&fed.event))?;
                 rest = &rest[fed.used..];
             }
-            Err(ServerFault::NoMemory) => return Err(Fault::NoMemory),
-            Err(_) => return Ok(()),
+            Err(fault) => return end_of_server(fault),
         }
     }
     Ok(())
 }
 
-/// The same of the viewer.
-pub fn watch(bytes: &[u8], viewer: &mut Viewer, to_server: &mut VecDeque<u8>) -> Result<(), Fault>
-    ensures { OnOk result (viewer_fault viewer.new ≡ None → IsFed viewer.old bytes.now
-        (Some to_server.old.items) (Some to_server.new.items) viewer.new) }
+// The same of the viewer.
+fn watch(bytes: &[u8], viewer: &mut Viewer, to_server: &mut VecDeque<u8>) -> Result<(), Fault>
+    ensures { OnOk result
+        (Watches viewer.old bytes.now to_server.old.items to_server.new.items viewer.new) }
 {
     let mut rest = bytes;
     while !rest.is_empty() {
@@ -67,11 +99,30 @@ pub fn watch(bytes: &[u8], viewer: &mut Viewer, to_server: &mut VecDeque<u8>) ->
                 to_server.write_all(viewer_reply(&fed.event))?;
                 rest = &rest[fed.used..];
             }
-            Err(ViewerFault::NoMemory) => return Err(Fault::NoMemory),
-            Err(_) => return Ok(()),
+            Err(fault) => return end_of_viewer(fault),
         }
     }
     Ok(())
+}
+
+// A fault of its bytes ends the server alone, and want of memory the script.
+fn end_of_server(fault: ServerFault) -> Result<(), Fault>
+    ensures { OnOk result (fault ≢ ServerFault.NoMemory) }
+{
+    match fault {
+        ServerFault::NoMemory => Err(Fault::NoMemory),
+        _ => Ok(()),
+    }
+}
+
+// The same of the viewer.
+fn end_of_viewer(fault: ViewerFault) -> Result<(), Fault>
+    ensures { OnOk result (fault ≢ ViewerFault.NoMemory) }
+{
+    match fault {
+        ViewerFault::NoMemory => Err(Fault::NoMemory),
+        _ => Ok(()),
+    }
 }
 
 // The bytes that are sent for what a server tells.

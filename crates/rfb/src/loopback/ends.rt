@@ -1,6 +1,6 @@
 //! A server, its viewer, and the bytes in flight between them.
 
-ghost use Rattle.std.specs.Prelude.{◌≡◌, ◌≤◌, [], min, length, drop, IfOk, OnOk, OnErr};
+ghost use Rattle.std.specs.Prelude.{◌≡◌, ◌≤◌, [], min, length, take, drop, IfOk, OnOk, OnErr};
 ghost use Rattle.rfb_hello.specs.Version.{version_text};
 ghost use Rattle.rfb_hello.specs.declared.version.Version.TheVariants.{V38};
 ghost use Rattle.rfb.specs.Few.{cut_by};
@@ -8,7 +8,7 @@ ghost use Rattle.rfb.specs.Playing.{IsFreshServer, encodings_of, format_of};
 ghost use Rattle.rfb.specs.Recording.{IsFresh};
 
 use crate::fault::Fault;
-use crate::loopback::arriving::{hear, take_some, watch};
+use crate::loopback::arriving::{reach_server, reach_viewer, take_some};
 use crate::loopback::link::{Link, PART};
 use crate::loopback::sending::{compose, cut_text, in_flight, of_drawing, send, send_list};
 use crate::playing::{copy_of, fresh_server, fresh_viewer, wishes};
@@ -31,6 +31,7 @@ pub struct Ends {
 }
 
 impl Ends {
+    ghost use Rattle.rfb.specs.Delivery.{ReachesServer, ReachesViewer, server_end, viewer_end};
     ghost use Rattle.rfb.specs.Loopback.{AsksMemory, TakesEvent};
 
     /// Two fresh ends; the server's greeting is in flight.
@@ -110,14 +111,19 @@ impl Ends {
         ensures viewer { self.new.viewer ≡ self.old.viewer }
         ensures taken { OnOk result (self.new.to_server.items
             ≡ drop (min (length self.old.to_server.items) count) self.old.to_server.items) }
+        ensures reached { OnOk result (ReachesServer
+            (take (min (length self.old.to_server.items) count) self.old.to_server.items)
+            (C.contents (viewer_end link.old)) (C.contents (viewer_end link.new))
+            (C.remaining (server_end link.old)) (C.remaining (server_end link.new))
+            self.old.server self.old.to_viewer.items self.new.to_viewer.items self.new.server) }
     {
         let mut part = [0; PART];
         let wanted = self.to_server.len().min(count as usize);
         let mut left = wanted;
         while left > 0 {
             let taken = take_some(&mut self.to_server, left, &mut part)?;
-            link.to_server(&mut part[..taken])?;
-            hear(&part[..taken], &mut self.server, &mut self.to_viewer)?;
+            let server = &mut self.server;
+            reach_server(&mut part[..taken], link, server, &mut self.to_viewer)?;
             left -= taken;
         }
         Ok(())
@@ -132,14 +138,19 @@ impl Ends {
         ensures server { self.new.server ≡ self.old.server }
         ensures taken { OnOk result (self.new.to_viewer.items
             ≡ drop (min (length self.old.to_viewer.items) count) self.old.to_viewer.items) }
+        ensures reached { OnOk result (ReachesViewer
+            (take (min (length self.old.to_viewer.items) count) self.old.to_viewer.items)
+            (C.contents (server_end link.old)) (C.contents (server_end link.new))
+            (C.remaining (viewer_end link.old)) (C.remaining (viewer_end link.new))
+            self.old.viewer self.old.to_server.items self.new.to_server.items self.new.viewer) }
     {
         let mut part = [0; PART];
         let wanted = self.to_viewer.len().min(count as usize);
         let mut left = wanted;
         while left > 0 {
             let taken = take_some(&mut self.to_viewer, left, &mut part)?;
-            link.to_viewer(&mut part[..taken])?;
-            watch(&part[..taken], &mut self.viewer, &mut self.to_server)?;
+            let viewer = &mut self.viewer;
+            reach_viewer(&mut part[..taken], link, viewer, &mut self.to_server)?;
             left -= taken;
         }
         Ok(())

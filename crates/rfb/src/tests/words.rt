@@ -77,7 +77,7 @@ fn bad_words_are_told_on_errors(rt: HostRuntime) {
     }
 }
 
-// Whether a call wrote a text of help, and nothing on errors.
+// Whether a call wrote a text of help once, and nothing on errors.
 fn is_help(ended: &Ended) -> bool {
     ended.status == 0
         && ended.errors.is_empty()
@@ -85,7 +85,9 @@ fn is_help(ended: &Ended) -> bool {
         && ended
             .output
             .windows(16)
-            .any(|text| text == b"docs/PROTOCOL.md".as_slice())
+            .filter(|text| *text == b"docs/PROTOCOL.md".as_slice())
+            .count()
+            == 1
 }
 
 #[test]

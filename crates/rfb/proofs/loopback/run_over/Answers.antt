@@ -1,7 +1,7 @@
 use Rattle.rfb.proofs.LoopbackLemmas.{some_picture}
 use Rattle.rfb.proofs.loopback.run_over.Goals as goal
 
-pub returns : goal.returns
-returns g c =
+pub returns-clause-done : goal.returns-clause-done
+returns-clause-done g c =
     some_picture c.finish-done.new.ends.viewer (g.W.Write.contents c.args.output.now)
-    (g.W.Write.contents c.finish-done.new.output) c.finish-done.result c.finish-done.ensures
+    (g.W.Write.contents c.finish-done.new.output) c.finish-done.result c.finish-done.ensures.done

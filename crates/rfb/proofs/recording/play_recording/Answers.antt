@@ -1,4 +1,4 @@
-use Rattle.rfb.proofs.RecordingLemmas.{fails_to_show, plays_recording, shown_no_engine}
+use Rattle.rfb.proofs.RecordingLemmas.{fails_to_show, leaves_recording, plays_recording, shown_no_engine}
 use Rattle.rfb.proofs.recording.play_recording.Goals as goal
 
 pub returns-in-Ok-clause-done : goal.returns-in-Ok-clause-done
@@ -14,3 +14,7 @@ returns-in-Ok-clause-unwritten g c = λ fault is. absurd (shown_no_engine fault 
 pub returns-clause-stopped : goal.returns-clause-stopped
 returns-clause-stopped g c =
     (c.fresh_viewer-viewer.result, c.watch.new.viewer, rw c.only_raw.ensures at c.fresh_viewer-viewer.ensures, c.in-Err.ensures.stopped)
+
+pub returns-in-Ok-clause-left : goal.returns-in-Ok-clause-left
+returns-in-Ok-clause-left g c =
+    leaves_recording g.W.Write.contents c.args.replay _ c.args.output.now c.show.new.output _ c.watch.new.viewer _ c.show.result (rw c.only_raw.ensures at c.fresh_viewer-viewer.ensures) c.in-Ok.ensures.watched c.show.ensures.left

@@ -1,4 +1,4 @@
-use Rattle.rfb.proofs.ViewingLemmas.{fails_recorded, fails_shown, views_recorded, views_shown}
+use Rattle.rfb.proofs.ViewingLemmas.{fails_recorded, fails_shown, leaves_shown, never_recorded, views_recorded, views_shown}
 use Rattle.rfb.proofs.viewing.view_over.Goals as goal
 
 pub returns-then-is_recorded-clause-done : goal.returns-then-is_recorded-clause-done
@@ -16,3 +16,10 @@ returns-in-Ok-clause-done g c =
 pub returns-in-Ok-clause-stopped : goal.returns-in-Ok-clause-stopped
 returns-in-Ok-clause-stopped g c =
     fails_shown c.args.sight _ _ c.fresh_viewer-viewer.result c.watch.new.viewer c.show.result c.fresh_viewer-viewer.ensures c.show.ensures.stopped
+
+pub returns-then-is_recorded-clause-left : goal.returns-then-is_recorded-clause-left
+returns-then-is_recorded-clause-left g c = λ not. never_recorded c.args.sight.is_recorded _ c.if-is_recorded.true not
+
+pub returns-in-Ok-clause-left : goal.returns-in-Ok-clause-left
+returns-in-Ok-clause-left g c = λ not.
+    leaves_shown g.W.Write.contents c.args.sight _ _ c.args.output.now c.show.new.output c.fresh_viewer-viewer.result c.watch.new.viewer c.show.result c.fresh_viewer-viewer.ensures c.in-Ok.ensures.saw c.show.ensures.left

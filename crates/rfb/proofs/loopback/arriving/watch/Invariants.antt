@@ -1,11 +1,11 @@
 -- The first of the bytes were fed, and all answers to them are in flight.
-use Rattle.std.proofs.Common.{length, Some}
-use Rattle.rfb.proofs.LoopbackLemmas.{FedSoFar}
+use Rattle.std.proofs.Common.{length}
+use Rattle.rfb.proofs.DeliveryLemmas.{WatchingOn}
 use Rattle.rfb.proofs.loopback.arriving.watch.Given as goal
 
 abbrev pub invariant-loop-rest : goal.invariant-loop-rest
 invariant-loop-rest l =
-    FedSoFar l.fn.viewer l.bytes l.rest (Some l.initial.to_server.items) (Some l.to_server.items) l.viewer
+    WatchingOn l.fn.viewer l.bytes l.rest l.initial.to_server.items l.to_server.items l.viewer
 
 abbrev pub decreases-loop-rest : goal.decreases-loop-rest
 decreases-loop-rest l = length l.rest

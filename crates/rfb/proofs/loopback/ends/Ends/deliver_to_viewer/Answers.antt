@@ -1,5 +1,6 @@
-use Rattle.std.proofs.Common.{◌≡◌, ◌∙◌, ◌+◌, ◌-◌, ◌≤◌, ap, refl, arith, drop}
+use Rattle.std.proofs.Common.{◌≡◌, ◌∙◌, ◌+◌, ◌-◌, ◌≤◌, ap, refl, arith, length, length-take-le, take, drop}
 use Rattle.std.proofs.lemmas.List.{drop-drop}
+use Rattle.rfb.proofs.DeliveryLemmas.{reaches_viewer_none, reaches_viewer_more}
 use Rattle.rfb.proofs.loopback.ends.Ends.deliver_to_viewer.Goals as goal
 
 pub loop-left-init : goal.loop-left-init
@@ -9,6 +10,8 @@ loop-left-init g c =
       some = omega arith;
       other = refl;
       taken = ap (λ n. drop n c.args.self.now.to_viewer.items) none;
+      reached = reaches_viewer_none c.args.self.now.to_viewer.items _ _ _ c.args.self.now.viewer
+          c.args.self.now.to_server.items none;
     }
 
 pub loop-left-preserved : goal.loop-left-preserved
@@ -20,9 +23,13 @@ loop-left-preserved g c =
     let some : taken ≤ l.left = c.in_ok-taken.ensures.count.1 in
     let more : (wanted - l.left) + taken ≡ wanted - (l.left - taken) =
     omega (arith, some, l.invariant.some) in
+    let size : length (take taken c.take_some.new.part) ≡ taken =
+    length-take-le taken c.take_some.new.part (omega (arith, c.take_some.array_long, c.in_ok-taken.ensures.count)) in
     record {
       some = omega (arith, l.invariant.some);
       other = l.invariant.other;
       taken = c.in_ok-taken.ensures.taken ∙ ap (drop taken) l.invariant.taken
           ∙ drop-drop taken (wanted - l.left) bytes ∙ ap (λ n. drop n bytes) more;
+      reached = reaches_viewer_more bytes _ _ _ (wanted - l.left) taken (wanted - (l.left - taken)) _ _ _ _ _ _ _ _ _ _ _ _
+          l.invariant.taken c.in_ok-taken.ensures.part size more l.invariant.reached c.in_ok-reach_viewer.ensures;
     }

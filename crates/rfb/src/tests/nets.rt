@@ -1,0 +1,195 @@
+//! A network of a test's own, that keeps what is asked of it.
+
+use super::devices::FailingWriter;
+use super::streams::{CLIENT, SERVER};
+use crate::command_line::command;
+use crate::script::Screen;
+use crate::serving::serve_on;
+use std::cell::Cell;
+use std::io;
+use std::io::{ErrorKind, Read, Write};
+use std::net::{Net, OpenListener, OpenStream, SocketAddr};
+use std::os::fd::{AsRawFd, RawFd};
+
+// The addresses that were listened on, and connected to; and what each server has sent.
+#[derive(Drop)]
+struct Asked {
+    bound: Cell<Option<SocketAddr>>,
+    called: Cell<Option<SocketAddr>>,
+    sent: &'static [u8],
+}
+
+// A listener with so many connections still to come.
+#[derive(Drop)]
+struct Ear {
+    left: Cell<usize>,
+}
+
+// A connection over which the other end has sent these bytes, and sends no more.
+#[derive(Drop)]
+struct Wire {
+    unread: &'static [u8],
+}
+
+impl Net for Asked {
+    type Stream = Wire;
+
+    type Listener = Ear;
+
+    fn bind(&self, address: SocketAddr) -> io::Result<Ear> {
+        self.bound.set(Some(address));
+        Ok(Ear { left: Cell::new(0) })
+    }
+
+    fn connect(&self, address: SocketAddr) -> io::Result<Wire> {
+        self.called.set(Some(address));
+        Ok(Wire { unread: self.sent })
+    }
+}
+
+impl OpenListener for Ear {
+    type Stream = Wire;
+
+    fn accept(&self) -> io::Result<(Wire, SocketAddr)> {
+        let left = self.left.get();
+        if left == 0 {
+            return Err(io::Error::from(ErrorKind::Other));
+        }
+        self.left.set(left - 1);
+        Ok((
+            Wire { unread: CLIENT },
+            SocketAddr::from(([127, 0, 0, 1], 9)),
+        ))
+    }
+}
+
+impl OpenStream for Wire {
+    fn try_clone(&self) -> io::Result<Wire> {
+        Ok(Wire { unread: b"" })
+    }
+}
+
+impl Read for Wire {
+    fn read(&mut self, buf: &mut [u8]) -> io::Result<usize> {
+        self.unread.read(buf)
+    }
+}
+
+impl Write for Wire {
+    fn write(&mut self, buf: &[u8]) -> io::Result<usize> {
+        Ok(buf.len())
+    }
+
+    fn flush(&mut self) -> io::Result<()> {
+        Ok(())
+    }
+}
+
+impl AsRawFd for Wire {
+    fn as_raw_fd(&self) -> RawFd {
+        -1
+    }
+}
+
+impl AsRawFd for Ear {
+    fn as_raw_fd(&self) -> RawFd {
+        -1
+    }
+}
+
+// What a call asked for, and how it ended.
+#[derive(Drop)]
+struct Told {
+    status: u8,
+    errors: Vec<u8>,
+    bound: Option<SocketAddr>,
+    called: Option<SocketAddr>,
+}
+
+// A call with these words over such a network, whose servers have sent these bytes.
+fn ask<W: Write>(rt: &HostRuntime, words: &[&str], sent: &'static [u8], output: &mut W) -> Told {
+    let asked = Asked {
+        bound: Cell::new(None),
+        called: Cell::new(None),
+        sent,
+    };
+    let net = (asked, rt.alloc());
+    let mut input = b"".as_slice();
+    let mut errors = Vec::new(rt.alloc());
+    let status = command(&net, words, &mut input, output, &mut errors);
+    Told {
+        status,
+        errors,
+        bound: net.0.bound.get(),
+        called: net.0.called.get(),
+    }
+}
+
+#[test]
+fn serve_listens_on_the_loopback_address_alone(rt: HostRuntime) {
+    let words = ["rfb", "serve", "--port", "5951", "--connections", "3"];
+    let mut output = Vec::new(rt.alloc());
+    let told = ask(&rt, words.as_slice(), b"", &mut output);
+    assert_eq!(rt; told.bound, Some(SocketAddr::from(([127, 0, 0, 1], 5951))));
+    assert_eq!(rt; told.called, None);
+    // A connection that cannot be accepted counts, and has its line.
+    let lines = b"fault 29 Device\nfault 29 Device\nfault 29 Device\n".as_slice();
+    assert_eq!(rt; output.as_slice(), lines);
+    assert_eq!(rt; told.errors.as_slice(), b"".as_slice());
+    assert_eq!(rt; told.status, 0);
+}
+
+#[test]
+fn view_connects_to_the_host_and_the_port_that_are_named(rt: HostRuntime) {
+    for (words, address) in [
+        (
+            ["rfb", "view", "--port", "5952"].as_slice(),
+            SocketAddr::from(([127, 0, 0, 1], 5952)),
+        ),
+        (
+            ["rfb", "view", "--host", "192.0.2.7", "--port", "5953"].as_slice(),
+            SocketAddr::from(([192, 0, 2, 7], 5953)),
+        ),
+    ] {
+        let mut output = Vec::new(rt.alloc());
+        let told = ask(&rt, words, b"", &mut output);
+        assert_eq!(rt; told.called, Some(address));
+        assert_eq!(rt; told.bound, None);
+        assert_eq!(rt; output.as_slice(), b"".as_slice());
+        assert_eq!(rt; told.errors.as_slice(), b"fault 28 Truncated\n".as_slice());
+        assert_eq!(rt; told.status, 1);
+    }
+}
+
+#[test]
+fn a_recording_that_cannot_be_flushed_is_a_fault(rt: HostRuntime) {
+    for (can_flush, status, errors) in [
+        (true, 0, b"".as_slice()),
+        (false, 1, b"fault 29 Device\n".as_slice()),
+    ] {
+        let words = ["rfb", "view", "--port", "5954", "--record"];
+        let mut output = FailingWriter {
+            room: usize::MAX,
+            can_flush,
+        };
+        let told = ask(&rt, words.as_slice(), SERVER, &mut output);
+        assert_eq!(rt; told.errors.as_slice(), errors);
+        assert_eq!(rt; told.status, status);
+    }
+}
+
+#[test]
+fn each_line_of_serve_is_of_a_connection_of_its_own(rt: HostRuntime) {
+    // Three come, and five are asked for.
+    let ear = Ear { left: Cell::new(3) };
+    let screen = Screen {
+        width: 2,
+        height: 1,
+    };
+    let mut lines = Vec::new(rt.alloc());
+    let served = serve_on(rt.alloc(), &ear, screen, 5, &mut lines);
+    assert!(rt; served.is_ok());
+    let told = b"ok 1\nok 1\nok 1\nfault 29 Device\nfault 29 Device\n".as_slice();
+    assert_eq!(rt; lines.as_slice(), told);
+    assert_eq!(rt; ear.left.get(), 0);
+}
