@@ -3,13 +3,14 @@
 # each run: the first, the second, and so on to the last. Such a run must end with status 1, print
 # nothing on standard output, and end its standard error with the line 'fault 30 NoMemory'; or end as
 # a run does where none is refused, if it could do without it. A command that prints as it goes,
-# `serve` or `view`, may have printed a beginning.
+# `serve` or `view`, may have printed a beginning. A call with a file `as`, which names another,
+# asks for memory as often as that one, and so for none in what it has more.
 #
 #   .ci/memory.sh crates/rfb/out/rfb
 #
 # Calls whose memory or output is limited, whose input is made up, or that need another run beside
-# them are left out. It needs a C compiler, for malloc and realloc in the place of libc's, so it is no
-# part of the gate.
+# them are left out. It needs a C compiler, for malloc and realloc in the place of libc's; where there
+# is none it says so, and tries nothing.
 # The last line is 'N passed, M failed'.
 set -u
 export LC_ALL=C
@@ -43,6 +44,11 @@ static int refused(void) {
 void *malloc(size_t size) { return refused() ? NULL : __libc_malloc(size); }
 void *realloc(void *at, size_t size) { return refused() ? NULL : __libc_realloc(at, size); }
 END
+if ! command -v cc > "$room/cc"; then
+    echo "no C compiler: no allocation is refused"
+    echo "0 passed, 0 failed"
+    exit 0
+fi
 cc -shared -fPIC -o "$room/refuse.so" "$room/refuse.c" || exit 2
 
 # The file of a call, or nothing.
@@ -66,6 +72,7 @@ is_beginning() {
     cmp -s -n "$(stat -c %s "$room/one.out")" "$room/one.out" "$room/all.out"
 }
 
+declare -A asked
 passed=0 failed=0
 for call in "$calls"/*/; do
     call=${call%/} name=$(basename "$call") refused=0
@@ -90,7 +97,17 @@ for call in "$calls"/*/; do
             cat "$room/one.err"
         fi
     done
+    asked[$name]=$((number - 1))
     echo "$name: $((number - 1)) allocations, $refused of them told as want of memory"
+done
+for call in "$calls"/*/as; do
+    name=$(basename "$(dirname "$call")") other=$(cat "$call")
+    if [ "${asked[$name]:-none}" = "${asked[$other]:-0}" ]; then
+        passed=$((passed + 1))
+    else
+        failed=$((failed + 1))
+        echo "$name asks for memory ${asked[$name]:-0} times, and $other ${asked[$other]:-0}"
+    fi
 done
 echo "$passed passed, $failed failed"
 [ "$failed" = 0 ] && [ "$passed" != 0 ]

@@ -60,3 +60,13 @@ put('format_of_no_meaning',args='play\n--format\nrgb\n',stderr="error: invalid v
 # Fields of ten bits: (1023, 514, 4), and (0, 0, 1) under two bits that mean nothing.
 TEN=bytes.fromhex('00000001'+'0000000000020001'+'00000000'+'0408F83F'+'010000C0')
 put('recording_at_rgb101010',args='play\n--format\nrgb101010\n',stdin=HELLO+TEN,stdout=ppm(2,1,bytes.fromhex('FFFF80A00100'+'000000000040')),status='0\n')
+# Behind the handshake an update in each of the four encodings, with none of the memory that it took.
+FOUR=bytes.fromhex(
+    '00000004'
+    +'0000000000020001'+'00000000'+'00000000'+'02000400'    # Raw: black, and (4, 0, 2)
+    +'0000000000010001'+'00000001'+'00010000'               # CopyRect: the left place as the right one
+    +'0001000000010001'+'00000002'+'00000001'+'00000000'+'0180FF00'+'0000000000010001'    # RRE: (255, 128, 1)
+    +'0000000000010001'+'00000005'+'02'+'0180FF00'          # Hextile: (255, 128, 1)
+)
+put('recording_in_four_encodings',args='play\n',stdin=HELLO+FOUR,stdout=ppm(2,1,bytes.fromhex('FFFF80800101'*2)),status='0\n')
+open(os.path.join(root,'recording_in_four_encodings','as'),'w').write('recording_of_a_handshake\n')
