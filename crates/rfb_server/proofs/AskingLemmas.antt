@@ -10,7 +10,8 @@ use Rattle.rfb_picture.specs.Area.{Places, IsArea, added}
 use Rattle.rfb_picture.proofs.GridLemmas.{at-filled, same_changes, width-changed, height-changed, whole-uniform, width-uniform, height-uniform}
 use Rattle.rfb_picture.proofs.AreaLemmas.{area-added}
 use Rattle.rfb_server.specs.Request.{wanted_at}
-use Rattle.rfb_server.specs.inside.Marks.{AreAlike, IsCaughtUp}
+use Rattle.rfb_server.specs.inside.Marks.{AreAlike}
+use Rattle.rfb_server.specs.Following.{IsCaughtUp}
 use Rattle.rfb_server.specs.Record.{forgotten}
 use Rattle.rfb_server.specs.declared.session.Session.{Session}
 use Rattle.rfb_server.specs.inside.Sessions.{IsAskedFor}

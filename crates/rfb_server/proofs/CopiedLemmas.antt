@@ -16,7 +16,7 @@ use Rattle.rfb_server.specs.Encodings.{is_listed}
 use Rattle.rfb_server.specs.Server.{ServerState}
 use Rattle.rfb_server.specs.Request.{wanted_at, is_asked, is_whole}
 use Rattle.rfb_server.specs.inside.Marks.{AreAlike}
-use Rattle.rfb_server.specs.inside.Needing.{IsAbout}
+use Rattle.rfb_server.specs.Following.{Follows}
 use Rattle.rfb_server.specs.inside.Sessions.{IsSame, IsMarked}
 use Rattle.rfb_server.specs.Composing.{Part, IsGain, all_moved}
 use Rattle.rfb_server.specs.inside.Sends.{IsKept, state_of}
@@ -44,7 +44,7 @@ pub same_self : (a : Session) → IsSame a a
 same_self a = record { hello = refl; progress = refl; text_limit = refl; format = refl; encodings = refl; known = refl; area = refl }
 
 -- a session with more marks is about the same screen
-pub about_marked : (screen : Grid Colour) (old new : Session) (rect : Rect) → IsAbout screen old → IsMarked rect old new → IsAbout screen new
+pub about_marked : (screen : Grid Colour) (old new : Session) (rect : Rect) → Follows screen old → IsMarked rect old new → Follows screen new
 about_marked screen old new rect about marked = record {
   whole = about.whole;
   alike = rw (marked.same.known) about.alike;
@@ -64,7 +64,7 @@ keeps_marked old new rect marked = λ x y p q e.
     ∙ (at-filled rect true old.marks x y false old.alike.marks_whole p q ∙ either (contains rect x y) (is_in old.marks x y) e)
 
 -- where a hint copies to is marked then
-pub marked_for : (screen : Grid Colour) (old new : Session) (hint : Hint) → IsAbout screen old → IsMarked hint.to old new → IsMarkedFor screen new hint
+pub marked_for : (screen : Grid Colour) (old new : Session) (hint : Hint) → Follows screen old → IsMarked hint.to old new → IsMarkedFor screen new hint
 marked_for screen old new hint about marked = λ on x y c.
     let (a, b, d, e) = contains_true hint.to x y c in
     let wide : x < old.marks.width = omega (arith, b, on.0, about.alike.columns, old.alike.marks_wide) in
@@ -73,7 +73,7 @@ marked_for screen old new hint about marked = λ on x y c.
     ∙ (at-filled hint.to true old.marks x y false old.alike.marks_whole wide high ∙ (rw c refl))
 
 -- and stays so
-pub marked_on : (screen : Grid Colour) (old new : Session) (hint : Hint) → IsAbout screen old → KeepsMarks old new → IsMarkedFor screen old hint →
+pub marked_on : (screen : Grid Colour) (old new : Session) (hint : Hint) → Follows screen old → KeepsMarks old new → IsMarkedFor screen old hint →
     IsMarkedFor screen new hint
 marked_on screen old new hint about keeps marked = λ on x y c.
     let (a, b, d, e) = contains_true hint.to x y c in
@@ -88,8 +88,8 @@ state_same screen old new same = rw (same.known, same.area, same.format, same.en
 -- ---- one copy
 
 -- a place that is not marked is not copied to
-pub about_copied : (screen : Grid Colour) (old new : Session) (to : Rect) (sx sy : ℕ) → IsAbout screen old → IsFree old to →
-    IsKept old new → new.known ≡ copied to sx sy old.known → IsAbout screen new
+pub about_copied : (screen : Grid Colour) (old new : Session) (to : Rect) (sx sy : ℕ) → Follows screen old → IsFree old to →
+    IsKept old new → new.known ≡ copied to sx sy old.known → Follows screen new
 about_copied screen old new to sx sy about free kept e = record {
   whole = about.whole;
   alike = rw e (record { columns = about.alike.columns ∙ sym (width-changed _ old.known); rows = about.alike.rows ∙ sym (height-changed _ old.known) });
@@ -163,7 +163,7 @@ copies_begin screen session bytes = record {
 }
 
 module _ (screen : Grid Colour) (first old new : Session) (start before after : List ℕ) (n count : ℕ) (hint : Hint)
-    (about : IsAbout screen first) (kept : IsKept first old) (listed : is_listed CopyRect first.encodings ≡ true)
+    (about : Follows screen first) (kept : IsKept first old) (listed : is_listed CopyRect first.encodings ≡ true)
     (this : slice_get first.hints.items n ≡ Some hint) (marked : IsMarkedFor screen first hint)
     (copies : AppendsCopies screen n first old start before count) where
   -- the state behind the copies so far

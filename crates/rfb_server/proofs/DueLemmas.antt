@@ -8,14 +8,15 @@ use Rattle.rfb_picture.specs.declared.rect.Rect.{Rect}
 use Rattle.rfb_picture.specs.Grid.{Grid}
 use Rattle.rfb_picture.proofs.GridLemmas.{contains_true}
 use Rattle.rfb_server.specs.declared.session.Session.{Session}
-use Rattle.rfb_server.specs.inside.Needing.{IsAbout, HasBox, needs_of}
+use Rattle.rfb_server.specs.inside.Needing.{HasBox, needs_of}
+use Rattle.rfb_server.specs.Following.{Follows}
 use Rattle.rfb_server.specs.Cells.{cell_of, IsCell}
 use Rattle.rfb_server.specs.inside.Sends.{NoneMayNeed, state_of}
 use Rattle.rfb_server.specs.Composing.{IsDue}
 use Rattle.rfb_server.proofs.SentCells.{quiet_unless}
 use Rattle.rfb_server.proofs.ComposesLemmas.{all_cells}
 
-module _ (screen : Grid Colour) (session : Session) (about : IsAbout screen session) where
+module _ (screen : Grid Colour) (session : Session) (about : Follows screen session) where
   -- no place of the first cells needs sending
   abbrev pub AreQuiet : ℕ → Type 0
   AreQuiet n = (x y : ℕ) → x < session.known.width → y < session.known.height →

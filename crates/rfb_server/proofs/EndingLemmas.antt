@@ -27,8 +27,8 @@ use Rattle.rfb_server.specs.ClientBytes.{ClientAt, FromClient, client_two, clien
 use Rattle.rfb_server.specs.Server.{Serving, ServerState, server, AsksMemory}
 use Rattle.rfb_server.specs.Progress.{fault_in}
 use Rattle.rfb_server.specs.Standing.{SessionStandsFor, Notes, notes_in, notes_at}
-use Rattle.rfb_server.specs.Failing.{EndsAt}
-use Rattle.rfb_server.specs.inside.Feeding.{StepsAs, RunsOutAs, EndsAs}
+use Rattle.rfb_server.specs.Failing.{EndsAt, EndsAs}
+use Rattle.rfb_server.specs.inside.Feeding.{StepsAs, RunsOutAs}
 use Rattle.rfb_server.proofs.ServerLaws.{server_machine}
 use Rattle.rfb_server.proofs.GreetLemmas.{IsSameBut, same_but, at_hello, quiet_stays, stays_first, told_first}
 use Rattle.rfb_server.proofs.SliceLemmas.{session_starts, not_memory, never_stands}

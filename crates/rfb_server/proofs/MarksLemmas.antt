@@ -1,5 +1,5 @@
 -- Marks, where a session is made and where its screen is drawn.
-use Rattle.std.proofs.Common.{◌≡◌, ℕ, ◌<◌, Bool, true, false, Option, Some, None, if◌then◌else◌, ◌≤◌, ◌+◌, refl, sym, ◌∙◌, arith}
+use Rattle.std.proofs.Common.{◌≡◌, ℕ, ◌<◌, Bool, true, false, Option, Some, None, if◌then◌else◌, ◌≤◌, ◌+◌, refl, sym, ◌∙◌, subst, arith}
 use Rattle.std.proofs.lemmas.Bool.Decides.{nat_tests}
 use Rattle.rfb_pixel.specs.declared.colour.Colour.{Colour}
 use Rattle.rfb_pixel.specs.Format.{PixelFormat}
@@ -13,8 +13,9 @@ use Rattle.rfb_codec.specs.Effect.{IsAlike}
 use Rattle.rfb_server.specs.declared.session.Session.{Session}
 use Rattle.rfb_server.specs.Server.{black}
 use Rattle.rfb_server.specs.Request.{wanted_at}
-use Rattle.rfb_server.specs.inside.Marks.{AreAlike, IsCaughtUp, IsSameOutside}
-use Rattle.rfb_server.specs.inside.Sessions.{IsMarked}
+use Rattle.rfb_server.specs.inside.Marks.{AreAlike}
+use Rattle.rfb_server.specs.Following.{IsCaughtUp, IsSameOutside, Follows}
+use Rattle.rfb_server.specs.inside.Sessions.{IsMarked, KeepsUp}
 
 -- more marks are of the same places
 pub alike_marked : (known : Grid (Option ℕ)) (area : Places) (marks now : Grid Bool) (rect : Rect) →
@@ -101,26 +102,38 @@ in_all w h x y p q =
     at-filled (record { x = 0; y = 0; w = w; h = h }) true (uniform w h false) x y false (whole-uniform w h false) (rw width-uniform p) (rw height-uniform q)
     ∙ (rw (contained (record { x = 0; y = 0; w = w; h = h }) x y (omega arith) (omega arith) (omega arith) (omega arith)) refl)
 
--- a screen that was drawn on, and a session that was told where, fit together
-pub record IsDrawn (screen : Grid Colour) (session : Session) : Type 0 where
-  pub whole : IsGrid screen
-  pub alike : IsAlike screen session.known
-  pub caught_up : IsCaughtUp screen session.known session.area session.format session.marks
-
-pub drawn_kept : (old new : Session) (screen after : Grid Colour) (rect : Rect) (f : ℕ → ℕ → Colour → Colour) →
-    IsGrid screen → IsAlike screen old.known → IsCaughtUp screen old.known old.area old.format old.marks →
-    IsMarked rect old new → after ≡ changed f screen →
-    ((x y : ℕ) (c : Colour) → contains rect x y ≡ false → f x y c ≡ c) →
-    IsDrawn after new
-drawn_kept old new screen after rect f whole alike caught marked e stays =
-    rw e
-    (record {
-      whole = whole-changed f screen whole;
+-- a session that was told where the screen is drawn on follows it again
+pub follows_drawn : (old new : Session) (before after : Grid Colour) (rect : Rect) →
+    IsMarked rect old new → Follows before old → IsGrid after → IsSameOutside rect before after →
+    Follows after new
+follows_drawn old new before after rect marked follows whole outside =
+    record {
+      whole = whole;
       alike = record {
-        columns = width-changed f screen ∙ (alike.columns ∙ (rw (marked.same.known) refl));
-        rows = height-changed f screen ∙ (alike.rows ∙ (rw (marked.same.known) refl));
+        columns = outside.columns ∙ (follows.alike.columns ∙ (rw (marked.same.known) refl));
+        rows = outside.rows ∙ (follows.alike.rows ∙ (rw (marked.same.known) refl));
       };
       caught_up = rw (marked.same.known, marked.same.area, marked.same.format)
-          (caught_drawn screen (changed f screen) old.known old.area old.format old.marks new.marks rect old.alike alike
-          (outside_changed rect f screen whole stays) marked.marks caught);
-    })
+          (caught_drawn before after old.known old.area old.format old.marks new.marks rect old.alike follows.alike
+          outside marked.marks follows.caught_up);
+    }
+
+-- so it is of a change inside the rectangle
+pub follows_changed : (old new : Session) (screen after : Grid Colour) (rect : Rect) (f : ℕ → ℕ → Colour → Colour) →
+    Follows screen old →
+    ((before later : Grid Colour) → Follows before old → IsGrid later → IsSameOutside rect before later → Follows later new) →
+    after ≡ changed f screen →
+    ((x y : ℕ) (c : Colour) → contains rect x y ≡ false → f x y c ≡ c) →
+    Follows after new
+follows_changed old new screen after rect f follows told e stays =
+    subst (λ (g : Grid Colour). Follows g new) (sym e)
+    (told screen (changed f screen) follows (whole-changed f screen follows.whole) (outside_changed rect f screen follows.whole stays))
+
+-- whatever it is fed, it follows
+pub follows_up : (old new : Session) (screen : Grid Colour) → KeepsUp old new → Follows screen old → Follows screen new
+follows_up old new screen up follows =
+    record {
+      whole = follows.whole;
+      alike = record { columns = follows.alike.columns ∙ sym up.columns; rows = follows.alike.rows ∙ sym up.rows };
+      caught_up = up.caught_up screen follows.alike follows.caught_up;
+    }

@@ -18,7 +18,8 @@ use Rattle.rfb_picture.proofs.WordLemmas.{has_bit-and, has_bit-or}
 use Rattle.rfb_server.specs.declared.session.Session.{Session}
 use Rattle.rfb_server.specs.Record.{is_known, ShowsKnown, TellsKnown}
 use Rattle.rfb_server.specs.Request.{wanted_at, differs}
-use Rattle.rfb_server.specs.inside.Needing.{IsAbout, TellsOther, needs_of}
+use Rattle.rfb_server.specs.inside.Needing.{TellsOther, needs_of}
+use Rattle.rfb_server.specs.Following.{Follows}
 use Rattle.rfb_picture.proofs.GridLemmas.{slice_index_or-row_of}
 use Rattle.rfb_server.specs.Server.{black}
 use Rattle.rfb_server.proofs.NeedingBits.{has_bit-up, has_bit-not, has_bit-zero}
@@ -156,7 +157,7 @@ pub record AreWords (session : Session) (y from to m a k w : ℕ) : Type 0 where
 abbrev pub judged : ℕ → ℕ → ℕ → ℕ → ℕ
 judged m a k w = bit_and (bit_and (bit_and m a) k) (2 ^ 64 - 1 - w)
 
-module _ (screen : Grid Colour) (session : Session) (y from to m a k w : ℕ) (about : IsAbout screen session)
+module _ (screen : Grid Colour) (session : Session) (y from to m a k w : ℕ) (about : Follows screen session)
     (row : y < session.known.height) (columns : to ≤ session.known.width) (words : AreWords session y from to m a k w) where
   abbrev place : ℕ → ℕ
   place i = from / 64 * 64 + i

@@ -12,7 +12,8 @@ use Rattle.rfb_picture.proofs.GridLemmas.{contains_true, contains_row}
 use Rattle.rfb_server.specs.declared.session.Session.{Session}
 use Rattle.rfb_server.specs.Request.{wanted_at, differs}
 use Rattle.rfb_server.specs.declared.session.needing.Columns.{Columns}
-use Rattle.rfb_server.specs.inside.Needing.{IsAbout, IsFirst, IsEnd, HasBox, HasInRow, IsLastOf, SpansRows, needs_of, rows_above}
+use Rattle.rfb_server.specs.inside.Needing.{IsFirst, IsEnd, HasBox, HasInRow, IsLastOf, SpansRows, needs_of, rows_above}
+use Rattle.rfb_server.specs.Following.{Follows}
 
 -- ---- marks
 
@@ -25,7 +26,7 @@ and_false true b e = e
 and_false false b e = refl
 
 -- a place that is not marked does not need sending
-pub unmarked_quiet : (screen : Grid Colour) (session : Session) (x y : ℕ) → IsAbout screen session →
+pub unmarked_quiet : (screen : Grid Colour) (session : Session) (x y : ℕ) → Follows screen session →
     x < session.known.width → y < session.known.height →
     is_in session.marks x y ≡ false → needs_of screen session x y ≡ false
 unmarked_quiet screen session x y about p q e =
@@ -39,7 +40,7 @@ marked_by true need quiet e = refl
 marked_by false need quiet e = absurd (both_ways need (quiet refl) e)
 
 -- so one that does is marked
-pub needed_marked : (screen : Grid Colour) (session : Session) (x y : ℕ) → IsAbout screen session →
+pub needed_marked : (screen : Grid Colour) (session : Session) (x y : ℕ) → Follows screen session →
     x < session.known.width → y < session.known.height →
     needs_of screen session x y ≡ true → is_in session.marks x y ≡ true
 needed_marked screen session x y about p q =
@@ -235,14 +236,14 @@ box_is p zone top bottom columns order above some last spans = record {
 -- ---- the cell from its marked zone
 
 -- where no place is marked none needs sending
-pub cell_quiet : (screen : Grid Colour) (session : Session) (cell : Rect) → IsAbout screen session → Holds session.known cell →
+pub cell_quiet : (screen : Grid Colour) (session : Session) (cell : Rect) → Follows screen session → Holds session.known cell →
     IsClear (is_in session.marks) cell.x (cell.x + cell.w) cell.y (cell.y + cell.h) →
     HasBox (needs_of screen session) cell None
 cell_quiet screen session cell about held clear = λ x y a b c d.
     unmarked_quiet screen session x y about (omega (arith, held)) (omega (arith, held)) (clear x y a b c d)
 
 -- and each that does lies in the marked zone
-pub cell_zone : (screen : Grid Colour) (session : Session) (cell zone : Rect) (found : Option Rect) → IsAbout screen session → Holds session.known cell →
+pub cell_zone : (screen : Grid Colour) (session : Session) (cell zone : Rect) (found : Option Rect) → Follows screen session → Holds session.known cell →
     IsBox (is_in session.marks) cell zone → HasBox (needs_of screen session) zone found →
     HasBox (needs_of screen session) cell found
 cell_zone screen session cell zone None about held box none = λ x y a b c d.

@@ -21,7 +21,7 @@ use Rattle.rfb_server.specs.Record.{ShowsKnown, TellsKnown, is_known}
 use Rattle.rfb_server.specs.Request.{wanted_at, differs}
 use Rattle.rfb_server.specs.Server.{black}
 use Rattle.rfb_server.specs.Composing.{count_row}
-use Rattle.rfb_server.specs.inside.Needing.{IsAbout}
+use Rattle.rfb_server.specs.Following.{Follows}
 use Rattle.rfb_server.specs.inside.Gaining.{MayCopy, right_before, right_behind}
 use Rattle.rfb_server.proofs.BitCountLemmas.{row_split}
 use Rattle.rfb_server.proofs.NeedingBits.{has_bit-up}
@@ -77,7 +77,7 @@ within x from to e = (grind (arith, nat_tests), grind (arith, nat_tests))
 -- ---- a copy of one row
 
 module _ (screen : Grid Colour) (session : Session) (part : Hint) (pixels : Grid ℕ) (wanted : List ℕ)
-    (about : IsAbout screen session) (may : MayCopy session.known part) (single : part.to.h ≡ 1)
+    (about : Follows screen session) (may : MayCopy session.known part) (single : part.to.h ≡ 1)
     (shown : ShowsKnown session.known pixels) (wide : pixels.width ≡ session.known.width) (high : pixels.height ≡ session.known.height)
     (packed : wanted ≡ map (pixel_of session.format) (row_of screen part.to.x part.to.y part.to.w)) where
   wanted_is : (i : ℕ) → i < part.to.w → slice_index wanted i ≡ wanted_at screen session.format (part.to.x + i) part.to.y

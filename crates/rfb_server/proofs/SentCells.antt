@@ -10,7 +10,8 @@ use Rattle.rfb_picture.specs.Area.{asked_at, whole_at}
 use Rattle.rfb_server.specs.declared.session.Session.{Session}
 use Rattle.rfb_server.specs.Request.{wanted_at, differs, needs_at}
 use Rattle.rfb_server.specs.Cells.{IsCell}
-use Rattle.rfb_server.specs.inside.Needing.{IsAbout, needs_of}
+use Rattle.rfb_server.specs.inside.Needing.{needs_of}
+use Rattle.rfb_server.specs.Following.{Follows}
 use Rattle.rfb_server.specs.Composing.{Part}
 use Rattle.rfb_server.specs.inside.Sends.{IsKept, SendsPixels, SendsCell, state_of, AppendsCells, NoneMayNeed, may_need}
 use Rattle.rfb_server.proofs.NeedingLemmas.{unmarked_quiet}
@@ -27,7 +28,7 @@ cells_start across screen session bytes = record {
 }
 
 module _ (across n : ℕ) (screen : Grid Colour) (first old new : Session) (start before after : List ℕ) (count : ℕ) (cell : Rect)
-    (about : IsAbout screen first) (kept : IsKept first old)
+    (about : Follows screen first) (kept : IsKept first old)
     (is : IsCell first.known.width first.known.height across n cell) (cells : AppendsCells across n screen first old start before count) where
   cell_is : IsCell screen.width screen.height across n cell
   cell_is = rw (about.alike.columns, about.alike.rows) is
@@ -68,21 +69,21 @@ quiet_by true true need whole e unmarked = absurd cc
 quiet_by true false need whole e unmarked = refl
 quiet_by false asked need whole e unmarked = unmarked refl
 
-pub quiet_unless : (screen : Grid Colour) (session : Session) (x y : ℕ) → IsAbout screen session → x < session.known.width → y < session.known.height →
+pub quiet_unless : (screen : Grid Colour) (session : Session) (x y : ℕ) → Follows screen session → x < session.known.width → y < session.known.height →
     may_need session.marks session.area x y ≡ false → needs_of screen session x y ≡ false
 quiet_unless screen session x y about p q e =
     quiet_by (is_in session.marks x y) (asked_at session.area x y) (whole_at session.area x y || differs (wanted_at screen session.format x y) (at_or session.known x y None)) true e
     (unmarked_quiet screen session x y about p q)
 
 -- both are about one screen
-pub same_wide : (screen : Grid Colour) (first old : Session) → IsAbout screen first → IsAbout screen old → old.known.width ≡ first.known.width
+pub same_wide : (screen : Grid Colour) (first old : Session) → Follows screen first → Follows screen old → old.known.width ≡ first.known.width
 same_wide screen first old about aware = sym aware.alike.columns ∙ about.alike.columns
 
-pub same_high : (screen : Grid Colour) (first old : Session) → IsAbout screen first → IsAbout screen old → old.known.height ≡ first.known.height
+pub same_high : (screen : Grid Colour) (first old : Session) → Follows screen first → Follows screen old → old.known.height ≡ first.known.height
 same_high screen first old about aware = sym aware.alike.rows ∙ about.alike.rows
 
 pub cells_skip : (n m : ℕ) (screen : Grid Colour) (first old : Session) (start before : List ℕ) (count : ℕ) →
-    IsAbout screen first → IsAbout screen old → IsKept first old → n ≤ m → NoneMayNeed old n m →
+    Follows screen first → Follows screen old → IsKept first old → n ≤ m → NoneMayNeed old n m →
     AppendsCells (div_ceil first.known.width 64) n screen first old start before count → AppendsCells (div_ceil first.known.width 64) m screen first old start before count
 cells_skip n m screen first old start before count about aware kept order none cells = record {
   parts = cells.parts;

@@ -17,8 +17,9 @@ use Rattle.rfb_codec.specs.Raw.{raw_length}
 use Rattle.rfb_codec.specs.Effect.{IsAlike, IsRecorded}
 use Rattle.rfb_server.specs.declared.session.Session.{Session}
 use Rattle.rfb_server.specs.Request.{wanted_at, differs}
-use Rattle.rfb_server.specs.inside.Marks.{AreAlike, IsCaughtUp}
-use Rattle.rfb_server.specs.inside.Needing.{IsAbout, needs_of}
+use Rattle.rfb_server.specs.inside.Marks.{AreAlike}
+use Rattle.rfb_server.specs.Following.{IsCaughtUp, Follows}
+use Rattle.rfb_server.specs.inside.Needing.{needs_of}
 use Rattle.rfb_server.specs.Composing.{may_send}
 use Rattle.rfb_server.specs.Encodings.{preferred}
 use Rattle.rfb_server.specs.inside.Sending.{SendsRect}
@@ -77,7 +78,7 @@ length_sent screen rect old new before after a =
     rw (a.appended, length-append before a.bytes) (omega (arith, short))
 
 -- the edges of a rectangle of places that need sending are marked and asked
-pub tight_marked : (screen : Grid Colour) (session : Session) (cell rect : Rect) → IsAbout screen session → Holds session.known cell →
+pub tight_marked : (screen : Grid Colour) (session : Session) (cell rect : Rect) → Follows screen session → Holds session.known cell →
     IsBox (needs_of screen session) cell rect → IsTight (may_need session.marks session.area) rect
 tight_marked screen session cell rect about held box =
     let (j0, c0, m0) = box.tight.left in

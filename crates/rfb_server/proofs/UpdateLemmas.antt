@@ -20,8 +20,9 @@ use Rattle.rfb_server.specs.declared.session.Session.{Session}
 use Rattle.rfb_server.specs.inside.Sessions.{IsSame}
 use Rattle.rfb_server.specs.Server.{ServerState}
 use Rattle.rfb_server.specs.Request.{wanted, wanted_at, recorded, is_asked, is_whole, differs}
-use Rattle.rfb_server.specs.inside.Marks.{AreAlike, IsCaughtUp}
-use Rattle.rfb_server.specs.inside.Needing.{IsAbout, needs_of}
+use Rattle.rfb_server.specs.inside.Marks.{AreAlike}
+use Rattle.rfb_server.specs.Following.{IsCaughtUp, Follows}
+use Rattle.rfb_server.specs.inside.Needing.{needs_of}
 use Rattle.rfb_server.specs.Composing.{Part, Move, IsDue, Composes}
 use Rattle.rfb_server.specs.inside.Sends.{IsKept, Sends, state_of, AppendsCells, IsEnough, may_need}
 use Rattle.rfb_server.specs.inside.Copying.{Copies, AppendsCopies, usable_hints}
@@ -137,7 +138,7 @@ state_settled screen old mid new kept settled =
     rw (settled.known, settled.area, settled.format, settled.encodings, kept.area, kept.format, kept.encodings) refl
 
 -- the size of what is known is that of the screen
-sends_here : (screen : Grid Colour) (old mid : Session) (parts : List Part) (bytes : List ℕ) → IsAbout screen old →
+sends_here : (screen : Grid Colour) (old mid : Session) (parts : List Part) (bytes : List ℕ) → Follows screen old →
     Sends (div_ceil old.known.width 64) (div_ceil old.known.width 64 * div_ceil old.known.height 64) (state_of screen old) mid.known parts bytes →
     Sends (div_ceil screen.width 64) (div_ceil screen.width 64 * div_ceil screen.height 64) (state_of screen old) mid.known parts bytes
 sends_here screen old mid parts bytes about sends =
@@ -146,9 +147,9 @@ sends_here screen old mid parts bytes about sends =
 
 -- behind an update the session has caught up
 pub about_updated : (screen : Grid Colour) (old mid new : Session) (before after : List ℕ) (count : ℕ) →
-    IsAbout screen old → IsAbout screen mid → IsKept old mid →
+    Follows screen old → Follows screen mid → IsKept old mid →
     AppendsCells (div_ceil old.known.width 64) (div_ceil old.known.width 64 * div_ceil old.known.height 64) screen old mid before after count →
-    IsSettled mid new → IsAbout screen new
+    IsSettled mid new → Follows screen new
 about_updated screen old mid new before after count about behind kept cells settled = record {
   whole = behind.whole;
   alike = rw (settled.known) behind.alike;
@@ -170,7 +171,7 @@ no_parts (part ∷ parts) e = absurd (omega arith)
 -- ---- room
 
 -- where no room is needed no update is due
-pub nothing_due : (screen : Grid Colour) (session : Session) → IsAbout screen session →
+pub nothing_due : (screen : Grid Colour) (session : Session) → Follows screen session →
     IsEnough session (div_ceil session.known.width 64) (div_ceil session.known.width 64 * div_ceil session.known.height 64) 0 →
     IsDue (state_of screen session) → ⊥
 nothing_due screen session about enough due =
@@ -200,7 +201,7 @@ enough_kept old mid room kept alike enough = record {
 }
 
 module _ (screen : Grid Colour) (old mid sent : Session) (before middle after : List ℕ) (k n : ℕ)
-    (about : IsAbout screen old) (aware : IsAbout screen mid) (kept : IsKept old mid) (kept_on : IsKept mid sent)
+    (about : Follows screen old) (aware : Follows screen mid) (kept : IsKept old mid) (kept_on : IsKept mid sent)
     (copies : AppendsCopies screen (usable_hints old) old mid (before ++ (0 ∷ 0 ∷ 0 ∷ 0 ∷ [])) middle k)
     (cells : AppendsCells (div_ceil mid.known.width 64) (div_ceil mid.known.width 64 * div_ceil mid.known.height 64) screen mid sent middle after n) where
   abbrev s : ServerState

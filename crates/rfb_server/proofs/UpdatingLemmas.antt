@@ -1,5 +1,5 @@
--- What composing leaves of what a server stands for.
-use Rattle.std.proofs.Common.{◌≡◌, ◌≢◌, ℕ, Bool, true, false, List, [], ◌++◌, Option, None, Result, Ok, Err, IfOk, OnErr, refl, sym, ap, subst, ◌∙◌, append-nil}
+-- What composing leaves of what a session stands for, and a server.
+use Rattle.std.proofs.Common.{◌≡◌, ◌≢◌, ℕ, Bool, true, false, List, [], ◌++◌, Option, None, Result, Ok, Err, IfOk, OnOk, OnErr, refl, sym, ap, subst, ◌∙◌, append-nil}
 use Rattle.rfb_pixel.specs.declared.colour.Colour.{Colour}
 use Rattle.rfb_pixel.specs.Format.{PixelFormat}
 use Rattle.rfb_picture.specs.Grid.{Grid}
@@ -14,14 +14,14 @@ use Rattle.rfb_server.specs.declared.session.progress.Progress.TheVariants.{Hand
 use Rattle.rfb_server.specs.ClientBytes.{ClientAt}
 use Rattle.rfb_server.specs.Server.{Serving, ServerState}
 use Rattle.rfb_server.specs.Progress.{ProgressStandsFor, fault_in}
-use Rattle.rfb_server.specs.Standing.{SessionStandsFor, Keeps}
+use Rattle.rfb_server.specs.Standing.{SessionStandsFor, KeepsSession, Draws, with_screen}
 use Rattle.rfb_server.specs.inside.Sessions.{IsSame}
 use Rattle.rfb_server.specs.Composing.{Composes, IsDue}
-use Rattle.rfb_server.specs.Hints.{hints_of}
+use Rattle.rfb_server.specs.Hints.{hints_in}
 use Rattle.rfb_server.specs.Using.{AreUsed, usable}
 use Rattle.rfb_server.specs.inside.Sends.{state_of}
-use Rattle.rfb_server.specs.inside.Composed.{is_ready, HasComposed, StaysIdle}
-use Rattle.rfb_server.specs.Updating.{Updates, StaysUnsent}
+use Rattle.rfb_server.specs.inside.Composed.{is_ready, IsAwaited, HasComposed, StaysIdle}
+use Rattle.rfb_server.specs.Updating.{SendsUpdate, OwesUpdate, OwesNone}
 use Rattle.rfb_server.proofs.EndingLemmas.{same_notes}
 
 -- a session that is ready stands between messages, or in one
@@ -87,63 +87,100 @@ stands_composed serving screen old new s prefix before after done stands =
     }
 
 -- one that is the same stands for the same
-stands_same : (serving : Serving) (screen after : Grid Colour) (old new : Session) (s : ServerState) (prefix : List ℕ) → after ≡ screen →
-    IsSame old new → SessionStandsFor serving screen old s prefix → SessionStandsFor serving after new (record s { screen = screen }) prefix
-stands_same serving screen after old new s prefix e same stands = record {
+stands_same : (serving : Serving) (screen : Grid Colour) (old new : Session) (s : ServerState) (prefix : List ℕ) →
+    IsSame old new → SessionStandsFor serving screen old s prefix → SessionStandsFor serving screen new s prefix
+stands_same serving screen old new s prefix same stands = record {
   setup_is = rw (same.hello) stands.setup_is;
   limit_is = same.text_limit ∙ stands.limit_is;
   progress_is = rw (same.hello, same.progress) stands.progress_is;
-  screen_is = sym e;
+  screen_is = stands.screen_is;
   known_is = stands.known_is ∙ sym same.known;
   area_is = stands.area_is ∙ sym same.area;
   form_is = stands.form_is ∙ sym same.format;
   encodings_are = stands.encodings_are ∙ sym same.encodings;
 }
 
--- a server whose session has composed has sent an update
-pub updates : (old new : Server) (before after : List ℕ) → new.screen ≡ old.screen →
-    HasComposed old.screen old.session new.session before after → Updates old new before after
-updates old new before after e done = record {
-  screen_is = e;
+-- a session that has composed has sent an update
+pub sends : (screen : Grid Colour) (old new : Session) (before after : List ℕ) →
+    HasComposed screen old new before after → SendsUpdate screen old new before after
+sends screen old new before after done = record {
   fault_is = ap fault_in done.progress;
+  made_is = rw (done.hello, done.text_limit) refl;
   sent = λ serving s prefix stands.
-      let is = state_is serving old.screen old.session s prefix done.ready stands in
-      let made : (c : Composes s (state_of old.screen new.session) done.bytes done.copies done.blocks) × AreUsed s (usable s (hints_of old)) c.moves =
-      subst (λ (t : ServerState). (c : Composes t (state_of old.screen new.session) done.bytes done.copies done.blocks) × AreUsed t (usable t (hints_of old)) c.moves) (sym is)
+      let is = state_is serving screen old s prefix done.ready stands in
+      let made : (c : Composes s (state_of screen new) done.bytes done.copies done.blocks) × AreUsed s (usable s (hints_in old)) c.moves =
+      subst (λ (t : ServerState). (c : Composes t (state_of screen new) done.bytes done.copies done.blocks) × AreUsed t (usable t (hints_in old)) c.moves) (sym is)
       (done.composes, done.used) in
       record {
         due = subst (λ (t : ServerState). IsDue t) (sym is) done.due;
-        behind = state_of old.screen new.session;
+        behind = state_of screen new;
         bytes = done.bytes;
         copies = done.copies;
         blocks = done.blocks;
         appended = done.appended;
         composes = made.0;
         used = made.1;
-        stands = subst (λ (g : Grid Colour). SessionStandsFor serving g new.session (state_of old.screen new.session) prefix) (sym e)
-            (stands_composed serving old.screen old.session new.session s prefix before after done stands);
+        stands = stands_composed serving screen old new s prefix before after done stands;
       };
 }
 
--- a server whose session is the same but for marks and hints is as it was
-pub keeps : (old new : Server) → new.screen ≡ old.screen → IsSame old.session new.session → Keeps old new
-keeps old new e same = record {
-  screen_is = e;
+-- one that is the same but for marks and hints is as it was
+pub keeps_session : (old new : Session) → IsSame old new → KeepsSession old new
+keeps_session old new same = record {
   fault_is = ap fault_in same.progress;
-  notes_are = same_notes new.session.known old.session.known new.session.area old.session.area new.session.format old.session.format new.session.encodings old.session.encodings same.known same.area same.format same.encodings;
-  stands = λ serving s prefix stands. stands_same serving old.screen new.screen old.session new.session s prefix e same stands;
+  made_is = rw (same.hello, same.text_limit) refl;
+  notes_are = same_notes new.known old.known new.area old.area new.format old.format new.encodings old.encodings same.known same.area same.format same.encodings;
+  stands = λ serving screen s prefix stands. stands_same serving screen old new s prefix same stands;
 }
 
--- so is one whose session stays idle
-pub stays : (old new : Server) (before after : List ℕ) → new.screen ≡ old.screen →
-    StaysIdle old.screen old.session new.session before after → StaysUnsent old new before after
-stays old new before after e idle = record {
+-- so is one that stays idle
+pub owes_none : (screen : Grid Colour) (old new : Session) (before after : List ℕ) →
+    StaysIdle screen old new before after → OwesNone screen old new before after
+owes_none screen old new before after idle = record {
   appended = idle.appended;
-  kept = keeps old new e idle.same;
+  kept = keeps_session old new idle.same;
   not_due = λ serving s prefix stands due.
-      let ready = ready_point serving old.session.hello old.session.progress s.point prefix due.ready stands.progress_is in
-      idle.not_due ready (subst (λ (t : ServerState). IsDue t) (state_is serving old.screen old.session s prefix ready stands) due);
+      let ready = ready_point serving old.hello old.progress s.point prefix due.ready stands.progress_is in
+      idle.not_due ready (subst (λ (t : ServerState). IsDue t) (state_is serving screen old s prefix ready stands) due);
 }
+
+-- an update that is awaited is owed
+pub owes : (screen : Grid Colour) (old : Session) → IsAwaited screen old → OwesUpdate screen old
+owes screen old awaited = λ serving s prefix stands.
+    subst (λ (t : ServerState). IsDue t) (sym (state_is serving screen old s prefix awaited.ready stands)) awaited.due
+
+-- ---- a server
+
+-- what a session stands for over one screen, it stands for over another with that one
+pub over_screen : (serving : Serving) (before after : Grid Colour) (session : Session) (s : ServerState) (prefix : List ℕ) →
+    SessionStandsFor serving before session s prefix → SessionStandsFor serving after session (with_screen after s) prefix
+over_screen serving before after session s prefix stands = record {
+  setup_is = stands.setup_is;
+  limit_is = stands.limit_is;
+  progress_is = stands.progress_is;
+  screen_is = refl;
+  known_is = stands.known_is;
+  area_is = stands.area_is;
+  form_is = stands.form_is;
+  encodings_are = stands.encodings_are;
+}
+
+-- a server whose session is as it was has the new screen, and else nothing new
+pub draws : (screen : Grid Colour) (old new : Server) → new.screen ≡ screen →
+    KeepsSession old.session new.session → Draws screen old new
+draws screen old new e kept = record {
+  screen_is = e;
+  fault_is = kept.fault_is;
+  notes_are = kept.notes_are;
+  stands = λ serving s prefix stands.
+      subst (λ (g : Grid Colour). SessionStandsFor serving g new.session (with_screen screen s) prefix) (sym e)
+      (over_screen serving old.screen screen new.session s prefix (kept.stands serving old.screen s prefix stands));
+}
+
+-- whether a call was taken or not
+pub in_any : {A E : Type 0} (X : Type 0) (result : Result A E) → X → OnOk result X
+in_any X (Ok value) x = x
+in_any X (Err error) x = tt
 
 -- whatever it answers, bytes were appended, if only none
 pub appends : {E : Type 0} (screen : Grid Colour) (old new : Session) (before after : List ℕ) (result : Result Bool E) →

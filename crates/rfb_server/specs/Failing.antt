@@ -1,4 +1,5 @@
--- What a server that has failed keeps: what the client's items before the fault made of it.
+-- What a session that has failed keeps, and a server: what the client's items before the fault made
+-- of it.
 use Rattle.std.specs.Prelude.{◌≡◌, ◌≢◌, ℕ, List}
 use Rattle.rfb_pixel.specs.declared.colour.Colour.{Colour}
 use Rattle.rfb_picture.specs.Grid.{Grid}
@@ -6,10 +7,12 @@ use Rattle.rfb_wire.specs.stream.Reading.{Bad}
 use Rattle.rfb_wire.specs.stream.End.{RunsOutBy}
 use Rattle.rfb_server.specs.declared.fault.ServerFault.{ServerFault}
 use Rattle.rfb_server.specs.declared.fault.ServerFault.TheVariants.{NoMemory}
+use Rattle.rfb_server.specs.declared.session.Session.{Session}
 use Rattle.rfb_server.specs.declared.server.Server.{Server}
 use Rattle.rfb_server.specs.ClientBytes.{client_bytes}
 use Rattle.rfb_server.specs.Server.{Serving, ServerState, server, AsksMemory}
-use Rattle.rfb_server.specs.Standing.{StandsFor, Notes, notes_of, notes_at, screen_of}
+use Rattle.rfb_server.specs.Standing.{SessionStandsFor, StandsFor, screen_of}
+use Rattle.rfb_server.specs.Standing.{Notes, notes_in, notes_of, notes_at}
 
 -- it ends at these bytes of the item that stands next in the state, by a fault of theirs or because
 -- it asks for memory there; the screen and the notes are the state's
@@ -20,9 +23,18 @@ pub record EndsAt (serving : Serving) (fault : ServerFault) (screen : Grid Colou
   pub screen_is : screen ≡ s.screen
   pub notes_are : notes ≡ notes_at s
 
--- after a fault: from each state and prefix that it stood for, the bytes have led through whole
--- items to those of the next one that it ends at, and it has the screen and the notes of the state
--- that these whole items leave
+-- after a fault of a session, over whatever screen: from each state and prefix that it stood for,
+-- the bytes have led through whole items to those of the next one that it ends at, and it has the
+-- notes of the state that these whole items leave
+abbrev pub EndsAs : Session → List ℕ → ServerFault → Session → Type 0
+EndsAs old bytes fault new =
+    (serving : Serving) (screen : Grid Colour) →
+    RunsOutBy (server serving) (EndsAt serving fault screen (notes_in new))
+    (SessionStandsFor serving screen) old bytes
+
+-- after a fault of a server: from each state and prefix that it stood for, the bytes have led
+-- through whole items to those of the next one that it ends at, and it has the screen and the notes
+-- of the state that these whole items leave
 abbrev pub KeepsNotes : ServerFault → Server → List ℕ → Server → Type 0
 KeepsNotes fault old bytes new =
     (serving : Serving) →

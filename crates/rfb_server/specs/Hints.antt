@@ -1,12 +1,17 @@
--- The hints that a server keeps: copies that its owner spoke of, and a viewer may be told to make.
+-- The hints that a session keeps: copies that its owner spoke of, and a viewer may be told to make.
 use Rattle.std.specs.Prelude.{List, [], ◌∷◌, ◌++◌}
 use Rattle.circular_buffer.specs.Buffer.{keep_last}
 use Rattle.rfb_server.specs.declared.hint.Hint.{Hint}
+use Rattle.rfb_server.specs.declared.session.Session.{Session}
 use Rattle.rfb_server.specs.declared.server.Server.{Server}
 
--- the hints that a server keeps, the oldest first
+-- the hints that a session keeps, the oldest first
+abbrev pub hints_in : Session → List Hint
+hints_in session = session.hints.items
+
+-- and a server
 abbrev pub hints_of : Server → List Hint
-hints_of server = server.session.hints.items
+hints_of server = hints_in server.session
 
 -- one hint more, of at most sixteen: the oldest of seventeen is dropped
 abbrev pub with_hint : Hint → List Hint → List Hint

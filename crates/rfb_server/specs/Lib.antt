@@ -9,6 +9,7 @@ pub mod Cells
 pub mod Composing
 pub mod Progress
 pub mod Standing
+pub mod Following
 pub mod Failing
 pub mod Hints
 pub mod Updating

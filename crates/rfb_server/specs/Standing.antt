@@ -35,24 +35,16 @@ pub record SessionStandsFor (serving : Serving) (screen : Grid Colour) (session 
   pub form_is : s.form ≡ session.format
   pub encodings_are : s.encodings ≡ session.encodings
 
--- a server stands for a state and a prefix
-abbrev pub StandsFor : Serving → Server → ServerState → List ℕ → Type 0
-StandsFor serving server s prefix = SessionStandsFor serving server.screen server.session s prefix
-
--- ---- what a server has, whether it has failed or not
-
--- its screen
-abbrev pub screen_of : Server → Grid Colour
-screen_of server = server.screen
+-- ---- what a session has, whether it has failed or not
 
 -- the fault that it has failed with, if it has
-abbrev pub fault_of : Server → Option ServerFault
-fault_of server = fault_in server.session.progress
+abbrev pub session_fault : Session → Option ServerFault
+session_fault session = fault_in session.progress
 
 -- what it was made with
-abbrev pub serving_of : Server → Serving
-serving_of server =
-    record { hello = setup_of server.session.hello; text_limit = server.session.text_limit }
+abbrev pub session_serving : Session → Serving
+session_serving session =
+    record { hello = setup_of session.hello; text_limit = session.text_limit }
 
 -- what is noted of a viewer: of each place the pixel that it has or will have, where that is known;
 -- the places that it asked for; the format, and the encodings that it listed
@@ -71,7 +63,37 @@ notes_in session = record {
   encodings = session.encodings;
 }
 
--- those of a server
+-- nothing that a session stands for or has noted has changed, over whatever screen
+pub record KeepsSession (old new : Session) : Type 0 where
+  pub fault_is : session_fault new ≡ session_fault old
+  pub made_is : session_serving new ≡ session_serving old
+  pub notes_are : notes_in new ≡ notes_in old
+  pub stands : (serving : Serving) (screen : Grid Colour) (s : ServerState) (prefix : List ℕ) →
+      SessionStandsFor serving screen old s prefix → SessionStandsFor serving screen new s prefix
+
+-- ---- a server
+
+-- a server stands for a state and a prefix
+abbrev pub StandsFor : Serving → Server → ServerState → List ℕ → Type 0
+StandsFor serving server s prefix = SessionStandsFor serving server.screen server.session s prefix
+
+-- its screen
+abbrev pub screen_of : Server → Grid Colour
+screen_of server = server.screen
+
+-- its session
+abbrev pub session_of : Server → Session
+session_of server = server.session
+
+-- the fault that it has failed with, if it has
+abbrev pub fault_of : Server → Option ServerFault
+fault_of server = session_fault server.session
+
+-- what it was made with
+abbrev pub serving_of : Server → Serving
+serving_of server = session_serving server.session
+
+-- what is noted of its viewer
 abbrev pub notes_of : Server → Notes
 notes_of server = notes_in server.session
 

@@ -1,17 +1,21 @@
--- What a call to compose makes of a `Server`.
+-- What a call to compose makes of a session over the screen that it is lent, and of a `Server`.
 use Rattle.std.specs.Prelude.{◌≡◌, ℕ, List, ◌++◌}
+use Rattle.rfb_pixel.specs.declared.colour.Colour.{Colour}
+use Rattle.rfb_picture.specs.Grid.{Grid}
+use Rattle.rfb_server.specs.declared.session.Session.{Session}
 use Rattle.rfb_server.specs.declared.server.Server.{Server}
 use Rattle.rfb_server.specs.Server.{Serving, ServerState}
-use Rattle.rfb_server.specs.Standing.{StandsFor, Keeps, fault_of, screen_of}
+use Rattle.rfb_server.specs.Standing.{SessionStandsFor, StandsFor, KeepsSession, Keeps}
+use Rattle.rfb_server.specs.Standing.{session_fault, session_serving, fault_of, screen_of}
 use Rattle.rfb_server.specs.Composing.{Part, Composes, IsDue}
 use Rattle.rfb_server.specs.declared.hint.Hint.{Hint}
-use Rattle.rfb_server.specs.Hints.{hints_of}
+use Rattle.rfb_server.specs.Hints.{hints_in, hints_of}
 use Rattle.rfb_server.specs.Using.{AreUsed, usable}
 
--- one composing of what a server stood for, which was due: its bytes were appended, its copies are
--- those hints that are of use, and the server stands for what it leaves
+-- one composing of what a session stood for, which was due: its bytes were appended, its copies are
+-- those hints that are of use, and over the screen the session stands for what it leaves
 pub record HasSent (serving : Serving) (s : ServerState) (prefix : List ℕ) (hints : List Hint)
-    (new : Server) (before after : List ℕ) : Type 0 where
+    (screen : Grid Colour) (new : Session) (before after : List ℕ) : Type 0 where
   pub due : IsDue s
   pub behind : ServerState
   pub bytes : List ℕ
@@ -20,7 +24,33 @@ pub record HasSent (serving : Serving) (s : ServerState) (prefix : List ℕ) (hi
   pub appended : after ≡ before ++ bytes
   pub composes : Composes s behind bytes copies blocks
   pub used : AreUsed s (usable s hints) composes.moves
-  pub stands : StandsFor serving new behind prefix
+  pub stands : SessionStandsFor serving screen new behind prefix
+
+-- ---- a session
+
+-- an update was appended, of whatever the session stood for over the screen
+pub record SendsUpdate (screen : Grid Colour) (old new : Session) (before after : List ℕ)
+    : Type 0 where
+  pub fault_is : session_fault new ≡ session_fault old
+  pub made_is : session_serving new ≡ session_serving old
+  pub sent : (serving : Serving) (s : ServerState) (prefix : List ℕ) →
+      SessionStandsFor serving screen old s prefix →
+      HasSent serving s prefix (hints_in old) screen new before after
+
+-- an update was due, of whatever the session stood for over the screen
+abbrev pub OwesUpdate : Grid Colour → Session → Type 0
+OwesUpdate screen old = (serving : Serving) (s : ServerState) (prefix : List ℕ) →
+    SessionStandsFor serving screen old s prefix → IsDue s
+
+-- no update was due over the screen, and nothing has changed
+pub record OwesNone (screen : Grid Colour) (old new : Session) (before after : List ℕ)
+    : Type 0 where
+  pub appended : after ≡ before
+  pub kept : KeepsSession old new
+  pub not_due : (serving : Serving) (s : ServerState) (prefix : List ℕ) →
+      SessionStandsFor serving screen old s prefix → IsDue s → ⊥
+
+-- ---- a server
 
 -- an update was appended, of whatever the server stood for
 pub record Updates (old new : Server) (before after : List ℕ) : Type 0 where
@@ -28,12 +58,11 @@ pub record Updates (old new : Server) (before after : List ℕ) : Type 0 where
   pub fault_is : fault_of new ≡ fault_of old
   pub sent : (serving : Serving) (s : ServerState) (prefix : List ℕ) →
       StandsFor serving old s prefix →
-      HasSent serving s prefix (hints_of old) new before after
+      HasSent serving s prefix (hints_of old) (screen_of new) new.session before after
 
 -- an update was due, of whatever the server stood for
 abbrev pub WasDue : Server → Type 0
-WasDue old = (serving : Serving) (s : ServerState) (prefix : List ℕ) →
-    StandsFor serving old s prefix → IsDue s
+WasDue old = OwesUpdate (screen_of old) old.session
 
 -- no update was due, and nothing has changed
 pub record StaysUnsent (old new : Server) (before after : List ℕ) : Type 0 where

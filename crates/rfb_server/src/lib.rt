@@ -20,6 +20,7 @@ pub use event::{MAX_REPLY, ServerEvent};
 pub use fault::{Outside, ServerFault};
 pub use hint::MAX_HINTS;
 pub use server::Server;
+pub use session::Session;
 
 #[cfg(test)]
 mod tests;

@@ -2,13 +2,10 @@
 
 ghost use Rattle.std.specs.Prelude.{◌≡◌, ◌≢◌, ◌≤◌, ◌<◌, ◌↔◌, ℕ, List, [], ◌++◌, length, take};
 ghost use Rattle.std.specs.Prelude.{true, false, Some, None, Ok, IfOk, IfErr, OnOk, OnErr, IsErr};
-ghost use Rattle.rfb_picture.specs.Grid.{IsGrid};
-ghost use Rattle.rfb_codec.specs.Effect.{IsAlike};
-ghost use Rattle.rfb_server.specs.inside.Marks.{IsCaughtUp};
+ghost use Rattle.rfb_server.specs.Following.{Follows};
 
 use crate::event::ServerEvent;
 use crate::fault::{Outside, ServerFault};
-use crate::hint::Hint;
 use crate::session::Session;
 use rfb_hello::{Fed, Version};
 use rfb_picture::{Area, Picture, Rect};
@@ -21,9 +18,7 @@ use std::alloc::{AllocError, Global};
 pub struct Server {
     screen: Picture<Colour>,
     session: Session,
-    ghost whole: { IsGrid screen },
-    ghost alike: { IsAlike screen session.known },
-    ghost caught_up: { IsCaughtUp screen session.known session.area session.format session.marks },
+    ghost follows: { Follows screen session },
 }
 
 // The colour that a screen begins with.
@@ -42,6 +37,7 @@ impl Server {
     ghost use Rattle.rfb_server.specs.Standing.{screen_of, row_from, HoldsBoth, Draws, Keeps};
     ghost use Rattle.rfb_server.specs.Standing.{notes_of};
     ghost use Rattle.rfb_server.specs.Failing.{KeepsNotes};
+    ghost use Rattle.rfb_server.specs.Standing.{session_of};
     ghost use Rattle.rfb_server.specs.Updating.{Updates, WasDue, StaysUnsent};
     ghost use Rattle.rfb_server.specs.Record.{ShowsKnown, TellsKnown};
     ghost use Rattle.rfb_server.specs.Hints.{hints_of, with_hint};
@@ -73,6 +69,24 @@ impl Server {
         Ok(Server { screen, session })
     }
 
+    /// A server of a screen and a session that follows it, which are its own from here on.
+    pub fn from_parts(screen: Picture<Colour>, session: Session) -> Server
+        requires follows { Follows screen session }
+        ensures screen { screen_of result ≡ screen }
+        ensures session { session_of result ≡ session }
+    {
+        Server { screen, session }
+    }
+
+    /// Its screen and its session, which are the caller's from here on.
+    pub fn into_parts(self) -> (Picture<Colour>, Session)
+        ensures screen { result.0 ≡ screen_of self }
+        ensures session { result.1 ≡ session_of self }
+        ensures follows { Follows result.0 result.1 }
+    {
+        (self.screen, self.session)
+    }
+
     /// Gives one colour to a rectangle of the screen. Where the rectangle leaves the screen it is
     /// refused, and nothing changes; an empty one inside changes nothing either.
     pub fn fill(&mut self, rect: Rect, colour: Colour) -> Result<(), Outside>
@@ -85,8 +99,8 @@ impl Server {
         if !self.screen.holds(rect) {
             return Err(Outside);
         }
-        self.screen.fill(rect, colour);
         self.session.drawn(rect);
+        self.screen.fill(rect, colour);
         Ok(())
     }
 
@@ -106,13 +120,13 @@ impl Server {
         if !fits || y >= self.screen.height() {
             return Err(Outside);
         }
-        self.screen.put_row(x, y, row);
         self.session.drawn(Rect {
             x,
             y,
             w: row.len() as u16,
             h: 1,
         });
+        self.screen.put_row(x, y, row);
         Ok(())
     }
 
@@ -135,8 +149,8 @@ impl Server {
         if !self.screen.holds(dst) || !self.screen.holds(source) {
             return Err(Outside);
         }
-        self.screen.copy(dst, sx, sy);
         self.session.drawn(dst);
+        self.screen.copy(dst, sx, sy);
         Ok(())
     }
 
@@ -152,16 +166,7 @@ impl Server {
         ensures hints { OnOk result (hints_of self.new
             ≡ with_hint (record { to = dst; sx = sx; sy = sy }) (hints_of self.old)) }
     {
-        let source = Rect {
-            x: sx,
-            y: sy,
-            ..dst
-        };
-        if !self.screen.holds(dst) || !self.screen.holds(source) {
-            return Err(Outside);
-        }
-        self.session.hint(Hint { to: dst, sx, sy });
-        Ok(())
+        self.session.hint(dst, sx, sy)
     }
 
     /// Appends to `out` one FramebufferUpdate, RFC 6143 section 7.6.1, of what the viewer asked for
@@ -218,9 +223,6 @@ impl Server {
         ensures fails { IfErr result (λ fault. fault_of self.new ≡ Some fault) }
         ensures failed { StaysFailed (fault_of self.old) self.old result self.new }
     {
-        if let Some(fault) = self.session.fault() {
-            return Err(fault);
-        }
         self.session.feed(bytes)
     }
 

@@ -1,6 +1,7 @@
 //! All of a server but its screen.
 
-ghost use Rattle.std.specs.Prelude.{◌≡◌, ◌≤◌, ◌<◌, [], length, IfOk, true};
+ghost use Rattle.std.specs.Prelude.{◌≡◌, ◌≤◌, ◌<◌, ◌↔◌, ℕ, List, [], length, true};
+ghost use Rattle.std.specs.Prelude.{IfOk, OnOk, OnErr, IsErr};
 ghost use Rattle.rfb_picture.specs.Grid.{Holds, filled};
 ghost use Rattle.rfb_server.specs.inside.Marks.{AreAlike};
 ghost use Rattle.rfb_server.specs.Progress.{is_partial};
@@ -22,6 +23,7 @@ mod texts;
 mod tracking;
 
 use crate::encodings::EncodingList;
+use crate::fault::Outside;
 use crate::hint::{Hint, MAX_HINTS};
 use crate::record::Record;
 use crate::session::progress::Progress;
@@ -35,7 +37,8 @@ use std::alloc::{AllocError, Global};
 
 /// One viewer's part of a server: its handshake, its format and its list of encodings, what it was
 /// sent, what it asked for, hints, and marks where the screen may differ from what it was sent. The
-/// screen is someone else's: a session is told where it was drawn, and is lent it to compose.
+/// screen is someone else's: a session is told where it is drawn on, and is lent it to compose. So
+/// several sessions, each of its own viewer, serve one screen.
 #[derive(Debug, Drop)]
 pub struct Session {
     alloc: Global,
@@ -57,19 +60,22 @@ pub struct Session {
 
 impl Session {
     ghost use Rattle.rfb_pixel.specs.declared.colour.Colour.{Colour};
-    ghost use Rattle.rfb_picture.specs.Grid.{Grid, uniform};
-    ghost use Rattle.rfb_server.specs.Server.{black, first_server};
-    ghost use Rattle.rfb_server.specs.Standing.{SessionStandsFor, serving_with};
-    ghost use Rattle.rfb_server.specs.inside.Marks.{IsCaughtUp, IsSameOutside};
+    ghost use Rattle.rfb_picture.specs.Grid.{Grid, IsGrid};
+    ghost use Rattle.rfb_codec.specs.Effect.{IsAlike};
+    ghost use Rattle.rfb_server.specs.Server.{Serving, ServerState, first_server};
+    ghost use Rattle.rfb_server.specs.Standing.{SessionStandsFor, serving_with, with_screen};
+    ghost use Rattle.rfb_server.specs.Standing.{KeepsSession, HoldsBoth, notes_in};
+    ghost use Rattle.rfb_server.specs.Following.{Follows, IsSameOutside};
+    ghost use Rattle.rfb_server.specs.Hints.{hints_in, with_hint};
     ghost use Rattle.rfb_hello.specs.Version.{version_text};
-    ghost use Rattle.rfb_hello.specs.ServerStanding.{setup_of};
-    ghost use Rattle.rfb_server.specs.inside.Sessions.{IsUnseen, IsMarked, IsHinted};
     ghost use Rattle.rfb_server.specs.Record.{ShowsKnown, TellsKnown};
+    ghost use Rattle.rfb_server.specs.inside.Sessions.{IsMarked, IsHinted};
 
-    /// A session that was fed nothing, over a black screen of that size. It asks for all the memory
-    /// that it will have but for texts; where there is none it gives the error, and nothing is
-    /// kept.
-    pub(crate) fn new(
+    /// A session that was fed nothing, for screens of that size: nothing was sent, and nothing is
+    /// asked. It offers versions up to `offer`, names the screen, and keeps at most `text_limit`
+    /// bytes of each text that the viewer cuts. It asks for all the memory that it will have but
+    /// for texts; where there is none it gives the error, and nothing is kept.
+    pub fn new(
         alloc: Global,
         width: u16,
         height: u16,
@@ -80,12 +86,13 @@ impl Session {
         requires columns { width ≤ 4096 }
         requires rows { height ≤ 4096 }
         requires name { length name.now ≤ 255 }
-        ensures stands { IfOk result (λ session. SessionStandsFor
-            (serving_with offer width height name.now text_limit)
-            (uniform width height black) session
-            (first_server (serving_with offer width height name.now text_limit)) []) }
-        ensures unseen { IfOk result IsUnseen }
-        ensures unhinted { IfOk result (λ session. session.hints.items ≡ []) }
+        ensures stands { IfOk result (λ session. (screen : Grid Colour) → SessionStandsFor
+            (serving_with offer width height name.now text_limit) screen session
+            (with_screen screen
+            (first_server (serving_with offer width height name.now text_limit))) []) }
+        ensures follows { IfOk result (λ session. (screen : Grid Colour) → IsGrid screen
+            → screen.width ≡ width → screen.height ≡ height → Follows screen session) }
+        ensures hints { IfOk result (λ session. hints_in session ≡ []) }
     {
         let hints = HeapCircularBuffer::with_capacity(alloc, MAX_HINTS)?;
         let tracking = Tracking::new(alloc, width, height)?;
@@ -104,56 +111,99 @@ impl Session {
         })
     }
 
-    /// The screen may have changed inside the rectangle, which lies on it.
-    pub(crate) fn drawn(&mut self, rect: Rect)
+    /// Is told that the screen is to be drawn on inside the rectangle, which lies on it, or was just
+    /// drawn on there. Whatever is drawn inside it, the session follows the screen again; while
+    /// nothing is, it does too.
+    pub fn drawn(&mut self, rect: Rect)
+        requires held { Holds (notes_in self.old).known rect }
+        ensures follows { (before after : Grid Colour) → Follows before self.old → IsGrid after
+            → IsSameOutside rect before after → Follows after self.new }
+        ensures kept { KeepsSession self.old self.new }
+        ensures hints { hints_in self.new ≡ hints_in self.old }
+    {
+        self.mark(rect);
+    }
+
+    // Marks the rectangle, which lies on the screen.
+    fn mark(&mut self, rect: Rect)
         requires { Holds self.old.known rect }
         ensures { IsMarked rect self.old self.new }
     {
         self.marks.add(rect);
     }
 
-    /// Keeps a hint; the oldest of sixteen is dropped for it.
-    pub(crate) fn hint(&mut self, hint: Hint)
+    /// Says that the rectangle `dst` of the screen looks as the one of its size at (`sx`, `sy`) did
+    /// when it was last sent, so that the viewer may be told to copy it. Nothing rests on it, and
+    /// nothing else changes. The last sixteen are kept until an update is composed. One that leaves
+    /// the screen is refused.
+    pub fn hint(&mut self, dst: Rect, sx: u16, sy: u16) -> Result<(), Outside>
+        ensures refused { (screen : Grid Colour) → IsAlike screen (notes_in self.old).known
+            → (IsErr result ↔ (HoldsBoth screen dst sx sy → ⊥)) }
+        ensures same { OnErr result (self.new ≡ self.old) }
+        ensures follows { (screen : Grid Colour) → Follows screen self.old
+            → Follows screen self.new }
+        ensures kept { KeepsSession self.old self.new }
+        ensures hints { OnOk result (hints_in self.new
+            ≡ with_hint (record { to = dst; sx = sx; sy = sy }) (hints_in self.old)) }
+    {
+        let source = Rect {
+            x: sx,
+            y: sy,
+            ..dst
+        };
+        let places = self.known.pixels();
+        if !places.holds(dst) || !places.holds(source) {
+            return Err(Outside);
+        }
+        self.keep_hint(Hint { to: dst, sx, sy });
+        Ok(())
+    }
+
+    // Keeps a hint; the oldest of sixteen is dropped for it.
+    fn keep_hint(&mut self, hint: Hint)
         ensures { IsHinted hint self.old self.new }
     {
         self.hints.push_back(hint);
     }
 
-    /// The ProtocolVersion that is sent before all else.
-    pub(crate) fn greeting(&self) -> [u8; 12]
-        ensures { result ≡ version_text (setup_of self.now.hello).offer }
+    /// The ProtocolVersion that is sent before all else, RFC 6143 section 7.1.1.
+    pub fn greeting(&self) -> [u8; 12]
+        ensures { (serving : Serving) (screen : Grid Colour) (s : ServerState) (prefix : List ℕ)
+            → SessionStandsFor serving screen self.now s prefix
+            → result ≡ version_text serving.hello.offer }
     {
         self.hello.greeting()
     }
 
-    /// Lends what the viewer asked for.
-    pub(crate) fn asked(&self) -> &Area
-        ensures { result.now ≡ self.now.area }
+    /// Lends what the viewer asked for since the latest update.
+    pub fn asked(&self) -> &Area
+        ensures { result.now ≡ (notes_in self.now).area }
     {
         &self.area
     }
 
-    /// Lends the pixels that are known of the viewer, each at its place.
-    pub(crate) fn recorded(&self) -> &Picture<u32>
-        ensures value { ShowsKnown self.now.known result.now }
-        ensures columns { result.now.width ≡ self.now.known.width }
-        ensures rows { result.now.height ≡ self.now.known.height }
+    /// Lends what is recorded of the viewer: at each place that `known` has as asked the pixel that
+    /// the viewer has or will have, in the format of the session. Elsewhere it says nothing.
+    pub fn recorded(&self) -> &Picture<u32>
+        ensures value { ShowsKnown (notes_in self.now).known result.now }
+        ensures columns { result.now.width ≡ (notes_in self.now).known.width }
+        ensures rows { result.now.height ≡ (notes_in self.now).known.height }
     {
         self.known.pixels()
     }
 
-    /// Lends the set of the places of which they are known, as asked ones.
-    pub(crate) fn known(&self) -> &Area
-        ensures value { TellsKnown self.now.known result.now }
-        ensures columns { result.now.asked.width ≡ self.now.known.width }
-        ensures rows { result.now.asked.height ≡ self.now.known.height }
+    /// Lends the places of which it is known what the viewer has, as asked ones.
+    pub fn known(&self) -> &Area
+        ensures value { TellsKnown (notes_in self.now).known result.now }
+        ensures columns { result.now.asked.width ≡ (notes_in self.now).known.width }
+        ensures rows { result.now.asked.height ≡ (notes_in self.now).known.height }
     {
         self.known.known()
     }
 
     /// The format that updates are sent in.
-    pub(crate) fn format(&self) -> Format
-        ensures { result ≡ self.now.format }
+    pub fn format(&self) -> Format
+        ensures { result ≡ (notes_in self.now).form }
     {
         self.format
     }

@@ -9,8 +9,7 @@ use Rattle.rfb_server.specs.declared.fault.ServerFault.TheVariants.{NoMemory}
 use Rattle.rfb_server.specs.declared.session.Session.{Session}
 use Rattle.rfb_server.specs.Told.{seen, answer_told}
 use Rattle.rfb_server.specs.Server.{Serving, ServerState, server, AsksMemory}
-use Rattle.rfb_server.specs.Standing.{SessionStandsFor, notes_in}
-use Rattle.rfb_server.specs.Failing.{EndsAt}
+use Rattle.rfb_server.specs.Standing.{SessionStandsFor}
 
 -- what a step by a unit of one item answers, where memory is not wanting
 abbrev pub StepsAs : Session → List ℕ → Result (Option ServerEvent) ServerFault → Session → Type 0
@@ -30,10 +29,3 @@ abbrev pub FeedsAs : Session → List ℕ → Option ServerEvent → Session →
 FeedsAs old bytes event new =
     (serving : Serving) (screen : Grid Colour)
     → FedBy (server serving) (SessionStandsFor serving screen) old bytes (seen event) new
-
--- what a fault says of the bytes that came, and what the session then has noted
-abbrev pub EndsAs : Session → List ℕ → ServerFault → Session → Type 0
-EndsAs old bytes fault new =
-    (serving : Serving) (screen : Grid Colour)
-    → RunsOutBy (server serving) (EndsAt serving fault screen (notes_in new))
-    (SessionStandsFor serving screen) old bytes

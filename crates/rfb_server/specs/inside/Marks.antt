@@ -40,18 +40,3 @@ pub record AreUntouched (width height : ℕ) (known : Grid (Option ℕ)) (area :
   pub area_wide : area.asked.width ≡ width
   pub area_high : area.asked.height ≡ height
   pub marked : AreAllPlaces width height marks
-
--- a place that is not marked is known to have the wanted pixel, and is not whole
-pub record IsCaughtUp (screen : Grid Colour) (known : Grid (Option ℕ)) (area : Places)
-    (form : PixelFormat) (marks : Grid Bool) : Type 0 where
-  pub right : (x y : ℕ) → x < marks.width → y < marks.height → is_in marks x y ≡ false →
-      at_or known x y None ≡ Some (wanted_at screen form x y)
-  pub not_whole : (x y : ℕ) → x < marks.width → y < marks.height → is_in marks x y ≡ false →
-      whole_at area x y ≡ false
-
--- both pictures have the same colours outside the rectangle
-pub record IsSameOutside (rect : Rect) (before after : Grid Colour) : Type 0 where
-  pub columns : after.width ≡ before.width
-  pub rows : after.height ≡ before.height
-  pub same : (x y : ℕ) → x < before.width → y < before.height → contains rect x y ≡ false →
-      at_or after x y black ≡ at_or before x y black

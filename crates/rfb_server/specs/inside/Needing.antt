@@ -10,15 +10,9 @@ use Rattle.rfb_picture.specs.Box.{IsClear, IsBox}
 use Rattle.rfb_picture.specs.Places.{NoneInRow, has_bit}
 use Rattle.rfb_codec.specs.Effect.{IsAlike}
 use Rattle.rfb_server.specs.Request.{needs_at, differs}
-use Rattle.rfb_server.specs.inside.Marks.{IsCaughtUp}
+use Rattle.rfb_server.specs.Following.{IsCaughtUp}
 use Rattle.rfb_server.specs.declared.session.needing.Columns.{Columns}
 use Rattle.rfb_server.specs.declared.session.Session.{Session}
-
--- the session is about that screen, and has marked where it may differ from what was sent
-pub record IsAbout (screen : Grid Colour) (session : Session) : Type 0 where
-  pub whole : IsGrid screen
-  pub alike : IsAlike screen session.known
-  pub caught_up : IsCaughtUp screen session.known session.area session.format session.marks
 
 -- a place of that screen needs sending
 abbrev pub needs_of : Grid Colour → Session → ℕ → ℕ → Bool

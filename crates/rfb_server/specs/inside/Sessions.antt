@@ -11,7 +11,7 @@ use Rattle.rfb_picture.specs.Box.{is_in}
 use Rattle.rfb_hello.specs.ServerEnd.{as_reply}
 use Rattle.rfb_hello.specs.ServerStanding.{setup_of, is_open}
 use Rattle.rfb_server.specs.Record.{forgotten}
-use Rattle.rfb_server.specs.inside.Marks.{IsCaughtUp}
+use Rattle.rfb_server.specs.Following.{IsCaughtUp}
 use Rattle.rfb_server.specs.Hints.{with_hint}
 use Rattle.rfb_server.specs.declared.hint.Hint.{Hint}
 use Rattle.rfb_server.specs.declared.session.Session.{Session}

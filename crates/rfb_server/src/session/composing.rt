@@ -1,12 +1,14 @@
 //! The update of what a viewer asked for and does not have.
 
-ghost use Rattle.std.specs.Prelude.{◌≡◌, ℕ, ◌+◌, ◌*◌, ◌≤◌, true, false, vec_len, Ok, IfOk, OnErr};
+ghost use Rattle.std.specs.Prelude.{◌≡◌, ◌≢◌, ℕ, ◌+◌, ◌*◌, ◌≤◌, List, [], ◌++◌, true, false};
+ghost use Rattle.std.specs.Prelude.{vec_len, None, Ok, IfOk, OnErr};
 ghost use Rattle.std.specs.Bool.{OnTrue, OnFalse};
 ghost use Rattle.std.specs.Int.{div_ceil};
 ghost use Rattle.std.specs.Vec.{vec_capacity};
 ghost use Rattle.rfb_picture.specs.Grid.{Holds};
 ghost use Rattle.rfb_codec.specs.Raw.{raw_length};
-ghost use Rattle.rfb_server.specs.inside.Needing.{IsAbout, IsQuiet};
+ghost use Rattle.rfb_server.specs.inside.Needing.{IsQuiet};
+ghost use Rattle.rfb_server.specs.Following.{Follows};
 ghost use Rattle.rfb_server.specs.Cells.{IsCell};
 ghost use Rattle.rfb_server.specs.inside.Sends.{IsKept, AppendsPixels, SendsCell, AppendsCells};
 ghost use Rattle.rfb_server.specs.inside.Sends.{IsCostIn, IsEnough, HasNext};
@@ -30,18 +32,49 @@ use std::alloc::AllocError;
 const UPDATE_HEAD_SIZE: usize = 4;
 
 impl Session {
-    /// Appends to `out` one update of what the viewer asked for and does not have, if there is such
-    /// a place, and tells whether it did. The screen is lent; `out` stays the caller's. It asks for
-    /// room once, before anything changes: where an update is due and there is no room it gives
-    /// the error, and nothing changes. Before the handshake is done, and once the session has
-    /// failed, there is no update.
-    pub(crate) fn compose(
+    ghost use Rattle.rfb_server.specs.Standing.{KeepsSession, session_fault};
+    ghost use Rattle.rfb_server.specs.Updating.{SendsUpdate, OwesUpdate, OwesNone};
+    ghost use Rattle.rfb_server.specs.Hints.{hints_in};
+
+    /// Appends to `out` one FramebufferUpdate, RFC 6143 section 7.6.1, of what the viewer asked for
+    /// and does not have of the screen, which it is lent, and tells whether it did: exactly where
+    /// the handshake is done, the session has not failed, and such a place is there. First in it is
+    /// a CopyRect for each hint that is of use, the oldest first, where the viewer listed CopyRect: a
+    /// copy over asked places, none of them to be sent whole, which leaves more of them right than
+    /// there were. Then come pixels. Behind an update nothing is asked any more, and no hint is kept.
+    /// `out` stays the caller's; what was in it stays in front. Room is asked for once, before
+    /// anything changes: at most 260 bytes, and 12 and its pixels' bytes for each cell of 64 by 64
+    /// places that holds an asked place. Where there is none it gives the error, if an update is
+    /// due, and nothing changes.
+    ///
+    /// The session has to follow the screen: it was told of each drawing by `drawn`.
+    pub fn compose(
         &mut self,
         screen: &Picture<Colour>,
         out: &mut Vec<u8>,
     ) -> Result<bool, AllocError>
-        requires about { IsAbout screen.now self.old }
-        ensures about { IsAbout screen.now self.new }
+        requires follows { Follows screen.now self.old }
+        ensures follows { Follows screen.now self.new }
+        ensures appended { (bytes : List ℕ) × (out.new.items ≡ out.old.items ++ bytes) }
+        ensures composed { IfOk result (λ did. did ≡ true →
+            SendsUpdate screen.now self.old self.new out.old.items out.new.items) }
+        ensures idle { IfOk result (λ did. did ≡ false →
+            OwesNone screen.now self.old self.new out.old.items out.new.items) }
+        ensures kept { OnErr result (out.new.items ≡ out.old.items) }
+        ensures due { OnErr result (OwesUpdate screen.now self.old) }
+        ensures same { OnErr result (KeepsSession self.old self.new) }
+        ensures failed { session_fault self.old ≢ None → result ≡ Ok false }
+        ensures spent { IfOk result (λ did. did ≡ true → hints_in self.new ≡ []) }
+        ensures hints { IfOk result (λ did. did ≡ false → hints_in self.new ≡ hints_in self.old) }
+        ensures unspent { OnErr result (hints_in self.new ≡ hints_in self.old) }
+    {
+        self.send_due(screen, out)
+    }
+
+    // The same, in words of the session's parts.
+    fn send_due(&mut self, screen: &Picture<Colour>, out: &mut Vec<u8>) -> Result<bool, AllocError>
+        requires about { Follows screen.now self.old }
+        ensures about { Follows screen.now self.new }
         ensures composed { IfOk result (λ did. did ≡ true →
             HasComposed screen.now self.old self.new out.old.items out.new.items) }
         ensures idle { IfOk result (λ did. did ≡ false →
@@ -80,13 +113,13 @@ impl Session {
 
     // Appends the update, if there is one. There is room for it.
     fn update(&mut self, screen: &Picture<Colour>, out: &mut Vec<u8>) -> bool
-        requires about { IsAbout screen.now self.old }
+        requires about { Follows screen.now self.old }
         requires ready { is_ready self.old.progress ≡ true }
         requires room { (room : ℕ) × IsEnough self.old (div_ceil self.old.known.width 64)
             (div_ceil self.old.known.width 64 * div_ceil self.old.known.height 64) room
             × (vec_len out.old + 4 + 16 * usable_hints self.old + room ≤ vec_capacity out.old) }
         requires marked { AreMarkedFor screen.now self.old (usable_hints self.old) }
-        ensures about { IsAbout screen.now self.new }
+        ensures about { Follows screen.now self.new }
         ensures composed { OnTrue result
             (HasComposed screen.now self.old self.new out.old.items out.new.items) }
         ensures idle { OnFalse result
@@ -156,13 +189,13 @@ impl Session {
     // Sends what of each cell needs sending, and tells how many rectangles that makes. There is
     // room for it. Of `quiet` no place does, and so no cell inside it is looked at.
     fn send_cells(&mut self, screen: &Picture<Colour>, quiet: Rect, out: &mut Vec<u8>) -> u16
-        requires about { IsAbout screen.now self.old }
+        requires about { Follows screen.now self.old }
         requires quiet { IsQuiet screen.now self.old quiet }
         requires room { (room : ℕ) × IsEnough self.old (div_ceil self.old.known.width 64)
             (div_ceil self.old.known.width 64 * div_ceil self.old.known.height 64) room
             × (vec_len out.old + room ≤ vec_capacity out.old) }
         ensures kept { IsKept self.old self.new }
-        ensures about { IsAbout screen.now self.new }
+        ensures about { Follows screen.now self.new }
         ensures sent { AppendsCells (div_ceil self.old.known.width 64)
             (div_ceil self.old.known.width 64 * div_ceil self.old.known.height 64)
             screen.now self.old self.new out.old.items out.new.items result }
@@ -188,14 +221,14 @@ impl Session {
         quiet: Rect,
         out: &mut Vec<u8>,
     ) -> bool
-        requires about { IsAbout screen.now self.old }
+        requires about { Follows screen.now self.old }
         requires quiet { IsQuiet screen.now self.old quiet }
         requires held { Holds self.old.known cell }
         requires sides { (cell.w ≤ 64) × (cell.h ≤ 64) }
         requires room { (cost : ℕ) × IsCostIn self.old cell cost
             × (vec_len out.old + cost ≤ vec_capacity out.old) }
         ensures kept { IsKept self.old self.new }
-        ensures about { IsAbout screen.now self.new }
+        ensures about { Follows screen.now self.new }
         ensures sent { SendsCell result screen.now cell self.old self.new
             out.old.items out.new.items }
         ensures quiet { IsQuiet screen.now self.new quiet }
@@ -212,14 +245,14 @@ impl Session {
 
     // Sends the pixels of the rectangle, and records them.
     fn send(&mut self, screen: &Picture<Colour>, rect: Rect, out: &mut Vec<u8>)
-        requires about { IsAbout screen.now self.old }
+        requires about { Follows screen.now self.old }
         requires held { Holds self.old.known rect }
         requires columns { (1 ≤ rect.w) × (rect.w ≤ 64) }
         requires rows { (1 ≤ rect.h) × (rect.h ≤ 64) }
         requires room { vec_len out.old + 12 + raw_length self.old.format rect.w rect.h
             ≤ vec_capacity out.old }
         ensures kept { IsKept self.old self.new }
-        ensures about { IsAbout screen.now self.new }
+        ensures about { Follows screen.now self.new }
         ensures sent { AppendsPixels screen.now rect self.old self.new
             out.old.items out.new.items }
         ensures len { vec_len out.new

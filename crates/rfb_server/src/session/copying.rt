@@ -2,7 +2,8 @@
 
 ghost use Rattle.std.specs.Prelude.{◌≡◌, ◌+◌, ◌*◌, ◌≤◌, slice_get, Some, vec_len};
 ghost use Rattle.std.specs.Vec.{vec_capacity};
-ghost use Rattle.rfb_server.specs.inside.Needing.{IsAbout, IsQuiet};
+ghost use Rattle.rfb_server.specs.inside.Needing.{IsQuiet};
+ghost use Rattle.rfb_server.specs.Following.{Follows};
 ghost use Rattle.rfb_server.specs.inside.Sessions.{IsSame};
 ghost use Rattle.rfb_server.specs.inside.Sends.{IsKept};
 ghost use Rattle.rfb_server.specs.inside.Copying.{SendsHint, AppendsCopies, usable_hints};
@@ -32,8 +33,8 @@ impl Session {
     /// Marks where the viewer may be told to copy to, since its picture changes there. That may
     /// mark a place that the viewer has already, and costs a look at it.
     pub(crate) fn mark_hints(&mut self, screen: &Picture<Colour>)
-        requires { IsAbout screen.now self.old }
-        ensures about { IsAbout screen.now self.new }
+        requires { Follows screen.now self.old }
+        ensures about { Follows screen.now self.new }
         ensures same { IsSame self.old self.new }
         ensures hints { self.new.hints ≡ self.old.hints }
         ensures marked { AreMarkedFor screen.now self.new (usable_hints self.new) }
@@ -45,8 +46,8 @@ impl Session {
 
     // Marks it for the hint of that number.
     fn mark_hint(&mut self, screen: &Picture<Colour>, index: usize)
-        requires { IsAbout screen.now self.old }
-        ensures about { IsAbout screen.now self.new }
+        requires { Follows screen.now self.old }
+        ensures about { Follows screen.now self.new }
         ensures same { IsSame self.old self.new }
         ensures hints { self.new.hints ≡ self.old.hints }
         ensures more { KeepsMarks self.old self.new }
@@ -56,7 +57,7 @@ impl Session {
         if let Some(hint) = self.hints.get(index) {
             let to = hint.to;
             if screen.holds(to) {
-                self.drawn(to);
+                self.mark(to);
             }
         }
     }
@@ -70,12 +71,12 @@ impl Session {
         out: &mut Vec<u8>,
         quiet: &mut Rect,
     ) -> u16
-        requires about { IsAbout screen.now self.old }
+        requires about { Follows screen.now self.old }
         requires quiet { IsQuiet screen.now self.old quiet.old }
         requires room { vec_len out.old + 16 * usable_hints self.old ≤ vec_capacity out.old }
         requires marked { AreMarkedFor screen.now self.old (usable_hints self.old) }
         ensures kept { IsKept self.old self.new }
-        ensures about { IsAbout screen.now self.new }
+        ensures about { Follows screen.now self.new }
         ensures sent { AppendsCopies screen.now (usable_hints self.old) self.old self.new
             out.old.items out.new.items result }
         ensures quiet { IsQuiet screen.now self.new quiet.new }
@@ -99,11 +100,11 @@ impl Session {
         out: &mut Vec<u8>,
         quiet: &mut Rect,
     ) -> bool
-        requires about { IsAbout screen.now self.old }
+        requires about { Follows screen.now self.old }
         requires quiet { IsQuiet screen.now self.old quiet.old }
         requires room { vec_len out.old + 16 ≤ vec_capacity out.old }
         ensures kept { IsKept self.old self.new }
-        ensures about { IsAbout screen.now self.new }
+        ensures about { Follows screen.now self.new }
         ensures sent { (hint : Hint) → slice_get self.old.hints.items index ≡ Some hint →
             SendsHint result screen.now hint self.old self.new out.old.items out.new.items }
         ensures quiet { IsQuiet screen.now self.new quiet.new }
@@ -127,11 +128,11 @@ impl Session {
         out: &mut Vec<u8>,
         quiet: &mut Rect,
     ) -> bool
-        requires about { IsAbout screen.now self.old }
+        requires about { Follows screen.now self.old }
         requires quiet { IsQuiet screen.now self.old quiet.old }
         requires room { vec_len out.old + 16 ≤ vec_capacity out.old }
         ensures kept { IsKept self.old self.new }
-        ensures about { IsAbout screen.now self.new }
+        ensures about { Follows screen.now self.new }
         ensures sent { SendsHint result screen.now hint self.old self.new
             out.old.items out.new.items }
         ensures quiet { IsQuiet screen.now self.new quiet.new }

@@ -3,7 +3,7 @@
 ghost use Rattle.std.specs.Prelude.{◌≡◌, ◌+◌, ◌-◌, ◌*◌, ◌/◌, ◌≤◌, ◌<◌, IfSome, IfNone};
 ghost use Rattle.std.specs.Bool.{OnTrue, OnFalse};
 ghost use Rattle.rfb_picture.specs.Grid.{Holds};
-ghost use Rattle.rfb_server.specs.inside.Needing.{IsAbout};
+ghost use Rattle.rfb_server.specs.Following.{Follows};
 ghost use Rattle.rfb_server.specs.inside.Copying.{IsFree, IsUseful};
 ghost use Rattle.rfb_server.specs.Composing.{count_row, count_in};
 ghost use Rattle.rfb_server.specs.inside.Gaining.{MayCopy, HasMoreRight, line, part};
@@ -19,7 +19,7 @@ impl Session {
     /// copy: all of the rectangle is asked and none of it whole, all of the source is known, and
     /// these are more than before.
     pub(crate) fn gains(&self, screen: &Picture<Colour>, hint: Hint) -> Option<u32>
-        requires { IsAbout screen.now self.now }
+        requires { Follows screen.now self.now }
         ensures useful { IfSome result (λ right. IsUseful screen.now self.now hint) }
         ensures right { IfSome result (λ right.
             right ≡ count_in (right_behind screen.now self.now hint) hint.to) }
@@ -63,7 +63,7 @@ impl Session {
     // Whether more places of the rectangle have the wanted pixel behind the copy, where they are
     // counted, than before. They are counted until the rows that are left cannot change the answer.
     fn has_more_right(&self, screen: &Picture<Colour>, hint: Hint, behind: u32) -> bool
-        requires about { IsAbout screen.now self.now }
+        requires about { Follows screen.now self.now }
         requires copy { MayCopy self.now.known hint }
         requires behind { behind ≡ count_in (right_behind screen.now self.now hint) hint.to }
         ensures more { OnTrue result (HasMoreRight screen.now self.now hint) }
@@ -87,7 +87,7 @@ impl Session {
 
     // How many places of the rectangle have the wanted pixel behind the copy.
     fn behind_in(&self, screen: &Picture<Colour>, hint: Hint) -> u32
-        requires about { IsAbout screen.now self.now }
+        requires about { Follows screen.now self.now }
         requires copy { MayCopy self.now.known hint }
         ensures value { result ≡ count_in (right_behind screen.now self.now hint) hint.to }
         ensures few { result ≤ hint.to.h * 65535 }
@@ -101,7 +101,7 @@ impl Session {
 
     // The same of one row, in parts of 64 places.
     fn behind_in_row(&self, screen: &Picture<Colour>, row: Hint) -> u32
-        requires about { IsAbout screen.now self.now }
+        requires about { Follows screen.now self.now }
         requires copy { MayCopy self.now.known row }
         requires single { row.to.h ≡ 1 }
         ensures value { result
@@ -121,7 +121,7 @@ impl Session {
 
     // The same of at most 64 places of a row. All of the source is known.
     fn behind_in_part(&self, screen: &Picture<Colour>, part: Hint) -> u32
-        requires about { IsAbout screen.now self.now }
+        requires about { Follows screen.now self.now }
         requires copy { MayCopy self.now.known part }
         requires single { part.to.h ≡ 1 }
         requires few { part.to.w ≤ 64 }
@@ -143,7 +143,7 @@ impl Session {
 
     // How many places of one row have the wanted pixel as they are, in parts of one cell each.
     fn before_in_row(&self, screen: &Picture<Colour>, row: Hint) -> u32
-        requires about { IsAbout screen.now self.now }
+        requires about { Follows screen.now self.now }
         requires copy { MayCopy self.now.known row }
         requires single { row.to.h ≡ 1 }
         ensures value { result
@@ -163,7 +163,7 @@ impl Session {
 
     // The same of places of one cell: those that are known, and have that pixel.
     fn before_in_part(&self, screen: &Picture<Colour>, part: Hint) -> u32
-        requires about { IsAbout screen.now self.now }
+        requires about { Follows screen.now self.now }
         requires copy { MayCopy self.now.known part }
         requires single { part.to.h ≡ 1 }
         requires some { 0 < part.to.w }

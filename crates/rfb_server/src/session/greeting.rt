@@ -17,7 +17,8 @@ impl Session {
     ghost use Rattle.rfb_server.specs.declared.session.progress.Progress.{Progress};
     ghost use Rattle.rfb_server.specs.Progress.{fault_in};
     ghost use Rattle.rfb_server.specs.inside.Sessions.{KeepsUp};
-    ghost use Rattle.rfb_server.specs.inside.Feeding.{FeedsAs, EndsAs};
+    ghost use Rattle.rfb_server.specs.inside.Feeding.{FeedsAs};
+    ghost use Rattle.rfb_server.specs.Failing.{EndsAs};
 
     // Takes bytes of the client's handshake, up to the last of its first step that makes an
     // event, or all. Bytes behind the handshake are the messages'.

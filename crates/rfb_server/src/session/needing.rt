@@ -6,7 +6,8 @@ ghost use Rattle.rfb_picture.specs.Grid.{Holds};
 ghost use Rattle.rfb_picture.specs.Box.{IsBox};
 ghost use Rattle.rfb_picture.specs.Places.{HasBitsBetween};
 ghost use Rattle.rfb_server.specs.Request.{wanted_at};
-ghost use Rattle.rfb_server.specs.inside.Needing.{IsAbout, IsFirst, IsEnd, HasBox};
+ghost use Rattle.rfb_server.specs.inside.Needing.{IsFirst, IsEnd, HasBox};
+ghost use Rattle.rfb_server.specs.Following.{Follows};
 ghost use Rattle.rfb_server.specs.inside.Needing.{HasInRow, IsLastOf, SpansRows, TellsOther};
 ghost use Rattle.rfb_server.specs.inside.Needing.{needs_of, rows_above};
 ghost use Rattle.rfb_server.specs.Composing.{IsDue};
@@ -27,7 +28,7 @@ struct Columns {
 impl Session {
     /// Whether a place needs sending. It takes a look at each cell.
     pub(super) fn is_due(&self, screen: &Picture<Colour>) -> bool
-        requires about { IsAbout screen.now self.now }
+        requires about { Follows screen.now self.now }
         ensures due { OnTrue result (IsDue (state_of screen.now self.now)) }
         ensures none { OnFalse result (IsDue (state_of screen.now self.now) → ⊥) }
     {
@@ -49,7 +50,7 @@ impl Session {
     /// The least rectangle that holds the places of the cell that need sending; `None` where it has
     /// none. It costs by the places that are marked.
     pub(crate) fn needed_in(&self, screen: &Picture<Colour>, cell: Rect) -> Option<Rect>
-        requires about { IsAbout screen.now self.now }
+        requires about { Follows screen.now self.now }
         requires held { Holds self.now.known cell }
         ensures { HasBox (needs_of screen.now self.now) cell result }
     {
@@ -61,7 +62,7 @@ impl Session {
 
     // The same of a zone, from its first row with such a place on.
     fn needed_in_zone(&self, screen: &Picture<Colour>, zone: Rect) -> Option<Rect>
-        requires about { IsAbout screen.now self.now }
+        requires about { Follows screen.now self.now }
         requires held { Holds self.now.known zone }
         ensures { HasBox (needs_of screen.now self.now) zone result }
     {
@@ -78,7 +79,7 @@ impl Session {
     // The same where row `top` is the first with such a place, and `first` is the column of its
     // first one.
     fn needed_from(&self, screen: &Picture<Colour>, zone: Rect, top: u16, first: u16) -> Rect
-        requires about { IsAbout screen.now self.now }
+        requires about { Follows screen.now self.now }
         requires held { Holds self.now.known zone }
         requires row { (zone.y ≤ top) × (top < zone.y + zone.h) }
         requires above { HasBox (needs_of screen.now self.now) (rows_above zone top) None }
@@ -99,7 +100,7 @@ impl Session {
 
     // The last row of the zone that has a place that needs sending, as row `top` has.
     fn last_row(&self, screen: &Picture<Colour>, zone: Rect, top: u16) -> u16
-        requires about { IsAbout screen.now self.now }
+        requires about { Follows screen.now self.now }
         requires held { Holds self.now.known zone }
         requires row { (zone.y ≤ top) × (top < zone.y + zone.h) }
         requires some { HasInRow (needs_of screen.now self.now) zone top }
@@ -124,7 +125,7 @@ impl Session {
         bottom: u16,
         given: Columns,
     ) -> Columns
-        requires about { IsAbout screen.now self.now }
+        requires about { Follows screen.now self.now }
         requires held { Holds self.now.known zone }
         requires rows { (zone.y ≤ top) × (top ≤ bottom) × (bottom < zone.y + zone.h) }
         requires given { SpansRows (needs_of screen.now self.now) zone top top given }
@@ -146,7 +147,7 @@ impl Session {
     // The first column from `from` on, up to `to`, whose place in row `y` needs sending; `to` where
     // there is none.
     fn first_needed(&self, screen: &Picture<Colour>, y: u16, from: u16, to: u16) -> u16
-        requires about { IsAbout screen.now self.now }
+        requires about { Follows screen.now self.now }
         requires row { y < self.now.known.height }
         requires columns { (from ≤ to) × (to ≤ self.now.known.width) }
         ensures { IsFirst (needs_of screen.now self.now) y from to result }
@@ -166,7 +167,7 @@ impl Session {
     // The column behind the last one from `from` on, up to `to`, whose place in row `y` needs
     // sending; `from` where there is none.
     fn needed_end(&self, screen: &Picture<Colour>, y: u16, from: u16, to: u16) -> u16
-        requires about { IsAbout screen.now self.now }
+        requires about { Follows screen.now self.now }
         requires row { y < self.now.known.height }
         requires columns { (from ≤ to) × (to ≤ self.now.known.width) }
         ensures { IsEnd (needs_of screen.now self.now) y from to result }
@@ -186,7 +187,7 @@ impl Session {
     // Which places of row `y` from column `from` up to column `to`, all of one cell, need sending.
     // A place that is known, and not to be sent whole, is looked at.
     fn needed_between(&self, screen: &Picture<Colour>, y: u16, from: u16, to: u16) -> u64
-        requires about { IsAbout screen.now self.now }
+        requires about { Follows screen.now self.now }
         requires row { y < self.now.known.height }
         requires columns { (from < to) × (to ≤ self.now.known.width) }
         requires cell { to ≤ from / 64 * 64 + 64 }
@@ -207,7 +208,7 @@ impl Session {
     // Which places of row `y` from column `from` up to column `to`, all of one cell, are known to
     // have another pixel than the wanted one. It says nothing of a place that is not known.
     fn differing_between(&self, screen: &Picture<Colour>, y: u16, from: u16, to: u16) -> u64
-        requires about { IsAbout screen.now self.now }
+        requires about { Follows screen.now self.now }
         requires row { y < self.now.known.height }
         requires columns { (from < to) × (to ≤ self.now.known.width) }
         requires cell { to ≤ from / 64 * 64 + 64 }

@@ -4,7 +4,8 @@ ghost use Rattle.std.specs.Prelude.{◌≡◌, ◌⊎◌, ℕ, ◌*◌, true};
 ghost use Rattle.std.specs.Bool.{OnTrue};
 ghost use Rattle.rfb_picture.specs.Grid.{Holds};
 ghost use Rattle.rfb_picture.specs.Rect.{contains};
-ghost use Rattle.rfb_server.specs.inside.Needing.{HasBox, IsAbout, IsQuiet, needs_of};
+ghost use Rattle.rfb_server.specs.inside.Needing.{HasBox, IsQuiet, needs_of};
+ghost use Rattle.rfb_server.specs.Following.{Follows};
 
 use crate::session::Session;
 use rfb_picture::{Picture, Rect};
@@ -27,7 +28,7 @@ impl Session {
         cell: Rect,
         quiet: Rect,
     ) -> Option<Rect>
-        requires about { IsAbout screen.now self.now }
+        requires about { Follows screen.now self.now }
         requires quiet { IsQuiet screen.now self.now quiet }
         requires held { Holds self.now.known cell }
         ensures { HasBox (needs_of screen.now self.now) cell result }

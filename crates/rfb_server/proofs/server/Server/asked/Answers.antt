@@ -6,10 +6,10 @@ pub returns-clause-columns : goal.returns-clause-columns
 returns-clause-columns c =
     let server = c.args.self.now in
     ap (λ (area : Places). area.asked.width) c.asked.ensures
-    ∙ (server.session.alike.area_wide ∙ sym server.alike.columns)
+    ∙ (server.session.alike.area_wide ∙ sym server.follows.alike.columns)
 
 pub returns-clause-rows : goal.returns-clause-rows
 returns-clause-rows c =
     let server = c.args.self.now in
     ap (λ (area : Places). area.asked.height) c.asked.ensures
-    ∙ (server.session.alike.area_high ∙ sym server.alike.rows)
+    ∙ (server.session.alike.area_high ∙ sym server.follows.alike.rows)

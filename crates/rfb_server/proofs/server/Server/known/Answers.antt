@@ -5,7 +5,7 @@ pub returns-clause-value : goal.returns-clause-value
 returns-clause-value c = λ serving s prefix stands. rw (stands.known_is) c.known.ensures.value
 
 pub returns-clause-columns : goal.returns-clause-columns
-returns-clause-columns c = c.known.ensures.columns ∙ sym c.args.self.now.alike.columns
+returns-clause-columns c = c.known.ensures.columns ∙ sym c.args.self.now.follows.alike.columns
 
 pub returns-clause-rows : goal.returns-clause-rows
-returns-clause-rows c = c.known.ensures.rows ∙ sym c.args.self.now.alike.rows
+returns-clause-rows c = c.known.ensures.rows ∙ sym c.args.self.now.follows.alike.rows

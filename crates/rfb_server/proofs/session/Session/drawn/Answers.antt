@@ -1,10 +1,6 @@
-use Rattle.rfb_server.proofs.MarksLemmas.{alike_marked}
+use Rattle.rfb_server.proofs.MarksLemmas.{follows_drawn}
 use Rattle.rfb_server.proofs.session.Session.drawn.Goals as goal
 
-pub invariant_of-self : goal.invariant_of-self
-invariant_of-self c =
-    record {
-      alike = alike_marked _ _ c.args.self.now.marks _ c.args.rect c.args.self.now.alike c.add.ensures.value;
-      partial = c.args.self.now.partial;
-      sixteen = c.args.self.now.sixteen;
-    }
+pub returns-clause-follows : goal.returns-clause-follows
+returns-clause-follows c = λ before after follows whole outside.
+    follows_drawn c.args.self.now c.mark.new.self before after c.args.rect c.mark.ensures follows whole outside

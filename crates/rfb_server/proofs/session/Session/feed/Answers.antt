@@ -1,63 +1,48 @@
-use Rattle.std.proofs.Common.{◌≡◌, ◌∙◌, sym, refl, ◌≤◌, length, drop, length-drop, None, arith}
-use Rattle.std.proofs.lemmas.List.{take_rest}
-use Rattle.std.proofs.lemmas.Result.{err_from_is_err_and}
-use Rattle.rfb_wire.proofs.stream_laws.FeedLaws.{fed_more, runs_out_later}
-use Rattle.rfb_server.specs.Server.{server}
-use Rattle.rfb_server.specs.Standing.{SessionStandsFor, notes_in}
-use Rattle.rfb_server.specs.Failing.{EndsAt}
-use Rattle.rfb_server.proofs.ServerLaws.{server_machine}
-use Rattle.rfb_server.proofs.FeedingLemmas.{up_same, up_then}
-use Rattle.rfb_server.proofs.SliceLemmas.{session_starts, none_told, some_told}
+use Rattle.std.proofs.Common.{refl, sym, ap, ◌∙◌, ◌≡◌, Some, None}
+use Rattle.circular_buffer.specs.Buffer.{Buffer}
+use Rattle.rfb_server.specs.declared.hint.Hint.{Hint}
+use Rattle.rfb_server.specs.Standing.{session_fault}
+use Rattle.rfb_server.proofs.MarksLemmas.{follows_up}
+use Rattle.rfb_server.proofs.SliceLemmas.{ok_map, err_map, serving_kept}
+use Rattle.rfb_server.proofs.EndingLemmas.{ends_refuse, ends_starve, failed_ends}
 use Rattle.rfb_server.proofs.session.Session.feed.Goals as goal
 
-pub loop-used-init : goal.loop-used-init
-loop-used-init c =
-    record { within = omega arith; going = c.requires.going; up = up_same _ _ refl refl refl refl refl refl refl; fed = session_starts c.args.self.now }
-
-pub returns-in_err-fed : goal.returns-in_err-fed
-returns-in_err-fed c =
-    let p = err_from_is_err_and c.from_residual.result c.from_residual.ensures.1 in
-    let rest = take_rest c.args.bytes.now c.loop-used.used in
-    rw (p.1, p.2) (record {
+pub returns-in-Some : goal.returns-in-Some
+returns-in-Some c =
+    let session = c.args.self.now in
+    let fails : session_fault session ≡ Some c.in-Some.fault = sym c.fault.ensures ∙ c.in-Some.is in
+    let ends = failed_ends session session c.args.bytes.now c.in-Some.fault fails in
+    record {
       used = tt;
       all = tt;
       some = tt;
       fed = tt;
-      up = up_then c.args.self.now c.loop-used.self c.take.new.self c.loop-used.invariant.up c.take.ensures.up;
-      ends = λ serving screen. runs_out_later (server serving) (server_machine serving) (EndsAt serving c.in_err-fed.field-0.0 screen (notes_in c.take.new.self)) (SessionStandsFor serving screen) c.args.self.now c.loop-used.self c.loop-used.used c.args.bytes.now (c.loop-used.invariant.fed serving screen) (rw rest at (c.in_err-fed.ensures.ends serving screen));
-      fails = c.in_err-fed.ensures.fails;
-    })
-
-pub returns-then-is_some : goal.returns-then-is_some
-returns-then-is_some c =
-    let rest = take_rest c.args.bytes.now c.loop-used.used in
-    let fed = c.in_ok-fed.fed in
-    let within : fed.used ≤ length (drop c.loop-used.used c.args.bytes.now) = rw rest at c.in_ok-fed.ensures.used.1 in
-    record {
-      used = omega (arith, length-drop c.loop-used.used c.args.bytes.now, within, c.loop-used.invariant.within);
-      all = λ none. absurd (some_told fed.event (sym c.is_some.ensures ∙ c.if-is_some.true) none);
-      some = λ any. omega (arith, c.in_ok-fed.ensures.used.0);
-      fed = λ serving screen. fed_more (server serving) (server_machine serving) (SessionStandsFor serving screen) c.args.self.now c.loop-used.self c.take.new.self c.loop-used.used fed.used c.args.bytes.now _ (c.loop-used.invariant.fed serving screen) (rw rest at (c.in_ok-fed.ensures.fed serving screen));
-      up = up_then c.args.self.now c.loop-used.self c.take.new.self c.loop-used.invariant.up c.take.ensures.up;
-      ends = tt;
-      fails = tt;
+      made = refl;
+      hints = refl;
+      follows = λ screen follows. follows;
+      fault = λ other. ends_refuse session session c.args.bytes.now c.in-Some.fault ends other;
+      memory = λ memory. ends_starve session session c.args.bytes.now c.in-Some.fault ends memory;
+      kept = ends;
+      fails = fails;
+      failed = λ f h. (cc, refl);
     }
 
-pub loop-used-preserved : goal.loop-used-preserved
-loop-used-preserved c =
-    let rest = take_rest c.args.bytes.now c.loop-used.used in
-    let fed = c.in_ok-fed.fed in
-    let within : fed.used ≤ length (drop c.loop-used.used c.args.bytes.now) = rw rest at c.in_ok-fed.ensures.used.1 in
-    let none : fed.event ≡ None = none_told fed.event (sym c.is_some.ensures ∙ c.if-is_some.false) in
+pub returns : goal.returns
+returns c =
+    let session = c.args.self.now in
+    let new = c.take_items.new.self in
+    let none : session_fault session ≡ None = sym c.fault.ensures ∙ c.in_default.is in
     record {
-      within = omega (arith, length-drop c.loop-used.used c.args.bytes.now, within, c.loop-used.invariant.within);
-      going = c.in_ok-fed.ensures.fails;
-      up = up_then c.args.self.now c.loop-used.self c.take.new.self c.loop-used.invariant.up c.take.ensures.up;
-      fed = λ serving screen. fed_more (server serving) (server_machine serving) (SessionStandsFor serving screen) c.args.self.now c.loop-used.self c.take.new.self c.loop-used.used fed.used c.args.bytes.now None (c.loop-used.invariant.fed serving screen) (rw (rest, none) at (c.in_ok-fed.ensures.fed serving screen));
+      used = c.take_items.ensures.used;
+      all = c.take_items.ensures.all;
+      some = c.take_items.ensures.some;
+      fed = ok_map _ _ c.take_items.result (λ fed h. h) c.take_items.ensures.fed;
+      made = serving_kept session new c.take_items.ensures.up;
+      hints = ap (λ (kept : Buffer Hint). kept.items) c.take_items.ensures.up.hints;
+      follows = λ screen follows. follows_up session new screen c.take_items.ensures.up follows;
+      fault = err_map _ _ c.take_items.result (λ fault h other. ends_refuse session new c.args.bytes.now fault h other) c.take_items.ensures.ends;
+      memory = err_map _ _ c.take_items.result (λ fault h memory. ends_starve session new c.args.bytes.now fault h memory) c.take_items.ensures.ends;
+      kept = c.take_items.ensures.ends;
+      fails = c.take_items.ensures.fails;
+      failed = λ f h. absurd cc;
     }
-
-pub loop-used-smaller-else-is_some-2 : goal.loop-used-smaller-else-is_some-2
-loop-used-smaller-else-is_some-2 c = grind arith
-
-pub loop-used-preserved-else-is_some-2 : goal.loop-used-preserved-else-is_some-2
-loop-used-preserved-else-is_some-2 c = grind arith

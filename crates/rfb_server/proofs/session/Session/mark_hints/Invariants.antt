@@ -1,5 +1,5 @@
 use Rattle.std.proofs.Common.{◌≡◌}
-use Rattle.rfb_server.specs.inside.Needing.{IsAbout}
+use Rattle.rfb_server.specs.Following.{Follows}
 use Rattle.rfb_server.specs.inside.Sessions.{IsSame}
 use Rattle.rfb_server.specs.inside.Copying.{AreMarkedFor}
 use Rattle.rfb_server.proofs.session.Session.mark_hints.Given as goal
@@ -7,7 +7,7 @@ use Rattle.rfb_server.proofs.session.Session.mark_hints.Given as goal
 -- all but marks is as it was
 abbrev pub invariant-loop-index : goal.invariant-loop-index
 invariant-loop-index l = record {
-  about : IsAbout l.screen l.self;
+  about : Follows l.screen l.self;
   same : IsSame l.initial.self l.self;
   hints : l.self.hints ≡ l.initial.self.hints;
   marked : AreMarkedFor l.screen l.self l.index;

@@ -2,7 +2,7 @@ use Rattle.std.proofs.Common.{ap, sym, ◌∙◌}
 use Rattle.rfb_picture.proofs.GridLemmas.{whole-changed, whole-uniform}
 use Rattle.rfb_picture.proofs.AreaLemmas.{area-no_places}
 use Rattle.rfb_hello.proofs.StandingLaws.{server_stands}
-use Rattle.rfb_server.proofs.MarksLemmas.{in_all}
+use Rattle.rfb_server.proofs.MarksLemmas.{in_all, caught_unseen}
 use Rattle.rfb_server.proofs.session.Session.new.Goals as goal
 
 pub invariant_of-result : goal.invariant_of-result
@@ -24,8 +24,13 @@ invariant_of-result c =
       sixteen = ap (λ b. b.capacity) c.in_ok-hints.ensures;
     }
 
-pub returns-clause-unseen : goal.returns-clause-unseen
-returns-clause-unseen c = λ x y p q.
+pub returns-clause-follows : goal.returns-clause-follows
+returns-clause-follows c = λ screen whole wide high.
     let fresh = c.in_ok-tracking.ensures in
-    rw fresh.marked.value
-    (in_all c.args.width c.args.height x y (rw fresh.known_wide at p) (rw fresh.known_high at q))
+    record {
+      whole = whole;
+      alike = record { columns = wide ∙ sym fresh.known_wide; rows = high ∙ sym fresh.known_high };
+      caught_up = caught_unseen screen _ _ _ _ (λ x y p q.
+          rw fresh.marked.value
+          (in_all c.args.width c.args.height x y (rw fresh.marked.columns at p) (rw fresh.marked.rows at q)));
+    }

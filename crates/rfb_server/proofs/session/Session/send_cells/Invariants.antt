@@ -1,7 +1,8 @@
 use Rattle.std.proofs.Common.{◌≡◌, ◌≤◌, ◌*◌, ◌+◌, ◌-◌, ℕ, vec_len}
 use Rattle.std.specs.Int.{div_ceil}
 use Rattle.std.specs.Vec.{vec_capacity}
-use Rattle.rfb_server.specs.inside.Needing.{IsAbout, IsQuiet}
+use Rattle.rfb_server.specs.inside.Needing.{IsQuiet}
+use Rattle.rfb_server.specs.Following.{Follows}
 use Rattle.rfb_server.specs.inside.Sends.{IsKept, AppendsCells, AreCosts, may_need, sum_below}
 use Rattle.rfb_server.proofs.session.Session.send_cells.Given as goal
 
@@ -9,7 +10,7 @@ use Rattle.rfb_server.proofs.session.Session.send_cells.Given as goal
 abbrev pub invariant-loop-index : goal.invariant-loop-index
 invariant-loop-index l = record {
   kept : IsKept l.initial.self l.self;
-  about : IsAbout l.screen l.self;
+  about : Follows l.screen l.self;
   quiet : IsQuiet l.screen l.self l.quiet;
   sent : AppendsCells (div_ceil l.initial.self.known.width 64) l.next l.screen l.initial.self l.self l.initial.out.items l.out.items l.count;
   within : l.next ≤ div_ceil l.initial.self.known.width 64 * div_ceil l.initial.self.known.height 64;

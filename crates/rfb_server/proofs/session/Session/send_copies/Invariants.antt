@@ -1,6 +1,7 @@
 use Rattle.std.proofs.Common.{◌≡◌, ◌≤◌, ◌*◌, ◌+◌, vec_len}
 use Rattle.std.specs.Vec.{vec_capacity}
-use Rattle.rfb_server.specs.inside.Needing.{IsAbout, IsQuiet}
+use Rattle.rfb_server.specs.inside.Needing.{IsQuiet}
+use Rattle.rfb_server.specs.Following.{Follows}
 use Rattle.rfb_server.specs.inside.Sends.{IsKept}
 use Rattle.rfb_server.specs.inside.Copying.{AppendsCopies}
 use Rattle.rfb_server.proofs.session.Session.send_copies.Given as goal
@@ -9,7 +10,7 @@ use Rattle.rfb_server.proofs.session.Session.send_copies.Given as goal
 abbrev pub invariant-loop-index : goal.invariant-loop-index
 invariant-loop-index l = record {
   kept : IsKept l.initial.self l.self;
-  about : IsAbout l.screen l.self;
+  about : Follows l.screen l.self;
   quiet : IsQuiet l.screen l.self l.quiet;
   sent : AppendsCopies l.screen l.index l.initial.self l.self l.initial.out.items l.out.items l.count;
   few : l.count ≤ l.index;
