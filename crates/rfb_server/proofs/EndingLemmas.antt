@@ -29,25 +29,11 @@ use Rattle.rfb_server.specs.Progress.{fault_in}
 use Rattle.rfb_server.specs.Standing.{SessionStandsFor, Notes, notes_in, notes_at}
 use Rattle.rfb_server.specs.Failing.{EndsAt, EndsAs}
 use Rattle.rfb_server.specs.inside.Feeding.{StepsAs, RunsOutAs}
-use Rattle.rfb_server.proofs.ServerLaws.{server_machine}
+use Rattle.rfb_server.proofs.ServerLaws.{server_machine, same_notes, session_noted}
 use Rattle.rfb_server.proofs.GreetLemmas.{IsSameBut, same_but, at_hello, quiet_stays, stays_first, told_first}
 use Rattle.rfb_server.proofs.SliceLemmas.{session_starts, not_memory, never_stands}
 
 -- ---- notes
-
-abbrev notes : Grid (Option ℕ) → Places → PixelFormat → List Encoding → Notes
-notes known area form encodings = record { known = known; area = area; form = form; encodings = encodings }
-
-pub same_notes : (known record_now : Grid (Option ℕ)) (area places : Places) (form format : PixelFormat) (encodings list : List Encoding) →
-    known ≡ record_now → area ≡ places → form ≡ format → encodings ≡ list → notes known area form encodings ≡ notes record_now places format list
-same_notes known record_now area places form format encodings list a b c d = rw (a, b, c, d) refl
-
--- a session that stands for a state has its notes
-pub noted : (serving : Serving) (screen : Grid Colour) (session : Session) (s : ServerState) (prefix : List ℕ) →
-    SessionStandsFor serving screen session s prefix → notes_in session ≡ notes_at s
-noted serving screen session s prefix now =
-    same_notes session.known s.known session.area s.area session.format s.form session.encodings s.encodings
-    (sym now.known_is) (sym now.area_is) (sym now.form_is) (sym now.encodings_are)
 
 -- steps of the handshake leave them
 same_noted : (s t : ServerState) → IsSameBut s t → notes_at t ≡ notes_at s
@@ -80,7 +66,7 @@ step_ends old new n bytes fault steps out same = λ serving screen.
         bad = λ other. steps_bad_at serving screen new s (prefix ++ take n bytes) _ fault (steps (apart other) serving screen s prefix now);
         asks = λ memory. out (ap (λ (f : ServerFault). Err f) memory) serving screen s prefix now;
         screen_is = sym now.screen_is;
-        notes_are = same ∙ noted serving screen old s prefix now;
+        notes_are = same ∙ session_noted serving screen old s prefix now;
       };
     })
 
@@ -116,7 +102,7 @@ greets_end old bytes fault handshake refused = λ serving screen s prefix now.
         bad = λ other. bad;
         asks = λ memory. absurd (bad_without serving.hello.offer t.point refuses.rest (fault_of_hello fault) bad memory);
         screen_is = sym (steps.screen ∙ now.screen_is);
-        notes_are = noted serving screen old s prefix now ∙ sym (same_noted s t steps);
+        notes_are = session_noted serving screen old s prefix now ∙ sym (same_noted s t steps);
       };
     }
 

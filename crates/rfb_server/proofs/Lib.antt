@@ -2,6 +2,7 @@ pub mod ServerLaws
 pub mod ServerParts
 pub mod RecordLemmas
 pub mod ComposingLaws
+pub mod FollowingLaws
 pub mod MarksLemmas
 pub mod GreetLemmas
 pub mod AskingLemmas

@@ -81,17 +81,6 @@ caught_drawn before after known area form marks now rect alike size outside e ca
         let q' : y < marks.height = rw (← height-changed (λ i j old. if contains rect i j then true else old) marks) q in
         caught.not_whole x y p' q' (unmarked marks rect x y alike.marks_whole p' q' h).1
 
--- a change inside a rectangle leaves the places outside
-pub outside_changed : (rect : Rect) (f : ℕ → ℕ → Colour → Colour) (picture : Grid Colour) → IsGrid picture →
-    ((x y : ℕ) (old : Colour) → contains rect x y ≡ false → f x y old ≡ old) →
-    IsSameOutside rect picture (changed f picture)
-outside_changed rect f picture whole stays =
-    record {
-      columns = width-changed f picture;
-      rows = height-changed f picture;
-      same = λ x y p q e. at-changed f picture x y black whole p q ∙ stays x y (at_or picture x y black) e;
-    }
-
 pub contained : (r : Rect) (x y : ℕ) → r.x ≤ x → x < r.x + r.w → r.y ≤ y → y < r.y + r.h → contains r x y ≡ true
 contained r x y a b c d = grind (arith, nat_tests)
 
@@ -117,17 +106,6 @@ follows_drawn old new before after rect marked follows whole outside =
           (caught_drawn before after old.known old.area old.format old.marks new.marks rect old.alike follows.alike
           outside marked.marks follows.caught_up);
     }
-
--- so it is of a change inside the rectangle
-pub follows_changed : (old new : Session) (screen after : Grid Colour) (rect : Rect) (f : ℕ → ℕ → Colour → Colour) →
-    Follows screen old →
-    ((before later : Grid Colour) → Follows before old → IsGrid later → IsSameOutside rect before later → Follows later new) →
-    after ≡ changed f screen →
-    ((x y : ℕ) (c : Colour) → contains rect x y ≡ false → f x y c ≡ c) →
-    Follows after new
-follows_changed old new screen after rect f follows told e stays =
-    subst (λ (g : Grid Colour). Follows g new) (sym e)
-    (told screen (changed f screen) follows (whole-changed f screen follows.whole) (outside_changed rect f screen follows.whole stays))
 
 -- whatever it is fed, it follows
 pub follows_up : (old new : Session) (screen : Grid Colour) → KeepsUp old new → Follows screen old → Follows screen new

@@ -22,7 +22,7 @@ use Rattle.rfb_server.specs.Using.{AreUsed, usable}
 use Rattle.rfb_server.specs.inside.Sends.{state_of}
 use Rattle.rfb_server.specs.inside.Composed.{is_ready, IsAwaited, HasComposed, StaysIdle}
 use Rattle.rfb_server.specs.Updating.{SendsUpdate, OwesUpdate, OwesNone}
-use Rattle.rfb_server.proofs.EndingLemmas.{same_notes}
+use Rattle.rfb_server.proofs.ServerLaws.{session_over, same_notes}
 
 -- a session that is ready stands between messages, or in one
 pub point_ready : (serving : Serving) (hello : ServerHello) (progress : Progress) (point : ClientAt) (prefix : List ℕ) →
@@ -151,20 +151,6 @@ owes screen old awaited = λ serving s prefix stands.
 
 -- ---- a server
 
--- what a session stands for over one screen, it stands for over another with that one
-pub over_screen : (serving : Serving) (before after : Grid Colour) (session : Session) (s : ServerState) (prefix : List ℕ) →
-    SessionStandsFor serving before session s prefix → SessionStandsFor serving after session (with_screen after s) prefix
-over_screen serving before after session s prefix stands = record {
-  setup_is = stands.setup_is;
-  limit_is = stands.limit_is;
-  progress_is = stands.progress_is;
-  screen_is = refl;
-  known_is = stands.known_is;
-  area_is = stands.area_is;
-  form_is = stands.form_is;
-  encodings_are = stands.encodings_are;
-}
-
 -- a server whose session is as it was has the new screen, and else nothing new
 pub draws : (screen : Grid Colour) (old new : Server) → new.screen ≡ screen →
     KeepsSession old.session new.session → Draws screen old new
@@ -174,7 +160,7 @@ draws screen old new e kept = record {
   notes_are = kept.notes_are;
   stands = λ serving s prefix stands.
       subst (λ (g : Grid Colour). SessionStandsFor serving g new.session (with_screen screen s) prefix) (sym e)
-      (over_screen serving old.screen screen new.session s prefix (kept.stands serving old.screen s prefix stands));
+      (session_over serving old.screen screen new.session s prefix (kept.stands serving old.screen s prefix stands));
 }
 
 -- whether a call was taken or not

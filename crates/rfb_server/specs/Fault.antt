@@ -1,4 +1,6 @@
--- The faults of the handshake, of a format and of a message, as faults of a session.
+-- The faults of the handshake, of a format and of a message, as faults of a session; and their
+-- numbers.
+use Rattle.std.specs.Prelude.{ℕ}
 use Rattle.rfb_pixel.specs.declared.fault.FormatFault.{FormatFault}
 use Rattle.rfb_pixel.specs.declared.fault.FormatFault.TheVariants.{BadBits, DepthTooLarge, NotTrueColour, BadMax, ShiftTooLarge, FieldsOverlap}
 use Rattle.rfb_wire.specs.ClientMessage.{ClientFault, BadFormat, UnknownType}
@@ -33,3 +35,17 @@ fault_of_format FieldsOverlap = Overlap
 abbrev pub fault_of_message : ClientFault → ServerFault
 fault_of_message (BadFormat fault) = fault_of_format fault
 fault_of_message (UnknownType message_type) = UnknownMessage message_type
+
+-- the number of a fault
+abbrev pub fault_number : ServerFault → ℕ
+fault_number Bits = 1
+fault_number Depth = 2
+fault_number Colours = 3
+fault_number Max = 4
+fault_number Shift = 5
+fault_number Overlap = 6
+fault_number (UnknownMessage message_type) = 7
+fault_number Version = 15
+fault_number High = 16
+fault_number Choice = 17
+fault_number Memory = 30

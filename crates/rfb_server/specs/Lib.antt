@@ -8,8 +8,8 @@ pub mod Request
 pub mod Cells
 pub mod Composing
 pub mod Progress
-pub mod Standing
 pub mod Following
+pub mod Standing
 pub mod Failing
 pub mod Hints
 pub mod Updating

@@ -13,6 +13,7 @@ use Rattle.rfb_hello.specs.ServerStanding.{setup_of}
 use Rattle.rfb_server.specs.declared.fault.ServerFault.{ServerFault}
 use Rattle.rfb_server.specs.declared.session.Session.{Session}
 use Rattle.rfb_server.specs.declared.server.Server.{Server}
+use Rattle.rfb_server.specs.Following.{Follows}
 use Rattle.rfb_server.specs.Server.{Serving, ServerState}
 use Rattle.rfb_server.specs.Progress.{ProgressStandsFor, fault_in}
 
@@ -100,6 +101,11 @@ notes_of server = notes_in server.session
 -- those of a state
 abbrev pub notes_at : ServerState → Notes
 notes_at s = record { known = s.known; area = s.area; form = s.form; encodings = s.encodings }
+
+-- the server that a session is over a screen that it follows
+abbrev pub server_over : (screen : Grid Colour) (session : Session) → Follows screen session → Server
+server_over screen session follows =
+    record { screen = screen; session = session; follows = follows }
 
 -- ---- drawings
 

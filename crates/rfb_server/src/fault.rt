@@ -3,7 +3,7 @@
 ghost use Rattle.std.specs.Prelude.{◌≡◌, ℕ};
 ghost use Rattle.rfb_wire.specs.declared.fault.WireFault.TheVariants.{UnknownMessage as UnknownType};
 ghost use Rattle.rfb_server.specs.declared.fault.ServerFault.TheVariants.{UnknownMessage};
-ghost use Rattle.rfb_server.specs.Fault.{fault_of_hello, fault_of_format};
+ghost use Rattle.rfb_server.specs.Fault.{fault_of_hello, fault_of_format, fault_number};
 
 use rfb_hello::HelloFault;
 use rfb_pixel::FormatFault;
@@ -49,6 +49,25 @@ pub enum ServerFault {
 }
 
 impl ServerFault {
+    /// Its number, with which its text begins.
+    pub fn number(&self) -> u8
+        ensures { result ≡ fault_number self.now }
+    {
+        match self {
+            ServerFault::BadBits => 1,
+            ServerFault::DepthTooLarge => 2,
+            ServerFault::NotTrueColour => 3,
+            ServerFault::BadMax => 4,
+            ServerFault::ShiftTooLarge => 5,
+            ServerFault::FieldsOverlap => 6,
+            ServerFault::UnknownMessage(_) => 7,
+            ServerFault::BadVersion => 15,
+            ServerFault::VersionTooHigh => 16,
+            ServerFault::BadSecurityChoice => 17,
+            ServerFault::NoMemory => 30,
+        }
+    }
+
     // The fault of a handshake, as one of a session. A client's bytes show the first three alone.
     pub(crate) fn of_hello(fault: HelloFault) -> ServerFault
         ensures { result ≡ fault_of_hello fault }

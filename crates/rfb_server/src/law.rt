@@ -1,6 +1,6 @@
 //! Laws of a client's stream and of a server's states, with nothing to run.
 
-ghost use Rattle.std.specs.Prelude.{◌≡◌, ℕ, List, true, map, ◌++◌, Some, None, ◌⊎◌};
+ghost use Rattle.std.specs.Prelude.{◌≡◌, ℕ, List, true, map, ◌++◌, Some, None, ◌⊎◌, ◌↔◌};
 ghost use Rattle.rfb_pixel.specs.declared.colour.Colour.{Colour};
 ghost use Rattle.rfb_pixel.specs.Format.{PixelFormat, seen_through};
 ghost use Rattle.rfb_picture.specs.Grid.{Grid, IsGrid, at_or};
@@ -16,7 +16,11 @@ ghost use Rattle.rfb_server.specs.Server.{Serving, ServerState, server, black};
 ghost use Rattle.rfb_server.specs.Server.{messages_end, behind_handshake};
 ghost use Rattle.rfb_server.specs.Told.{step_told};
 ghost use Rattle.rfb_server.specs.declared.server.Server.{Server};
+ghost use Rattle.rfb_server.specs.declared.session.Session.{Session};
+ghost use Rattle.rfb_server.specs.Following.{Follows};
 ghost use Rattle.rfb_server.specs.Standing.{StandsFor, fault_of, screen_of, notes_of, notes_at};
+ghost use Rattle.rfb_server.specs.Standing.{SessionStandsFor, session_of, session_fault, notes_in};
+ghost use Rattle.rfb_server.specs.Standing.{with_screen, server_over};
 ghost use Rattle.rfb_server.specs.Request.{wanted, recorded, is_asked};
 ghost use Rattle.rfb_server.specs.Composing.{Part, Composes, IsPlace, between, sent_as};
 
@@ -55,6 +59,34 @@ pub fn a_server_that_stands_has_the_notes_of_its_state()
         StandsFor serving server s prefix → screen_of server ≡ s.screen }
     ensures notes { (serving : Serving) (server : Server) (s : ServerState) (prefix : List ℕ) →
         StandsFor serving server s prefix → notes_of server ≡ notes_at s }
+{}
+
+/// A session that stands for a state has not failed, and has the notes of that state.
+pub fn a_session_that_stands_has_the_notes_of_its_state()
+    ensures going { (serving : Serving) (screen : Grid Colour) (session : Session)
+        (s : ServerState) (prefix : List ℕ) → SessionStandsFor serving screen session s prefix →
+        session_fault session ≡ None }
+    ensures notes { (serving : Serving) (screen : Grid Colour) (session : Session)
+        (s : ServerState) (prefix : List ℕ) → SessionStandsFor serving screen session s prefix →
+        notes_in session ≡ notes_at s }
+{}
+
+/// What a session stands for over one screen, it stands for over any other, with that as the screen.
+pub fn a_session_stands_over_any_screen()
+    ensures { (serving : Serving) (before after : Grid Colour) (session : Session)
+        (s : ServerState) (prefix : List ℕ) → SessionStandsFor serving before session s prefix →
+        SessionStandsFor serving after session (with_screen after s) prefix }
+{}
+
+/// A session over a screen that it follows is a server, which stands for what the session does; and
+/// a server is its session over its screen.
+pub fn a_session_over_a_screen_is_a_server()
+    ensures stands { (serving : Serving) (screen : Grid Colour) (session : Session)
+        (follows : Follows screen session) (s : ServerState) (prefix : List ℕ) →
+        StandsFor serving (server_over screen session follows) s prefix
+        ↔ SessionStandsFor serving screen session s prefix }
+    ensures server { (server : Server) → (follows : Follows (screen_of server) (session_of server))
+        × (server_over (screen_of server) (session_of server) follows ≡ server) }
 {}
 
 /// A viewer whose picture agreed with the record shows, once it has the update, the screen over the

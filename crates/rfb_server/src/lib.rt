@@ -6,6 +6,7 @@
 #![tactic(auto)]
 
 mod cells;
+mod drawing;
 mod encodings;
 mod event;
 mod fault;
@@ -16,6 +17,7 @@ mod sending;
 mod server;
 mod session;
 
+pub use drawing::row_area;
 pub use event::{MAX_REPLY, ServerEvent};
 pub use fault::{Outside, ServerFault};
 pub use hint::MAX_HINTS;

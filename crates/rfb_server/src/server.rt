@@ -4,6 +4,7 @@ ghost use Rattle.std.specs.Prelude.{◌≡◌, ◌≢◌, ◌≤◌, ◌<◌, �
 ghost use Rattle.std.specs.Prelude.{true, false, Some, None, Ok, IfOk, IfErr, OnOk, OnErr, IsErr};
 ghost use Rattle.rfb_server.specs.Following.{Follows};
 
+use crate::drawing::row_area;
 use crate::event::ServerEvent;
 use crate::fault::{Outside, ServerFault};
 use crate::session::Session;
@@ -115,17 +116,8 @@ impl Server {
             (Draws (with_row x y row.now (screen_of self.old)) self.old self.new) }
         ensures hints { hints_of self.new ≡ hints_of self.old }
     {
-        let width = usize::from(self.screen.width());
-        let fits = row.len() <= width && usize::from(x) <= width - row.len();
-        if !fits || y >= self.screen.height() {
-            return Err(Outside);
-        }
-        self.session.drawn(Rect {
-            x,
-            y,
-            w: row.len() as u16,
-            h: 1,
-        });
+        let rect = row_area(&self.screen, x, y, row)?;
+        self.session.drawn(rect);
         self.screen.put_row(x, y, row);
         Ok(())
     }

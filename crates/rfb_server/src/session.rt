@@ -177,7 +177,9 @@ impl Session {
 
     /// Lends what the viewer asked for since the latest update.
     pub fn asked(&self) -> &Area
-        ensures { result.now ≡ (notes_in self.now).area }
+        ensures value { result.now ≡ (notes_in self.now).area }
+        ensures columns { result.now.asked.width ≡ (notes_in self.now).known.width }
+        ensures rows { result.now.asked.height ≡ (notes_in self.now).known.height }
     {
         &self.area
     }

@@ -15,7 +15,7 @@ use Rattle.rfb_viewer.specs.ServerBytes.{ServerAt, FromServer}
 use Rattle.rfb_viewer.specs.Viewer.{ViewerState, viewer}
 use Rattle.rfb_viewer.specs.Calls.{call_refused, request_refused, format_refused, call_refusal, request_refusal, format_refusal, requested, with_format, formatted}
 use Rattle.rfb_server.specs.ClientBytes.{FromClient}
-use Rattle.rfb_session.specs.Link.{Ends, Link}
+use Rattle.rfb_session.specs.Link.{Ends, LinkState}
 use Rattle.rfb_session.specs.Headline.{ShowsKnown, ShowsLatest}
 use Rattle.rfb_session.specs.LinkSteps.{calls}
 use Rattle.rfb_session.proofs.QueueLemmas.{IsMere, form_behind, form_append, mere_form, mere_later, mere_more, later_more, ask_more, asks_now}
@@ -219,14 +219,14 @@ holds_sent e screen c v message h phase same = record {
   latest = subst (λ (d : Option (Grid Colour)). ShowsLatest c.latest d) same h.latest;
 }
 
-called : (e : Ends) (screen : Grid Colour) (l : Link) (v : ViewerState) (message : ClientMessage)
+called : (e : Ends) (screen : Grid Colour) (l : LinkState) (v : ViewerState) (message : ClientMessage)
     (refusal : Option CallFault) → Holds e screen (core l) →
     (refusal ≡ None → Holds e screen (sent (core l) v message)) →
     Holds e screen (core (calls refusal l v message))
 called e screen l v message (Some fault) h goes = h
 called e screen l v message None h goes = goes refl
 
-pub holds_mere : (e : Ends) (screen : Grid Colour) (l : Link) (message : ClientMessage) →
+pub holds_mere : (e : Ends) (screen : Grid Colour) (l : LinkState) (message : ClientMessage) →
     IsMere (Second message) → Holds e screen (core l) →
     Holds e screen (core (calls (call_refusal l.viewer) l l.viewer message))
 holds_mere e screen l message mere h =
@@ -234,7 +234,7 @@ holds_mere e screen l message mere h =
     (λ open_now. holds_sent e screen (core l) l.viewer message h
     (phase_mere e (core l) message h.phase mere open_now) refl)
 
-pub holds_request : (e : Ends) (screen : Grid Colour) (l : Link) (incremental : Bool)
+pub holds_request : (e : Ends) (screen : Grid Colour) (l : LinkState) (incremental : Bool)
     (rect : Rect) → Holds e screen (core l) →
     Holds e screen
     (core (calls (request_refusal l.viewer rect) l (requested l.viewer)
@@ -249,7 +249,7 @@ holds_request e screen l incremental rect h =
     (FramebufferUpdateRequest incremental rect) h one.1
     (nothing_due e (core l) one.0 ∙ sym (nothing_due e now one.0)))
 
-pub holds_format : (e : Ends) (screen : Grid Colour) (l : Link) (form : PixelFormat)
+pub holds_format : (e : Ends) (screen : Grid Colour) (l : LinkState) (form : PixelFormat)
     (prefix : List ℕ) → Holds e screen (core l) →
     Holds e screen
     (core (calls (format_refusal l.viewer prefix) l (formatted form l.viewer)

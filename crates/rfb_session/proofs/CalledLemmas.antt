@@ -1,4 +1,4 @@
--- Calls on the viewer of a world: a message is in flight, or nothing has changed.
+-- Calls on the viewer of a link: a message is in flight, or nothing has changed.
 use Rattle.std.proofs.Common.{◌≡◌, ℕ, Bool, List, [], ◌++◌, Option, None, Some, refl, sym, ap, ◌∙◌, subst}
 use Rattle.rfb_pixel.specs.Format.{PixelFormat}
 use Rattle.rfb_picture.specs.declared.rect.Rect.{Rect}
@@ -6,9 +6,8 @@ use Rattle.rfb_wire.specs.ClientMessage.{ClientMessage, SetPixelFormat, Framebuf
 use Rattle.rfb_wire.specs.stream.Sequel.{First, Second}
 use Rattle.rfb_wire.specs.stream.Grammar.{ReadsAll}
 use Rattle.rfb_codec.specs.UpdateStream.{UpdatePoint}
-use Rattle.rfb_server.specs.declared.server.Server.{Server}
-use Rattle.rfb_server.specs.Standing.{screen_of}
 use Rattle.rfb_viewer.specs.declared.fault.CallFault.{CallFault}
+use Rattle.rfb_viewer.specs.declared.fault.CallFault.TheVariants.{NotReady, Busy, AreaOutside}
 use Rattle.rfb_viewer.specs.declared.viewer.Viewer.{Viewer}
 use Rattle.rfb_viewer.specs.ServerBytes.{ServerAt}
 use Rattle.rfb_viewer.specs.Viewer.{ViewerState}
@@ -16,37 +15,44 @@ use Rattle.rfb_viewer.specs.Calls.{call_refusal, call_refused, request_refused, 
 use Rattle.rfb_viewer.specs.Standing.{StandsFor as ViewerStandsFor}
 use Rattle.rfb_session.specs.declared.latest.Latest.{Latest}
 use Rattle.rfb_session.specs.declared.told.Refused.{Refused}
-use Rattle.rfb_session.specs.declared.world.World.{World}
+use Rattle.rfb_session.specs.declared.link.Link.{Link}
 use Rattle.rfb_session.specs.Latest.{composing_in}
 use Rattle.rfb_session.specs.Link.{Ends}
 use Rattle.rfb_session.specs.LinkSteps.{begun, calls}
 use Rattle.rfb_session.specs.InFlight.{Flight, Flies}
 use Rattle.rfb_session.specs.Network.{Network, IsReached}
 use Rattle.rfb_session.specs.Told.{refused_as}
-use Rattle.rfb_session.specs.World.{StandsFor}
-use Rattle.rfb_session.proofs.DrawnLemmas.{HasSameLink, same_stands}
+use Rattle.rfb_session.specs.LinkStanding.{LinkStandsFor}
+use Rattle.rfb_session.specs.LinkBytes.{OnlySends}
 use Rattle.rfb_session.proofs.NetworkLemmas.{reached_holds}
 use Rattle.rfb_session.proofs.AnswerLemmas.{to_viewer_stream}
 use Rattle.rfb_session.proofs.SentLemmas.{called_flies, refusal_same}
 use Rattle.rfb_session.proofs.MoveLemmas.{format_flies}
 
 -- a call became a step of the link: it was taken or refused, and its message is in flight or not
-abbrev pub Called : Ends → World → World → Network → Option CallFault → ViewerState →
+abbrev pub Called : Ends → Link → Link → Network → Option CallFault → ViewerState →
     ClientMessage → Type 0
 Called e old new n refusal v message =
     (m : Network) × ((m.screen ≡ n.screen) × (m.link ≡ calls refusal n.link v message))
-    × StandsFor e new m
+    × LinkStandsFor e n.screen new m.link
 
--- all but the viewer and the bytes to the server is as it was
-pub record OnlySends (old new : World) (bytes : List ℕ) : Type 0 where
-  pub server : new.server ≡ old.server
-  pub to_server : new.to_server ≡ old.to_server ++ bytes
+-- a link is as it was
+pub record IsSameLink (old new : Link) : Type 0 where
+  pub session : new.session ≡ old.session
+  pub viewer : new.viewer ≡ old.viewer
+  pub to_server : new.to_server ≡ old.to_server
   pub to_viewer : new.to_viewer ≡ old.to_viewer
   pub latest : new.latest ≡ old.latest
-  pub closed : new.closed ≡ old.closed
 
--- what is in flight in a world
-abbrev flight_of : (e : Ends) (w : World) (n : Network) → StandsFor e w n → Flight
+pub same_stands : (e : Ends) (old new : Link) (n : Network) → IsSameLink old new →
+    LinkStandsFor e n.screen old n.link → LinkStandsFor e n.screen new n.link
+same_stands e old new n same stands = record {
+  carries = rw (same.session, same.viewer, same.to_server, same.to_viewer) stands.carries;
+  latest_is = stands.latest_is ∙ ap (λ l. composing_in l) (sym same.latest);
+}
+
+-- what is in flight on a link
+abbrev flight_of : (e : Ends) (w : Link) (n : Network) → LinkStandsFor e n.screen w n.link → Flight
 flight_of e w n stands = record {
   viewer_has = stands.carries.viewer_has;
   viewer_gets = w.to_viewer;
@@ -55,8 +61,8 @@ flight_of e w n stands = record {
 }
 
 -- it was taken
-taken : (e : Ends) (old new : World) (n : Network) (refusal : Option CallFault) (v : ViewerState)
-    (message : ClientMessage) (bytes : List ℕ) (stands : StandsFor e old n) →
+taken : (e : Ends) (old new : Link) (n : Network) (refusal : Option CallFault) (v : ViewerState)
+    (message : ClientMessage) (bytes : List ℕ) (stands : LinkStandsFor e n.screen old n.link) →
     None ≡ refusal → ViewerStandsFor e.viewing new.viewer v stands.carries.viewer_has →
     Flies e (calls None n.link v message)
     (record (flight_of e old n stands) { server_gets = old.to_server ++ bytes }) →
@@ -65,9 +71,7 @@ taken e old new n refusal v message bytes stands none viewer_is flies only = (
   record n { link = calls None n.link v message },
   (refl, ap (λ (o : Option CallFault). calls o n.link v message) none),
   record {
-    goes_on = only.closed ∙ stands.goes_on;
-    screen_is = stands.screen_is ∙ ap (λ (s : Server). screen_of s) (sym only.server);
-    carries = rw (only.server, only.to_server, only.to_viewer) (record {
+    carries = rw (only.session, only.to_server, only.to_viewer) (record {
       server_has = stands.carries.server_has;
       viewer_has = stands.carries.viewer_has;
       server_is = stands.carries.server_is;
@@ -79,14 +83,13 @@ taken e old new n refusal v message bytes stands none viewer_is flies only = (
 )
 
 -- it was refused
-pub refused : (e : Ends) (old new : World) (n : Network) (refusal : Option CallFault)
-    (v : ViewerState) (message : ClientMessage) (fault : CallFault) → StandsFor e old n →
-    Some fault ≡ refusal → new.server ≡ old.server → HasSameLink old new →
-    Called e old new n refusal v message
-refused e old new n refusal v message fault stands some server same = (
+pub refused : (e : Ends) (old new : Link) (n : Network) (refusal : Option CallFault)
+    (v : ViewerState) (message : ClientMessage) (fault : CallFault) → LinkStandsFor e n.screen old n.link →
+    Some fault ≡ refusal → IsSameLink old new → Called e old new n refusal v message
+refused e old new n refusal v message fault stands some same = (
   n,
   (refl, ap (λ (o : Option CallFault). calls o n.link v message) some),
-  same_stands e old new n server same stands,
+  same_stands e old new n same stands,
 )
 
 -- the viewer that takes it is ready
@@ -100,7 +103,7 @@ request_ready (First point) outstanding rect none = absurd cc
 request_ready (Second p) outstanding rect none = (p, refl)
 
 -- a message of a viewer that is ready, and that stands where it stood
-message_flies : (e : Ends) (w : World) (n : Network) (stands : StandsFor e w n) (v : ViewerState)
+message_flies : (e : Ends) (w : Link) (n : Network) (stands : LinkStandsFor e n.screen w n.link) (v : ViewerState)
     (message : ClientMessage) (bytes : List ℕ) (p : UpdatePoint) → IsReached e n →
     n.link.viewer.point ≡ Second p → v.point ≡ n.link.viewer.point →
     SpellsClientMessage message bytes →
@@ -116,8 +119,8 @@ message_flies e w n stands v message bytes p reached ready same spelled =
 -- ---- each kind of call
 
 -- a request
-pub request_taken : (e : Ends) (old new : World) (n : Network) (incremental : Bool) (rect : Rect)
-    (bytes : List ℕ) (stands : StandsFor e old n) → IsReached e n →
+pub request_taken : (e : Ends) (old new : Link) (n : Network) (incremental : Bool) (rect : Rect)
+    (bytes : List ℕ) (stands : LinkStandsFor e n.screen old n.link) → IsReached e n →
     None ≡ request_refusal n.link.viewer rect →
     ViewerStandsFor e.viewing new.viewer (requested n.link.viewer) stands.carries.viewer_has →
     SpellsClientMessage (FramebufferUpdateRequest incremental rect) bytes →
@@ -132,7 +135,7 @@ request_taken e old new n incremental rect bytes stands reached none viewer_is s
     (FramebufferUpdateRequest incremental rect) bytes ready.0 reached ready.1 refl spelled) only
 
 -- a format is refused by the bytes that came of an item as by the item
-pub format_same : (e : Ends) (w : World) (n : Network) (stands : StandsFor e w n) →
+pub format_same : (e : Ends) (w : Link) (n : Network) (stands : LinkStandsFor e n.screen w n.link) →
     IsReached e n → format_refusal n.link.viewer stands.carries.viewer_has
     ≡ format_refusal n.link.viewer (begun n.link.at_viewer n.link.to_viewer)
 format_same e w n stands reached =
@@ -140,8 +143,8 @@ format_same e w n stands reached =
     stands.carries.flies
 
 -- a format
-pub format_taken : (e : Ends) (old new : World) (n : Network) (form : PixelFormat)
-    (bytes : List ℕ) (stands : StandsFor e old n) → IsReached e n →
+pub format_taken : (e : Ends) (old new : Link) (n : Network) (form : PixelFormat)
+    (bytes : List ℕ) (stands : LinkStandsFor e n.screen old n.link) → IsReached e n →
     None ≡ format_refusal n.link.viewer stands.carries.viewer_has →
     ViewerStandsFor e.viewing new.viewer (formatted form n.link.viewer)
     stands.carries.viewer_has →
@@ -157,8 +160,8 @@ format_taken e old new n form bytes stands reached none viewer_is spelled only =
     (sym none) spelled) only
 
 -- a message that waits for the end of the handshake alone
-pub message_taken : (e : Ends) (old new : World) (n : Network) (message : ClientMessage)
-    (bytes : List ℕ) → StandsFor e old n → IsReached e n →
+pub message_taken : (e : Ends) (old new : Link) (n : Network) (message : ClientMessage)
+    (bytes : List ℕ) → LinkStandsFor e n.screen old n.link → IsReached e n →
     None ≡ call_refusal n.link.viewer → new.viewer ≡ old.viewer →
     SpellsClientMessage message bytes → OnlySends old new bytes →
     Called e old new n (call_refusal n.link.viewer) n.link.viewer message
@@ -180,3 +183,10 @@ pub not_taken : (refusal : Option CallFault) (refused : Refused) → None ≡ re
     Some refused ≡ refused_as refusal → ⊥
 not_taken None refused none is = no_refusal refused is
 not_taken (Some fault) refused none is = absurd cc
+
+-- what is told of a refusal is one
+pub is_refusal : (fault : CallFault) (told : Option Refused) → told ≡ refused_as (Some fault) →
+    told ≡ None → ⊥
+is_refusal NotReady told is none = cc
+is_refusal Busy told is none = cc
+is_refusal AreaOutside told is none = cc

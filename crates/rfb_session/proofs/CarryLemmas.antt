@@ -9,7 +9,7 @@ use Rattle.rfb_server.specs.Told.{ServerTold}
 use Rattle.rfb_viewer.specs.declared.fault.ViewerFault.{ViewerFault}
 use Rattle.rfb_viewer.specs.Told.{ViewerTold}
 use Rattle.rfb_viewer.specs.Viewer.{Viewing, ViewerState, viewer}
-use Rattle.rfb_session.specs.Link.{Ends, server_of, Link}
+use Rattle.rfb_session.specs.Link.{Ends, server_of, LinkState}
 use Rattle.rfb_session.specs.LinkSteps.{MovesToViewer, MovesToServer}
 use Rattle.rfb_session.specs.InFlight.{AreMade, Flight, viewer_reply, server_reply}
 use Rattle.rfb_session.specs.Carrying.{Carries}
@@ -21,11 +21,11 @@ module _ {S V : Type 0} (serves_as : Serving → S → ServerState → List ℕ 
     (shows_as : Viewing → V → ViewerState → List ℕ → Type 0) where
   -- the viewer was fed what came first of what is in flight to it
   pub viewer_fed : (e : Ends) (screen : Grid Colour) (s : S) (old new : V)
-      (to_server bytes later : List ℕ) (event : Option ViewerTold) (l : Link) →
+      (to_server bytes later : List ℕ) (event : Option ViewerTold) (l : LinkState) →
       AreMade e → Holds e screen (core l) →
       Carries serves_as shows_as e screen s old to_server (bytes ++ later) l →
       FedBy (viewer e.viewing) (shows_as e.viewing) old bytes event new →
-      (m : Link) × MovesToViewer e l (length bytes) m × Holds e screen (core m)
+      (m : LinkState) × MovesToViewer e l (length bytes) m × Holds e screen (core m)
       × Carries serves_as shows_as e screen s new (to_server ++ viewer_reply event) later m
   viewer_fed e screen s old new to_server bytes later event l made h c fed =
       let one = fed l.viewer c.viewer_has c.viewer_is in
@@ -52,15 +52,15 @@ module _ {S V : Type 0} (serves_as : Serving → S → ServerState → List ℕ 
         },
       )
     where
-      same : (m : Link) → MovesToViewer e l (length bytes) m →
+      same : (m : LinkState) → MovesToViewer e l (length bytes) m →
           serves_as e.serving s (server_of screen m.session) c.server_has
       same m moves =
-          subst (λ (k : Link). serves_as e.serving s (server_of screen k.session) c.server_has)
+          subst (λ (k : LinkState). serves_as e.serving s (server_of screen k.session) c.server_has)
           (sym moves.result) c.server_is
 
   -- and does not refuse it
   pub viewer_keeps : (e : Ends) (screen : Grid Colour) (s : S) (old : V)
-      (to_server bytes later : List ℕ) (fault : ViewerFault) (l : Link) →
+      (to_server bytes later : List ℕ) (fault : ViewerFault) (l : LinkState) →
       Carries serves_as shows_as e screen s old to_server (bytes ++ later) l →
       RefusedBy (viewer e.viewing) (shows_as e.viewing) old bytes fault → ⊥
   viewer_keeps e screen s old to_server bytes later fault l c refused =
@@ -75,11 +75,11 @@ module _ {S V : Type 0} (serves_as : Serving → S → ServerState → List ℕ 
 
   -- the server was fed what came first of what is in flight to it
   pub server_fed : (e : Ends) (screen : Grid Colour) (old new : S) (v : V)
-      (bytes later to_viewer : List ℕ) (event : Option ServerTold) (l : Link) →
+      (bytes later to_viewer : List ℕ) (event : Option ServerTold) (l : LinkState) →
       AreMade e → Holds e screen (core l) →
       Carries serves_as shows_as e screen old v (bytes ++ later) to_viewer l →
       FedBy (server e.serving) (serves_as e.serving) old bytes event new →
-      (m : Link) × MovesToServer e screen l (length bytes) m × Holds e screen (core m)
+      (m : LinkState) × MovesToServer e screen l (length bytes) m × Holds e screen (core m)
       × Carries serves_as shows_as e screen new v later (to_viewer ++ server_reply event) m
   server_fed e screen old new v bytes later to_viewer event l made h c fed =
       let one = fed (server_of screen l.session) c.server_has c.server_is in
@@ -107,14 +107,14 @@ module _ {S V : Type 0} (serves_as : Serving → S → ServerState → List ℕ 
         },
       )
     where
-      same : (m : Link) → MovesToServer e screen l (length bytes) m →
+      same : (m : LinkState) → MovesToServer e screen l (length bytes) m →
           shows_as e.viewing v m.viewer c.viewer_has
       same m moves =
-          subst (λ (k : Link). shows_as e.viewing v k.viewer c.viewer_has)
+          subst (λ (k : LinkState). shows_as e.viewing v k.viewer c.viewer_has)
           (sym moves.result) c.viewer_is
 
   pub server_keeps : (e : Ends) (screen : Grid Colour) (old : S) (v : V)
-      (bytes later to_viewer : List ℕ) (fault : ServerFault) (l : Link) →
+      (bytes later to_viewer : List ℕ) (fault : ServerFault) (l : LinkState) →
       Carries serves_as shows_as e screen old v (bytes ++ later) to_viewer l →
       RefusedBy (server e.serving) (serves_as e.serving) old bytes fault → ⊥
   server_keeps e screen old v bytes later to_viewer fault l c refused =

@@ -1,8 +1,10 @@
 -- An update behind other bytes stands behind those of them that are still in flight.
 use Rattle.std.proofs.Common.{◌≡◌, ℕ, ◌≤◌, min, List, ◌++◌, length, drop, length-append, ap, ◌∙◌, arith}
 use Rattle.std.proofs.lemmas.List.{drop-append-le}
-use Rattle.rfb_server.specs.declared.server.Server.{Server}
-use Rattle.rfb_server.specs.Updating.{Updates}
+use Rattle.rfb_pixel.specs.declared.colour.Colour.{Colour}
+use Rattle.rfb_picture.specs.Grid.{Grid}
+use Rattle.rfb_server.specs.declared.session.Session.{Session}
+use Rattle.rfb_server.specs.Updating.{SendsUpdate}
 
 rest_of : (all more bytes : List ℕ) (k j : ℕ) → k ≤ length all → j ≡ min k (length more) →
     more ≡ all ++ bytes → drop j more ≡ drop k all ++ bytes
@@ -12,11 +14,12 @@ rest_of all more bytes k j within least is =
     ap (λ (i : ℕ). drop i more) same ∙ ap (λ (q : List ℕ). drop k q) is
     ∙ drop-append-le k all bytes within
 
-pub updates_rest : (old new : Server) (all more : List ℕ) (k j : ℕ) → k ≤ length all →
-    j ≡ min k (length more) → Updates old new all more → Updates old new (drop k all) (drop j more)
-updates_rest old new all more k j within least updates = record {
-  screen_is = updates.screen_is;
+pub updates_rest : (screen : Grid Colour) (old new : Session) (all more : List ℕ) (k j : ℕ) →
+    k ≤ length all → j ≡ min k (length more) → SendsUpdate screen old new all more →
+    SendsUpdate screen old new (drop k all) (drop j more)
+updates_rest screen old new all more k j within least updates = record {
   fault_is = updates.fault_is;
+  made_is = updates.made_is;
   sent = λ serving s prefix stands.
       let one = updates.sent serving s prefix stands in
       record {

@@ -15,7 +15,7 @@ use Rattle.rfb_server.specs.Composing.{Part, sent_as, between, Composes, IsDue}
 use Rattle.rfb_server.proofs.ComposingLaws.{shows_screen}
 use Rattle.rfb_viewer.specs.ServerBytes.{ServerAt, FromServer, server_two}
 use Rattle.rfb_viewer.specs.Viewer.{ViewerState, viewer, shows, picture_behind, effect_on}
-use Rattle.rfb_session.specs.Link.{Ends, SessionState, server_of, Link}
+use Rattle.rfb_session.specs.Link.{Ends, SessionState, server_of, LinkState}
 use Rattle.rfb_session.specs.Headline.{ShowsKnown, ShowsLatest}
 use Rattle.rfb_session.specs.LinkSteps.{ComposesOn}
 use Rattle.rfb_session.proofs.QueueLemmas.{IsRest, update_rest, IsUnasked, none_unasked}
@@ -163,9 +163,9 @@ holds_composed_at e screen c to bytes copies blocks h held composed =
           composed sized picture.whole alike agrees (wide, high) asked);
     }
 
-pub holds_composed : (e : Ends) (screen : Grid Colour) (old new : Link) →
+pub holds_composed : (e : Ends) (screen : Grid Colour) (old new : LinkState) →
     Holds e screen (core old) → ComposesOn screen old new → Holds e screen (core new)
 holds_composed e screen old new h c =
-    subst (λ (l : Link). Holds e screen (core l)) (sym c.result)
+    subst (λ (l : LinkState). Holds e screen (core l)) (sym c.result)
     (holds_composed_at e screen (core old) c.session c.bytes c.copies c.blocks h
     (due_held e screen (core old) h.phase c.due) c.composed)

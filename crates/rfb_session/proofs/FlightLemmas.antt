@@ -20,7 +20,7 @@ use Rattle.rfb_viewer.specs.ServerBytes.{ServerAt, FromServer, server_two}
 use Rattle.rfb_viewer.specs.Told.{ViewerTold}
 use Rattle.rfb_viewer.specs.Viewer.{ViewerState, viewer, shows}
 use Rattle.rfb_viewer.proofs.ViewerLaws.{server_bytes_laws, viewer_machine}
-use Rattle.rfb_session.specs.Link.{Ends, SessionState, server_of, session_of, Link, first_link}
+use Rattle.rfb_session.specs.Link.{Ends, SessionState, server_of, session_of, LinkState, first_link}
 use Rattle.rfb_session.specs.Answers.{viewer_answers, viewer_replies, server_answers, server_replies}
 use Rattle.rfb_session.specs.InFlight.{AreMade, Flight, Flies, first_flight, viewer_reply, server_reply, ReachesViewer, ReachesServer}
 use Rattle.rfb_session.proofs.PhaseLemmas.{Core, core}
@@ -104,7 +104,7 @@ all_answers e screen c (item ∷ next ∷ done) left event made h queue (quiet, 
     (past_all (to_server_stream e) c.session.point q) (viewer_reply event) more [])
     (ap (λ (q : List FromClient). c.to_server ++ q) none ∙ append-nil c.to_server) others)
 
-pub viewer_moved : (e : Ends) (screen : Grid Colour) (l : Link) (f : Flight)
+pub viewer_moved : (e : Ends) (screen : Grid Colour) (l : LinkState) (f : Flight)
     (bytes later rest : List ℕ) (event : Option ViewerTold) (t : ViewerState) → AreMade e →
     Holds e screen (core l) → Flies e l f → f.viewer_gets ≡ bytes ++ later →
     Takes (viewer e.viewing) l.viewer f.viewer_has bytes event t rest →
@@ -156,7 +156,7 @@ viewer_moved e screen l f bytes later rest event t made h flies gets takes =
     }
 
 -- none of them is refused
-pub viewer_good : (e : Ends) (l : Link) (f : Flight) (bytes later : List ℕ) (fault : ViewerFault) →
+pub viewer_good : (e : Ends) (l : LinkState) (f : Flight) (bytes later : List ℕ) (fault : ViewerFault) →
     Flies e l f → f.viewer_gets ≡ bytes ++ later →
     Refuses (viewer e.viewing) l.viewer f.viewer_has bytes fault → ⊥
 viewer_good e l f bytes later fault flies gets refuses =
@@ -226,7 +226,7 @@ all_kept serving screen s (item ∷ items) =
     ≡ acts (server serving) u items) (kept_screen serving screen s item)
     (all_kept serving screen (session_of (serves serving (server_of screen s) item)) items)
 
-pub server_moved : (e : Ends) (screen : Grid Colour) (l : Link) (f : Flight)
+pub server_moved : (e : Ends) (screen : Grid Colour) (l : LinkState) (f : Flight)
     (bytes later rest : List ℕ) (event : Option ServerTold) (t : ServerState) → AreMade e →
     Holds e screen (core l) → Flies e l f → f.server_gets ≡ bytes ++ later →
     Takes (server e.serving) (server_of screen l.session) f.server_has bytes event t rest →
@@ -279,7 +279,7 @@ server_moved e screen l f bytes later rest event t made h flies gets takes =
       };
     }
 
-pub server_good : (e : Ends) (screen : Grid Colour) (l : Link) (f : Flight) (bytes later : List ℕ)
+pub server_good : (e : Ends) (screen : Grid Colour) (l : LinkState) (f : Flight) (bytes later : List ℕ)
     (fault : ServerFault) → Flies e l f → f.server_gets ≡ bytes ++ later →
     Refuses (server e.serving) (server_of screen l.session) f.server_has bytes fault → ⊥
 server_good e screen l f bytes later fault flies gets refuses =

@@ -10,7 +10,7 @@ use Rattle.rfb_server.specs.ClientBytes.{FromClient}
 use Rattle.rfb_server.specs.Server.{Serving, ServerState, item_acts, serves, server}
 use Rattle.rfb_viewer.specs.ServerBytes.{FromServer}
 use Rattle.rfb_viewer.specs.Viewer.{viewer, shows}
-use Rattle.rfb_session.specs.Link.{Ends, SessionState, server_of, session_of, Composing, Link}
+use Rattle.rfb_session.specs.Link.{Ends, SessionState, server_of, session_of, Composing, LinkState}
 use Rattle.rfb_session.specs.Answers.{viewer_answers, viewer_replies, server_answers, server_replies}
 use Rattle.rfb_session.specs.Headline.{IsUnknown, ShowsKnown, ShowsLatest}
 use Rattle.rfb_session.specs.LinkSteps.{MovesToViewer, MovesToServer}
@@ -231,14 +231,14 @@ holds_all_served e screen c (item ∷ done) left h queue =
 
 -- ---- deliveries
 
-pub holds_to_viewer : (e : Ends) (screen : Grid Colour) (old new : Link) (n : ℕ) →
+pub holds_to_viewer : (e : Ends) (screen : Grid Colour) (old new : LinkState) (n : ℕ) →
     Holds e screen (core old) → MovesToViewer e old n new → Holds e screen (core new)
 holds_to_viewer e screen old new n h m =
-    subst (λ (l : Link). Holds e screen (core l)) (sym m.result)
+    subst (λ (l : LinkState). Holds e screen (core l)) (sym m.result)
     (holds_all_shown e screen (core old) m.done m.left h m.queue)
 
-pub holds_to_server : (e : Ends) (screen : Grid Colour) (old new : Link) (n : ℕ) →
+pub holds_to_server : (e : Ends) (screen : Grid Colour) (old new : LinkState) (n : ℕ) →
     Holds e screen (core old) → MovesToServer e screen old n new → Holds e screen (core new)
 holds_to_server e screen old new n h m =
-    subst (λ (l : Link). Holds e screen (core l)) (sym m.result)
+    subst (λ (l : LinkState). Holds e screen (core l)) (sym m.result)
     (holds_all_served e screen (core old) m.done m.left h m.queue)

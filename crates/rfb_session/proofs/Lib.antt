@@ -14,8 +14,11 @@ pub mod MoveLemmas
 pub mod ToldLemmas
 pub mod CarryLemmas
 pub mod WorldLemmas
+pub mod DeliveringLemmas
+pub mod ReachingLemmas
 pub mod ChannelLemmas
 pub mod DrawnLemmas
+pub mod HappeningLemmas
 pub mod ComposedLemmas
 pub mod CalledLemmas
 pub mod SizeLemmas

@@ -18,7 +18,7 @@ use Rattle.rfb_viewer.specs.ServerBytes.{ServerAt, FromServer}
 use Rattle.rfb_viewer.specs.Viewer.{Viewing, ViewerState, viewer, shows}
 use Rattle.rfb_viewer.specs.Calls.{format_refused, format_refusal, with_format, formatted}
 use Rattle.rfb_viewer.proofs.ViewerLaws.{server_bytes_laws}
-use Rattle.rfb_session.specs.Link.{Ends, server_of, session_of, Link}
+use Rattle.rfb_session.specs.Link.{Ends, server_of, session_of, LinkState}
 use Rattle.rfb_session.specs.Answers.{viewer_answers, viewer_replies, server_answers, server_replies}
 use Rattle.rfb_session.specs.LinkSteps.{calls, flight_to_viewer, flight_to_server, MovesToViewer, MovesToServer}
 use Rattle.rfb_session.specs.InFlight.{Flight, Flies}
@@ -33,7 +33,7 @@ use Rattle.rfb_session.proofs.SentLemmas.{called_flies, none_flies}
 left_of : (has gets size at : ℕ) → has + gets ≡ size → has ≡ at → gets ≡ size - at
 left_of has gets size at all is = omega (arith, all, is)
 
-pub viewer_flight : (e : Ends) (l : Link) (f : Flight) → Flies e l f → length f.viewer_gets
+pub viewer_flight : (e : Ends) (l : LinkState) (f : Flight) → Flies e l f → length f.viewer_gets
     ≡ flight_to_viewer e l
 viewer_flight e l f flies =
     let all =
@@ -45,7 +45,7 @@ viewer_flight e l f flies =
     (sizes (to_viewer_stream e) l.to_viewer) l.at_viewer
     (omega (arith, all, both)) flies.at_viewer
 
-pub server_flight : (e : Ends) (l : Link) (f : Flight) → Flies e l f → length f.server_gets
+pub server_flight : (e : Ends) (l : LinkState) (f : Flight) → Flies e l f → length f.server_gets
     ≡ flight_to_server e l
 server_flight e l f flies =
     let all =
@@ -84,25 +84,25 @@ counted : (at n m one mid two to all : ℕ) → at + n ≡ one + mid → mid + m
     ≡ one + two → at + (n + m) ≡ all + to
 counted at n m one mid two to all a b c = omega (arith, a, b, c)
 
-abbrev to_viewer_of : Link → ViewerState → List FromServer → ℕ → List FromClient → Link
+abbrev to_viewer_of : LinkState → ViewerState → List FromServer → ℕ → List FromClient → LinkState
 to_viewer_of l v left at ts =
     record l { viewer = v; to_viewer = left; at_viewer = at; to_server = ts }
 
-abbrev to_server_of : Link → ServerState → List FromClient → ℕ → List FromServer → Link
+abbrev to_server_of : LinkState → ServerState → List FromClient → ℕ → List FromServer → LinkState
 to_server_of l s left at tv =
     record l { session = session_of s; to_server = left; at_server = at; to_viewer = tv }
 
-pub viewer_moves_join : (e : Ends) (a b c : Link) (n m : ℕ) → MovesToViewer e a n b →
+pub viewer_moves_join : (e : Ends) (a b c : LinkState) (n m : ℕ) → MovesToViewer e a n b →
     MovesToViewer e b m c → MovesToViewer e a (n + m) c
 viewer_moves_join e a b c n m one two = by b one.result two
   where
-    queue_is : (mid : Link) (next : MovesToViewer e mid m c) → mid.to_viewer ≡ one.left →
+    queue_is : (mid : LinkState) (next : MovesToViewer e mid m c) → mid.to_viewer ≡ one.left →
         a.to_viewer ≡ (one.done ++ next.done) ++ next.left
     queue_is mid next at =
         one.queue ∙ ap (λ (q : List FromServer). one.done ++ q) (sym at ∙ next.queue)
         ∙ sym (append_assoc one.done next.done next.left)
 
-    by : (mid : Link) → mid
+    by : (mid : LinkState) → mid
         ≡ record a {
           viewer = acts (viewer e.viewing) a.viewer one.done;
           to_viewer = one.left;
@@ -114,11 +114,11 @@ viewer_moves_join e a b c n m one two = by b one.result two
     by mid is next =
         let state : acts (viewer e.viewing) mid.viewer next.done
         ≡ acts (viewer e.viewing) a.viewer (one.done ++ next.done) =
-        ap (λ (l : Link). acts (viewer e.viewing) l.viewer next.done) is
+        ap (λ (l : LinkState). acts (viewer e.viewing) l.viewer next.done) is
         ∙ sym (acts_append (viewer e.viewing) a.viewer one.done next.done) in
         let answers : mid.to_server ++ viewer_replies e.viewing mid.viewer next.done
         ≡ a.to_server ++ viewer_replies e.viewing a.viewer (one.done ++ next.done) =
-        ap (λ (l : Link). l.to_server ++ viewer_replies e.viewing l.viewer next.done) is
+        ap (λ (l : LinkState). l.to_server ++ viewer_replies e.viewing l.viewer next.done) is
         ∙ append_assoc a.to_server (viewer_replies e.viewing a.viewer one.done)
         (viewer_replies e.viewing (acts (viewer e.viewing) a.viewer one.done) next.done)
         ∙ ap (λ (q : List FromClient). a.to_server ++ q)
@@ -127,18 +127,18 @@ viewer_moves_join e a b c n m one two = by b one.result two
         (mid.to_server ++ viewer_replies e.viewing mid.viewer next.done)
         ≡ to_viewer_of a (acts (viewer e.viewing) mid.viewer next.done) next.left next.at
         (mid.to_server ++ viewer_replies e.viewing mid.viewer next.done) =
-        ap (λ (l : Link). to_viewer_of l
+        ap (λ (l : LinkState). to_viewer_of l
         (acts (viewer e.viewing) mid.viewer next.done) next.left next.at
         (mid.to_server ++ viewer_replies e.viewing mid.viewer next.done)) is in
         record {
           done = one.done ++ next.done;
           left = next.left;
           at = next.at;
-          queue = queue_is mid next (ap (λ (l : Link). l.to_viewer) is);
+          queue = queue_is mid next (ap (λ (l : LinkState). l.to_viewer) is);
           count = counted a.at_viewer n m (sizes (to_viewer_stream e) one.done) one.at
               (sizes (to_viewer_stream e) next.done) next.at
               (sizes (to_viewer_stream e) (one.done ++ next.done)) one.count
-              (ap (λ (l : Link). l.at_viewer + m) (sym is) ∙ next.count)
+              (ap (λ (l : LinkState). l.at_viewer + m) (sym is) ∙ next.count)
               (sizes_append (to_viewer_stream e) one.done next.done);
           within = next.within;
           result = next.result ∙ rest
@@ -149,11 +149,11 @@ viewer_moves_join e a b c n m one two = by b one.result two
               (one.done ++ next.done)) next.left next.at q) answers;
         }
 
-pub server_moves_join : (e : Ends) (screen : Grid Colour) (a b c : Link) (n m : ℕ) →
+pub server_moves_join : (e : Ends) (screen : Grid Colour) (a b c : LinkState) (n m : ℕ) →
     MovesToServer e screen a n b → MovesToServer e screen b m c → MovesToServer e screen a (n + m) c
 server_moves_join e screen a b c n m one two = by b one.result two
   where
-    queue_is : (mid : Link) (next : MovesToServer e screen mid m c) → mid.to_server ≡ one.left →
+    queue_is : (mid : LinkState) (next : MovesToServer e screen mid m c) → mid.to_server ≡ one.left →
         a.to_server ≡ (one.done ++ next.done) ++ next.left
     queue_is mid next at =
         one.queue ∙ ap (λ (q : List FromClient). one.done ++ q) (sym at ∙ next.queue)
@@ -162,7 +162,7 @@ server_moves_join e screen a b c n m one two = by b one.result two
     first : ServerState
     first = acts (server e.serving) (server_of screen a.session) one.done
 
-    by : (mid : Link) → mid
+    by : (mid : LinkState) → mid
         ≡ record a {
           session = session_of
               (acts (server e.serving) (server_of screen a.session) one.done);
@@ -175,7 +175,7 @@ server_moves_join e screen a b c n m one two = by b one.result two
     by mid is next =
         let here : server_of screen mid.session
         ≡ acts (server e.serving) (server_of screen a.session) one.done = ap
-        (λ (l : Link). server_of screen l.session) is
+        (λ (l : LinkState). server_of screen l.session) is
         ∙ all_kept e.serving screen a.session one.done in
         let state : acts (server e.serving) (server_of screen mid.session) next.done
         ≡ acts (server e.serving) (server_of screen a.session) (one.done ++ next.done) =
@@ -186,7 +186,7 @@ server_moves_join e screen a b c n m one two = by b one.result two
         (server_of screen mid.session) next.done
         ≡ a.to_viewer ++ server_replies e.serving (server_of screen a.session)
         (one.done ++ next.done) =
-        ap (λ (l : Link). l.to_viewer ++ server_replies e.serving
+        ap (λ (l : LinkState). l.to_viewer ++ server_replies e.serving
         (server_of screen mid.session) next.done) is
         ∙ ap (λ (s : ServerState). (a.to_viewer ++ server_replies e.serving
         (server_of screen a.session) one.done) ++ server_replies e.serving s next.done) here
@@ -202,7 +202,7 @@ server_moves_join e screen a b c n m one two = by b one.result two
         ≡ to_server_of a
         (acts (server e.serving) (server_of screen mid.session) next.done) next.left next.at
         (mid.to_viewer ++ server_replies e.serving (server_of screen mid.session) next.done) =
-        ap (λ (l : Link). to_server_of l
+        ap (λ (l : LinkState). to_server_of l
         (acts (server e.serving) (server_of screen mid.session) next.done) next.left next.at
         (mid.to_viewer ++ server_replies e.serving
         (server_of screen mid.session) next.done)) is in
@@ -210,11 +210,11 @@ server_moves_join e screen a b c n m one two = by b one.result two
           done = one.done ++ next.done;
           left = next.left;
           at = next.at;
-          queue = queue_is mid next (ap (λ (l : Link). l.to_server) is);
+          queue = queue_is mid next (ap (λ (l : LinkState). l.to_server) is);
           count = counted a.at_server n m (sizes (to_server_stream e) one.done) one.at
               (sizes (to_server_stream e) next.done) next.at
               (sizes (to_server_stream e) (one.done ++ next.done)) one.count
-              (ap (λ (l : Link). l.at_server + m) (sym is) ∙ next.count)
+              (ap (λ (l : LinkState). l.at_server + m) (sym is) ∙ next.count)
               (sizes_append (to_server_stream e) one.done next.done);
           within = next.within;
           result = next.result ∙ rest
@@ -234,7 +234,7 @@ format_ready : (at : ServerAt) (outstanding : Bool) (prefix : List ℕ) →
 format_ready (First point) outstanding prefix e = absurd cc
 format_ready (Second p) outstanding prefix e = (p, refl)
 
-pub format_flies : (e : Ends) (l : Link) (f : Flight) (form : PixelFormat) (bytes : List ℕ) →
+pub format_flies : (e : Ends) (l : LinkState) (f : Flight) (form : PixelFormat) (bytes : List ℕ) →
     Phase e (core l) → Flies e l f → format_refusal l.viewer f.viewer_has ≡ None →
     SpellsClientMessage (SetPixelFormat form) bytes →
     Flies e (calls None l (formatted form l.viewer) (SetPixelFormat form))

@@ -10,7 +10,7 @@ use Rattle.rfb_hello.specs.ServerHandshake.{ServerPoint}
 use Rattle.rfb_viewer.specs.ServerBytes.{ServerAt}
 use Rattle.rfb_session.specs.declared.event.Event.{Event}
 use Rattle.rfb_session.specs.declared.event.Event.TheVariants.{Fill, Put, Copy, Hint, Request, SetFormat, SetEncodings, Key, Pointer, CutText, Compose, ToServer, ToViewer}
-use Rattle.rfb_session.specs.Link.{Ends, Link, first_link}
+use Rattle.rfb_session.specs.Link.{Ends, LinkState, first_link}
 use Rattle.rfb_session.specs.LinkSteps.{LinkEvent, Request as OfRequest, SetFormat as OfFormat, SetEncodings as OfEncodings, Key as OfKey, Pointer as OfPointer, CutText as OfText, Compose as OfComposing, ToServer as OfServer, ToViewer as OfViewer, LinkSteps, begun}
 use Rattle.rfb_session.specs.Headline.{IsHeadline}
 use Rattle.rfb_session.specs.Network.{Network, Draws, OnLink, Steps, StepsAll, IsReached}
@@ -22,31 +22,31 @@ use Rattle.rfb_session.proofs.CallLemmas.{holds_mere, holds_request, holds_forma
 use Rattle.rfb_session.proofs.SizeLemmas.{width-changed, height-changed, width-uniform, height-uniform}
 
 -- each step of a link
-pub link_holds : (e : Ends) (screen : Grid Colour) (old new : Link) (event : LinkEvent) →
+pub link_holds : (e : Ends) (screen : Grid Colour) (old new : LinkState) (event : LinkEvent) →
     Holds e screen (core old) → LinkSteps e screen old event new → Holds e screen (core new)
 link_holds e screen old new (OfRequest incremental rect) h step =
-    subst (λ (l : Link). Holds e screen (core l)) (sym step)
+    subst (λ (l : LinkState). Holds e screen (core l)) (sym step)
     (holds_request e screen old incremental rect h)
 link_holds e screen old new (OfFormat form) h step =
-    subst (λ (l : Link). Holds e screen (core l)) (sym step)
+    subst (λ (l : LinkState). Holds e screen (core l)) (sym step)
     (holds_format e screen old form (begun old.at_viewer old.to_viewer) h)
 link_holds e screen old new (OfEncodings encodings) h step =
-    subst (λ (l : Link). Holds e screen (core l)) (sym step)
+    subst (λ (l : LinkState). Holds e screen (core l)) (sym step)
     (holds_mere e screen old
     (EncodingsMessage (map (λ encoding. number_of encoding) encodings)) tt h)
 link_holds e screen old new (OfKey down key) h step =
-    subst (λ (l : Link). Holds e screen (core l)) (sym step)
+    subst (λ (l : LinkState). Holds e screen (core l)) (sym step)
     (holds_mere e screen old (KeyEvent down key) tt h)
 link_holds e screen old new (OfPointer buttons x y) h step =
-    subst (λ (l : Link). Holds e screen (core l)) (sym step)
+    subst (λ (l : LinkState). Holds e screen (core l)) (sym step)
     (holds_mere e screen old (PointerEvent buttons x y) tt h)
 link_holds e screen old new (OfText text) h step =
-    subst (λ (l : Link). Holds e screen (core l)) (sym step)
+    subst (λ (l : LinkState). Holds e screen (core l)) (sym step)
     (holds_mere e screen old (ClientCutText text) tt h)
 link_holds e screen old new OfComposing h (inl composed) =
     holds_composed e screen old new h composed
 link_holds e screen old new OfComposing h (inr idle) =
-    subst (λ (l : Link). Holds e screen (core l)) (sym idle.1) h
+    subst (λ (l : LinkState). Holds e screen (core l)) (sym idle.1) h
 link_holds e screen old new (OfServer count) h moves = holds_to_server e screen old new _ h moves
 link_holds e screen old new (OfViewer count) h moves = holds_to_viewer e screen old new _ h moves
 
@@ -133,7 +133,7 @@ pub reached_holds : (e : Ends) (n : Network) → IsReached e n → Holds e n.scr
 reached_holds e n r =
     let first = r.is_first in
     let fresh : NetworkHolds e r.first =
-    subst (λ (l : Link). Holds e r.first.screen (core l)) (sym first.link)
+    subst (λ (l : LinkState). Holds e r.first.screen (core l)) (sym first.link)
     (first_holds e r.first.screen first.width first.height) in
     steps_hold e r.first n r.events fresh r.steps
 

@@ -13,7 +13,7 @@ use Rattle.rfb_hello.specs.ServerAnswers.{types_asked, init_asked}
 use Rattle.rfb_server.specs.ClientBytes.{ClientAt, FromClient}
 use Rattle.rfb_viewer.specs.ServerBytes.{FromServer}
 use Rattle.rfb_viewer.specs.Viewer.{ViewerState}
-use Rattle.rfb_session.specs.Link.{Ends, SessionState, Composing, Link}
+use Rattle.rfb_session.specs.Link.{Ends, SessionState, Composing, LinkState}
 use Rattle.rfb_session.specs.Headline.{IsUnknown}
 use Rattle.rfb_session.proofs.QueueLemmas.{AreMere, AreLater, AskOnce, form_behind, IsRest, IsUnasked}
 
@@ -25,7 +25,7 @@ pub record Core : Type 0 where
   pub to_viewer : List FromServer
   pub latest : Option Composing
 
-abbrev pub core : Link → Core
+abbrev pub core : LinkState → Core
 core l = record {
   session =
       l.session;

@@ -1,6 +1,6 @@
 -- Runs of a world: step after step, and what holds behind them.
 use Rattle.std.proofs.Common.{List, [], ◌∷◌, ◌++◌, refl, subst}
-use Rattle.rfb_server.proofs.ServerLaws.{server_going}
+use Rattle.rfb_server.proofs.ServerLaws.{session_going}
 use Rattle.rfb_viewer.proofs.ViewerLaws.{viewer_going}
 use Rattle.rfb_session.specs.declared.event.Event.{Event}
 use Rattle.rfb_session.specs.declared.told.Told.{Told}
@@ -42,8 +42,8 @@ run_more old mid new events event told runs does = λ e n made reached stands.
 -- a world that stands for a network has not failed
 pub neither_failed : (e : Ends) (w : World) (n : Network) → StandsFor e w n → NeitherFailed w
 neither_failed e w n stands = (
-  server_going e.serving w.server _ _ stands.carries.server_is,
-  viewer_going e.viewing w.viewer _ _ stands.carries.viewer_is,
+  session_going e.serving n.screen w.link.session _ _ stands.link_is.carries.server_is,
+  viewer_going e.viewing w.link.viewer _ _ stands.link_is.carries.viewer_is,
 )
 
 -- what holds of all that is reached holds behind a run

@@ -18,7 +18,7 @@ use Rattle.rfb_viewer.specs.ServerBytes.{ServerAt, FromServer, server_two}
 use Rattle.rfb_viewer.specs.Viewer.{ViewerState}
 use Rattle.rfb_viewer.specs.Calls.{format_refused, format_refusal}
 use Rattle.rfb_viewer.proofs.ViewerLaws.{server_bytes_laws}
-use Rattle.rfb_session.specs.Link.{Ends, server_of, Link}
+use Rattle.rfb_session.specs.Link.{Ends, server_of, LinkState}
 use Rattle.rfb_session.specs.LinkSteps.{begun, calls, ComposesOn}
 use Rattle.rfb_session.specs.InFlight.{Flight, Flies}
 use Rattle.rfb_session.proofs.PhaseLemmas.{Core, core, Phase, Greeting, Versioned, Typed, Choosing37, Choosing38, Chosen, Sharing, Begun, Named, Idling, Asking, Held, Sent}
@@ -30,7 +30,7 @@ use Rattle.rfb_session.proofs.FlightLemmas.{joins, p_server, p_viewer}
 
 -- ---- a composing
 
-pub composed_flies : (e : Ends) (screen : Grid Colour) (old new : Link) (f : Flight) →
+pub composed_flies : (e : Ends) (screen : Grid Colour) (old new : LinkState) (f : Flight) →
     Holds e screen (core old) → Flies e old f → (c : ComposesOn screen old new) →
     Flies e new (record f { viewer_gets = f.viewer_gets ++ c.bytes })
 composed_flies e screen old new f h flies c =
@@ -50,7 +50,7 @@ composed_flies e screen old new f h flies c =
     (map (λ item. Second item) items) []) (sym at)
     (all_second (server_two e.viewing.form e.viewing.hello)
     (between (server_of screen old.session)) c.bytes items [] c.composed.is_update) in
-    subst (λ (l : Link). Flies e l (record f { viewer_gets = f.viewer_gets ++ c.bytes }))
+    subst (λ (l : LinkState). Flies e l (record f { viewer_gets = f.viewer_gets ++ c.bytes }))
     (sym c.result)
     (record {
       to_viewer =
@@ -110,7 +110,7 @@ ready_behind e c p phase at = by phase
     by (Sent q m s) = messages m.session_at
 
 -- a message of a ready viewer joins the bytes in flight
-pub called_flies : (e : Ends) (l : Link) (f : Flight) (p : UpdatePoint) (v : ViewerState)
+pub called_flies : (e : Ends) (l : LinkState) (f : Flight) (p : UpdatePoint) (v : ViewerState)
     (message : ClientMessage) (bytes : List ℕ) → Phase e (core l) → l.viewer.point ≡ Second p →
     Flies e l f → ReadsAll (to_viewer_stream e) v.point
     (f.viewer_has ++ f.viewer_gets) l.to_viewer [] → SpellsClientMessage message bytes →
@@ -137,7 +137,7 @@ called_flies e l f p v message bytes phase ready flies reads spelled =
     }
 
 -- where nothing is in flight to the viewer, it may stand at any point
-pub none_flies : (e : Ends) (l : Link) (f : Flight) (at : ServerAt) → l.to_viewer ≡ [] →
+pub none_flies : (e : Ends) (l : LinkState) (f : Flight) (at : ServerAt) → l.to_viewer ≡ [] →
     Flies e l f → ReadsAll (to_viewer_stream e) at (f.viewer_has ++ f.viewer_gets) l.to_viewer []
 none_flies e l f at none flies =
     let empty : f.viewer_has ++ f.viewer_gets ≡ [] =
@@ -151,7 +151,7 @@ front_none [] ys e = refl
 front_none (x ∷ xs) ys e = absurd cc
 
 -- a format is refused by the bytes that came of an item as by the item
-pub refusal_same : (e : Ends) (l : Link) (f : Flight) → Phase e (core l) → Flies e l f →
+pub refusal_same : (e : Ends) (l : LinkState) (f : Flight) → Phase e (core l) → Flies e l f →
     format_refusal l.viewer f.viewer_has ≡ format_refusal l.viewer (begun l.at_viewer l.to_viewer)
 refusal_same e l f phase flies = by phase
   where

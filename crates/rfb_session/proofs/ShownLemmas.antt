@@ -9,11 +9,10 @@ use Rattle.rfb_viewer.specs.ServerBytes.{ServerAt, FromServer}
 use Rattle.rfb_viewer.specs.Viewer.{Viewing, ViewerState, viewer}
 use Rattle.rfb_viewer.specs.Showing.{Shows, ShowsAt}
 use Rattle.rfb_viewer.specs.Standing.{StandsFor as ViewerStandsFor}
-use Rattle.rfb_session.specs.declared.world.World.{World}
-use Rattle.rfb_session.specs.Link.{Ends, viewer_stream}
+use Rattle.rfb_session.specs.declared.link.Link.{Link}
+use Rattle.rfb_session.specs.Link.{Ends, LinkState, viewer_stream}
 use Rattle.rfb_session.specs.Headline.{due_picture}
-use Rattle.rfb_session.specs.Network.{Network}
-use Rattle.rfb_session.specs.World.{StandsFor}
+use Rattle.rfb_session.specs.LinkStanding.{LinkStandsFor}
 
 -- with no byte of the next item it shows the picture
 pub shown_whole : (at : ServerAt) (picture stored : Option (Grid Colour)) →
@@ -29,19 +28,19 @@ no_bytes : (bytes : List ℕ) → length bytes ≡ 0 → bytes ≡ []
 no_bytes [] none = refl
 no_bytes (byte ∷ bytes) none = absurd (omega (arith, none))
 
-pub shown_due : (e : Ends) (w : World) (n : Network) (stored : Option (Grid Colour)) →
-    StandsFor e w n → n.link.to_viewer ≡ [] →
+pub shown_due : (e : Ends) (screen : Grid Colour) (w : Link) (l : LinkState) (stored : Option (Grid Colour)) →
+    LinkStandsFor e screen w l → l.to_viewer ≡ [] →
     ((viewing : Viewing) (s : ViewerState) (prefix : List ℕ) →
     ViewerStandsFor viewing w.viewer s prefix → Shows s prefix stored) →
-    stored ≡ due_picture e n.link
-shown_due e w n stored stands none shows =
+    stored ≡ due_picture e l
+shown_due e screen w l stored stands none shows =
     let c = stands.carries in
-    let start : n.link.at_viewer ≡ 0 =
-    subst (λ (q : List FromServer). IsWithinFirst (viewer_stream e) n.link.at_viewer q) none
+    let start : l.at_viewer ≡ 0 =
+    subst (λ (q : List FromServer). IsWithinFirst (viewer_stream e) l.at_viewer q) none
     c.flies.viewer_within in
     let bare : c.viewer_has ≡ [] = no_bytes c.viewer_has (c.flies.at_viewer ∙ start) in
-    let here : Shows n.link.viewer [] stored =
-    subst (λ (bytes : List ℕ). Shows n.link.viewer bytes stored) bare
-    (shows e.viewing n.link.viewer c.viewer_has c.viewer_is) in
-    shown_whole n.link.viewer.point n.link.viewer.picture stored here
-    ∙ sym (ap (λ (q : List FromServer). (acts (viewer e.viewing) n.link.viewer q).picture) none)
+    let here : Shows l.viewer [] stored =
+    subst (λ (bytes : List ℕ). Shows l.viewer bytes stored) bare
+    (shows e.viewing l.viewer c.viewer_has c.viewer_is) in
+    shown_whole l.viewer.point l.viewer.picture stored here
+    ∙ sym (ap (λ (q : List FromServer). (acts (viewer e.viewing) l.viewer q).picture) none)

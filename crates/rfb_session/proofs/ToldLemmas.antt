@@ -8,7 +8,7 @@ use Rattle.rfb_viewer.specs.Viewer.{ViewerState}
 use Rattle.rfb_session.specs.declared.event.Event.{Event}
 use Rattle.rfb_session.specs.declared.event.Event.TheVariants.{Fill, Put, Copy, Hint, Request, SetFormat, SetEncodings, Key, Pointer, CutText, Compose, ToServer, ToViewer}
 use Rattle.rfb_session.specs.declared.told.Refused.{Refused}
-use Rattle.rfb_session.specs.Link.{Ends, Link}
+use Rattle.rfb_session.specs.Link.{Ends, LinkState}
 use Rattle.rfb_session.specs.LinkSteps.{calls}
 use Rattle.rfb_session.specs.Network.{Network, Draws, Steps}
 use Rattle.rfb_session.specs.Told.{refused_as, RefusesUnless, RefusesAs}
@@ -18,15 +18,15 @@ none_some o r none some = cc
 
 same_network : (old new : Network) → new.screen ≡ old.screen → new.link ≡ old.link → new ≡ old
 same_network old new screens links =
-    let network : (screen : Grid Colour) (l : Link) → Network =
+    let network : (screen : Grid Colour) (l : LinkState) → Network =
     λ screen l. record { screen = screen; link = l } in
     let first : network new.screen new.link ≡ network old.screen new.link =
     ap (λ (screen : Grid Colour). network screen new.link) screens in
     let second : network old.screen new.link ≡ network old.screen old.link =
-    ap (λ (l : Link). network old.screen l) links in
+    ap (λ (l : LinkState). network old.screen l) links in
     first ∙ second
 
-calls_nothing : (o : Option CallFault) (r : Refused) (l : Link) (v : ViewerState)
+calls_nothing : (o : Option CallFault) (r : Refused) (l : LinkState) (v : ViewerState)
     (message : ClientMessage) → refused_as o ≡ Some r → calls o l v message ≡ l
 calls_nothing None r l v message some = absurd (none_some None r refl some)
 calls_nothing (Some fault) r l v message some = refl

@@ -1,35 +1,20 @@
--- Deliveries to the ends of a world, and what is reached by them.
-use Rattle.std.proofs.Common.{◌≡◌, ℕ, ◌+◌, ◌≤◌, min, List, [], ◌∷◌, ◌++◌, length, take, drop, take-take, take-append-drop, length-take, false, Option, None, refl, sym, ap, ◌∙◌, subst, append-nil, arith}
+-- What is reached by events, and a fresh world.
+use Rattle.std.proofs.Common.{◌≡◌, List, [], ◌∷◌, ◌++◌, false, refl, sym, ap, subst, ◌∙◌}
 use Rattle.rfb_pixel.specs.declared.colour.Colour.{Colour}
 use Rattle.rfb_picture.specs.Grid.{Grid}
-use Rattle.rfb_wire.specs.stream.End.{FedBy, RefusedBy}
-use Rattle.rfb_hello.specs.Version.{version_text}
-use Rattle.rfb_server.specs.declared.fault.ServerFault.{ServerFault}
 use Rattle.rfb_server.specs.declared.server.Server.{Server}
-use Rattle.rfb_server.specs.Server.{Serving, server}
-use Rattle.rfb_server.specs.Standing.{StandsFor as ServerStandsFor, screen_of}
-use Rattle.rfb_server.specs.Told.{ServerTold}
-use Rattle.rfb_viewer.specs.declared.fault.ViewerFault.{ViewerFault}
-use Rattle.rfb_viewer.specs.Viewer.{Viewing, viewer}
-use Rattle.rfb_viewer.specs.Standing.{StandsFor as ViewerStandsFor}
-use Rattle.rfb_viewer.specs.Told.{ViewerTold}
+use Rattle.rfb_server.specs.declared.session.Session.{Session}
+use Rattle.rfb_server.specs.Server.{first_server}
+use Rattle.rfb_server.specs.Standing.{SessionStandsFor, with_screen, screen_of, session_of}
+use Rattle.rfb_server.proofs.ServerLaws.{session_over}
+use Rattle.rfb_viewer.specs.declared.viewer.Viewer.{Viewer}
 use Rattle.rfb_session.specs.declared.event.Event.{Event}
-use Rattle.rfb_session.specs.declared.event.Event.TheVariants.{ToServer, ToViewer}
 use Rattle.rfb_session.specs.declared.told.Told.{Told}
-use Rattle.rfb_session.specs.declared.latest.Latest.{Latest}
 use Rattle.rfb_session.specs.declared.world.World.{World}
-use Rattle.rfb_session.specs.Latest.{composing_in}
-use Rattle.rfb_session.specs.Link.{Ends, Link}
-use Rattle.rfb_session.specs.LinkSteps.{MovesToViewer, MovesToServer, flight_to_viewer, flight_to_server}
-use Rattle.rfb_session.specs.InFlight.{viewer_reply, server_reply}
-use Rattle.rfb_session.specs.Carrying.{Carries}
+use Rattle.rfb_session.specs.Link.{Ends, first_link}
 use Rattle.rfb_session.specs.Network.{Network, Steps, StepsAll, IsReached}
-use Rattle.rfb_session.specs.World.{StandsFor, AreFresh, first_network, Does}
-use Rattle.rfb_session.specs.inside.Delivering.{DeliversToViewer, DeliversToServer}
-use Rattle.rfb_session.proofs.NetworkLemmas.{reached_holds}
-use Rattle.rfb_session.proofs.FlightLemmas.{first_flies}
-use Rattle.rfb_session.proofs.MoveLemmas.{viewer_flight, server_flight, viewer_moves_join, server_moves_join}
-use Rattle.rfb_session.proofs.CarryLemmas.{viewer_fed, server_fed, viewer_keeps, server_keeps}
+use Rattle.rfb_session.specs.LinkStanding.{LinkStandsFor, AreNew, LinkDoes, LinkDoesOver}
+use Rattle.rfb_session.specs.World.{StandsFor, AreFresh, Does, first_network}
 
 -- ---- what is reached
 
@@ -50,263 +35,49 @@ reached_step e old new event r step = record {
   steps = steps_last e r.first old new r.events event r.steps step;
 }
 
--- ---- the bytes in flight of a world
+-- ---- a world
 
--- as many as its link's
-pub to_viewer_length : (e : Ends) (w : World) (n : Network) → StandsFor e w n →
-    length w.to_viewer ≡ flight_to_viewer e n.link
-to_viewer_length e w n stands = viewer_flight e n.link _ stands.carries.flies
-
-pub to_server_length : (e : Ends) (w : World) (n : Network) → StandsFor e w n →
-    length w.to_server ≡ flight_to_server e n.link
-to_server_length e w n stands = server_flight e n.link _ stands.carries.flies
-
-viewer_reached : (e : Ends) (n : Network) (l : Link) (count : ℕ) → IsReached e n →
-    count ≤ flight_to_viewer e n.link → MovesToViewer e n.link count l →
-    IsReached e (record n { link = l })
-viewer_reached e n l count r few moves =
-    let all : min count (flight_to_viewer e n.link) ≡ count = omega arith in
-    reached_step e n (record n { link = l }) (ToViewer count) r
-    (refl, subst (λ (k : ℕ). MovesToViewer e n.link k l) (sym all) moves)
-
-server_reached : (e : Ends) (n : Network) (l : Link) (count : ℕ) → IsReached e n →
-    count ≤ flight_to_server e n.link → MovesToServer e n.screen n.link count l →
-    IsReached e (record n { link = l })
-server_reached e n l count r few moves =
-    let all : min count (flight_to_server e n.link) ≡ count = omega arith in
-    reached_step e n (record n { link = l }) (ToServer count) r
-    (refl, subst (λ (k : ℕ). MovesToServer e n.screen n.link k l) (sym all) moves)
-
--- ---- the viewer
-
--- no bytes
-pub viewer_none : (w : World) → DeliversToViewer w 0 w
-viewer_none w = λ e n made reached stands. (n.link, none e n stands, stands)
-  where
-    none : (e : Ends) (n : Network) → StandsFor e w n → MovesToViewer e n.link 0 n.link
-    none e n stands = record {
-      done = [];
-      left = n.link.to_viewer;
-      at = n.link.at_viewer;
-      queue = refl;
-      count = omega arith;
-      within = stands.carries.flies.viewer_within;
-      result = ap (λ q. record n.link { to_server = q }) (sym (append-nil n.link.to_server));
-    }
-
--- some, and then some more
-pub viewer_more : (a b c : World) (k j : ℕ) → k ≤ length a.to_viewer → DeliversToViewer a k b →
-    DeliversToViewer b j c → DeliversToViewer a (k + j) c
-viewer_more a b c k j few first second = λ e n made reached stands.
-    let one = first e n made reached stands in
-    let within : k ≤ flight_to_viewer e n.link =
-    subst (λ (all : ℕ). k ≤ all) (to_viewer_length e a n stands) few in
-    let two = second e (record n { link = one.0 }) made
-    (viewer_reached e n one.0 k reached within one.1) one.2 in
-    (two.0, viewer_moves_join e n.link one.0 two.0 k j one.1 two.1, two.2)
-
--- what it took of those that it was fed
-fed_first : (q bytes : List ℕ) (count used : ℕ) → count ≤ length q → bytes ≡ take count q →
-    used ≤ length bytes → (used ≤ count) × (take used bytes ≡ take used q)
-fed_first q bytes count used few is some =
-    let size : length bytes ≡ count = ap (λ (b : List ℕ). length b) is ∙ omega (arith, length-take count q) in
-    let within : used ≤ count = omega arith in
-    (within, ap (λ (b : List ℕ). take used b) is ∙ take-take used count q within)
-
--- the viewer was fed what came first, and what it answered joined the bytes to the server
-pub viewer_delivers : (old new : World) (bytes : List ℕ) (count used : ℕ)
-    (event : Option ViewerTold) → count ≤ length old.to_viewer →
-    bytes ≡ take count old.to_viewer → used ≤ length bytes →
-    ((viewing : Viewing) → FedBy (viewer viewing) (ViewerStandsFor viewing) old.viewer
-    (take used bytes) event new.viewer) →
-    new.server ≡ old.server → new.to_viewer ≡ drop used old.to_viewer →
-    new.to_server ≡ old.to_server ++ viewer_reply event → new.latest ≡ old.latest →
-    new.closed ≡ old.closed → DeliversToViewer old used new
-viewer_delivers old new bytes count used event few is some fed same gets sends latest closed =
-    λ e n made reached stands.
-    let part = fed_first old.to_viewer bytes count used few is some in
-    let c : Carries ServerStandsFor ViewerStandsFor e n.screen old.server old.viewer old.to_server
-    (take used bytes ++ drop used old.to_viewer) n.link =
-    subst (λ (q : List ℕ). Carries ServerStandsFor ViewerStandsFor e n.screen old.server old.viewer
-    old.to_server q n.link)
-    (sym (ap (λ (b : List ℕ). b ++ drop used old.to_viewer) part.1
-    ∙ take-append-drop used old.to_viewer)) stands.carries in
-    let one = viewer_fed ServerStandsFor ViewerStandsFor e n.screen old.server old.viewer new.viewer
-    old.to_server (take used bytes) (drop used old.to_viewer) event n.link made
-    (reached_holds e n reached) c (fed e.viewing) in
-    let many : length (take used bytes) ≡ used = omega (arith, length-take used bytes) in (
+-- what its link does over its screen, a world does
+pub link_does : (old new : World) (event : Event) (told : Told) →
+    LinkDoes old.link event told new.link → new.screen ≡ old.screen → new.closed ≡ old.closed →
+    Does old event told new
+link_does old new event told does screens closed = λ e n made reached stands.
+    let one = does e n made reached stands.link_is in (
       one.0,
-      subst (λ (k : ℕ). MovesToViewer e n.link k one.0) many one.1,
+      one.1,
+      one.2,
       record {
         goes_on = closed ∙ stands.goes_on;
-        screen_is = stands.screen_is ∙ ap (λ (s : Server). screen_of s) (sym same);
-        carries = moved e n one.0 one.3;
-        latest_is = ap (λ (l : Link). l.latest) one.1.result ∙ stands.latest_is
-            ∙ ap (λ (l : Latest). composing_in l) (sym latest);
+        screen_is = one.3 ∙ (stands.screen_is ∙ sym screens);
+        link_is = subst (λ (g : Grid Colour). LinkStandsFor e g new.link one.0.link) (sym one.3) one.4;
       },
     )
-  where
-    moved : (e : Ends) (n : Network) (l : Link) →
-        Carries ServerStandsFor ViewerStandsFor e n.screen old.server new.viewer
-        (old.to_server ++ viewer_reply event) (drop used old.to_viewer) l →
-        Carries ServerStandsFor ViewerStandsFor e n.screen new.server new.viewer
-        new.to_server new.to_viewer l
-    moved e n l c = rw (same, gets, sends) c
 
--- it does not refuse them
-pub viewer_never : (old new : World) (bytes : List ℕ) (count : ℕ) (fault : ViewerFault) →
-    bytes ≡ take count old.to_viewer →
-    ((viewing : Viewing) → RefusedBy (viewer viewing) (ViewerStandsFor viewing) old.viewer
-    bytes fault) → DeliversToViewer old count new
-viewer_never old new bytes count fault is refused = λ e n made reached stands.
-    let c : Carries ServerStandsFor ViewerStandsFor e n.screen old.server old.viewer old.to_server
-    (bytes ++ drop count old.to_viewer) n.link =
-    subst (λ (q : List ℕ). Carries ServerStandsFor ViewerStandsFor e n.screen old.server old.viewer
-    old.to_server q n.link)
-    (sym (ap (λ (b : List ℕ). b ++ drop count old.to_viewer) is
-    ∙ take-append-drop count old.to_viewer)) stands.carries in
-    absurd (viewer_keeps ServerStandsFor ViewerStandsFor e n.screen old.server old.viewer
-    old.to_server bytes (drop count old.to_viewer) fault n.link c
-    (refused e.viewing))
-
--- the lesser of what is asked for and what is in flight, and what is told of it
-pub viewer_moved : (old new : World) (count moved : ℕ) (told : Told) →
-    moved ≡ min (length old.to_viewer) count → DeliversToViewer old moved new →
-    told.moved ≡ moved → told.refused ≡ None → told.composed ≡ false →
-    Does old (ToViewer count) told new
-viewer_moved old new count moved told least delivers many taken none = λ e n made reached stands.
-    let one = delivers e n made reached stands in
-    let flight = to_viewer_length e old n stands in
-    let all : min count (flight_to_viewer e n.link) ≡ moved = omega (arith, least, flight) in (
-      record n { link = one.0 },
-      (
-        refl,
-        subst (λ (k : ℕ). MovesToViewer e n.link k one.0)
-            (sym all) one.1,
-      ),
-      record { moved = many ∙ sym all; refused = taken; composed = none },
-      one.2,
-    )
-
--- ---- the server
-
--- no bytes
-pub server_none : (w : World) → DeliversToServer w 0 w
-server_none w = λ e n made reached stands. (n.link, none e n stands, stands)
-  where
-    none : (e : Ends) (n : Network) → StandsFor e w n → MovesToServer e n.screen n.link 0 n.link
-    none e n stands = record {
-      done = [];
-      left = n.link.to_server;
-      at = n.link.at_server;
-      queue = refl;
-      count = omega arith;
-      within = stands.carries.flies.server_within;
-      result = ap (λ q. record n.link { to_viewer = q }) (sym (append-nil n.link.to_viewer));
-    }
-
--- some, and then some more
-pub server_more : (a b c : World) (k j : ℕ) → k ≤ length a.to_server → DeliversToServer a k b →
-    DeliversToServer b j c → DeliversToServer a (k + j) c
-server_more a b c k j few first second = λ e n made reached stands.
-    let one = first e n made reached stands in
-    let within : k ≤ flight_to_server e n.link =
-    subst (λ (all : ℕ). k ≤ all) (to_server_length e a n stands) few in
-    let two = second e (record n { link = one.0 }) made
-    (server_reached e n one.0 k reached within one.1) one.2 in
-    (two.0, server_moves_join e n.screen n.link one.0 two.0 k j one.1 two.1, two.2)
-
--- the server was fed what came first, and what it answered joined the bytes to the viewer
-pub server_delivers : (old new : World) (bytes : List ℕ) (count used : ℕ)
-    (event : Option ServerTold) → count ≤ length old.to_server →
-    bytes ≡ take count old.to_server → used ≤ length bytes →
-    ((serving : Serving) → FedBy (server serving) (ServerStandsFor serving) old.server
-    (take used bytes) event new.server) → screen_of new.server ≡ screen_of old.server →
-    new.viewer ≡ old.viewer → new.to_server ≡ drop used old.to_server →
-    new.to_viewer ≡ old.to_viewer ++ server_reply event → new.latest ≡ old.latest →
-    new.closed ≡ old.closed → DeliversToServer old used new
-server_delivers old new bytes count used event few is some fed screens same gets sends latest
-    closed =
-    λ e n made reached stands.
-    let part = fed_first old.to_server bytes count used few is some in
-    let c : Carries ServerStandsFor ViewerStandsFor e n.screen old.server old.viewer
-    (take used bytes ++ drop used old.to_server) old.to_viewer n.link =
-    subst (λ (q : List ℕ). Carries ServerStandsFor ViewerStandsFor e n.screen old.server old.viewer
-    q old.to_viewer n.link)
-    (sym (ap (λ (b : List ℕ). b ++ drop used old.to_server) part.1
-    ∙ take-append-drop used old.to_server)) stands.carries in
-    let one = server_fed ServerStandsFor ViewerStandsFor e n.screen old.server new.server old.viewer
-    (take used bytes) (drop used old.to_server) old.to_viewer event n.link made
-    (reached_holds e n reached) c (fed e.serving) in
-    let many : length (take used bytes) ≡ used = omega (arith, length-take used bytes) in (
+pub link_does_over : (old new : World) (event : Event) (told : Told) →
+    LinkDoesOver old.screen old.link event told new.link → new.screen ≡ old.screen →
+    new.closed ≡ old.closed → Does old event told new
+link_does_over old new event told does screens closed = λ e n made reached stands.
+    let one = does e n made reached stands.screen_is stands.link_is in (
       one.0,
-      subst (λ (k : ℕ). MovesToServer e n.screen n.link k one.0) many one.1,
+      one.1,
+      one.2,
       record {
         goes_on = closed ∙ stands.goes_on;
-        screen_is = stands.screen_is ∙ sym screens;
-        carries = moved e n one.0 one.3;
-        latest_is = ap (λ (l : Link). l.latest) one.1.result ∙ stands.latest_is
-            ∙ ap (λ (l : Latest). composing_in l) (sym latest);
+        screen_is = one.3 ∙ (stands.screen_is ∙ sym screens);
+        link_is = subst (λ (g : Grid Colour). LinkStandsFor e g new.link one.0.link) (sym one.3) one.4;
       },
     )
-  where
-    moved : (e : Ends) (n : Network) (l : Link) →
-        Carries ServerStandsFor ViewerStandsFor e n.screen new.server old.viewer
-        (drop used old.to_server) (old.to_viewer ++ server_reply event) l →
-        Carries ServerStandsFor ViewerStandsFor e n.screen new.server new.viewer
-        new.to_server new.to_viewer l
-    moved e n l c = rw (same, gets, sends) c
 
--- it does not refuse them
-pub server_never : (old new : World) (bytes : List ℕ) (count : ℕ) (fault : ServerFault) →
-    bytes ≡ take count old.to_server →
-    ((serving : Serving) → RefusedBy (server serving) (ServerStandsFor serving) old.server
-    bytes fault) → DeliversToServer old count new
-server_never old new bytes count fault is refused = λ e n made reached stands.
-    let c : Carries ServerStandsFor ViewerStandsFor e n.screen old.server old.viewer
-    (bytes ++ drop count old.to_server) old.to_viewer n.link =
-    subst (λ (q : List ℕ). Carries ServerStandsFor ViewerStandsFor e n.screen old.server old.viewer
-    q old.to_viewer n.link)
-    (sym (ap (λ (b : List ℕ). b ++ drop count old.to_server) is
-    ∙ take-append-drop count old.to_server)) stands.carries in
-    absurd (server_keeps ServerStandsFor ViewerStandsFor e n.screen old.server old.viewer
-    bytes (drop count old.to_server) old.to_viewer fault n.link c
-    (refused e.serving))
-
--- the lesser of what is asked for and what is in flight, and what is told of it
-pub server_moved : (old new : World) (count moved : ℕ) (told : Told) →
-    moved ≡ min (length old.to_server) count → DeliversToServer old moved new →
-    told.moved ≡ moved → told.refused ≡ None → told.composed ≡ false →
-    Does old (ToServer count) told new
-server_moved old new count moved told least delivers many taken none = λ e n made reached stands.
-    let one = delivers e n made reached stands in
-    let flight = to_server_length e old n stands in
-    let all : min count (flight_to_server e n.link) ≡ moved = omega (arith, least, flight) in (
-      record n { link = one.0 },
-      (
-        refl,
-        subst (λ (k : ℕ). MovesToServer e n.screen n.link k one.0)
-            (sym all) one.1,
-      ),
-      record { moved = many ∙ sym all; refused = taken; composed = none },
-      one.2,
-    )
-
--- ---- a fresh world
-
-pub fresh_world : (e : Ends) (screen : Grid Colour) (w : World) →
-    AreFresh e w.server w.viewer screen → w.closed ≡ false → w.to_server ≡ [] →
-    w.to_viewer ≡ version_text e.serving.hello.offer → composing_in w.latest ≡ None →
+pub fresh_world : (e : Ends) (screen : Grid Colour) (w : World) → w.closed ≡ false →
+    screen ≡ w.screen → LinkStandsFor e screen w.link (first_link e) →
     StandsFor e w (first_network e screen)
-fresh_world e screen w fresh going sent gets none = record {
-  goes_on = going;
-  screen_is = fresh.server_is.screen_is;
-  carries = record {
-    server_has = [];
-    viewer_has = [];
-    server_is = fresh.server_is;
-    viewer_is = fresh.viewer_is;
-    flies = rw (sent, gets) (first_flies e);
-  };
-  latest_is = sym none;
+fresh_world e screen w going is link = record { goes_on = going; screen_is = is; link_is = link }
+
+-- the session of a fresh server is a fresh session
+pub fresh_parts : (e : Ends) (screen : Grid Colour) (server : Server) (viewer : Viewer) (session : Session) →
+    AreFresh e server viewer screen → session ≡ session_of server → AreNew e session viewer screen
+fresh_parts e screen server viewer session fresh is = record {
+  session_is = subst (λ (x : Session). SessionStandsFor e.serving screen x (with_screen screen (first_server e.serving)) []) (sym is)
+      (session_over e.serving (screen_of server) screen (session_of server) (with_screen screen (first_server e.serving)) [] fresh.server_is);
+  viewer_is = fresh.viewer_is;
 }

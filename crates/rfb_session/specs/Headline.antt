@@ -10,10 +10,10 @@ use Rattle.rfb_codec.specs.UpdateStream.{UpdatePoint}
 use Rattle.rfb_codec.specs.Effect.{Agrees}
 use Rattle.rfb_server.specs.Server.{black}
 use Rattle.rfb_viewer.specs.Viewer.{viewer}
-use Rattle.rfb_session.specs.Link.{Ends, Composing, Link}
+use Rattle.rfb_session.specs.Link.{Ends, Composing, LinkState}
 
 -- the due picture: what the viewer shows once all that is in flight to it has reached it
-abbrev pub due_picture : Ends → Link → Option (Grid Colour)
+abbrev pub due_picture : Ends → LinkState → Option (Grid Colour)
 due_picture e l = (acts (viewer e.viewing) l.viewer l.to_viewer).picture
 
 -- nothing is known of any place
@@ -47,7 +47,7 @@ AnswersSome (Some c) =
     (x y : ℕ) × (x < c.screen.width) × (y < c.screen.height) × (asked_at c.area x y ≡ true)
 
 -- what holds of a link at all times
-pub record IsHeadline (e : Ends) (l : Link) : Type 0 where
+pub record IsHeadline (e : Ends) (l : LinkState) : Type 0 where
   -- known places agree with the due picture
   pub known : ShowsKnown l.session.form l.session.known (due_picture e l)
   -- over the area of the latest update the due picture is the screen at that composing

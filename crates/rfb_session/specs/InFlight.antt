@@ -13,7 +13,7 @@ use Rattle.rfb_server.specs.Told.{Pointer, CutText as ClientText}
 use Rattle.rfb_viewer.specs.Told.{ViewerTold, Reply, Ready, UpdateDone, Bell, CutText}
 use Rattle.rfb_viewer.specs.Told.{ColourMapSkipped}
 use Rattle.rfb_viewer.specs.Viewer.{ViewerState}
-use Rattle.rfb_session.specs.Link.{Ends, server_stream, viewer_stream, server_of, Link}
+use Rattle.rfb_session.specs.Link.{Ends, server_stream, viewer_stream, server_of, LinkState}
 use Rattle.rfb_session.specs.LinkSteps.{MovesToViewer, MovesToServer}
 
 -- of two ends: the viewer admits the screen, and all that they are made with has its size on the
@@ -31,7 +31,7 @@ pub record Flight : Type 0 where
   pub server_gets : List ℕ
 
 -- these bytes are those of a link's items
-pub record Flies (e : Ends) (l : Link) (f : Flight) : Type 0 where
+pub record Flies (e : Ends) (l : LinkState) (f : Flight) : Type 0 where
   pub to_viewer :
       ReadsAll (viewer_stream e) l.viewer.point (f.viewer_has ++ f.viewer_gets) l.to_viewer []
   pub at_viewer : length f.viewer_has ≡ l.at_viewer
@@ -70,9 +70,9 @@ server_reply (Some (ClientText kept text_length)) = []
 
 -- bytes reached the viewer: the link moves by as many, the viewer is in the state that they lead
 -- to, what is left is still in flight, and what it answers is in flight to the server
-pub record ReachesViewer (e : Ends) (l : Link) (f : Flight) (bytes later : List ℕ)
+pub record ReachesViewer (e : Ends) (l : LinkState) (f : Flight) (bytes later : List ℕ)
     (event : Option ViewerTold) (t : ViewerState) (rest : List ℕ) : Type 0 where
-  pub new : Link
+  pub new : LinkState
   pub moves : MovesToViewer e l (length bytes) new
   pub viewer_is : new.viewer ≡ t
   pub flies : Flies e new (record f {
@@ -82,10 +82,10 @@ pub record ReachesViewer (e : Ends) (l : Link) (f : Flight) (bytes later : List 
   })
 
 -- bytes reached the server, over the screen that its session is lent
-pub record ReachesServer (e : Ends) (screen : Grid Colour) (l : Link) (f : Flight)
+pub record ReachesServer (e : Ends) (screen : Grid Colour) (l : LinkState) (f : Flight)
     (bytes later : List ℕ) (event : Option ServerTold) (t : ServerState) (rest : List ℕ)
     : Type 0 where
-  pub new : Link
+  pub new : LinkState
   pub moves : MovesToServer e screen l (length bytes) new
   pub server_is : server_of screen new.session ≡ t
   pub flies : Flies e new (record f {

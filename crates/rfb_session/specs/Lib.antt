@@ -7,8 +7,7 @@ pub mod InFlight
 pub mod Told
 pub mod Carrying
 pub mod Latest
-pub mod World
-pub mod Played
+pub mod LinkStanding
 pub mod Devices
 pub mod Pixmap
 pub mod EngineRun
@@ -17,6 +16,9 @@ pub mod Playing
 pub mod Verdict
 pub mod PlayingSome
 pub mod ServeEngine
+pub mod LinkBytes
+pub mod World
+pub mod Played
 pub mod Turns
 pub mod ViewEngine
 pub mod Looking

@@ -71,7 +71,7 @@ pub record Composing : Type 0 where
 
 -- the two ends; the items in flight each way, and how many bytes of the first of them have been
 -- moved; and the latest composing, if there was one
-pub record Link : Type 0 where
+pub record LinkState : Type 0 where
   pub session : SessionState
   pub viewer : ViewerState
   pub to_server : List FromClient
@@ -81,7 +81,7 @@ pub record Link : Type 0 where
   pub latest : Option Composing
 
 -- a fresh link: two new ends, and the server's greeting alone in flight
-abbrev pub first_link : Ends → Link
+abbrev pub first_link : Ends → LinkState
 first_link e = record {
   session = session_of (first_server e.serving);
   viewer = first_viewer;

@@ -26,7 +26,7 @@ use Rattle.rfb_viewer.specs.Viewer.{ViewerState, viewer}
 use Rattle.rfb_viewer.specs.Calls.{call_refusal, request_refusal, format_refusal, requested}
 use Rattle.rfb_viewer.specs.Calls.{formatted}
 use Rattle.rfb_session.specs.Link.{Ends, server_stream, viewer_stream, SessionState, server_of}
-use Rattle.rfb_session.specs.Link.{session_of, Link}
+use Rattle.rfb_session.specs.Link.{session_of, LinkState}
 use Rattle.rfb_session.specs.Answers.{viewer_replies, server_replies}
 
 -- what happens on a link: the viewer's calls, a composing, and deliveries of at most so many bytes
@@ -54,13 +54,13 @@ begun (suc n) (Second item ∷ queue) = 1 ∷ []
 
 -- a call that is refused changes nothing; any other changes the viewer, and its message joins those
 -- in flight to the server
-abbrev pub calls : Option CallFault → Link → ViewerState → ClientMessage → Link
+abbrev pub calls : Option CallFault → LinkState → ViewerState → ClientMessage → LinkState
 calls (Some fault) l viewer message = l
 calls None l viewer message =
     record l { viewer = viewer; to_server = l.to_server ++ Second message ∷ [] }
 
 -- a message that waits for the end of the handshake alone, and changes nothing of the viewer
-abbrev pub sends : Link → ClientMessage → Link
+abbrev pub sends : LinkState → ClientMessage → LinkState
 sends l message = calls (call_refusal l.viewer) l l.viewer message
 
 -- ---- composing
@@ -71,7 +71,7 @@ update_items copies blocks =
     map (λ item. Second item) (update_of (map sent_as (copies ++ blocks)))
 
 -- an update is due: it joins the items in flight to the viewer, and is noted as the latest
-pub record ComposesOn (screen : Grid Colour) (old new : Link) : Type 0 where
+pub record ComposesOn (screen : Grid Colour) (old new : LinkState) : Type 0 where
   pub due : IsDue (server_of screen old.session)
   pub session : SessionState
   pub bytes : List ℕ
@@ -88,16 +88,16 @@ pub record ComposesOn (screen : Grid Colour) (old new : Link) : Type 0 where
 -- ---- deliveries
 
 -- how many bytes are in flight to the viewer: those of the items but for what has been moved
-abbrev pub flight_to_viewer : Ends → Link → ℕ
+abbrev pub flight_to_viewer : Ends → LinkState → ℕ
 flight_to_viewer e l = sizes (viewer_stream e) l.to_viewer - l.at_viewer
 
 -- and to the server
-abbrev pub flight_to_server : Ends → Link → ℕ
+abbrev pub flight_to_server : Ends → LinkState → ℕ
 flight_to_server e l = sizes (server_stream e) l.to_server - l.at_server
 
 -- so many bytes reach the viewer: the items that are whole act, one behind another, and their
 -- answers join those in flight to the server; the rest is a part of the next item
-pub record MovesToViewer (e : Ends) (old : Link) (n : ℕ) (new : Link) : Type 0 where
+pub record MovesToViewer (e : Ends) (old : LinkState) (n : ℕ) (new : LinkState) : Type 0 where
   pub done : List FromServer
   pub left : List FromServer
   pub at : ℕ
@@ -112,7 +112,7 @@ pub record MovesToViewer (e : Ends) (old : Link) (n : ℕ) (new : Link) : Type 0
   }
 
 -- so many bytes reach the server
-pub record MovesToServer (e : Ends) (screen : Grid Colour) (old : Link) (n : ℕ) (new : Link)
+pub record MovesToServer (e : Ends) (screen : Grid Colour) (old : LinkState) (n : ℕ) (new : LinkState)
     : Type 0 where
   pub done : List FromClient
   pub left : List FromClient
@@ -129,7 +129,7 @@ pub record MovesToServer (e : Ends) (screen : Grid Colour) (old : Link) (n : ℕ
 
 -- ---- one step
 
-abbrev pub LinkSteps : Ends → Grid Colour → Link → LinkEvent → Link → Type 0
+abbrev pub LinkSteps : Ends → Grid Colour → LinkState → LinkEvent → LinkState → Type 0
 LinkSteps e screen old (Request incremental rect) new =
     new ≡ calls (request_refusal old.viewer rect) old (requested old.viewer)
     (FramebufferUpdateRequest incremental rect)

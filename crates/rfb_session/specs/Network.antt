@@ -8,7 +8,7 @@ use Rattle.rfb_session.specs.declared.event.Event.TheVariants.{Fill, Put, Copy, 
 use Rattle.rfb_session.specs.declared.event.Event.TheVariants.{SetFormat, SetEncodings, Key}
 use Rattle.rfb_session.specs.declared.event.Event.TheVariants.{Pointer, CutText, Compose, ToServer}
 use Rattle.rfb_session.specs.declared.event.Event.TheVariants.{ToViewer}
-use Rattle.rfb_session.specs.Link.{Ends, Link, first_link}
+use Rattle.rfb_session.specs.Link.{Ends, LinkState, first_link}
 use Rattle.rfb_session.specs.LinkSteps.{LinkEvent, Request as OfRequest, SetFormat as OfFormat}
 use Rattle.rfb_session.specs.LinkSteps.{SetEncodings as OfEncodings, Key as OfKey}
 use Rattle.rfb_session.specs.LinkSteps.{Pointer as OfPointer, CutText as OfText}
@@ -17,7 +17,7 @@ use Rattle.rfb_session.specs.LinkSteps.{ToViewer as OfViewer, LinkSteps}
 
 pub record Network : Type 0 where
   pub screen : Grid Colour
-  pub link : Link
+  pub link : LinkState
 
 -- ---- one step
 

@@ -19,12 +19,12 @@ use Rattle.rfb_session.specs.declared.told.Refused.{Refused}
 use Rattle.rfb_session.specs.declared.told.Refused.TheVariants.{Outside, NotReady, Busy}
 use Rattle.rfb_session.specs.declared.told.Refused.TheVariants.{AreaOutside}
 use Rattle.rfb_session.specs.declared.told.Told.{Told}
-use Rattle.rfb_session.specs.Link.{Ends, server_of, Link}
+use Rattle.rfb_session.specs.Link.{Ends, server_of, LinkState}
 use Rattle.rfb_session.specs.LinkSteps.{begun, flight_to_viewer, flight_to_server}
 use Rattle.rfb_session.specs.Network.{Network}
 
 -- the lesser of what is asked for and what is in flight is moved
-abbrev pub moved_by : Ends → Link → Event → ℕ
+abbrev pub moved_by : Ends → LinkState → Event → ℕ
 moved_by e l (ToServer count) = min count (flight_to_server e l)
 moved_by e l (ToViewer count) = min count (flight_to_viewer e l)
 moved_by e l event = 0

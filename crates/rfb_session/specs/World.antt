@@ -1,46 +1,40 @@
 -- What a `World` stands for: a screen, and a link over it.
-use Rattle.std.specs.Prelude.{◌≡◌, ◌≢◌, ℕ, ◌≤◌, min, Bool, false, List, [], length, drop, Option}
-use Rattle.std.specs.Prelude.{None, Some}
+use Rattle.std.specs.Prelude.{◌≡◌, ◌≢◌, ◌⊎◌, ℕ, ◌≤◌, Bool, true, false, List, [], length, Option, None, Some}
 use Rattle.rfb_pixel.specs.declared.colour.Colour.{Colour}
-use Rattle.rfb_picture.specs.Grid.{Grid}
+use Rattle.rfb_picture.specs.Grid.{Grid, Holds, filled, copied, with_row}
 use Rattle.rfb_server.specs.declared.fault.ServerFault.{ServerFault}
-use Rattle.rfb_server.specs.declared.fault.ServerFault.TheVariants.{NoMemory as ServerWants}
 use Rattle.rfb_server.specs.declared.server.Server.{Server}
 use Rattle.rfb_server.specs.declared.hint.Hint.{Hint as ServerHint}
-use Rattle.rfb_server.specs.Hints.{hints_of, with_hint}
+use Rattle.rfb_server.specs.Hints.{hints_in as hints_of_session, with_hint}
 use Rattle.rfb_server.specs.Server.{first_server}
 use Rattle.rfb_server.specs.Composing.{IsDue}
-use Rattle.rfb_server.specs.Standing.{StandsFor as ServerStandsFor, with_screen, screen_of}
-use Rattle.rfb_server.specs.Standing.{fault_of as fault_of_server}
+use Rattle.rfb_server.specs.Standing.{StandsFor as ServerStandsFor, with_screen, row_from}
+use Rattle.rfb_server.specs.Standing.{HoldsBoth, KeepsSession}
 use Rattle.rfb_viewer.specs.declared.fault.ViewerFault.{ViewerFault}
-use Rattle.rfb_viewer.specs.declared.fault.ViewerFault.TheVariants.{NoMemory as ViewerWants}
 use Rattle.rfb_viewer.specs.declared.viewer.Viewer.{Viewer}
 use Rattle.rfb_viewer.specs.Viewer.{first_viewer}
-use Rattle.rfb_viewer.specs.Standing.{StandsFor as ViewerStandsFor, picture_of}
-use Rattle.rfb_viewer.specs.Standing.{fault_of as fault_of_viewer}
+use Rattle.rfb_viewer.specs.Standing.{StandsFor as ViewerStandsFor}
 use Rattle.rfb_session.specs.declared.event.Event.{Event}
 use Rattle.rfb_session.specs.declared.event.Event.TheVariants.{Fill, Put, Copy, Hint, CutText}
-use Rattle.rfb_session.specs.declared.event.Event.TheVariants.{Compose, ToServer, ToViewer}
+use Rattle.rfb_session.specs.declared.event.Event.TheVariants.{Compose}
 use Rattle.rfb_session.specs.declared.told.Refused.{Refused}
 use Rattle.rfb_session.specs.declared.told.Told.{Told}
 use Rattle.rfb_session.specs.declared.world.World.{World}
-use Rattle.rfb_session.specs.Latest.{composing_in}
 use Rattle.rfb_session.specs.Link.{Ends, server_of, first_link}
+use Rattle.rfb_session.specs.LinkStanding.{LinkStandsFor, server_fault_of, viewer_fault_of}
+use Rattle.rfb_session.specs.LinkStanding.{shown_on, LosesOn, IsLostOn, ChangesSession}
+use Rattle.rfb_session.specs.LinkBytes.{ActsOnBytes, ComposesOver}
 use Rattle.rfb_session.specs.InFlight.{AreMade}
-use Rattle.rfb_session.specs.Carrying.{Carries}
 use Rattle.rfb_session.specs.Network.{Network, Steps, StepsAll, IsReached}
-use Rattle.rfb_session.specs.Told.{RefusesAs, Tells}
+use Rattle.rfb_session.specs.Told.{RefusesAs, RefusesUnless, Tells}
 
 -- ---- what a world is
 
--- a world that goes on stands for a network: its two ends and the bytes in flight between them for
--- its link, over the screen; and what it notes is the link's latest composing
+-- a world that goes on stands for a network: its screen, and its link over that
 pub record StandsFor (e : Ends) (world : World) (n : Network) : Type 0 where
   pub goes_on : world.closed ≡ false
-  pub screen_is : n.screen ≡ screen_of world.server
-  pub carries : Carries ServerStandsFor ViewerStandsFor e n.screen world.server world.viewer
-      world.to_server world.to_viewer n.link
-  pub latest_is : n.link.latest ≡ composing_in world.latest
+  pub screen_is : n.screen ≡ world.screen
+  pub link_is : LinkStandsFor e n.screen world.link n.link
 
 -- it is closed, after want of memory
 abbrev pub is_closed : World → Bool
@@ -48,14 +42,14 @@ is_closed world = world.closed
 
 -- the faults that its ends have failed with, if they have
 abbrev pub server_fault : World → Option ServerFault
-server_fault world = fault_of_server world.server
+server_fault world = server_fault_of world.link
 
 abbrev pub viewer_fault : World → Option ViewerFault
-viewer_fault world = fault_of_viewer world.viewer
+viewer_fault world = viewer_fault_of world.link
 
 -- what its viewer shows, once there is a screen
 abbrev pub shown_by : World → Option (Grid Colour)
-shown_by world = picture_of world.viewer
+shown_by world = shown_on world.link
 
 -- two ends that were fed nothing; the server's screen may be drawn on
 pub record AreFresh (e : Ends) (server : Server) (viewer : Viewer) (screen : Grid Colour)
@@ -78,46 +72,53 @@ Does old event told new =
     (e : Ends) (n : Network) → AreMade e → IsReached e n → StandsFor e old n →
     (m : Network) × Steps e n event m × Tells e n event told × StandsFor e new m
 
--- so many bytes leave the channel to an end that has failed, and nothing else changes
-pub record LosesToViewer (old : World) (count : ℕ) (new : World) : Type 0 where
-  pub to_viewer : new.to_viewer ≡ drop count old.to_viewer
-  pub to_server : new.to_server ≡ old.to_server
-  pub viewer : new.viewer ≡ old.viewer
-  pub server : new.server ≡ old.server
-  pub latest : new.latest ≡ old.latest
+-- a delivery to an end that has failed is of as many bytes as another, and has no effect; no event
+-- closes the world
+pub record LosesAs (old : World) (event : Event) (told : Told) (new : World) : Type 0 where
+  pub link : LosesOn old.link event told new.link
   pub closed : new.closed ≡ old.closed
-
-pub record LosesToServer (old : World) (count : ℕ) (new : World) : Type 0 where
-  pub to_server : new.to_server ≡ drop count old.to_server
-  pub to_viewer : new.to_viewer ≡ old.to_viewer
-  pub viewer : new.viewer ≡ old.viewer
-  pub server : new.server ≡ old.server
-  pub latest : new.latest ≡ old.latest
-  pub closed : new.closed ≡ old.closed
-
--- a delivery to an end that has failed is of as many bytes as another, and has no effect
-abbrev pub LosesAs : World → Event → Told → World → Type 0
-LosesAs old (ToServer count) told new =
-    (fault : ServerFault) → server_fault old ≡ Some fault →
-    (told.moved ≡ min (length old.to_server) count) × LosesToServer old told.moved new
-LosesAs old (ToViewer count) told new =
-    (fault : ViewerFault) → viewer_fault old ≡ Some fault →
-    (told.moved ≡ min (length old.to_viewer) count) × LosesToViewer old told.moved new
-LosesAs old event told new = Unit {0}
 
 -- the hints that its server keeps
 abbrev pub hints_in : World → List ServerHint
-hints_in world = hints_of world.server
+hints_in world = hints_of_session world.link.session
 
--- a hint that is not refused reaches the server as it was given, once; a drawing changes none
+-- a hint that is not refused reaches the server as it was given, once; an update that is composed
+-- spends all hints; any other event leaves them
 abbrev pub HintsAs : World → Event → Told → World → Type 0
 HintsAs old (Hint rect sx sy) told new =
     told.refused ≡ None → hints_in new
     ≡ with_hint (record { to = rect; sx = sx; sy = sy }) (hints_in old)
-HintsAs old (Fill rect colour) told new = hints_in new ≡ hints_in old
-HintsAs old (Put x y row) told new = hints_in new ≡ hints_in old
-HintsAs old (Copy rect sx sy) told new = hints_in new ≡ hints_in old
-HintsAs old event told new = Unit {0}
+HintsAs old Compose told new =
+    (told.composed ≡ true → hints_in new ≡ []) × (told.composed ≡ false → hints_in new ≡ hints_in old)
+HintsAs old event told new = hints_in new ≡ hints_in old
+
+-- ---- the same of its bytes, whatever its ends are and stand for
+
+-- a drawing that is not refused gave it this screen, and changed nothing of its link but what is
+-- marked there
+pub record GivesScreen (screen : Grid Colour) (old new : World) : Type 0 where
+  pub screen_is : new.screen ≡ screen
+  pub others : ChangesSession old.link new.link
+  pub session : KeepsSession old.link.session new.link.session
+
+-- a drawing is refused where what it needs leaves the screen
+abbrev pub DrawsOnBytes : Type 0 → Grid Colour → World → Told → World → Type 0
+DrawsOnBytes Inside screen old told new =
+    RefusesUnless Inside told.refused × (told.refused ≡ None → GivesScreen screen old new)
+
+abbrev pub Acts : World → Event → Told → World → Type 0
+Acts old (Fill rect colour) told new =
+    DrawsOnBytes (Holds old.screen rect) (filled rect colour old.screen) old told new
+Acts old (Put x y row) told new =
+    DrawsOnBytes (Holds old.screen (row_from x y (length row.items)))
+    (with_row x y row.items old.screen) old told new
+Acts old (Copy rect sx sy) told new =
+    DrawsOnBytes (HoldsBoth old.screen rect sx sy) (copied rect sx sy old.screen) old told new
+Acts old (Hint rect sx sy) told new =
+    DrawsOnBytes (HoldsBoth old.screen rect sx sy) old.screen old told new
+Acts old Compose told new =
+    (new.screen ≡ old.screen) × ComposesOver old.screen old.link told new.link
+Acts old event told new = (new.screen ≡ old.screen) × ActsOnBytes old.link event told new.link
 
 -- a text has at most 1,048,576 bytes
 abbrev pub HasFewBytes : Event → Type 0
@@ -140,11 +141,7 @@ IsRefused world event =
 
 -- bytes on their way to an end that has failed, but for want of memory
 abbrev pub IsLost : World → Event → Type 0
-IsLost world (ToServer count) =
-    (fault : ServerFault) × (server_fault world ≡ Some fault) × (fault ≢ ServerWants)
-IsLost world (ToViewer count) =
-    (fault : ViewerFault) × (viewer_fault world ≡ Some fault) × (fault ≢ ViewerWants)
-IsLost world event = ⊥
+IsLost world event = IsLostOn world.link event
 
 -- a composing where no update is due, in a network that the world stands for
 abbrev pub ComposesNothing : World → Event → Type 0

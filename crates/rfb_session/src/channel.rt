@@ -3,7 +3,9 @@
 ghost use Rattle.std.specs.Prelude.{◌≡◌, ◌≤◌, ◌++◌, ℕ, List, [], length, take, drop};
 ghost use Rattle.std.specs.Prelude.{true, false, IfOk, OnOk, OnErr};
 
-use rfb_server::Server;
+use rfb_picture::Picture;
+use rfb_pixel::Colour;
+use rfb_server::Session;
 use rfb_viewer::{TextFault, Viewer};
 use std::alloc::{AllocError, Global};
 use std::marker::Model;
@@ -30,12 +32,14 @@ impl Model for Channel {
 
 impl Channel {
     ghost use Rattle.rfb_wire.specs.ClientMessage.{SpellsClientMessage, ClientCutText};
-    ghost use Rattle.rfb_server.specs.Standing.{screen_of};
     ghost use Rattle.rfb_viewer.specs.Viewer.{Viewing, ViewerState};
     ghost use Rattle.rfb_viewer.specs.Standing.{StandsFor};
     ghost use Rattle.rfb_viewer.specs.Messages.{text_message};
     ghost use Rattle.rfb_viewer.specs.Calls.{call_refusal, text_refusal_of};
-    ghost use Rattle.rfb_server.specs.Updating.{Updates, WasDue, StaysUnsent};
+    ghost use Rattle.rfb_server.specs.Following.{Follows};
+    ghost use Rattle.rfb_server.specs.Hints.{hints_in};
+    ghost use Rattle.rfb_server.specs.Updating.{SendsUpdate, OwesUpdate, OwesNone};
+    ghost use Rattle.rfb_session.specs.inside.Room.{IsSameSize};
 
     /// A channel with nothing in flight. It takes no memory.
     pub(crate) fn new(alloc: Global) -> Channel
@@ -85,17 +89,26 @@ impl Channel {
         Ok(())
     }
 
-    /// The update that a server composes is in flight too, if it composes one.
-    pub(crate) fn send_update(&mut self, server: &mut Server) -> Result<bool, AllocError>
+    /// The update that a session composes over the screen is in flight too, if it composes one.
+    pub(crate) fn send_update(
+        &mut self,
+        session: &mut Session,
+        screen: &Picture<Colour>,
+    ) -> Result<bool, AllocError>
+        requires follows { Follows screen.now session.old }
+        ensures follows { Follows screen.now session.new }
         ensures composed { IfOk result (λ did. did ≡ true →
-            Updates server.old server.new self.old self.new) }
+            SendsUpdate screen.now session.old session.new self.old self.new) }
         ensures idle { IfOk result (λ did. did ≡ false →
-            StaysUnsent server.old server.new self.old self.new) }
-        ensures due { OnErr result (WasDue server.old) }
-        ensures screen { screen_of server.new ≡ screen_of server.old }
+            OwesNone screen.now session.old session.new self.old self.new) }
+        ensures due { OnErr result (OwesUpdate screen.now session.old) }
+        ensures size { IsSameSize session.old session.new }
+        ensures spent { IfOk result (λ did. did ≡ true → hints_in session.new ≡ []) }
+        ensures hints { IfOk result (λ did. did ≡ false →
+            hints_in session.new ≡ hints_in session.old) }
     {
         self.make_room();
-        let did = server.compose(&mut self.bytes)?;
+        let did = session.compose(screen, &mut self.bytes)?;
         self.arrived = self.arrived.min(self.bytes.len());
         Ok(did)
     }

@@ -15,7 +15,7 @@ ghost use Rattle.rfb_viewer.specs.declared.fault.ViewerFault.{ViewerFault};
 ghost use Rattle.rfb_viewer.specs.Told.{ViewerTold};
 ghost use Rattle.rfb_viewer.specs.Viewer.{ViewerState, viewer};
 ghost use Rattle.rfb_viewer.specs.Calls.{format_refusal, formatted};
-ghost use Rattle.rfb_session.specs.Link.{Ends, Link, server_of, first_link};
+ghost use Rattle.rfb_session.specs.Link.{Ends, LinkState, server_of, first_link};
 ghost use Rattle.rfb_session.specs.LinkSteps.{begun, calls, ComposesOn, MovesToViewer};
 ghost use Rattle.rfb_session.specs.LinkSteps.{MovesToServer, flight_to_viewer, flight_to_server};
 ghost use Rattle.rfb_session.specs.Headline.{IsHeadline, AnswersSome};
@@ -43,7 +43,7 @@ pub fn what_is_due_is_the_screen()
 /// An update that is composed is noted with a place that it answers, so what is said of the area of
 /// the latest update is said of some place.
 pub fn the_latest_update_answers_a_place()
-    ensures { (screen : Grid Colour) (old new : Link) →
+    ensures { (screen : Grid Colour) (old new : LinkState) →
         ComposesOn screen old new → AnswersSome new.latest }
 {}
 
@@ -55,7 +55,7 @@ pub fn a_refused_event_changes_nothing()
 
 /// Neither end refuses what is in flight to it, however it is cut.
 pub fn neither_end_refuses()
-    ensures viewer { (e : Ends) (l : Link) (f : Flight) (bytes later : List ℕ)
+    ensures viewer { (e : Ends) (l : LinkState) (f : Flight) (bytes later : List ℕ)
         (fault : ViewerFault) → Flies e l f → f.viewer_gets ≡ bytes ++ later →
         Refuses (viewer e.viewing) l.viewer f.viewer_has bytes fault → ⊥ }
     ensures server { (e : Ends) (network : Network) (f : Flight) (bytes later : List ℕ)
@@ -85,7 +85,7 @@ pub fn bytes_that_reach_an_end_move_the_link()
 /// an item as by the item.
 pub fn what_is_sent_joins_the_bytes_in_flight()
     ensures first { (e : Ends) → Flies e (first_link e) (first_flight e) }
-    ensures update { (e : Ends) (network : Network) (new : Link) (f : Flight) →
+    ensures update { (e : Ends) (network : Network) (new : LinkState) (f : Flight) →
         IsReached e network → Flies e network.link f →
         (c : ComposesOn network.screen network.link new) →
         Flies e new (record f { viewer_gets = f.viewer_gets ++ c.bytes }) }
@@ -112,13 +112,13 @@ pub fn what_is_sent_joins_the_bytes_in_flight()
 /// As many bytes are in flight as the items have, but for those that have been moved; and a
 /// delivery behind a delivery is one of all their bytes.
 pub fn deliveries_are_counted_in_bytes()
-    ensures viewer { (e : Ends) (l : Link) (f : Flight) →
+    ensures viewer { (e : Ends) (l : LinkState) (f : Flight) →
         Flies e l f → length f.viewer_gets ≡ flight_to_viewer e l }
-    ensures server { (e : Ends) (l : Link) (f : Flight) →
+    ensures server { (e : Ends) (l : LinkState) (f : Flight) →
         Flies e l f → length f.server_gets ≡ flight_to_server e l }
-    ensures viewer_joins { (e : Ends) (a b c : Link) (n m : ℕ) →
+    ensures viewer_joins { (e : Ends) (a b c : LinkState) (n m : ℕ) →
         MovesToViewer e a n b → MovesToViewer e b m c → MovesToViewer e a (n + m) c }
-    ensures server_joins { (e : Ends) (network : Network) (b c : Link) (n m : ℕ) →
+    ensures server_joins { (e : Ends) (network : Network) (b c : LinkState) (n m : ℕ) →
         MovesToServer e network.screen network.link n b → MovesToServer e network.screen b m c →
         MovesToServer e network.screen network.link (n + m) c }
 {}

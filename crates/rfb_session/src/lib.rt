@@ -11,6 +11,7 @@ mod engine;
 mod event;
 mod latest;
 pub mod law;
+mod link;
 mod reply;
 mod told;
 mod world;
@@ -20,5 +21,6 @@ pub use engine::{
     view_recording,
 };
 pub use event::Event;
+pub use link::Link;
 pub use told::{NoMemory, Refused, Told};
 pub use world::World;

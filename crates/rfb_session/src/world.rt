@@ -1,20 +1,15 @@
-//! A world: a server and its viewer, with the bytes in flight between them.
+//! A world: a screen, and a session and its viewer over it, with the bytes in flight between them.
 
-ghost use Rattle.std.specs.Prelude.{◌≡◌, ◌≢◌, ◌≤◌, ◌<◌, ◌+◌, ℕ, List, [], length, drop, Ok, Err};
-ghost use Rattle.std.specs.Prelude.{true, false, Some, None, All, option_copied};
-ghost use Rattle.std.specs.Prelude.{IfOk, OnOk, OnErr, IsOk, IsErr};
-ghost use Rattle.rfb_server.specs.Standing.{screen_of};
-ghost use Rattle.rfb_session.specs.inside.Room.{HasRoom};
+ghost use Rattle.std.specs.Prelude.{◌≡◌, ◌≢◌, ℕ, List, [], All, None, option_copied};
+ghost use Rattle.std.specs.Prelude.{true, false, IfOk, OnOk, OnErr, IsOk, IsErr};
+ghost use Rattle.rfb_server.specs.Following.{Follows};
+ghost use Rattle.rfb_session.specs.LinkStanding.{session_of_link};
 
-mod calling;
-mod composing;
-mod delivering;
 mod drawing;
 mod making;
 
-use crate::channel::Channel;
 use crate::event::Event;
-use crate::latest::Latest;
+use crate::link::Link;
 use crate::told::{NoMemory, Told};
 use rfb_picture::Picture;
 use rfb_pixel::Colour;
@@ -22,19 +17,16 @@ use rfb_server::Server;
 use rfb_viewer::Viewer;
 use std::alloc::{AllocError, Global};
 
-/// A server and its viewer in one process, with the bytes in flight between them each way. What
-/// happens to them comes as events; bytes arrive when a delivery says so, as many as it says. It
-/// keeps, beside that, of what the latest update was composed.
+/// A screen, and a link over it: a server and its viewer in one process, with the bytes in flight
+/// between them each way. What happens to them comes as events; bytes arrive when a delivery says
+/// so, as many as it says. The link keeps, beside that, of what the latest update was composed.
 #[derive(Debug, Drop)]
 pub struct World {
-    server: Server,
-    viewer: Viewer,
-    to_server: Channel,
-    to_viewer: Channel,
-    latest: Latest,
+    screen: Picture<Colour>,
+    link: Link,
     // After want of memory, for good.
     closed: bool,
-    ghost room: { HasRoom latest (screen_of server).width (screen_of server).height },
+    ghost follows: { Follows screen (session_of_link link) },
 }
 
 impl World {
@@ -44,7 +36,9 @@ impl World {
     ghost use Rattle.rfb_session.specs.World.{StandsFor, AreFresh, first_network};
     ghost use Rattle.rfb_session.specs.World.{is_closed, shown_by};
     ghost use Rattle.rfb_session.specs.Network.{Network};
-    ghost use Rattle.rfb_session.specs.World.{Does, LosesAs, HintsAs, HasFewBytes, IsDrawing};
+    ghost use Rattle.rfb_session.specs.World.{Does, Acts, LosesAs, HintsAs};
+    ghost use Rattle.rfb_session.specs.World.{HasFewBytes, IsDrawing};
+    ghost use Rattle.rfb_session.specs.inside.Happening.{Happens, TakesNoMemory};
     ghost use Rattle.rfb_session.specs.World.{IsRefused, IsLost, ComposesNothing};
     ghost use Rattle.rfb_session.specs.World.{Reaches, NeitherFailed};
     ghost use Rattle.rfb_session.specs.Headline.{IsHeadline, ShowsKnown, ShowsLatest, due_picture};
@@ -57,23 +51,19 @@ impl World {
         ensures { IfOk result (λ world. (e : Ends) (screen : Grid Colour) →
             AreFresh e server viewer screen → StandsFor e world (first_network e screen)) }
     {
-        let (latest, to_viewer) = match opening(alloc, &server) {
-            Ok(begun) => begun,
+        let (screen, session) = server.into_parts();
+        match Link::new(alloc, session, viewer) {
+            Ok(link) => Ok(World {
+                screen,
+                link,
+                closed: false,
+            }),
             Err(error) => {
-                // By a call each: what a `?` lets go is proved field by field.
-                drop(server);
-                drop(viewer);
-                return Err(error);
+                // By a call: what a `?` lets go is proved field by field.
+                drop(screen);
+                Err(error)
             }
-        };
-        Ok(World {
-            server,
-            viewer,
-            to_server: Channel::new(alloc),
-            to_viewer,
-            latest,
-            closed: false,
-        })
+        }
     }
 
     /// What an event is, happens, and it tells how many bytes it moved, its refusal, and whether an
@@ -84,6 +74,8 @@ impl World {
     pub fn step(&mut self, event: &Event) -> Result<Told, NoMemory>
         requires few { HasFewBytes event.now }
 
+        // Whatever the ends are, what becomes of them and of the bytes between them.
+        ensures acts { IfOk result (λ told. Acts self.old event.now told self.new) }
         // Whatever network the world stood for, the event is a step of it, and the answer tells so.
         ensures does { IfOk result (λ told. Does self.old event.now told self.new) }
         ensures kept { IfOk result (λ told. told.refused ≢ None → self.new ≡ self.old) }
@@ -148,58 +140,32 @@ impl World {
         ensures due { (e : Ends) (n : Network) → StandsFor e self.now n →
             n.link.to_viewer ≡ [] → option_copied result ≡ due_picture e n.link }
     {
-        self.viewer.picture()
+        self.link.picture()
     }
 
     // What an event is, happens.
     fn happen(&mut self, event: &Event) -> Result<Told, NoMemory>
         requires few { HasFewBytes event.now }
-        ensures does { IfOk result (λ told. Does self.old event.now told self.new) }
+        ensures happens { IfOk result (λ told. Happens self.old event.now told self.new) }
         ensures kept { IfOk result (λ told. told.refused ≢ None → self.new ≡ self.old) }
-        ensures lost { IfOk result (λ told. LosesAs self.old event.now told self.new) }
-        ensures hints { IfOk result (λ told. HintsAs self.old event.now told self.new) }
-        ensures free { IsDrawing event.now → IsOk result }
-        ensures spared { IsRefused self.old event.now → IsOk result }
-        ensures dropped { IsLost self.old event.now → IsOk result }
-        ensures idle { ComposesNothing self.old event.now → IsOk result }
+        ensures sure { TakesNoMemory self.old event.now → IsOk result }
     {
         match event {
             Event::Fill(rect, colour) => Ok(self.fill(*rect, *colour)),
             Event::Put(x, y, row) => Ok(self.put(*x, *y, row)),
             Event::Copy(rect, sx, sy) => Ok(self.copy(*rect, *sx, *sy)),
             Event::Hint(rect, sx, sy) => Ok(self.hint(*rect, *sx, *sy)),
-            Event::Request(incremental, rect) => self.request(*incremental, *rect),
-            Event::SetFormat(format) => self.set_format(*format),
-            Event::SetEncodings(encodings) => self.set_encodings(encodings),
-            Event::Key(down, key) => self.key(*down, *key),
-            Event::Pointer(buttons, x, y) => self.pointer(*buttons, *x, *y),
-            Event::CutText(text) => self.cut_text(text),
-            Event::Compose => self.compose(),
-            Event::ToServer(count) => self.move_to_server(*count),
-            Event::ToViewer(count) => self.move_to_viewer(*count),
+            Event::Request(incremental, rect) => self.link.request(*incremental, *rect),
+            Event::SetFormat(format) => self.link.set_format(*format),
+            Event::SetEncodings(encodings) => self.link.set_encodings(encodings),
+            Event::Key(down, key) => self.link.key(*down, *key),
+            Event::Pointer(buttons, x, y) => self.link.pointer(*buttons, *x, *y),
+            Event::CutText(text) => self.link.cut_text(text),
+            Event::Compose => self.link.compose(&self.screen),
+            Event::ToServer(count) => self.link.move_to_server(*count),
+            Event::ToViewer(count) => self.link.move_to_viewer(*count),
         }
     }
-}
-
-ghost use Rattle.rfb_hello.specs.Version.{version_text};
-ghost use Rattle.rfb_server.specs.Server.{Serving, ServerState};
-ghost use Rattle.rfb_server.specs.Standing.{StandsFor as ServerStandsFor};
-ghost use Rattle.rfb_session.specs.Latest.{composing_in};
-
-// What a link begins with beside its ends: no composing yet, and the server's greeting in flight.
-fn opening(alloc: Global, server: &Server) -> Result<(Latest, Channel), AllocError>
-    ensures none { IfOk result (λ link. composing_in link.0 ≡ None) }
-    ensures room { IfOk result (λ link.
-        HasRoom link.0 (screen_of server.now).width (screen_of server.now).height) }
-    ensures greeting { IfOk result (λ link. (serving : Serving) (s : ServerState)
-        (prefix : List ℕ) → ServerStandsFor serving server.now s prefix →
-        link.1 ≡ version_text serving.hello.offer) }
-{
-    let mut to_viewer = Channel::new(alloc);
-    to_viewer.send(&server.greeting())?;
-    let screen = server.screen();
-    let latest = Latest::new(alloc, screen.width(), screen.height())?;
-    Ok((latest, to_viewer))
 }
 
 #[cfg(test)]

@@ -1,7 +1,7 @@
 //! What a fault prints as.
 
 use super::*;
-use std::alloc::AllocError;
+use std::alloc::{AllocError, Global};
 use std::fmt::Display;
 use std::result::Result;
 
@@ -47,5 +47,22 @@ fn a_fault_prints_as_its_number_and_its_name(rt: HostRuntime) -> Result<(), Allo
     print_each(FAULTS, &mut lines)?;
     print_each(&[Outside], &mut lines)?;
     assert_eq!(rt; lines.as_str(), PRINTED);
+    Ok(())
+}
+
+// Whether the text of each fault is its number, a space and its name.
+fn begin_with_their_numbers(alloc: Global) -> Result<bool, AllocError> {
+    let mut all = true;
+    for fault in FAULTS {
+        let text = format!(in alloc; "{fault}")?;
+        let number = format!(in alloc; "{} ", fault.number())?;
+        all = all && text.starts_with(number.as_str());
+    }
+    Ok(all)
+}
+
+#[test]
+fn the_text_of_a_fault_begins_with_its_number(rt: HostRuntime) -> Result<(), AllocError> {
+    assert!(rt; begin_with_their_numbers(rt.alloc())?);
     Ok(())
 }

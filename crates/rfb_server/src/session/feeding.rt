@@ -25,7 +25,7 @@ impl Session {
     ghost use Rattle.rfb_server.specs.Server.{server, AsksMemory};
     ghost use Rattle.rfb_server.specs.ClientBytes.{is_between};
     ghost use Rattle.rfb_server.specs.Told.{seen};
-    ghost use Rattle.rfb_server.specs.Standing.{session_fault, session_serving};
+    ghost use Rattle.rfb_server.specs.Standing.{session_fault, session_serving, notes_in};
     ghost use Rattle.rfb_server.specs.Following.{Follows};
     ghost use Rattle.rfb_server.specs.Hints.{hints_in};
 
@@ -48,6 +48,8 @@ impl Session {
         ensures hints { hints_in self.new ≡ hints_in self.old }
         ensures follows { (screen : Grid Colour) → Follows screen self.old
             → Follows screen self.new }
+        ensures columns { (notes_in self.new).known.width ≡ (notes_in self.old).known.width }
+        ensures rows { (notes_in self.new).known.height ≡ (notes_in self.old).known.height }
 
         // When a fault comes, when memory is wanting, what is kept, and that it stays.
         ensures fault { IfErr result (λ fault. fault ≢ NoMemory

@@ -1,20 +1,71 @@
--- Bytes that are delivered in a world.
-use Rattle.std.specs.Prelude.{ℕ}
-use Rattle.rfb_session.specs.declared.world.World.{World}
-use Rattle.rfb_session.specs.Link.{Ends, Link}
+-- Bytes that are delivered on a link.
+use Rattle.std.specs.Prelude.{◌≡◌, ℕ, List, ◌++◌, take, drop}
+use Rattle.rfb_server.specs.declared.session.Session.{Session}
+use Rattle.rfb_viewer.specs.declared.viewer.Viewer.{Viewer}
+use Rattle.rfb_session.specs.declared.link.Link.{Link}
+use Rattle.rfb_session.specs.Link.{Ends, LinkState}
 use Rattle.rfb_session.specs.LinkSteps.{MovesToViewer, MovesToServer}
+use Rattle.rfb_session.specs.LinkStanding.{LinkStandsFor}
+use Rattle.rfb_session.specs.LinkBytes.{HearsOver, SessionEndsBy, ViewerEndsBy}
 use Rattle.rfb_session.specs.InFlight.{AreMade}
 use Rattle.rfb_session.specs.Network.{Network, IsReached}
-use Rattle.rfb_session.specs.World.{StandsFor}
+use Rattle.rfb_session.specs.Watching.{ViewerRuns}
 
 -- so many bytes reach the viewer
-abbrev pub DeliversToViewer : World → ℕ → World → Type 0
+abbrev pub DeliversToViewer : Link → ℕ → Link → Type 0
 DeliversToViewer old count new =
-    (e : Ends) (n : Network) → AreMade e → IsReached e n → StandsFor e old n →
-    (l : Link) × MovesToViewer e n.link count l × StandsFor e new (record n { link = l })
+    (e : Ends) (n : Network) → AreMade e → IsReached e n → LinkStandsFor e n.screen old n.link →
+    (l : LinkState) × MovesToViewer e n.link count l × LinkStandsFor e n.screen new l
 
--- so many bytes reach the server
-abbrev pub DeliversToServer : World → ℕ → World → Type 0
+-- so many bytes reach the session
+abbrev pub DeliversToServer : Link → ℕ → Link → Type 0
 DeliversToServer old count new =
-    (e : Ends) (n : Network) → AreMade e → IsReached e n → StandsFor e old n →
-    (l : Link) × MovesToServer e n.screen n.link count l × StandsFor e new (record n { link = l })
+    (e : Ends) (n : Network) → AreMade e → IsReached e n → LinkStandsFor e n.screen old n.link →
+    (l : LinkState) × MovesToServer e n.screen n.link count l × LinkStandsFor e n.screen new l
+
+-- the session was fed so many bytes, and they are no more in flight
+pub record HasHeard (old : Link) (count : ℕ) (new : Link) : Type 0 where
+  pub sent : List ℕ
+  pub hears : HearsOver old.session (take count old.to_server) sent new.session
+  pub gone : new.to_server ≡ drop count old.to_server
+  pub answered : new.to_viewer ≡ old.to_viewer ++ sent
+  pub viewer : new.viewer ≡ old.viewer
+  pub latest : new.latest ≡ old.latest
+
+-- it was fed some of them, and ended at the others
+pub record EndsHearing (old : Link) (count : ℕ) (new : Link) : Type 0 where
+  pub fed : List ℕ
+  pub later : List ℕ
+  pub sent : List ℕ
+  pub last : Session
+  pub bytes_are : take count old.to_server ≡ fed ++ later
+  pub hears : HearsOver old.session fed sent last
+  pub ends : SessionEndsBy last later new.session
+  pub gone : new.to_server ≡ drop count old.to_server
+  pub answered : new.to_viewer ≡ old.to_viewer ++ sent
+  pub viewer : new.viewer ≡ old.viewer
+  pub latest : new.latest ≡ old.latest
+
+-- the same of the viewer
+pub record HasWatched (old : Link) (count : ℕ) (new : Link) : Type 0 where
+  pub sent : List ℕ
+  pub updates : ℕ
+  pub watches : ViewerRuns old.viewer (take count old.to_viewer) sent updates new.viewer
+  pub gone : new.to_viewer ≡ drop count old.to_viewer
+  pub answered : new.to_server ≡ old.to_server ++ sent
+  pub session : new.session ≡ old.session
+  pub latest : new.latest ≡ old.latest
+
+pub record EndsWatching (old : Link) (count : ℕ) (new : Link) : Type 0 where
+  pub fed : List ℕ
+  pub later : List ℕ
+  pub sent : List ℕ
+  pub updates : ℕ
+  pub last : Viewer
+  pub bytes_are : take count old.to_viewer ≡ fed ++ later
+  pub watches : ViewerRuns old.viewer fed sent updates last
+  pub ends : ViewerEndsBy last later new.viewer
+  pub gone : new.to_viewer ≡ drop count old.to_viewer
+  pub answered : new.to_server ≡ old.to_server ++ sent
+  pub session : new.session ≡ old.session
+  pub latest : new.latest ≡ old.latest

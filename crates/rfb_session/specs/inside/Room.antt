@@ -1,5 +1,7 @@
--- The room of a `Latest`.
+-- The room of a `Latest`, and the size that a session is of.
 use Rattle.std.specs.Prelude.{◌≡◌, ℕ}
+use Rattle.rfb_server.specs.declared.session.Session.{Session}
+use Rattle.rfb_server.specs.Standing.{notes_in}
 use Rattle.rfb_session.specs.declared.latest.Latest.{Latest}
 
 -- it has room for what is composed of a screen of that size
@@ -10,3 +12,8 @@ pub record HasRoom (latest : Latest) (width height : ℕ) : Type 0 where
   pub area_rows : latest.area.asked.height ≡ height
   pub asked_columns : latest.asked.asked.width ≡ width
   pub asked_rows : latest.asked.asked.height ≡ height
+
+-- a session tells of places of a screen of the same size
+pub record IsSameSize (old new : Session) : Type 0 where
+  pub columns : (notes_in new).known.width ≡ (notes_in old).known.width
+  pub rows : (notes_in new).known.height ≡ (notes_in old).known.height

@@ -1,7 +1,7 @@
 use Rattle.std.proofs.Common.{◌+◌, ◌-◌, if◌then◌else◌, refl}
 use Rattle.rfb_picture.specs.Rect.{contains}
 use Rattle.rfb_picture.specs.Grid.{at_or}
-use Rattle.rfb_server.proofs.MarksLemmas.{follows_changed}
+use Rattle.rfb_server.proofs.FollowingLaws.{follows_changed}
 use Rattle.rfb_server.proofs.UpdatingLemmas.{draws}
 use Rattle.rfb_server.proofs.server.Server.copy.Goals as goal
 

@@ -1,5 +1,5 @@
 use Rattle.std.proofs.Common.{◌≡◌, ℕ, List, min, length, drop, subst, ap, ◌∙◌, rules}
-use Rattle.rfb_server.specs.Updating.{Updates}
+use Rattle.rfb_server.specs.Updating.{SendsUpdate}
 use Rattle.rfb_session.proofs.ChannelLemmas.{updates_rest}
 use Rattle.rfb_session.proofs.channel.Channel.send_update.Goals as goal
 
@@ -8,9 +8,9 @@ returns-clause-composed c = λ did.
     let size : c.len.result ≡ length c.compose.new.out.items = search rules in
     let least : c.min-self-inside.result ≡ min c.self.inside.arrived (length c.compose.new.out.items) =
     c.min-self-inside.ensures ∙ ap (λ (k : ℕ). min c.self.inside.arrived k) size in
-    subst (λ (q : List ℕ). Updates c.args.server.now c.compose.new.self q
+    subst (λ (q : List ℕ). SendsUpdate c.args.screen.now c.args.session.now c.compose.new.self q
     (drop c.min-self-inside.result c.compose.new.out.items))
     (c.self.view_is ∙ c.make_room.ensures)
-    (updates_rest c.args.server.now c.compose.new.self c.self.inside.bytes.items
+    (updates_rest c.args.screen.now c.args.session.now c.compose.new.self c.self.inside.bytes.items
     c.compose.new.out.items c.self.inside.arrived c.min-self-inside.result c.self.invariant least
     (c.in_ok-did.ensures.composed did))

@@ -1,28 +1,13 @@
-use Rattle.std.proofs.Common.{refl}
-use Rattle.rfb_picture.specs.Grid.{Holds, filled}
-use Rattle.rfb_session.proofs.DrawnLemmas.{drawn, held_or_not, room_drawn}
+use Rattle.std.proofs.Common.{if◌then◌else◌, refl}
+use Rattle.rfb_picture.specs.Rect.{contains}
+use Rattle.rfb_server.proofs.FollowingLaws.{follows_changed}
 use Rattle.rfb_session.proofs.world.World.fill.Goals as goal
 
 pub invariant_of-self : goal.invariant_of-self
-invariant_of-self c = record {
-  room = room_drawn c.args.self.now.latest c.args.self.now.server c.fill.new.self c.fill.result _
-      c.fill.ensures.kept c.fill.ensures.drawn c.args.self.now.room;
-}
-
-pub returns-clause-does : goal.returns-clause-does
-returns-clause-does c = λ e n made reached stands.
-    let one = drawn e c.args.self.now _ n c.told_of.result.refused c.fill.result
-    (λ g. Holds g c.args.rect)
-    (λ g. filled c.args.rect c.args.colour g)
-    (held_or_not c.args.rect) c.fill.ensures.refused c.fill.ensures.kept c.fill.ensures.drawn
-    (record { viewer = refl; to_server = refl; to_viewer = refl; latest = refl; closed = refl })
-    c.told_of.ensures.refused stands in (
-      one.0,
-      one.1,
-      record {
-        moved = c.told_of.ensures.moved;
-        refused = one.2;
-        composed = c.told_of.ensures.composed;
-      },
-      one.3,
-    )
+invariant_of-self c =
+    let s = c.args.self.now in
+    record {
+      follows = follows_changed s.link.session c.drawn.new.self.session s.screen c.fill.new.self (c.args.rect)
+          (λ x y old. if contains c.args.rect x y then c.args.colour else old) s.follows c.drawn.ensures.follows c.fill.ensures.value
+          (λ x y old e. rw e refl);
+    }

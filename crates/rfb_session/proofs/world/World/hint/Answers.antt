@@ -1,27 +1,22 @@
 use Rattle.std.proofs.Common.{refl}
 use Rattle.rfb_server.specs.Standing.{HoldsBoth}
-use Rattle.rfb_session.proofs.DrawnLemmas.{hinted, hinted_as, both_held_or_not}
+use Rattle.rfb_session.proofs.DrawnLemmas.{both_held_or_not, hint_acts}
 use Rattle.rfb_session.proofs.world.World.hint.Goals as goal
 
-pub returns-clause-does : goal.returns-clause-does
-returns-clause-does c = λ e n made reached stands.
-    let one = hinted e c.args.self.now _ n c.told_of.result.refused c.hint.result
+pub returns-in-Err-clause-acts : goal.returns-in-Err-clause-acts
+returns-in-Err-clause-acts c =
+    hint_acts c.args.self.now _ c.told_outside.result c.hint.result
     (λ g. HoldsBoth g c.args.rect c.args.sx c.args.sy)
-    (both_held_or_not c.args.rect c.args.sx c.args.sy) c.hint.ensures.refused c.hint.ensures.kept
-    c.hint.ensures.hinted
-    (record { viewer = refl; to_server = refl; to_viewer = refl; latest = refl; closed = refl })
-    c.told_of.ensures.refused stands in (
-      n,
-      refl,
-      record {
-        moved = c.told_of.ensures.moved;
-        refused = one.0;
-        composed = c.told_of.ensures.composed;
-      },
-      one.1,
-    )
+    (both_held_or_not c.args.rect c.args.sx c.args.sy)
+    (c.hint.ensures.refused c.args.self.now.screen c.args.self.now.follows.alike)
+    (rw c.in-Err.is c.told_outside.ensures.refused)
+    (record { screen_is = refl; others = c.hint.ensures.changes; session = c.hint.ensures.kept })
 
-pub returns-clause-hints : goal.returns-clause-hints
-returns-clause-hints c =
-    hinted_as c.args.self.now.server c.hint.new.self _ c.hint.result c.told_of.result.refused
-    c.told_of.ensures.refused c.hint.ensures.hints
+pub returns-in-Ok-clause-acts : goal.returns-in-Ok-clause-acts
+returns-in-Ok-clause-acts c =
+    hint_acts c.args.self.now _ c.told_drawn.result c.hint.result
+    (λ g. HoldsBoth g c.args.rect c.args.sx c.args.sy)
+    (both_held_or_not c.args.rect c.args.sx c.args.sy)
+    (c.hint.ensures.refused c.args.self.now.screen c.args.self.now.follows.alike)
+    (rw c.in-Ok.is c.told_drawn.ensures.refused)
+    (record { screen_is = refl; others = c.hint.ensures.changes; session = c.hint.ensures.kept })

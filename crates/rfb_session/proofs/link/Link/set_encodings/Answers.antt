@@ -1,0 +1,62 @@
+use Rattle.std.proofs.Common.{ℕ, List, ◌++◌, map, refl, ap, ◌∙◌, subst}
+use Rattle.rfb_wire.specs.declared.encoding.Encoding.{Encoding}
+use Rattle.rfb_wire.specs.Encoding.{number_of}
+use Rattle.rfb_wire.specs.ClientMessage.{SetEncodings, SpellsClientMessage}
+use Rattle.rfb_session.specs.Told.{refused_as}
+use Rattle.rfb_session.proofs.CalledLemmas.{message_taken, not_taken, is_refusal}
+use Rattle.rfb_session.proofs.link.Link.set_encodings.Goals as goal
+
+pub returns-in_ok-send-in-Ok-clause-does : goal.returns-in_ok-send-in-Ok-clause-does
+returns-in_ok-send-in-Ok-clause-does c = λ e n made reached stands.
+    let has = stands.carries in
+    let is = c.in-Ok.ensures.refusal e.viewing n.link.viewer has.viewer_has has.viewer_is in
+    let spelled = subst (λ (list : List Encoding). SpellsClientMessage
+    (SetEncodings (map (λ encoding. number_of encoding) list)) c.in-Ok.message.items)
+    c.copy_of.ensures c.in-Ok.ensures.spelled in
+    let one = message_taken e c.args.self.now _ n
+    (SetEncodings (map (λ encoding. number_of encoding) c.args.encodings.now.items))
+    c.in-Ok.message.items stands reached is refl spelled
+    (record {
+      session = refl;
+      picture = refl;
+      to_server = c.in_ok-send-in-Ok.ensures.sent
+          ∙ ap (λ (b : List ℕ). c.args.self.now.to_server ++ b) c.as_slice.ensures.value;
+      to_viewer = refl;
+      latest = refl;
+    }) in (
+      one.0,
+      one.1,
+      record {
+        moved = c.told_taken.ensures.moved;
+        refused = c.told_taken.ensures.refused ∙ ap (λ o. refused_as o) is;
+        composed = c.told_taken.ensures.composed;
+      },
+      one.1.0,
+      one.2,
+    )
+
+pub returns-in_err-send-in-Ok-clause-spared : goal.returns-in_err-send-in-Ok-clause-spared
+returns-in_err-send-in-Ok-clause-spared c = λ refused.
+    let has = refused.4.carries in
+    let is = c.in-Ok.ensures.refusal refused.0.viewing refused.1.link.viewer has.viewer_has has.viewer_is in
+    absurd (not_taken _ refused.2 is refused.5)
+
+pub returns-in_ok-send-in-Ok-clause-bytes : goal.returns-in_ok-send-in-Ok-clause-bytes
+returns-in_ok-send-in-Ok-clause-bytes c = λ taken. (
+  c.in-Ok.message.items,
+  subst (λ (list : List Encoding). SpellsClientMessage
+      (SetEncodings (map (λ encoding. number_of encoding) list)) c.in-Ok.message.items)
+      c.copy_of.ensures c.in-Ok.ensures.spelled,
+  record {
+    session = refl;
+    picture = refl;
+    to_server = c.in_ok-send-in-Ok.ensures.sent
+        ∙ ap (λ (b : List ℕ). c.args.self.now.to_server ++ b) c.as_slice.ensures.value;
+    to_viewer = refl;
+    latest = refl;
+  },
+)
+
+pub returns-in-Err-clause-bytes : goal.returns-in-Err-clause-bytes
+returns-in-Err-clause-bytes c = λ taken.
+    absurd (is_refusal c.in-Err.fault _ c.told_refused.ensures.refused taken)

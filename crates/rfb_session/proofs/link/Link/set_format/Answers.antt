@@ -1,0 +1,75 @@
+use Rattle.std.proofs.Common.{refl, ap, ◌∙◌}
+use Rattle.rfb_wire.specs.ClientMessage.{SetPixelFormat}
+use Rattle.rfb_viewer.specs.Calls.{formatted}
+use Rattle.rfb_session.specs.Told.{refused_as}
+use Rattle.rfb_session.proofs.CalledLemmas.{format_taken, format_same, refused, not_taken, is_refusal}
+use Rattle.rfb_session.proofs.link.Link.set_format.Goals as goal
+
+pub returns-in_ok-send-in-Ok-clause-does : goal.returns-in_ok-send-in-Ok-clause-does
+returns-in_ok-send-in-Ok-clause-does c = λ e n made reached stands.
+    let has = stands.carries in
+    let here = c.in-Ok.ensures.refusal e.viewing n.link.viewer has.viewer_has has.viewer_is in
+    let is = here ∙ format_same e c.args.self.now n stands reached in
+    let one = format_taken e c.args.self.now _ n c.args.format c.in-Ok.message stands reached here
+    (c.in-Ok.ensures.stands e.viewing n.link.viewer has.viewer_has has.viewer_is)
+    c.in-Ok.ensures.spelled
+    (record {
+      session = refl;
+      picture = c.set_format.ensures.picture;
+      to_server = c.in_ok-send-in-Ok.ensures.sent;
+      to_viewer = refl;
+      latest = refl;
+    }) in (
+      one.0,
+      one.1,
+      record {
+        moved = c.told_taken.ensures.moved;
+        refused = c.told_taken.ensures.refused ∙ ap (λ o. refused_as o) is;
+        composed = c.told_taken.ensures.composed;
+      },
+      one.1.0,
+      one.2,
+    )
+
+pub returns-in-Err-clause-does : goal.returns-in-Err-clause-does
+returns-in-Err-clause-does c = λ e n made reached stands.
+    let has = stands.carries in
+    let here = c.in-Err.ensures.refusal e.viewing n.link.viewer has.viewer_has has.viewer_is in
+    let is = here ∙ format_same e c.args.self.now n stands reached in
+    let one = refused e c.args.self.now _ n _ (formatted c.args.format n.link.viewer)
+    (SetPixelFormat c.args.format) c.in-Err.fault stands is
+    (record { session = refl; viewer = c.in-Err.ensures.refused; to_server = refl; to_viewer = refl; latest = refl }) in (
+      one.0,
+      one.1,
+      record {
+        moved = c.told_refused.ensures.moved;
+        refused = c.told_refused.ensures.refused ∙ ap (λ o. refused_as o) is;
+        composed = c.told_refused.ensures.composed;
+      },
+      one.1.0,
+      one.2,
+    )
+
+pub returns-in_err-send-in-Ok-clause-spared : goal.returns-in_err-send-in-Ok-clause-spared
+returns-in_err-send-in-Ok-clause-spared c = λ refused.
+    let has = refused.4.carries in
+    let is = (c.in-Ok.ensures.refusal refused.0.viewing refused.1.link.viewer has.viewer_has has.viewer_is)
+    ∙ format_same refused.0 c.args.self.now refused.1 refused.4 refused.3 in
+    absurd (not_taken _ refused.2 is refused.5)
+
+pub returns-in_ok-send-in-Ok-clause-bytes : goal.returns-in_ok-send-in-Ok-clause-bytes
+returns-in_ok-send-in-Ok-clause-bytes c = λ taken. (
+  c.in-Ok.message,
+  c.in-Ok.ensures.spelled,
+  record {
+    session = refl;
+    picture = c.set_format.ensures.picture;
+    to_server = c.in_ok-send-in-Ok.ensures.sent;
+    to_viewer = refl;
+    latest = refl;
+  },
+)
+
+pub returns-in-Err-clause-bytes : goal.returns-in-Err-clause-bytes
+returns-in-Err-clause-bytes c = λ taken.
+    absurd (is_refusal c.in-Err.fault _ c.told_refused.ensures.refused taken)

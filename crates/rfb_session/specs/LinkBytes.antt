@@ -1,0 +1,156 @@
+-- What the calls of a `Link` do to its bytes and its ends, whatever these are and stand for.
+use Rattle.std.specs.Prelude.{◌≡◌, ◌≢◌, ◌⊎◌, ℕ, min, true, false, List, [], ◌++◌, map, length, take, drop}
+use Rattle.std.specs.Prelude.{Option, None, Some}
+use Rattle.rfb_pixel.specs.declared.colour.Colour.{Colour}
+use Rattle.rfb_picture.specs.Grid.{Grid}
+use Rattle.rfb_wire.specs.Encoding.{number_of}
+use Rattle.rfb_wire.specs.ClientMessage.{ClientMessage, SpellsClientMessage, SetPixelFormat}
+use Rattle.rfb_wire.specs.ClientMessage.{SetEncodings as EncodingsMessage, FramebufferUpdateRequest}
+use Rattle.rfb_wire.specs.ClientMessage.{KeyEvent, PointerEvent, ClientCutText}
+use Rattle.rfb_server.specs.declared.fault.ServerFault.{ServerFault}
+use Rattle.rfb_server.specs.declared.fault.ServerFault.TheVariants.{NoMemory as ServerWants}
+use Rattle.rfb_server.specs.declared.session.Session.{Session}
+use Rattle.rfb_server.specs.ClientBytes.{ClientAt, FromClient}
+use Rattle.rfb_server.specs.Failing.{EndsAs}
+use Rattle.rfb_server.specs.Hints.{hints_in}
+use Rattle.rfb_server.specs.Server.{Serving, ServerState, server}
+use Rattle.rfb_server.specs.Standing.{SessionStandsFor, session_fault, notes_in}
+use Rattle.rfb_server.specs.Told.{ServerTold}
+use Rattle.rfb_server.specs.Updating.{SendsUpdate, OwesNone}
+use Rattle.rfb_viewer.specs.declared.fault.ViewerFault.{ViewerFault}
+use Rattle.rfb_viewer.specs.declared.fault.ViewerFault.TheVariants.{NoMemory as ViewerWants}
+use Rattle.rfb_viewer.specs.declared.viewer.Viewer.{Viewer}
+use Rattle.rfb_viewer.specs.Standing.{picture_of, fault_of}
+use Rattle.rfb_session.specs.declared.event.Event.{Event}
+use Rattle.rfb_session.specs.declared.event.Event.TheVariants.{Request, SetFormat, SetEncodings}
+use Rattle.rfb_session.specs.declared.event.Event.TheVariants.{Key, Pointer, CutText}
+use Rattle.rfb_session.specs.declared.event.Event.TheVariants.{ToServer, ToViewer}
+use Rattle.rfb_session.specs.declared.link.Link.{Link}
+use Rattle.rfb_session.specs.declared.told.Told.{Told}
+use Rattle.rfb_session.specs.Latest.{composing_in}
+use Rattle.rfb_session.specs.EngineRun.{Driven, RunsOn}
+use Rattle.rfb_session.specs.Watching.{ViewerRuns, EndsBy}
+use Rattle.rfb_session.specs.ServeEngine.{ServerAct, Serves, server_sends, updates_composed}
+
+-- ---- calls of the viewer
+
+-- these bytes joined those in flight to the session; of the viewer what it shows is as it was
+pub record OnlySends (old new : Link) (bytes : List ℕ) : Type 0 where
+  pub session : new.session ≡ old.session
+  pub picture : picture_of new.viewer ≡ picture_of old.viewer
+  pub to_server : new.to_server ≡ old.to_server ++ bytes
+  pub to_viewer : new.to_viewer ≡ old.to_viewer
+  pub latest : new.latest ≡ old.latest
+
+-- a call that is not refused sent the bytes of its message, once
+abbrev pub SendsMessage : ClientMessage → Link → Told → Link → Type 0
+SendsMessage message old told new = told.refused ≡ None →
+    (bytes : List ℕ) × SpellsClientMessage message bytes × OnlySends old new bytes
+
+-- ---- bytes that reach the session
+
+-- a session over a screen, as it is run
+abbrev pub session_driven : Grid Colour →
+    Driven Session Serving ServerState ClientAt FromClient ServerFault ServerTold ServerAct
+session_driven screen = record {
+  machine = server;
+  stands = λ serving session s prefix. SessionStandsFor serving screen session s prefix;
+  does = Serves;
+  sends = server_sends;
+  updates = updates_composed;
+}
+
+-- it was fed these bytes, over whatever screen, and those are its answers
+abbrev pub HearsOver : Session → List ℕ → List ℕ → Session → Type 0
+HearsOver old bytes sent new =
+    (screen : Grid Colour) → RunsOn (session_driven screen) old bytes sent 0 new
+
+-- it ended at these bytes, by a fault of theirs; one that had failed before stays as it was
+pub record SessionEndsBy (old : Session) (slice : List ℕ) (new : Session) : Type 0 where
+  pub fault : ServerFault
+  pub fails : session_fault new ≡ Some fault
+  pub has_memory : fault ≢ ServerWants
+  pub ends : EndsAs old slice fault new
+  pub failed : session_fault old ≢ None → new ≡ old
+
+-- the first bytes in flight left the channel. The session was fed them, all or those before the ones
+-- that it ended at, and its answers joined the bytes to the viewer; nothing else has changed
+pub record ReachesSession (old : Link) (count : ℕ) (new : Link) : Type 0 where
+  pub fed : List ℕ
+  pub later : List ℕ
+  pub sent : List ℕ
+  pub last : Session
+  pub bytes_are : take count old.to_server ≡ fed ++ later
+  pub hears : HearsOver old.session fed sent last
+  pub ends : ((later ≡ []) × (new.session ≡ last)) ⊎ SessionEndsBy last later new.session
+  pub gone : new.to_server ≡ drop count old.to_server
+  pub answered : new.to_viewer ≡ old.to_viewer ++ sent
+  pub viewer : new.viewer ≡ old.viewer
+  pub latest : new.latest ≡ old.latest
+
+-- ---- bytes that reach the viewer
+
+-- the same of a viewer
+pub record ViewerEndsBy (old : Viewer) (slice : List ℕ) (new : Viewer) : Type 0 where
+  pub fault : ViewerFault
+  pub has_memory : fault ≢ ViewerWants
+  pub ends : EndsBy fault old slice new
+  pub failed : fault_of old ≢ None → new ≡ old
+
+pub record ReachesViewer (old : Link) (count : ℕ) (new : Link) : Type 0 where
+  pub fed : List ℕ
+  pub later : List ℕ
+  pub sent : List ℕ
+  pub updates : ℕ
+  pub last : Viewer
+  pub bytes_are : take count old.to_viewer ≡ fed ++ later
+  pub watches : ViewerRuns old.viewer fed sent updates last
+  pub ends : ((later ≡ []) × (new.viewer ≡ last)) ⊎ ViewerEndsBy last later new.viewer
+  pub gone : new.to_viewer ≡ drop count old.to_viewer
+  pub answered : new.to_server ≡ old.to_server ++ sent
+  pub session : new.session ≡ old.session
+  pub latest : new.latest ≡ old.latest
+
+-- ---- composing
+
+-- over that screen an update was composed, which joined the bytes to the viewer, and what it answered
+-- is noted; or none was due, and nothing has changed
+pub record ComposesOver (screen : Grid Colour) (old : Link) (told : Told) (new : Link)
+    : Type 0 where
+  pub composed : told.composed ≡ true →
+      SendsUpdate screen old.session new.session old.to_viewer new.to_viewer
+      × (composing_in new.latest ≡ Some (record {
+        screen = screen;
+        area = (notes_in old.session).area;
+        form = (notes_in new.session).form;
+      }))
+  pub idle : told.composed ≡ false →
+      OwesNone screen old.session new.session old.to_viewer new.to_viewer
+      × (composing_in new.latest ≡ composing_in old.latest)
+  pub viewer : new.viewer ≡ old.viewer
+  pub to_server : new.to_server ≡ old.to_server
+
+-- an update that is composed spends all hints, and else none
+pub record SpendsHints (old : Link) (told : Told) (new : Link) : Type 0 where
+  pub spent : told.composed ≡ true → hints_in new.session ≡ []
+  pub kept : told.composed ≡ false → hints_in new.session ≡ hints_in old.session
+
+-- ---- an event
+
+-- what an event of the link alone does
+abbrev pub ActsOnBytes : Link → Event → Told → Link → Type 0
+ActsOnBytes old (Request incremental rect) told new =
+    SendsMessage (FramebufferUpdateRequest incremental rect) old told new
+ActsOnBytes old (SetFormat format) told new = SendsMessage (SetPixelFormat format) old told new
+ActsOnBytes old (SetEncodings encodings) told new =
+    SendsMessage (EncodingsMessage (map (λ encoding. number_of encoding) encodings.items))
+    old told new
+ActsOnBytes old (Key down key) told new = SendsMessage (KeyEvent down key) old told new
+ActsOnBytes old (Pointer buttons x y) told new =
+    SendsMessage (PointerEvent buttons x y) old told new
+ActsOnBytes old (CutText text) told new = SendsMessage (ClientCutText text.items) old told new
+ActsOnBytes old (ToServer count) told new =
+    (told.moved ≡ min (length old.to_server) count) × ReachesSession old told.moved new
+ActsOnBytes old (ToViewer count) told new =
+    (told.moved ≡ min (length old.to_viewer) count) × ReachesViewer old told.moved new
+ActsOnBytes old event told new = Unit {0}

@@ -1,0 +1,137 @@
+//! A link: a session and its viewer, with the bytes in flight between them.
+
+ghost use Rattle.std.specs.Prelude.{◌≡◌, ◌↔◌, ℕ, List, [], None, IfOk, OnOk, OnErr, IsErr};
+ghost use Rattle.std.specs.Prelude.{option_copied};
+ghost use Rattle.rfb_server.specs.Standing.{notes_in};
+ghost use Rattle.rfb_session.specs.inside.Room.{HasRoom};
+
+mod calling;
+mod composing;
+mod delivering;
+
+use crate::channel::Channel;
+use crate::latest::Latest;
+use rfb_picture::{Picture, Rect};
+use rfb_pixel::Colour;
+use rfb_server::{Outside, Session};
+use rfb_viewer::Viewer;
+use std::alloc::{AllocError, Global};
+
+/// A session and its viewer in one process, with the bytes in flight between them each way. The
+/// screen is someone else's: it is lent to compose, and the link is told where it is drawn on. Bytes
+/// arrive when a delivery says so, as many as it says. It keeps, beside that, of what its latest
+/// update was composed. Several links go on side by side over one screen.
+#[derive(Debug, Drop)]
+pub struct Link {
+    session: Session,
+    viewer: Viewer,
+    to_server: Channel,
+    to_viewer: Channel,
+    latest: Latest,
+    ghost room: { HasRoom latest (notes_in session).known.width (notes_in session).known.height },
+}
+
+impl Link {
+    ghost use Rattle.rfb_pixel.specs.declared.colour.Colour.{Colour};
+    ghost use Rattle.rfb_picture.specs.Grid.{Grid, IsGrid, Holds};
+    ghost use Rattle.rfb_codec.specs.Effect.{IsAlike};
+    ghost use Rattle.rfb_server.specs.Standing.{HoldsBoth, KeepsSession};
+    ghost use Rattle.rfb_server.specs.Following.{Follows, IsSameOutside};
+    ghost use Rattle.rfb_server.specs.Hints.{hints_in, with_hint};
+    ghost use Rattle.rfb_session.specs.Link.{Ends, LinkState, first_link};
+    ghost use Rattle.rfb_session.specs.Headline.{due_picture};
+    ghost use Rattle.rfb_session.specs.LinkStanding.{LinkStandsFor, AreNew, shown_on};
+    ghost use Rattle.rfb_session.specs.LinkStanding.{session_of_link, ChangesSession};
+
+    /// A link of two fresh ends: nothing was fed to them. The session's greeting is in flight, RFC
+    /// 6143 section 7.1.1. It asks for the memory of a picture and two areas of the session's size;
+    /// where there is none it gives the error, and nothing is kept.
+    pub fn new(alloc: Global, session: Session, viewer: Viewer) -> Result<Link, AllocError>
+        ensures stands { IfOk result (λ link. (e : Ends) (screen : Grid Colour) →
+            AreNew e session viewer screen → LinkStandsFor e screen link (first_link e)) }
+        ensures session { IfOk result (λ link. session_of_link link ≡ session) }
+    {
+        let (latest, to_viewer) = match opening(alloc, &session) {
+            Ok(begun) => begun,
+            Err(error) => {
+                // By a call each: what a `?` lets go is proved field by field.
+                drop(session);
+                drop(viewer);
+                return Err(error);
+            }
+        };
+        Ok(Link {
+            session,
+            viewer,
+            to_server: Channel::new(alloc),
+            to_viewer,
+            latest,
+        })
+    }
+
+    /// Is told that the screen is to be drawn on inside the rectangle, which lies on it, or was just
+    /// drawn on there.
+    pub fn drawn(&mut self, rect: Rect)
+        requires held { Holds (notes_in (session_of_link self.old)).known rect }
+        ensures follows { (before after : Grid Colour)
+            → Follows before (session_of_link self.old) → IsGrid after
+            → IsSameOutside rect before after → Follows after (session_of_link self.new) }
+        ensures changes { ChangesSession self.old self.new }
+        ensures kept { KeepsSession (session_of_link self.old) (session_of_link self.new) }
+        ensures hints { hints_in (session_of_link self.new) ≡ hints_in (session_of_link self.old) }
+    {
+        self.session.drawn(rect);
+    }
+
+    /// Says that a rectangle looks as another did, as `Session::hint` does.
+    pub fn hint(&mut self, dst: Rect, sx: u16, sy: u16) -> Result<(), Outside>
+        ensures refused { (screen : Grid Colour)
+            → IsAlike screen (notes_in (session_of_link self.old)).known
+            → (IsErr result ↔ (HoldsBoth screen dst sx sy → ⊥)) }
+        ensures same { OnErr result (self.new ≡ self.old) }
+        ensures follows { (screen : Grid Colour) → Follows screen (session_of_link self.old)
+            → Follows screen (session_of_link self.new) }
+        ensures changes { ChangesSession self.old self.new }
+        ensures kept { KeepsSession (session_of_link self.old) (session_of_link self.new) }
+        ensures hints { OnOk result (hints_in (session_of_link self.new)
+            ≡ with_hint (record { to = dst; sx = sx; sy = sy })
+            (hints_in (session_of_link self.old))) }
+    {
+        self.session.hint(dst, sx, sy)
+    }
+
+    /// What the viewer shows, or `None` before there is a screen. Of a rectangle under way it shows
+    /// the pieces that have arrived.
+    pub fn picture(&self) -> Option<&Picture<Colour>>
+        ensures shown { option_copied result ≡ shown_on self.now }
+        // Where nothing is in flight to the viewer, it is what is due.
+        ensures due { (e : Ends) (screen : Grid Colour) (l : LinkState) →
+            LinkStandsFor e screen self.now l → l.to_viewer ≡ [] →
+            option_copied result ≡ due_picture e l }
+    {
+        self.viewer.picture()
+    }
+}
+
+ghost use Rattle.rfb_hello.specs.Version.{version_text};
+ghost use Rattle.rfb_pixel.specs.declared.colour.Colour.{Colour};
+ghost use Rattle.rfb_picture.specs.Grid.{Grid};
+ghost use Rattle.rfb_server.specs.Server.{Serving, ServerState};
+ghost use Rattle.rfb_server.specs.Standing.{SessionStandsFor};
+ghost use Rattle.rfb_session.specs.Latest.{composing_in};
+
+// What a link begins with beside its ends: no composing yet, and the session's greeting in flight.
+fn opening(alloc: Global, session: &Session) -> Result<(Latest, Channel), AllocError>
+    ensures none { IfOk result (λ link. composing_in link.0 ≡ None) }
+    ensures room { IfOk result (λ link. HasRoom link.0
+        (notes_in session.now).known.width (notes_in session.now).known.height) }
+    ensures greeting { IfOk result (λ link. (serving : Serving) (screen : Grid Colour)
+        (s : ServerState) (prefix : List ℕ) → SessionStandsFor serving screen session.now s prefix
+        → link.1 ≡ version_text serving.hello.offer) }
+{
+    let mut to_viewer = Channel::new(alloc);
+    to_viewer.send(&session.greeting())?;
+    let asked = session.asked();
+    let latest = Latest::new(alloc, asked.width(), asked.height())?;
+    Ok((latest, to_viewer))
+}

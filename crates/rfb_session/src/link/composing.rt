@@ -1,0 +1,50 @@
+//! Composings of a link.
+
+ghost use Rattle.std.specs.Prelude.{◌≡◌, IfOk, IsOk, None};
+ghost use Rattle.rfb_session.specs.declared.event.Event.TheVariants.{Compose};
+
+use crate::link::Link;
+use crate::told::{NoMemory, Told};
+use rfb_picture::Picture;
+use rfb_pixel::Colour;
+
+impl Link {
+    ghost use Rattle.rfb_server.specs.Following.{Follows};
+    ghost use Rattle.rfb_session.specs.LinkStanding.{LinkDoesOver, session_of_link};
+    ghost use Rattle.rfb_session.specs.LinkStanding.{ComposesNothingOver};
+    ghost use Rattle.rfb_session.specs.LinkBytes.{ComposesOver, SpendsHints};
+
+    /// The session composes an update of the screen, which it is lent and has to follow, if one is
+    /// due, and it is in flight then. What it was composed of is noted. Memory can be wanting for the
+    /// update.
+    pub fn compose(&mut self, screen: &Picture<Colour>) -> Result<Told, NoMemory>
+        requires follows { Follows screen.now (session_of_link self.old) }
+        ensures bytes { IfOk result (λ told. ComposesOver screen.now self.old told self.new) }
+        ensures does { IfOk result (λ told. LinkDoesOver screen.now self.old Compose told self.new) }
+        ensures hints { IfOk result (λ told. SpendsHints self.old told self.new) }
+        ensures taken { IfOk result (λ told. told.refused ≡ None) }
+        ensures follows { Follows screen.now (session_of_link self.new) }
+        ensures idle { ComposesNothingOver screen.now self.old → IsOk result }
+    {
+        self.latest.begin(self.session.asked());
+        let composed = self.to_viewer.send_update(&mut self.session, screen)?;
+        if !composed {
+            return Ok(told_composed(false));
+        }
+        self.latest.note(screen, self.session.format());
+        Ok(told_composed(true))
+    }
+}
+
+// What is told of a composing.
+fn told_composed(composed: bool) -> Told
+    ensures moved { result.moved ≡ 0 }
+    ensures refused { result.refused ≡ None }
+    ensures composed { result.composed ≡ composed }
+{
+    Told {
+        moved: 0,
+        refused: None,
+        composed,
+    }
+}

@@ -1,0 +1,196 @@
+//! Bytes that arrive at an end of a link.
+
+ghost use Rattle.std.specs.Prelude.{◌≡◌, ◌≢◌, ◌≤◌, ◌<◌, ◌⊎◌, ℕ, length, drop};
+ghost use Rattle.std.specs.Prelude.{true, false, Some, None, IfOk, OnOk, IsOk};
+ghost use Rattle.rfb_viewer.specs.declared.fault.ViewerFault.TheVariants.{NoMemory as ViewerWants};
+ghost use Rattle.rfb_server.specs.declared.fault.ServerFault.TheVariants.{NoMemory as ServerWants};
+ghost use Rattle.rfb_session.specs.declared.event.Event.TheVariants.{ToServer, ToViewer};
+
+use crate::link::Link;
+use crate::reply::{server_reply, viewer_reply};
+use crate::told::{NoMemory, Told};
+use rfb_server::ServerFault;
+use rfb_viewer::ViewerFault;
+
+impl Link {
+    ghost use Rattle.rfb_pixel.specs.declared.colour.Colour.{Colour};
+    ghost use Rattle.rfb_picture.specs.Grid.{Grid};
+    ghost use Rattle.rfb_server.specs.declared.fault.ServerFault.{ServerFault};
+    ghost use Rattle.rfb_server.specs.Following.{Follows};
+    ghost use Rattle.rfb_server.specs.Hints.{hints_in};
+    ghost use Rattle.rfb_viewer.specs.declared.fault.ViewerFault.{ViewerFault};
+    ghost use Rattle.rfb_session.specs.LinkStanding.{LinkDoes, session_of_link};
+    ghost use Rattle.rfb_session.specs.LinkStanding.{server_fault_of, viewer_fault_of};
+    ghost use Rattle.rfb_session.specs.LinkStanding.{LosesToViewer, LosesToServer};
+    ghost use Rattle.rfb_session.specs.LinkStanding.{LosesOn, IsLostOn, FollowsStill};
+    ghost use Rattle.rfb_session.specs.LinkBytes.{ActsOnBytes};
+    ghost use Rattle.rfb_session.specs.inside.Delivering.{DeliversToViewer, DeliversToServer};
+    ghost use Rattle.rfb_session.specs.inside.Delivering.{HasHeard, EndsHearing};
+    ghost use Rattle.rfb_session.specs.inside.Delivering.{HasWatched, EndsWatching};
+
+    /// Bytes reach the session, at most so many, or all that are in flight to it. Its answers are in
+    /// flight then. One that has failed takes them to no effect. Memory can be wanting for answers,
+    /// and for a text that the session keeps.
+    pub fn move_to_server(&mut self, count: u32) -> Result<Told, NoMemory>
+        ensures bytes { IfOk result (λ told. ActsOnBytes self.old (ToServer count) told self.new) }
+        ensures does { IfOk result (λ told. LinkDoes self.old (ToServer count) told self.new) }
+        ensures lost { IfOk result (λ told. LosesOn self.old (ToServer count) told self.new) }
+        ensures dropped { IsLostOn self.old (ToServer count) → IsOk result }
+        ensures taken { IfOk result (λ told. told.refused ≡ None) }
+        ensures follows { FollowsStill self.old self.new }
+        ensures hints { hints_in (session_of_link self.new) ≡ hints_in (session_of_link self.old) }
+    {
+        let moved = self.to_server.len().min(count as usize);
+        self.deliver_to_server(moved)?;
+        Ok(told_moved(moved as u32))
+    }
+
+    /// Bytes reach the viewer, at most so many, or all that are in flight to it. Its answers are in
+    /// flight then. One that has failed takes them to no effect. Memory can be wanting for answers,
+    /// for the viewer's screen, and for a text that it keeps.
+    pub fn move_to_viewer(&mut self, count: u32) -> Result<Told, NoMemory>
+        ensures bytes { IfOk result (λ told. ActsOnBytes self.old (ToViewer count) told self.new) }
+        ensures does { IfOk result (λ told. LinkDoes self.old (ToViewer count) told self.new) }
+        ensures lost { IfOk result (λ told. LosesOn self.old (ToViewer count) told self.new) }
+        ensures dropped { IsLostOn self.old (ToViewer count) → IsOk result }
+        ensures taken { IfOk result (λ told. told.refused ≡ None) }
+        ensures session { session_of_link self.new ≡ session_of_link self.old }
+    {
+        let moved = self.to_viewer.len().min(count as usize);
+        self.deliver_to_viewer(moved)?;
+        Ok(told_moved(moved as u32))
+    }
+
+    // So many bytes reach the viewer, of those in flight to it.
+    fn deliver_to_viewer(&mut self, count: usize) -> Result<(), NoMemory>
+        requires { count ≤ length self.old.to_viewer }
+        ensures reached { OnOk result
+            (HasWatched self.old count self.new ⊎ EndsWatching self.old count self.new) }
+        ensures delivered { OnOk result (DeliversToViewer self.old count self.new) }
+        ensures lost { (fault : ViewerFault) → viewer_fault_of self.old ≡ Some fault →
+            OnOk result (LosesToViewer self.old count self.new) }
+        ensures dropped { (fault : ViewerFault) → viewer_fault_of self.old ≡ Some fault →
+            fault ≢ ViewerWants → IsOk result }
+        ensures session { session_of_link self.new ≡ session_of_link self.old }
+    {
+        let mut left = count;
+        while left > 0 {
+            left -= self.feed_viewer(left)?;
+        }
+        Ok(())
+    }
+
+    // Feeds the viewer of so many bytes what it takes at once, and sends what it answers. One that
+    // has failed takes them all, to no effect.
+    fn feed_viewer(&mut self, count: usize) -> Result<usize, NoMemory>
+        requires some { 0 < count }
+        requires within { count ≤ length self.old.to_viewer }
+        ensures used { IfOk result (λ used. (0 < used) × (used ≤ count)) }
+        ensures left { IfOk result (λ used. self.new.to_viewer ≡ drop used self.old.to_viewer) }
+        ensures reached { IfOk result (λ used. HasWatched self.old used self.new
+            ⊎ ((used ≡ count) × EndsWatching self.old count self.new)) }
+        ensures delivered { IfOk result (λ used. DeliversToViewer self.old used self.new) }
+        ensures lost { (fault : ViewerFault) → viewer_fault_of self.old ≡ Some fault →
+            IfOk result (λ used. LosesToViewer self.old used self.new) }
+        ensures dropped { (fault : ViewerFault) → viewer_fault_of self.old ≡ Some fault →
+            fault ≢ ViewerWants → IsOk result }
+        ensures session { session_of_link self.new ≡ session_of_link self.old }
+    {
+        match self.viewer.feed(self.to_viewer.first(count)) {
+            Ok(fed) => {
+                self.to_server.send(viewer_reply(&fed.event))?;
+                self.to_viewer.arrive(fed.used);
+                Ok(fed.used)
+            }
+            Err(fault) => {
+                if viewer_wants_memory(fault) {
+                    return Err(NoMemory);
+                }
+                self.to_viewer.arrive(count);
+                Ok(count)
+            }
+        }
+    }
+
+    // So many bytes reach the session, of those in flight to it.
+    fn deliver_to_server(&mut self, count: usize) -> Result<(), NoMemory>
+        requires { count ≤ length self.old.to_server }
+        ensures reached { OnOk result
+            (HasHeard self.old count self.new ⊎ EndsHearing self.old count self.new) }
+        ensures delivered { OnOk result (DeliversToServer self.old count self.new) }
+        ensures lost { (fault : ServerFault) → server_fault_of self.old ≡ Some fault →
+            OnOk result (LosesToServer self.old count self.new) }
+        ensures dropped { (fault : ServerFault) → server_fault_of self.old ≡ Some fault →
+            fault ≢ ServerWants → IsOk result }
+        ensures follows { FollowsStill self.old self.new }
+        ensures hints { hints_in (session_of_link self.new) ≡ hints_in (session_of_link self.old) }
+    {
+        let mut left = count;
+        while left > 0 {
+            left -= self.feed_server(left)?;
+        }
+        Ok(())
+    }
+
+    // Feeds the session of so many bytes what it takes at once, and sends what it answers. One that
+    // has failed takes them all, to no effect.
+    fn feed_server(&mut self, count: usize) -> Result<usize, NoMemory>
+        requires some { 0 < count }
+        requires within { count ≤ length self.old.to_server }
+        ensures used { IfOk result (λ used. (0 < used) × (used ≤ count)) }
+        ensures left { IfOk result (λ used. self.new.to_server ≡ drop used self.old.to_server) }
+        ensures reached { IfOk result (λ used. HasHeard self.old used self.new
+            ⊎ ((used ≡ count) × EndsHearing self.old count self.new)) }
+        ensures delivered { IfOk result (λ used. DeliversToServer self.old used self.new) }
+        ensures lost { (fault : ServerFault) → server_fault_of self.old ≡ Some fault →
+            IfOk result (λ used. LosesToServer self.old used self.new) }
+        ensures dropped { (fault : ServerFault) → server_fault_of self.old ≡ Some fault →
+            fault ≢ ServerWants → IsOk result }
+        ensures follows { FollowsStill self.old self.new }
+        ensures hints { hints_in (session_of_link self.new) ≡ hints_in (session_of_link self.old) }
+    {
+        match self.session.feed(self.to_server.first(count)) {
+            Ok(fed) => {
+                self.to_viewer.send(server_reply(&fed.event))?;
+                self.to_server.arrive(fed.used);
+                Ok(fed.used)
+            }
+            Err(fault) => {
+                if server_wants_memory(fault) {
+                    return Err(NoMemory);
+                }
+                self.to_server.arrive(count);
+                Ok(count)
+            }
+        }
+    }
+}
+
+// What is told where so many bytes were moved, and else nothing happened.
+fn told_moved(moved: u32) -> Told
+    ensures moved { result.moved ≡ moved }
+    ensures refused { result.refused ≡ None }
+    ensures composed { result.composed ≡ false }
+{
+    Told {
+        moved,
+        refused: None,
+        composed: false,
+    }
+}
+
+// Whether it is want of memory that the viewer has failed with.
+fn viewer_wants_memory(fault: ViewerFault) -> bool
+    ensures wants { result ≡ true → fault ≡ ViewerWants }
+    ensures other { result ≡ false → fault ≢ ViewerWants }
+{
+    matches!(fault, ViewerFault::NoMemory)
+}
+
+// Whether it is want of memory that the server has failed with.
+fn server_wants_memory(fault: ServerFault) -> bool
+    ensures wants { result ≡ true → fault ≡ ServerWants }
+    ensures other { result ≡ false → fault ≢ ServerWants }
+{
+    matches!(fault, ServerFault::NoMemory)
+}
