@@ -44,6 +44,13 @@ pub record LinkStandsFor (e : Ends) (screen : Grid Colour) (link : Link) (l : Li
 abbrev pub session_of_link : Link → Session
 session_of_link link = link.session
 
+-- the bytes in flight to its ends
+abbrev pub to_server_on : Link → List ℕ
+to_server_on link = link.to_server
+
+abbrev pub to_viewer_on : Link → List ℕ
+to_viewer_on link = link.to_viewer
+
 -- the faults that its ends have failed with, if they have
 abbrev pub server_fault_of : Link → Option ServerFault
 server_fault_of link = session_fault link.session

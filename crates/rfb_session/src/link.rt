@@ -1,6 +1,6 @@
 //! A link: a session and its viewer, with the bytes in flight between them.
 
-ghost use Rattle.std.specs.Prelude.{◌≡◌, ◌↔◌, ℕ, List, [], None, IfOk, OnOk, OnErr, IsErr};
+ghost use Rattle.std.specs.Prelude.{◌≡◌, ◌↔◌, ℕ, List, [], length, None, IfOk, OnOk, OnErr, IsErr};
 ghost use Rattle.std.specs.Prelude.{option_copied};
 ghost use Rattle.rfb_server.specs.Standing.{notes_in};
 ghost use Rattle.rfb_session.specs.inside.Room.{HasRoom};
@@ -42,6 +42,7 @@ impl Link {
     ghost use Rattle.rfb_session.specs.Headline.{due_picture};
     ghost use Rattle.rfb_session.specs.LinkStanding.{LinkStandsFor, AreNew, shown_on};
     ghost use Rattle.rfb_session.specs.LinkStanding.{session_of_link, ChangesSession};
+    ghost use Rattle.rfb_session.specs.LinkStanding.{to_server_on, to_viewer_on};
 
     /// A link of two fresh ends: nothing was fed to them. The session's greeting is in flight, RFC
     /// 6143 section 7.1.1. It asks for the memory of a picture and two areas of the session's size;
@@ -98,6 +99,20 @@ impl Link {
             (hints_in (session_of_link self.old))) }
     {
         self.session.hint(dst, sx, sy)
+    }
+
+    /// How many bytes are in flight to the session.
+    pub fn in_flight_to_server(&self) -> usize
+        ensures { result ≡ length (to_server_on self.now) }
+    {
+        self.to_server.len()
+    }
+
+    /// How many bytes are in flight to the viewer.
+    pub fn in_flight_to_viewer(&self) -> usize
+        ensures { result ≡ length (to_viewer_on self.now) }
+    {
+        self.to_viewer.len()
     }
 
     /// What the viewer shows, or `None` before there is a screen. Of a rectangle under way it shows

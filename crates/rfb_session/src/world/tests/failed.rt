@@ -27,7 +27,12 @@ fn viewer_of(alloc: Global) -> Viewer {
 fn moves(world: &mut World) -> [usize; 4] {
     let viewer = to_viewer(world, ALL) as usize;
     let server = to_server(world, ALL) as usize;
-    [viewer, server, world.to_viewer.len(), world.to_server.len()]
+    [
+        viewer,
+        server,
+        world.link.in_flight_to_viewer(),
+        world.link.in_flight_to_server(),
+    ]
 }
 
 // A world whose viewer was fed no version, and whether that failed.

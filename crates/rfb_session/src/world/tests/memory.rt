@@ -65,7 +65,7 @@ fn is_whole_or_closed(world: &mut World, text: &Event) -> bool {
             return is_closed(world);
         }
     }
-    shown(world, 0) == Some(ORANGE_OF_888) && world.to_server.len() == 0
+    shown(world, 0) == Some(ORANGE_OF_888) && world.link.in_flight_to_server() == 0
 }
 
 fn ends_whole_or_closed(alloc: Global) -> Result<bool, AllocError> {

@@ -9,7 +9,7 @@ use std::alloc::{AllocError, Global};
 
 // Whether both answer an event alike, and are alike behind it.
 fn is_alike(world: &mut World, plain: &mut Plain, event: &Event) -> Result<bool, AllocError> {
-    let before = world.to_viewer.len();
+    let before = world.link.in_flight_to_viewer();
     let Some(told) = step(world, event) else {
         return Ok(false);
     };
@@ -18,14 +18,14 @@ fn is_alike(world: &mut World, plain: &mut Plain, event: &Event) -> Result<bool,
     let composed = plain.compose(
         event,
         told.composed,
-        world.to_viewer.len().saturating_sub(before),
+        world.link.in_flight_to_viewer().saturating_sub(before),
     )?;
     Ok(
         told.refused == refused
             && told.moved == moved
             && composed
-            && world.to_server.len() == plain.to_server.len()
-            && world.to_viewer.len() == plain.to_viewer.len()
+            && world.link.in_flight_to_server() == plain.to_server.len()
+            && world.link.in_flight_to_viewer() == plain.to_viewer.len()
             && plain.shows(world.picture()),
     )
 }
