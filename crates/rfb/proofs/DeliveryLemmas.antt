@@ -131,8 +131,9 @@ pub heard_then : (old mid new : Server) (bytes more before between after : List 
 heard_then old mid new bytes more before between after one two =
     let whole : take (length more) more ≡ more = take_all (length more) more (omega arith) in
     let two_taken : IsAnswered mid (take (length more) more) (Some between) (Some after) new = rw whole two in
+    let none : length more - length more ≡ 0 = omega arith in
     let rest : take (length more - length more) (drop (length more) more) ≡ [] =
-    ap (λ (n : ℕ). take n (drop (length more) more)) (omega arith) in
+    ap (λ (n : ℕ). take n (drop (length more) more)) none in
     heard_all old (bytes ++ more) _ (Some before) (Some after) new
     (heard_more old (bytes ++ more) more (Some before) (Some between) (Some after) mid (length more) new (heard_first old mid bytes more before between one) two_taken)
     rest

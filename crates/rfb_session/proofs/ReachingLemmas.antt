@@ -1,5 +1,5 @@
 -- Bytes that reach the ends of a link, as runs of these ends.
-use Rattle.std.proofs.Common.{◌≡◌, ℕ, ◌+◌, ◌-◌, ◌≤◌, ◌<◌, List, [], ◌++◌, length, take, drop, drop-drop, Option, None, Some, ◌⊎◌, inl, inr, refl, sym, ap, ◌∙◌, subst, append-nil, append_assoc, arith}
+use Rattle.std.proofs.Common.{◌≡◌, ℕ, ◌+◌, ◌-◌, ◌≤◌, ◌<◌, Bool, true, false, ◌||◌, List, [], ◌++◌, length, take, drop, drop-drop, Option, None, Some, ◌⊎◌, inl, inr, refl, sym, ap, ◌∙◌, subst, append-nil, append_assoc, arith}
 use Rattle.std.proofs.Math.Seq.{take-add}
 use Rattle.rfb_pixel.specs.declared.colour.Colour.{Colour}
 use Rattle.rfb_picture.specs.Grid.{Grid}
@@ -12,19 +12,31 @@ use Rattle.rfb_viewer.specs.Standing.{StandsFor as ViewerStandsFor}
 use Rattle.rfb_viewer.specs.Told.{ViewerTold}
 use Rattle.rfb_session.specs.declared.link.Link.{Link}
 use Rattle.rfb_session.specs.InFlight.{viewer_reply, server_reply}
-use Rattle.rfb_session.specs.LinkBytes.{session_driven, HearsOver, SessionEndsBy, ReachesSession, ViewerEndsBy, ReachesViewer}
+use Rattle.rfb_session.specs.LinkBytes.{session_driven, IsSole, sole_told, HearsOver, SessionEndsBy, ReachesSession, TellsSole, ViewerEndsBy, ReachesViewer}
 use Rattle.rfb_session.specs.Watching.{viewer_driven, ViewerRuns, ends_told}
 use Rattle.rfb_session.specs.inside.Delivering.{HasHeard, EndsHearing, HasWatched, EndsWatching}
 use Rattle.rfb_session.proofs.EngineRunLemmas.{ran_none, ran_fed, ran_then}
 use Rattle.rfb_session.proofs.DeliveringLemmas.{fed_first}
 
+-- ---- whether a client asks for the screen alone
+
+never_sole : IsSole false 0
+never_sole = record { some = λ e. cc; none = λ e. refl }
+
+sole_sum : (p q : Bool) (m n : ℕ) → IsSole p m → IsSole q n → IsSole (p || q) (m + n)
+sole_sum true q m n one two = record { some = λ e. omega (arith, one.some refl); none = λ e. cc }
+sole_sum false true m n one two = record { some = λ e. omega (arith, two.some refl); none = λ e. cc }
+sole_sum false false m n one two = record { some = λ e. cc; none = λ e. omega (arith, one.none refl, two.none refl) }
+
 -- ---- the session
 
 -- no bytes
-pub heard_none : (w : Link) → HasHeard w 0 w
+pub heard_none : (w : Link) → HasHeard w 0 false w
 heard_none w = record {
   sent = [];
+  soles = 0;
   hears = λ screen. ran_none (session_driven screen) w.session;
+  asked = never_sole;
   gone = refl;
   answered = sym (append-nil w.to_viewer);
   viewer = refl;
@@ -32,17 +44,19 @@ heard_none w = record {
 }
 
 -- one call
-pub heard_once : (old new : Link) (bytes : List ℕ) (count used : ℕ) (event : Option ServerTold) →
+pub heard_once : (old new : Link) (bytes : List ℕ) (count used : ℕ) (sole : Bool) (event : Option ServerTold) →
     count ≤ length old.to_server → bytes ≡ take count old.to_server → used ≤ length bytes →
     ((serving : Serving) (screen : Grid Colour) → FedBy (server serving) (SessionStandsFor serving screen)
     old.session (take used bytes) event new.session) →
     new.viewer ≡ old.viewer → new.to_server ≡ drop used old.to_server →
-    new.to_viewer ≡ old.to_viewer ++ server_reply event → new.latest ≡ old.latest → HasHeard old used new
-heard_once old new bytes count used event few is some fed same gets sends latest =
+    new.to_viewer ≡ old.to_viewer ++ server_reply event → new.latest ≡ old.latest → IsSole sole (sole_told event) → HasHeard old used sole new
+heard_once old new bytes count used sole event few is some fed same gets sends latest asked =
     let part = fed_first old.to_server bytes count used few is some in
     record {
       sent = server_reply event;
-      hears = subst (λ (b : List ℕ). HearsOver old.session b (server_reply event) new.session) part.1
+      soles = sole_told event;
+      asked = asked;
+      hears = subst (λ (b : List ℕ). HearsOver old.session b (server_reply event) (sole_told event) new.session) part.1
           (λ screen. ran_fed (session_driven screen) old.session new.session (take used bytes) event (λ serving. fed serving screen));
       gone = gets;
       answered = sends;
@@ -51,12 +65,14 @@ heard_once old new bytes count used event few is some fed same gets sends latest
     }
 
 -- some, and then some more
-pub heard_more : (a b c : Link) (k j : ℕ) → HasHeard a k b → HasHeard b j c → HasHeard a (k + j) c
-heard_more a b c k j one two = record {
+pub heard_more : (a b c : Link) (k j : ℕ) (p q : Bool) → HasHeard a k p b → HasHeard b j q c → HasHeard a (k + j) (p || q) c
+heard_more a b c k j p q one two = record {
   sent = one.sent ++ two.sent;
-  hears = subst (λ (bytes : List ℕ). HearsOver a.session bytes (one.sent ++ two.sent) c.session)
+  soles = one.soles + two.soles;
+  asked = sole_sum p q one.soles two.soles one.asked two.asked;
+  hears = subst (λ (bytes : List ℕ). HearsOver a.session bytes (one.sent ++ two.sent) (one.soles + two.soles) c.session)
       (sym (take-add k j a.to_server ∙ ap (λ (rest : List ℕ). take k a.to_server ++ take j rest) (sym one.gone)))
-      (λ screen. ran_then (session_driven screen) a.session b.session c.session (take k a.to_server) one.sent (take j b.to_server) two.sent 0 0 (one.hears screen) (two.hears screen));
+      (λ screen. ran_then (session_driven screen) a.session b.session c.session (take k a.to_server) one.sent (take j b.to_server) two.sent one.soles two.soles (one.hears screen) (two.hears screen));
   gone = two.gone ∙ ap (λ (rest : List ℕ). drop j rest) one.gone ∙ drop-drop j k a.to_server;
   answered = two.answered ∙ ap (λ (l : List ℕ). l ++ two.sent) one.answered ∙ append_assoc a.to_viewer one.sent two.sent;
   viewer = two.viewer ∙ one.viewer;
@@ -64,17 +80,19 @@ heard_more a b c k j one two = record {
 }
 
 -- some, and then it ends
-pub heard_ends : (a b c : Link) (k j : ℕ) → HasHeard a k b → EndsHearing b j c → EndsHearing a (k + j) c
-heard_ends a b c k j one two = record {
+pub heard_ends : (a b c : Link) (k j : ℕ) (p q : Bool) → HasHeard a k p b → EndsHearing b j q c → EndsHearing a (k + j) (p || q) c
+heard_ends a b c k j p q one two = record {
   fed = take k a.to_server ++ two.fed;
   later = two.later;
   sent = one.sent ++ two.sent;
+  soles = one.soles + two.soles;
+  asked = sole_sum p q one.soles two.soles one.asked two.asked;
   last = two.last;
   bytes_are = take-add k j a.to_server
       ∙ ap (λ (rest : List ℕ). take k a.to_server ++ take j rest) (sym one.gone)
       ∙ ap (λ (rest : List ℕ). take k a.to_server ++ rest) two.bytes_are
       ∙ sym (append_assoc (take k a.to_server) two.fed two.later);
-  hears = λ screen. ran_then (session_driven screen) a.session b.session two.last (take k a.to_server) one.sent two.fed two.sent 0 0 (one.hears screen) (two.hears screen);
+  hears = λ screen. ran_then (session_driven screen) a.session b.session two.last (take k a.to_server) one.sent two.fed two.sent one.soles two.soles (one.hears screen) (two.hears screen);
   ends = two.ends;
   gone = two.gone ∙ ap (λ (rest : List ℕ). drop j rest) one.gone ∙ drop-drop j k a.to_server;
   answered = two.answered ∙ ap (λ (l : List ℕ). l ++ two.sent) one.answered ∙ append_assoc a.to_viewer one.sent two.sent;
@@ -86,11 +104,13 @@ heard_ends a b c k j one two = record {
 pub heard_last : (old new : Link) (bytes : List ℕ) (count : ℕ) → bytes ≡ take count old.to_server →
     SessionEndsBy old.session bytes new.session → new.viewer ≡ old.viewer →
     new.to_server ≡ drop count old.to_server → new.to_viewer ≡ old.to_viewer → new.latest ≡ old.latest →
-    EndsHearing old count new
+    EndsHearing old count false new
 heard_last old new bytes count is ends same gets sends latest = record {
   fed = [];
   later = bytes;
   sent = [];
+  soles = 0;
+  asked = never_sole;
   last = old.session;
   bytes_are = sym is;
   hears = λ screen. ran_none (session_driven screen) old.session;
@@ -102,12 +122,13 @@ heard_last old new bytes count is ends same gets sends latest = record {
 }
 
 -- what reached it, either way
-pub heard_reaches : (old new : Link) (count : ℕ) →
-    HasHeard old count new ⊎ EndsHearing old count new → ReachesSession old count new
-heard_reaches old new count (inl all) = record {
+pub heard_reaches : (old new : Link) (count : ℕ) (sole : Bool) →
+    HasHeard old count sole new ⊎ EndsHearing old count sole new → ReachesSession old count new
+heard_reaches old new count sole (inl all) = record {
   fed = take count old.to_server;
   later = [];
   sent = all.sent;
+  soles = all.soles;
   last = new.session;
   bytes_are = sym (append-nil (take count old.to_server));
   hears = all.hears;
@@ -117,10 +138,11 @@ heard_reaches old new count (inl all) = record {
   viewer = all.viewer;
   latest = all.latest;
 }
-heard_reaches old new count (inr ended) = record {
+heard_reaches old new count sole (inr ended) = record {
   fed = ended.fed;
   later = ended.later;
   sent = ended.sent;
+  soles = ended.soles;
   last = ended.last;
   bytes_are = ended.bytes_are;
   hears = ended.hears;
@@ -132,23 +154,23 @@ heard_reaches old new count (inr ended) = record {
 }
 
 -- calls so far that left some, and one more: it goes on, or it ended at the last
-pub heard_goes_on : (a b c : Link) (used left all : ℕ) → 0 < used → used ≤ left → left ≤ all →
-    HasHeard a (all - left) b ⊎ ((left ≡ 0) × EndsHearing a all b) →
-    HasHeard b used c ⊎ ((used ≡ left) × EndsHearing b left c) →
-    HasHeard a (all - (left - used)) c ⊎ ((left - used ≡ 0) × EndsHearing a all c)
-heard_goes_on a b c used left all some part within (inr (none, ended)) two = absurd (omega (arith, some, part, none))
-heard_goes_on a b c used left all some part within (inl one) (inl two) =
+pub heard_goes_on : (a b c : Link) (used left all : ℕ) (p q : Bool) → 0 < used → used ≤ left → left ≤ all →
+    HasHeard a (all - left) p b ⊎ ((left ≡ 0) × EndsHearing a all p b) →
+    HasHeard b used q c ⊎ ((used ≡ left) × EndsHearing b left q c) →
+    HasHeard a (all - (left - used)) (p || q) c ⊎ ((left - used ≡ 0) × EndsHearing a all (p || q) c)
+heard_goes_on a b c used left all p q some part within (inr (none, ended)) two = absurd (omega (arith, some, part, none))
+heard_goes_on a b c used left all p q some part within (inl one) (inl two) =
     let sum : (all - left) + used ≡ all - (left - used) = omega (arith, part, within) in
-    inl (subst (λ (n : ℕ). HasHeard a n c) sum (heard_more a b c (all - left) used one two))
-heard_goes_on a b c used left all some part within (inl one) (inr (whole, two)) =
+    inl (subst (λ (n : ℕ). HasHeard a n (p || q) c) sum (heard_more a b c (all - left) used p q one two))
+heard_goes_on a b c used left all p q some part within (inl one) (inr (whole, two)) =
     let sum : (all - left) + left ≡ all = omega (arith, within) in
-    inr (omega (arith, whole), subst (λ (n : ℕ). EndsHearing a n c) sum (heard_ends a b c (all - left) left one two))
+    inr (omega (arith, whole), subst (λ (n : ℕ). EndsHearing a n (p || q) c) sum (heard_ends a b c (all - left) left p q one two))
 
 -- all calls
-pub heard_done : (a b : Link) (left all : ℕ) → all - left ≡ all →
-    HasHeard a (all - left) b ⊎ ((left ≡ 0) × EndsHearing a all b) → HasHeard a all b ⊎ EndsHearing a all b
-heard_done a b left all is (inl one) = inl (subst (λ (n : ℕ). HasHeard a n b) is one)
-heard_done a b left all is (inr (none, ended)) = inr ended
+pub heard_done : (a b : Link) (left all : ℕ) (sole : Bool) → all - left ≡ all →
+    HasHeard a (all - left) sole b ⊎ ((left ≡ 0) × EndsHearing a all sole b) → HasHeard a all sole b ⊎ EndsHearing a all sole b
+heard_done a b left all sole is (inl one) = inl (subst (λ (n : ℕ). HasHeard a n sole b) is one)
+heard_done a b left all sole is (inr (none, ended)) = inr ended
 
 -- ---- the viewer
 
@@ -288,6 +310,13 @@ pub watched_done : (a b : Link) (left all : ℕ) → all - left ≡ all →
     HasWatched a (all - left) b ⊎ ((left ≡ 0) × EndsWatching a all b) → HasWatched a all b ⊎ EndsWatching a all b
 watched_done a b left all is (inl one) = inl (subst (λ (n : ℕ). HasWatched a n b) is one)
 watched_done a b left all is (inr (none, ended)) = inr ended
+
+-- of what reached the session, whether its client asked for the screen alone
+pub heard_tells : (old new : Link) (count : ℕ) (sole : Bool) →
+    HasHeard old count sole new ⊎ EndsHearing old count sole new → TellsSole old count sole new
+unfolding heard_reaches
+heard_tells old new count sole (inl all) = (heard_reaches old new count sole (inl all), all.asked)
+heard_tells old new count sole (inr ended) = (heard_reaches old new count sole (inr ended), ended.asked)
 
 -- ---- what is there
 

@@ -1,5 +1,5 @@
 -- What the calls of a `Link` do to its bytes and its ends, whatever these are and stand for.
-use Rattle.std.specs.Prelude.{◌≡◌, ◌≢◌, ◌⊎◌, ℕ, min, true, false, List, [], ◌++◌, map, length, take, drop}
+use Rattle.std.specs.Prelude.{◌≡◌, ◌≢◌, ◌⊎◌, ℕ, ◌<◌, min, Bool, true, false, List, [], ◌++◌, map, length, take, drop}
 use Rattle.std.specs.Prelude.{Option, None, Some}
 use Rattle.rfb_pixel.specs.declared.colour.Colour.{Colour}
 use Rattle.rfb_picture.specs.Grid.{Grid}
@@ -15,7 +15,8 @@ use Rattle.rfb_server.specs.Failing.{EndsAs}
 use Rattle.rfb_server.specs.Hints.{hints_in}
 use Rattle.rfb_server.specs.Server.{Serving, ServerState, server}
 use Rattle.rfb_server.specs.Standing.{SessionStandsFor, session_fault, notes_in}
-use Rattle.rfb_server.specs.Told.{ServerTold}
+use Rattle.rfb_server.specs.Told.{ServerTold, Reply, Ready, Key as KeyTold}
+use Rattle.rfb_server.specs.Told.{Pointer as PointerTold, CutText as TextTold}
 use Rattle.rfb_server.specs.Updating.{SendsUpdate, OwesNone}
 use Rattle.rfb_viewer.specs.declared.fault.ViewerFault.{ViewerFault}
 use Rattle.rfb_viewer.specs.declared.fault.ViewerFault.TheVariants.{NoMemory as ViewerWants}
@@ -28,9 +29,9 @@ use Rattle.rfb_session.specs.declared.event.Event.TheVariants.{ToServer, ToViewe
 use Rattle.rfb_session.specs.declared.link.Link.{Link}
 use Rattle.rfb_session.specs.declared.told.Told.{Told}
 use Rattle.rfb_session.specs.Latest.{composing_in}
-use Rattle.rfb_session.specs.EngineRun.{Driven, RunsOn}
+use Rattle.rfb_session.specs.EngineRun.{Step, Fed, Did, Driven, RunsOn}
 use Rattle.rfb_session.specs.Watching.{ViewerRuns, EndsBy}
-use Rattle.rfb_session.specs.ServeEngine.{ServerAct, Serves, server_sends, updates_composed}
+use Rattle.rfb_session.specs.ServeEngine.{ServerAct, Serves, server_sends}
 
 -- ---- calls of the viewer
 
@@ -49,6 +50,26 @@ SendsMessage message old told new = told.refused ≡ None →
 
 -- ---- bytes that reach the session
 
+-- how often a client that is told of so asks for the screen alone: once, by a ClientInit with
+-- shared-flag 0, RFC 6143 section 7.3.1
+abbrev pub sole_told : Option ServerTold → ℕ
+sole_told None = 0
+sole_told (Some (Reply bytes)) = 0
+sole_told (Some (Ready bytes true)) = 0
+sole_told (Some (Ready bytes false)) = 1
+sole_told (Some (KeyTold down key)) = 0
+sole_told (Some (PointerTold buttons x y)) = 0
+sole_told (Some (TextTold kept text_length)) = 0
+
+abbrev pub soles_in : Step ServerTold ServerAct → ℕ
+soles_in (Fed bytes event) = sole_told event
+soles_in (Did act) = 0
+
+-- whether it did at all
+pub record IsSole (sole : Bool) (soles : ℕ) : Type 0 where
+  pub some : sole ≡ true → 0 < soles
+  pub none : sole ≡ false → soles ≡ 0
+
 -- a session over a screen, as it is run
 abbrev pub session_driven : Grid Colour →
     Driven Session Serving ServerState ClientAt FromClient ServerFault ServerTold ServerAct
@@ -57,13 +78,14 @@ session_driven screen = record {
   stands = λ serving session s prefix. SessionStandsFor serving screen session s prefix;
   does = Serves;
   sends = server_sends;
-  updates = updates_composed;
+  updates = soles_in;
 }
 
--- it was fed these bytes, over whatever screen, and those are its answers
-abbrev pub HearsOver : Session → List ℕ → List ℕ → Session → Type 0
-HearsOver old bytes sent new =
-    (screen : Grid Colour) → RunsOn (session_driven screen) old bytes sent 0 new
+-- it was fed these bytes, over whatever screen; those are its answers, and so often its client asked
+-- for the screen alone
+abbrev pub HearsOver : Session → List ℕ → List ℕ → ℕ → Session → Type 0
+HearsOver old bytes sent soles new =
+    (screen : Grid Colour) → RunsOn (session_driven screen) old bytes sent soles new
 
 -- it ended at these bytes, by a fault of theirs; one that had failed before stays as it was
 pub record SessionEndsBy (old : Session) (slice : List ℕ) (new : Session) : Type 0 where
@@ -79,14 +101,19 @@ pub record ReachesSession (old : Link) (count : ℕ) (new : Link) : Type 0 where
   pub fed : List ℕ
   pub later : List ℕ
   pub sent : List ℕ
+  pub soles : ℕ
   pub last : Session
   pub bytes_are : take count old.to_server ≡ fed ++ later
-  pub hears : HearsOver old.session fed sent last
+  pub hears : HearsOver old.session fed sent soles last
   pub ends : ((later ≡ []) × (new.session ≡ last)) ⊎ SessionEndsBy last later new.session
   pub gone : new.to_server ≡ drop count old.to_server
   pub answered : new.to_viewer ≡ old.to_viewer ++ sent
   pub viewer : new.viewer ≡ old.viewer
   pub latest : new.latest ≡ old.latest
+
+-- of bytes that reached it, whether its client asked for the screen alone among them
+abbrev pub TellsSole : Link → ℕ → Bool → Link → Type 0
+TellsSole old count sole new = (r : ReachesSession old count new) × IsSole sole r.soles
 
 -- ---- bytes that reach the viewer
 

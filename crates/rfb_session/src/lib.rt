@@ -22,5 +22,5 @@ pub use engine::{
 };
 pub use event::Event;
 pub use link::Link;
-pub use told::{NoMemory, Refused, Told};
+pub use told::{Delivery, NoMemory, Refused, Told};
 pub use world::World;

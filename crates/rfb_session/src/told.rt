@@ -31,6 +31,15 @@ pub struct Told {
     pub composed: bool,
 }
 
+/// What became of a delivery to a session.
+#[derive(Clone, Copy, Debug, PartialEq, Eq)]
+pub struct Delivery {
+    pub told: Told,
+    /// Whether the client asked for the screen alone among the bytes: its ClientInit, RFC 6143
+    /// section 7.3.1, has shared-flag 0.
+    pub sole: bool,
+}
+
 /// There is no memory. The world is closed.
 #[derive(Clone, Copy, Debug, PartialEq, Eq, Error)]
 #[error("30 NoMemory")]

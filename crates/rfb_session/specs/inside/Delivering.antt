@@ -1,12 +1,12 @@
 -- Bytes that are delivered on a link.
-use Rattle.std.specs.Prelude.{◌≡◌, ℕ, List, ◌++◌, take, drop}
+use Rattle.std.specs.Prelude.{◌≡◌, ℕ, Bool, List, ◌++◌, take, drop}
 use Rattle.rfb_server.specs.declared.session.Session.{Session}
 use Rattle.rfb_viewer.specs.declared.viewer.Viewer.{Viewer}
 use Rattle.rfb_session.specs.declared.link.Link.{Link}
 use Rattle.rfb_session.specs.Link.{Ends, LinkState}
 use Rattle.rfb_session.specs.LinkSteps.{MovesToViewer, MovesToServer}
 use Rattle.rfb_session.specs.LinkStanding.{LinkStandsFor}
-use Rattle.rfb_session.specs.LinkBytes.{HearsOver, SessionEndsBy, ViewerEndsBy}
+use Rattle.rfb_session.specs.LinkBytes.{HearsOver, IsSole, SessionEndsBy, ViewerEndsBy}
 use Rattle.rfb_session.specs.InFlight.{AreMade}
 use Rattle.rfb_session.specs.Network.{Network, IsReached}
 use Rattle.rfb_session.specs.Watching.{ViewerRuns}
@@ -24,22 +24,26 @@ DeliversToServer old count new =
     (l : LinkState) × MovesToServer e n.screen n.link count l × LinkStandsFor e n.screen new l
 
 -- the session was fed so many bytes, and they are no more in flight
-pub record HasHeard (old : Link) (count : ℕ) (new : Link) : Type 0 where
+pub record HasHeard (old : Link) (count : ℕ) (sole : Bool) (new : Link) : Type 0 where
   pub sent : List ℕ
-  pub hears : HearsOver old.session (take count old.to_server) sent new.session
+  pub soles : ℕ
+  pub hears : HearsOver old.session (take count old.to_server) sent soles new.session
+  pub asked : IsSole sole soles
   pub gone : new.to_server ≡ drop count old.to_server
   pub answered : new.to_viewer ≡ old.to_viewer ++ sent
   pub viewer : new.viewer ≡ old.viewer
   pub latest : new.latest ≡ old.latest
 
 -- it was fed some of them, and ended at the others
-pub record EndsHearing (old : Link) (count : ℕ) (new : Link) : Type 0 where
+pub record EndsHearing (old : Link) (count : ℕ) (sole : Bool) (new : Link) : Type 0 where
   pub fed : List ℕ
   pub later : List ℕ
   pub sent : List ℕ
+  pub soles : ℕ
   pub last : Session
   pub bytes_are : take count old.to_server ≡ fed ++ later
-  pub hears : HearsOver old.session fed sent last
+  pub hears : HearsOver old.session fed sent soles last
+  pub asked : IsSole sole soles
   pub ends : SessionEndsBy last later new.session
   pub gone : new.to_server ≡ drop count old.to_server
   pub answered : new.to_viewer ≡ old.to_viewer ++ sent

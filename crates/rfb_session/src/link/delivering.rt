@@ -1,15 +1,17 @@
 //! Bytes that arrive at an end of a link.
 
-ghost use Rattle.std.specs.Prelude.{◌≡◌, ◌≢◌, ◌≤◌, ◌<◌, ◌⊎◌, ℕ, length, drop};
+ghost use Rattle.std.specs.Prelude.{◌≡◌, ◌≢◌, ◌≤◌, ◌<◌, ◌⊎◌, ◌||◌, ℕ, length, drop};
 ghost use Rattle.std.specs.Prelude.{true, false, Some, None, IfOk, OnOk, IsOk};
 ghost use Rattle.rfb_viewer.specs.declared.fault.ViewerFault.TheVariants.{NoMemory as ViewerWants};
 ghost use Rattle.rfb_server.specs.declared.fault.ServerFault.TheVariants.{NoMemory as ServerWants};
+ghost use Rattle.rfb_server.specs.Told.{seen};
 ghost use Rattle.rfb_session.specs.declared.event.Event.TheVariants.{ToServer, ToViewer};
+ghost use Rattle.rfb_session.specs.LinkBytes.{IsSole, sole_told};
 
 use crate::link::Link;
 use crate::reply::{server_reply, viewer_reply};
-use crate::told::{NoMemory, Told};
-use rfb_server::ServerFault;
+use crate::told::{Delivery, NoMemory, Told};
+use rfb_server::{ServerEvent, ServerFault};
 use rfb_viewer::ViewerFault;
 
 impl Link {
@@ -23,7 +25,7 @@ impl Link {
     ghost use Rattle.rfb_session.specs.LinkStanding.{server_fault_of, viewer_fault_of};
     ghost use Rattle.rfb_session.specs.LinkStanding.{LosesToViewer, LosesToServer};
     ghost use Rattle.rfb_session.specs.LinkStanding.{LosesOn, IsLostOn, FollowsStill};
-    ghost use Rattle.rfb_session.specs.LinkBytes.{ActsOnBytes};
+    ghost use Rattle.rfb_session.specs.LinkBytes.{ActsOnBytes, TellsSole};
     ghost use Rattle.rfb_session.specs.inside.Delivering.{DeliversToViewer, DeliversToServer};
     ghost use Rattle.rfb_session.specs.inside.Delivering.{HasHeard, EndsHearing};
     ghost use Rattle.rfb_session.specs.inside.Delivering.{HasWatched, EndsWatching};
@@ -40,9 +42,31 @@ impl Link {
         ensures follows { FollowsStill self.old self.new }
         ensures hints { hints_in (session_of_link self.new) ≡ hints_in (session_of_link self.old) }
     {
+        let delivery = self.deliver_to_session(count)?;
+        Ok(delivery.told)
+    }
+
+    /// The same, and tells whether the client asked for the screen alone among the bytes.
+    pub fn deliver_to_session(&mut self, count: u32) -> Result<Delivery, NoMemory>
+        ensures bytes { IfOk result (λ delivery.
+            ActsOnBytes self.old (ToServer count) delivery.told self.new) }
+        ensures sole { IfOk result (λ delivery.
+            TellsSole self.old delivery.told.moved delivery.sole self.new) }
+        ensures does { IfOk result (λ delivery.
+            LinkDoes self.old (ToServer count) delivery.told self.new) }
+        ensures lost { IfOk result (λ delivery.
+            LosesOn self.old (ToServer count) delivery.told self.new) }
+        ensures dropped { IsLostOn self.old (ToServer count) → IsOk result }
+        ensures taken { IfOk result (λ delivery. delivery.told.refused ≡ None) }
+        ensures follows { FollowsStill self.old self.new }
+        ensures hints { hints_in (session_of_link self.new) ≡ hints_in (session_of_link self.old) }
+    {
         let moved = self.to_server.len().min(count as usize);
-        self.deliver_to_server(moved)?;
-        Ok(told_moved(moved as u32))
+        let sole = self.deliver_to_server(moved)?;
+        Ok(Delivery {
+            told: told_moved(moved as u32),
+            sole,
+        })
     }
 
     /// Bytes reach the viewer, at most so many, or all that are in flight to it. Its answers are in
@@ -112,11 +136,12 @@ impl Link {
         }
     }
 
-    // So many bytes reach the session, of those in flight to it.
-    fn deliver_to_server(&mut self, count: usize) -> Result<(), NoMemory>
+    // So many bytes reach the session, of those in flight to it. It tells whether the client asked
+    // for the screen alone among them.
+    fn deliver_to_server(&mut self, count: usize) -> Result<bool, NoMemory>
         requires { count ≤ length self.old.to_server }
-        ensures reached { OnOk result
-            (HasHeard self.old count self.new ⊎ EndsHearing self.old count self.new) }
+        ensures reached { IfOk result (λ sole.
+            HasHeard self.old count sole self.new ⊎ EndsHearing self.old count sole self.new) }
         ensures delivered { OnOk result (DeliversToServer self.old count self.new) }
         ensures lost { (fault : ServerFault) → server_fault_of self.old ≡ Some fault →
             OnOk result (LosesToServer self.old count self.new) }
@@ -126,24 +151,27 @@ impl Link {
         ensures hints { hints_in (session_of_link self.new) ≡ hints_in (session_of_link self.old) }
     {
         let mut left = count;
+        let mut sole = false;
         while left > 0 {
-            left -= self.feed_server(left)?;
+            let (used, asked) = self.feed_server(left)?;
+            left -= used;
+            sole = either(sole, asked);
         }
-        Ok(())
+        Ok(sole)
     }
 
     // Feeds the session of so many bytes what it takes at once, and sends what it answers. One that
     // has failed takes them all, to no effect.
-    fn feed_server(&mut self, count: usize) -> Result<usize, NoMemory>
+    fn feed_server(&mut self, count: usize) -> Result<(usize, bool), NoMemory>
         requires some { 0 < count }
         requires within { count ≤ length self.old.to_server }
-        ensures used { IfOk result (λ used. (0 < used) × (used ≤ count)) }
-        ensures left { IfOk result (λ used. self.new.to_server ≡ drop used self.old.to_server) }
-        ensures reached { IfOk result (λ used. HasHeard self.old used self.new
-            ⊎ ((used ≡ count) × EndsHearing self.old count self.new)) }
-        ensures delivered { IfOk result (λ used. DeliversToServer self.old used self.new) }
+        ensures used { IfOk result (λ fed. (0 < fed.0) × (fed.0 ≤ count)) }
+        ensures left { IfOk result (λ fed. self.new.to_server ≡ drop fed.0 self.old.to_server) }
+        ensures reached { IfOk result (λ fed. HasHeard self.old fed.0 fed.1 self.new
+            ⊎ ((fed.0 ≡ count) × EndsHearing self.old count fed.1 self.new)) }
+        ensures delivered { IfOk result (λ fed. DeliversToServer self.old fed.0 self.new) }
         ensures lost { (fault : ServerFault) → server_fault_of self.old ≡ Some fault →
-            IfOk result (λ used. LosesToServer self.old used self.new) }
+            IfOk result (λ fed. LosesToServer self.old fed.0 self.new) }
         ensures dropped { (fault : ServerFault) → server_fault_of self.old ≡ Some fault →
             fault ≢ ServerWants → IsOk result }
         ensures follows { FollowsStill self.old self.new }
@@ -153,14 +181,14 @@ impl Link {
             Ok(fed) => {
                 self.to_viewer.send(server_reply(&fed.event))?;
                 self.to_server.arrive(fed.used);
-                Ok(fed.used)
+                Ok((fed.used, asks_sole(&fed.event)))
             }
             Err(fault) => {
                 if server_wants_memory(fault) {
                     return Err(NoMemory);
                 }
                 self.to_server.arrive(count);
-                Ok(count)
+                Ok((count, false))
             }
         }
     }
@@ -177,6 +205,20 @@ fn told_moved(moved: u32) -> Told
         refused: None,
         composed: false,
     }
+}
+
+// Whether one of the two is so.
+fn either(one: bool, other: bool) -> bool
+    ensures { result ≡ (one || other) }
+{
+    one || other
+}
+
+// Whether a client that is told of so asks for the screen alone: its ClientInit has shared-flag 0.
+fn asks_sole(event: &Option<ServerEvent>) -> bool
+    ensures { IsSole result (sole_told (seen event.now)) }
+{
+    matches!(event, Some(ServerEvent::Ready { shared: false, .. }))
 }
 
 // Whether it is want of memory that the viewer has failed with.

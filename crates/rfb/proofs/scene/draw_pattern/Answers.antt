@@ -13,7 +13,7 @@ loop-y-init c =
     record {
       size = c.requires.whole;
       rows = rows;
-      drawn = draws_so _ _ old old (above_none (screen_of old) old.whole) (draws_none old);
+      drawn = draws_so _ _ old old (above_none (screen_of old) old.follows.whole) (draws_none old);
       hints = cc;
     }
 
@@ -40,7 +40,7 @@ loop-y-preserved c =
       rows = l.invariant.rows;
       drawn = draws_so _ _ old c.put.new.server
           (ap (λ (k : Grid Colour). with_row 0 l.y c.paint.new.row k) l.invariant.drawn.screen_is
-          ∙ above_more c.paint.new.row l.y g old.whole size (λ i d p. c.paint.ensures i d p ∙ ap (begun_at i) c.from.ensures))
+          ∙ above_more c.paint.new.row l.y g old.follows.whole size (λ i d p. c.paint.ensures i d p ∙ ap (begun_at i) c.from.ensures))
           (draws_then _ _ old l.server c.put.new.server l.invariant.drawn c.put.ensures.drawn);
       hints = c.put.ensures.hints ∙ l.invariant.hints;
     }
@@ -51,4 +51,4 @@ returns-clause-drawn c =
     let old = c.args.server.now in
     let end : l.y ≡ (screen_of old).height = omega (arith, l.invariant.rows) in
     draws_so _ _ old l.server
-    (ap (λ (k : ℕ). pattern_above k (screen_of old)) end ∙ above_all (screen_of old) old.whole) l.invariant.drawn
+    (ap (λ (k : ℕ). pattern_above k (screen_of old)) end ∙ above_all (screen_of old) old.follows.whole) l.invariant.drawn

@@ -11,7 +11,7 @@ pub returns-else-height-gt0-clause-step : goal.returns-else-height-gt0-clause-st
 returns-else-height-gt0-clause-step c =
     let old = c.args.server.now in
     let rows : c.height.result ≡ (screen_of old).height = cc in
-    stepped_empty _ (screen_of old) old.whole (omega (arith, rows, c.if-height-gt0.false))
+    stepped_empty _ (screen_of old) old.follows.whole (omega (arith, rows, c.if-height-gt0.false))
 
 pub returns-else-height-gt0-clause-shown : goal.returns-else-height-gt0-clause-shown
 returns-else-height-gt0-clause-shown c = (returns-else-height-gt0-clause-step c, (search rules))

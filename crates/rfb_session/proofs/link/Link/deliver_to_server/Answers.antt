@@ -1,4 +1,4 @@
-use Rattle.std.proofs.Common.{◌≡◌, ℕ, ◌+◌, ◌-◌, ◌≤◌, ◌<◌, inl, length, length-drop, refl, ap, ◌∙◌, subst, arith}
+use Rattle.std.proofs.Common.{◌≡◌, ℕ, ◌+◌, ◌-◌, ◌≤◌, ◌<◌, false, inl, length, length-drop, refl, ap, ◌∙◌, subst, arith}
 use Rattle.rfb_server.specs.declared.session.Session.{Session}
 use Rattle.rfb_server.specs.Standing.{session_fault}
 use Rattle.rfb_session.specs.inside.Delivering.{DeliversToServer, HasHeard}
@@ -15,7 +15,7 @@ loop-left-init c =
       within = c.requires;
       some = omega arith;
       before = c.requires;
-      reached = inl (subst (λ (k : ℕ). HasHeard c.args.self.now k c.args.self.now) none
+      reached = inl (subst (λ (k : ℕ). HasHeard c.args.self.now k false c.args.self.now) none
           (heard_none c.args.self.now));
       delivered = subst (λ (k : ℕ). DeliversToServer c.args.self.now k c.args.self.now) none
           (server_none c.args.self.now);
@@ -28,13 +28,13 @@ loop-left-init c =
 pub loop-left-preserved : goal.loop-left-preserved
 loop-left-preserved c =
     let was = c.loop-left.invariant in
-    let used : ℕ = c.in_ok-left.field-0 in
-    let part : (0 < used) × (used ≤ c.loop-left.left) = c.in_ok-left.ensures.used in
+    let used : ℕ = c.in_ok-used.used in
+    let part : (0 < used) × (used ≤ c.loop-left.left) = c.in_ok-used.ensures.used in
     let first : c.args.count - c.loop-left.left ≤ length c.args.self.now.to_server =
     omega (arith, was.before) in
     let all : (c.args.count - c.loop-left.left) + used ≡ c.args.count - (c.loop-left.left - used) =
     omega (arith, was.some, part.1) in
-    let rest = ap (λ q. length q) c.in_ok-left.ensures.left in
+    let rest = ap (λ q. length q) c.in_ok-used.ensures.left in
     record {
       within = omega (
         arith,
@@ -45,18 +45,18 @@ loop-left-preserved c =
       );
       some = omega (arith, was.some);
       before = was.before;
-      reached = heard_goes_on c.args.self.now c.loop-left.self c.feed_server.new.self used
-          c.loop-left.left c.args.count part.0 part.1 was.some was.reached c.in_ok-left.ensures.reached;
+      reached = rw c.either-sole.ensures (heard_goes_on c.args.self.now c.loop-left.self c.feed_server.new.self used
+          c.loop-left.left c.args.count c.loop-left.sole c.in_ok-used.asked part.0 part.1 was.some was.reached c.in_ok-used.ensures.reached);
       delivered = subst (λ (k : ℕ). DeliversToServer c.args.self.now k c.feed_server.new.self) all
           (server_more c.args.self.now c.loop-left.self c.feed_server.new.self
           (c.args.count - c.loop-left.left) used first was.delivered
-          c.in_ok-left.ensures.delivered);
+          c.in_ok-used.ensures.delivered);
       lost = λ fault is.
           let one = was.lost fault is in
           let still = ap (λ (end : Session). session_fault end) one.session ∙ is in
           subst (λ (k : ℕ). LosesToServer c.args.self.now k c.feed_server.new.self) all
           (more_server_loss c.args.self.now c.loop-left.self c.feed_server.new.self
-          (c.args.count - c.loop-left.left) used one (c.in_ok-left.ensures.lost fault still));
+          (c.args.count - c.loop-left.left) used one (c.in_ok-used.ensures.lost fault still));
       follows = λ screen follows. c.feed_server.ensures.follows screen (was.follows screen follows);
       hints = c.feed_server.ensures.hints ∙ was.hints;
     }
@@ -66,7 +66,7 @@ returns c =
     let was = c.loop-left.invariant in
     let all : c.args.count - c.loop-left.left ≡ c.args.count = omega arith in
     record {
-      reached = heard_done c.args.self.now c.loop-left.self c.loop-left.left c.args.count all was.reached;
+      reached = heard_done c.args.self.now c.loop-left.self c.loop-left.left c.args.count c.loop-left.sole all was.reached;
       delivered = subst (λ (k : ℕ). DeliversToServer c.args.self.now k c.loop-left.self) all
           was.delivered;
       lost = λ fault is. subst (λ (k : ℕ). LosesToServer c.args.self.now k c.loop-left.self) all

@@ -14,11 +14,11 @@ returns-in_ok-send-in-Ok-clause-delivered c =
 
 pub returns-in_ok-send-in-Ok-clause-reached : goal.returns-in_ok-send-in-Ok-clause-reached
 returns-in_ok-send-in-Ok-clause-reached c =
-    inl (heard_once c.args.self.now _ c.first.result.now c.args.count c.in-Ok.fed.used
+    inl (heard_once c.args.self.now _ c.first.result.now c.args.count c.in-Ok.fed.used c.asks_sole.result
     (seen c.in-Ok.fed.event) c.requires.within c.first.ensures c.in-Ok.ensures.used
     c.in-Ok.ensures.fed refl c.arrive.ensures
     (c.in_ok-send-in-Ok.ensures.sent
-    ∙ ap (λ (b : List ℕ). c.args.self.now.to_viewer ++ b) c.server_reply.ensures) refl)
+    ∙ ap (λ (b : List ℕ). c.args.self.now.to_viewer ++ b) c.server_reply.ensures) refl c.asks_sole.ensures)
 
 pub returns-else-server_wants_memory-clause-delivered :
     goal.returns-else-server_wants_memory-clause-delivered

@@ -1,15 +1,15 @@
 use Rattle.std.proofs.Common.{ℕ, min, sym, ap, ◌∙◌, subst}
 use Rattle.rfb_session.specs.LinkStanding.{LosesToServer}
-use Rattle.rfb_session.specs.LinkBytes.{ReachesSession}
+use Rattle.rfb_session.specs.LinkBytes.{ReachesSession, TellsSole}
 use Rattle.rfb_session.proofs.DeliveringLemmas.{server_moved}
-use Rattle.rfb_session.proofs.ReachingLemmas.{heard_reaches}
-use Rattle.rfb_session.proofs.link.Link.move_to_server.Goals as goal
+use Rattle.rfb_session.proofs.ReachingLemmas.{heard_reaches, heard_tells}
+use Rattle.rfb_session.proofs.link.Link.deliver_to_session.Goals as goal
 
 pub returns-clause-does : goal.returns-clause-does
 returns-clause-does c =
     server_moved c.args.self.now c.deliver_to_server.new.self c.args.count c.min-moved.result
     c.told_moved.result (c.min-moved.ensures ∙ ap (λ (k : ℕ). min k c.args.count) c.len.ensures)
-    c.in_ok-deliver_to_server.ensures.delivered c.told_moved.ensures.moved
+    c.in_ok-sole.ensures.delivered c.told_moved.ensures.moved
     c.told_moved.ensures.refused c.told_moved.ensures.composed
 
 pub returns-clause-bytes : goal.returns-clause-bytes
@@ -18,13 +18,19 @@ returns-clause-bytes c = (
       ∙ ap (λ (k : ℕ). min k c.args.count) c.len.ensures,
   subst (λ (k : ℕ). ReachesSession c.args.self.now k c.deliver_to_server.new.self)
       (sym c.told_moved.ensures.moved)
-      (heard_reaches c.args.self.now c.deliver_to_server.new.self c.min-moved.result c.in_ok-deliver_to_server.ensures.reached),
+      (heard_reaches c.args.self.now c.deliver_to_server.new.self c.min-moved.result c.in_ok-sole.sole c.in_ok-sole.ensures.reached),
 )
+
+pub returns-clause-sole : goal.returns-clause-sole
+returns-clause-sole c =
+    subst (λ (k : ℕ). TellsSole c.args.self.now k c.in_ok-sole.sole c.deliver_to_server.new.self)
+    (sym c.told_moved.ensures.moved)
+    (heard_tells c.args.self.now c.deliver_to_server.new.self c.min-moved.result c.in_ok-sole.sole c.in_ok-sole.ensures.reached)
 
 pub returns-clause-lost : goal.returns-clause-lost
 returns-clause-lost c = λ fault is. (
   c.told_moved.ensures.moved ∙ c.min-moved.ensures
       ∙ ap (λ (k : ℕ). min k c.args.count) c.len.ensures,
   subst (λ (k : ℕ). LosesToServer c.args.self.now k c.deliver_to_server.new.self)
-      (sym c.told_moved.ensures.moved) (c.in_ok-deliver_to_server.ensures.lost fault is),
+      (sym c.told_moved.ensures.moved) (c.in_ok-sole.ensures.lost fault is),
 )
