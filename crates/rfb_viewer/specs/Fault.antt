@@ -1,5 +1,6 @@
 -- The faults of the handshake, of a message, of a rectangle's head and of its data, as faults of a
--- viewer.
+-- viewer; and their numbers.
+use Rattle.std.specs.Prelude.{ℕ}
 use Rattle.rfb_wire.specs.declared.fault.WireFault.{WireFault}
 use Rattle.rfb_wire.specs.declared.fault.WireFault.TheVariants.{UnknownMessage as WireMessage, UnknownEncoding as WireEncoding, RectOutside as WireOutside}
 use Rattle.rfb_wire.specs.ServerMessage.{UnknownType}
@@ -44,3 +45,22 @@ abbrev pub fault_of_update : UpdateFault → ViewerFault
 fault_of_update (InMessage (UnknownType message_type)) = UnknownMessage message_type
 fault_of_update (InHead fault) = fault_of_wire fault
 fault_of_update (InData fault) = fault_of_paint fault
+
+-- the number of a fault
+abbrev pub fault_number : ViewerFault → ℕ
+fault_number (UnknownMessage message_type) = 7
+fault_number (UnknownEncoding number) = 8
+fault_number RectOutside = 9
+fault_number SubrectOutside = 10
+fault_number NoBackground = 11
+fault_number NoForeground = 12
+fault_number BothColourBits = 13
+fault_number SourceOutside = 14
+fault_number BadVersion = 15
+fault_number NoneNotOffered = 18
+fault_number (Refused reason_length) = 19
+fault_number BadSecurityWord = 20
+fault_number (SecurityFailed reason_length) = 21
+fault_number ScreenEmpty = 22
+fault_number ScreenTooLarge = 23
+fault_number NoMemory = 30

@@ -2,6 +2,7 @@
 
 ghost use Rattle.std.specs.Prelude.{◌≡◌};
 ghost use Rattle.rfb_viewer.specs.Fault.{fault_of_hello, fault_of_wire, fault_of_paint};
+ghost use Rattle.rfb_viewer.specs.Fault.{fault_number};
 
 use rfb_codec::PaintFault;
 use rfb_hello::HelloFault;
@@ -63,6 +64,30 @@ pub enum ViewerFault {
 }
 
 impl ViewerFault {
+    /// Its number, with which its text begins.
+    pub fn number(&self) -> u8
+        ensures { result ≡ fault_number self.now }
+    {
+        match self {
+            ViewerFault::UnknownMessage(_) => 7,
+            ViewerFault::UnknownEncoding(_) => 8,
+            ViewerFault::RectOutside => 9,
+            ViewerFault::SubrectOutside => 10,
+            ViewerFault::NoBackground => 11,
+            ViewerFault::NoForeground => 12,
+            ViewerFault::BothColourBits => 13,
+            ViewerFault::SourceOutside => 14,
+            ViewerFault::BadVersion => 15,
+            ViewerFault::NoneNotOffered => 18,
+            ViewerFault::Refused(_) => 19,
+            ViewerFault::BadSecurityWord => 20,
+            ViewerFault::SecurityFailed(_) => 21,
+            ViewerFault::ScreenEmpty => 22,
+            ViewerFault::ScreenTooLarge => 23,
+            ViewerFault::NoMemory => 30,
+        }
+    }
+
     // The fault of a handshake. Of its faults two are a client's, and never come of a server's
     // bytes.
     pub(crate) fn of_hello(fault: HelloFault) -> ViewerFault

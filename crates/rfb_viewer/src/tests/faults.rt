@@ -76,3 +76,20 @@ fn a_refusal_prints_its_number_and_its_name(rt: HostRuntime) -> Result<(), Alloc
     assert_eq!(rt; lines.as_str(), REFUSALS_PRINTED);
     Ok(())
 }
+
+// Whether the text of each fault is its number, a space and its name.
+fn begin_with_their_numbers(alloc: Global) -> Result<bool, AllocError> {
+    let mut all = true;
+    for fault in FAULTS {
+        let text = format!(in alloc; "{fault}")?;
+        let number = format!(in alloc; "{} ", fault.number())?;
+        all = all && text.starts_with(number.as_str());
+    }
+    Ok(all)
+}
+
+#[test]
+fn the_text_of_a_fault_begins_with_its_number(rt: HostRuntime) -> Result<(), AllocError> {
+    assert!(rt; begin_with_their_numbers(rt.alloc())?);
+    Ok(())
+}
