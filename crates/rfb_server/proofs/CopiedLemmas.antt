@@ -22,7 +22,7 @@ use Rattle.rfb_server.specs.Composing.{Part, IsGain, all_moved}
 use Rattle.rfb_server.specs.inside.Sends.{IsKept, state_of}
 use Rattle.rfb_server.specs.declared.hint.Hint.{Hint}
 use Rattle.rfb_server.specs.Using.{move_of, IsOfUse}
-use Rattle.rfb_server.specs.inside.Copying.{IsFree, IsUseful, SendsHint, KeepsMarks, IsMarkedFor, AppendsCopies, usable_hints}
+use Rattle.rfb_server.specs.inside.Copies.{IsFree, IsUseful, SendsHint, KeepsMarks, IsMarkedFor, AppendsCopies, usable_hints}
 use Rattle.rfb_server.proofs.UsingLemmas.{used_next, left_next}
 use Rattle.rfb_server.proofs.MarksLemmas.{caught_drawn}
 use Rattle.rfb_server.proofs.CopyingLemmas.{copies_start, copies_more}

@@ -14,7 +14,7 @@ use Rattle.rfb_hello.specs.KeptText.{KeptText}
 use Rattle.rfb_hello.specs.ServerEnd.{as_reply}
 use Rattle.rfb_hello.specs.declared.server_hello.ServerHello.{ServerHello}
 use Rattle.rfb_server.specs.declared.session.Session.{Session}
-use Rattle.rfb_server.specs.declared.session.progress.Progress.TheVariants.{Head, CutText as CutTextPart}
+use Rattle.rfb_server.specs.declared.session.input.progress.Progress.TheVariants.{Head, CutText as CutTextPart}
 use Rattle.rfb_server.specs.ClientBytes.{ClientAt}
 use Rattle.rfb_server.specs.Told.{CutText}
 use Rattle.rfb_server.specs.Server.{Serving, ServerState, server}

@@ -8,7 +8,7 @@ use Rattle.rfb_picture.specs.declared.rect.Rect.{Rect}
 use Rattle.rfb_picture.specs.Grid.{Grid}
 use Rattle.rfb_picture.proofs.GridLemmas.{contains_true}
 use Rattle.rfb_server.specs.declared.session.Session.{Session}
-use Rattle.rfb_server.specs.inside.Needing.{HasBox, needs_of}
+use Rattle.rfb_server.specs.inside.Needs.{HasBox, needs_of}
 use Rattle.rfb_server.specs.Following.{Follows}
 use Rattle.rfb_server.specs.Cells.{cell_of, IsCell}
 use Rattle.rfb_server.specs.inside.Sends.{NoneMayNeed, state_of}

@@ -21,14 +21,14 @@ use Rattle.rfb_server.specs.declared.event.ServerEvent.{ServerEvent}
 use Rattle.rfb_server.specs.declared.fault.ServerFault.{ServerFault}
 use Rattle.rfb_server.specs.declared.fault.ServerFault.TheVariants.{NoMemory}
 use Rattle.rfb_server.specs.declared.session.Session.{Session}
-use Rattle.rfb_server.specs.declared.session.progress.Progress.TheVariants.{Handshake}
+use Rattle.rfb_server.specs.declared.session.input.progress.Progress.TheVariants.{Handshake}
 use Rattle.rfb_server.specs.Fault.{fault_of_hello}
 use Rattle.rfb_server.specs.ClientBytes.{ClientAt, FromClient, client_two, client_bytes}
 use Rattle.rfb_server.specs.Server.{Serving, ServerState, server, AsksMemory}
 use Rattle.rfb_server.specs.Progress.{fault_in}
 use Rattle.rfb_server.specs.Standing.{SessionStandsFor, Notes, notes_in, notes_at}
 use Rattle.rfb_server.specs.Failing.{EndsAt, EndsAs}
-use Rattle.rfb_server.specs.inside.Feeding.{StepsAs, RunsOutAs}
+use Rattle.rfb_server.specs.inside.Slice.{StepsAs, RunsOutAs}
 use Rattle.rfb_server.proofs.ServerLaws.{server_machine, same_notes, session_noted}
 use Rattle.rfb_server.proofs.GreetLemmas.{IsSameBut, same_but, at_hello, quiet_stays, stays_first, told_first}
 use Rattle.rfb_server.proofs.SliceLemmas.{session_starts, not_memory, never_stands}

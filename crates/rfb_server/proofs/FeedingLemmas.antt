@@ -19,8 +19,8 @@ use Rattle.rfb_hello.specs.declared.server_hello.ServerHello.{ServerHello}
 use Rattle.arrayvec.specs.ArrayVec.{ArrayVec}
 use Rattle.rfb_server.specs.declared.fault.ServerFault.{ServerFault}
 use Rattle.rfb_server.specs.declared.session.Session.{Session}
-use Rattle.rfb_server.specs.declared.session.progress.Progress.{Progress}
-use Rattle.rfb_server.specs.declared.session.progress.Progress.TheVariants.{Head}
+use Rattle.rfb_server.specs.declared.session.input.progress.Progress.{Progress}
+use Rattle.rfb_server.specs.declared.session.input.progress.Progress.TheVariants.{Head}
 use Rattle.rfb_server.specs.Fault.{fault_of_message}
 use Rattle.rfb_server.specs.ClientBytes.{ClientAt, FromClient, client_bytes}
 use Rattle.rfb_server.specs.Told.{ServerTold, message_told}

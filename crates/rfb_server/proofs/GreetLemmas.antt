@@ -22,7 +22,7 @@ use Rattle.rfb_hello.specs.ServerEnd.{ServerSetup, as_reply, server_tells as han
 use Rattle.rfb_hello.specs.ServerProgress.{ProgressStandsFor as HelloProgressStandsFor, is_open as goes_on}
 use Rattle.rfb_hello.specs.ServerStanding.{StandsFor as HelloStandsFor, is_open}
 use Rattle.rfb_server.specs.declared.session.Session.{Session}
-use Rattle.rfb_server.specs.declared.session.progress.Progress.TheVariants.{Handshake, Head}
+use Rattle.rfb_server.specs.declared.session.input.progress.Progress.TheVariants.{Handshake, Head}
 use Rattle.rfb_server.specs.Fault.{fault_of_hello}
 use Rattle.rfb_server.specs.ClientBytes.{ClientAt, to_messages, client_two, client_bytes}
 use Rattle.rfb_server.specs.Told.{step_told}

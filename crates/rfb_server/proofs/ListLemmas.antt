@@ -18,7 +18,7 @@ use Rattle.rfb_wire.proofs.stream_laws.PendingLaws.{length-pieces}
 use Rattle.rfb_hello.specs.ServerEnd.{as_reply}
 use Rattle.rfb_hello.specs.declared.server_hello.ServerHello.{ServerHello}
 use Rattle.rfb_server.specs.declared.session.Session.{Session}
-use Rattle.rfb_server.specs.declared.session.progress.Progress.TheVariants.{Head, Encodings}
+use Rattle.rfb_server.specs.declared.session.input.progress.Progress.TheVariants.{Head, Encodings}
 use Rattle.rfb_server.specs.ClientBytes.{ClientAt}
 use Rattle.rfb_server.specs.Encodings.{with_encoding, known_among}
 use Rattle.rfb_server.specs.Server.{Serving, ServerState, server}

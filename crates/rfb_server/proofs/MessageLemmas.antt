@@ -20,7 +20,7 @@ use Rattle.rfb_hello.specs.ServerEnd.{as_reply}
 use Rattle.rfb_hello.specs.ServerStanding.{setup_of}
 use Rattle.rfb_hello.specs.KeptText.{KeptText, kept_of}
 use Rattle.rfb_server.specs.declared.session.Session.{Session}
-use Rattle.rfb_server.specs.declared.session.progress.Progress.TheVariants.{Head, CutText as CutTextPart}
+use Rattle.rfb_server.specs.declared.session.input.progress.Progress.TheVariants.{Head, CutText as CutTextPart}
 use Rattle.rfb_server.specs.Fault.{fault_of_format, fault_of_message}
 use Rattle.rfb_server.specs.Record.{forgotten}
 use Rattle.rfb_server.specs.Told.{ServerTold, Key, Pointer, CutText, message_told}

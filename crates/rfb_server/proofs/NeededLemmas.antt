@@ -18,7 +18,7 @@ use Rattle.rfb_picture.proofs.WordLemmas.{has_bit-and, has_bit-or}
 use Rattle.rfb_server.specs.declared.session.Session.{Session}
 use Rattle.rfb_server.specs.Record.{is_known, ShowsKnown, TellsKnown}
 use Rattle.rfb_server.specs.Request.{wanted_at, differs}
-use Rattle.rfb_server.specs.inside.Needing.{TellsOther, needs_of}
+use Rattle.rfb_server.specs.inside.Needs.{TellsOther, needs_of}
 use Rattle.rfb_server.specs.Following.{Follows}
 use Rattle.rfb_picture.proofs.GridLemmas.{slice_index_or-row_of}
 use Rattle.rfb_server.specs.Server.{black}

@@ -11,8 +11,8 @@ use Rattle.rfb_picture.specs.Area.{asked_at}
 use Rattle.rfb_picture.proofs.GridLemmas.{contains_true, contains_row}
 use Rattle.rfb_server.specs.declared.session.Session.{Session}
 use Rattle.rfb_server.specs.Request.{wanted_at, differs}
-use Rattle.rfb_server.specs.declared.session.needing.Columns.{Columns}
-use Rattle.rfb_server.specs.inside.Needing.{IsFirst, IsEnd, HasBox, HasInRow, IsLastOf, SpansRows, needs_of, rows_above}
+use Rattle.rfb_server.specs.declared.session.update.needs.Columns.{Columns}
+use Rattle.rfb_server.specs.inside.Needs.{IsFirst, IsEnd, HasBox, HasInRow, IsLastOf, SpansRows, needs_of, rows_above}
 use Rattle.rfb_server.specs.Following.{Follows}
 
 -- ---- marks

@@ -14,10 +14,10 @@ use Rattle.rfb_server.specs.declared.hint.Hint.{Hint}
 use Rattle.rfb_server.specs.declared.session.Session.{Session}
 use Rattle.rfb_server.specs.Request.{wanted_at, differs}
 use Rattle.rfb_server.specs.Composing.{count_row, count_rows, count_in}
-use Rattle.rfb_server.specs.inside.Needing.{AreQuiet, IsQuiet, needs_of, HasBox}
+use Rattle.rfb_server.specs.inside.Needs.{AreQuiet, IsQuiet, needs_of, HasBox}
 use Rattle.rfb_server.specs.inside.Sends.{IsKept, AppendsPixels}
-use Rattle.rfb_server.specs.inside.Copying.{IsFree}
-use Rattle.rfb_server.specs.inside.Gaining.{right_behind}
+use Rattle.rfb_server.specs.inside.Copies.{IsFree}
+use Rattle.rfb_server.specs.inside.Gains.{right_behind}
 use Rattle.rfb_server.proofs.CountLemmas.{at_most}
 use Rattle.rfb_server.proofs.SendsLemmas.{noted_at}
 

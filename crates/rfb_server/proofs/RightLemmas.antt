@@ -22,7 +22,7 @@ use Rattle.rfb_server.specs.Request.{wanted_at, differs}
 use Rattle.rfb_server.specs.Server.{black}
 use Rattle.rfb_server.specs.Composing.{count_row}
 use Rattle.rfb_server.specs.Following.{Follows}
-use Rattle.rfb_server.specs.inside.Gaining.{MayCopy, right_before, right_behind}
+use Rattle.rfb_server.specs.inside.Gains.{MayCopy, right_before, right_behind}
 use Rattle.rfb_server.proofs.BitCountLemmas.{row_split}
 use Rattle.rfb_server.proofs.NeedingBits.{has_bit-up}
 

@@ -8,8 +8,8 @@ use Rattle.rfb_picture.specs.Grid.{Grid}
 use Rattle.rfb_server.specs.declared.hint.Hint.{Hint}
 use Rattle.rfb_server.specs.declared.session.Session.{Session}
 use Rattle.rfb_server.specs.Composing.{count_row, count_rows}
-use Rattle.rfb_server.specs.inside.Copying.{is_right_from}
-use Rattle.rfb_server.specs.inside.Gaining.{line, part, right_before, right_behind}
+use Rattle.rfb_server.specs.inside.Copies.{is_right_from}
+use Rattle.rfb_server.specs.inside.Gains.{line, part, right_before, right_behind}
 use Rattle.rfb_server.proofs.CountLemmas.{row_same, rows_more}
 use Rattle.rfb_server.proofs.BitCountLemmas.{row_split, row_le}
 

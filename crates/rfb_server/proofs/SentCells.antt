@@ -10,7 +10,7 @@ use Rattle.rfb_picture.specs.Area.{asked_at, whole_at}
 use Rattle.rfb_server.specs.declared.session.Session.{Session}
 use Rattle.rfb_server.specs.Request.{wanted_at, differs, needs_at}
 use Rattle.rfb_server.specs.Cells.{IsCell}
-use Rattle.rfb_server.specs.inside.Needing.{needs_of}
+use Rattle.rfb_server.specs.inside.Needs.{needs_of}
 use Rattle.rfb_server.specs.Following.{Follows}
 use Rattle.rfb_server.specs.Composing.{Part}
 use Rattle.rfb_server.specs.inside.Sends.{IsKept, SendsPixels, SendsCell, state_of, AppendsCells, NoneMayNeed, may_need}

@@ -17,8 +17,8 @@ use Rattle.rfb_pixel.specs.Format.{PixelFormat}
 use Rattle.rfb_picture.specs.Area.{Places}
 use Rattle.rfb_wire.specs.declared.encoding.Encoding.{Encoding}
 use Rattle.rfb_server.specs.declared.server.Server.{Server}
-use Rattle.rfb_server.specs.declared.session.progress.Progress.{Progress}
-use Rattle.rfb_server.specs.declared.session.progress.Progress.TheVariants.{Handshake, Head, Encodings, CutText, Failed}
+use Rattle.rfb_server.specs.declared.session.input.progress.Progress.{Progress}
+use Rattle.rfb_server.specs.declared.session.input.progress.Progress.TheVariants.{Handshake, Head, Encodings, CutText, Failed}
 use Rattle.rfb_server.specs.ClientBytes.{ClientAt, client_two, client_bytes, client_bytes_say}
 use Rattle.rfb_server.specs.Server.{Serving, ServerState, server}
 use Rattle.rfb_server.specs.Progress.{ProgressStandsFor, fault_in}

@@ -32,15 +32,15 @@ use Rattle.rfb_server.specs.declared.fault.ServerFault.{ServerFault}
 use Rattle.rfb_server.specs.declared.fault.ServerFault.TheVariants.{NoMemory}
 use Rattle.rfb_server.specs.declared.event.ServerEvent.{ServerEvent}
 use Rattle.rfb_server.specs.declared.session.Session.{Session}
-use Rattle.rfb_server.specs.declared.session.progress.Progress.{Progress}
-use Rattle.rfb_server.specs.declared.session.progress.Progress.TheVariants.{Handshake, Head, Encodings, CutText, Failed}
+use Rattle.rfb_server.specs.declared.session.input.progress.Progress.{Progress}
+use Rattle.rfb_server.specs.declared.session.input.progress.Progress.TheVariants.{Handshake, Head, Encodings, CutText, Failed}
 use Rattle.rfb_server.specs.Fault.{fault_of_hello, fault_of_message}
 use Rattle.rfb_server.specs.ClientBytes.{ClientAt, client_bytes, client_bytes_pending, is_between}
 use Rattle.rfb_server.specs.Told.{seen}
 use Rattle.rfb_server.specs.Server.{Serving, server}
 use Rattle.rfb_server.specs.Progress.{ProgressStandsFor, IsHeadBegun, fault_in, is_idle}
 use Rattle.rfb_server.specs.Standing.{SessionStandsFor}
-use Rattle.rfb_server.specs.inside.Feeding.{StepsAs, FeedsAs}
+use Rattle.rfb_server.specs.inside.Slice.{StepsAs, FeedsAs}
 use Rattle.rfb_server.specs.inside.Sessions.{KeepsUp}
 use Rattle.rfb_server.proofs.ServerLaws.{client_bytes_spelled, server_machine}
 use Rattle.rfb_server.proofs.HeadLemmas.{begun_misses}

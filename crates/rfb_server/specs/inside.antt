@@ -1,10 +1,10 @@
 -- Words of private contracts. No public clause reads them, so a reader can skip them.
 pub mod Marks
 pub mod Sessions
-pub mod Sending
-pub mod Needing
+pub mod Rectangle
+pub mod Needs
 pub mod Sends
 pub mod Composed
-pub mod Feeding
-pub mod Copying
-pub mod Gaining
+pub mod Slice
+pub mod Copies
+pub mod Gains

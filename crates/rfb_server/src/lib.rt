@@ -13,7 +13,7 @@ mod fault;
 mod hint;
 pub mod law;
 mod record;
-mod sending;
+mod rectangle;
 mod server;
 mod session;
 

@@ -2,32 +2,20 @@
 
 ghost use Rattle.std.specs.Prelude.{◌≡◌, ◌≤◌, ◌<◌, ◌↔◌, ℕ, List, [], length, true};
 ghost use Rattle.std.specs.Prelude.{IfOk, OnOk, OnErr, IsErr};
-ghost use Rattle.rfb_picture.specs.Grid.{Holds, filled};
+ghost use Rattle.rfb_picture.specs.Grid.{Holds};
 ghost use Rattle.rfb_server.specs.inside.Marks.{AreAlike};
 ghost use Rattle.rfb_server.specs.Progress.{is_partial};
 
-mod asking;
-mod composing;
-mod copying;
-mod feeding;
-mod gaining;
-mod gathering;
-mod greeting;
-mod lists;
-mod messages;
-mod needing;
-mod progress;
-mod quiet;
-mod telling;
-mod texts;
-mod tracking;
+mod input;
+mod places;
+mod update;
 
 use crate::encodings::EncodingList;
 use crate::fault::Outside;
 use crate::hint::{Hint, MAX_HINTS};
 use crate::record::Record;
-use crate::session::progress::Progress;
-use crate::session::tracking::Tracking;
+use crate::session::input::progress::Progress;
+use crate::session::places::Places;
 use circular_buffer::HeapCircularBuffer;
 use rfb_codec::Block;
 use rfb_hello::{ServerHello, Version};
@@ -95,7 +83,7 @@ impl Session {
         ensures hints { IfOk result (λ session. hints_in session ≡ []) }
     {
         let hints = HeapCircularBuffer::with_capacity(alloc, MAX_HINTS)?;
-        let tracking = Tracking::new(alloc, width, height)?;
+        let places = Places::new(alloc, width, height)?;
         Ok(Session {
             alloc,
             hello: ServerHello::new(offer, width, height, name),
@@ -103,9 +91,9 @@ impl Session {
             text_limit,
             format: Format::rgb888(),
             encodings: EncodingList::new(),
-            known: tracking.known,
-            area: tracking.area,
-            marks: tracking.marks,
+            known: places.known,
+            area: places.area,
+            marks: places.marks,
             hints,
             block: Block::single(0),
         })

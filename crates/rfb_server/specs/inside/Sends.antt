@@ -16,8 +16,8 @@ use Rattle.rfb_codec.specs.WholeUpdate.{item_of, SpellsRectangles}
 use Rattle.rfb_server.specs.declared.session.Session.{Session}
 use Rattle.rfb_server.specs.Server.{ServerState}
 use Rattle.rfb_server.specs.Request.{wanted, recorded, is_asked, is_whole}
-use Rattle.rfb_server.specs.inside.Needing.{HasBox, needs_of}
-use Rattle.rfb_server.specs.inside.Sending.{IsCoded}
+use Rattle.rfb_server.specs.inside.Needs.{HasBox, needs_of}
+use Rattle.rfb_server.specs.inside.Rectangle.{IsCoded}
 use Rattle.rfb_server.specs.Cells.{cell_of, IsCell}
 use Rattle.rfb_server.specs.Composing.{Part, sent_as, between, may_send, IsForPixels, is_in_some, IsPlace, HaveTheirData, AreBlocksOf, AreBoxes}
 

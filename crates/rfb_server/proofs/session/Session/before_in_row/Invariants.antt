@@ -1,6 +1,6 @@
 use Rattle.std.proofs.Common.{◌≡◌, ◌+◌, ◌-◌, ◌≤◌}
 use Rattle.rfb_server.specs.Composing.{count_row}
-use Rattle.rfb_server.specs.inside.Gaining.{right_before}
+use Rattle.rfb_server.specs.inside.Gains.{right_before}
 use Rattle.rfb_server.proofs.session.Session.before_in_row.Given as goal
 
 -- the places so far are counted

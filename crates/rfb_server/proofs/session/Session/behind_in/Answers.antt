@@ -1,6 +1,6 @@
 use Rattle.std.proofs.Common.{◌≡◌, ◌+◌, ◌≤◌, arith}
 use Rattle.rfb_server.specs.Composing.{count_row}
-use Rattle.rfb_server.specs.inside.Gaining.{line, right_behind}
+use Rattle.rfb_server.specs.inside.Gains.{line, right_behind}
 use Rattle.rfb_server.proofs.RightRowsLemmas.{behind_row}
 use Rattle.rfb_server.proofs.session.Session.behind_in.Goals as goal
 

@@ -1,6 +1,6 @@
 use Rattle.std.proofs.Common.{◌≡◌, ◌*◌, ◌≤◌}
 use Rattle.rfb_server.specs.Composing.{count_rows}
-use Rattle.rfb_server.specs.inside.Gaining.{right_behind}
+use Rattle.rfb_server.specs.inside.Gains.{right_behind}
 use Rattle.rfb_server.proofs.session.Session.behind_in.Given as goal
 
 -- the rows so far are counted

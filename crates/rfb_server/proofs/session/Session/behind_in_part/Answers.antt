@@ -3,7 +3,7 @@ use Rattle.std.proofs.lemmas.List.{length-map}
 use Rattle.rfb_pixel.specs.Format.{pixel_of}
 use Rattle.rfb_pixel.specs.Rows.{equal_places}
 use Rattle.rfb_picture.specs.Grid.{row_of}
-use Rattle.rfb_server.specs.inside.Gaining.{right_behind}
+use Rattle.rfb_server.specs.inside.Gains.{right_behind}
 use Rattle.rfb_server.proofs.RightLemmas.{all_equal, equal_row, behind_right}
 use Rattle.rfb_server.proofs.session.Session.behind_in_part.Goals as goal
 

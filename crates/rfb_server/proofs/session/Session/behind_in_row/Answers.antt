@@ -1,6 +1,6 @@
 use Rattle.std.proofs.Common.{◌≡◌, ◌-◌, ◌≤◌, arith}
 use Rattle.rfb_server.specs.Composing.{count_row}
-use Rattle.rfb_server.specs.inside.Gaining.{part, right_behind}
+use Rattle.rfb_server.specs.inside.Gains.{part, right_behind}
 use Rattle.rfb_server.proofs.RightRowsLemmas.{behind_part}
 use Rattle.rfb_server.proofs.session.Session.behind_in_row.Goals as goal
 

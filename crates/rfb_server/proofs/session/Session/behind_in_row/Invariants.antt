@@ -1,6 +1,6 @@
 use Rattle.std.proofs.Common.{◌≡◌, ◌+◌, ◌-◌, ◌≤◌}
 use Rattle.rfb_server.specs.Composing.{count_row}
-use Rattle.rfb_server.specs.inside.Gaining.{right_behind}
+use Rattle.rfb_server.specs.inside.Gains.{right_behind}
 use Rattle.rfb_server.proofs.session.Session.behind_in_row.Given as goal
 
 -- the places so far are counted

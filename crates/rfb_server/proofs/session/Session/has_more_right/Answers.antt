@@ -1,6 +1,6 @@
 use Rattle.std.proofs.Common.{◌≡◌, ◌+◌, ◌-◌, ◌*◌, ◌≤◌, refl, arith}
 use Rattle.rfb_server.specs.Composing.{count_row}
-use Rattle.rfb_server.specs.inside.Gaining.{line, right_before, right_behind}
+use Rattle.rfb_server.specs.inside.Gains.{line, right_before, right_behind}
 use Rattle.rfb_server.proofs.RightRowsLemmas.{before_row, rows_left}
 use Rattle.rfb_server.proofs.session.Session.has_more_right.Goals as goal
 

@@ -1,6 +1,6 @@
 use Rattle.std.proofs.Common.{◌≡◌, ◌+◌, ◌-◌, ◌*◌, ◌≤◌}
 use Rattle.rfb_server.specs.Composing.{count_rows}
-use Rattle.rfb_server.specs.inside.Gaining.{right_before}
+use Rattle.rfb_server.specs.inside.Gains.{right_before}
 use Rattle.rfb_server.proofs.session.Session.has_more_right.Given as goal
 
 -- the rows so far are counted, and those left can still change the answer

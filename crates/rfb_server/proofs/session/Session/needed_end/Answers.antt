@@ -1,7 +1,7 @@
 use Rattle.std.proofs.Common.{ℕ, inl, inr, subst, arith}
 use Rattle.std.proofs.lemmas.Bool.{cases_lt}
 use Rattle.rfb_picture.specs.Places.{HasBitsBetween}
-use Rattle.rfb_server.specs.inside.Needing.{needs_of}
+use Rattle.rfb_server.specs.inside.Needs.{needs_of}
 use Rattle.rfb_server.proofs.NeedingBits.{last_between, none_between}
 use Rattle.rfb_server.proofs.session.Session.needed_end.Goals as goal
 

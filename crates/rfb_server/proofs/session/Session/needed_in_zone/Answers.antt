@@ -1,5 +1,5 @@
 use Rattle.std.proofs.Common.{ℕ, ◌+◌, None, arith, subst}
-use Rattle.rfb_server.specs.inside.Needing.{IsFirst, needs_of}
+use Rattle.rfb_server.specs.inside.Needs.{IsFirst, needs_of}
 use Rattle.rfb_server.proofs.NeedingLemmas.{no_rows, all_rows, row_clear}
 use Rattle.rfb_server.proofs.session.Session.needed_in_zone.Goals as goal
 

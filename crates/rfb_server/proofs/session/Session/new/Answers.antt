@@ -7,7 +7,7 @@ use Rattle.rfb_server.proofs.session.Session.new.Goals as goal
 
 pub invariant_of-result : goal.invariant_of-result
 invariant_of-result c =
-    let fresh = c.in_ok-tracking.ensures in
+    let fresh = c.in_ok-places.ensures in
     record {
       alike = record {
         known_whole = rw fresh.known_is (whole-uniform _ _ _);
@@ -26,7 +26,7 @@ invariant_of-result c =
 
 pub returns-clause-follows : goal.returns-clause-follows
 returns-clause-follows c = λ screen whole wide high.
-    let fresh = c.in_ok-tracking.ensures in
+    let fresh = c.in_ok-places.ensures in
     record {
       whole = whole;
       alike = record { columns = wide ∙ sym fresh.known_wide; rows = high ∙ sym fresh.known_high };

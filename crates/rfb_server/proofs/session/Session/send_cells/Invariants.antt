@@ -1,7 +1,7 @@
 use Rattle.std.proofs.Common.{◌≡◌, ◌≤◌, ◌*◌, ◌+◌, ◌-◌, ℕ, vec_len}
 use Rattle.std.specs.Int.{div_ceil}
 use Rattle.std.specs.Vec.{vec_capacity}
-use Rattle.rfb_server.specs.inside.Needing.{IsQuiet}
+use Rattle.rfb_server.specs.inside.Needs.{IsQuiet}
 use Rattle.rfb_server.specs.Following.{Follows}
 use Rattle.rfb_server.specs.inside.Sends.{IsKept, AppendsCells, AreCosts, may_need, sum_below}
 use Rattle.rfb_server.proofs.session.Session.send_cells.Given as goal

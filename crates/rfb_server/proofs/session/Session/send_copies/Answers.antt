@@ -1,5 +1,5 @@
 use Rattle.std.proofs.Common.{◌≡◌, ◌<◌, ◌≤◌, Bool, true, false, slice_get, Some, refl, arith, ◌∙◌}
-use Rattle.rfb_server.specs.inside.Copying.{usable_hints}
+use Rattle.rfb_server.specs.inside.Copies.{usable_hints}
 use mir.Val.{bool_byte}
 use Rattle.rfb_server.proofs.SentCells.{kept_then, kept_same}
 use Rattle.rfb_server.proofs.CopiedLemmas.{copies_begin, copies_go_on, listed_usable, some_hint}

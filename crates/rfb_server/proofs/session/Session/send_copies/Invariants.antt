@@ -1,9 +1,9 @@
 use Rattle.std.proofs.Common.{◌≡◌, ◌≤◌, ◌*◌, ◌+◌, vec_len}
 use Rattle.std.specs.Vec.{vec_capacity}
-use Rattle.rfb_server.specs.inside.Needing.{IsQuiet}
+use Rattle.rfb_server.specs.inside.Needs.{IsQuiet}
 use Rattle.rfb_server.specs.Following.{Follows}
 use Rattle.rfb_server.specs.inside.Sends.{IsKept}
-use Rattle.rfb_server.specs.inside.Copying.{AppendsCopies}
+use Rattle.rfb_server.specs.inside.Copies.{AppendsCopies}
 use Rattle.rfb_server.proofs.session.Session.send_copies.Given as goal
 
 -- the copies so far were sent, and there is room for the others

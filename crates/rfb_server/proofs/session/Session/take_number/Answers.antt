@@ -3,7 +3,7 @@ use Rattle.std.proofs.lemmas.List.{length-take-le, take_all}
 use Rattle.std.specs.Int.{w32}
 use Rattle.std.proofs.lemmas.Int.{to_z-of_z}
 use Rattle.rfb_hello.specs.ServerEnd.{as_reply}
-use Rattle.rfb_server.specs.declared.session.progress.Progress.TheVariants.{Head}
+use Rattle.rfb_server.specs.declared.session.input.progress.Progress.TheVariants.{Head}
 use Rattle.rfb_wire.specs.RectStream.{encoding_of}
 use Rattle.rfb_wire.specs.Fields.{s32_at}
 use Rattle.rfb_server.specs.Encodings.{with_encoding}

@@ -1,7 +1,7 @@
 use Rattle.std.proofs.Common.{◌≡◌, ◌∙◌, ◌++◌, ◌-◌, ℕ, List, length, take, refl, ap, arith}
 use Rattle.std.proofs.lemmas.List.{length-take-le, take_all}
 use Rattle.rfb_hello.specs.ServerEnd.{as_reply}
-use Rattle.rfb_server.specs.declared.session.progress.Progress.TheVariants.{Head}
+use Rattle.rfb_server.specs.declared.session.input.progress.Progress.TheVariants.{Head}
 use Rattle.rfb_server.proofs.CutTextLemmas.{text_part, text_told}
 use Rattle.rfb_server.proofs.FeedingLemmas.{up_same}
 use Rattle.rfb_server.proofs.session.Session.take_text.Goals as goal

@@ -1,7 +1,7 @@
 use Rattle.std.proofs.Common.{◌≡◌, ℕ, ◌+◌, List, [], ◌∷◌, ◌++◌, length, ap, subst, ◌∙◌, rules, arith, vec_len}
 use Rattle.std.proofs.lemmas.Grind.{common_steps}
 use Rattle.std.proofs.Math.Seq.{take-append_seam}
-use Rattle.rfb_server.specs.inside.Copying.{AppendsCopies, usable_hints}
+use Rattle.rfb_server.specs.inside.Copies.{AppendsCopies, usable_hints}
 use Rattle.rfb_server.specs.inside.Composed.{IsCounted}
 use Rattle.rfb_server.proofs.UpdateLemmas.{enough_kept, updated, about_updated, sent_whole, stayed}
 use Rattle.rfb_server.proofs.QuietLemmas.{quiet_nowhere}

@@ -1,0 +1,103 @@
+//! The pixels of an update, cell by cell.
+
+ghost use Rattle.std.specs.Prelude.{◌≡◌, ℕ, ◌+◌, ◌*◌, ◌≤◌, true, false};
+ghost use Rattle.std.specs.Prelude.{vec_len, None};
+ghost use Rattle.std.specs.Int.{div_ceil};
+ghost use Rattle.std.specs.Vec.{vec_capacity};
+ghost use Rattle.rfb_picture.specs.Grid.{Holds};
+ghost use Rattle.rfb_codec.specs.Raw.{raw_length};
+ghost use Rattle.rfb_server.specs.inside.Needs.{IsQuiet};
+ghost use Rattle.rfb_server.specs.Following.{Follows};
+ghost use Rattle.rfb_server.specs.inside.Sends.{IsKept, AppendsPixels, SendsCell, AppendsCells};
+ghost use Rattle.rfb_server.specs.inside.Sends.{IsCostIn, IsEnough};
+
+use crate::cells::cell_at;
+use crate::rectangle::append_rect;
+use crate::session::Session;
+use rfb_picture::{Picture, Rect};
+use rfb_pixel::Colour;
+
+impl Session {
+    /// Sends what of each cell needs sending, and tells how many rectangles that makes. There is
+    /// room for it. Of `quiet` no place does, and so no cell inside it is looked at.
+    pub(super) fn send_cells(
+        &mut self,
+        screen: &Picture<Colour>,
+        quiet: Rect,
+        out: &mut Vec<u8>,
+    ) -> u16
+        requires about { Follows screen.now self.old }
+        requires quiet { IsQuiet screen.now self.old quiet }
+        requires room { (room : ℕ) × IsEnough self.old (div_ceil self.old.known.width 64)
+            (div_ceil self.old.known.width 64 * div_ceil self.old.known.height 64) room
+            × (vec_len out.old + room ≤ vec_capacity out.old) }
+        ensures kept { IsKept self.old self.new }
+        ensures about { Follows screen.now self.new }
+        ensures sent { AppendsCells (div_ceil self.old.known.width 64)
+            (div_ceil self.old.known.width 64 * div_ceil self.old.known.height 64)
+            screen.now self.old self.new out.old.items out.new.items result }
+        ensures room { vec_capacity out.new ≡ vec_capacity out.old }
+    {
+        let width = self.known.width();
+        let height = self.known.height();
+        let mut count = 0;
+        let mut next = 0;
+        while let Some(index) = self.next_cell(next) {
+            let sent = self.send_cell(screen, cell_at(width, height, index), quiet, out);
+            count += u16::from(sent);
+            next = index + 1;
+        }
+        count
+    }
+
+    // Sends what of the cell needs sending, if there is something. There is room for it.
+    fn send_cell(
+        &mut self,
+        screen: &Picture<Colour>,
+        cell: Rect,
+        quiet: Rect,
+        out: &mut Vec<u8>,
+    ) -> bool
+        requires about { Follows screen.now self.old }
+        requires quiet { IsQuiet screen.now self.old quiet }
+        requires held { Holds self.old.known cell }
+        requires sides { (cell.w ≤ 64) × (cell.h ≤ 64) }
+        requires room { (cost : ℕ) × IsCostIn self.old cell cost
+            × (vec_len out.old + cost ≤ vec_capacity out.old) }
+        ensures kept { IsKept self.old self.new }
+        ensures about { Follows screen.now self.new }
+        ensures sent { SendsCell result screen.now cell self.old self.new
+            out.old.items out.new.items }
+        ensures quiet { IsQuiet screen.now self.new quiet }
+        ensures len { (cost : ℕ) → IsCostIn self.old cell cost
+            → vec_len out.new ≤ vec_len out.old + cost }
+        ensures room { vec_capacity out.new ≡ vec_capacity out.old }
+    {
+        match self.needed_outside(screen, cell, quiet) {
+            None => return false,
+            Some(rect) => self.send(screen, rect, out),
+        }
+        true
+    }
+
+    // Sends the pixels of the rectangle, and records them.
+    fn send(&mut self, screen: &Picture<Colour>, rect: Rect, out: &mut Vec<u8>)
+        requires about { Follows screen.now self.old }
+        requires held { Holds self.old.known rect }
+        requires columns { (1 ≤ rect.w) × (rect.w ≤ 64) }
+        requires rows { (1 ≤ rect.h) × (rect.h ≤ 64) }
+        requires room { vec_len out.old + 12 + raw_length self.old.format rect.w rect.h
+            ≤ vec_capacity out.old }
+        ensures kept { IsKept self.old self.new }
+        ensures about { Follows screen.now self.new }
+        ensures sent { AppendsPixels screen.now rect self.old self.new
+            out.old.items out.new.items }
+        ensures len { vec_len out.new
+            ≤ vec_len out.old + 12 + raw_length self.old.format rect.w rect.h }
+        ensures room { vec_capacity out.new ≡ vec_capacity out.old }
+    {
+        let encoding = self.encodings.preferred();
+        self.known.take(screen, &self.format, rect, &mut self.block);
+        append_rect(encoding, rect, &self.block, &self.format, out);
+    }
+}

@@ -1,0 +1,150 @@
+//! Rectangles that the viewer is told to copy, by the hints of the screen's owner.
+
+ghost use Rattle.std.specs.Prelude.{◌≡◌, ◌+◌, ◌*◌, ◌≤◌, slice_get, Some, vec_len};
+ghost use Rattle.std.specs.Vec.{vec_capacity};
+ghost use Rattle.rfb_server.specs.inside.Needs.{IsQuiet};
+ghost use Rattle.rfb_server.specs.Following.{Follows};
+ghost use Rattle.rfb_server.specs.inside.Sessions.{IsSame};
+ghost use Rattle.rfb_server.specs.inside.Sends.{IsKept};
+ghost use Rattle.rfb_server.specs.inside.Copies.{SendsHint, AppendsCopies, usable_hints};
+ghost use Rattle.rfb_server.specs.inside.Copies.{KeepsMarks, IsMarkedFor, AreMarkedFor};
+ghost use Rattle.rfb_server.specs.declared.hint.Hint.{Hint};
+
+use crate::hint::Hint;
+use crate::rectangle::append_copy;
+use crate::session::Session;
+use crate::session::update::quiet::quiet_behind;
+use rfb_picture::{Picture, Rect};
+use rfb_pixel::Colour;
+use rfb_wire::Encoding;
+
+impl Session {
+    /// How many of the hints may be used: all, where the viewer listed CopyRect.
+    pub(crate) fn usable_hints(&self) -> usize
+        ensures value { result ≡ usable_hints self.now }
+        ensures few { result ≤ 16 }
+    {
+        if !self.encodings.has(Encoding::CopyRect) {
+            return 0;
+        }
+        self.hints.len()
+    }
+
+    /// Marks where the viewer may be told to copy to, since its picture changes there. That may
+    /// mark a place that the viewer has already, and costs a look at it.
+    pub(crate) fn mark_hints(&mut self, screen: &Picture<Colour>)
+        requires { Follows screen.now self.old }
+        ensures about { Follows screen.now self.new }
+        ensures same { IsSame self.old self.new }
+        ensures hints { self.new.hints ≡ self.old.hints }
+        ensures marked { AreMarkedFor screen.now self.new (usable_hints self.new) }
+    {
+        for index in 0..self.usable_hints() {
+            self.mark_hint(screen, index);
+        }
+    }
+
+    // Marks it for the hint of that number.
+    fn mark_hint(&mut self, screen: &Picture<Colour>, index: usize)
+        requires { Follows screen.now self.old }
+        ensures about { Follows screen.now self.new }
+        ensures same { IsSame self.old self.new }
+        ensures hints { self.new.hints ≡ self.old.hints }
+        ensures more { KeepsMarks self.old self.new }
+        ensures marked { (hint : Hint) → slice_get self.old.hints.items index ≡ Some hint →
+            IsMarkedFor screen.now self.new hint }
+    {
+        if let Some(hint) = self.hints.get(index) {
+            let to = hint.to;
+            if screen.holds(to) {
+                self.mark(to);
+            }
+        }
+    }
+
+    /// Tells the viewer to copy by each hint that is of use, the oldest first, and tells how many
+    /// rectangles that makes. There is room for them. `quiet` becomes the last one's rectangle,
+    /// where no place of it is left to be sent, else an empty one.
+    pub(crate) fn send_copies(
+        &mut self,
+        screen: &Picture<Colour>,
+        out: &mut Vec<u8>,
+        quiet: &mut Rect,
+    ) -> u16
+        requires about { Follows screen.now self.old }
+        requires quiet { IsQuiet screen.now self.old quiet.old }
+        requires room { vec_len out.old + 16 * usable_hints self.old ≤ vec_capacity out.old }
+        requires marked { AreMarkedFor screen.now self.old (usable_hints self.old) }
+        ensures kept { IsKept self.old self.new }
+        ensures about { Follows screen.now self.new }
+        ensures sent { AppendsCopies screen.now (usable_hints self.old) self.old self.new
+            out.old.items out.new.items result }
+        ensures quiet { IsQuiet screen.now self.new quiet.new }
+        ensures few { result ≤ 16 }
+        ensures len { vec_len out.new ≤ vec_len out.old + 16 * usable_hints self.old }
+        ensures room { vec_capacity out.new ≡ vec_capacity out.old }
+    {
+        let mut count = 0;
+        for index in 0..self.usable_hints() {
+            let sent = self.send_hint(screen, index, out, quiet);
+            count += u16::from(sent);
+        }
+        count
+    }
+
+    // Tells the viewer to copy by the hint of that number, if that is of use. There is room for it.
+    fn send_hint(
+        &mut self,
+        screen: &Picture<Colour>,
+        index: usize,
+        out: &mut Vec<u8>,
+        quiet: &mut Rect,
+    ) -> bool
+        requires about { Follows screen.now self.old }
+        requires quiet { IsQuiet screen.now self.old quiet.old }
+        requires room { vec_len out.old + 16 ≤ vec_capacity out.old }
+        ensures kept { IsKept self.old self.new }
+        ensures about { Follows screen.now self.new }
+        ensures sent { (hint : Hint) → slice_get self.old.hints.items index ≡ Some hint →
+            SendsHint result screen.now hint self.old self.new out.old.items out.new.items }
+        ensures quiet { IsQuiet screen.now self.new quiet.new }
+        ensures len { vec_len out.new ≤ vec_len out.old + 16 }
+        ensures room { vec_capacity out.new ≡ vec_capacity out.old }
+    {
+        match self.hints.get(index) {
+            None => false,
+            Some(hint) => {
+                let hint = *hint;
+                self.send_copy(screen, hint, out, quiet)
+            }
+        }
+    }
+
+    // The same for a hint.
+    fn send_copy(
+        &mut self,
+        screen: &Picture<Colour>,
+        hint: Hint,
+        out: &mut Vec<u8>,
+        quiet: &mut Rect,
+    ) -> bool
+        requires about { Follows screen.now self.old }
+        requires quiet { IsQuiet screen.now self.old quiet.old }
+        requires room { vec_len out.old + 16 ≤ vec_capacity out.old }
+        ensures kept { IsKept self.old self.new }
+        ensures about { Follows screen.now self.new }
+        ensures sent { SendsHint result screen.now hint self.old self.new
+            out.old.items out.new.items }
+        ensures quiet { IsQuiet screen.now self.new quiet.new }
+        ensures len { vec_len out.new ≤ vec_len out.old + 16 }
+        ensures room { vec_capacity out.new ≡ vec_capacity out.old }
+    {
+        let Some(right) = self.gains(screen, hint) else {
+            return false;
+        };
+        append_copy(hint.to, hint.sx, hint.sy, out);
+        self.known.copy(hint.to, hint.sx, hint.sy);
+        *quiet = quiet_behind(hint.to, right);
+        true
+    }
+}
