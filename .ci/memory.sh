@@ -6,20 +6,36 @@
 # `serve` or `view`, may have printed a beginning. A call with a file `as`, which names another,
 # asks for memory as often as that one, and so for none in what it has more.
 #
-#   .ci/memory.sh crates/rfb/out/rfb
+#   .ci/memory.sh crates/rfb/out/rfb crates
 #
 # Calls whose memory or output is limited, whose input is made up, or that need another run beside
-# them are left out. It needs a C compiler, for malloc and realloc in the place of libc's; where there
-# is none it says so, and tries nothing.
+# them are left out.
+# In the folder behind it are the crates, with their test programs: these are refused each allocation
+# of the tests that are named below, which reach growths that no call of the program does. Such a
+# test must pass whatever is refused. Only where its own set-up is, it may end with that error.
+#
+# It needs a C compiler, for malloc and realloc in the place of libc's; where there is none it says
+# so, and tries nothing.
 # The last line is 'N passed, M failed'.
 set -u
 export LC_ALL=C
 calls=$(cd "$(dirname "$0")" && pwd)/program
 program=$(realpath "$1")
+crates=$(realpath "$2")
 room=$(mktemp -d)
 trap 'rm -rf "$room"' EXIT
 
-# The call numbered by REFUSE fails, and makes the file named by REFUSED.
+# A crate, a test of it, and how many allocations come first that are the test's own set-up.
+tests='
+rfb_server tests::memory::an_update_that_was_refused_memory_is_composed_by_the_next_call 0
+rfb_server tests::memory::a_text_that_was_refused_memory_fails_the_server_for_good 0
+rfb_viewer tests::long_texts::want_of_memory_is_told_for_good 0
+rfb_viewer tests::calls::a_text_without_memory_leaves_the_buffer 1
+rfb_session world::tests::memory::a_world_that_is_refused_memory_is_closed 0
+'
+
+# The call numbered by REFUSE fails, and makes the file named by REFUSED. A run has a minute; `timeout`
+# in front of it would be refused memory too.
 cat > "$room/refuse.c" <<'END'
 #include <errno.h>
 #include <fcntl.h>
@@ -33,6 +49,7 @@ __attribute__((constructor)) static void begin(void) {
     const char *number = getenv("REFUSE");
     left = number ? atol(number) : 0;
     mark = getenv("REFUSED");
+    alarm(60);
 }
 static int refused(void) {
     if (left == 0 || --left != 0) return 0;
@@ -54,13 +71,21 @@ cc -shared -fPIC -o "$room/refuse.so" "$room/refuse.c" || exit 2
 # The file of a call, or nothing.
 file() { if [ -e "$1" ]; then echo "$1"; else echo /dev/null; fi; }
 
-# Runs the call $1 with allocation $2 refused; its outputs and its status go to files named $3.
+# Runs a program with allocation $1 refused; its outputs and its status go to files named $2. What
+# is behind these is the program and its words.
+refuse() {
+    local number=$1 name=$2 status=0
+    shift 2
+    REFUSE=$number REFUSED="$room/refused" LD_PRELOAD="$room/refuse.so" "$@" \
+        < "$room/stdin" > "$room/$name.out" 2> "$room/$name.err" || status=$?
+    echo "$status" > "$room/$name.status"
+}
+
+# The same with the call $1, and the number and the names behind it.
 run() {
-    local words status=0
+    local words
     mapfile -t words < "$(file "$1/args")"
-    REFUSE=$2 REFUSED="$room/refused" LD_PRELOAD="$room/refuse.so" timeout 60 \
-        "$program" "${words[@]}" < "$room/stdin" > "$room/$3.out" 2> "$room/$3.err" || status=$?
-    echo "$status" > "$room/$3.status"
+    refuse "$2" "$3" "$program" "${words[@]}"
 }
 
 same() { cmp -s "$room/one.$1" "$room/all.$1"; }
@@ -100,6 +125,10 @@ for call in "$calls"/*/; do
     asked[$name]=$((number - 1))
     echo "$name: $((number - 1)) allocations, $refused of them told as want of memory"
 done
+if [ "$passed$failed" = 00 ]; then
+    failed=1
+    echo "no call asks for memory"
+fi
 for call in "$calls"/*/as; do
     name=$(basename "$(dirname "$call")") other=$(cat "$call")
     if [ "${asked[$name]:-none}" = "${asked[$other]:-0}" ]; then
@@ -109,5 +138,39 @@ for call in "$calls"/*/as; do
         echo "$name asks for memory ${asked[$name]:-0} times, and $other ${asked[$other]:-0}"
     fi
 done
+
+# Whether the test passed, and is one that there is.
+is_passed() { [ "$(cat "$room/one.status")" = 0 ] && grep -qxF 'test result: ok' "$room/one.out"; }
+
+# Whether it ended as one does whose set-up was refused. Behind an assertion that fails it says where.
+is_not_set_up() {
+    printf 'Error: AllocError\nthe test failed: its result gives status 1\n' | cmp -s - "$room/one.err"
+}
+
+: > "$room/stdin"
+while read -r crate name own; do
+    [ -n "$crate" ] || continue
+    of="$crate, $name"
+    for ((number = 0; ; number++)); do
+        rm -f "$room/refused"
+        refuse "$number" one "$crates/$crate/out/${crate}_tests" "$name"
+        [ "$number" = 0 ] || [ -e "$room/refused" ] || break
+        if is_passed || { [ "$number" != 0 ] && [ "$number" -le "$own" ] && is_not_set_up; }; then
+            passed=$((passed + 1))
+            continue
+        fi
+        failed=$((failed + 1))
+        echo "$of with $([ "$number" = 0 ] && echo nothing || echo "allocation $number") refused:" \
+            "status $(cat "$room/one.status")"
+        cat "$room/one.err"
+        # It says nothing of those that are refused where it fails without.
+        [ "$number" != 0 ] || continue 2
+    done
+    echo "$of: $((number - 1)) allocations, $own of them of its set-up"
+    if [ "$((number - 1))" -le "$own" ]; then
+        failed=$((failed + 1))
+        echo "$of asks for no memory but in its set-up"
+    fi
+done <<< "$tests"
 echo "$passed passed, $failed failed"
 [ "$failed" = 0 ] && [ "$passed" != 0 ]

@@ -48,6 +48,10 @@ put('recording_of_nothing',args='play\n',stderr='fault 28 Truncated\n',status='1
 put('recording_of_a_handshake',args='play\n',stdin=HELLO,stdout=ppm(2,1,bytes(12)),status='0\n')
 put('recording_cut_in_a_text',args='play\n',stdin=HELLO+bytes.fromhex('0300000000000005'+'41424344'),stderr='fault 28 Truncated\n',status='1\n')
 put('recording_with_a_text',args='play\n',stdin=HELLO+bytes.fromhex('0300000000000005'+'4142434402'),stdout=ppm(2,1,bytes(12)),status='0\n')
+# Reasons, of which the viewer keeps what it has room for.
+REASON=struct.pack('>I',2)+b'No'
+put('recording_of_a_refusal',args='play\n',stdin=HELLO[:12]+b'\0'+REASON,stderr='fault 19 Refused\n',status='1\n')
+put('recording_of_a_bad_result',args='play\n',stdin=HELLO[:17]+b'\1'+REASON,stderr='fault 21 SecurityFailed\n',status='1\n')
 put('recording_of_an_unknown_message',args='play\n',stdin=P+b'\x04',stderr='fault 7 UnknownMessage\n',status='1\n')
 # Another update: the right place becomes (255, 128, 1) times 257.
 MORE=bytes.fromhex('00000001'+'0001000000010001'+'00000000'+'0180FF00')
