@@ -27,6 +27,9 @@ ghost use Rattle.rfb_session.specs.declared.told.Told.{Told};
 ghost use Rattle.rfb_session.specs.InFlight.{AreMade, Flight, Flies, first_flight};
 ghost use Rattle.rfb_session.specs.InFlight.{ReachesViewer, ReachesServer};
 
+pub mod messages;
+pub mod streams;
+
 /// Whatever is drawn, asked, composed and delivered, in any number and order, refused calls among
 /// it: wherever it is known what the viewer has, it shows that once all that is in flight to it has
 /// reached it; and over the area that the latest update answered it then shows the screen as it was
