@@ -6,6 +6,7 @@ use Rattle.rfb_wire.specs.stream.End.{StaysFailed, RefusedBy, RunsOutBy}
 use Rattle.rfb_server.specs.declared.fault.ServerFault.{ServerFault}
 use Rattle.rfb_server.specs.declared.fault.ServerFault.TheVariants.{NoMemory as ServerWantsMemory}
 use Rattle.rfb_server.specs.declared.server.Server.{Server}
+use Rattle.rfb_server.specs.Failing.{KeepsNotes}
 use Rattle.rfb_server.specs.Server.{Serving, server, AsksMemory as ServerAsks}
 use Rattle.rfb_server.specs.Standing.{StandsFor as ServerStandsFor, fault_of as server_fault}
 use Rattle.rfb_viewer.specs.declared.fault.ViewerFault.{ViewerFault}
@@ -83,9 +84,9 @@ pub hears_until : {A : Type 0} (old : Server) (bytes rest before mid : List ℕ)
     Hearing old bytes rest before mid last → server_fault new ≡ Some fault →
     (fault ≢ ServerWantsMemory → (serving : Serving) → RefusedBy (server serving) (ServerStandsFor serving) last rest fault) →
     (fault ≡ ServerWantsMemory → (serving : Serving) → RunsOutBy (server serving) ServerAsks (ServerStandsFor serving) last rest) →
-    StaysFailed (server_fault last) last r new → fault ≢ ServerWantsMemory →
+    KeepsNotes fault last rest new → StaysFailed (server_fault last) last r new → fault ≢ ServerWantsMemory →
     Hears old bytes before mid new
-hears_until old bytes rest before mid last fault new r was fails refused starved stays memory = record {
+hears_until old bytes rest before mid last fault new r was fails refused starved kept stays memory = record {
   heard = λ fine. absurd (never_some (server_fault new) fault fails fine);
   either = λ serving s prefix stands. inr (record {
     fault = fault;
@@ -93,7 +94,7 @@ hears_until old bytes rest before mid last fault new r was fails refused starved
     later = [];
     bytes_are = sym (append-nil bytes);
     ended = hearing_stops old bytes rest (Some before) (Some mid) (Some mid) last 0 0 0 (ServerEnded fault) new was.heard refl
-        (call_ended last new rest (Some mid) fault fails refused starved);
+        (call_ended last new rest (Some mid) fault fails refused starved kept);
     has_memory = memory;
   });
   failed = λ failed.

@@ -13,6 +13,7 @@ use Rattle.rfb_server.specs.declared.server.Server.{Server}
 use Rattle.rfb_server.specs.Told.{ServerTold, seen}
 use Rattle.rfb_server.specs.Server.{Serving, ServerState, server, AsksMemory}
 use Rattle.rfb_server.specs.Standing.{StandsFor, Draws, Keeps as KeepsServer, with_screen, screen_of, fault_of}
+use Rattle.rfb_server.specs.Failing.{KeepsNotes}
 use Rattle.rfb_server.specs.Composing.{Composes}
 use Rattle.rfb_server.specs.Updating.{Updates, StaysUnsent}
 use Rattle.rfb_session.specs.declared.engine.fault.EngineFault.{EngineFault}
@@ -247,8 +248,8 @@ pub call_ended : (old new : Server) (bytes : List ℕ) (before : Option (List �
     fault_of new ≡ Some fault →
     (fault ≢ NoMemory → (serving : Serving) → RefusedBy (server serving) (StandsFor serving) old bytes fault) →
     (fault ≡ NoMemory → (serving : Serving) → RunsOutBy (server serving) AsksMemory (StandsFor serving) old bytes) →
-    IsEnded old bytes before before fault new
-call_ended old new bytes before fault fails refused starved = record {
+    KeepsNotes fault old bytes new → IsEnded old bytes before before fault new
+call_ended old new bytes before fault fails refused starved kept = record {
   fed = [];
   slice = bytes;
   sent = [];
@@ -256,7 +257,7 @@ call_ended old new bytes before fault fails refused starved = record {
   bytes_are = refl;
   hears = hears_none old;
   wrote = Appends-nil before;
-  ends = record { fails = fails; refused = refused; starved = starved };
+  ends = record { fails = fails; refused = refused; starved = starved; kept = kept };
 }
 
 -- calls behind one another

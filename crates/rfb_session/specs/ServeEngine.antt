@@ -13,6 +13,7 @@ use Rattle.rfb_server.specs.ClientBytes.{ClientAt, FromClient, is_between}
 use Rattle.rfb_server.specs.Told.{ServerTold}
 use Rattle.rfb_server.specs.Server.{Serving, ServerState, server, AsksMemory}
 use Rattle.rfb_server.specs.Standing.{StandsFor, Keeps as KeepsAll, with_screen, fault_of}
+use Rattle.rfb_server.specs.Failing.{KeepsNotes}
 use Rattle.rfb_server.specs.Composing.{Part, Composes, IsDue}
 use Rattle.rfb_server.specs.Updating.{Updates, WasDue}
 use Rattle.rfb_session.specs.declared.engine.fault.EngineFault.{EngineFault}
@@ -80,7 +81,8 @@ RunsFromIdle old fed sent updates new =
     (serving : Serving) (s : ServerState) (prefix : List ℕ) → StandsFor serving old s prefix →
     IsIdle s → Ran server_driven serving s prefix new fed sent updates
 
--- it ended at these bytes: by a fault of theirs, or because it asked for memory there
+-- it ended at these bytes: by a fault of theirs, or because it asked for memory there; it has the
+-- screen and the notes that the items before left
 pub record ServerEndsBy (fault : ServerFault) (old : Server) (slice : List ℕ)
     (new : Server) : Type 0 where
   pub fails : fault_of new ≡ Some fault
@@ -88,6 +90,7 @@ pub record ServerEndsBy (fault : ServerFault) (old : Server) (slice : List ℕ)
       RefusedBy (server serving) (StandsFor serving) old slice fault
   pub starved : fault ≡ TextNoMemory → (serving : Serving) →
       RunsOutBy (server serving) AsksMemory (StandsFor serving) old slice
+  pub kept : KeepsNotes fault old slice new
 
 -- whether the client's bytes have ended between two messages, as the server stands
 abbrev pub ServerBetween : Server → Bool → Type 0

@@ -1,6 +1,7 @@
 //! Engines over memory, whole and through devices that are short or fail.
 
 mod devices;
+mod faults;
 mod pixmap;
 mod playing;
 mod playing_some;

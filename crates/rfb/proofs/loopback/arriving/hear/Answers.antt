@@ -52,4 +52,4 @@ returns-in-Err c =
     on_ok_all c.end_of_server.result _ _ c.end_of_server.ensures
     (hears_until c.args.server.now c.args.bytes.now l.rest.now c.args.to_viewer.now.items
     l.to_viewer.items l.server c.in-Err.fault c.feed.new.self (Err c.in-Err.fault) l.invariant c.in-Err.ensures.fails
-    c.in-Err.ensures.fault c.in-Err.ensures.memory c.in-Err.ensures.failed)
+    c.in-Err.ensures.fault c.in-Err.ensures.memory c.in-Err.ensures.kept c.in-Err.ensures.failed)

@@ -19,4 +19,4 @@ pub returns-clause-stopped : goal.returns-clause-stopped
 returns-clause-stopped g c =
     call_ended c.args.server.now c.feed.new.self c.args.bytes.now
     (g.W.Sink.written c.args.sink.now) c.in-Err.fault c.in-Err.ensures.fails
-    c.in-Err.ensures.fault c.in-Err.ensures.memory
+    c.in-Err.ensures.fault c.in-Err.ensures.memory c.in-Err.ensures.kept
