@@ -1,9 +1,9 @@
-//! Readers and writers that are short, and that fail at a call.
+//! Readers and writers that are short, or that fail at a call.
 
-ghost use Rattle.std.specs.Prelude.{⊤};
+ghost use Rattle.std.specs.Prelude.{⊤, None, Some};
 ghost use Rattle.rfb_codec.specs.Effect.{IsAlike};
 
-use crate::engine::Scene;
+use crate::engine::{Scene, Sink, Source};
 use rfb_picture::Rect;
 use rfb_pixel::Colour;
 use rfb_server::Server;
@@ -11,50 +11,29 @@ use std::alloc::Global;
 use std::io;
 use std::io::{ErrorKind, Read, Write};
 
-// Gives at most so many bytes a call, and fails behind so many calls.
+// Gives at most so many bytes a call.
 #[derive(Drop)]
 pub struct Reader<'a> {
     pub bytes: &'a [u8],
     pub most: usize,
-    pub calls: usize,
 }
 
 impl Read for Reader<'_> {
     fn read(&mut self, buf: &mut [u8]) -> io::Result<usize> {
-        if self.calls == 0 {
-            return Err(io::Error::from(ErrorKind::Interrupted));
-        }
-        self.calls -= 1;
         let count = self.most.min(buf.len());
         self.bytes.read(&mut buf[..count])
     }
 }
 
-// How a writer goes on behind its calls.
-#[derive(Clone, Copy, PartialEq, Eq, Debug)]
-pub enum Then {
-    Fails,
-    TakesNone,
-}
-
-// Takes at most so many bytes a call, and no more behind so many calls.
+// Takes at most so many bytes a call.
 #[derive(Drop)]
 pub struct Writer {
     pub bytes: Vec<u8>,
     pub most: usize,
-    pub calls: usize,
-    pub then: Then,
 }
 
 impl Write for Writer {
     fn write(&mut self, buf: &[u8]) -> io::Result<usize> {
-        if self.calls == 0 {
-            return match self.then {
-                Then::Fails => Err(io::Error::from(ErrorKind::BrokenPipe)),
-                Then::TakesNone => Ok(0),
-            };
-        }
-        self.calls -= 1;
         let count = self.most.min(buf.len());
         self.bytes.extend_from_slice(&buf[..count])?;
         Ok(count)
@@ -62,6 +41,102 @@ impl Write for Writer {
 
     fn flush(&mut self) -> io::Result<()> {
         Ok(())
+    }
+}
+
+// Gives one byte a call, and fails behind so many calls. It tells its bytes.
+#[derive(Drop)]
+pub struct FailingReader<'a> {
+    pub unread: &'a [u8],
+    pub calls: usize,
+    pub failures: u64,
+}
+
+impl Source for FailingReader<'_> {
+    ghost unread = { λ r. Some r.unread.now };
+
+    ghost failed = { λ r. r.failures };
+
+    fn read(&mut self, buf: &mut [u8]) -> io::Result<usize> {
+        if self.calls == 0 {
+            self.failures += 1;
+            return Err(io::Error::from(ErrorKind::Interrupted));
+        }
+        self.calls -= 1;
+        if self.unread.is_empty() || buf.is_empty() {
+            return Ok(0);
+        }
+        buf[0] = self.unread[0];
+        self.unread = &self.unread[1..];
+        Ok(1)
+    }
+
+    fn failures(&self) -> u64 {
+        self.failures
+    }
+}
+
+// Takes one byte a call, and fails behind so many calls. It tells its bytes.
+#[derive(Drop)]
+pub struct FailingWriter {
+    pub written: Vec<u8>,
+    pub calls: usize,
+    pub failures: u64,
+}
+
+impl Sink for FailingWriter {
+    ghost written = { λ w. Some w.written.items };
+
+    ghost failed = { λ w. w.failures };
+
+    ghost reference = { λ w. None };
+
+    fn write(&mut self, buf: &[u8]) -> io::Result<usize> {
+        if buf.is_empty() {
+            return Ok(0);
+        }
+        if self.calls == 0 || self.written.push(buf[0]).is_err() {
+            self.failures += 1;
+            return Err(io::Error::from(ErrorKind::BrokenPipe));
+        }
+        self.calls -= 1;
+        Ok(1)
+    }
+
+    fn failures(&self) -> u64 {
+        self.failures
+    }
+}
+
+// Takes one byte a call, and none behind so many calls. It tells its bytes.
+#[derive(Drop)]
+pub struct FullWriter {
+    pub written: Vec<u8>,
+    pub calls: usize,
+    pub failures: u64,
+}
+
+impl Sink for FullWriter {
+    ghost written = { λ w. Some w.written.items };
+
+    ghost failed = { λ w. w.failures };
+
+    ghost reference = { λ w. None };
+
+    fn write(&mut self, buf: &[u8]) -> io::Result<usize> {
+        if buf.is_empty() {
+            return Ok(0);
+        }
+        if self.calls == 0 || self.written.push(buf[0]).is_err() {
+            self.failures += 1;
+            return Ok(0);
+        }
+        self.calls -= 1;
+        Ok(1)
+    }
+
+    fn failures(&self) -> u64 {
+        self.failures
     }
 }
 
@@ -88,24 +163,5 @@ impl Scene for Recolouring {
             h: 1,
         };
         let _ = server.fill(row, Colour { r, g, b });
-    }
-}
-
-// A reader whose calls give at most so many bytes, and never fail.
-pub fn steady_reader(bytes: &[u8], most: usize) -> Reader<'_> {
-    Reader {
-        bytes,
-        most,
-        calls: usize::MAX,
-    }
-}
-
-// A writer whose calls take at most so many bytes, and never fail.
-pub fn steady_writer(alloc: Global, most: usize) -> Writer {
-    Writer {
-        bytes: Vec::new(alloc),
-        most,
-        calls: usize::MAX,
-        then: Then::Fails,
     }
 }

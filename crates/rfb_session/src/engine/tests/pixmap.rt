@@ -1,7 +1,7 @@
 //! Pixmaps that are longer than what waits for one write.
 
-use super::devices::{Then, Writer};
-use crate::engine::{Device, Sink, Tally, ppm};
+use super::devices::{FailingWriter, Writer};
+use crate::engine::{Device, Tally, ppm};
 use rfb_picture::{Picture, Rect};
 use rfb_pixel::Colour;
 use std::alloc::{AllocError, Global};
@@ -46,28 +46,14 @@ fn expected(alloc: Global) -> Result<Vec<u8>, AllocError> {
     Ok(bytes)
 }
 
-// What a writer is given that takes at most so many bytes a call, for so many calls.
-fn written(
-    alloc: Global,
-    picture: &Picture<Colour>,
-    most: usize,
-    calls: usize,
-) -> (Result<(), Device>, Vec<u8>, u64) {
+// Whether all of a pixmap is written, by writes of at most so many bytes.
+fn is_whole(alloc: Global, picture: &Picture<Colour>, pixmap: &[u8], most: usize) -> bool {
     let mut sink = Tally::new(Writer {
         bytes: Vec::new(alloc),
         most,
-        calls,
-        then: Then::Fails,
     });
     let answer = ppm(picture, &mut sink);
-    let failures = sink.failures();
-    (answer, sink.into_inner().bytes, failures)
-}
-
-// Whether all of a pixmap is written, by writes of at most so many bytes.
-fn is_whole(alloc: Global, picture: &Picture<Colour>, pixmap: &[u8], most: usize) -> bool {
-    let (answer, bytes, _) = written(alloc, picture, most, usize::MAX);
-    answer == Ok(()) && bytes.as_slice() == pixmap
+    answer == Ok(()) && sink.into_inner().bytes.as_slice() == pixmap
 }
 
 #[test]
@@ -81,19 +67,25 @@ fn a_pixmap_is_whole_whatever_writes_take(rt: HostRuntime) -> Result<(), AllocEr
     Ok(())
 }
 
-// Whether a beginning of a pixmap is written, and one write failed, where so many writes of 1,000
-// bytes do not.
+// Whether a beginning of a pixmap is written where so many writes of one byte do not fail, and the
+// next one does.
 fn has_beginning(alloc: Global, picture: &Picture<Colour>, pixmap: &[u8], calls: usize) -> bool {
-    let (answer, bytes, failures) = written(alloc, picture, 1000, calls);
-    answer == Err(Device) && failures == 1 && pixmap.starts_with(&bytes)
+    let mut sink = FailingWriter {
+        written: Vec::new(alloc),
+        calls,
+        failures: 0,
+    };
+    let answer = ppm(picture, &mut sink);
+    answer == Err(Device)
+        && sink.failures == 1
+        && sink.written.as_slice() == &pixmap[..calls.min(pixmap.len())]
 }
 
 #[test]
 fn a_pixmap_that_cannot_be_written_has_its_beginning(rt: HostRuntime) -> Result<(), AllocError> {
     let picture = picture(rt.alloc())?;
     let pixmap = expected(rt.alloc())?;
-    // 60 writes of 1,000 bytes, and one of 17, where no write is cut short by the room.
-    for calls in [0, 1, 8, 9, 60] {
+    for calls in [0, 1, 17, 8191, 8192, 60_016] {
         let beginning = has_beginning(rt.alloc(), &picture, &pixmap, calls);
         assert!(rt; beginning, "behind {calls} writes");
     }

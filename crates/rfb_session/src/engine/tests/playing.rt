@@ -1,9 +1,9 @@
 //! Recordings that are played.
 
-use super::devices::Reader;
+use super::devices::{FailingReader, Reader};
 use super::streams::{CUT_TEXT, HANDSHAKE, UPDATE};
 use super::viewer_in;
-use crate::engine::{EngineFault, Source, Tally, play, ppm};
+use crate::engine::{EngineFault, Tally, play, ppm};
 use rfb_pixel::Format;
 use std::alloc::{AllocError, Global};
 
@@ -18,11 +18,7 @@ fn recording(alloc: Global, behind: &[u8], count: usize) -> Result<Vec<u8>, Allo
 // What is answered to a recording in rgb888, by reads of at most so many bytes.
 pub(super) fn answer_to(alloc: Global, bytes: &[u8], most: usize) -> Result<u64, EngineFault> {
     let mut viewer = viewer_in(alloc, Format::rgb888());
-    let mut source = Tally::new(Reader {
-        bytes,
-        most,
-        calls: usize::MAX,
-    });
+    let mut source = Tally::new(Reader { bytes, most });
     let answer = play(&mut source, &mut viewer);
     drop(viewer);
     answer
@@ -31,11 +27,7 @@ pub(super) fn answer_to(alloc: Global, bytes: &[u8], most: usize) -> Result<u64,
 // The pixmap of what the viewer shows behind a recording.
 fn picture_of(alloc: Global, bytes: &[u8], most: usize) -> Vec<u8> {
     let mut viewer = viewer_in(alloc, Format::rgb888());
-    let mut source = Tally::new(Reader {
-        bytes,
-        most,
-        calls: usize::MAX,
-    });
+    let mut source = Tally::new(Reader { bytes, most });
     let mut sink = Tally::new(Vec::new(alloc));
     let played = play(&mut source, &mut viewer);
     if let (Ok(_), Some(picture)) = (played, viewer.picture()) {
@@ -138,14 +130,16 @@ fn each_update_is_counted_once_across_reads(rt: HostRuntime) -> Result<(), Alloc
 // Whether the read behind so many of one byte is told to fail, and is not tried again.
 fn fails_once(alloc: Global, bytes: &[u8], calls: usize) -> bool {
     let mut viewer = viewer_in(alloc, Format::rgb888());
-    let mut source = Tally::new(Reader {
-        bytes,
-        most: 1,
+    let mut source = FailingReader {
+        unread: bytes,
         calls,
-    });
+        failures: 0,
+    };
     let answer = play(&mut source, &mut viewer);
     drop(viewer);
-    answer == Err(EngineFault::Device) && source.failures() == 1
+    answer == Err(EngineFault::Device)
+        && source.failures == 1
+        && source.unread == &bytes[calls.min(bytes.len())..]
 }
 
 #[test]

@@ -1,6 +1,6 @@
 //! Recordings whose first updates are played.
 
-use super::devices::Reader;
+use super::devices::{FailingReader, Reader};
 use super::streams::{HANDSHAKE, RED_UPDATE, UPDATE};
 use super::viewer_in;
 use crate::engine::{EngineFault, Source, Tally, play_some, ppm};
@@ -25,23 +25,8 @@ fn behind_a_handshake(alloc: Global, bytes: &[u8], more: &[u8]) -> Result<Vec<u8
     Ok(all)
 }
 
-// What is answered where so many updates of a recording are played, by such reads; and how many
-// reads failed.
-fn answer_to(
-    alloc: Global,
-    bytes: &[u8],
-    (most, calls): (usize, usize),
-    updates: u64,
-) -> (Result<u64, EngineFault>, u64) {
-    let mut viewer = viewer_in(alloc, Format::rgb888());
-    let mut source = Tally::new(Reader { bytes, most, calls });
-    let answer = play_some(&mut source, &mut viewer, updates.max(1));
-    let failures = source.failures();
-    drop(viewer);
-    (answer, failures)
-}
-
-// Whether that is answered, by reads of at most so many bytes that never fail.
+// Whether that is answered where so many updates of a recording are played, by reads of at most so
+// many bytes that never fail.
 fn is_answered(
     alloc: Global,
     bytes: &[u8],
@@ -49,7 +34,29 @@ fn is_answered(
     updates: u64,
     answer: Result<u64, EngineFault>,
 ) -> bool {
-    answer_to(alloc, bytes, (most, usize::MAX), updates) == (answer, 0)
+    let mut viewer = viewer_in(alloc, Format::rgb888());
+    let mut source = Tally::new(Reader { bytes, most });
+    let answered = play_some(&mut source, &mut viewer, updates.max(1));
+    drop(viewer);
+    answered == answer && source.failures() == 0
+}
+
+// What is answered where the read behind so many of one byte fails, and how many have failed.
+fn answer_behind(
+    alloc: Global,
+    bytes: &[u8],
+    calls: usize,
+    updates: u64,
+) -> (Result<u64, EngineFault>, u64) {
+    let mut viewer = viewer_in(alloc, Format::rgb888());
+    let mut source = FailingReader {
+        unread: bytes,
+        calls,
+        failures: 0,
+    };
+    let answer = play_some(&mut source, &mut viewer, updates.max(1));
+    drop(viewer);
+    (answer, source.failures)
 }
 
 #[test]
@@ -111,9 +118,9 @@ fn an_early_end_is_as_that_of_play(rt: HostRuntime) -> Result<(), AllocError> {
 fn a_read_that_fails_is_told_where_it_is_needed(rt: HostRuntime) -> Result<(), AllocError> {
     let bytes = recording(rt.alloc(), 2)?;
     let failed = (Err(EngineFault::Device), 1);
-    assert!(rt; answer_to(rt.alloc(), &bytes, (1, 68), 1) == failed);
-    assert!(rt; answer_to(rt.alloc(), &bytes, (1, 69), 1) == (Ok(1), 0));
-    assert!(rt; answer_to(rt.alloc(), &bytes, (1, 69), 2) == failed);
+    assert!(rt; answer_behind(rt.alloc(), &bytes, 68, 1) == failed);
+    assert!(rt; answer_behind(rt.alloc(), &bytes, 69, 1) == (Ok(1), 0));
+    assert!(rt; answer_behind(rt.alloc(), &bytes, 69, 2) == failed);
     Ok(())
 }
 

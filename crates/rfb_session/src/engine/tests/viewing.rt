@@ -1,6 +1,8 @@
 //! A viewer that is run over memory.
 
-use super::devices::{Reader, Then, Writer, steady_reader, steady_writer};
+ghost use Rattle.std.specs.Prelude.{◌<◌, ◌-◌, ◌^◌};
+
+use super::devices::{FailingReader, FailingWriter, FullWriter, Reader};
 use super::playing::answer_to;
 use super::streams::{HANDSHAKE, NEXT_REQUEST, RED_UPDATE, UPDATE, VIEWER};
 use super::{joined, viewer_in};
@@ -9,40 +11,32 @@ use rfb_pixel::Format;
 use rfb_viewer::ViewerFault;
 use std::alloc::{AllocError, Global};
 
-// What viewing of so many updates answered and wrote, and how many reads and writes failed.
-#[derive(Drop)]
-struct Viewed {
-    answer: Result<u32, EngineFault>,
-    written: Vec<u8>,
-    failures: (u64, u64),
-}
-
-// Views a server through these devices, in rgb888.
-fn viewing(alloc: Global, reader: Reader<'_>, writer: Writer, updates: u32) -> Viewed {
+// What is answered where so many updates are viewed in rgb888, through this reader and this writer.
+fn viewing<R: Source, W: Sink>(
+    alloc: Global,
+    source: &mut R,
+    sink: &mut W,
+    updates: u32,
+) -> Result<u32, EngineFault>
+    requires readable { R.failed source.old < 2 ^ 64 - 1 }
+    requires writable { W.failed sink.old < 2 ^ 64 - 1 }
+{
     let mut viewer = viewer_in(alloc, Format::rgb888());
-    let mut source = Tally::new(reader);
-    let mut sink = Tally::new(writer);
-    let answer = view(&mut source, &mut sink, &mut viewer, updates.max(1));
-    let failures = (source.failures(), sink.failures());
+    let answer = view(source, sink, &mut viewer, updates.max(1));
     drop(viewer);
-    Viewed {
-        answer,
-        written: sink.into_inner().bytes,
-        failures,
-    }
+    answer
 }
 
-// Whether so many updates were viewed, and this was written, by reads of at most so many bytes.
+// Whether so many updates are viewed, and this is written, by reads of at most so many bytes.
 fn is_viewed(alloc: Global, bytes: &[u8], most: usize, updates: u32, written: &[u8]) -> bool {
-    let viewed = viewing(
+    let mut sink = Tally::new(Vec::new(alloc));
+    let answer = viewing(
         alloc,
-        steady_reader(bytes, most),
-        steady_writer(alloc, 4096),
+        &mut Tally::new(Reader { bytes, most }),
+        &mut sink,
         updates,
     );
-    let right = viewed.answer == Ok(updates) && viewed.written.as_slice() == written;
-    drop(viewed);
-    right
+    answer == Ok(updates) && sink.into_inner().as_slice() == written
 }
 
 #[test]
@@ -68,29 +62,41 @@ fn behind_an_update_it_asks_for_what_has_changed(rt: HostRuntime) -> Result<(), 
     Ok(())
 }
 
-// Whether viewing stops at this call of its writer: as many bytes are written as calls went before,
-// and one write failed.
-fn stops_at_a_write(alloc: Global, bytes: &[u8], calls: usize, then: Then) -> bool {
-    let failing = Writer {
-        bytes: Vec::new(alloc),
-        most: 1,
+// Whether viewing stops at the write behind so many, which fails: exactly the bytes of these are
+// written.
+fn stops_at_a_failure(alloc: Global, bytes: &[u8], calls: usize) -> bool {
+    let mut source = Tally::new(bytes);
+    let mut sink = FailingWriter {
+        written: Vec::new(alloc),
         calls,
-        then,
+        failures: 0,
     };
-    let viewed = viewing(alloc, steady_reader(bytes, 4096), failing, 1);
-    let right = viewed.answer == Err(EngineFault::Device)
-        && viewed.written.as_slice() == &VIEWER[..calls.min(VIEWER.len())]
-        && viewed.failures == (0, 1);
-    drop(viewed);
-    right
+    let answer = viewing(alloc, &mut source, &mut sink, 1);
+    answer == Err(EngineFault::Device)
+        && sink.written.as_slice() == &VIEWER[..calls.min(VIEWER.len())]
+        && (source.failures(), sink.failures) == (0, 1)
+}
+
+// The same where a write takes none of its bytes.
+fn stops_where_none_is_taken(alloc: Global, bytes: &[u8], calls: usize) -> bool {
+    let mut source = Tally::new(bytes);
+    let mut sink = FullWriter {
+        written: Vec::new(alloc),
+        calls,
+        failures: 0,
+    };
+    let answer = viewing(alloc, &mut source, &mut sink, 1);
+    answer == Err(EngineFault::Device)
+        && sink.written.as_slice() == &VIEWER[..calls.min(VIEWER.len())]
+        && (source.failures(), sink.failures) == (0, 1)
 }
 
 #[test]
 fn a_failing_write_leaves_a_beginning_of_what_is_sent(rt: HostRuntime) -> Result<(), AllocError> {
     let bytes = joined(rt.alloc(), &[HANDSHAKE, UPDATE])?;
     for calls in 0..52_usize {
-        let fails = stops_at_a_write(rt.alloc(), &bytes, calls, Then::Fails);
-        let takes_none = stops_at_a_write(rt.alloc(), &bytes, calls, Then::TakesNone);
+        let fails = stops_at_a_failure(rt.alloc(), &bytes, calls);
+        let takes_none = stops_where_none_is_taken(rt.alloc(), &bytes, calls);
         assert_eq!(rt; (fails, takes_none), (true, true), "behind {calls} writes");
     }
     Ok(())
@@ -107,39 +113,40 @@ fn length_behind(count: usize) -> usize {
     }
 }
 
-// Whether viewing ends so where the reader fails, or ends, behind so many bytes.
-fn ends_behind(alloc: Global, bytes: &[u8], count: usize) -> bool {
-    let failing = Reader {
-        bytes,
-        most: 1,
+// What of the viewer's bytes is written once so many were read.
+fn front_behind(count: usize) -> &'static [u8] {
+    &VIEWER[..length_behind(count).min(VIEWER.len())]
+}
+
+// Whether viewing stops so where the reader fails behind so many bytes.
+fn fails_behind(alloc: Global, bytes: &[u8], count: usize) -> bool {
+    let mut source = FailingReader {
+        unread: bytes,
         calls: count,
+        failures: 0,
     };
-    let failed = viewing(alloc, failing, steady_writer(alloc, 4096), 1);
-    let front = &bytes[..count.min(bytes.len())];
-    let ended = viewing(
-        alloc,
-        steady_reader(front, 4096),
-        steady_writer(alloc, 4096),
-        1,
-    );
-    let right = failed.answer == Err(EngineFault::Device)
-        && failed.failures == (1, 0)
-        && failed.written.len() == length_behind(count)
-        && ended.answer == Err(EngineFault::Truncated)
-        && ended.written.len() == length_behind(count);
-    drop(failed);
-    drop(ended);
-    right
+    let mut sink = Tally::new(Vec::new(alloc));
+    let answer = viewing(alloc, &mut source, &mut sink, 1);
+    answer == Err(EngineFault::Device)
+        && (source.failures, sink.failures()) == (1, 0)
+        && sink.into_inner().as_slice() == front_behind(count)
+}
+
+// Whether it stops so where the bytes end there.
+fn ends_behind(alloc: Global, bytes: &[u8], count: usize) -> bool {
+    let mut sink = Tally::new(Vec::new(alloc));
+    let mut source = Tally::new(&bytes[..count.min(bytes.len())]);
+    let answer = viewing(alloc, &mut source, &mut sink, 1);
+    answer == Err(EngineFault::Truncated) && sink.into_inner().as_slice() == front_behind(count)
 }
 
 #[test]
 fn bytes_that_fail_or_end_early_are_answered_so_far(rt: HostRuntime) -> Result<(), AllocError> {
     let bytes = joined(rt.alloc(), &[HANDSHAKE, UPDATE])?;
     for count in 0..69_usize {
-        assert!(rt;
-            ends_behind(rt.alloc(), &bytes, count),
-            "behind {count} bytes"
-        );
+        let fails = fails_behind(rt.alloc(), &bytes, count);
+        let ends = ends_behind(rt.alloc(), &bytes, count);
+        assert_eq!(rt; (fails, ends), (true, true), "behind {count} bytes");
     }
     Ok(())
 }
@@ -148,8 +155,8 @@ fn bytes_that_fail_or_end_early_are_answered_so_far(rt: HostRuntime) -> Result<(
 fn kept_of(alloc: Global, bytes: &[u8], most: usize) -> Vec<u8> {
     let mut viewer = viewer_in(alloc, Format::rgb888());
     let mut kept = Tally::new(Vec::new(alloc));
-    let mut sink = Tally::new(steady_writer(alloc, 4096));
-    let mut source = Tally::new(steady_reader(bytes, most));
+    let mut sink = Tally::new(Vec::new(alloc));
+    let mut source = Tally::new(Reader { bytes, most });
     let _ = view_recording(&mut source, &mut sink, &mut kept, &mut viewer, 1);
     drop(viewer);
     drop(sink);
