@@ -4,6 +4,8 @@ use Rattle.std.specs.Int.{div_ceil}
 use Rattle.std.proofs.lemmas.Bool.{cases_eq, cases_lt, both_ways}
 use Rattle.std.proofs.lemmas.Bool.Decides.{nat_tests}
 use Rattle.std.proofs.Math.Nat.{mul-le-mul_right, mul-le-mul_left}
+use Rattle.std.proofs.lemmas.Nat.{mul-le}
+use Rattle.rfb_server.specs.Room.{GrowsWithin}
 use Rattle.rfb_pixel.specs.Format.{PixelFormat, size_of}
 use Rattle.rfb_picture.specs.declared.rect.Rect.{Rect}
 use Rattle.rfb_picture.specs.Rect.{contains}
@@ -170,3 +172,31 @@ few_cells w h a b =
     let down : div_ceil h 64 ≤ 64 = omega arith in
     let some : div_ceil w 64 * div_ceil h 64 ≤ 64 * div_ceil h 64 = mul-le-mul_right (div_ceil h 64) across in
     omega arith
+
+-- ---- how much room there is at most
+
+-- a cell has at most 4,096 places
+pub whole_cell : (w h size : ℕ) → w ≤ 64 → h ≤ 64 → 12 + h * w * size ≤ 12 + 4096 * size
+whole_cell w h size wide high =
+    let places : h * w ≤ 64 * 64 = mul-le h w 64 64 high wide in
+    let pixels : h * w * size ≤ 4096 * size = mul-le (h * w) size 4096 size places (omega arith) in
+    omega (arith, pixels)
+
+-- a cell more costs at most as much as one
+pub one_cell_more : (at index each room cost : ℕ) → at ≤ index → room ≤ at * each → cost ≤ each →
+    room + cost ≤ (index + 1) * each
+one_cell_more at index each room cost after most one =
+    let less : (at + 1) * each ≤ (index + 1) * each = mul-le (at + 1) each (index + 1) each (omega arith) (omega arith) in
+    let sum : (at + 1) * each ≡ at * each + each = omega arith in
+    omega (arith, less, sum, most, one)
+
+pub all_cells : (at all each room : ℕ) → at ≤ all → room ≤ at * each → room ≤ all * each
+all_cells at all each room within most =
+    let less : at * each ≤ all * each = mul-le at each all each within (omega arith) in
+    omega (arith, less, most)
+
+-- the head of an update, its copies and its cells
+pub room_within : (old len usable room most new : ℕ) → usable ≤ 16 → room ≤ most →
+    GrowsWithin old (len + (4 + 16 * usable + room)) new → GrowsWithin old (len + (260 + most)) new
+room_within old len usable room most new few cells (inl twice) = inl twice
+room_within old len usable room most new few cells (inr needed) = inr (omega (arith, few, cells, needed))

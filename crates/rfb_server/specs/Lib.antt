@@ -12,6 +12,7 @@ pub mod Following
 pub mod Standing
 pub mod Failing
 pub mod Hints
+pub mod Room
 pub mod Updating
 pub mod Using
 pub mod inside

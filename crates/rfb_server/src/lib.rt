@@ -10,6 +10,7 @@ mod drawing;
 mod encodings;
 mod event;
 mod fault;
+mod growth;
 mod hint;
 pub mod law;
 mod record;

@@ -1,6 +1,6 @@
 //! A server: a screen and a session.
 
-ghost use Rattle.std.specs.Prelude.{◌≡◌, ◌≢◌, ◌≤◌, ◌<◌, ◌↔◌, ℕ, List, [], ◌++◌, length, take};
+ghost use Rattle.std.specs.Prelude.{◌≡◌, ◌≢◌, ◌≤◌, ◌<◌, ◌↔◌, ℕ, List, [], ◌++◌, ◌+◌, length, vec_len, take};
 ghost use Rattle.std.specs.Prelude.{true, false, Some, None, Ok, IfOk, IfErr, OnOk, OnErr, IsErr};
 ghost use Rattle.rfb_server.specs.Following.{Follows};
 
@@ -42,6 +42,8 @@ impl Server {
     ghost use Rattle.rfb_server.specs.Updating.{Updates, WasDue, StaysUnsent};
     ghost use Rattle.rfb_server.specs.Record.{ShowsKnown, TellsKnown};
     ghost use Rattle.rfb_server.specs.Hints.{hints_of, with_hint};
+    ghost use Rattle.rfb_server.specs.Room.{GrowsWithin, room_for};
+    ghost use Rattle.std.specs.Vec.{vec_capacity};
 
     /// A server that was fed nothing, with a black screen of `width` by `height` places: nothing
     /// was sent, and nothing is asked. It offers versions up to `offer`, names the screen, and
@@ -168,8 +170,9 @@ impl Server {
     /// them to be sent whole, which leaves more of them right than there were. Then come pixels.
     /// Behind an update nothing is asked any more. `out` stays the caller's; what was in it stays in
     /// front. Room is asked for once, before anything changes: at most 260 bytes, and 12 and its
-    /// pixels' bytes for each cell of 64 by 64 places that holds an asked place. Where there is none
-    /// it gives the error, if an update is due, and nothing changes.
+    /// pixels' bytes for each cell of 64 by 64 places that holds an asked place; or twice the room
+    /// that there was, if that is more. Where there is none it gives the error, if an update is due,
+    /// and nothing changes.
     pub fn compose(&mut self, out: &mut Vec<u8>) -> Result<bool, AllocError>
         ensures appended { (bytes : List ℕ) × (out.new.items ≡ out.old.items ++ bytes) }
         ensures composed { IfOk result (λ did. did ≡ true →
@@ -183,6 +186,8 @@ impl Server {
         ensures spent { IfOk result (λ did. did ≡ true → hints_of self.new ≡ []) }
         ensures hints { IfOk result (λ did. did ≡ false → hints_of self.new ≡ hints_of self.old) }
         ensures unspent { OnErr result (hints_of self.new ≡ hints_of self.old) }
+        ensures room { GrowsWithin (vec_capacity out.old)
+            (vec_len out.old + room_for (notes_of self.old)) (vec_capacity out.new) }
     {
         self.session.compose(&self.screen, out)
     }

@@ -19,6 +19,7 @@ mod needs;
 mod quiet;
 mod room;
 
+use crate::growth::make_room;
 use crate::rectangle::COPY_SIZE;
 use crate::session::Session;
 use crate::session::input::progress::Progress;
@@ -36,6 +37,7 @@ impl Session {
     ghost use Rattle.rfb_server.specs.Standing.{KeepsSession, session_fault};
     ghost use Rattle.rfb_server.specs.Updating.{SendsUpdate, OwesUpdate, OwesNone};
     ghost use Rattle.rfb_server.specs.Hints.{hints_in};
+    ghost use Rattle.rfb_server.specs.Room.{GrowsWithin, update_room};
 
     /// Appends to `out` one FramebufferUpdate, RFC 6143 section 7.6.1, of what the viewer asked for
     /// and does not have of the screen, which it is lent, and tells whether it did: exactly where
@@ -45,8 +47,8 @@ impl Session {
     /// there were. Then come pixels. Behind an update nothing is asked any more, and no hint is kept.
     /// `out` stays the caller's; what was in it stays in front. Room is asked for once, before
     /// anything changes: at most 260 bytes, and 12 and its pixels' bytes for each cell of 64 by 64
-    /// places that holds an asked place. Where there is none it gives the error, if an update is
-    /// due, and nothing changes.
+    /// places that holds an asked place; or twice the room that there was, if that is more. Where
+    /// there is none it gives the error, if an update is due, and nothing changes.
     ///
     /// The session has to follow the screen: it was told of each drawing by `drawn`.
     pub fn compose(
@@ -68,6 +70,8 @@ impl Session {
         ensures spent { IfOk result (λ did. did ≡ true → hints_in self.new ≡ []) }
         ensures hints { IfOk result (λ did. did ≡ false → hints_in self.new ≡ hints_in self.old) }
         ensures unspent { OnErr result (hints_in self.new ≡ hints_in self.old) }
+        ensures room { GrowsWithin (vec_capacity out.old)
+            (vec_len out.old + update_room self.old) (vec_capacity out.new) }
     {
         self.send_due(screen, out)
     }
@@ -85,6 +89,8 @@ impl Session {
         ensures same { OnErr result (IsSame self.old self.new) }
         ensures hints { OnErr result (self.new.hints ≡ self.old.hints) }
         ensures unready { is_ready self.old.progress ≡ false → result ≡ Ok false }
+        ensures room { GrowsWithin (vec_capacity out.old)
+            (vec_len out.old + update_room self.old) (vec_capacity out.new) }
     {
         if !self.is_ready() {
             return Ok(false);
@@ -94,7 +100,8 @@ impl Session {
         if room == 0 {
             return Ok(false);
         }
-        match out.reserve(UPDATE_HEAD_SIZE + COPY_SIZE * self.usable_hints() + room) {
+        let more = UPDATE_HEAD_SIZE + COPY_SIZE * self.usable_hints() + room;
+        match make_room(out, more) {
             Ok(()) => Ok(self.update(screen, out)),
             Err(error) if self.is_due(screen) => Err(error),
             // The cells' marks alone said that there may be one.
@@ -125,6 +132,7 @@ impl Session {
             (HasComposed screen.now self.old self.new out.old.items out.new.items) }
         ensures idle { OnFalse result
             (StaysIdle screen.now self.old self.new out.old.items out.new.items) }
+        ensures room { vec_capacity out.new ≡ vec_capacity out.old }
     {
         let start = out.len();
         append_within(out, ServerHead::Update(0).spell().as_slice());
@@ -153,7 +161,8 @@ impl Session {
 // Writes into the head of an update, which stands at `at`, how many rectangles the update has.
 fn put_count(out: &mut Vec<u8>, at: usize, count: u16)
     requires { at + 4 ≤ vec_len out.old }
-    ensures { IsCounted at count out.old.items out.new.items }
+    ensures counted { IsCounted at count out.old.items out.new.items }
+    ensures room { vec_capacity out.new ≡ vec_capacity out.old }
 {
     let head = ServerHead::Update(count).spell();
     let bytes = head.as_slice();

@@ -3,6 +3,7 @@
 ghost use Rattle.std.specs.Prelude.{ℕ, ◌+◌, ◌*◌, ◌≤◌};
 ghost use Rattle.std.specs.Int.{div_ceil};
 ghost use Rattle.rfb_server.specs.Cells.{IsCell};
+ghost use Rattle.rfb_server.specs.Room.{cell_room};
 ghost use Rattle.rfb_server.specs.inside.Sends.{IsCostIn, IsEnough, HasNext};
 
 use crate::cells::cell_at;
@@ -17,6 +18,8 @@ impl Session {
         ensures enough { IsEnough self.now (div_ceil self.now.known.width 64)
             (div_ceil self.now.known.width 64 * div_ceil self.now.known.height 64) result }
         ensures bound { result ≤ 4096 * 16396 }
+        ensures most { result ≤ div_ceil self.now.known.width 64
+            * div_ceil self.now.known.height 64 * cell_room self.now.format }
     {
         let width = self.known.width();
         let height = self.known.height();
@@ -44,6 +47,7 @@ impl Session {
             → IsCell self.now.known.width self.now.known.height across n other
             → IsCostIn self.now other result }
         ensures bound { result ≤ 16396 }
+        ensures most { result ≤ cell_room self.now.format }
     {
         let places = usize::from(cell.h) * usize::from(cell.w);
         RECT_HEAD_SIZE + places * self.format.size()

@@ -1,8 +1,9 @@
 use Rattle.std.proofs.Common.{◌*◌, arith, ℕ}
 use Rattle.std.specs.Int.{div_ceil}
 use Rattle.rfb_server.specs.Cells.{IsCell}
+use Rattle.rfb_server.specs.Room.{cell_room}
 use Rattle.rfb_server.specs.inside.Sends.{may_need}
-use Rattle.rfb_server.proofs.RoomLemmas.{costs_none, costs_more, costs_skip, cut, sum_cut, with_cost, sum_with, few_cells}
+use Rattle.rfb_server.proofs.RoomLemmas.{costs_none, costs_more, costs_skip, cut, sum_cut, with_cost, sum_with, few_cells, one_cell_more, all_cells}
 use Rattle.rfb_server.proofs.session.Session.room.Goals as goal
 
 pub loop-index-init : goal.loop-index-init
@@ -13,6 +14,7 @@ loop-index-init c =
       within = omega arith;
       few = omega arith;
       bound = omega arith;
+      most = omega arith;
     }
 
 pub loop-index-preserved : goal.loop-index-preserved
@@ -37,6 +39,7 @@ loop-index-preserved c =
       within = omega (arith, next.is_cell);
       few = omega (arith, next.is_cell, cells);
       bound = omega (arith, next.after, c.cost_of-room.ensures.bound, l.invariant.bound);
+      most = one_cell_more l.at index (cell_room s.format) l.room cost next.after l.invariant.most c.cost_of-room.ensures.most;
     }
 
 pub returns-clause-enough : goal.returns-clause-enough
@@ -51,3 +54,9 @@ returns-clause-enough c =
       costs = costs_skip s.known.width s.known.height (div_ceil s.known.width 64) (may_need s.marks s.area) s.format l.at all before.cost before.costs none;
       sum_is = rw (sum_cut l.at all before.cost l.invariant.within) before.sum_is;
     }
+
+pub returns-clause-most : goal.returns-clause-most
+returns-clause-most c =
+    let s = c.args.self.now in
+    let l = c.loop-index in
+    all_cells l.at (div_ceil s.known.width 64 * div_ceil s.known.height 64) (cell_room s.format) l.room l.invariant.within l.invariant.most

@@ -1,5 +1,6 @@
 use Rattle.std.proofs.Common.{◌≤◌, ◌*◌, ◌-◌}
 use Rattle.std.specs.Int.{div_ceil}
+use Rattle.rfb_server.specs.Room.{cell_room}
 use Rattle.rfb_server.specs.inside.Sends.{IsEnough}
 use Rattle.rfb_server.proofs.session.Session.room.Given as goal
 
@@ -10,6 +11,7 @@ invariant-loop-index l = record {
   within : l.at ≤ div_ceil l.self.known.width 64 * div_ceil l.self.known.height 64;
   few : l.at ≤ 4096;
   bound : l.room ≤ l.at * 16396;
+  most : l.room ≤ l.at * cell_room l.self.format;
 }
 
 abbrev pub decreases-loop-index : goal.decreases-loop-index

@@ -30,12 +30,13 @@ returns c =
     subst (λ (xs : List ℕ). AppendsCopies c.args.screen.now (usable_hints s) s copied.new.self xs copied.new.out.items copied.result) start_is copied.ensures.sent in
     let long : c.len-start.result ≡ length c.args.out.now.items = search rules in
     let counts : IsCounted (length c.args.out.now.items) (copied.result + sent.result) sent.new.out.items c.put_count.new.out.items =
-    subst (λ (n : ℕ). IsCounted n (copied.result + sent.result) sent.new.out.items c.put_count.new.out.items) long c.put_count.ensures in
+    subst (λ (n : ℕ). IsCounted n (copied.result + sent.result) sent.new.out.items c.put_count.new.out.items) long c.put_count.ensures.counted in
     record {
       about = about_updated c.args.screen.now copied.new.self sent.new.self c.settle.new.self copied.new.out.items sent.new.out.items sent.result copied.ensures.about sent.ensures.about sent.ensures.kept sent.ensures.sent c.settle.ensures;
       composed = updated c.args.screen.now s copied.new.self sent.new.self before copied.new.out.items sent.new.out.items copied.result sent.result c.requires.about copied.ensures.about copied.ensures.kept sent.ensures.kept copies sent.ensures.sent
           c.settle.new.self c.put_count.new.out.items c.if-count-eq0.false counts c.settle.ensures c.requires.ready;
       idle = tt;
+      room = c.put_count.ensures.room ∙ (sent.ensures.room ∙ (copied.ensures.room ∙ c.append_within.ensures.room));
     }
 
 pub returns-then-count-eq0-clause-idle : goal.returns-then-count-eq0-clause-idle
