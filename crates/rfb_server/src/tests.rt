@@ -13,3 +13,4 @@ mod model;
 mod requests;
 mod scene;
 mod scrolling;
+mod sessions;
