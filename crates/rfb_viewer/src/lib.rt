@@ -6,11 +6,11 @@
 //! rest on.
 #![tactic(auto)]
 
+mod client_messages;
 mod event;
 mod fault;
 mod gather;
 pub mod law;
-mod sending;
 #[cfg(test)]
 mod tests;
 mod viewer;

@@ -12,8 +12,8 @@ ghost use Rattle.rfb_viewer.specs.Messages.{key_message, pointer_message, text_m
 ghost use Rattle.rfb_viewer.specs.inside.Sound.{is_ready, is_updating, is_shown};
 ghost use Rattle.rfb_viewer.specs.Viewer.{Viewing, ViewerState};
 
+use crate::client_messages::{append_text, spell_encodings, spell_format};
 use crate::fault::{CallFault, TextFault};
-use crate::sending::{append_text, spell_encodings, spell_format};
 use crate::viewer::Viewer;
 use crate::viewer::progress::{Progress, Request};
 use arrayvec::ArrayVec;

@@ -3,9 +3,9 @@
 ghost use Rattle.std.specs.Prelude.{◌≡◌, ◌≤◌, ◌<◌, length, take, IfOk, IfErr, OnOk, OnErr, None, Some};
 ghost use Rattle.rfb_viewer.specs.inside.Steps.{screen_or};
 
+use crate::client_messages::ready_answer;
 use crate::event::ViewerEvent;
 use crate::fault::ViewerFault;
-use crate::sending::ready_answer;
 use crate::viewer::Viewer;
 use crate::viewer::progress::Progress;
 use arrayvec::ArrayVec;

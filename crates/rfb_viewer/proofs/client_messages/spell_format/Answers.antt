@@ -1,7 +1,7 @@
 use Rattle.std.proofs.Common.{◌∙◌, sym, subst, ap, ℕ, List, ◌∷◌}
 use Rattle.rfb_wire.specs.ClientMessage.{SpellsFormatMessage}
 use Rattle.rfb_viewer.proofs.SendingLaws.{format_spelled}
-use Rattle.rfb_viewer.proofs.sending.spell_format.Goals as goal
+use Rattle.rfb_viewer.proofs.client_messages.spell_format.Goals as goal
 
 pub returns-clause-spelled : goal.returns-clause-spelled
 returns-clause-spelled c =

@@ -9,7 +9,7 @@ use Rattle.rfb_wire.specs.Encoding.{number_of}
 use Rattle.rfb_wire.specs.ClientMessage.{SpellsEncodingsMessage}
 use Rattle.rfb_viewer.specs.Messages.{encoding_bytes, encodings_message}
 use Rattle.rfb_viewer.proofs.SendingLaws.{encodings_spelled}
-use Rattle.rfb_viewer.proofs.sending.spell_encodings.Goals as goal
+use Rattle.rfb_viewer.proofs.client_messages.spell_encodings.Goals as goal
 
 pub returns-clause-spelled : goal.returns-clause-spelled
 returns-clause-spelled c =

@@ -4,7 +4,7 @@ use Rattle.arrayvec.specs.ArrayVec.{array_vec_len}
 use Rattle.rfb_wire.specs.declared.client_head.ClientHead.TheVariants.{SetEncodings}
 use Rattle.rfb_wire.specs.ClientHead.{client_head_bytes}
 use Rattle.rfb_viewer.specs.Messages.{encoding_bytes}
-use Rattle.rfb_viewer.proofs.sending.spell_encodings.Given as goal
+use Rattle.rfb_viewer.proofs.client_messages.spell_encodings.Given as goal
 
 abbrev pub invariant-loop-encoding : goal.invariant-loop-encoding
 invariant-loop-encoding l = record {
