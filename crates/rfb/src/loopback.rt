@@ -9,7 +9,7 @@ ghost use Rattle.rfb.specs.declared.fault.Failure.TheVariants as Failure;
 mod arriving;
 mod ends;
 mod link;
-mod sending;
+mod sent;
 
 use crate::fault::{Failure, Fault};
 use crate::loopback::ends::Ends;

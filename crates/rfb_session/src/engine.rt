@@ -9,12 +9,12 @@ mod pixmap;
 mod playing;
 mod playing_some;
 mod scene;
-mod sending;
 mod serving;
 mod tally;
 #[cfg(test)]
 mod tests;
 mod viewing;
+mod whole_write;
 
 pub use device::{Sink, Source};
 pub use fault::{Device, EngineFault};
@@ -23,10 +23,10 @@ pub use pixmap::ppm;
 pub use playing::play;
 pub use playing_some::play_some;
 pub use scene::Scene;
-pub use sending::send;
 pub use serving::serve;
 pub use tally::Tally;
 pub use viewing::{view, view_recording};
+pub use whole_write::send;
 
 // How many bytes one read asks for.
 const READ_SIZE: usize = 4096;

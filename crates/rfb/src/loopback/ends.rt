@@ -10,7 +10,7 @@ ghost use Rattle.rfb.specs.Recording.{IsFresh};
 use crate::fault::Fault;
 use crate::loopback::arriving::{reach_server, reach_viewer, take_some};
 use crate::loopback::link::{Link, PART};
-use crate::loopback::sending::{compose, cut_text, in_flight, of_drawing, send, send_list};
+use crate::loopback::sent::{compose, cut_text, in_flight, of_drawing, send, send_list};
 use crate::playing::{copy_of, fresh_server, fresh_viewer, wishes};
 use crate::script::{Screen, Wants};
 use rfb_server::Server;

@@ -7,7 +7,7 @@ ghost use Rattle.rfb_session.specs.Pixmap.{components, header_of, pixmap};
 
 use crate::engine::device::Sink;
 use crate::engine::fault::Device;
-use crate::engine::sending::send;
+use crate::engine::whole_write::send;
 use itoa::Buffer;
 use rfb_picture::Picture;
 use rfb_pixel::Colour;

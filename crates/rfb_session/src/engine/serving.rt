@@ -11,7 +11,7 @@ use crate::engine::READ_SIZE;
 use crate::engine::device::{Sink, Source};
 use crate::engine::fault::EngineFault;
 use crate::engine::scene::Scene;
-use crate::engine::sending::send;
+use crate::engine::whole_write::send;
 use crate::reply::server_reply;
 use rfb_server::Server;
 use std::alloc::Global;

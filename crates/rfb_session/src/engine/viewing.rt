@@ -11,7 +11,7 @@ use crate::engine::READ_SIZE;
 use crate::engine::device::{Sink, Source};
 use crate::engine::fault::EngineFault;
 use crate::engine::nowhere::Nowhere;
-use crate::engine::sending::send;
+use crate::engine::whole_write::send;
 use asking::answer;
 use rfb_viewer::Viewer;
 

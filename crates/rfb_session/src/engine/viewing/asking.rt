@@ -10,7 +10,7 @@ ghost use Rattle.rfb_session.specs.Watching.{ends_told, whole_area};
 
 use crate::engine::device::Sink;
 use crate::engine::fault::Device;
-use crate::engine::sending::send;
+use crate::engine::whole_write::send;
 use crate::reply::viewer_reply;
 use rfb_picture::Rect;
 use rfb_viewer::{Viewer, ViewerEvent};

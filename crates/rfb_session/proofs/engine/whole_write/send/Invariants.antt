@@ -1,7 +1,7 @@
 -- What was written of the bytes, what is left of them, and that no write has failed.
 use Rattle.std.proofs.Common.{◌≡◌, length}
 use Rattle.rfb_session.specs.Devices.{AppendsUpTo}
-use Rattle.rfb_session.proofs.engine.sending.send.Given as goal
+use Rattle.rfb_session.proofs.engine.whole_write.send.Given as goal
 
 abbrev pub invariant-loop-rest : goal.invariant-loop-rest
 invariant-loop-rest g l = record {

@@ -1,6 +1,6 @@
 use Rattle.std.proofs.Common.{◌∙◌, ap, refl, List, ℕ, ◌++◌}
 use Rattle.rfb.proofs.ComposingLemmas.{composes_into}
-use Rattle.rfb.proofs.loopback.sending.compose.Goals as goal
+use Rattle.rfb.proofs.loopback.sent.compose.Goals as goal
 
 pub returns : goal.returns
 returns c =

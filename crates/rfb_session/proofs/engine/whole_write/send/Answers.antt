@@ -1,7 +1,7 @@
 use Rattle.std.proofs.Common.{◌∙◌, List, ℕ, sym, subst, rules}
 use Rattle.rfb_session.specs.Devices.{AppendsUpTo}
 use Rattle.rfb_session.proofs.WrittenLemmas.{rest_is, some_written, then_written}
-use Rattle.rfb_session.proofs.engine.sending.send.Goals as goal
+use Rattle.rfb_session.proofs.engine.whole_write.send.Goals as goal
 
 pub loop-rest-preserved : goal.loop-rest-preserved
 loop-rest-preserved g c =
