@@ -406,7 +406,8 @@ def everything(a, b):
 REST_38 = h('00000000') + init(2, 1)
 
 # Name, format, bytes, verdict, and the pixels that are shown where it is good (None: not told here).
-# Behind them: how many bytes at the beginning are left as they are.
+# Behind them: how many bytes at the beginning are left as they are, so that no screen gets large by
+# a changed byte.
 FROM_SERVER = [
     ('a handshake of 3.8', 'rgb888', hello(2, 1), 0, [A, A]),
     ('a handshake of 3.3', 'rgb888', b'RFB 003.003\n' + h('00000001') + init(2, 1), 0, [A, A]),
@@ -422,7 +423,9 @@ FROM_SERVER = [
     ('a refusal of 3.3 without a reason', 'rgb888', b'RFB 003.003\n' + h('00000000 00000000'), 19, None),
     ('a password at 3.3', 'rgb888', b'RFB 003.003\n' + h('00000002'), 18, None),
     ('an unknown type at 3.3', 'rgb888', b'RFB 003.003\n' + h('00000003'), 20, None),
-    ('the largest number of places', 'rgb888', hello(1, 1)[:18] + h('FFFF FFFF') + bytes(20), 23, None),
+    ('the largest screen', 'rgb888', hello(1, 1)[:18] + h('FFFF FFFF') + bytes(20), 23, None, 42),
+    ('a row of places too many', 'rgb888', hello(1, 1)[:18] + h('1000 1001') + bytes(20), 23, None, 42),
+    ('too many places', 'rgb888', hello(1, 1)[:18] + h('8000 8000') + bytes(20), 23, None),
     ('an empty screen', 'rgb888', hello(1, 1)[:18] + h('0000 0001') + bytes(20), 22, None),
     ('one place in Raw', 'rgb888',
      hello(1, 1) + update(rectangle(0, 0, 1, 1, RAW, ORANGE)), 0, [ORANGE]),
@@ -439,10 +442,10 @@ FROM_SERVER = [
      hello(17, 1) + update(rectangle(0, 0, 17, 1, HEXTILE, '02', ORANGE, '00')), 0, [ORANGE] * 17),
     ('a raw tile between two', 'rgb888',
      hello(48, 1) + update(rectangle(0, 0, 48, 1, HEXTILE, '02', A, '01', *SIXTEEN, '02', A)),
-     0, [A] * 16 + SIXTEEN + [A] * 16),
+     0, [A] * 16 + SIXTEEN + [A] * 16, len(hello(48, 1))),
     ('a background from beyond a raw tile', 'rgb888',
      hello(48, 1) + update(rectangle(0, 0, 48, 1, HEXTILE, '02', A, '01', *SIXTEEN, '00')),
-     0, [A] * 16 + SIXTEEN + [A] * 16),
+     0, [A] * 16 + SIXTEEN + [A] * 16, len(hello(48, 1))),
     ('a scroll by CopyRect', 'rgb888',
      hello(64, 64) + ROWS + update(rectangle(0, 0, 64, 63, COPY_RECT, '0000 0001'),
                                    rectangle(0, 63, 64, 1, RAW, *[BLUE] * 64)),
@@ -502,11 +505,12 @@ FROM_SERVER = [
     ('colours that go from tile to tile', 'bgr233',
      hello(48, 1) + update(rectangle(0, 0, 48, 1, HEXTILE, '1A 10 02 20 E0 00 30 F0 00',
                                      '0C 20 01 F0 00', '08 01 F0 00')),
-     0, ['10'] * 14 + ['20', '30'] + (['10'] * 15 + ['20']) * 2),
+     0, ['10'] * 14 + ['20', '30'] + (['10'] * 15 + ['20']) * 2, len(hello(48, 1))),
     ('a foreground that raw and coloured tiles leave', 'bgr233',
      hello(80, 1) + update(rectangle(0, 0, 80, 1, HEXTILE, '06 10 20', '01', '30' * 16, '08 01 00 00',
                                      '18 01 40 F0 00', '08 01 10 D0')),
-     0, ['10'] * 16 + ['30'] * 16 + ['20'] + ['10'] * 30 + ['40', '10'] + ['20'] * 14 + ['10']),
+     0, ['10'] * 16 + ['30'] * 16 + ['20'] + ['10'] * 30 + ['40', '10'] + ['20'] * 14 + ['10'],
+     len(hello(80, 1))),
     ('texts and a bell', 'rgb888',
      hello(2, 1) + h('03 000000 00000005 4142434445', '02', '03 000000 00000000'), 0, [A, A]),
     ('a text that looks like a bell', 'rgb888',
