@@ -6,7 +6,8 @@ use Rattle.rfb_picture.specs.Grid.{Grid}
 use Rattle.rfb_server.specs.declared.session.Session.{Session}
 use Rattle.rfb_server.specs.Updating.{SendsUpdate}
 
-rest_of : (all more bytes : List ℕ) (k j : ℕ) → k ≤ length all → j ≡ min k (length more) →
+-- bytes that joined others stand behind those that are left of these
+pub rest_of : (all more bytes : List ℕ) (k j : ℕ) → k ≤ length all → j ≡ min k (length more) →
     more ≡ all ++ bytes → drop j more ≡ drop k all ++ bytes
 rest_of all more bytes k j within least is =
     let long = ap (λ (q : List ℕ). length q) is ∙ length-append all bytes in

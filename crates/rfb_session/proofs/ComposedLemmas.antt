@@ -1,12 +1,13 @@
 -- A composing of a link is one of its state.
-use Rattle.std.proofs.Common.{◌≡◌, ℕ, List, Bool, true, false, ◌++◌, None, Some, inl, inr, refl, sym, ap, ◌∙◌, subst}
+use Rattle.std.proofs.Common.{◌≡◌, ◌≢◌, ℕ, List, [], Bool, true, false, ◌++◌, None, Some, inl, inr, refl, sym, ap, ◌∙◌, subst}
+use Rattle.std.proofs.lemmas.List.{append-nil}
 use Rattle.rfb_pixel.specs.declared.colour.Colour.{Colour}
 use Rattle.rfb_pixel.specs.Format.{PixelFormat}
 use Rattle.rfb_picture.specs.Grid.{Grid}
 use Rattle.rfb_picture.specs.Area.{Places}
 use Rattle.rfb_server.specs.declared.session.Session.{Session}
 use Rattle.rfb_server.specs.Server.{ServerState}
-use Rattle.rfb_server.specs.Standing.{SessionStandsFor, notes_in, notes_at, Notes}
+use Rattle.rfb_server.specs.Standing.{SessionStandsFor, session_fault, notes_in, notes_at, Notes}
 use Rattle.rfb_server.specs.Composing.{Composes, IsDue}
 use Rattle.rfb_server.specs.Hints.{hints_in}
 use Rattle.rfb_server.specs.Updating.{HasSent, SendsUpdate, OwesUpdate, OwesNone}
@@ -160,6 +161,8 @@ pub idle_over : (screen : Grid Colour) (old new : Link) (told : Told) →
 idle_over screen old new told owes same viewer to_server not = record {
   composed = λ did. absurd (apart told.composed did not);
   idle = λ _. (owes, same);
+  appended = ([], owes.appended ∙ sym (append-nil old.to_viewer));
+  failed = λ _. not;
   viewer = viewer;
   to_server = to_server;
 }
@@ -175,11 +178,15 @@ pub composed_over : (screen : Grid Colour) (old new : Link) (told : Told) →
       area = (notes_in old.session).area;
       form = (notes_in new.session).form;
     }) →
+    (bytes : List ℕ) × (new.to_viewer ≡ old.to_viewer ++ bytes) →
+    (session_fault old.session ≢ None → told.composed ≡ false) →
     new.viewer ≡ old.viewer → new.to_server ≡ old.to_server → told.composed ≡ true →
     ComposesOver screen old told new
-composed_over screen old new told sends noted viewer to_server did = record {
+composed_over screen old new told sends noted appended failed viewer to_server did = record {
   composed = λ _. (sends, noted);
   idle = λ not. absurd (apart told.composed did not);
+  appended = appended;
+  failed = failed;
   viewer = viewer;
   to_server = to_server;
 }

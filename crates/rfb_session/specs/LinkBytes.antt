@@ -140,8 +140,8 @@ pub record ReachesViewer (old : Link) (count : ℕ) (new : Link) : Type 0 where
 
 -- ---- composing
 
--- over that screen an update was composed, which joined the bytes to the viewer, and what it answered
--- is noted; or none was due, and nothing has changed
+-- over that screen an update was composed, which joined the bytes to the viewer, and what it
+-- answered is noted; or none was due, and nothing has changed. A session that has failed composes none
 pub record ComposesOver (screen : Grid Colour) (old : Link) (told : Told) (new : Link)
     : Type 0 where
   pub composed : told.composed ≡ true →
@@ -154,6 +154,8 @@ pub record ComposesOver (screen : Grid Colour) (old : Link) (told : Told) (new :
   pub idle : told.composed ≡ false →
       OwesNone screen old.session new.session old.to_viewer new.to_viewer
       × (composing_in new.latest ≡ composing_in old.latest)
+  pub appended : (bytes : List ℕ) × (new.to_viewer ≡ old.to_viewer ++ bytes)
+  pub failed : session_fault old.session ≢ None → told.composed ≡ false
   pub viewer : new.viewer ≡ old.viewer
   pub to_server : new.to_server ≡ old.to_server
 

@@ -95,7 +95,8 @@ pub record ChangesSession (old new : Link) : Type 0 where
 
 -- whatever screen the session followed, it still does
 abbrev pub FollowsStill : Link → Link → Type 0
-FollowsStill old new = (screen : Grid Colour) → Follows screen old.session → Follows screen new.session
+FollowsStill old new = (screen : Grid Colour) →
+    Follows screen old.session → Follows screen new.session
 
 -- so many bytes leave the channel to an end that has failed, and nothing else changes
 pub record LosesToViewer (old : Link) (count : ℕ) (new : Link) : Type 0 where

@@ -112,8 +112,8 @@ pub record MovesToViewer (e : Ends) (old : LinkState) (n : ℕ) (new : LinkState
   }
 
 -- so many bytes reach the server
-pub record MovesToServer (e : Ends) (screen : Grid Colour) (old : LinkState) (n : ℕ) (new : LinkState)
-    : Type 0 where
+pub record MovesToServer (e : Ends) (screen : Grid Colour) (old : LinkState) (n : ℕ)
+    (new : LinkState) : Type 0 where
   pub done : List FromClient
   pub left : List FromClient
   pub at : ℕ

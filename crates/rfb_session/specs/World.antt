@@ -89,7 +89,8 @@ HintsAs old (Hint rect sx sy) told new =
     told.refused ≡ None → hints_in new
     ≡ with_hint (record { to = rect; sx = sx; sy = sy }) (hints_in old)
 HintsAs old Compose told new =
-    (told.composed ≡ true → hints_in new ≡ []) × (told.composed ≡ false → hints_in new ≡ hints_in old)
+    (told.composed ≡ true → hints_in new ≡ [])
+    × (told.composed ≡ false → hints_in new ≡ hints_in old)
 HintsAs old event told new = hints_in new ≡ hints_in old
 
 -- ---- the same of its bytes, whatever its ends are and stand for

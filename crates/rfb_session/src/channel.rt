@@ -1,7 +1,7 @@
 //! The bytes in flight one way.
 
 ghost use Rattle.std.specs.Prelude.{◌≡◌, ◌≤◌, ◌++◌, ℕ, List, [], length, take, drop};
-ghost use Rattle.std.specs.Prelude.{true, false, IfOk, OnOk, OnErr};
+ghost use Rattle.std.specs.Prelude.{◌≢◌, true, false, None, Ok, IfOk, OnOk, OnErr};
 
 use rfb_picture::Picture;
 use rfb_pixel::Colour;
@@ -38,6 +38,7 @@ impl Channel {
     ghost use Rattle.rfb_viewer.specs.Calls.{call_refusal, text_refusal_of};
     ghost use Rattle.rfb_server.specs.Following.{Follows};
     ghost use Rattle.rfb_server.specs.Hints.{hints_in};
+    ghost use Rattle.rfb_server.specs.Standing.{session_fault};
     ghost use Rattle.rfb_server.specs.Updating.{SendsUpdate, OwesUpdate, OwesNone};
     ghost use Rattle.rfb_session.specs.inside.Room.{IsSameSize};
 
@@ -97,11 +98,13 @@ impl Channel {
     ) -> Result<bool, AllocError>
         requires follows { Follows screen.now session.old }
         ensures follows { Follows screen.now session.new }
+        ensures appended { OnOk result ((bytes : List ℕ) × (self.new ≡ self.old ++ bytes)) }
         ensures composed { IfOk result (λ did. did ≡ true →
             SendsUpdate screen.now session.old session.new self.old self.new) }
         ensures idle { IfOk result (λ did. did ≡ false →
             OwesNone screen.now session.old session.new self.old self.new) }
         ensures due { OnErr result (OwesUpdate screen.now session.old) }
+        ensures failed { session_fault session.old ≢ None → result ≡ Ok false }
         ensures size { IsSameSize session.old session.new }
         ensures spent { IfOk result (λ did. did ≡ true → hints_in session.new ≡ []) }
         ensures hints { IfOk result (λ did. did ≡ false →

@@ -15,7 +15,8 @@ pub record Happens (old : World) (event : Event) (told : Told) (new : World) : T
 
 -- an event that takes no memory
 pub record TakesNoMemory (world : World) (event : Event) : Type 0 where
-  pub case : IsDrawing event ⊎ (IsRefused world event ⊎ (IsLost world event ⊎ ComposesNothing world event))
+  pub case : IsDrawing event
+      ⊎ (IsRefused world event ⊎ (IsLost world event ⊎ ComposesNothing world event))
 
 -- what is told of a drawing, or a hint, but for its refusal
 pub record TellsDrawing (old : World) (told : Told) (new : World) : Type 0 where

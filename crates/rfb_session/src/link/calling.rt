@@ -18,12 +18,13 @@ impl Link {
     ghost use Rattle.rfb_session.specs.LinkStanding.{LinkDoes, IsRefusedOn, session_of_link};
     ghost use Rattle.rfb_session.specs.LinkBytes.{ActsOnBytes};
 
-    /// The viewer asks for an area, RFC 6143 section 7.5.3. Where the viewer refuses the call, `Told`
-    /// has the refusal, and nothing changes. Memory can be wanting for the message.
+    /// The viewer asks for an area, RFC 6143 section 7.5.3. Where the viewer refuses the call,
+    /// `Told` has the refusal, and nothing changes. Memory can be wanting for the message.
     pub fn request(&mut self, incremental: bool, rect: Rect) -> Result<Told, NoMemory>
         ensures bytes { IfOk result (λ told.
             ActsOnBytes self.old (Request incremental rect) told self.new) }
-        ensures does { IfOk result (λ told. LinkDoes self.old (Request incremental rect) told self.new) }
+        ensures does { IfOk result (λ told.
+            LinkDoes self.old (Request incremental rect) told self.new) }
         ensures kept { IfOk result (λ told. told.refused ≢ None → self.new ≡ self.old) }
         ensures session { session_of_link self.new ≡ session_of_link self.old }
         ensures spared { IsRefusedOn self.old (Request incremental rect) → IsOk result }
@@ -59,7 +60,8 @@ impl Link {
     pub fn set_encodings(&mut self, encodings: &ArrayVec<Encoding, 4>) -> Result<Told, NoMemory>
         ensures bytes { IfOk result (λ told.
             ActsOnBytes self.old (SetEncodings encodings.now) told self.new) }
-        ensures does { IfOk result (λ told. LinkDoes self.old (SetEncodings encodings.now) told self.new) }
+        ensures does { IfOk result (λ told.
+            LinkDoes self.old (SetEncodings encodings.now) told self.new) }
         ensures kept { IfOk result (λ told. told.refused ≢ None → self.new ≡ self.old) }
         ensures session { session_of_link self.new ≡ session_of_link self.old }
         ensures spared { IsRefusedOn self.old (SetEncodings encodings.now) → IsOk result }

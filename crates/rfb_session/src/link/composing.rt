@@ -15,12 +15,13 @@ impl Link {
     ghost use Rattle.rfb_session.specs.LinkBytes.{ComposesOver, SpendsHints};
 
     /// The session composes an update of the screen, which it is lent and has to follow, if one is
-    /// due, and it is in flight then. What it was composed of is noted. Memory can be wanting for the
-    /// update.
+    /// due, and it is in flight then. What it was composed of is noted. A session that has failed
+    /// composes none. Memory can be wanting for the update.
     pub fn compose(&mut self, screen: &Picture<Colour>) -> Result<Told, NoMemory>
         requires follows { Follows screen.now (session_of_link self.old) }
         ensures bytes { IfOk result (λ told. ComposesOver screen.now self.old told self.new) }
-        ensures does { IfOk result (λ told. LinkDoesOver screen.now self.old Compose told self.new) }
+        ensures does { IfOk result (λ told.
+            LinkDoesOver screen.now self.old Compose told self.new) }
         ensures hints { IfOk result (λ told. SpendsHints self.old told self.new) }
         ensures taken { IfOk result (λ told. told.refused ≡ None) }
         ensures follows { Follows screen.now (session_of_link self.new) }

@@ -1,4 +1,4 @@
-use Rattle.std.proofs.Common.{◌≡◌, Some, true, false, refl, sym, ap, ◌∙◌}
+use Rattle.std.proofs.Common.{◌≡◌, Bool, Result, Ok, Some, true, false, refl, sym, ap, ◌∙◌}
 use Rattle.rfb_pixel.specs.Format.{PixelFormat}
 use Rattle.rfb_picture.specs.Area.{Places}
 use Rattle.rfb_server.specs.Standing.{notes_in}
@@ -39,8 +39,13 @@ returns-clause-does c =
     (asks_noted old c.asked.result.now c.begin.new.self.asked c.asked.ensures.value
     c.asked.ensures.columns c.asked.ensures.rows c.begin.ensures.asked)
     ∙ ap (λ (f : PixelFormat). noted screen (notes_in old.session).area (Some f)) c.format.ensures)
+    c.in_ok-composed.ensures.appended
+    (λ failed. absurd (apart _ _ refl (c.in_ok-composed.ensures.failed failed) c.if-not-composed.false))
     refl refl c.told_composed-2.ensures.composed)
     c.told_composed-2.ensures.moved c.told_composed-2.ensures.refused c.told_composed-2.ensures.composed
+  where
+    apart : {E : Type 0} (r : Result Bool E) (b : Bool) → r ≡ Ok b → r ≡ Ok false → b ≡ true → ⊥
+    apart r b is none did = cc
 
 pub returns-in_err-composed-clause-idle : goal.returns-in_err-composed-clause-idle
 returns-in_err-composed-clause-idle c = λ idle.
