@@ -6,7 +6,7 @@ import struct
 
 BENCH = os.path.join(os.path.dirname(os.path.abspath(__file__)), "..")
 FORMATS = ["rgb888", "rgb565", "bgr233"]
-PICTURES = ["office", "desktop", "noise", "flat", "stripes"]
+PICTURES = ["office", "desktop", "noise", "two colours", "flat", "stripes"]
 CELL = 64
 
 # The part of the office picture that is repeated all over the screen on which things change: its
@@ -51,6 +51,17 @@ def noise(width, height):
     ] + repeated(width, height, SIDE, SIDE)
 
 
+def two_colours(width, height):
+    """One of two colours at random in each place of 256 by 256, which come again."""
+    bits = random.Random(2)
+    return [f"fill 0 0 {SIDE} {SIDE} 203040"] + [
+        f"fill {x} {y} 1 1 f0e0d0"
+        for y in range(SIDE)
+        for x in range(SIDE)
+        if bits.getrandbits(1)
+    ] + repeated(width, height, SIDE, SIDE)
+
+
 def stripes(width, height):
     """Columns of one place, of two colours in turn."""
     columns = [f"fill 0 0 1 {height} 203040", f"fill 1 0 1 {height} f0e0d0"]
@@ -75,6 +86,8 @@ def picture(name, width, height):
     """The lines that draw a picture."""
     if name == "noise":
         return noise(width, height)
+    if name == "two colours":
+        return two_colours(width, height)
     if name == "stripes":
         return stripes(width, height)
     if name == "flat":
@@ -138,6 +151,7 @@ def changes(width, height):
         ("a scroll by one row", scroll(width, height, 1)),
         ("a scroll by a text line", scroll(width, height, 16)),
         ("a moved window", window(width, height)),
+        ("a part of 400 by 300 copied", moved(width - 500, 77, 400, 300, 33, height - 350)),
         ("corners of every cell", corners(width, height)),
         ("a typed character", character(width, height)),
         ("one changed place", [f"{place} fedcba"]),

@@ -22,7 +22,7 @@ import scripts
 
 ENCODINGS = ["raw", "rre", "hextile"]
 SIZES = [(1920, 1080), (4096, 4096)]
-CHANGES = ["copyrect hextile", "copyrect raw"]
+CHANGES = ["copyrect hextile", "hextile", "copyrect raw"]
 GREETING = 45
 
 PEER = counting.Measured(
@@ -154,7 +154,7 @@ class Changes:
 
     def __init__(self, bench, size, encodings):
         self.bench, self.size, self.encodings = bench, size, encodings
-        self.name = f"changes_{size[0]}_{encodings.split()[-1]}"
+        self.name = f"changes_{size[0]}_{encodings.replace(' ', '_')}"
         self.script = scripts.changing_screen(encodings, *size)
         self.names = [name for name, _ in scripts.changes(*size)]
         self.ours = bench.pool.submit(bench.ours_rounds, "ours_" + self.name, self.script, True)
