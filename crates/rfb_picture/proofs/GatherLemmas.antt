@@ -3,12 +3,12 @@
 use Rattle.std.proofs.Common.{ℕ, suc, Bool, true, false, ◌≡◌, ◌+◌, ◌-◌, ◌*◌, ◌/◌, ◌^◌, ◌<◌, ◌≤◌, refl, arith, bit_and, List, slice_index_or, inl, inr}
 use Rattle.std.specs.Int.{w64, trailing_zeros, leading_zeros}
 use Rattle.std.proofs.Math.Nat.{one-mul, pow-suc}
-use Rattle.std.proofs.lemmas.Bool.{cases_lt, cases_eq, both_ways}
+use Rattle.std.proofs.lemmas.Bool.{cases_lt, cases_eq, both_ways, and_parts, and_from, false_from_ne_true}
 use Rattle.std.proofs.lemmas.Nat.{leading_top, le-div, div_below, pow_pos}
 use Rattle.std.proofs.lemmas.Nat.Bits.{bit_at-trailing_zeros, bit_at_above, bit_at-zero}
 use Rattle.rfb_picture.specs.Places.{has_bit}
-use Rattle.rfb_picture.specs.inside.Plane.{has_masked}
-use Rattle.rfb_picture.specs.inside.Edges.{HasMark, IsFirstRow, IsLastRow, IsGathered}
+use Rattle.rfb_picture.specs.inside.Plane.{has_at, has_masked}
+use Rattle.rfb_picture.specs.inside.Edges.{NoMarks, HasMark, IsFirstRow, IsLastRow, HasAllBits, IsGathered}
 use Rattle.rfb_picture.proofs.WordLemmas.{has_bit-and}
 
 -- ---- one word
@@ -93,6 +93,30 @@ none_masked words across column mask row i none =
     let zero : has_bit (bit_and (slice_index_or words (row * across + column) 0) mask) i ≡ false =
     rw (none, bit_at-zero i) refl in
     rw has_bit-and at zero
+
+-- where it leaves nothing of the words of some rows put together, these have none
+pub none_in_rows : (words : List ℕ) (across column mask from to bits : ℕ) →
+    HasAllBits words across column from to bits →
+    bit_and bits mask ≡ 0 →
+    NoMarks (has_masked words across column mask) from to
+none_in_rows words across column mask from to bits each none = λ y i p l m.
+    false_from_ne_true (has_masked words across column mask y i)
+    (λ h.
+    let (set, masked) = and_parts (has_at words across y column i) (has_bit mask i) h in
+    let there : has_bit (bit_and bits mask) i ≡ true =
+    rw has_bit-and
+    (and_from (has_bit bits i) (has_bit mask i) (each y i p l set) masked) in
+    let gone : has_bit (bit_and bits mask) i ≡ false = rw (none, bit_at-zero i) refl in
+    both_ways (has_bit (bit_and bits mask) i) gone there)
+
+-- rows and the rows behind them that have none are rows that have none
+pub no_marks_join : (q : ℕ → ℕ → Bool) (from middle to : ℕ) →
+    NoMarks q from middle → NoMarks q middle to → NoMarks q from to
+no_marks_join q from middle to front rest = λ y i p l m.
+    elim (cases_lt y middle) [
+      | inl above ↦ front y i p above m
+      | inr under ↦ rest y i under l m
+    ]
 
 -- the bits of the rows from the first that has one to the last are those of all rows
 pub gathered : (q : ℕ → ℕ → Bool) (from to first last bits : ℕ) →

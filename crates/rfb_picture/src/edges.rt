@@ -9,6 +9,9 @@ ghost use Rattle.rfb_picture.specs.inside.Edges.{HasNoOtherBits, HasGathered};
 use crate::rect::Rect;
 use crate::words::columns_between;
 
+// How many rows are looked at together, by `four_rows`.
+const ROWS: usize = 4;
+
 /// The first and the last column and row that have a place.
 #[derive(Clone, Copy, Drop)]
 pub(crate) struct Edges {
@@ -142,7 +145,13 @@ fn first_row(
     requires rows { bottom * across ≤ length words.now }
     ensures { HasFirstRow (has_masked words.now across column mask) top bottom result }
 {
-    for row in top..bottom {
+    let mut from = top;
+    let mut left = bottom.saturating_sub(top) / ROWS;
+    while left > 0 && four_rows(words, across, column, from) & mask == 0 {
+        from += ROWS;
+        left -= 1;
+    }
+    for row in from..bottom {
         if words[row * across + column] & mask != 0 {
             return Some(row);
         }
@@ -166,7 +175,13 @@ fn last_row(
     requires some { HasMark (has_masked words.now across column mask) top }
     ensures { IsLastRow (has_masked words.now across column mask) top bottom result }
 {
-    let mut last = bottom - 1;
+    let mut end = bottom;
+    let mut left = (bottom - top - 1) / ROWS;
+    while left > 0 && four_rows(words, across, column, end - ROWS) & mask == 0 {
+        end -= ROWS;
+        left -= 1;
+    }
+    let mut last = end - 1;
     while last > top && words[last * across + column] & mask == 0 {
         last -= 1;
     }
@@ -182,8 +197,28 @@ fn all_bits(words: &[u64], across: usize, column: usize, top: usize, bottom: usi
     ensures some { HasNoOtherBits words.now across column top bottom result }
 {
     let mut bits = 0;
-    for row in top..bottom {
+    let mut from = top;
+    let mut left = (bottom - top) / ROWS;
+    while left > 0 {
+        bits |= four_rows(words, across, column, from);
+        from += ROWS;
+        left -= 1;
+    }
+    for row in from..bottom {
         bits |= words[row * across + column];
     }
     bits
+}
+
+// Word `column` of four rows from `row` on, or-ed together. A loop over them would ask of each
+// whether it is one.
+#[inline(always)]
+fn four_rows(words: &[u64], across: usize, column: usize, row: usize) -> u64
+    requires column { column < across }
+    requires rows { (row + 4) * across ≤ length words.now }
+    ensures each { HasAllBits words.now across column row (row + 4) result }
+    ensures some { HasNoOtherBits words.now across column row (row + 4) result }
+{
+    let at = row * across + column;
+    words[at] | words[at + across] | words[at + 2 * across] | words[at + 3 * across]
 }

@@ -1,8 +1,25 @@
 use Rattle.std.proofs.Common.{◌+◌, ◌*◌, slice_index_or, arith, inl, inr}
 use Rattle.std.specs.Int.Bits.{and_lt}
 use Rattle.std.proofs.lemmas.Bool.{cases_eq}
-use Rattle.rfb_picture.proofs.GatherLemmas.{some_masked, none_masked}
+use Rattle.rfb_picture.specs.inside.Plane.{has_masked}
+use Rattle.rfb_picture.proofs.GatherLemmas.{some_masked, none_masked, none_in_rows, no_marks_join}
 use Rattle.rfb_picture.proofs.edges.first_row.Goals as goal
+
+pub loop-left-preserved : goal.loop-left-preserved
+loop-left-preserved c =
+    let words = c.args.words.now in
+    let across = c.args.across in
+    let column = c.args.column in
+    let mask = c.args.mask in
+    let from = c.loop-left.from in
+    record {
+      order = omega arith;
+      left = omega arith;
+      none = no_marks_join (has_masked words across column mask) c.args.top from (from + 4)
+          c.loop-left.invariant.none
+          (none_in_rows words across column mask from (from + 4) c.four_rows.result
+          c.four_rows.ensures.each c.if-four_rows-mask-eq0.true);
+    }
 
 pub returns-then-words-row-ne0 : goal.returns-then-words-row-ne0
 returns-then-words-row-ne0 c =
@@ -10,7 +27,7 @@ returns-then-words-row-ne0 c =
     record {
       above = omega arith;
       below = omega arith;
-      none = c.loop-row.invariant;
+      none = c.loop-row.invariant.none;
       here = some_masked c.args.words.now c.args.across c.args.column c.args.mask c.loop-row.row
           c.if-words-row-ne0.true
           (and_lt 64 (slice_index_or c.args.words.now index 0) c.args.mask
@@ -18,11 +35,13 @@ returns-then-words-row-ne0 c =
     }
 
 pub loop-row-preserved : goal.loop-row-preserved
-loop-row-preserved c =
-    λ y i p l m.
-    elim (cases_eq y c.loop-row.row) [
-      | inl same ↦
-          rw same (none_masked c.args.words.now c.args.across c.args.column c.args.mask
-          c.loop-row.row i c.if-words-row-ne0.false)
-      | inr other ↦ c.loop-row.invariant y i p (omega arith) m
-    ]
+loop-row-preserved c = record {
+  order = omega arith;
+  none = λ y i p l m.
+      elim (cases_eq y c.loop-row.row) [
+        | inl same ↦
+            rw same (none_masked c.args.words.now c.args.across c.args.column c.args.mask
+            c.loop-row.row i c.if-words-row-ne0.false)
+        | inr other ↦ c.loop-row.invariant.none y i p (omega arith) m
+      ];
+}

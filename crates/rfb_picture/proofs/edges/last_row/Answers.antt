@@ -1,8 +1,26 @@
-use Rattle.std.proofs.Common.{◌+◌, ◌*◌, slice_index_or, arith, inl, inr}
+use Rattle.std.proofs.Common.{◌≡◌, ◌+◌, ◌-◌, ◌*◌, slice_index_or, arith, inl, inr}
 use Rattle.std.specs.Int.Bits.{and_lt}
 use Rattle.std.proofs.lemmas.Bool.{cases_eq}
-use Rattle.rfb_picture.proofs.GatherLemmas.{some_masked, none_masked}
+use Rattle.rfb_picture.specs.inside.Plane.{has_masked}
+use Rattle.rfb_picture.proofs.GatherLemmas.{some_masked, none_masked, none_in_rows, no_marks_join}
 use Rattle.rfb_picture.proofs.edges.last_row.Goals as goal
+
+pub loop-left-preserved : goal.loop-left-preserved
+loop-left-preserved c =
+    let words = c.args.words.now in
+    let across = c.args.across in
+    let column = c.args.column in
+    let mask = c.args.mask in
+    let end = c.loop-left.end in
+    let back : end - 4 + 4 ≡ end = omega arith in
+    record {
+      above = omega arith;
+      below = omega arith;
+      none = no_marks_join (has_masked words across column mask) (end - 4) end c.args.bottom
+          (none_in_rows words across column mask (end - 4) end c.four_rows.result
+          (rw back at c.four_rows.ensures.each) c.if-four_rows-mask-eq0.true)
+          c.loop-left.invariant.none;
+    }
 
 pub loop-last-preserved : goal.loop-last-preserved
 loop-last-preserved c =
