@@ -109,6 +109,20 @@ fn unpack_each(format: Format, bytes: &[u8], colours: &mut [Colour])
     }
 }
 
+// The same of a row of fewer than eight. It stands by itself, so that `unpack_row` is small enough to
+// become a part of its callers, which know the format.
+#[inline(never)]
+fn unpack_few(format: Format, bytes: &[u8], colours: &mut [Colour])
+    requires { length bytes.now ≡ length colours.old * size_of format }
+    ensures { AreColours format bytes.now colours.new }
+{
+    if format == Format::rgb888() {
+        unpack_each(Format::rgb888(), bytes, colours);
+    } else {
+        unpack_each(format, bytes, colours);
+    }
+}
+
 // The same of rgb888, by eight pixels at once.
 #[inline(always)]
 fn unpack_rgb888(bytes: &[u8], colours: &mut [Colour])
@@ -116,7 +130,7 @@ fn unpack_rgb888(bytes: &[u8], colours: &mut [Colour])
     ensures { AreColours rgb888 bytes.now colours.new }
 {
     if colours.len() < LANES {
-        unpack_each(Format::rgb888(), bytes, colours);
+        unpack_few(Format::rgb888(), bytes, colours);
         return;
     }
     let mut at = 0;
@@ -138,7 +152,7 @@ fn unpack_rgb565(bytes: &[u8], colours: &mut [Colour])
     ensures { AreColours rgb565 bytes.now colours.new }
 {
     if colours.len() < LANES {
-        unpack_each(Format::rgb565(), bytes, colours);
+        unpack_few(Format::rgb565(), bytes, colours);
         return;
     }
     let mut at = 0;
@@ -160,7 +174,7 @@ fn unpack_bgr233(bytes: &[u8], colours: &mut [Colour])
     ensures { AreColours bgr233 bytes.now colours.new }
 {
     if colours.len() < LANES {
-        unpack_each(Format::bgr233(), bytes, colours);
+        unpack_few(Format::bgr233(), bytes, colours);
         return;
     }
     let mut at = 0;
