@@ -21,6 +21,28 @@ pub fn paint_rows(format: Format, rect: Rect, bytes: &[u8], picture: &mut Pictur
     ensures width { picture.new.width ≡ picture.old.width }
     ensures height { picture.new.height ≡ picture.old.height }
 {
+    // As for `paint_lines`, a loop each.
+    if format == Format::rgb888() {
+        rows_in(Format::rgb888(), rect, bytes, picture);
+    } else if format == Format::rgb565() {
+        rows_in(Format::rgb565(), rect, bytes, picture);
+    } else if format == Format::bgr233() {
+        rows_in(Format::bgr233(), rect, bytes, picture);
+    } else {
+        rows_in(format, rect, bytes, picture);
+    }
+}
+
+// The same, by one loop for every format.
+#[inline(always)]
+fn rows_in(format: Format, rect: Rect, bytes: &[u8], picture: &mut Picture<Colour>)
+    requires place { IsPaintable picture.old rect }
+    requires whole { length bytes.now ≡ raw_length format rect.w rect.h }
+    ensures value { picture.new ≡
+        over rect (λ x y. colour_of format (raw_pixel format rect.w bytes.now x y)) picture.old }
+    ensures width { picture.new.width ≡ picture.old.width }
+    ensures height { picture.new.height ≡ picture.old.height }
+{
     let length = usize::from(rect.w) * format.size();
     for row in 0..rect.h {
         let start = usize::from(row) * length;

@@ -2,7 +2,7 @@ use Rattle.std.proofs.Common.{◌≡◌}
 use Rattle.rfb_pixel.specs.Format.{colour_of}
 use Rattle.rfb_codec.specs.Raw.{raw_pixel}
 use Rattle.rfb_codec.specs.Painter.{over}
-use Rattle.rfb_codec.proofs.raw.paint.paint_rows.Given as goal
+use Rattle.rfb_codec.proofs.raw.paint.rows_in.Given as goal
 
 abbrev pub invariant-loop-row : goal.invariant-loop-row
 invariant-loop-row l = record {

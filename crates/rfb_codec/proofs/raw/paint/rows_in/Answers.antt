@@ -5,7 +5,7 @@ use Rattle.rfb_picture.specs.Grid.{with_row}
 use Rattle.rfb_picture.proofs.LoanLemmas.{run_in_row}
 use Rattle.rfb_codec.specs.Raw.{raw_pixel}
 use Rattle.rfb_codec.proofs.PaintLemmas.{over_more, over_none, pixel_of_row}
-use Rattle.rfb_codec.proofs.raw.paint.paint_rows.Goals as goal
+use Rattle.rfb_codec.proofs.raw.paint.rows_in.Goals as goal
 
 pub loop-row-init : goal.loop-row-init
 loop-row-init c = record {
