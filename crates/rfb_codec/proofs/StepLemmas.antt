@@ -27,21 +27,22 @@ is_other : (slot : ℕ → ℕ) (firsts owners : List ℕ) (pixel : ℕ) → get
 is_other slot firsts owners pixel free held =
     All-weaker (λ p. 0 < get_or firsts (slot p) 0) (λ p. p ≢ pixel) (λ p taken same. let here : 0 < get_or firsts (slot pixel) 0 = rw same at taken in absurd (omega arith)) owners held
 
-pub claimed_more : (slot : ℕ → ℕ) (pixels firsts : List ℕ) (start free limit : ℕ) → start < length pixels → slot (get_or pixels start 0) < length firsts → get_or firsts (slot (get_or pixels start 0)) 0 ≡ 0 → free ≢ 0 →
-    Claimed slot pixels firsts free limit → Claimed slot pixels (set firsts (slot (get_or pixels start 0)) (start + 1)) (free - 1) limit
-claimed_more slot pixels firsts start free limit below fits vacant some old =
+pub claimed_more : (slot : ℕ → ℕ) (pixels firsts : List ℕ) (start free limit mark : ℕ) → start < length pixels → slot (get_or pixels start 0) < length firsts → get_or firsts (slot (get_or pixels start 0)) 0 ≡ 0 → free ≢ 0 →
+    0 < mark →
+    Claimed slot pixels firsts free limit → Claimed slot pixels (set firsts (slot (get_or pixels start 0)) mark) (free - 1) limit
+claimed_more slot pixels firsts start free limit mark below fits vacant some marked old =
     let pixel = get_or pixels start 0 in
     let at = slot pixel in
-    let after = set firsts at (start + 1) in
-    let now : get_or after at 0 ≡ start + 1 = get_or-set_same firsts at (start + 1) 0 fits in
+    let after = set firsts at mark in
+    let now : get_or after at 0 ≡ mark = get_or-set_same firsts at mark 0 fits in
     record {
       owners = pixel ∷ old.owners;
       many = let was = old.many in omega arith;
       there = All-cons (λ p. IsPixelOf pixels p) (get_or pixels start 0) old.owners (start, below, refl) old.there;
       differ = (is_other slot firsts old.owners pixel vacant old.held, old.differ);
-      held = All-cons (λ p. 0 < get_or after (slot p) 0) pixel old.owners (omega (arith, now)) (All-weaker (λ p. 0 < get_or firsts (slot p) 0) (λ p. 0 < get_or after (slot p) 0) (λ p taken. elim (cases_eq (slot p) at) [
-        | inl same ↦ rw same (omega (arith, now))
-        | inr differ ↦ let kept = get_or-set_other firsts at (slot p) (start + 1) 0 differ in omega (arith, kept, taken)
+      held = All-cons (λ p. 0 < get_or after (slot p) 0) pixel old.owners (omega (arith, now, marked)) (All-weaker (λ p. 0 < get_or firsts (slot p) 0) (λ p. 0 < get_or after (slot p) 0) (λ p taken. elim (cases_eq (slot p) at) [
+        | inl same ↦ rw same (omega (arith, now, marked))
+        | inr differ ↦ let kept = get_or-set_other firsts at (slot p) mark 0 differ in omega (arith, kept, taken)
       ]) old.owners old.held);
     }
 
@@ -78,7 +79,7 @@ slot_settled slot pixels firsts firsts' counts aside start better most free free
           rw (l.2, l.3, l.4) (record {
             sized = length-set firsts at (start + 1) ∙ sized;
             tallied = rw e (slot_claimed slot pixels firsts counts aside start better most below fits_there vacant old);
-            claimed = rw e (claimed_more slot pixels firsts start free limit below fits_there vacant l.1 claims);
+            claimed = rw e (claimed_more slot pixels firsts start free limit (start + 1) below fits_there vacant l.1 some claims);
             first_is = sym now;
             taken = some;
           })

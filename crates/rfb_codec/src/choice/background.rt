@@ -48,12 +48,35 @@ pub(crate) fn background_of(pixels: &[u32], most: usize) -> Option<u32>
         Err(Stop::Pixels) if most <= FEW / 2 => return None,
         Err(_) => {}
     }
-    let found = if pixels.len() <= TILE {
-        tally::<FEW, TILE>(pixels, most)
-    } else {
-        tally::<MANY, PLACES>(pixels, most)
-    };
-    found.ok()
+    if pixels.len() <= TILE {
+        return tally::<FEW, TILE>(pixels, most).ok();
+    }
+    if has_more(pixels, most) {
+        return None;
+    }
+    tally::<MANY, PLACES>(pixels, most).ok()
+}
+
+// Whether the pixels come to more slots of the large table than `most`, and so are more than that.
+// It may answer false where they are. It costs a quarter of a tally, which a block of noise, or of
+// a photograph, would take in vain.
+fn has_more(pixels: &[u32], most: usize) -> bool
+    requires few { length pixels.now ≤ PLACES }
+    ensures { OnTrue result (HasMore most pixels.now) }
+{
+    let mut taken = [0u8; MANY];
+    let mut free = most;
+    for place in 0..pixels.len() {
+        let slot = hash(pixels[place]) % MANY;
+        if taken[slot] == 0 {
+            if free == 0 {
+                return true;
+            }
+            free -= 1;
+            taken[slot] = 1;
+        }
+    }
+    false
 }
 
 // The most frequent pixel, the least of those. It stops at more pixels than `free`, or at more
