@@ -20,7 +20,7 @@ use Rattle.rfb_viewer.specs.declared.viewer.progress.Request.{Request}
 use Rattle.rfb_viewer.specs.declared.viewer.progress.Request.TheVariants.{Outstanding}
 use Rattle.rfb_viewer.specs.ServerBytes.{ServerAt}
 use Rattle.rfb_viewer.specs.Calls.{refusal_if, is_requestable, request_refused, request_refusal, requested}
-use Rattle.rfb_viewer.specs.inside.Sound.{is_ready, is_shown}
+use Rattle.rfb_viewer.specs.Refusing.{is_ready, is_shown}
 use Rattle.rfb_viewer.specs.Viewer.{Viewing, ViewerState}
 use Rattle.rfb_viewer.specs.Progress.{ProgressStandsFor, IsReadyAt, IsPainting, Stores}
 use Rattle.rfb_viewer.specs.Standing.{StandsFor, is_outstanding}

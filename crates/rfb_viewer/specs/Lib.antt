@@ -6,6 +6,7 @@ pub mod Viewer
 pub mod Calls
 pub mod Progress
 pub mod Standing
+pub mod Refusing
 pub mod Showing
 pub mod Failing
 pub mod inside

@@ -69,3 +69,9 @@ making_of viewer =
       encodings = viewer.encodings.items;
       text_limit = viewer.text_limit;
     }
+
+-- beside what it shows: its fault, the server's reason and what it was made with are as they were
+pub record KeepsRest (old new : Viewer) : Type 0 where
+  pub fault : fault_of new ≡ fault_of old
+  pub reason : reason_of new ≡ reason_of old
+  pub made : making_of new ≡ making_of old

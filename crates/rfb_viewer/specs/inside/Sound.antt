@@ -1,7 +1,6 @@
 -- What holds of each viewer, whatever it stands for.
-use Rattle.std.specs.Prelude.{nat_lt, ◌==◌, ◌&&◌, not, Bool, true, false, length, Option, Some, None}
+use Rattle.std.specs.Prelude.{◌==◌, ◌&&◌, not, Bool, true, false, length, Option, Some, None}
 use Rattle.rfb_pixel.specs.declared.colour.Colour.{Colour}
-use Rattle.rfb_picture.specs.declared.rect.Rect.{Rect}
 use Rattle.rfb_picture.specs.Grid.{Grid}
 use Rattle.rfb_wire.specs.RectStream.{is_on_screen}
 use Rattle.rfb_codec.specs.Stage.{is_ended}
@@ -10,7 +9,6 @@ use Rattle.rfb_hello.specs.declared.viewer_hello.ViewerHello.{ViewerHello}
 use Rattle.rfb_hello.specs.ViewerStanding.{is_open}
 use Rattle.rfb_viewer.specs.declared.viewer.progress.Progress.{Progress}
 use Rattle.rfb_viewer.specs.declared.viewer.progress.Progress.TheVariants.{Handshake, Head, RectHead as RectHeadPart, Data, Colours, CutText, Failed}
-use Rattle.rfb_viewer.specs.Calls.{is_inside}
 
 -- there is a screen
 abbrev pub has_screen : Option (Grid Colour) → Bool
@@ -34,33 +32,7 @@ is_sound hello (Colours more) picture = has_screen picture
 is_sound hello (CutText text_length more kept) picture = has_screen picture
 is_sound hello (Failed fault) picture = true
 
--- ---- what calls look at
-
--- the handshake is done, and it has not failed
-abbrev pub is_ready : Progress → Bool
-is_ready Handshake = false
-is_ready (Head bytes) = true
-is_ready (RectHeadPart more head) = true
-is_ready (Data more painter) = true
-is_ready (Colours more) = true
-is_ready (CutText text_length more kept) = true
-is_ready (Failed fault) = false
-
--- the bytes stand inside an update, from its type byte on
-abbrev pub is_updating : Progress → Bool
-is_updating Handshake = false
-is_updating (Head bytes) = is_inside 0 bytes.items
-is_updating (RectHeadPart more head) = true
-is_updating (Data more painter) = true
-is_updating (Colours more) = false
-is_updating (CutText text_length more kept) = false
-is_updating (Failed fault) = false
-
--- the area has a place, and lies on the screen
-abbrev pub is_shown : Option (Grid Colour) → Rect → Bool
-is_shown None rect = false
-is_shown (Some picture) rect =
-    nat_lt 0 rect.w && nat_lt 0 rect.h && is_on_screen picture.width picture.height rect
+-- ---- what is told of it
 
 -- the bytes end between two messages
 abbrev pub is_idle : Progress → Bool

@@ -9,7 +9,7 @@ ghost use Rattle.rfb_viewer.specs.declared.fault.CallFault.TheVariants.{NotReady
 ghost use Rattle.rfb_viewer.specs.declared.fault.TextFault.TheVariants.{NotReady as TextNotReady};
 ghost use Rattle.rfb_viewer.specs.Messages.{format_message, encodings_message, request_message};
 ghost use Rattle.rfb_viewer.specs.Messages.{key_message, pointer_message, text_message};
-ghost use Rattle.rfb_viewer.specs.inside.Sound.{is_ready, is_updating, is_shown};
+ghost use Rattle.rfb_viewer.specs.Refusing.{is_ready, is_updating, is_shown};
 ghost use Rattle.rfb_viewer.specs.Viewer.{Viewing, ViewerState};
 
 use crate::client_messages::{append_text, spell_encodings, spell_format};
@@ -27,7 +27,9 @@ const FRAMEBUFFER_UPDATE: u8 = 0;
 impl Viewer {
     ghost use Rattle.rfb_viewer.specs.Calls.{call_refusal, request_refusal, format_refusal};
     ghost use Rattle.rfb_viewer.specs.Calls.{refusal_of, text_refusal_of, requested, formatted};
-    ghost use Rattle.rfb_viewer.specs.Standing.{StandsFor, fault_of, picture_of};
+    ghost use Rattle.rfb_viewer.specs.Refusing.{call_refused_by, request_refused_by};
+    ghost use Rattle.rfb_viewer.specs.Refusing.{format_refused_by};
+    ghost use Rattle.rfb_viewer.specs.Standing.{StandsFor, KeepsRest, fault_of, picture_of};
 
     /// FramebufferUpdateRequest, section 7.5.3: asks for the area, what has changed of it or all of
     /// it. The request is outstanding until the next `UpdateDone`. `NotReady` before the handshake
@@ -43,6 +45,7 @@ impl Viewer {
         ensures refusal { (viewing : Viewing) (s : ViewerState) (prefix : List ℕ)
             → StandsFor viewing self.old s prefix
             → refusal_of result ≡ request_refusal s rect }
+        ensures refuses { refusal_of result ≡ request_refused_by self.old rect }
         ensures failed { fault_of self.old ≢ None → result ≡ Err NotReady }
         ensures stands { IfOk result (λ bytes.
             (viewing : Viewing) (s : ViewerState) (prefix : List ℕ)
@@ -50,6 +53,7 @@ impl Viewer {
             → StandsFor viewing self.new (requested s) prefix) }
         ensures refused { IfErr result (λ fault. self.new ≡ self.old) }
         ensures picture { picture_of self.new ≡ picture_of self.old }
+        ensures keeps { KeepsRest self.old self.new }
     {
         if !self.is_ready() {
             return Err(CallFault::NotReady);
@@ -78,6 +82,7 @@ impl Viewer {
         ensures refusal { (viewing : Viewing) (s : ViewerState) (prefix : List ℕ)
             → StandsFor viewing self.old s prefix
             → refusal_of result ≡ format_refusal s prefix }
+        ensures refuses { refusal_of result ≡ format_refused_by self.old }
         ensures failed { fault_of self.old ≢ None → result ≡ Err NotReady }
         ensures stands { IfOk result (λ bytes.
             (viewing : Viewing) (s : ViewerState) (prefix : List ℕ)
@@ -85,6 +90,7 @@ impl Viewer {
             → StandsFor viewing self.new (formatted format s) prefix) }
         ensures refused { IfErr result (λ fault. self.new ≡ self.old) }
         ensures picture { picture_of self.new ≡ picture_of self.old }
+        ensures keeps { KeepsRest self.old self.new }
     {
         if !self.is_ready() {
             return Err(CallFault::NotReady);
@@ -108,6 +114,7 @@ impl Viewer {
         ensures refusal { (viewing : Viewing) (s : ViewerState) (prefix : List ℕ)
             → StandsFor viewing self.now s prefix
             → refusal_of result ≡ call_refusal s }
+        ensures refuses { refusal_of result ≡ call_refused_by self.now }
         ensures failed { fault_of self.now ≢ None → result ≡ Err NotReady }
     {
         if !self.is_ready() {
@@ -125,6 +132,7 @@ impl Viewer {
         ensures refusal { (viewing : Viewing) (s : ViewerState) (prefix : List ℕ)
             → StandsFor viewing self.now s prefix
             → refusal_of result ≡ call_refusal s }
+        ensures refuses { refusal_of result ≡ call_refused_by self.now }
         ensures failed { fault_of self.now ≢ None → result ≡ Err NotReady }
     {
         if !self.is_ready() {
@@ -142,6 +150,7 @@ impl Viewer {
         ensures refusal { (viewing : Viewing) (s : ViewerState) (prefix : List ℕ)
             → StandsFor viewing self.now s prefix
             → refusal_of result ≡ call_refusal s }
+        ensures refuses { refusal_of result ≡ call_refused_by self.now }
         ensures failed { fault_of self.now ≢ None → result ≡ Err NotReady }
     {
         if !self.is_ready() {
@@ -162,6 +171,7 @@ impl Viewer {
         ensures refusal { (viewing : Viewing) (s : ViewerState) (prefix : List ℕ)
             → StandsFor viewing self.now s prefix
             → text_refusal_of result ≡ call_refusal s }
+        ensures refuses { text_refusal_of result ≡ call_refused_by self.now }
         ensures failed { fault_of self.now ≢ None → result ≡ Err TextNotReady }
     {
         if !self.is_ready() {
