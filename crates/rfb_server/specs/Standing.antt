@@ -103,7 +103,8 @@ abbrev pub notes_at : ServerState → Notes
 notes_at s = record { known = s.known; area = s.area; form = s.form; encodings = s.encodings }
 
 -- the server that a session is over a screen that it follows
-abbrev pub server_over : (screen : Grid Colour) (session : Session) → Follows screen session → Server
+abbrev pub server_over : (screen : Grid Colour) (session : Session) → Follows screen session →
+    Server
 server_over screen session follows =
     record { screen = screen; session = session; follows = follows }
 

@@ -27,7 +27,8 @@ pub(crate) fn make_room(out: &mut Vec<u8>, more: usize) -> Result<(), AllocError
     out.reserve_exact(more)
 }
 
-// Makes room for as many bytes more as are best, or where there is no memory for these for the least.
+// Makes room for as many bytes more as are best, or where there is no memory for these for the
+// least.
 fn grow(out: &mut Vec<u8>, best: usize, least: usize) -> Result<(), AllocError>
     requires least { least ≤ best }
     ensures items { out.new.items ≡ out.old.items }

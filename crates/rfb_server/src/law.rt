@@ -71,7 +71,8 @@ pub fn a_session_that_stands_has_the_notes_of_its_state()
         notes_in session ≡ notes_at s }
 {}
 
-/// What a session stands for over one screen, it stands for over any other, with that as the screen.
+/// What a session stands for over one screen, it stands for over any other, with that as the
+/// screen.
 pub fn a_session_stands_over_any_screen()
     ensures { (serving : Serving) (before after : Grid Colour) (session : Session)
         (s : ServerState) (prefix : List ℕ) → SessionStandsFor serving before session s prefix →

@@ -166,13 +166,13 @@ impl Server {
     /// Appends to `out` one FramebufferUpdate, RFC 6143 section 7.6.1, of what the viewer asked for
     /// and does not have, and tells whether it did: exactly where the handshake is done, the server
     /// has not failed, and such a place is there. First in it is a CopyRect for each hint that is
-    /// of use, the oldest first, where the viewer listed CopyRect: a copy over asked places, none of
-    /// them to be sent whole, which leaves more of them right than there were. Then come pixels.
-    /// Behind an update nothing is asked any more. `out` stays the caller's; what was in it stays in
-    /// front. Room is asked for once, before anything changes: at most 260 bytes, and 12 and its
+    /// of use, the oldest first, where the viewer listed CopyRect: a copy over asked places, none
+    /// of them to be sent whole, which leaves more of them right than there were. Then come pixels.
+    /// Behind an update nothing is asked any more. `out` stays the caller's; what was in it stays
+    /// in front. Room is asked for once, before anything changes: at most 260 bytes, and 12 and its
     /// pixels' bytes for each cell of 64 by 64 places that holds an asked place; or twice the room
-    /// that there was, if that is more. Where there is none it gives the error, if an update is due,
-    /// and nothing changes.
+    /// that there was, if that is more. Where there is none it gives the error, if an update is
+    /// due, and nothing changes.
     pub fn compose(&mut self, out: &mut Vec<u8>) -> Result<bool, AllocError>
         ensures appended { (bytes : List ℕ) × (out.new.items ≡ out.old.items ++ bytes) }
         ensures composed { IfOk result (λ did. did ≡ true →

@@ -99,9 +99,9 @@ impl Session {
         })
     }
 
-    /// Is told that the screen is to be drawn on inside the rectangle, which lies on it, or was just
-    /// drawn on there. Whatever is drawn inside it, the session follows the screen again; while
-    /// nothing is, it does too.
+    /// Is told that the screen is to be drawn on inside the rectangle, which lies on it, or was
+    /// just drawn on there. Whatever is drawn inside it, the session follows the screen again;
+    /// while nothing is, it does too.
     pub fn drawn(&mut self, rect: Rect)
         requires held { Holds (notes_in self.old).known rect }
         ensures follows { (before after : Grid Colour) → Follows before self.old → IsGrid after

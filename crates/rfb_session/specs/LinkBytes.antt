@@ -81,8 +81,8 @@ session_driven screen = record {
   updates = soles_in;
 }
 
--- it was fed these bytes, over whatever screen; those are its answers, and so often its client asked
--- for the screen alone
+-- it was fed these bytes, over whatever screen; those are its answers, and so often its client
+-- asked for the screen alone
 abbrev pub HearsOver : Session → List ℕ → List ℕ → ℕ → Session → Type 0
 HearsOver old bytes sent soles new =
     (screen : Grid Colour) → RunsOn (session_driven screen) old bytes sent soles new
@@ -95,8 +95,8 @@ pub record SessionEndsBy (old : Session) (slice : List ℕ) (new : Session) : Ty
   pub ends : EndsAs old slice fault new
   pub failed : session_fault old ≢ None → new ≡ old
 
--- the first bytes in flight left the channel. The session was fed them, all or those before the ones
--- that it ended at, and its answers joined the bytes to the viewer; nothing else has changed
+-- the first bytes in flight left the channel. The session was fed them, all or those before the
+-- ones that it ended at, and its answers joined the bytes to the viewer; nothing else has changed
 pub record ReachesSession (old : Link) (count : ℕ) (new : Link) : Type 0 where
   pub fed : List ℕ
   pub later : List ℕ
@@ -141,7 +141,8 @@ pub record ReachesViewer (old : Link) (count : ℕ) (new : Link) : Type 0 where
 -- ---- composing
 
 -- over that screen an update was composed, which joined the bytes to the viewer, and what it
--- answered is noted; or none was due, and nothing has changed. A session that has failed composes none
+-- answered is noted; or none was due, and nothing has changed. A session that has failed composes
+-- none
 pub record ComposesOver (screen : Grid Colour) (old : Link) (told : Told) (new : Link)
     : Type 0 where
   pub composed : told.composed ≡ true →

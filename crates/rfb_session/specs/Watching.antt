@@ -75,8 +75,8 @@ abbrev pub WasFed : Viewer → List ℕ → Option ViewerTold → Viewer → Typ
 WasFed first bytes event old =
     (viewing : Viewing) → FedBy (viewer viewing) (StandsFor viewing) first bytes event old
 
--- it ended at these bytes: by a fault of theirs, or because it asked for memory there. It shows what
--- came before, and keeps the reason that the server gave
+-- it ended at these bytes: by a fault of theirs, or because it asked for memory there. It shows
+-- what came before, and keeps the reason that the server gave
 pub record EndsBy (fault : ViewerFault) (old : Viewer) (slice : List ℕ)
     (new : Viewer) : Type 0 where
   pub fails : fault_of new ≡ Some fault

@@ -29,8 +29,8 @@ pub record AppendsIn (f : PixelFormat) (rect : Rect) (encoding : Encoding)
   pub appended : new ≡ old ++ bytes
   pub coded : IsCoded f rect encoding block bytes
 
--- they were appended in that encoding where its rule does not give the block up, and in Raw where it
--- does
+-- they were appended in that encoding where its rule does not give the block up, and in Raw where
+-- it does
 abbrev pub SendsRect : PixelFormat → Rect → Encoding → Grid ℕ → List ℕ → List ℕ → Type 0
 SendsRect f rect encoding block old new =
     ((GivesUp encoding f block → ⊥) × AppendsIn f rect encoding block old new) ⊎

@@ -31,8 +31,8 @@ impl Link {
     ghost use Rattle.rfb_session.specs.inside.Delivering.{HasWatched, EndsWatching};
 
     /// Bytes reach the session, at most so many, or all that are in flight to it. Its answers are
-    /// in flight then. One that has failed takes them to no effect. Memory can be wanting for answers,
-    /// and for a text that the session keeps.
+    /// in flight then. One that has failed takes them to no effect. Memory can be wanting for
+    /// answers, and for a text that the session keeps.
     pub fn move_to_server(&mut self, count: u32) -> Result<Told, NoMemory>
         ensures bytes { IfOk result (λ told. ActsOnBytes self.old (ToServer count) told self.new) }
         ensures does { IfOk result (λ told. LinkDoes self.old (ToServer count) told self.new) }

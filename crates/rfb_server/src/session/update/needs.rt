@@ -212,7 +212,8 @@ impl Session {
         requires row { y < self.now.known.height }
         requires columns { (from < to) × (to ≤ self.now.known.width) }
         requires cell { to ≤ from / 64 * 64 + 64 }
-        ensures { TellsOther (wanted_at screen.now self.now.format) self.now.known y from to result }
+        ensures { TellsOther (wanted_at screen.now self.now.format) self.now.known y from to
+            result }
     {
         let mut row = [0; 64];
         let wanted = &mut row[..usize::from(to - from)];

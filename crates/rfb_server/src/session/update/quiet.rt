@@ -20,8 +20,8 @@ pub(crate) const NOWHERE: Rect = Rect {
 };
 
 impl Session {
-    /// The least rectangle that holds the places of the cell that need sending. Of `quiet` none does,
-    /// so a cell inside it is not looked at.
+    /// The least rectangle that holds the places of the cell that need sending. Of `quiet` none
+    /// does, so a cell inside it is not looked at.
     pub(super) fn needed_outside(
         &self,
         screen: &Picture<Colour>,

@@ -12,8 +12,8 @@ use crate::session::Session;
 use rfb_picture::Rect;
 
 impl Session {
-    /// How many bytes the rectangles of cells take at most, by the cells that may have marked places
-    /// and asked ones: none where no place is both.
+    /// How many bytes the rectangles of cells take at most, by the cells that may have marked
+    /// places and asked ones: none where no place is both.
     pub(super) fn room(&self) -> usize
         ensures enough { IsEnough self.now (div_ceil self.now.known.width 64)
             (div_ceil self.now.known.width 64 * div_ceil self.now.known.height 64) result }
