@@ -1,6 +1,6 @@
 -- Each call takes a byte.
 use Rattle.std.proofs.Common.{length}
-use Rattle.rfb_server.proofs.tests.sessions.serve.Given as goal
+use Rattle.rfb_server.proofs.tests.one_viewer.serve.Given as goal
 
 abbrev pub decreases-loop-rest : goal.decreases-loop-rest
 decreases-loop-rest l = length l.rest

@@ -1,7 +1,7 @@
 use Rattle.std.proofs.Common.{if◌then◌else◌, refl}
 use Rattle.rfb_picture.specs.Rect.{contains}
 use Rattle.rfb_server.proofs.FollowingLaws.{follows_changed}
-use Rattle.rfb_server.proofs.tests.sessions.Shared.draw.Goals as goal
+use Rattle.rfb_server.proofs.tests.shared.Shared.draw.Goals as goal
 
 pub invariant_of-self : goal.invariant_of-self
 invariant_of-self c =

@@ -1,7 +1,7 @@
 use Rattle.rfb_picture.specs.Grid.{uniform}
 use Rattle.rfb_picture.proofs.GridLemmas.{whole-uniform, width-uniform, height-uniform}
 use Rattle.rfb_server.specs.Server.{black}
-use Rattle.rfb_server.proofs.tests.sessions.Shared.new.Goals as goal
+use Rattle.rfb_server.proofs.tests.shared.Shared.new.Goals as goal
 
 pub invariant_of-result : goal.invariant_of-result
 invariant_of-result c =

@@ -1,0 +1,219 @@
+//! A screen and two sessions, each of its own viewer, played step by step.
+
+ghost use Rattle.std.specs.Prelude.{◌≡◌, IfOk};
+ghost use Rattle.rfb_picture.specs.Grid.{Grid, IsGrid};
+ghost use Rattle.rfb_pixel.specs.declared.colour.Colour.{Colour};
+ghost use Rattle.rfb_server.specs.Following.{Follows};
+
+use crate::Session;
+use rfb_hello::Version;
+use rfb_picture::{Picture, Rect};
+use rfb_pixel::Colour;
+use std::alloc::{AllocError, Global};
+
+pub(super) const BLACK: Colour = Colour { r: 0, g: 0, b: 0 };
+
+// At rgb888 10, C8 and 64; at rgb565 2, 49 and 12.
+pub(super) const GREEN: Colour = Colour {
+    r: 4_112,
+    g: 51_400,
+    b: 25_700,
+};
+
+// At rgb888 FF, 80 and 08; at rgb565 31, 32 and 1.
+pub(super) const ORANGE: Colour = Colour {
+    r: 65_535,
+    g: 32_896,
+    b: 2_056,
+};
+
+// At rgb888 32, 11 and F0; at rgb565 6, 4 and 29.
+pub(super) const VIOLET: Colour = Colour {
+    r: 12_850,
+    g: 4_369,
+    b: 61_680,
+};
+
+// A screen of three by two places, and two of its places.
+pub(super) const WHOLE: Rect = Rect {
+    x: 0,
+    y: 0,
+    w: 3,
+    h: 2,
+};
+
+pub(super) const LAST: Rect = Rect {
+    x: 2,
+    y: 1,
+    w: 1,
+    h: 1,
+};
+
+pub(super) const SECOND: Rect = Rect {
+    x: 1,
+    y: 0,
+    w: 1,
+    h: 1,
+};
+
+// A screen that two viewers see.
+#[derive(Drop)]
+struct Shared {
+    screen: Picture<Colour>,
+    first: Session,
+    second: Session,
+    ghost told_first: { Follows screen first },
+    ghost told_second: { Follows screen second },
+}
+
+// One of the two viewers.
+#[derive(Clone, Copy)]
+pub(super) enum Who {
+    First,
+    Second,
+}
+
+// What is done to a shared screen, or what holds of it.
+#[derive(Clone, Copy)]
+pub(super) enum Step<'a> {
+    // The owner draws a rectangle of one colour.
+    Draw(Rect, Colour),
+    // The viewer sends bytes of which at most one event is told.
+    Feed(Who, &'a [u8]),
+    // An update of exactly these bytes is composed for the viewer.
+    Sends(Who, &'a [u8]),
+    // Whether the viewer asks for the first place, and what it is known to have there.
+    Stands(Who, bool, Option<u32>),
+}
+
+// A session that was fed nothing.
+fn new_session(alloc: Global) -> Result<Session, AllocError>
+    ensures { IfOk result (λ session. (screen : Grid Colour) → IsGrid screen
+        → screen.width ≡ 3 → screen.height ≡ 2 → Follows screen session) }
+{
+    let name = b"t".as_slice();
+    Session::new(alloc, 3, 2, name, Version::V38, 4)
+}
+
+// Whether it composes exactly these bytes.
+fn sends(session: &mut Session, screen: &Picture<Colour>, alloc: Global, bytes: &[u8]) -> bool
+    requires { Follows screen.now session.old }
+    ensures { Follows screen.now session.new }
+{
+    let mut out = Vec::new(alloc);
+    session.compose(screen, &mut out) == Ok(true) && out.as_slice() == bytes
+}
+
+// Whether it asks for the first place.
+fn asks(session: &Session) -> bool {
+    let area = session.asked();
+    area.width() > 0 && area.height() > 0 && area.is_asked(0, 0)
+}
+
+// What the viewer is known to have at the first place.
+fn known(session: &Session) -> Option<u32> {
+    let known = session.known();
+    let pixels = session.recorded();
+    if known.width() > 0
+        && known.height() > 0
+        && pixels.width() > 0
+        && pixels.height() > 0
+        && known.is_asked(0, 0)
+    {
+        Some(pixels.at(0, 0))
+    } else {
+        None
+    }
+}
+
+impl Shared {
+    // A black screen, and two sessions that were fed nothing.
+    fn new(alloc: Global) -> Result<Shared, AllocError> {
+        let screen = Picture::new(alloc, 3, 2, BLACK)?;
+        let (first, second) = new_sessions(alloc)?;
+        Ok(Shared {
+            screen,
+            first,
+            second,
+        })
+    }
+
+    // Both sessions are told before it is drawn.
+    fn draw(&mut self, rect: Rect, colour: Colour) -> bool {
+        if !self.screen.holds(rect) {
+            return false;
+        }
+        self.first.drawn(rect);
+        self.second.drawn(rect);
+        self.screen.fill(rect, colour);
+        true
+    }
+
+    fn feed(&mut self, who: Who, bytes: &[u8]) -> bool {
+        match who {
+            Who::First => self.first.feed(bytes).is_ok(),
+            Who::Second => self.second.feed(bytes).is_ok(),
+        }
+    }
+
+    fn sends(&mut self, who: Who, alloc: Global, bytes: &[u8]) -> bool {
+        match who {
+            Who::First => sends(&mut self.first, &self.screen, alloc, bytes),
+            Who::Second => sends(&mut self.second, &self.screen, alloc, bytes),
+        }
+    }
+
+    fn session(&self, who: Who) -> &Session {
+        match who {
+            Who::First => &self.first,
+            Who::Second => &self.second,
+        }
+    }
+
+    fn is_right(&mut self, alloc: Global, step: Step) -> bool {
+        match step {
+            Step::Draw(rect, colour) => self.draw(rect, colour),
+            Step::Feed(who, bytes) => self.feed(who, bytes),
+            Step::Sends(who, bytes) => self.sends(who, alloc, bytes),
+            Step::Stands(who, asked, has) => {
+                let session = self.session(who);
+                asks(session) == asked && known(session) == has
+            }
+        }
+    }
+}
+
+fn new_sessions(alloc: Global) -> Result<(Session, Session), AllocError>
+    ensures { IfOk result (λ both. (screen : Grid Colour) → IsGrid screen
+        → screen.width ≡ 3 → screen.height ≡ 2
+        → Follows screen both.0 × Follows screen both.1) }
+{
+    let first = new_session(alloc)?;
+    let second = new_session(alloc)?;
+    Ok((first, second))
+}
+
+// The number of the first step that is wrong of a new shared screen, if one is; and how many steps
+// there are, where memory is wanting for one.
+pub(super) fn first_wrong(alloc: Global, steps: &[Step]) -> Option<usize> {
+    match Shared::new(alloc) {
+        Ok(shared) => first_wrong_then_drop(shared, alloc, steps),
+        Err(_) => Some(steps.len()),
+    }
+}
+
+fn first_wrong_then_drop(shared: Shared, alloc: Global, steps: &[Step]) -> Option<usize> {
+    let mut shared = shared;
+    let wrong = first_wrong_of(&mut shared, alloc, steps);
+    drop(shared);
+    wrong
+}
+
+fn first_wrong_of(shared: &mut Shared, alloc: Global, steps: &[Step]) -> Option<usize> {
+    for index in 0..steps.len() {
+        if !shared.is_right(alloc, steps[index]) {
+            return Some(index);
+        }
+    }
+    None
+}
