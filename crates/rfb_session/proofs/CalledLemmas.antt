@@ -12,7 +12,7 @@ use Rattle.rfb_viewer.specs.declared.viewer.Viewer.{Viewer}
 use Rattle.rfb_viewer.specs.ServerBytes.{ServerAt}
 use Rattle.rfb_viewer.specs.Viewer.{ViewerState}
 use Rattle.rfb_viewer.specs.Calls.{call_refusal, call_refused, request_refused, request_refusal, format_refusal, requested, formatted}
-use Rattle.rfb_viewer.specs.Standing.{StandsFor as ViewerStandsFor}
+use Rattle.rfb_viewer.specs.Standing.{StandsFor as ViewerStandsFor, KeepsRest}
 use Rattle.rfb_session.specs.declared.latest.Latest.{Latest}
 use Rattle.rfb_session.specs.declared.told.Refused.{Refused}
 use Rattle.rfb_session.specs.declared.link.Link.{Link}
@@ -115,6 +115,10 @@ message_flies e w n stands v message bytes p reached ready same spelled =
     (subst (λ (at : ServerAt). ReadsAll (to_viewer_stream e) at
     (stands.carries.viewer_has ++ w.to_viewer) n.link.to_viewer [])
     (sym same) stands.carries.flies.to_viewer) spelled
+
+-- a viewer that is the same keeps all
+pub rest_same : (v : Viewer) → KeepsRest v v
+rest_same v = record { fault = refl; reason = refl; made = refl }
 
 -- ---- each kind of call
 

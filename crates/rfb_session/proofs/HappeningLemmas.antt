@@ -13,7 +13,7 @@ use Rattle.rfb_session.specs.declared.world.World.{World}
 use Rattle.rfb_session.specs.Link.{Ends, server_of}
 use Rattle.rfb_session.specs.LinkStanding.{LinkStandsFor, LinkDoes, LinkDoesOver, LosesOn, ComposesNothingOver}
 use Rattle.rfb_session.specs.Network.{Network, Draws, Steps}
-use Rattle.rfb_session.specs.Told.{RefusesUnless, Tells}
+use Rattle.rfb_session.specs.Told.{RefusesUnless, Tells, TellsAlone}
 use Rattle.rfb_session.specs.World.{Acts, HintsAs, DrawsOnBytes, IsDrawing, IsRefused, IsLost, ComposesNothing, hints_in}
 use Rattle.rfb_session.specs.inside.Happening.{Happens, TakesNoMemory, TellsDrawing}
 use Rattle.rfb_session.proofs.DrawnLemmas.{drawn_does, hinted_does}
@@ -33,6 +33,7 @@ filled_happens old new event rect colour told is acts tells hints kept =
           let one = drawn_does old new told (λ g. Holds g rect) (λ g. filled rect colour g) acts kept tells.closed e n stands in
           (one.0, one.1, record { moved = tells.moved; refused = one.2; composed = tells.composed }, one.3);
       acts = acts;
+      tells = (tells.moved, tells.composed);
       lost = record { link = tt; closed = tells.closed };
       hints = hints;
     })
@@ -43,9 +44,10 @@ pub put_happens : (old new : World) (event this : Event) (told : Told) (row : Re
     ((e : Ends) (n m : Network) → Draws (Holds n.screen row) (draw n.screen) n m →
     RefusesUnless (Holds n.screen row) told.refused → Steps e n this m × Tells e n this told) →
     DrawsOnBytes (Holds old.screen row) (draw old.screen) old told new →
-    Acts old this told new → LosesOn old.link this told new.link → HintsAs old this told new →
-    new.closed ≡ old.closed → (told.refused ≢ None → new ≡ old) → Happens old event told new
-put_happens old new event this told row draw is steps draws acts loses hints closed kept =
+    Acts old this told new → TellsAlone this told → LosesOn old.link this told new.link →
+    HintsAs old this told new → new.closed ≡ old.closed → (told.refused ≢ None → new ≡ old) →
+    Happens old event told new
+put_happens old new event this told row draw is steps draws acts tells loses hints closed kept =
     subst (λ (ev : Event). Happens old ev told new) (sym is)
     (record {
       does = λ e n made reached stands.
@@ -53,6 +55,7 @@ put_happens old new event this told row draw is steps draws acts loses hints clo
           let step = steps e n one.0 one.1 one.2 in
           (one.0, step.0, step.1, one.3);
       acts = acts;
+      tells = tells;
       lost = record { link = loses; closed = closed };
       hints = hints;
     })
@@ -69,6 +72,7 @@ copied_happens old new event rect sx sy told is acts tells hints kept =
           let one = drawn_does old new told (λ g. HoldsBoth g rect sx sy) (λ g. copied rect sx sy g) acts kept tells.closed e n stands in
           (one.0, one.1, record { moved = tells.moved; refused = one.2; composed = tells.composed }, one.3);
       acts = acts;
+      tells = (tells.moved, tells.composed);
       lost = record { link = tt; closed = tells.closed };
       hints = hints;
     })
@@ -85,6 +89,7 @@ hinted_happens old new event rect sx sy told is acts tells hints kept =
           let one = hinted_does old new told (λ g. HoldsBoth g rect sx sy) acts kept tells.closed e n stands in
           (n, refl, record { moved = tells.moved; refused = one.0; composed = tells.composed }, one.1);
       acts = acts;
+      tells = (tells.moved, tells.composed);
       lost = record { link = tt; closed = tells.closed };
       hints = hints;
     })
@@ -94,35 +99,38 @@ hinted_happens old new event rect sx sy told is acts tells hints kept =
 -- one that does not read the screen
 pub called_happens : (old new : World) (event this : Event) (result : Result Told NoMemory) →
     event ≡ this → IfOk result (λ told. LinkDoes old.link this told new.link) →
-    IfOk result (λ told. Acts old this told new) →
+    IfOk result (λ told. Acts old this told new) → IfOk result (λ told. TellsAlone this told) →
     IfOk result (λ told. LosesOn old.link this told new.link) →
     ((told : Told) → HintsAs old this told new) → new.screen ≡ old.screen → new.closed ≡ old.closed →
     IfOk result (λ told. Happens old event told new)
-called_happens old new event this (Ok told) is does acts lost hints screens closed =
+called_happens old new event this (Ok told) is does acts tells lost hints screens closed =
     subst (λ (ev : Event). Happens old ev told new) (sym is)
     (record {
       does = link_does old new this told does screens closed;
       acts = acts;
+      tells = tells;
       lost = record { link = lost; closed = closed };
       hints = hints told;
     })
-called_happens old new event this (Err error) is does acts lost hints screens closed = tt
+called_happens old new event this (Err error) is does acts tells lost hints screens closed = tt
 
 -- a composing
 pub composed_happens : (old new : World) (event : Event) (result : Result Told NoMemory) →
     event ≡ Compose → IfOk result (λ told. LinkDoesOver old.screen old.link Compose told new.link) →
     IfOk result (λ told. Acts old Compose told new) →
+    IfOk result (λ told. TellsAlone Compose told) →
     IfOk result (λ told. HintsAs old Compose told new) → new.screen ≡ old.screen →
     new.closed ≡ old.closed → IfOk result (λ told. Happens old event told new)
-composed_happens old new event (Ok told) is does acts hints screens closed =
+composed_happens old new event (Ok told) is does acts tells hints screens closed =
     subst (λ (ev : Event). Happens old ev told new) (sym is)
     (record {
       does = link_does_over old new Compose told does screens closed;
       acts = acts;
+      tells = tells;
       lost = record { link = tt; closed = closed };
       hints = hints;
     })
-composed_happens old new event (Err error) is does acts hints screens closed = tt
+composed_happens old new event (Err error) is does acts tells hints screens closed = tt
 
 pub any_ok : {A E : Type 0} (P : A → Type 0) (result : Result A E) → ((x : A) → P x) → IfOk result P
 any_ok P (Ok x) all = all x

@@ -21,13 +21,16 @@ use Rattle.rfb_server.specs.Updating.{SendsUpdate, OwesNone}
 use Rattle.rfb_viewer.specs.declared.fault.ViewerFault.{ViewerFault}
 use Rattle.rfb_viewer.specs.declared.fault.ViewerFault.TheVariants.{NoMemory as ViewerWants}
 use Rattle.rfb_viewer.specs.declared.viewer.Viewer.{Viewer}
-use Rattle.rfb_viewer.specs.Standing.{picture_of, fault_of}
+use Rattle.rfb_viewer.specs.declared.fault.CallFault.{CallFault}
+use Rattle.rfb_viewer.specs.Refusing.{call_refused_by, request_refused_by, format_refused_by}
+use Rattle.rfb_viewer.specs.Standing.{KeepsRest, picture_of, fault_of}
 use Rattle.rfb_session.specs.declared.event.Event.{Event}
 use Rattle.rfb_session.specs.declared.event.Event.TheVariants.{Request, SetFormat, SetEncodings}
 use Rattle.rfb_session.specs.declared.event.Event.TheVariants.{Key, Pointer, CutText}
 use Rattle.rfb_session.specs.declared.event.Event.TheVariants.{ToServer, ToViewer}
 use Rattle.rfb_session.specs.declared.link.Link.{Link}
 use Rattle.rfb_session.specs.declared.told.Told.{Told}
+use Rattle.rfb_session.specs.Told.{refused_as}
 use Rattle.rfb_session.specs.Latest.{composing_in}
 use Rattle.rfb_session.specs.EngineRun.{Step, Fed, Did, Driven, RunsOn}
 use Rattle.rfb_session.specs.Watching.{ViewerRuns, EndsBy}
@@ -35,18 +38,37 @@ use Rattle.rfb_session.specs.ServeEngine.{ServerAct, Serves, server_sends}
 
 -- ---- calls of the viewer
 
--- these bytes joined those in flight to the session; of the viewer what it shows is as it was
+-- these bytes joined those in flight to the session; of the viewer what it shows is as it was, and
+-- so are its fault, the server's reason and what it was made with
 pub record OnlySends (old new : Link) (bytes : List ℕ) : Type 0 where
   pub session : new.session ≡ old.session
   pub picture : picture_of new.viewer ≡ picture_of old.viewer
+  pub rest : KeepsRest old.viewer new.viewer
   pub to_server : new.to_server ≡ old.to_server ++ bytes
   pub to_viewer : new.to_viewer ≡ old.to_viewer
   pub latest : new.latest ≡ old.latest
 
--- a call that is not refused sent the bytes of its message, once
-abbrev pub SendsMessage : ClientMessage → Link → Told → Link → Type 0
-SendsMessage message old told new = told.refused ≡ None →
-    (bytes : List ℕ) × SpellsClientMessage message bytes × OnlySends old new bytes
+-- a call is refused so, or not; one that is not sent the bytes of its message, once
+pub record SendsMessage (message : ClientMessage) (refusal : Option CallFault) (old : Link)
+    (told : Told) (new : Link) : Type 0 where
+  pub refused : told.refused ≡ refused_as refusal
+  pub sent : told.refused ≡ None →
+      (bytes : List ℕ) × SpellsClientMessage message bytes × OnlySends old new bytes
+
+-- the same of a call that changes nothing of the viewer, and waits for its handshake alone
+abbrev pub SendsPlain : ClientMessage → Link → Told → Link → Type 0
+SendsPlain message old told new =
+    SendsMessage message (call_refused_by old.viewer) old told new × (new.viewer ≡ old.viewer)
+
+-- the refusal of a call, by its viewer alone
+abbrev pub refusal_on : Link → Event → Option CallFault
+refusal_on link (Request incremental rect) = request_refused_by link.viewer rect
+refusal_on link (SetFormat format) = format_refused_by link.viewer
+refusal_on link (SetEncodings encodings) = call_refused_by link.viewer
+refusal_on link (Key down key) = call_refused_by link.viewer
+refusal_on link (Pointer buttons x y) = call_refused_by link.viewer
+refusal_on link (CutText text) = call_refused_by link.viewer
+refusal_on link event = None
 
 -- ---- bytes that reach the session
 
@@ -170,15 +192,17 @@ pub record SpendsHints (old : Link) (told : Told) (new : Link) : Type 0 where
 -- what an event of the link alone does
 abbrev pub ActsOnBytes : Link → Event → Told → Link → Type 0
 ActsOnBytes old (Request incremental rect) told new =
-    SendsMessage (FramebufferUpdateRequest incremental rect) old told new
-ActsOnBytes old (SetFormat format) told new = SendsMessage (SetPixelFormat format) old told new
+    SendsMessage (FramebufferUpdateRequest incremental rect)
+    (request_refused_by old.viewer rect) old told new
+ActsOnBytes old (SetFormat format) told new =
+    SendsMessage (SetPixelFormat format) (format_refused_by old.viewer) old told new
 ActsOnBytes old (SetEncodings encodings) told new =
-    SendsMessage (EncodingsMessage (map (λ encoding. number_of encoding) encodings.items))
+    SendsPlain (EncodingsMessage (map (λ encoding. number_of encoding) encodings.items))
     old told new
-ActsOnBytes old (Key down key) told new = SendsMessage (KeyEvent down key) old told new
+ActsOnBytes old (Key down key) told new = SendsPlain (KeyEvent down key) old told new
 ActsOnBytes old (Pointer buttons x y) told new =
-    SendsMessage (PointerEvent buttons x y) old told new
-ActsOnBytes old (CutText text) told new = SendsMessage (ClientCutText text.items) old told new
+    SendsPlain (PointerEvent buttons x y) old told new
+ActsOnBytes old (CutText text) told new = SendsPlain (ClientCutText text.items) old told new
 ActsOnBytes old (ToServer count) told new =
     (told.moved ≡ min (length old.to_server) count) × ReachesSession old told.moved new
 ActsOnBytes old (ToViewer count) told new =

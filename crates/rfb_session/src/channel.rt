@@ -36,6 +36,7 @@ impl Channel {
     ghost use Rattle.rfb_viewer.specs.Standing.{StandsFor};
     ghost use Rattle.rfb_viewer.specs.Messages.{text_message};
     ghost use Rattle.rfb_viewer.specs.Calls.{call_refusal, text_refusal_of};
+    ghost use Rattle.rfb_viewer.specs.Refusing.{call_refused_by};
     ghost use Rattle.rfb_server.specs.Following.{Follows};
     ghost use Rattle.rfb_server.specs.Hints.{hints_in};
     ghost use Rattle.rfb_server.specs.Standing.{session_fault};
@@ -126,6 +127,7 @@ impl Channel {
         ensures kept { OnErr result (self.new ≡ self.old) }
         ensures refusal { (viewing : Viewing) (s : ViewerState) (prefix : List ℕ)
             → StandsFor viewing viewer.now s prefix → text_refusal_of result ≡ call_refusal s }
+        ensures refuses { text_refusal_of result ≡ call_refused_by viewer.now }
     {
         self.make_room();
         match viewer.cut_text(text, &mut self.bytes) {

@@ -36,6 +36,7 @@ impl World {
     ghost use Rattle.rfb_session.specs.World.{StandsFor, AreFresh, first_network};
     ghost use Rattle.rfb_session.specs.World.{is_closed, shown_by};
     ghost use Rattle.rfb_session.specs.Network.{Network};
+    ghost use Rattle.rfb_session.specs.Told.{TellsAlone};
     ghost use Rattle.rfb_session.specs.World.{Does, Acts, LosesAs, HintsAs};
     ghost use Rattle.rfb_session.specs.World.{HasFewBytes, IsDrawing};
     ghost use Rattle.rfb_session.specs.inside.Happening.{Happens, TakesNoMemory};
@@ -78,6 +79,7 @@ impl World {
         ensures acts { IfOk result (λ told. Acts self.old event.now told self.new) }
         // Whatever network the world stood for, the event is a step of it, and the answer tells so.
         ensures does { IfOk result (λ told. Does self.old event.now told self.new) }
+        ensures tells { IfOk result (λ told. TellsAlone event.now told) }
         ensures kept { IfOk result (λ told. told.refused ≢ None → self.new ≡ self.old) }
         ensures lost { IfOk result (λ told. LosesAs self.old event.now told self.new) }
         ensures hints { IfOk result (λ told. HintsAs self.old event.now told self.new) }

@@ -3,6 +3,7 @@ use Rattle.std.specs.Prelude.{◌≡◌, ◌⊎◌, false}
 use Rattle.rfb_session.specs.declared.event.Event.{Event}
 use Rattle.rfb_session.specs.declared.told.Told.{Told}
 use Rattle.rfb_session.specs.declared.world.World.{World}
+use Rattle.rfb_session.specs.Told.{TellsAlone}
 use Rattle.rfb_session.specs.World.{Does, Acts, LosesAs, HintsAs, IsDrawing, IsRefused, IsLost}
 use Rattle.rfb_session.specs.World.{ComposesNothing}
 
@@ -10,6 +11,7 @@ use Rattle.rfb_session.specs.World.{ComposesNothing}
 pub record Happens (old : World) (event : Event) (told : Told) (new : World) : Type 0 where
   pub does : Does old event told new
   pub acts : Acts old event told new
+  pub tells : TellsAlone event told
   pub lost : LosesAs old event told new
   pub hints : HintsAs old event told new
 

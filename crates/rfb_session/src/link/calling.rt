@@ -16,7 +16,8 @@ use rfb_wire::Encoding;
 
 impl Link {
     ghost use Rattle.rfb_session.specs.LinkStanding.{LinkDoes, IsRefusedOn, session_of_link};
-    ghost use Rattle.rfb_session.specs.LinkBytes.{ActsOnBytes};
+    ghost use Rattle.rfb_session.specs.LinkBytes.{ActsOnBytes, refusal_on};
+    ghost use Rattle.rfb_session.specs.Told.{TellsAlone};
 
     /// The viewer asks for an area, RFC 6143 section 7.5.3. Where the viewer refuses the call,
     /// `Told` has the refusal, and nothing changes. Memory can be wanting for the message.
@@ -25,9 +26,11 @@ impl Link {
             ActsOnBytes self.old (Request incremental rect) told self.new) }
         ensures does { IfOk result (λ told.
             LinkDoes self.old (Request incremental rect) told self.new) }
+        ensures tells { IfOk result (λ told. TellsAlone (Request incremental rect) told) }
         ensures kept { IfOk result (λ told. told.refused ≢ None → self.new ≡ self.old) }
         ensures session { session_of_link self.new ≡ session_of_link self.old }
         ensures spared { IsRefusedOn self.old (Request incremental rect) → IsOk result }
+        ensures refused { refusal_on self.old (Request incremental rect) ≢ None → IsOk result }
     {
         match self.viewer.request(incremental, rect) {
             Ok(message) => {
@@ -43,9 +46,11 @@ impl Link {
         ensures bytes { IfOk result (λ told.
             ActsOnBytes self.old (SetFormat format) told self.new) }
         ensures does { IfOk result (λ told. LinkDoes self.old (SetFormat format) told self.new) }
+        ensures tells { IfOk result (λ told. TellsAlone (SetFormat format) told) }
         ensures kept { IfOk result (λ told. told.refused ≢ None → self.new ≡ self.old) }
         ensures session { session_of_link self.new ≡ session_of_link self.old }
         ensures spared { IsRefusedOn self.old (SetFormat format) → IsOk result }
+        ensures refused { refusal_on self.old (SetFormat format) ≢ None → IsOk result }
     {
         match self.viewer.set_format(format) {
             Ok(message) => {
@@ -62,9 +67,11 @@ impl Link {
             ActsOnBytes self.old (SetEncodings encodings.now) told self.new) }
         ensures does { IfOk result (λ told.
             LinkDoes self.old (SetEncodings encodings.now) told self.new) }
+        ensures tells { IfOk result (λ told. TellsAlone (SetEncodings encodings.now) told) }
         ensures kept { IfOk result (λ told. told.refused ≢ None → self.new ≡ self.old) }
         ensures session { session_of_link self.new ≡ session_of_link self.old }
         ensures spared { IsRefusedOn self.old (SetEncodings encodings.now) → IsOk result }
+        ensures refused { refusal_on self.old (SetEncodings encodings.now) ≢ None → IsOk result }
     {
         match self.viewer.set_encodings(copy_of(encodings)) {
             Ok(message) => {
@@ -80,9 +87,11 @@ impl Link {
         ensures bytes { IfOk result (λ told.
             ActsOnBytes self.old (Key down key) told self.new) }
         ensures does { IfOk result (λ told. LinkDoes self.old (Key down key) told self.new) }
+        ensures tells { IfOk result (λ told. TellsAlone (Key down key) told) }
         ensures kept { IfOk result (λ told. told.refused ≢ None → self.new ≡ self.old) }
         ensures session { session_of_link self.new ≡ session_of_link self.old }
         ensures spared { IsRefusedOn self.old (Key down key) → IsOk result }
+        ensures refused { refusal_on self.old (Key down key) ≢ None → IsOk result }
     {
         match self.viewer.key(down, key) {
             Ok(message) => {
@@ -98,9 +107,11 @@ impl Link {
         ensures bytes { IfOk result (λ told.
             ActsOnBytes self.old (Pointer buttons x y) told self.new) }
         ensures does { IfOk result (λ told. LinkDoes self.old (Pointer buttons x y) told self.new) }
+        ensures tells { IfOk result (λ told. TellsAlone (Pointer buttons x y) told) }
         ensures kept { IfOk result (λ told. told.refused ≢ None → self.new ≡ self.old) }
         ensures session { session_of_link self.new ≡ session_of_link self.old }
         ensures spared { IsRefusedOn self.old (Pointer buttons x y) → IsOk result }
+        ensures refused { refusal_on self.old (Pointer buttons x y) ≢ None → IsOk result }
     {
         match self.viewer.pointer(buttons, x, y) {
             Ok(message) => {
@@ -117,9 +128,11 @@ impl Link {
         ensures bytes { IfOk result (λ told.
             ActsOnBytes self.old (CutText text.now) told self.new) }
         ensures does { IfOk result (λ told. LinkDoes self.old (CutText text.now) told self.new) }
+        ensures tells { IfOk result (λ told. TellsAlone (CutText text.now) told) }
         ensures kept { IfOk result (λ told. told.refused ≢ None → self.new ≡ self.old) }
         ensures session { session_of_link self.new ≡ session_of_link self.old }
         ensures spared { IsRefusedOn self.old (CutText text.now) → IsOk result }
+        ensures refused { refusal_on self.old (CutText text.now) ≢ None → IsOk result }
     {
         match self.to_server.send_text(&self.viewer, text) {
             Ok(()) => Ok(told_taken()),

@@ -13,6 +13,7 @@ impl Link {
     ghost use Rattle.rfb_session.specs.LinkStanding.{LinkDoesOver, session_of_link};
     ghost use Rattle.rfb_session.specs.LinkStanding.{ComposesNothingOver};
     ghost use Rattle.rfb_session.specs.LinkBytes.{ComposesOver, SpendsHints};
+    ghost use Rattle.rfb_session.specs.Told.{TellsAlone};
 
     /// The session composes an update of the screen, which it is lent and has to follow, if one is
     /// due, and it is in flight then. What it was composed of is noted. A session that has failed
@@ -24,6 +25,7 @@ impl Link {
             LinkDoesOver screen.now self.old Compose told self.new) }
         ensures hints { IfOk result (λ told. SpendsHints self.old told self.new) }
         ensures taken { IfOk result (λ told. told.refused ≡ None) }
+        ensures tells { IfOk result (λ told. TellsAlone Compose told) }
         ensures follows { Follows screen.now (session_of_link self.new) }
         ensures idle { ComposesNothingOver screen.now self.old → IsOk result }
     {

@@ -26,6 +26,7 @@ impl Link {
     ghost use Rattle.rfb_session.specs.LinkStanding.{LosesToViewer, LosesToServer};
     ghost use Rattle.rfb_session.specs.LinkStanding.{LosesOn, IsLostOn, FollowsStill};
     ghost use Rattle.rfb_session.specs.LinkBytes.{ActsOnBytes, TellsSole};
+    ghost use Rattle.rfb_session.specs.Told.{TellsAlone};
     ghost use Rattle.rfb_session.specs.inside.Delivering.{DeliversToViewer, DeliversToServer};
     ghost use Rattle.rfb_session.specs.inside.Delivering.{HasHeard, EndsHearing};
     ghost use Rattle.rfb_session.specs.inside.Delivering.{HasWatched, EndsWatching};
@@ -39,6 +40,7 @@ impl Link {
         ensures lost { IfOk result (λ told. LosesOn self.old (ToServer count) told self.new) }
         ensures dropped { IsLostOn self.old (ToServer count) → IsOk result }
         ensures taken { IfOk result (λ told. told.refused ≡ None) }
+        ensures tells { IfOk result (λ told. TellsAlone (ToServer count) told) }
         ensures follows { FollowsStill self.old self.new }
         ensures hints { hints_in (session_of_link self.new) ≡ hints_in (session_of_link self.old) }
     {
@@ -58,6 +60,7 @@ impl Link {
             LosesOn self.old (ToServer count) delivery.told self.new) }
         ensures dropped { IsLostOn self.old (ToServer count) → IsOk result }
         ensures taken { IfOk result (λ delivery. delivery.told.refused ≡ None) }
+        ensures tells { IfOk result (λ delivery. TellsAlone (ToServer count) delivery.told) }
         ensures follows { FollowsStill self.old self.new }
         ensures hints { hints_in (session_of_link self.new) ≡ hints_in (session_of_link self.old) }
     {
@@ -78,6 +81,7 @@ impl Link {
         ensures lost { IfOk result (λ told. LosesOn self.old (ToViewer count) told self.new) }
         ensures dropped { IsLostOn self.old (ToViewer count) → IsOk result }
         ensures taken { IfOk result (λ told. told.refused ≡ None) }
+        ensures tells { IfOk result (λ told. TellsAlone (ToViewer count) told) }
         ensures session { session_of_link self.new ≡ session_of_link self.old }
     {
         let moved = self.to_viewer.len().min(count as usize);

@@ -20,6 +20,7 @@ returns-then-not-composed c =
         kept = λ not. c.in_ok-composed.ensures.hints c.if-not-composed.true;
       };
       taken = c.told_composed.ensures.refused;
+      tells = (c.told_composed.ensures.moved, c.told_composed.ensures.refused);
       follows = c.send_update.ensures.follows;
       idle = λ none. refl;
     }

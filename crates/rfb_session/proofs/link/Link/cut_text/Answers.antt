@@ -4,7 +4,7 @@ use Rattle.rfb_viewer.specs.declared.fault.CallFault.TheVariants.{NotReady as Ca
 use Rattle.rfb_viewer.specs.Calls.{call_refusal}
 use Rattle.rfb_viewer.specs.Messages.{text_message}
 use Rattle.rfb_session.specs.Told.{refused_as}
-use Rattle.rfb_session.proofs.CalledLemmas.{message_taken, not_taken, is_refusal}
+use Rattle.rfb_session.proofs.CalledLemmas.{message_taken, not_taken, is_refusal, rest_same}
 use Rattle.rfb_session.proofs.link.Link.cut_text.Goals as goal
 
 pub returns-in-Ok-clause-does : goal.returns-in-Ok-clause-does
@@ -17,6 +17,7 @@ returns-in-Ok-clause-does c = λ e n made reached stands.
     (record {
       session = refl;
       picture = refl;
+      rest = rest_same c.args.self.now.viewer;
       to_server = rw c.deref.ensures.value at c.in-Ok.ensures.sent;
       to_viewer = refl;
       latest = refl;
@@ -42,18 +43,31 @@ returns-in-Err-NoMemory-clause-spared c = λ refused.
     absurd (not_taken refusal refused.2 is refused.5)
 
 pub returns-in-Ok-clause-bytes : goal.returns-in-Ok-clause-bytes
-returns-in-Ok-clause-bytes c = λ taken. (
-  text_message c.args.text.now.items,
-  rw c.deref.ensures.value at c.in-Ok.ensures.spelled,
+returns-in-Ok-clause-bytes c = (
   record {
-    session = refl;
-    picture = refl;
-    to_server = rw c.deref.ensures.value at c.in-Ok.ensures.sent;
-    to_viewer = refl;
-    latest = refl;
+    refused = c.told_taken.ensures.refused ∙ ap (λ o. refused_as o) c.in-Ok.ensures.refuses;
+    sent = λ taken. (
+      text_message c.args.text.now.items,
+      rw c.deref.ensures.value at c.in-Ok.ensures.spelled,
+      record {
+        session = refl;
+        picture = refl;
+        rest = rest_same c.args.self.now.viewer;
+        to_server = rw c.deref.ensures.value at c.in-Ok.ensures.sent;
+        to_viewer = refl;
+        latest = refl;
+      },
+    );
   },
+  refl,
 )
 
 pub returns-in-Err-NotReady-clause-bytes : goal.returns-in-Err-NotReady-clause-bytes
-returns-in-Err-NotReady-clause-bytes c = λ taken.
-    absurd (is_refusal CallNotReady _ c.told_refused.ensures.refused taken)
+returns-in-Err-NotReady-clause-bytes c = (
+  record {
+    refused = c.told_refused.ensures.refused
+        ∙ ap (λ o. refused_as o) (rw c.in-Err-NotReady.field-0-is at c.in-Err-NotReady.ensures.refuses);
+    sent = λ taken. absurd (is_refusal CallNotReady _ c.told_refused.ensures.refused taken);
+  },
+  refl,
+)

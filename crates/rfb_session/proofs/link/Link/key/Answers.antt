@@ -1,7 +1,7 @@
 use Rattle.std.proofs.Common.{refl, ap, ◌∙◌}
 use Rattle.rfb_wire.specs.ClientMessage.{KeyEvent}
 use Rattle.rfb_session.specs.Told.{refused_as}
-use Rattle.rfb_session.proofs.CalledLemmas.{message_taken, refused, not_taken, is_refusal}
+use Rattle.rfb_session.proofs.CalledLemmas.{message_taken, refused, not_taken, is_refusal, rest_same}
 use Rattle.rfb_session.proofs.link.Link.key.Goals as goal
 
 pub returns-in_ok-send-in-Ok-clause-does : goal.returns-in_ok-send-in-Ok-clause-does
@@ -13,6 +13,7 @@ returns-in_ok-send-in-Ok-clause-does c = λ e n made reached stands.
     (record {
       session = refl;
       picture = refl;
+      rest = rest_same c.args.self.now.viewer;
       to_server = c.in_ok-send-in-Ok.ensures.sent;
       to_viewer = refl;
       latest = refl;
@@ -53,18 +54,30 @@ returns-in_err-send-in-Ok-clause-spared c = λ refused.
     absurd (not_taken _ refused.2 is refused.5)
 
 pub returns-in_ok-send-in-Ok-clause-bytes : goal.returns-in_ok-send-in-Ok-clause-bytes
-returns-in_ok-send-in-Ok-clause-bytes c = λ taken. (
-  c.in-Ok.message,
-  c.in-Ok.ensures.spelled,
+returns-in_ok-send-in-Ok-clause-bytes c = (
   record {
-    session = refl;
-    picture = refl;
-    to_server = c.in_ok-send-in-Ok.ensures.sent;
-    to_viewer = refl;
-    latest = refl;
+    refused = c.told_taken.ensures.refused ∙ ap (λ o. refused_as o) c.in-Ok.ensures.refuses;
+    sent = λ taken. (
+      c.in-Ok.message,
+      c.in-Ok.ensures.spelled,
+      record {
+        session = refl;
+        picture = refl;
+        rest = rest_same c.args.self.now.viewer;
+        to_server = c.in_ok-send-in-Ok.ensures.sent;
+        to_viewer = refl;
+        latest = refl;
+      },
+    );
   },
+  refl,
 )
 
 pub returns-in-Err-clause-bytes : goal.returns-in-Err-clause-bytes
-returns-in-Err-clause-bytes c = λ taken.
-    absurd (is_refusal c.in-Err.fault _ c.told_refused.ensures.refused taken)
+returns-in-Err-clause-bytes c = (
+  record {
+    refused = c.told_refused.ensures.refused ∙ ap (λ o. refused_as o) c.in-Err.ensures.refuses;
+    sent = λ taken. absurd (is_refusal c.in-Err.fault _ c.told_refused.ensures.refused taken);
+  },
+  refl,
+)

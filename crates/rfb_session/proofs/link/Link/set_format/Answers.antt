@@ -16,6 +16,7 @@ returns-in_ok-send-in-Ok-clause-does c = λ e n made reached stands.
     (record {
       session = refl;
       picture = c.set_format.ensures.picture;
+      rest = c.set_format.ensures.keeps;
       to_server = c.in_ok-send-in-Ok.ensures.sent;
       to_viewer = refl;
       latest = refl;
@@ -58,18 +59,24 @@ returns-in_err-send-in-Ok-clause-spared c = λ refused.
     absurd (not_taken _ refused.2 is refused.5)
 
 pub returns-in_ok-send-in-Ok-clause-bytes : goal.returns-in_ok-send-in-Ok-clause-bytes
-returns-in_ok-send-in-Ok-clause-bytes c = λ taken. (
-  c.in-Ok.message,
-  c.in-Ok.ensures.spelled,
-  record {
-    session = refl;
-    picture = c.set_format.ensures.picture;
-    to_server = c.in_ok-send-in-Ok.ensures.sent;
-    to_viewer = refl;
-    latest = refl;
-  },
-)
+returns-in_ok-send-in-Ok-clause-bytes c = record {
+  refused = c.told_taken.ensures.refused ∙ ap (λ o. refused_as o) c.in-Ok.ensures.refuses;
+  sent = λ taken. (
+    c.in-Ok.message,
+    c.in-Ok.ensures.spelled,
+    record {
+      session = refl;
+      picture = c.set_format.ensures.picture;
+      rest = c.set_format.ensures.keeps;
+      to_server = c.in_ok-send-in-Ok.ensures.sent;
+      to_viewer = refl;
+      latest = refl;
+    },
+  );
+}
 
 pub returns-in-Err-clause-bytes : goal.returns-in-Err-clause-bytes
-returns-in-Err-clause-bytes c = λ taken.
-    absurd (is_refusal c.in-Err.fault _ c.told_refused.ensures.refused taken)
+returns-in-Err-clause-bytes c = record {
+  refused = c.told_refused.ensures.refused ∙ ap (λ o. refused_as o) c.in-Err.ensures.refuses;
+  sent = λ taken. absurd (is_refusal c.in-Err.fault _ c.told_refused.ensures.refused taken);
+}

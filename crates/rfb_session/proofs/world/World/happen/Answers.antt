@@ -26,7 +26,8 @@ returns-in-Put-clause-happens c =
         composed = c.put.ensures.told.composed;
       },
     ))
-    c.put.ensures.acts c.put.ensures.acts tt c.put.ensures.hints c.put.ensures.told.closed c.put.ensures.kept
+    c.put.ensures.acts c.put.ensures.acts (c.put.ensures.told.moved, c.put.ensures.told.composed) tt
+    c.put.ensures.hints c.put.ensures.told.closed c.put.ensures.kept
 
 pub returns-in-Copy-clause-happens : goal.returns-in-Copy-clause-happens
 returns-in-Copy-clause-happens c =
@@ -41,7 +42,7 @@ returns-in-Hint-clause-happens c =
 pub returns-in-Request-clause-happens : goal.returns-in-Request-clause-happens
 returns-in-Request-clause-happens c =
     called_happens c.args.self.now _ _ _ c.request.result c.in-Request.is c.request.ensures.does
-    (IfOk-weaker c.request.result _ _ (λ told bytes. (refl, bytes)) c.request.ensures.bytes)
+    (IfOk-weaker c.request.result _ _ (λ told bytes. (refl, bytes)) c.request.ensures.bytes) c.request.ensures.tells
     (any_ok _ c.request.result (λ told. tt)) (λ told. ap (λ (s : Session). hints_in s) c.request.ensures.session) refl refl
 
 pub returns-in-Request-clause-sure : goal.returns-in-Request-clause-sure
@@ -53,7 +54,7 @@ returns-in-Request-clause-sure c =
 pub returns-in-SetFormat-clause-happens : goal.returns-in-SetFormat-clause-happens
 returns-in-SetFormat-clause-happens c =
     called_happens c.args.self.now _ _ _ c.set_format.result c.in-SetFormat.is c.set_format.ensures.does
-    (IfOk-weaker c.set_format.result _ _ (λ told bytes. (refl, bytes)) c.set_format.ensures.bytes)
+    (IfOk-weaker c.set_format.result _ _ (λ told bytes. (refl, bytes)) c.set_format.ensures.bytes) c.set_format.ensures.tells
     (any_ok _ c.set_format.result (λ told. tt)) (λ told. ap (λ (s : Session). hints_in s) c.set_format.ensures.session) refl refl
 
 pub returns-in-SetFormat-clause-sure : goal.returns-in-SetFormat-clause-sure
@@ -65,7 +66,7 @@ returns-in-SetFormat-clause-sure c =
 pub returns-in-SetEncodings-clause-happens : goal.returns-in-SetEncodings-clause-happens
 returns-in-SetEncodings-clause-happens c =
     called_happens c.args.self.now _ _ _ c.set_encodings.result c.in-SetEncodings.is c.set_encodings.ensures.does
-    (IfOk-weaker c.set_encodings.result _ _ (λ told bytes. (refl, bytes)) c.set_encodings.ensures.bytes)
+    (IfOk-weaker c.set_encodings.result _ _ (λ told bytes. (refl, bytes)) c.set_encodings.ensures.bytes) c.set_encodings.ensures.tells
     (any_ok _ c.set_encodings.result (λ told. tt)) (λ told. ap (λ (s : Session). hints_in s) c.set_encodings.ensures.session) refl refl
 
 pub returns-in-SetEncodings-clause-sure : goal.returns-in-SetEncodings-clause-sure
@@ -77,7 +78,7 @@ returns-in-SetEncodings-clause-sure c =
 pub returns-in-Key-clause-happens : goal.returns-in-Key-clause-happens
 returns-in-Key-clause-happens c =
     called_happens c.args.self.now _ _ _ c.key.result c.in-Key.is c.key.ensures.does
-    (IfOk-weaker c.key.result _ _ (λ told bytes. (refl, bytes)) c.key.ensures.bytes)
+    (IfOk-weaker c.key.result _ _ (λ told bytes. (refl, bytes)) c.key.ensures.bytes) c.key.ensures.tells
     (any_ok _ c.key.result (λ told. tt)) (λ told. ap (λ (s : Session). hints_in s) c.key.ensures.session) refl refl
 
 pub returns-in-Key-clause-sure : goal.returns-in-Key-clause-sure
@@ -89,7 +90,7 @@ returns-in-Key-clause-sure c =
 pub returns-in-Pointer-clause-happens : goal.returns-in-Pointer-clause-happens
 returns-in-Pointer-clause-happens c =
     called_happens c.args.self.now _ _ _ c.pointer.result c.in-Pointer.is c.pointer.ensures.does
-    (IfOk-weaker c.pointer.result _ _ (λ told bytes. (refl, bytes)) c.pointer.ensures.bytes)
+    (IfOk-weaker c.pointer.result _ _ (λ told bytes. (refl, bytes)) c.pointer.ensures.bytes) c.pointer.ensures.tells
     (any_ok _ c.pointer.result (λ told. tt)) (λ told. ap (λ (s : Session). hints_in s) c.pointer.ensures.session) refl refl
 
 pub returns-in-Pointer-clause-sure : goal.returns-in-Pointer-clause-sure
@@ -101,7 +102,7 @@ returns-in-Pointer-clause-sure c =
 pub returns-in-CutText-clause-happens : goal.returns-in-CutText-clause-happens
 returns-in-CutText-clause-happens c =
     called_happens c.args.self.now _ _ _ c.cut_text.result c.in-CutText.is c.cut_text.ensures.does
-    (IfOk-weaker c.cut_text.result _ _ (λ told bytes. (refl, bytes)) c.cut_text.ensures.bytes)
+    (IfOk-weaker c.cut_text.result _ _ (λ told bytes. (refl, bytes)) c.cut_text.ensures.bytes) c.cut_text.ensures.tells
     (any_ok _ c.cut_text.result (λ told. tt)) (λ told. ap (λ (s : Session). hints_in s) c.cut_text.ensures.session) refl refl
 
 pub returns-in-CutText-clause-sure : goal.returns-in-CutText-clause-sure
@@ -113,7 +114,7 @@ returns-in-CutText-clause-sure c =
 pub returns-in-ToServer-clause-happens : goal.returns-in-ToServer-clause-happens
 returns-in-ToServer-clause-happens c =
     called_happens c.args.self.now _ _ _ c.move_to_server.result c.in-ToServer.is c.move_to_server.ensures.does
-    (IfOk-weaker c.move_to_server.result _ _ (λ told bytes. (refl, bytes)) c.move_to_server.ensures.bytes)
+    (IfOk-weaker c.move_to_server.result _ _ (λ told bytes. (refl, bytes)) c.move_to_server.ensures.bytes) c.move_to_server.ensures.tells
     c.move_to_server.ensures.lost (λ told. c.move_to_server.ensures.hints) refl refl
 
 pub returns-in-ToServer-clause-sure : goal.returns-in-ToServer-clause-sure
@@ -124,7 +125,7 @@ returns-in-ToServer-clause-sure c =
 pub returns-in-ToViewer-clause-happens : goal.returns-in-ToViewer-clause-happens
 returns-in-ToViewer-clause-happens c =
     called_happens c.args.self.now _ _ _ c.move_to_viewer.result c.in-ToViewer.is c.move_to_viewer.ensures.does
-    (IfOk-weaker c.move_to_viewer.result _ _ (λ told bytes. (refl, bytes)) c.move_to_viewer.ensures.bytes)
+    (IfOk-weaker c.move_to_viewer.result _ _ (λ told bytes. (refl, bytes)) c.move_to_viewer.ensures.bytes) c.move_to_viewer.ensures.tells
     c.move_to_viewer.ensures.lost (λ told. ap (λ (s : Session). hints_in s) c.move_to_viewer.ensures.session) refl refl
 
 pub returns-in-ToViewer-clause-sure : goal.returns-in-ToViewer-clause-sure
@@ -135,7 +136,7 @@ returns-in-ToViewer-clause-sure c =
 pub returns-in-Compose-clause-happens : goal.returns-in-Compose-clause-happens
 returns-in-Compose-clause-happens c =
     composed_happens c.args.self.now _ _ c.compose.result c.in-Compose.is c.compose.ensures.does
-    (IfOk-weaker c.compose.result _ _ (λ told bytes. (refl, bytes)) c.compose.ensures.bytes)
+    (IfOk-weaker c.compose.result _ _ (λ told bytes. (refl, bytes)) c.compose.ensures.bytes) c.compose.ensures.tells
     (IfOk-weaker c.compose.result _ _ (λ told spends. (spends.spent, spends.kept)) c.compose.ensures.hints)
     refl refl
 

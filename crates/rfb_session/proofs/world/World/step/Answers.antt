@@ -19,6 +19,15 @@ returns-in-Ok-clause-acts c = c.in-Ok.ensures.happens.acts
 pub returns-in-Err-clause-acts : goal.returns-in-Err-clause-acts
 returns-in-Err-clause-acts c = tt
 
+pub returns-then-self-clause-tells : goal.returns-then-self-clause-tells
+returns-then-self-clause-tells c = tt
+
+pub returns-in-Ok-clause-tells : goal.returns-in-Ok-clause-tells
+returns-in-Ok-clause-tells c = c.in-Ok.ensures.happens.tells
+
+pub returns-in-Err-clause-tells : goal.returns-in-Err-clause-tells
+returns-in-Err-clause-tells c = tt
+
 pub returns-then-self-clause-lost : goal.returns-then-self-clause-lost
 returns-then-self-clause-lost c = tt
 
