@@ -69,6 +69,7 @@ pub fn view_recording<R: Source, W: Sink, K: Sink>(
         (R.failed source.old + W.failed sink.old + K.failed kept.old)
         (R.failed source.new + W.failed sink.new + K.failed kept.new)
         viewer.old updates fault viewer.new) }
+    ensures same_reference { K.reference kept.new ≡ K.reference kept.old }
 {
     let mut part = [0; READ_SIZE];
     let mut left = updates;
@@ -109,6 +110,7 @@ fn look<W: Sink, K: Sink>(
         (W.written sink.old) (W.written sink.new) (K.written kept.old) (K.written kept.new)
         (W.failed sink.old + K.failed kept.old) (W.failed sink.new + K.failed kept.new)
         fault viewer.new) }
+    ensures same_reference { K.reference kept.new ≡ K.reference kept.old }
 {
     let mut rest = bytes;
     let mut left = before;
@@ -147,6 +149,7 @@ fn look_once<W: Sink, K: Sink>(
         (W.written sink.old) (W.written sink.new) (K.written kept.old) (K.written kept.new)
         (W.failed sink.old + K.failed kept.old) (W.failed sink.new + K.failed kept.new)
         fault viewer.new) }
+    ensures same_reference { K.reference kept.new ≡ K.reference kept.old }
 {
     match viewer.feed(bytes) {
         Ok(fed) => match send(&bytes[..fed.used], kept) {

@@ -9,6 +9,7 @@ loop-left-init g c = record {
       (g.W.Sink.written c.args.sink.now) (g.K.Sink.written c.args.kept.now) c.requires.wanted;
   none_unwritten = refl;
   none_unkept = refl;
+  same_reference = refl;
 }
 
 pub loop-left-preserved : goal.loop-left-preserved
@@ -23,6 +24,7 @@ loop-left-preserved g c =
           c.in-Ok.used c.look_once.new.viewer l.invariant.looks some c.in-Ok.ensures.looked;
       none_unwritten = c.in-Ok.ensures.none_failed.0 ∙ l.invariant.none_unwritten;
       none_unkept = c.in-Ok.ensures.none_failed.1 ∙ l.invariant.none_unkept;
+      same_reference = c.look_once.ensures.same_reference ∙ l.invariant.same_reference;
     }
 
 pub returns-in-Err-clause-stopped : goal.returns-in-Err-clause-stopped

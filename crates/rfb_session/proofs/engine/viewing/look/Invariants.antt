@@ -10,6 +10,7 @@ invariant-loop-left g l = record {
       (g.K.Sink.written l.initial.kept) (g.K.Sink.written l.kept) l.viewer;
   none_unwritten : g.W.Sink.failed l.sink ≡ g.W.Sink.failed l.initial.sink;
   none_unkept : g.K.Sink.failed l.kept ≡ g.K.Sink.failed l.initial.kept;
+  same_reference : g.K.Sink.reference l.kept ≡ g.K.Sink.reference l.initial.kept;
 }
 
 abbrev pub decreases-loop-left : goal.decreases-loop-left

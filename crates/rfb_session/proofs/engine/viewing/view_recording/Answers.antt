@@ -13,6 +13,7 @@ loop-turn-init g c = record {
   none_unread = refl;
   none_unwritten = refl;
   none_unkept = refl;
+  same_reference = refl;
   size = refl;
 }
 
@@ -115,6 +116,7 @@ loop-turn-preserved g c =
       none_unread = c.in-Ok.ensures.count ∙ l.invariant.none_unread;
       none_unwritten = c.in-Ok-look.ensures.none_failed.0 ∙ l.invariant.none_unwritten;
       none_unkept = c.in-Ok-look.ensures.none_failed.1 ∙ l.invariant.none_unkept;
+      same_reference = c.look.ensures.same_reference ∙ l.invariant.same_reference;
       size = size;
     }
 

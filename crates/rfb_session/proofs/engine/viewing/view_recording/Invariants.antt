@@ -12,5 +12,6 @@ invariant-loop-turn g l = record {
   none_unread : g.R.Source.failed l.source ≡ g.R.Source.failed l.initial.source;
   none_unwritten : g.W.Sink.failed l.sink ≡ g.W.Sink.failed l.initial.sink;
   none_unkept : g.K.Sink.failed l.kept ≡ g.K.Sink.failed l.initial.kept;
+  same_reference : g.K.Sink.reference l.kept ≡ g.K.Sink.reference l.initial.kept;
   size : length l.part ≡ 4096;
 }
