@@ -1,8 +1,12 @@
 -- A view, from its parts.
-use Rattle.std.proofs.Common.{◌≡◌, ◌∙◌, ◌⊎◌, ap, inl, inr, sym, subst, Bool, ℕ, List, Option, OnOk, OnErr, IfErr, Result, Ok, Err, true, false}
+use Rattle.std.proofs.Common.{◌≡◌, ◌∙◌, ◌⊎◌, ap, inl, inr, sym, subst, Bool, ℕ, List, Option, None, OnOk, OnErr, IfErr, Result, Ok, Err, true, false, if◌then◌else◌}
+use Rattle.std.proofs.KnownBytes.{Appends-kept}
+use Rattle.std.specs.Io.KnownBytes.{Keeps}
 use Rattle.rfb_viewer.specs.declared.viewer.Viewer.{Viewer}
 use Rattle.rfb_session.specs.declared.engine.fault.EngineFault.{EngineFault}
-use Rattle.rfb_session.specs.ViewEngine.{StopsViewing}
+use Rattle.rfb_session.specs.declared.engine.fault.EngineFault.TheVariants as ends
+use Rattle.rfb_session.specs.Devices.{AppendsBeginning}
+use Rattle.rfb_session.specs.ViewEngine.{KeepsLast, StopsViewing}
 use Rattle.rfb.specs.declared.fault.Fault.{Fault}
 use Rattle.rfb.specs.declared.fault.Failure.{Failure}
 use Rattle.rfb.specs.declared.fault.Failure.TheVariants as failure
@@ -10,42 +14,143 @@ use Rattle.rfb.specs.declared.viewing.look.Sight.{Sight}
 use Rattle.rfb.specs.Recording.{BeginsPicture, WritesPicture}
 use Rattle.rfb.specs.Viewing.{FailsToView, IsMadeFor, LeavesSomeView, LeavesView, Saw, StopsSeeing, StopsView, Views}
 
+-- ---- what is kept, where it is and where it is not
+
+saw_kept : (b : Bool) (read answered before after : Option (List ℕ)) (first : Viewer) (updates : ℕ) (last : Viewer) →
+    b ≡ true → Saw read answered before after first updates last →
+    Saw read answered (if b then before else None) (if b then after else None) first updates last
+saw_kept true read answered before after first updates last is saw = saw
+saw_kept false read answered before after first updates last is saw = let bad : false ≡ true = is in absurd (cc)
+
+saw_unkept : (b : Bool) (read answered before after : Option (List ℕ)) (first : Viewer) (updates : ℕ) (last : Viewer) →
+    b ≡ false → Saw read answered None None first updates last →
+    Saw read answered (if b then before else None) (if b then after else None) first updates last
+saw_unkept false read answered before after first updates last is saw = saw
+saw_unkept true read answered before after first updates last is saw = let bad : true ≡ false = is in absurd (cc)
+
+stops_kept : (b : Bool) (read answered before after : Option (List ℕ)) (first : Viewer) (updates : ℕ) (f : Failure) (last : Viewer) →
+    b ≡ true → StopsView read answered before after first updates f last →
+    StopsView read answered (if b then before else None) (if b then after else None) first updates f last
+stops_kept true read answered before after first updates f last is stops = stops
+stops_kept false read answered before after first updates f last is stops = let bad : false ≡ true = is in absurd (cc)
+
+stops_unkept : (b : Bool) (read answered before after : Option (List ℕ)) (first : Viewer) (updates : ℕ) (f : Failure) (last : Viewer) →
+    b ≡ false → StopsView read answered None None first updates f last →
+    StopsView read answered (if b then before else None) (if b then after else None) first updates f last
+stops_unkept false read answered before after first updates f last is stops = stops
+stops_unkept true read answered before after first updates f last is stops = let bad : true ≡ false = is in absurd (cc)
+
+-- ---- behind a flush, which keeps what was written
+
+beginning_flushed : (a b c : Option (List ℕ)) (text : List ℕ) → AppendsBeginning a b text → Keeps b c →
+    AppendsBeginning a c text
+beginning_flushed a b c text begun kept = (
+  begun.0,
+  record {
+    done = begun.1.done;
+    parts = begun.1.parts;
+    appended = Appends-kept a b c begun.1.done begun.1.appended kept;
+  },
+)
+
+last_flushed : (a b c : Option (List ℕ)) (slice : List ℕ) (failing failed : ℕ) →
+    KeepsLast a b slice failing failed → Keeps b c → KeepsLast a c slice failing failed
+last_flushed a b c slice failing failed (inl all) kept = inl (all.0, Appends-kept a b c slice all.1 kept)
+last_flushed a b c slice failing failed (inr some) kept = inr (some.0, beginning_flushed a b c slice some.1 kept)
+
+viewing_flushed : (unread left before after blank mid copied : Option (List ℕ)) (failing failed : ℕ) (old : Viewer)
+    (updates : ℕ) (fault : EngineFault) (new : Viewer) →
+    StopsViewing unread left before after blank mid failing failed old updates fault new → Keeps mid copied →
+    StopsViewing unread left before after blank copied failing failed old updates fault new
+viewing_flushed unread left before after blank mid copied failing failed old updates ends.Truncated new missed kept = record {
+  fed = missed.fed;
+  sent = missed.sent;
+  ended = missed.ended;
+  fewer = missed.fewer;
+  read = missed.read;
+  all = missed.all;
+  runs = missed.runs;
+  wrote = missed.wrote;
+  kept = Appends-kept blank mid copied missed.fed missed.kept kept;
+}
+viewing_flushed unread left before after blank mid copied failing failed old updates ends.Device new some kept = (
+  some.0,
+  record {
+    fed = some.1.fed;
+    later = some.1.later;
+    sent = some.1.sent;
+    updates = some.1.updates;
+    asks = some.1.asks;
+    read = some.1.read;
+    runs = some.1.runs;
+    wrote = some.1.wrote;
+    kept = beginning_flushed blank mid copied some.1.fed some.1.kept kept;
+  },
+)
+viewing_flushed unread left before after blank mid copied failing failed old updates (ends.Viewer fault) new until kept = record {
+  fed = until.fed;
+  slice = until.slice;
+  sent = until.sent;
+  updates = until.updates;
+  last = until.last;
+  read = until.read;
+  runs = until.runs;
+  wrote = until.wrote;
+  kept = (until.kept.0, until.kept.1, last_flushed until.kept.0 mid copied until.slice failing failed until.kept.2 kept);
+  ends = until.ends;
+}
+viewing_flushed unread left before after blank mid copied failing failed old updates (ends.Server fault) new none kept = none
+viewing_flushed unread left before after blank mid copied failing failed old updates ends.NoMemory new none kept = none
+
+pub stops_flushed : (read answered blank mid copied : Option (List ℕ)) (first : Viewer) (updates : ℕ) (fault : EngineFault)
+    (last : Viewer) → StopsSeeing read answered blank mid first updates fault last → Keeps mid copied →
+    StopsSeeing read answered blank copied first updates fault last
+stops_flushed read answered blank mid copied first updates fault last stops kept = record {
+  left = stops.left;
+  after = stops.after;
+  failed = stops.failed;
+  stopped = viewing_flushed read stops.left answered stops.after blank mid copied 0 stops.failed first updates fault last stops.stopped kept;
+}
+
+-- ---- a view
+
 pub views_recorded : (sight : Sight) (read answered before after : Option (List ℕ)) (first last : Viewer)
     (r : Result (Unit {0}) Failure) → IsMadeFor sight first → sight.is_recorded ≡ true →
-    OnOk r (Saw read answered first sight.updates last) → OnOk r (Views sight read answered before after)
+    OnOk r (Saw read answered before after first sight.updates last) → OnOk r (Views sight read answered before after)
 views_recorded sight read answered before after first last (Ok done) fresh is saw = record {
   first = first;
   fresh = fresh;
   last = last;
-  saw = saw;
+  saw = saw_kept sight.is_recorded read answered before after first sight.updates last is saw;
   shown = λ not. let bad : true ≡ false = sym is ∙ not in absurd (cc);
 }
 views_recorded sight read answered before after first last (Err f) fresh is saw = tt
 
 pub views_shown : (sight : Sight) (read answered before after : Option (List ℕ)) (first last : Viewer)
-    (r : Result (Unit {0}) Failure) → IsMadeFor sight first →
-    Saw read answered first sight.updates last → OnOk r (WritesPicture last before after) →
+    (r : Result (Unit {0}) Failure) → IsMadeFor sight first → sight.is_recorded ≡ false →
+    Saw read answered None None first sight.updates last → OnOk r (WritesPicture last before after) →
     OnOk r (Views sight read answered before after)
-views_shown sight read answered before after first last (Ok done) fresh saw written = record {
+views_shown sight read answered before after first last (Ok done) fresh not saw written = record {
   first = first;
   fresh = fresh;
   last = last;
-  saw = saw;
+  saw = saw_unkept sight.is_recorded read answered before after first sight.updates last not saw;
   shown = λ not. written;
 }
-views_shown sight read answered before after first last (Err f) fresh saw written = tt
+views_shown sight read answered before after first last (Err f) fresh not saw written = tt
 
 pub leaves_shown : {W : Type 0} (contents : W → Option (List ℕ)) (sight : Sight) (read answered : Option (List ℕ)) (old new : W) (first last : Viewer)
-    (r : Result (Unit {0}) Failure) → IsMadeFor sight first → Saw read answered first sight.updates last →
+    (r : Result (Unit {0}) Failure) → IsMadeFor sight first → sight.is_recorded ≡ false →
+    Saw read answered None None first sight.updates last →
     OnErr r ((new ≡ old) ⊎ BeginsPicture last (contents old) (contents new)) →
     OnErr r (LeavesView sight read answered (contents old) (contents new))
-leaves_shown contents sight read answered old new first last (Ok done) fresh saw left = tt
-leaves_shown contents sight read answered old new first last (Err f) fresh saw (inl same) = inl (ap contents same)
-leaves_shown contents sight read answered old new first last (Err f) fresh saw (inr begun) = inr (record {
+leaves_shown contents sight read answered old new first last (Ok done) fresh not saw left = tt
+leaves_shown contents sight read answered old new first last (Err f) fresh not saw (inl same) = inl (ap contents same)
+leaves_shown contents sight read answered old new first last (Err f) fresh not saw (inr begun) = inr (record {
   first = first;
   fresh = fresh;
   last = last;
-  saw = saw;
+  saw = saw_unkept sight.is_recorded read answered (contents old) (contents new) first sight.updates last not saw;
   shown = begun;
 })
 
@@ -59,34 +164,44 @@ leaves_some sight read answered before after (Ok done) left = tt
 leaves_some sight read answered before after (Err f) (inl same) = inl same
 leaves_some sight read answered before after (Err f) (inr views) = inr (read, answered, views)
 
-pub fails_recorded : (sight : Sight) (read answered : Option (List ℕ)) (first last : Viewer)
-    (r : Result (Unit {0}) Failure) → IsMadeFor sight first →
-    IfErr r (λ f. StopsView read answered first sight.updates f last) → IfErr r (FailsToView sight read answered)
-fails_recorded sight read answered first last (Ok done) fresh stops = tt
-fails_recorded sight read answered first last (Err f) fresh stops = (first, last, fresh, stops)
+pub fails_recorded : (sight : Sight) (read answered before after : Option (List ℕ)) (first last : Viewer)
+    (r : Result (Unit {0}) Failure) → IsMadeFor sight first → sight.is_recorded ≡ true →
+    IfErr r (λ f. StopsView read answered before after first sight.updates f last) →
+    IfErr r (FailsToView sight read answered before after)
+fails_recorded sight read answered before after first last (Ok done) fresh is stops = tt
+fails_recorded sight read answered before after first last (Err f) fresh is stops =
+    (first, last, fresh, stops_kept sight.is_recorded read answered before after first sight.updates f last is stops)
 
-pub fails_shown : (sight : Sight) (read answered : Option (List ℕ)) (first last : Viewer)
-    (r : Result (Unit {0}) Failure) → IsMadeFor sight first →
-    IfErr r (λ f. (fault : Fault) × (f ≡ failure.Fault fault)) → IfErr r (FailsToView sight read answered)
-fails_shown sight read answered first last (Ok done) fresh is = tt
-fails_shown sight read answered first last (Err (failure.Fault fault)) fresh is = (first, last, fresh, tt)
-fails_shown sight read answered first last (Err (failure.BadLine n)) fresh is = let e = is.1 in absurd (cc)
-fails_shown sight read answered first last (Err (failure.Engine fault)) fresh is = let e = is.1 in absurd (cc)
+pub fails_seeing : (sight : Sight) (read answered before after : Option (List ℕ)) (first last : Viewer) (fault : EngineFault) →
+    IsMadeFor sight first → sight.is_recorded ≡ false →
+    StopsSeeing read answered None None first sight.updates fault last →
+    FailsToView sight read answered before after (failure.Engine fault)
+fails_seeing sight read answered before after first last fault fresh not stops =
+    (first, last, fresh, stops_unkept sight.is_recorded read answered before after first sight.updates (failure.Engine fault) last not stops)
+
+pub fails_shown : (sight : Sight) (read answered before after : Option (List ℕ)) (first last : Viewer)
+    (r : Result (Unit {0}) Failure) → IsMadeFor sight first → sight.is_recorded ≡ false →
+    Saw read answered None None first sight.updates last →
+    IfErr r (λ f. (fault : Fault) × (f ≡ failure.Fault fault)) → IfErr r (FailsToView sight read answered before after)
+fails_shown sight read answered before after first last (Ok done) fresh not saw is = tt
+fails_shown sight read answered before after first last (Err (failure.Fault fault)) fresh not saw is =
+    (first, last, fresh, stops_unkept sight.is_recorded read answered before after first sight.updates (failure.Fault fault) last not saw)
+fails_shown sight read answered before after first last (Err (failure.BadLine n)) fresh not saw is = let e = is.1 in absurd (cc)
+fails_shown sight read answered before after first last (Err (failure.Engine fault)) fresh not saw is = let e = is.1 in absurd (cc)
 
 -- an engine whose devices had not failed before
-pub stops_seeing : (read answered unread left before after blank copied : Option (List ℕ)) (failing failed : ℕ)
+pub stops_seeing : (read answered output unread left before after blank copied : Option (List ℕ)) (failing failed : ℕ)
     (old : Viewer) (updates : ℕ) (r : Result ℕ EngineFault) (new : Viewer) →
-    unread ≡ read → before ≡ answered → failing ≡ 0 →
+    unread ≡ read → before ≡ answered → blank ≡ output → failing ≡ 0 →
     IfErr r (λ fault. StopsViewing unread left before after blank copied failing failed old updates fault new) →
-    IfErr r (λ fault. StopsSeeing read answered old updates fault new)
-stops_seeing read answered unread left before after blank copied failing failed old updates (Ok told) new same there none is = tt
-stops_seeing read answered unread left before after blank copied failing failed old updates (Err fault) new same there none is = record {
+    IfErr r (λ fault. StopsSeeing read answered output copied old updates fault new)
+stops_seeing read answered output unread left before after blank copied failing failed old updates (Ok told) new same there here none is = tt
+stops_seeing read answered output unread left before after blank copied failing failed old updates (Err fault) new same there here none is = record {
   left = left;
   after = after;
-  blank = blank;
-  copied = copied;
   failed = failed;
-  stopped = subst (λ (u : Option (List ℕ)). StopsViewing u left answered after blank copied 0 failed old updates fault new) same
-      (subst (λ (b : Option (List ℕ)). StopsViewing unread left b after blank copied 0 failed old updates fault new) there
-      (subst (λ (n : ℕ). StopsViewing unread left before after blank copied n failed old updates fault new) none is));
+  stopped = subst (λ (u : Option (List ℕ)). StopsViewing u left answered after output copied 0 failed old updates fault new) same
+      (subst (λ (b : Option (List ℕ)). StopsViewing unread left b after output copied 0 failed old updates fault new) there
+      (subst (λ (b : Option (List ℕ)). StopsViewing unread left before after b copied 0 failed old updates fault new) here
+      (subst (λ (n : ℕ). StopsViewing unread left before after blank copied n failed old updates fault new) none is)));
 }

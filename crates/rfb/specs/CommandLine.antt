@@ -21,7 +21,7 @@ use Rattle.rfb.specs.Loopback.{LeavesSomePicture, PlaysSomeScript}
 use Rattle.rfb.specs.Options.{AreAsked}
 use Rattle.rfb.specs.Recording.{LeavesRecording, PlaysRecording}
 use Rattle.rfb.specs.Serving.{ServesFewer, ServesSo}
-use Rattle.rfb.specs.Viewing.{LeavesSomeView, ViewsSome}
+use Rattle.rfb.specs.Viewing.{FailsSomehow, LeavesSomeView, ViewsSome}
 
 -- ---- a script
 
@@ -94,14 +94,15 @@ Does (View look) read before after = ViewsSome look.sight before after
 Does (Play replay) read before after = PlaysRecording replay read before after
 
 -- what was written at a command that failed: nothing, or a beginning of what it was to write; what
--- a view keeps of a server's bytes is written as they come
+-- a view keeps of a server's bytes is written as they come, and has what its viewer was fed
 abbrev pub Leaves : Task → Option (List ℕ) → Option (List ℕ) → Option (List ℕ) → Type 0
 Leaves Script read before after = LeavesScript read before after
 Leaves Loop read before after = LeavesSomePicture before after
 Leaves (Serve wanted) read before after =
     ServesFewer wanted.screen wanted.connections before after
 Leaves (View look) read before after =
-    look.sight.is_recorded ≡ false → LeavesSomeView look.sight before after
+    (look.sight.is_recorded ≡ false → LeavesSomeView look.sight before after)
+    × FailsSomehow look.sight before after
 Leaves (Play replay) read before after = LeavesRecording replay read before after
 
 -- the same of what words ask for

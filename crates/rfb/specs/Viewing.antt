@@ -1,5 +1,5 @@
 -- What a fresh viewer saw of a server.
-use Rattle.std.specs.Prelude.{◌≡◌, ◌⊎◌, ⊤, ℕ, false, List, Option}
+use Rattle.std.specs.Prelude.{◌≡◌, ◌⊎◌, ℕ, false, List, Option, None, if◌then◌else◌}
 use Rattle.rfb_viewer.specs.declared.viewer.Viewer.{Viewer}
 use Rattle.rfb_session.specs.declared.engine.fault.EngineFault.{EngineFault}
 use Rattle.rfb_session.specs.ViewEngine.{HasViewed, StopsViewing}
@@ -10,22 +10,19 @@ use Rattle.rfb.specs.declared.viewing.look.Sight.{Sight}
 use Rattle.rfb.specs.Recording.{BeginsPicture, IsFresh, WritesPicture}
 
 -- a viewer asked and was fed, up to the end of the last of so many updates; its bytes were there to
--- be read, and what it sent stands behind what was written before
-pub record Saw (read before : Option (List ℕ)) (old : Viewer) (updates : ℕ) (new : Viewer)
-    : Type 0 where
+-- be read, what it sent stands behind what was written before, and what it was fed stands on the
+-- output, if it is kept there
+pub record Saw (read before blank copied : Option (List ℕ)) (old : Viewer) (updates : ℕ)
+    (new : Viewer) : Type 0 where
   pub left : Option (List ℕ)
   pub after : Option (List ℕ)
-  pub blank : Option (List ℕ)
-  pub copied : Option (List ℕ)
   pub viewed : HasViewed read left before after blank copied old updates new
 
 -- or why it did not come to that end
-pub record StopsSeeing (read before : Option (List ℕ)) (old : Viewer) (updates : ℕ)
+pub record StopsSeeing (read before blank copied : Option (List ℕ)) (old : Viewer) (updates : ℕ)
     (fault : EngineFault) (new : Viewer) : Type 0 where
   pub left : Option (List ℕ)
   pub after : Option (List ℕ)
-  pub blank : Option (List ℕ)
-  pub copied : Option (List ℕ)
   pub failed : ℕ
   pub stopped : StopsViewing read left before after blank copied 0 failed old updates fault new
 
@@ -33,13 +30,18 @@ pub record StopsSeeing (read before : Option (List ℕ)) (old : Viewer) (updates
 abbrev pub IsMadeFor : Sight → Viewer → Type 0
 IsMadeFor sight viewer = IsFresh sight.wants.format sight.wants.encodings.items viewer
 
--- the sight was seen, and this was written of what the viewer then shows
-pub record ViewsTo (Writes : Viewer → Type 0) (sight : Sight) (read answered : Option (List ℕ))
-    : Type 0 where
+-- what the server's bytes are kept on: the output, or nothing where no recording is wanted
+abbrev pub kept_on : Sight → Option (List ℕ) → Option (List ℕ)
+kept_on sight output = if sight.is_recorded then output else None
+
+-- the sight was seen, and this was written of what the viewer then shows; a recording is what the
+-- viewer was fed
+pub record ViewsTo (Writes : Viewer → Type 0) (sight : Sight)
+    (read answered before after : Option (List ℕ)) : Type 0 where
   pub first : Viewer
   pub fresh : IsMadeFor sight first
   pub last : Viewer
-  pub saw : Saw read answered first sight.updates last
+  pub saw : Saw read answered (kept_on sight before) (kept_on sight after) first sight.updates last
   pub shown : Writes last
 
 -- if no recording is wanted, the whole picture was written behind what stood there before
@@ -47,26 +49,32 @@ abbrev pub Views : Sight → Option (List ℕ) → Option (List ℕ) → Option 
     Option (List ℕ) → Type 0
 Views sight read answered before after =
     ViewsTo (λ last. sight.is_recorded ≡ false → WritesPicture last before after) sight
-    read answered
+    read answered before after
 
 -- the output is as it was, or a beginning of the picture was written
 abbrev pub LeavesView : Sight → Option (List ℕ) → Option (List ℕ) → Option (List ℕ) →
     Option (List ℕ) → Type 0
 LeavesView sight read answered before after =
-    (after ≡ before) ⊎ ViewsTo (λ last. BeginsPicture last before after) sight read answered
+    (after ≡ before)
+    ⊎ ViewsTo (λ last. BeginsPicture last before after) sight read answered before after
 
--- a viewer that was fed is the reason why nothing more is seen, or the machine is
-abbrev pub StopsView : Option (List ℕ) → Option (List ℕ) → Viewer → ℕ → Failure → Viewer → Type 0
-StopsView read answered old updates (Engine fault) new =
-    StopsSeeing read answered old updates fault new
-StopsView read answered old updates (Fault fault) new = ⊤
-StopsView read answered old updates (BadLine n) new = ⊥
+-- a viewer that was fed is the reason why nothing more is seen; or all was seen, and the machine is
+abbrev pub StopsView : Option (List ℕ) → Option (List ℕ) → Option (List ℕ) → Option (List ℕ) →
+    Viewer → ℕ → Failure → Viewer → Type 0
+StopsView read answered blank copied old updates (Engine fault) new =
+    StopsSeeing read answered blank copied old updates fault new
+StopsView read answered blank copied old updates (Fault fault) new =
+    Saw read answered blank copied old updates new
+StopsView read answered blank copied old updates (BadLine n) new = ⊥
 
--- what a fresh viewer was fed ended it, or ended too early
-abbrev pub FailsToView : Sight → Option (List ℕ) → Option (List ℕ) → Failure → Type 0
-FailsToView sight read answered failure =
+-- what a fresh viewer was fed ended it, or ended too early, or it saw all; a recording has what the
+-- engine says of it
+abbrev pub FailsToView : Sight → Option (List ℕ) → Option (List ℕ) → Option (List ℕ) →
+    Option (List ℕ) → Failure → Type 0
+FailsToView sight read answered before after failure =
     (first last : Viewer) × IsMadeFor sight first
-    × StopsView read answered first sight.updates failure last
+    × StopsView read answered (kept_on sight before) (kept_on sight after) first sight.updates
+    failure last
 
 -- ---- a connection of whose bytes nothing is known
 
@@ -80,10 +88,16 @@ abbrev pub LeavesSomeView : Sight → Option (List ℕ) → Option (List ℕ) �
 LeavesSomeView sight before after =
     (after ≡ before)
     ⊎ ((read answered : Option (List ℕ))
-    × ViewsTo (λ last. BeginsPicture last before after) sight read answered)
+    × ViewsTo (λ last. BeginsPicture last before after) sight read answered before after)
 
--- there was none, or the machine failed; or what came over it ended a fresh viewer, or ended early
-abbrev pub FailsToViewSome : Sight → Failure → Type 0
-FailsToViewSome sight failure =
-    ((fault : OwnFault) × (failure ≡ Fault fault))
-    ⊎ ((read answered : Option (List ℕ)) × FailsToView sight read answered failure)
+-- there was none, and the output is as it was; or what came over it ended a fresh viewer, or ended
+-- early, or all was seen and the machine failed
+abbrev pub FailsToViewSome : Sight → Option (List ℕ) → Option (List ℕ) → Failure → Type 0
+FailsToViewSome sight before after failure =
+    ((fault : OwnFault) × (failure ≡ Fault fault) × (after ≡ before))
+    ⊎ ((read answered : Option (List ℕ)) × FailsToView sight read answered before after failure)
+
+-- one of these
+abbrev pub FailsSomehow : Sight → Option (List ℕ) → Option (List ℕ) → Type 0
+FailsSomehow sight before after =
+    (failure : Failure) × FailsToViewSome sight before after failure

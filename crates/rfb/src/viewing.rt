@@ -1,6 +1,6 @@
 //! A viewer of a server over a socket.
 
-ghost use Rattle.std.specs.Prelude.{◌≡◌, ◌≤◌, false, Err, IfOk, IfErr, OnOk, OnErr};
+ghost use Rattle.std.specs.Prelude.{◌≡◌, ◌≤◌, false, None, Err, IfOk, IfErr, OnOk, OnErr};
 ghost use Rattle.rfb_session.specs.declared.engine.fault.EngineFault.{EngineFault};
 ghost use Rattle.rfb.specs.declared.fault.Failure.TheVariants as Failure;
 ghost use Rattle.rfb.specs.Viewing.{FailsToView, FailsToViewSome, Saw, StopsSeeing, StopsView};
@@ -12,7 +12,7 @@ use crate::fault::{Failure, Fault};
 use crate::playing::fresh_viewer;
 use crate::recording::show;
 pub use look::{Look, Sight};
-use rfb_session::{EngineFault, Tally, view_recording};
+use rfb_session::{EngineFault, Lent, Sink, Tally, view_recording};
 use rfb_viewer::Viewer;
 use std::alloc::Global;
 use std::io::{Read, Write};
@@ -27,7 +27,8 @@ pub fn view_at<N: Net, W: Write>(
 ) -> Result<(), Failure>
     ensures done { OnOk result
         (ViewsSome look.entry.sight (W.contents output.old) (W.contents output.new)) }
-    ensures stopped { IfErr result (FailsToViewSome look.entry.sight) }
+    ensures stopped { IfErr result (FailsToViewSome look.entry.sight
+        (W.contents output.old) (W.contents output.new)) }
     ensures unwritten { look.entry.sight.is_recorded ≡ false → (fault : EngineFault) →
         result ≡ Err (Failure.Engine fault) → output.new ≡ output.old }
     ensures left { look.entry.sight.is_recorded ≡ false → OnErr result
@@ -48,7 +49,8 @@ pub fn view_on<S: Read + Write + OpenStream + Drop, W: Write>(
 ) -> Result<(), Failure>
     ensures done { OnOk result
         (ViewsSome sight (W.contents output.old) (W.contents output.new)) }
-    ensures stopped { IfErr result (FailsToViewSome sight) }
+    ensures stopped { IfErr result (FailsToViewSome sight
+        (W.contents output.old) (W.contents output.new)) }
     ensures unwritten { sight.is_recorded ≡ false → (fault : EngineFault) →
         result ≡ Err (Failure.Engine fault) → output.new ≡ output.old }
     ensures left { sight.is_recorded ≡ false → OnErr result
@@ -71,7 +73,8 @@ fn view_over<R: Read + Drop, V: Write + Drop, W: Write>(
 ) -> Result<(), Failure>
     ensures done { OnOk result (Views sight (R.remaining reader) (V.contents writer)
         (W.contents output.old) (W.contents output.new)) }
-    ensures stopped { IfErr result (FailsToView sight (R.remaining reader) (V.contents writer)) }
+    ensures stopped { IfErr result (FailsToView sight (R.remaining reader) (V.contents writer)
+        (W.contents output.old) (W.contents output.new)) }
     ensures unwritten { sight.is_recorded ≡ false → (fault : EngineFault) →
         result ≡ Err (Failure.Engine fault) → output.new ≡ output.old }
     ensures left { sight.is_recorded ≡ false → OnErr result
@@ -99,9 +102,10 @@ fn watch<R: Read + Drop, V: Write + Drop>(
 ) -> Result<u32, EngineFault>
     requires some { 1 ≤ updates }
     ensures saw { IfOk result (λ told.
-        Saw (R.remaining reader) (V.contents writer) viewer.old updates viewer.new) }
+        Saw (R.remaining reader) (V.contents writer) None None viewer.old updates viewer.new) }
     ensures stopped { IfErr result (λ fault.
-        StopsSeeing (R.remaining reader) (V.contents writer) viewer.old updates fault viewer.new) }
+        StopsSeeing (R.remaining reader) (V.contents writer) None None viewer.old updates fault
+        viewer.new) }
 {
     let mut source = Tally::new(reader);
     let mut sink = Tally::new(writer);
@@ -118,18 +122,21 @@ fn record<R: Read + Drop, V: Write + Drop, W: Write>(
 ) -> Result<(), Failure>
     requires some { 1 ≤ updates }
     ensures saw { OnOk result
-        (Saw (R.remaining reader) (V.contents writer) viewer.old updates viewer.new) }
+        (Saw (R.remaining reader) (V.contents writer) (W.contents output.old)
+        (W.contents output.new) viewer.old updates viewer.new) }
     ensures stopped { IfErr result (λ failure. StopsView
-        (R.remaining reader) (V.contents writer) viewer.old updates failure viewer.new) }
+        (R.remaining reader) (V.contents writer) (W.contents output.old) (W.contents output.new)
+        viewer.old updates failure viewer.new) }
 {
-    let ended = watch_and_keep(reader, writer, viewer, updates, output);
-    let flushed = output.flush();
-    if let Err(fault) = ended {
-        return Err(Failure::Engine(fault));
-    }
-    match flushed {
-        Ok(()) => Ok(()),
-        Err(error) => Err(Failure::Fault(Fault::from(error))),
+    match watch_and_keep(reader, writer, viewer, updates, output) {
+        Ok(_updates) => match output.flush() {
+            Ok(()) => Ok(()),
+            Err(error) => Err(Failure::Fault(Fault::from(error))),
+        },
+        Err(fault) => {
+            let _ = output.flush();
+            Err(Failure::Engine(fault))
+        }
     }
 }
 
@@ -143,12 +150,35 @@ fn watch_and_keep<R: Read + Drop, V: Write + Drop, W: Write>(
 ) -> Result<u32, EngineFault>
     requires some { 1 ≤ updates }
     ensures saw { IfOk result (λ told.
-        Saw (R.remaining reader) (V.contents writer) viewer.old updates viewer.new) }
+        Saw (R.remaining reader) (V.contents writer) (W.contents output.old)
+        (W.contents output.new) viewer.old updates viewer.new) }
     ensures stopped { IfErr result (λ fault.
-        StopsSeeing (R.remaining reader) (V.contents writer) viewer.old updates fault viewer.new) }
+        StopsSeeing (R.remaining reader) (V.contents writer) (W.contents output.old)
+        (W.contents output.new) viewer.old updates fault viewer.new) }
+{
+    let mut kept = Lent::new(output);
+    watch_into(reader, writer, &mut kept, viewer, updates)
+}
+
+// The same, with what it is fed in a sink that has not failed before.
+fn watch_into<R: Read + Drop, V: Write + Drop, K: Sink>(
+    reader: R,
+    writer: V,
+    kept: &mut K,
+    viewer: &mut Viewer,
+    updates: u32,
+) -> Result<u32, EngineFault>
+    requires some { 1 ≤ updates }
+    requires unfailed { K.failed kept.old ≡ 0 }
+    ensures saw { IfOk result (λ told.
+        Saw (R.remaining reader) (V.contents writer) (K.written kept.old) (K.written kept.new)
+        viewer.old updates viewer.new) }
+    ensures stopped { IfErr result (λ fault.
+        StopsSeeing (R.remaining reader) (V.contents writer) (K.written kept.old)
+        (K.written kept.new) viewer.old updates fault viewer.new) }
+    ensures same_reference { K.reference kept.new ≡ K.reference kept.old }
 {
     let mut source = Tally::new(reader);
     let mut sink = Tally::new(writer);
-    let mut kept = Tally::new(output);
-    view_recording(&mut source, &mut sink, &mut kept, viewer, updates)
+    view_recording(&mut source, &mut sink, kept, viewer, updates)
 }
