@@ -5,10 +5,9 @@ use Rattle.rfb_pixel.specs.declared.colour.Colour.{Colour}
 use Rattle.rfb_pixel.specs.Format.{PixelFormat}
 use Rattle.rfb_picture.specs.Grid.{Grid}
 use Rattle.rfb_picture.specs.Area.{Places}
-use Rattle.rfb_server.specs.declared.session.Session.{Session}
 use Rattle.rfb_server.specs.Server.{ServerState}
-use Rattle.rfb_server.specs.Standing.{SessionStandsFor, session_fault, notes_in, notes_at, Notes}
-use Rattle.rfb_server.specs.Composing.{Composes, IsDue}
+use Rattle.rfb_server.specs.Standing.{SessionStandsFor, session_fault, notes_in, Notes}
+use Rattle.rfb_server.specs.Composing.{Composes}
 use Rattle.rfb_server.specs.Hints.{hints_in}
 use Rattle.rfb_server.specs.Updating.{HasSent, SendsUpdate, OwesUpdate, OwesNone}
 use Rattle.rfb_server.proofs.ServerLaws.{session_noted}

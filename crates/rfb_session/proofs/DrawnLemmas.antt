@@ -1,24 +1,23 @@
 -- Drawings on the screen of a world.
-use Rattle.std.proofs.Common.{◌≡◌, ◌≢◌, ℕ, ◌<◌, ◌≤◌, ◌+◌, true, false, List, Option, Some, None, ◌⊎◌, inl, inr, ◌↔◌, Result, Ok, Err, IsErr, IfOk, OnOk, OnErr, refl, sym, ap, ◌∙◌, subst, arith}
+use Rattle.std.proofs.Common.{◌≡◌, ◌≢◌, ℕ, ◌<◌, ◌≤◌, ◌+◌, true, false, Option, Some, None, ◌⊎◌, inl, inr, ◌↔◌, Result, Ok, Err, IsErr, refl, sym, ap, ◌∙◌, subst, arith}
 use Rattle.std.proofs.lemmas.Bool.{cases_lt}
 use Rattle.rfb_pixel.specs.declared.colour.Colour.{Colour}
 use Rattle.rfb_picture.specs.declared.rect.Rect.{Rect}
 use Rattle.rfb_picture.specs.Grid.{Grid, Holds}
 use Rattle.rfb_server.specs.declared.fault.Outside.{Outside as OutsideFault}
-use Rattle.rfb_server.specs.declared.hint.Hint.{Hint}
 use Rattle.rfb_server.specs.Standing.{HoldsBoth, KeepsSession}
 use Rattle.rfb_server.proofs.ServerLaws.{session_over}
 use Rattle.rfb_session.specs.declared.told.Refused.{Refused}
 use Rattle.rfb_session.specs.declared.told.Refused.TheVariants.{Outside}
 use Rattle.rfb_session.specs.declared.told.Told.{Told}
-use Rattle.rfb_session.specs.declared.event.Event.{Event}
 use Rattle.rfb_session.specs.declared.world.World.{World}
 use Rattle.rfb_session.specs.Latest.{composing_in}
-use Rattle.rfb_session.specs.Link.{Ends}
-use Rattle.rfb_session.specs.LinkStanding.{ChangesSession}
+use Rattle.rfb_session.specs.declared.link.Link.{Link}
+use Rattle.rfb_session.specs.Link.{Ends, LinkState}
+use Rattle.rfb_session.specs.LinkStanding.{LinkStandsFor, ChangesSession}
 use Rattle.rfb_session.specs.Network.{Network, Draws}
 use Rattle.rfb_session.specs.Told.{RefusesUnless, refused_by}
-use Rattle.rfb_session.specs.World.{StandsFor, GivesScreen, DrawsOnBytes, hints_in}
+use Rattle.rfb_session.specs.World.{StandsFor, GivesScreen, DrawsOnBytes}
 
 -- whether a rectangle lies on the screen is one or the other
 pub held_or_not : (rect : Rect) (g : Grid Colour) → Holds g rect ⊎ (Holds g rect → ⊥)
@@ -43,27 +42,33 @@ both_held_or_not rect sx sy g =
     by (inl held) (inr not) = inr (λ both. not both.1)
     by (inl held) (inl source) = inl (held, source)
 
+-- a link whose session was told, over another screen
+pub link_drawn : (e : Ends) (before after : Grid Colour) (old new : Link) (l : LinkState) →
+    LinkStandsFor e before old l → ChangesSession old new →
+    KeepsSession old.session new.session → LinkStandsFor e after new l
+link_drawn e before after old new l stands same keeps =
+    let had = stands.carries in
+    record {
+      carries = rw (same.viewer, same.to_server, same.to_viewer) (record {
+        server_has = had.server_has;
+        viewer_has = had.viewer_has;
+        server_is = session_over e.serving before after new.session _ _
+            (keeps.stands e.serving before _ _ had.server_is);
+        viewer_is = had.viewer_is;
+        flies = had.flies;
+      });
+      latest_is = stands.latest_is ∙ ap (λ l. composing_in l) (sym same.latest);
+    }
+
 -- the world with another screen
 drawn_stands : (e : Ends) (old new : World) (n : Network) (screen : Grid Colour) →
     StandsFor e old n → GivesScreen screen old new → new.closed ≡ old.closed →
     StandsFor e new (record n { screen = screen })
 drawn_stands e old new n screen stands gives closed =
-    let had = stands.link_is.carries in
-    let same = gives.others in
     record {
       goes_on = closed ∙ stands.goes_on;
       screen_is = sym gives.screen_is;
-      link_is = record {
-        carries = rw (same.viewer, same.to_server, same.to_viewer) (record {
-          server_has = had.server_has;
-          viewer_has = had.viewer_has;
-          server_is = session_over e.serving n.screen screen new.link.session _ _
-              (gives.session.stands e.serving n.screen _ _ had.server_is);
-          viewer_is = had.viewer_is;
-          flies = had.flies;
-        });
-        latest_is = stands.link_is.latest_is ∙ ap (λ l. composing_in l) (sym same.latest);
-      };
+      link_is = link_drawn e n.screen screen old.link new.link n.link stands.link_is gives.others gives.session;
     }
 
 -- a drawing on the screen, where all that it needs lies on it

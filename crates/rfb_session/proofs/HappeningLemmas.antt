@@ -1,5 +1,5 @@
 -- What an event makes of a world, from what it makes of the screen and the link.
-use Rattle.std.proofs.Common.{◌≡◌, ◌≢◌, ℕ, List, Bool, None, Some, ◌⊎◌, inl, inr, Result, Ok, Err, IfOk, IsOk, refl, sym, ap, ◌∙◌, subst, length}
+use Rattle.std.proofs.Common.{◌≡◌, ◌≢◌, ℕ, None, ◌⊎◌, inl, inr, Result, Ok, Err, IfOk, IsOk, refl, sym, subst}
 use Rattle.rfb_pixel.specs.declared.colour.Colour.{Colour}
 use Rattle.rfb_picture.specs.declared.rect.Rect.{Rect}
 use Rattle.rfb_picture.specs.Grid.{Grid, Holds, filled, copied}

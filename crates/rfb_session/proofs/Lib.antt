@@ -23,6 +23,13 @@ pub mod ComposedLemmas
 pub mod CalledLemmas
 pub mod SizeLemmas
 pub mod RunLemmas
+pub mod HubSeatLemmas
+pub mod HubSlotLemmas
+pub mod HubStepLemmas
+pub mod HubJoinLemmas
+pub mod HubDrawLemmas
+pub mod HubSameLemmas
+pub mod HubRunLemmas
 pub mod PlayedLemmas
 pub mod VerdictLemmas
 pub mod ShownLemmas

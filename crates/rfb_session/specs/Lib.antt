@@ -19,6 +19,11 @@ pub mod ServeEngine
 pub mod LinkBytes
 pub mod World
 pub mod Played
+pub mod HubSeats
+pub mod HubSlots
+pub mod HubTelling
+pub mod Hub
+pub mod HubSteps
 pub mod Turns
 pub mod ViewEngine
 pub mod Looking

@@ -1,10 +1,11 @@
 -- What a `Link` stands for over the screen that its session is lent: a state of the link.
-use Rattle.std.specs.Prelude.{◌≡◌, ◌≢◌, ℕ, min, List, [], length, drop, Option, Some}
+use Rattle.std.specs.Prelude.{◌≡◌, ◌≢◌, ℕ, min, List, [], length, drop, Option, Some, None}
 use Rattle.rfb_pixel.specs.declared.colour.Colour.{Colour}
 use Rattle.rfb_picture.specs.Grid.{Grid}
 use Rattle.rfb_server.specs.declared.fault.ServerFault.{ServerFault}
 use Rattle.rfb_server.specs.declared.fault.ServerFault.TheVariants.{NoMemory as ServerWants}
 use Rattle.rfb_server.specs.declared.session.Session.{Session}
+use Rattle.rfb_server.specs.Fault.{fault_number}
 use Rattle.rfb_server.specs.Server.{Serving, ServerState, first_server}
 use Rattle.rfb_server.specs.Composing.{IsDue}
 use Rattle.rfb_server.specs.Standing.{SessionStandsFor, with_screen, session_fault}
@@ -15,7 +16,7 @@ use Rattle.rfb_viewer.specs.declared.viewer.Viewer.{Viewer}
 use Rattle.rfb_viewer.specs.Viewer.{first_viewer}
 use Rattle.rfb_viewer.specs.Standing.{StandsFor as ViewerStandsFor, picture_of, fault_of}
 use Rattle.rfb_session.specs.declared.event.Event.{Event}
-use Rattle.rfb_session.specs.declared.event.Event.TheVariants.{Compose, ToServer, ToViewer}
+use Rattle.rfb_session.specs.declared.event.Event.TheVariants.{ToServer, ToViewer}
 use Rattle.rfb_session.specs.declared.link.Link.{Link}
 use Rattle.rfb_session.specs.declared.told.Refused.{Refused}
 use Rattle.rfb_session.specs.declared.told.Told.{Told}
@@ -58,6 +59,11 @@ server_fault_of link = session_fault link.session
 abbrev pub viewer_fault_of : Link → Option ViewerFault
 viewer_fault_of link = fault_of link.viewer
 
+-- the number of a fault, where there is one
+abbrev pub number_of : Option ServerFault → Option ℕ
+number_of None = None
+number_of (Some fault) = Some (fault_number fault)
+
 -- what its viewer shows, once there is a screen
 abbrev pub shown_on : Link → Option (Grid Colour)
 shown_on link = picture_of link.viewer
@@ -90,6 +96,13 @@ LinkDoesOver screen old event told new =
 pub record ChangesSession (old new : Link) : Type 0 where
   pub viewer : new.viewer ≡ old.viewer
   pub to_server : new.to_server ≡ old.to_server
+  pub to_viewer : new.to_viewer ≡ old.to_viewer
+  pub latest : new.latest ≡ old.latest
+
+-- all but the bytes in flight to the session is as it was
+pub record IsBesideToServer (old new : Link) : Type 0 where
+  pub session : new.session ≡ old.session
+  pub viewer : new.viewer ≡ old.viewer
   pub to_viewer : new.to_viewer ≡ old.to_viewer
   pub latest : new.latest ≡ old.latest
 

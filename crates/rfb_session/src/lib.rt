@@ -9,6 +9,7 @@
 mod channel;
 mod engine;
 mod event;
+mod hub;
 mod latest;
 pub mod law;
 mod link;
@@ -21,6 +22,8 @@ pub use engine::{
     view_recording,
 };
 pub use event::Event;
+pub use hub::event::{HubEvent, HubFault, HubTold, Setup, SlotEvent};
+pub use hub::{Hub, SLOTS};
 pub use link::Link;
 pub use told::{Delivery, NoMemory, Refused, Told};
 pub use world::World;

@@ -1,6 +1,6 @@
 //! A link: a session and its viewer, with the bytes in flight between them.
 
-ghost use Rattle.std.specs.Prelude.{◌≡◌, ◌↔◌, ℕ, List, [], length, None, IfOk, OnOk, OnErr, IsErr};
+ghost use Rattle.std.specs.Prelude.{◌≡◌, ◌↔◌, ◌++◌, ℕ, List, [], length, None, IfOk, OnOk, OnErr, IsErr};
 ghost use Rattle.std.specs.Prelude.{option_copied};
 ghost use Rattle.rfb_server.specs.Standing.{notes_in};
 ghost use Rattle.rfb_session.specs.inside.Room.{HasRoom};
@@ -11,6 +11,7 @@ mod delivering;
 
 use crate::channel::Channel;
 use crate::latest::Latest;
+pub(crate) use calling::copy_of;
 use rfb_picture::{Picture, Rect};
 use rfb_pixel::Colour;
 use rfb_server::{Outside, Session};
@@ -43,6 +44,7 @@ impl Link {
     ghost use Rattle.rfb_session.specs.LinkStanding.{LinkStandsFor, AreNew, shown_on};
     ghost use Rattle.rfb_session.specs.LinkStanding.{session_of_link, ChangesSession};
     ghost use Rattle.rfb_session.specs.LinkStanding.{to_server_on, to_viewer_on};
+    ghost use Rattle.rfb_session.specs.LinkStanding.{IsBesideToServer, server_fault_of, number_of};
 
     /// A link of two fresh ends: nothing was fed to them. The session's greeting is in flight, RFC
     /// 6143 section 7.1.1. It asks for the memory of a picture and two areas of the session's size;
@@ -101,6 +103,16 @@ impl Link {
         self.session.hint(dst, sx, sy)
     }
 
+    /// These bytes are in flight to the session too, which its viewer did not send. Where there is
+    /// no memory nothing changes.
+    pub(crate) fn add_to_server(&mut self, bytes: &[u8]) -> Result<(), AllocError>
+        ensures sent { OnOk result (to_server_on self.new ≡ to_server_on self.old ++ bytes.now) }
+        ensures others { OnOk result (IsBesideToServer self.old self.new) }
+        ensures kept { OnErr result (self.new ≡ self.old) }
+    {
+        self.to_server.send(bytes)
+    }
+
     /// How many bytes are in flight to the session.
     pub fn in_flight_to_server(&self) -> usize
         ensures { result ≡ length (to_server_on self.now) }
@@ -113,6 +125,16 @@ impl Link {
         ensures { result ≡ length (to_viewer_on self.now) }
     {
         self.to_viewer.len()
+    }
+
+    /// The number of the fault that the session has failed with, if it has.
+    pub(crate) fn server_fault_number(&self) -> Option<u8>
+        ensures { result ≡ number_of (server_fault_of self.now) }
+    {
+        match self.session.fault() {
+            Some(fault) => Some(fault.number()),
+            None => None,
+        }
     }
 
     /// What the viewer shows, or `None` before there is a screen. Of a rectangle under way it shows

@@ -143,7 +143,7 @@ impl Link {
 }
 
 // The same encodings.
-fn copy_of(encodings: &ArrayVec<Encoding, 4>) -> ArrayVec<Encoding, 4>
+pub(crate) fn copy_of(encodings: &ArrayVec<Encoding, 4>) -> ArrayVec<Encoding, 4>
     ensures { result.items ≡ encodings.now.items }
 {
     let mut copy = ArrayVec::new();

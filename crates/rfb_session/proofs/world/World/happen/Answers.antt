@@ -4,7 +4,6 @@ use Rattle.rfb_server.specs.Standing.{row_from}
 use Rattle.std.proofs.lemmas.Result.{IfOk-weaker}
 use Rattle.rfb_server.specs.declared.session.Session.{Session}
 use Rattle.rfb_server.specs.Hints.{hints_in}
-use Rattle.rfb_session.specs.declared.event.Event.{Event}
 use Rattle.rfb_session.proofs.CalledLemmas.{no_refusal}
 use Rattle.rfb_session.proofs.HappeningLemmas.{filled_happens, put_happens, copied_happens, hinted_happens, called_happens, composed_happens, any_ok, is_sure, nothing_over}
 use Rattle.rfb_session.proofs.world.World.happen.Goals as goal

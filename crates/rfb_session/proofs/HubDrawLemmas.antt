@@ -1,0 +1,257 @@
+-- Drawings on the screen of a hub, and hints.
+use Rattle.std.proofs.Common.{◌≡◌, ◌≢◌, ◌<◌, ◌≤◌, ◌⊎◌, ◌+◌, nat_eq, ℕ, true, false, List, length, set, All, Option, Some, None, inl, inr, refl, sym, ap, ◌∙◌, subst}
+use Rattle.std.specs.Option.{ForSome}
+use Rattle.std.proofs.lemmas.Bool.{cases_eq}
+use Rattle.rfb_pixel.specs.declared.colour.Colour.{Colour}
+use Rattle.rfb_picture.specs.declared.rect.Rect.{Rect}
+use Rattle.rfb_picture.specs.Rect.{contains}
+use Rattle.rfb_picture.specs.Grid.{Grid, Holds, changed}
+use Rattle.rfb_codec.specs.RectData.{moved_to}
+use Rattle.rfb_hello.specs.declared.version.Version.{Version}
+use Rattle.rfb_server.specs.declared.session.Session.{Session}
+use Rattle.rfb_server.specs.Following.{Follows}
+use Rattle.rfb_server.specs.Standing.{HoldsBoth, notes_in, serving_with}
+use Rattle.rfb_server.proofs.FollowingLaws.{follows_changed}
+use Rattle.rfb_session.specs.declared.hub.Hub.{Hub}
+use Rattle.rfb_session.specs.declared.hub.event.HubEvent.{HubEvent}
+use Rattle.rfb_session.specs.declared.hub.event.HubFault.{HubFault}
+use Rattle.rfb_session.specs.declared.hub.event.HubFault.TheVariants.{Outside}
+use Rattle.rfb_session.specs.declared.hub.event.HubTold.{HubTold}
+use Rattle.rfb_session.specs.declared.hub.seat.Seat.{Seat}
+use Rattle.rfb_session.specs.Hub.{seat_in, serving_in}
+use Rattle.rfb_session.specs.HubSeats.{KeepsSeat, IsDrawnOn, IsHintable, IsHintedOn, SeatStandsFor}
+use Rattle.rfb_session.specs.HubSlots.{seat_at, OnSlot}
+use Rattle.rfb_session.specs.HubSteps.{HubActs, StaysAs, SlotSteps, SlotTells, HubSteps}
+use Rattle.rfb_session.specs.Link.{Ends}
+use Rattle.rfb_session.specs.Network.{Network, Draws}
+use Rattle.rfb_session.proofs.DrawnLemmas.{link_drawn, held_or_not}
+use Rattle.rfb_session.proofs.HubSlotLemmas.{on_seat, each_seat, all_seats, seat_set_same, seat_set_other, other}
+
+-- ---- what each seat follows
+
+abbrev pub EachFollows : Grid Colour → List (Option Seat) → Type 0
+EachFollows screen slots = All (λ slot. ForSome slot (λ seat. Follows screen seat.link.session)) slots
+
+-- what lies on the screen lies on those that a session is about
+pub held_known : (screen : Grid Colour) (session : Session) (rect : Rect) → Follows screen session →
+    Holds screen rect → Holds (notes_in session).known rect
+held_known screen session rect follows held = (
+  subst (λ (n : ℕ). rect.x + rect.w ≤ n) follows.alike.columns held.0,
+  subst (λ (n : ℕ). rect.y + rect.h ≤ n) follows.alike.rows held.1,
+)
+
+pub all_held : (screen : Grid Colour) (slots : List (Option Seat)) (rect : Rect) →
+    EachFollows screen slots → Holds screen rect →
+    All (λ slot. ForSome slot (λ seat. Holds (notes_in seat.link.session).known rect)) slots
+all_held screen slots rect follow held = λ k d within seat is.
+    held_known screen seat.link.session rect (follow k d within seat is) held
+
+pub all_hintable : (screen : Grid Colour) (slots : List (Option Seat)) (rect : Rect) (sx sy : ℕ) →
+    EachFollows screen slots → HoldsBoth screen rect sx sy →
+    All (λ slot. ForSome slot (λ seat. IsHintable rect sx sy seat)) slots
+all_hintable screen slots rect sx sy follow held = λ k d within seat is.
+    record {
+      target = held_known screen seat.link.session rect (follow k d within seat is) held.0;
+      source = held_known screen seat.link.session (moved_to sx sy rect) (follow k d within seat is) held.1;
+    }
+
+-- the same screen with a rectangle drawn on
+pub drawn_follow : (screen after : Grid Colour) (old new : List (Option Seat)) (rect : Rect)
+    (f : ℕ → ℕ → Colour → Colour) → EachFollows screen old →
+    ((k : ℕ) → OnSlot (λ a b. IsDrawnOn rect a b) (seat_at k old) (seat_at k new)) →
+    after ≡ changed f screen →
+    ((x y : ℕ) (c : Colour) → contains rect x y ≡ false → f x y c ≡ c) → EachFollows after new
+drawn_follow screen after old new rect f follow drawn is outside =
+    all_seats (λ seat. Follows after seat.link.session) new (λ k seat there.
+    let one = on_seat (λ a b. IsDrawnOn rect a b) (seat_at k old) (seat_at k new) seat (drawn k) there in
+    follows_changed one.0.link.session seat.link.session screen after rect f
+    (each_seat (λ s. Follows screen s.link.session) old follow k one.0 one.1) one.2.follows is outside)
+
+pub hinted_follow : (screen : Grid Colour) (old new : List (Option Seat)) (rect : Rect) (sx sy : ℕ) →
+    EachFollows screen old →
+    ((k : ℕ) → OnSlot (λ a b. IsHintedOn rect sx sy a b) (seat_at k old) (seat_at k new)) →
+    EachFollows screen new
+hinted_follow screen old new rect sx sy follow hinted =
+    all_seats (λ seat. Follows screen seat.link.session) new (λ k seat there.
+    let one = on_seat (λ a b. IsHintedOn rect sx sy a b) (seat_at k old) (seat_at k new) seat (hinted k) there in
+    one.2.follows screen (each_seat (λ s. Follows screen s.link.session) old follow k one.0 one.1))
+
+-- one slot is set
+pub set_follow : (screen : Grid Colour) (slots : List (Option Seat)) (i : ℕ) (x : Option Seat) →
+    i < length slots → EachFollows screen slots →
+    ((seat : Seat) → x ≡ Some seat → Follows screen seat.link.session) →
+    EachFollows screen (set slots i x)
+set_follow screen slots i x within follow one =
+    all_seats (λ seat. Follows screen seat.link.session) (set slots i x) (λ k seat there.
+    by k seat there (cases_eq k i))
+  where
+    by : (k : ℕ) (seat : Seat) → seat_at k (set slots i x) ≡ Some seat → ((k ≡ i) ⊎ (k ≢ i)) →
+        Follows screen seat.link.session
+    by k seat there (inl is) =
+        one seat (sym (seat_set_same slots i x within)
+        ∙ (ap (λ (j : ℕ). seat_at j (set slots i x)) (sym is) ∙ there))
+    by k seat there (inr differ) =
+        each_seat (λ s. Follows screen s.link.session) slots follow k seat
+        (sym (seat_set_other slots i k x (other k i differ)) ∙ there)
+
+-- all but one slot are emptied
+pub emptied_follow : (screen : Grid Colour) (old new : List (Option Seat)) (own : ℕ) →
+    EachFollows screen old → seat_at own new ≡ seat_at own old →
+    ((k : ℕ) → nat_eq k own ≡ false → seat_at k new ≡ None) → EachFollows screen new
+emptied_follow screen old new own follow same emptied =
+    all_seats (λ seat. Follows screen seat.link.session) new (λ k seat there.
+    by k seat there (cases_eq k own))
+  where
+    apart : (o : Option Seat) (seat : Seat) → o ≡ Some seat → o ≡ None → ⊥
+    apart o seat some none = cc
+
+    by : (k : ℕ) (seat : Seat) → seat_at k new ≡ Some seat → ((k ≡ own) ⊎ (k ≢ own)) →
+        Follows screen seat.link.session
+    by k seat there (inl is) =
+        each_seat (λ s. Follows screen s.link.session) old follow k seat
+        (ap (λ (j : ℕ). seat_at j old) is ∙ (sym same ∙ (ap (λ (j : ℕ). seat_at j new) (sym is) ∙ there)))
+    by k seat there (inr differ) =
+        absurd (apart (seat_at k new) seat there (emptied k (other k own differ)))
+
+-- ---- what it is made with
+
+pub made_sized : (offer : Version) (name : List ℕ) (limit w v h g : ℕ) → v ≡ w → g ≡ h →
+    serving_with offer v g name limit ≡ serving_with offer w h name limit
+made_sized offer name limit w v h g wide high = rw (wide, high) refl
+
+-- where a row is not refused, it lies on the screen
+pub row_inside : (rect : Rect) (g : Grid Colour) → ((Holds g rect → ⊥) → false ≡ true) → Holds g rect
+row_inside rect g refused = by (held_or_not rect g)
+  where
+    by : (Holds g rect ⊎ (Holds g rect → ⊥)) → Holds g rect
+    by (inl held) = held
+    by (inr out) = absurd (apart (refused out))
+      where
+        apart : false ≡ true → ⊥
+        apart e = cc
+
+-- ---- steps
+
+abbrev pub Mark : Rect → Hub → Hub → Type 0
+Mark rect old new = (k : ℕ) → OnSlot (λ a b. IsDrawnOn rect a b) (seat_in old k) (seat_in new k)
+
+none_some : (o : Option HubFault) → o ≡ None → o ≢ None → ⊥
+none_some o none some = some none
+
+some_fault : (o : Option HubFault) (fault : HubFault) → o ≡ Some fault → o ≢ None
+some_fault o fault some none = cc
+
+-- a seat whose session was told stands for the network with the new screen
+pub seat_drawn : (e : Ends) (before after : Grid Colour) (a b : Seat) (n : Network) → KeepsSeat a b →
+    SeatStandsFor e before a n → SeatStandsFor e after b (record n { screen = after })
+seat_drawn e before after a b n keeps stands = record {
+  ours = keeps.foreign_is ∙ stands.ours;
+  screen_is = refl;
+  link_is = link_drawn e n.screen after a.link b.link n.link stands.link_is keeps.link keeps.session;
+}
+
+-- a drawing that was made: of each slot it is a step
+pub drawn_does : (old new : Hub) (rect : Rect) (Inside : Grid Colour → Type 0)
+    (draw : Grid Colour → Grid Colour) → Inside old.screen → new.screen ≡ draw old.screen →
+    Mark rect old new → (k : ℕ) (a b : Seat) → seat_in old k ≡ Some a → seat_in new k ≡ Some b →
+    (e : Ends) (n : Network) → SeatStandsFor e old.screen a n →
+    (m : Network) × Draws (Inside n.screen) (draw n.screen) n m × SeatStandsFor e new.screen b m
+drawn_does old new rect Inside draw inside screens mark k a b was is e n stands =
+    let one = on_seat (λ c d. IsDrawnOn rect c d) (seat_in old k) (seat_in new k) b (mark k) is in
+    let same : one.0 ≡ a = one_seat (seat_in old k) one.0 a one.1 was in
+    let keeps : KeepsSeat a b = subst (λ (s : Seat). KeepsSeat s b) same one.2.keeps in
+    let here : Inside n.screen = subst Inside (sym stands.screen_is) inside in
+    let shown : draw n.screen ≡ new.screen = ap draw stands.screen_is ∙ sym screens in (
+      record n { screen = new.screen },
+      inl (here, ap (λ (g : Grid Colour). record n { screen = g }) (sym shown)),
+      seat_drawn e old.screen new.screen a b n keeps stands,
+    )
+  where
+    one_seat : (o : Option Seat) (x y : Seat) → o ≡ Some x → o ≡ Some y → x ≡ y
+    one_seat o x y first second = cc
+
+-- its event is known by what it does: its name would name a vector
+pub drawn_steps : (old new : Hub) (event : HubEvent) (told : HubTold) (rect : Rect)
+    (Inside : Grid Colour → Type 0) (draw : Grid Colour → Grid Colour) → Inside old.screen →
+    new.screen ≡ draw old.screen → Mark rect old new → told.refused ≡ None →
+    serving_in new ≡ serving_in old → new.closed ≡ old.closed → HubActs old event told new →
+    ((k : ℕ) (a b : Option Seat) → OnSlot (λ x y. IsDrawnOn rect x y) a b → StaysAs event told k a b) →
+    ((e : Ends) (n m : Network) (k : ℕ) → Draws (Inside n.screen) (draw n.screen) n m →
+    SlotSteps e n event k m) → ((e : Ends) (n : Network) (k : ℕ) → SlotTells e n event k told) →
+    HubSteps old event told new
+drawn_steps old new event told rect Inside draw inside screens mark taken made closed acts stays steps tells = record {
+  made = made;
+  closed = closed;
+  acts = acts;
+  others = λ k beside. stays k _ _ (mark k);
+  does = λ k a b was is ours e n fit reached stands.
+      let one = drawn_does old new rect Inside draw inside screens mark k a b was is e n stands in
+      (one.0, steps e n one.0 k one.1, tells e n k, one.2);
+  kept = λ some. absurd (some taken);
+}
+
+-- a hint that was given: of each slot it changes nothing
+pub hinted_does : (old new : Hub) (rect : Rect) (sx sy : ℕ) → new.screen ≡ old.screen →
+    ((k : ℕ) → OnSlot (λ a b. IsHintedOn rect sx sy a b) (seat_in old k) (seat_in new k)) →
+    (k : ℕ) (a b : Seat) → seat_in old k ≡ Some a → seat_in new k ≡ Some b →
+    (e : Ends) (n : Network) → SeatStandsFor e old.screen a n → SeatStandsFor e new.screen b n
+hinted_does old new rect sx sy screens hint k a b was is e n stands =
+    let one = on_seat (λ c d. IsHintedOn rect sx sy c d) (seat_in old k) (seat_in new k) b (hint k) is in
+    let same : one.0 ≡ a = one_seat (seat_in old k) one.0 a one.1 was in
+    let keeps : KeepsSeat a b = subst (λ (s : Seat). KeepsSeat s b) same one.2.keeps in
+    record {
+      ours = keeps.foreign_is ∙ stands.ours;
+      screen_is = stands.screen_is ∙ sym screens;
+      link_is = link_drawn e n.screen n.screen a.link b.link n.link stands.link_is keeps.link keeps.session;
+    }
+  where
+    one_seat : (o : Option Seat) (x y : Seat) → o ≡ Some x → o ≡ Some y → x ≡ y
+    one_seat o x y first second = cc
+
+pub hinted_steps : (old new : Hub) (event : HubEvent) (told : HubTold) (rect : Rect) (sx sy : ℕ) →
+    new.screen ≡ old.screen →
+    ((k : ℕ) → OnSlot (λ a b. IsHintedOn rect sx sy a b) (seat_in old k) (seat_in new k)) →
+    told.refused ≡ None → serving_in new ≡ serving_in old → new.closed ≡ old.closed →
+    HubActs old event told new →
+    ((k : ℕ) (a b : Option Seat) → OnSlot (λ x y. IsHintedOn rect sx sy x y) a b →
+    StaysAs event told k a b) → ((e : Ends) (n : Network) (k : ℕ) → SlotSteps e n event k n) →
+    ((e : Ends) (n : Network) (k : ℕ) → SlotTells e n event k told) →
+    HubSteps old event told new
+hinted_steps old new event told rect sx sy screens hint taken made closed acts stays steps tells = record {
+  made = made;
+  closed = closed;
+  acts = acts;
+  others = λ k beside. stays k _ _ (hint k);
+  does = λ k a b was is ours e n fit reached stands. (
+    n,
+    steps e n k,
+    tells e n k,
+    hinted_does old new rect sx sy screens hint k a b was is e n stands,
+  );
+  kept = λ some. absurd (some taken);
+}
+
+-- a drawing or a hint that is refused
+pub refused_does : (hub : Hub) (event : HubEvent) (told : HubTold) (Inside : Grid Colour → Type 0)
+    (draw : Grid Colour → Grid Colour) → (Inside hub.screen → ⊥) → told.refused ≡ Some Outside →
+    HubActs hub event told hub →
+    ((k : ℕ) (a b : Option Seat) → (told.refused ≡ None → ⊥) → StaysAs event told k a b) →
+    ((e : Ends) (n : Network) (k : ℕ) → (Inside n.screen → ⊥) → SlotSteps e n event k n) →
+    ((e : Ends) (n : Network) (k : ℕ) → SlotTells e n event k told) →
+    HubSteps hub event told hub
+refused_does hub event told Inside draw outside refused acts stays steps tells = record {
+  made = refl;
+  closed = refl;
+  acts = acts;
+  others = λ k beside. stays k _ _ (λ none. some_fault told.refused Outside refused none);
+  does = λ k a b was is ours e n made reached stands. (
+    n,
+    steps e n k (λ inside. outside (subst Inside stands.screen_is inside)),
+    tells e n k,
+    subst (λ (s : Seat). SeatStandsFor e hub.screen s n) (one_seat (seat_in hub k) a b was is) stands,
+  );
+  kept = λ some. refl;
+}
+  where
+    one_seat : (o : Option Seat) (x y : Seat) → o ≡ Some x → o ≡ Some y → x ≡ y
+    one_seat o x y first second = cc

@@ -1,0 +1,13 @@
+use Rattle.std.proofs.Common.{◌≡◌, ◌*◌, ◌%◌, ◌^◌, Option, sym, ap, ◌∙◌, arith}
+use Rattle.std.proofs.lemmas.Bool.Decides.{nat_tests}
+use Rattle.std.proofs.lemmas.Nat.{one_shl}
+use Rattle.rfb_session.specs.declared.hub.seat.Seat.{Seat}
+use Rattle.rfb_session.specs.HubSlots.{is_taken}
+use Rattle.rfb_session.proofs.HubSlotLemmas.{one_bit}
+use Rattle.rfb_session.proofs.hub.slots.end.Goals as goal
+
+pub returns-in-Some-clause-bit : goal.returns-in-Some-clause-bit
+returns-in-Some-clause-bit c = λ j.
+    let e : 1 * 2 ^ c.args.k % 256 ≡ 2 ^ c.args.k = one_shl c.args.k 8 c.requires in
+    let taken = ap (λ (o : Option Seat). is_taken o) (sym c.take.ensures.value ∙ c.in-Some.is) in
+    rw (e, one_bit c.args.k j, taken) (grind (arith, nat_tests, c.if-k-own.false))

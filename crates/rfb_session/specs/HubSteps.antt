@@ -1,0 +1,189 @@
+-- What an event makes of a hub: of the screen, of its own slot, and of the others.
+use Rattle.std.specs.Prelude.{◌≡◌, ◌≢◌, ◌⊎◌, ◌<◌, ◌≤◌, ℕ, Bool, true, false, ◌&&◌, not, nat_eq}
+use Rattle.std.specs.Prelude.{List, [], ◌∷◌, length, Option, Some, None}
+use Rattle.rfb_pixel.specs.declared.colour.Colour.{Colour}
+use Rattle.rfb_picture.specs.Grid.{Grid, Holds, filled, copied, with_row, uniform}
+use Rattle.rfb_picture.specs.Places.{has_bit}
+use Rattle.rfb_hello.specs.declared.version.Version.TheVariants.{V38}
+use Rattle.rfb_server.specs.Server.{black}
+use Rattle.rfb_server.specs.Standing.{row_from, HoldsBoth, serving_with}
+use Rattle.rfb_session.specs.declared.event.Event.TheVariants.{Fill as OfFill, Put as OfPut}
+use Rattle.rfb_session.specs.declared.event.Event.TheVariants.{Copy as OfCopy, Hint as OfHint}
+use Rattle.rfb_session.specs.declared.hub.Hub.{Hub}
+use Rattle.rfb_session.specs.declared.hub.event.HubEvent.{HubEvent}
+use Rattle.rfb_session.specs.declared.hub.event.HubEvent.TheVariants.{Fill, Put, Copy, Hint, Join}
+use Rattle.rfb_session.specs.declared.hub.event.HubEvent.TheVariants.{Leave, Of, Foreign}
+use Rattle.rfb_session.specs.declared.hub.event.HubFault.TheVariants.{Outside, SlotTaken}
+use Rattle.rfb_session.specs.declared.hub.event.HubFault.TheVariants.{NoSuchSlot}
+use Rattle.rfb_session.specs.declared.hub.event.HubTold.{HubTold}
+use Rattle.rfb_session.specs.declared.hub.event.Setup.{Setup}
+use Rattle.rfb_session.specs.declared.hub.event.SlotEvent.{SlotEvent}
+use Rattle.rfb_session.specs.declared.hub.seat.Seat.{Seat}
+use Rattle.rfb_session.specs.declared.told.Delivery.{Delivery}
+use Rattle.rfb_session.specs.declared.told.Told.{Told}
+use Rattle.rfb_session.specs.Hub.{seat_in, serving_in, IsFreshSeat, IsEmptyHub, AllHeadlines}
+use Rattle.rfb_session.specs.HubSeats.{event_of, SeatDoes, SeatStandsFor, TakesForeign, IsDrawnOn}
+use Rattle.rfb_session.specs.HubSeats.{IsHintedOn}
+use Rattle.rfb_session.specs.HubSlots.{is_taken, OnSlot, SparesIn}
+use Rattle.rfb_session.specs.HubTelling.{IsMere, TellsFor}
+use Rattle.rfb_session.specs.InFlight.{AreMade}
+use Rattle.rfb_session.specs.Link.{Ends}
+use Rattle.rfb_session.specs.Network.{Network, Steps, IsReached}
+use Rattle.rfb_session.specs.Played.{name}
+use Rattle.rfb_session.specs.Told.{Tells}
+
+-- ---- the screen, and the event's own slot
+
+-- a drawing gives the screen what it says where all that it needs lies on it, and else is refused
+pub record DrawsHub (Inside : Type 0) (screen : Grid Colour) (told : HubTold) (new : Hub)
+    : Type 0 where
+  pub case : (Inside × (told.refused ≡ None) × (new.screen ≡ screen))
+      ⊎ ((Inside → ⊥) × (told.refused ≡ Some Outside))
+  pub mere : IsMere told
+
+-- a viewer takes an empty slot; that there is no such slot is judged before that it is taken
+pub data JoinsAs (old : Hub) (k : ℕ) (setup : Setup) (told : HubTold) (new : Hub) : Type 0 where
+  Beyond : 7 < k → told.refused ≡ Some NoSuchSlot → JoinsAs old k setup told new
+  Taken : k ≤ 7 → (seat : Seat) → seat_in old k ≡ Some seat → told.refused ≡ Some SlotTaken →
+      JoinsAs old k setup told new
+  Joined : k ≤ 7 → seat_in old k ≡ None → told.refused ≡ None → (seat : Seat) →
+      seat_in new k ≡ Some seat → IsFreshSeat old setup seat → JoinsAs old k setup told new
+
+-- the viewer of a slot goes
+pub data LeavesAs (old : Hub) (k : ℕ) (told : HubTold) (new : Hub) : Type 0 where
+  NoneLeft : seat_in old k ≡ None → told.refused ≡ Some NoSuchSlot → LeavesAs old k told new
+  Left : (seat : Seat) → seat_in old k ≡ Some seat → told.refused ≡ None →
+      seat_in new k ≡ None → LeavesAs old k told new
+
+-- bytes that no viewer sent are in flight to the session of a slot
+pub data ForeignAs (old : Hub) (k : ℕ) (bytes : List ℕ) (told : HubTold) (new : Hub)
+    : Type 0 where
+  NoneFed : seat_in old k ≡ None → told.refused ≡ Some NoSuchSlot → ForeignAs old k bytes told new
+  Fed : (a b : Seat) → seat_in old k ≡ Some a → told.refused ≡ None → seat_in new k ≡ Some b →
+      TakesForeign bytes a b → ForeignAs old k bytes told new
+
+-- the slots that are told as emptied: all others that are taken, where a client asked for the
+-- screen alone
+abbrev pub EndsAs : Bool → ℕ → Hub → HubTold → Type 0
+EndsAs sole k old told = (j : ℕ) →
+    has_bit told.ended j ≡ (sole && (not (nat_eq j k) && is_taken (seat_in old j)))
+
+-- an event of a slot happens there
+pub data HappensAs (old : Hub) (k : ℕ) (event : SlotEvent) (told : HubTold) (new : Hub)
+    : Type 0 where
+  NoneThere : seat_in old k ≡ None → told.refused ≡ Some NoSuchSlot → IsMere told →
+      HappensAs old k event told new
+  Happened : (a b : Seat) → (d : Delivery) → seat_in old k ≡ Some a → seat_in new k ≡ Some b →
+      SeatDoes old.screen a event d b → TellsFor d.told told → EndsAs d.sole k old told →
+      HappensAs old k event told new
+
+abbrev pub HubActs : Hub → HubEvent → HubTold → Hub → Type 0
+HubActs old (Fill rect colour) told new =
+    DrawsHub (Holds old.screen rect) (filled rect colour old.screen) told new
+HubActs old (Put x y row) told new =
+    DrawsHub (Holds old.screen (row_from x y (length row.items)))
+    (with_row x y row.items old.screen) told new
+HubActs old (Copy rect sx sy) told new =
+    DrawsHub (HoldsBoth old.screen rect sx sy) (copied rect sx sy old.screen) told new
+HubActs old (Hint rect sx sy) told new =
+    DrawsHub (HoldsBoth old.screen rect sx sy) old.screen told new
+HubActs old (Join k setup) told new =
+    (new.screen ≡ old.screen) × IsMere told × JoinsAs old k setup told new
+HubActs old (Leave k) told new = (new.screen ≡ old.screen) × IsMere told × LeavesAs old k told new
+HubActs old (Of k event) told new = (new.screen ≡ old.screen) × HappensAs old k event told new
+HubActs old (Foreign k bytes) told new =
+    (new.screen ≡ old.screen) × IsMere told × ForeignAs old k bytes.items told new
+
+-- ---- the other slots
+
+-- a slot that the event is not of; a drawing and a hint are of none
+abbrev pub IsOther : HubEvent → ℕ → Type 0
+IsOther (Join j setup) k = nat_eq k j ≡ false
+IsOther (Leave j) k = nat_eq k j ≡ false
+IsOther (Of j event) k = nat_eq k j ≡ false
+IsOther (Foreign j bytes) k = nat_eq k j ≡ false
+IsOther event k = Unit {0}
+
+-- a slot that is told as emptied is empty; of any other its session, its viewer, the bytes in
+-- flight and the latest composing are what they were
+abbrev pub StaysUnless : Bool → Option Seat → Option Seat → Type 0
+StaysUnless ended old new = (ended ≡ true → new ≡ None) × (ended ≡ false → new ≡ old)
+
+-- what an event makes of a slot that it is not of: a drawing marks its session, a hint reaches it
+abbrev pub StaysAs : HubEvent → HubTold → ℕ → Option Seat → Option Seat → Type 0
+StaysAs (Fill rect colour) told k old new =
+    told.refused ≡ None → OnSlot (λ a b. IsDrawnOn rect a b) old new
+StaysAs (Put x y row) told k old new =
+    told.refused ≡ None → OnSlot (λ a b. IsDrawnOn (row_from x y (length row.items)) a b) old new
+StaysAs (Copy rect sx sy) told k old new =
+    told.refused ≡ None → OnSlot (λ a b. IsDrawnOn rect a b) old new
+StaysAs (Hint rect sx sy) told k old new =
+    told.refused ≡ None → OnSlot (λ a b. IsHintedOn rect sx sy a b) old new
+StaysAs event told k old new = StaysUnless (has_bit told.ended k) old new
+
+abbrev pub OthersStay : Hub → HubEvent → HubTold → Hub → Type 0
+OthersStay old event told new =
+    (k : ℕ) → IsOther event k → StaysAs event told k (seat_in old k) (seat_in new k)
+
+-- ---- the networks that slots stand for
+
+-- of a network that a slot stands for an event is the step of a world: a drawing of each slot's, an
+-- event of a slot of its own alone
+abbrev pub SlotSteps : Ends → Network → HubEvent → ℕ → Network → Type 0
+SlotSteps e old (Fill rect colour) k new = Steps e old (OfFill rect colour) new
+SlotSteps e old (Put x y row) k new = Steps e old (OfPut x y row) new
+SlotSteps e old (Copy rect sx sy) k new = Steps e old (OfCopy rect sx sy) new
+SlotSteps e old (Hint rect sx sy) k new = Steps e old (OfHint rect sx sy) new
+SlotSteps e old (Of j event) k new =
+    (j ≡ k → Steps e old (event_of event) new) × (nat_eq k j ≡ false → new ≡ old)
+SlotSteps e old event k new = new ≡ old
+
+-- and the answer tells of it
+abbrev pub SlotTells : Ends → Network → HubEvent → ℕ → HubTold → Type 0
+SlotTells e old (Of j event) k told =
+    j ≡ k → (one : Told) × Tells e old (event_of event) one × TellsFor one told
+SlotTells e old event k told = Unit {0}
+
+-- a seat that was there and is, and to which no foreign bytes came
+abbrev pub SlotsDo : Hub → HubEvent → HubTold → Hub → Type 0
+SlotsDo old event told new =
+    (k : ℕ) (a b : Seat) → seat_in old k ≡ Some a → seat_in new k ≡ Some b → b.foreign ≡ false →
+    (e : Ends) (n : Network) → AreMade e → IsReached e n → SeatStandsFor e old.screen a n →
+    (m : Network) × SlotSteps e n event k m × SlotTells e n event k told
+    × SeatStandsFor e new.screen b m
+
+-- ---- one step, and a run
+
+pub record HubSteps (old : Hub) (event : HubEvent) (told : HubTold) (new : Hub) : Type 0 where
+  pub made : serving_in new ≡ serving_in old
+  pub closed : new.closed ≡ old.closed
+  -- the screen, and the event's own slot
+  pub acts : HubActs old event told new
+  -- the others
+  pub others : OthersStay old event told new
+  -- the networks that its slots stand for
+  pub does : SlotsDo old event told new
+  pub kept : told.refused ≢ None → new ≡ old
+
+-- the steps of events one after another
+abbrev pub RunsHub : Hub → List HubEvent → Hub → Type 0
+RunsHub old [] new = new ≡ old
+RunsHub old (event ∷ events) new =
+    (mid : Hub) × (told : HubTold) × HubSteps old event told mid × RunsHub mid events new
+
+-- from a hub that was made with these, and whose slots are empty, the events led there; and of its
+-- slots holds all that is promised
+abbrev pub HubPlayed : ℕ → ℕ → List HubEvent → Hub → Type 0
+HubPlayed width height events hub =
+    (first : Hub) × IsEmptyHub first × (first.screen ≡ uniform width height black)
+    × (serving_in first ≡ serving_with V38 width height name 1024)
+    × RunsHub first events hub × AllHeadlines hub
+
+-- ---- where memory is not wanting
+
+-- a drawing, a hint, a leaving; what is refused; and what takes no memory in its slot
+abbrev pub NeedsNoMemory : Hub → HubEvent → Type 0
+NeedsNoMemory hub (Join k setup) = (7 < k) ⊎ ((seat : Seat) × (seat_in hub k ≡ Some seat))
+NeedsNoMemory hub (Of k event) = SparesIn hub.screen (seat_in hub k) event
+NeedsNoMemory hub (Foreign k bytes) = seat_in hub k ≡ None
+NeedsNoMemory hub event = Unit {0}

@@ -1,0 +1,127 @@
+//! Viewers that come to a hub and go, and bytes that none of them sent.
+
+ghost use Rattle.std.specs.Prelude.{◌≡◌, ◌≤◌, length, None, IfOk, IsOk};
+ghost use Rattle.rfb_session.specs.HubSlots.{TakesOrNot, OnSlot};
+ghost use Rattle.rfb_session.specs.LinkStanding.{session_of_link};
+ghost use Rattle.rfb_session.specs.declared.hub.event.HubEvent.TheVariants.{Join, Leave, Foreign};
+
+use crate::hub::event::{HubFault, HubTold, Setup};
+use crate::hub::seat::Seat;
+use crate::hub::slots::{empty, seat_in, taken};
+use crate::hub::telling::{told_made, told_refused};
+use crate::hub::{Hub, SLOTS};
+use crate::link::{Link, copy_of};
+use crate::told::NoMemory;
+use rfb_server::Session;
+use rfb_viewer::Viewer;
+
+impl Hub {
+    ghost use Rattle.rfb_session.specs.Hub.{IsFreshSeat};
+    ghost use Rattle.rfb_session.specs.HubSteps.{HubSteps, NeedsNoMemory};
+
+    // A viewer takes an empty slot, with a session of its own. Its memory is taken before anything
+    // is changed.
+    pub(super) fn join(&mut self, slot: u8, setup: &Setup) -> Result<HubTold, NoMemory>
+        ensures steps { IfOk result (λ told.
+            HubSteps self.old (Join slot setup.now) told self.new) }
+        ensures spared { NeedsNoMemory self.old (Join slot setup.now) → IsOk result }
+    {
+        let place = slot as usize;
+        if place >= SLOTS {
+            return Ok(told_refused(HubFault::NoSuchSlot));
+        }
+        if taken(&self.slots, place) {
+            return Ok(told_refused(HubFault::SlotTaken));
+        }
+        let seat = self.seat_for(setup)?;
+        seat_in(&mut self.slots[place], seat);
+        Ok(told_made())
+    }
+
+    // A seat for a viewer of that setup: two fresh ends, and the session's greeting in flight.
+    fn seat_for(&self, setup: &Setup) -> Result<Seat, NoMemory>
+        ensures { IfOk result (λ seat. IsFreshSeat self.now setup.now seat) }
+    {
+        let session = Session::new(
+            self.alloc,
+            self.screen.width(),
+            self.screen.height(),
+            self.name.as_slice(),
+            self.offer,
+            self.text_limit,
+        )?;
+        let viewer = Viewer::new(
+            self.alloc,
+            setup.format,
+            copy_of(&setup.encodings),
+            setup.limit,
+            setup.shared,
+            setup.max_places,
+            setup.text_limit,
+        );
+        let link = Link::new(self.alloc, session, viewer)?;
+        Ok(Seat::new(setup_of(setup), link))
+    }
+
+    // The viewer of a slot goes, and what was in flight between it and its session.
+    pub(super) fn leave(&mut self, slot: u8) -> HubTold
+        ensures { HubSteps self.old (Leave slot) result self.new }
+    {
+        let place = slot as usize;
+        if place >= SLOTS {
+            return told_refused(HubFault::NoSuchSlot);
+        }
+        if !empty(&mut self.slots[place]) {
+            return told_refused(HubFault::NoSuchSlot);
+        }
+        told_made()
+    }
+
+    // Bytes that no viewer sent are in flight to the session of a slot.
+    pub(super) fn foreign(&mut self, slot: u8, bytes: &Vec<u8>) -> Result<HubTold, NoMemory>
+        requires few { length bytes.now.items ≤ 1048576 }
+        ensures steps { IfOk result (λ told.
+            HubSteps self.old (Foreign slot bytes.now) told self.new) }
+        ensures spared { NeedsNoMemory self.old (Foreign slot bytes.now) → IsOk result }
+    {
+        let place = slot as usize;
+        if place >= SLOTS {
+            return Ok(told_refused(HubFault::NoSuchSlot));
+        }
+        if !take_foreign(&mut self.slots[place], bytes)? {
+            return Ok(told_refused(HubFault::NoSuchSlot));
+        }
+        Ok(told_made())
+    }
+}
+
+// They are in flight to the session of a seat, where there is one: it tells whether.
+fn take_foreign(slot: &mut Option<Seat>, bytes: &[u8]) -> Result<bool, NoMemory>
+    requires few { length bytes.now ≤ 1048576 }
+    ensures taken { IfOk result (λ taken. TakesOrNot taken bytes.now slot.old slot.new) }
+    ensures session { OnSlot (λ a b. session_of_link b.link ≡ session_of_link a.link)
+        slot.old slot.new }
+    ensures spared { slot.old ≡ None → IsOk result }
+{
+    match slot {
+        Some(seat) => {
+            seat.take_foreign(bytes)?;
+            Ok(true)
+        }
+        None => Ok(false),
+    }
+}
+
+// The same setup.
+fn setup_of(setup: &Setup) -> Setup
+    ensures { result ≡ setup.now }
+{
+    Setup {
+        format: setup.format,
+        encodings: copy_of(&setup.encodings),
+        limit: setup.limit,
+        shared: setup.shared,
+        max_places: setup.max_places,
+        text_limit: setup.text_limit,
+    }
+}

@@ -1,0 +1,113 @@
+//! A viewer's seat at a hub: its session, itself, and what is between them.
+
+ghost use Rattle.std.specs.Prelude.{◌≡◌, ◌≢◌, ◌≤◌, length, true, false, None, IfOk, OnOk, IsOk, IsErr};
+ghost use Rattle.std.specs.Prelude.{OnErr};
+
+use crate::hub::event::{Setup, SlotEvent};
+use crate::link::Link;
+use crate::told::{Delivery, NoMemory, Told};
+use rfb_picture::{Picture, Rect};
+use rfb_pixel::Colour;
+use rfb_server::Outside;
+
+/// A viewer that joined, with its link to a session of its own.
+#[derive(Debug, Drop)]
+pub struct Seat {
+    setup: Setup,
+    link: Link,
+    // Whether bytes that the viewer did not send were put in flight to the session.
+    foreign: bool,
+}
+
+impl Seat {
+    ghost use Rattle.rfb_picture.specs.Grid.{Holds};
+    ghost use Rattle.rfb_server.specs.Following.{Follows};
+    ghost use Rattle.rfb_server.specs.Standing.{notes_in};
+    ghost use Rattle.rfb_session.specs.LinkStanding.{session_of_link};
+    ghost use Rattle.rfb_session.specs.HubSeats.{SeatDoes, SeatSpares, HasFewSlotBytes};
+    ghost use Rattle.rfb_session.specs.HubSeats.{IsSeated, TakesForeign, IsDrawnOn, IsHintable, IsHintedOn};
+
+    /// A viewer of this setup takes a seat, with its link.
+    pub(crate) fn new(setup: Setup, link: Link) -> Seat
+        ensures { IsSeated setup link result }
+    {
+        Seat {
+            setup,
+            link,
+            foreign: false,
+        }
+    }
+
+    /// Lends what is between its session and its viewer.
+    pub(crate) fn link(&self) -> &Link
+        ensures { result.now ≡ self.now.link }
+    {
+        &self.link
+    }
+
+    /// Its session is told that the screen is drawn on inside the rectangle.
+    pub(crate) fn drawn(&mut self, rect: Rect)
+        requires held { Holds (notes_in (session_of_link self.old.link)).known rect }
+        ensures { IsDrawnOn rect self.old self.new }
+    {
+        self.link.drawn(rect);
+    }
+
+    /// Its session is told that a rectangle looks as another did.
+    pub(crate) fn hint(&mut self, rect: Rect, sx: u16, sy: u16)
+        requires held { IsHintable rect sx sy self.old }
+        ensures { IsHintedOn rect sx sy self.old self.new }
+    {
+        match self.link.hint(rect, sx, sy) {
+            Ok(()) => {}
+            Err(Outside) => {}
+        }
+    }
+
+    /// Bytes that the viewer did not send are in flight to the session. Memory can be wanting.
+    pub(crate) fn take_foreign(&mut self, bytes: &[u8]) -> Result<(), NoMemory>
+        requires few { length bytes.now ≤ 1048576 }
+        ensures taken { OnOk result (TakesForeign bytes.now self.old self.new) }
+        ensures kept { OnErr result (self.new ≡ self.old) }
+    {
+        self.link.add_to_server(bytes)?;
+        self.foreign = true;
+        Ok(())
+    }
+
+    /// What an event of the slot is, happens, over the screen. It tells beside whether the client
+    /// asked for the screen alone.
+    pub(crate) fn happen(
+        &mut self,
+        event: &SlotEvent,
+        screen: &Picture<Colour>,
+    ) -> Result<Delivery, NoMemory>
+        requires follows { Follows screen.now (session_of_link self.old.link) }
+        requires few { HasFewSlotBytes event.now }
+        ensures does { IfOk result (λ d. SeatDoes screen.now self.old event.now d self.new) }
+        ensures follows { Follows screen.now (session_of_link self.new.link) }
+        ensures spared { SeatSpares screen.now self.old event.now → IsOk result }
+    {
+        match event {
+            SlotEvent::Request(incremental, rect) => {
+                Ok(alone(self.link.request(*incremental, *rect)?))
+            }
+            SlotEvent::SetFormat(format) => Ok(alone(self.link.set_format(*format)?)),
+            SlotEvent::SetEncodings(encodings) => Ok(alone(self.link.set_encodings(encodings)?)),
+            SlotEvent::Key(down, key) => Ok(alone(self.link.key(*down, *key)?)),
+            SlotEvent::Pointer(buttons, x, y) => Ok(alone(self.link.pointer(*buttons, *x, *y)?)),
+            SlotEvent::CutText(text) => Ok(alone(self.link.cut_text(text)?)),
+            SlotEvent::Compose => Ok(alone(self.link.compose(screen)?)),
+            SlotEvent::ToServer(count) => self.link.deliver_to_session(*count),
+            SlotEvent::ToViewer(count) => Ok(alone(self.link.move_to_viewer(*count)?)),
+        }
+    }
+}
+
+// What became of an event that asks for no screen.
+fn alone(told: Told) -> Delivery
+    ensures told { result.told ≡ told }
+    ensures sole { result.sole ≡ false }
+{
+    Delivery { told, sole: false }
+}
