@@ -1,5 +1,6 @@
 pub mod CommandLine
 pub mod Delivery
+pub mod Explain
 pub mod Fault
 pub mod Few
 pub mod Loopback

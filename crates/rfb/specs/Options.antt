@@ -1,5 +1,6 @@
 -- What the words of the command line ask for.
-use Rattle.std.specs.Prelude.{◌≡◌, ◌≢◌, ◌≤◌, ◌⊎◌, ℕ, pos, Bool, true, false, List, [], ◌∷◌, Option, Some, None, codes}
+use Rattle.std.specs.Prelude.{◌≡◌, ◌≢◌, ◌≤◌, ◌⊎◌, ℕ, pos, Bool, true, false, List, [], ◌∷◌, Option, Some, None, codes, filter, not, nat_eq}
+use Rattle.std.specs.Cmp.Lexicographic.{pointwise}
 use Rattle.std.specs.Str.Parse.{IsNumeral, digits_value, without_leading_plus}
 use Rattle.clap.specs.declared.builder.action.ArgAction.TheVariants.{SetTrue}
 use Rattle.clap.specs.declared.builder.value_parser.ValueParser.TheVariants.{Signed}
@@ -222,6 +223,14 @@ HasBadValue (Some (name, rows)) =
     ((name ≡ codes "play") × HasBadFormat rows) ⊎ ((name ≡ codes "view") × HasBadSight rows)
 
 -- ---- words
+
+-- a word asks for sentences
+abbrev pub is_explain : Text → Bool
+is_explain word = pointwise nat_eq word (codes "--explain")
+
+-- the words but those that do
+abbrev pub plain_of : List Text → List Text
+plain_of words = filter (λ word. not (is_explain word)) words
 
 -- the words are those of a command
 abbrev pub AreCommand : List Text → Type 0

@@ -9,6 +9,9 @@ Status:
   1  it failed, and the last line on standard error says why
   2  the words of the command ask for nothing that there is
 
+With --explain, at any command, sentences on standard error say how it goes and why it fails. At a
+terminal they do by themselves.
+
 docs/PROTOCOL.md has the language of scripts, and refusals and faults by number.";
 
 pub const LANGUAGE: &str = "\

@@ -16,7 +16,7 @@ use crate::loopback::ends::Ends;
 use crate::loopback::link::{Link, connected};
 use crate::playing::{ALL, TURNS};
 use crate::recording::write_picture;
-use crate::script::{Numbered, Script, Step, read_script};
+use crate::script::{Numbered, Script, Step, read_explained};
 use crate::scripting::tell_refusal;
 use rfb_session::{Event, Refused};
 use std::alloc::Global;
@@ -32,6 +32,7 @@ pub fn script_through_loopback<N: Net, R: Read, W: Write, E: Write>(
     input: &mut R,
     output: &mut W,
     errors: &mut E,
+    explains: bool,
 ) -> Result<(), Failure>
     ensures done { OnOk result
         (PlaysSomeScript (R.remaining input.old) (W.contents output.old) (W.contents output.new)) }
@@ -42,7 +43,7 @@ pub fn script_through_loopback<N: Net, R: Read, W: Write, E: Write>(
 {
     let mut text = Vec::new(alloc);
     input.read_to_end(&mut text)?;
-    let script = read_script(alloc, &text)?;
+    let script = read_explained(alloc, &text, errors, explains)?;
     run(net, alloc, &script, output, errors)?;
     Ok(())
 }

@@ -5,6 +5,7 @@
 #![tactic(auto)]
 
 mod command_line;
+mod explain;
 mod fault;
 mod help;
 mod loopback;
@@ -20,7 +21,8 @@ mod tests;
 mod viewing;
 mod writing;
 
-use command_line::{command, without_words};
+use command_line::{EXPLAIN, command, without_words};
+use std::io::IsTerminal;
 use std::process::ExitCode;
 use std::{env, io};
 
@@ -38,8 +40,12 @@ fn main(rt: HostRuntime) -> ExitCode {
     ExitCode::from(status)
 }
 
-// The words that the program was called with, its own name first. A word that is not UTF-8 is an
-// error of the kind `InvalidData`.
+// The words that the program was called with, its own name first, and `--explain` behind them where
+// a person reads the errors. A word that is not UTF-8 is an error of the kind `InvalidData`.
 fn words(rt: &HostRuntime) -> io::Result<Vec<String>> {
-    Ok(env::args(rt)?.collect(rt.alloc())?)
+    let mut words: Vec<String> = env::args(rt)?.collect(rt.alloc())?;
+    if rt.stderr().is_terminal() {
+        words.push(format!(in rt.alloc(); "{EXPLAIN}")?)?;
+    }
+    Ok(words)
 }

@@ -10,6 +10,7 @@ ghost use Rattle.rfb.specs.Recording.{WatchesAll, StopsWatchingAll, WatchesSome,
 
 mod replay;
 
+use crate::explain::{Heard, Hearing, Notes, tell_place, tell_server};
 use crate::fault::{Failure, Fault};
 use crate::playing::{fresh_viewer, only_raw};
 use crate::writing::write_ppm;
@@ -19,15 +20,19 @@ use rfb_viewer::Viewer;
 use std::alloc::Global;
 use std::io::{Read, Write};
 
+// How many bytes of a recording are kept, to find where it goes wrong.
+const RECORDING_ROOM: usize = 16_777_216;
+
 /// Plays what `input` has, the bytes of a server, to a fresh viewer that takes pixels of
 /// `replay.format`: up to the end of the last of so many updates, or all of it. Then it writes the
 /// picture that the viewer shows. Nothing is written where the viewer or the bytes end with a
-/// fault.
-pub fn play_recording<R: Read, W: Write>(
+/// fault; then `notes` say why.
+pub fn play_recording<R: Read, W: Write, E: Write>(
     alloc: Global,
     replay: Replay,
     input: &mut R,
     output: &mut W,
+    notes: &mut Notes<'_, E>,
 ) -> Result<(), Failure>
     ensures done { OnOk result (PlaysRecording replay
         (R.remaining input.old) (W.contents output.old) (W.contents output.new)) }
@@ -38,10 +43,38 @@ pub fn play_recording<R: Read, W: Write>(
         (R.remaining input.old) (W.contents output.old) (W.contents output.new)) }
 {
     let mut viewer = fresh_viewer(alloc, replay.format, only_raw());
-    match watch(input, &mut viewer, replay.updates) {
+    let room = if notes.are_wanted() {
+        RECORDING_ROOM
+    } else {
+        0
+    };
+    let mut heard = Heard::new(alloc, room, "this is a recording of");
+    match watch_heard(input, &mut viewer, replay.updates, &mut heard, notes) {
         Ok(_updates) => show(&viewer, output),
-        Err(fault) => Err(Failure::Engine(fault)),
+        Err(fault) => {
+            tell_server(fault, viewer.reason(), &heard, notes);
+            tell_place(alloc, replay.format, fault, &heard, notes);
+            Err(Failure::Engine(fault))
+        }
     }
+}
+
+// Feeds a viewer as `watch` does, and keeps the first bytes of what it reads.
+fn watch_heard<R: Read, N: Write>(
+    input: &mut R,
+    viewer: &mut Viewer,
+    updates: Option<u32>,
+    heard: &mut Heard,
+    notes: &mut N,
+) -> Result<u64, EngineFault>
+    requires some { IfSome updates (λ count. 1 ≤ count) }
+    ensures watched { IfOk result (λ told.
+        Watches updates (R.remaining input.old) viewer.old told viewer.new) }
+    ensures stopped { IfErr result (λ fault.
+        StopsWatching updates (R.remaining input.old) viewer.old fault viewer.new) }
+{
+    let mut hearing = Hearing::new(input, heard, notes);
+    watch(&mut hearing, viewer, updates)
 }
 
 // Feeds a viewer what `input` has, until so many updates ended or all is fed, and tells how many

@@ -29,15 +29,19 @@ ghost use Rattle.rfb.specs.declared.script.line.Line.TheVariants as Line;
 ghost use Rattle.rfb.specs.Script.{AreScript, GivesWants, Says, StopsReading, lines_of, words_of};
 
 mod arguments;
+mod cause;
 mod line;
 mod number;
 mod read;
 mod words;
 
+use crate::explain::Notes;
 use crate::fault::Failure;
+use crate::script::cause::tell_bad_line;
 use crate::script::read::{read_screen, read_step, read_viewer};
 pub use line::{Numbered, Screen, Step, Wants};
 use std::alloc::Global;
+use std::io::Write;
 pub use words::{MAX_SIDE, read_format, read_list};
 
 /// A script that was read to its end and has no bad line.
@@ -91,6 +95,24 @@ pub fn read_script(alloc: Global, text: &[u8]) -> Result<Script, Failure>
         }),
         None => Err(Failure::BadLine(number)),
     }
+}
+
+/// The same, and says why a line is bad, if sentences are wanted.
+pub fn read_explained<E: Write>(
+    alloc: Global,
+    text: &[u8],
+    errors: &mut E,
+    explains: bool,
+) -> Result<Script, Failure>
+    ensures read { IfOk result (λ script.
+        AreScript (lines_of text.now) script.screen script.wants script.steps.items) }
+    ensures stopped { IfErr result (StopsReading (lines_of text.now)) }
+{
+    let read = read_script(alloc, text);
+    if let Err(Failure::BadLine(number)) = &read {
+        tell_bad_line(text, *number, &mut Notes::new(errors, explains));
+    }
+    read
 }
 
 // What the viewer wants, if the line gives that where it may: before any step, and once.

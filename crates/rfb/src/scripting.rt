@@ -10,19 +10,21 @@ ghost use Rattle.rfb.specs.declared.fault.Failure.TheVariants as Failure;
 
 use crate::fault::{Failure, Fault};
 use crate::playing::{fresh_world, play};
-use crate::script::{Numbered, Script, read_script};
+use crate::script::{Numbered, Script, read_explained};
 use crate::writing::write_ppm;
 use rfb_session::{Refused, World};
 use std::alloc::Global;
 use std::io::{LineWriter, Read, Write};
 
 /// Runs the script that `input` has, between a server and a viewer in memory, and writes the
-/// viewer's picture. At a bad line nothing is written.
+/// viewer's picture. At a bad line nothing is written, and if sentences are wanted one says why it is
+/// bad.
 pub fn script<R: Read, W: Write, E: Write>(
     alloc: Global,
     input: &mut R,
     output: &mut W,
     errors: &mut E,
+    explains: bool,
 ) -> Result<(), Failure>
     ensures done { OnOk result
         (PlaysScript (R.remaining input.old) (W.contents output.old) (W.contents output.new)) }
@@ -33,7 +35,7 @@ pub fn script<R: Read, W: Write, E: Write>(
 {
     let mut text = Vec::new(alloc);
     input.read_to_end(&mut text)?;
-    let script = read_script(alloc, &text)?;
+    let script = read_explained(alloc, &text, errors, explains)?;
     run(alloc, &script, output, errors)?;
     Ok(())
 }

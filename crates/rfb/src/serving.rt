@@ -10,6 +10,7 @@ ghost use Rattle.rfb.specs.Serving.{ServesFewer, ServesSo};
 ghost use Rattle.rfb.specs.declared.fault.Failure.TheVariants as Failure;
 ghost use Rattle.rfb.specs.declared.fault.Fault.{Fault};
 
+use crate::explain::{Notes, tell_client, tell_unbound};
 use crate::fault::Failure;
 use crate::playing::fresh_server;
 use crate::scene::TestScene;
@@ -20,7 +21,7 @@ use rfb_session::{EngineFault, Tally, serve};
 use std::alloc::Global;
 use std::io;
 use std::io::{Read, Write};
-use std::net::{Net, OpenListener, OpenStream, TcpListener};
+use std::net::{Net, OpenListener, OpenStream, SocketAddr, TcpListener};
 
 /// What `serve` is asked for.
 #[derive(Clone, Copy, Debug, PartialEq, Eq)]
@@ -30,12 +31,13 @@ pub struct Wanted {
     pub connections: u16,
 }
 
-/// Serves so many connections on a port of 127.0.0.1, one after another.
-pub fn serve_at<N: Net, W: Write>(
+/// Serves so many connections on a port of 127.0.0.1, one after another. `notes` say how it goes.
+pub fn serve_at<N: Net, W: Write, E: Write>(
     net: &N,
     alloc: Global,
     wanted: Wanted,
     output: &mut W,
+    notes: &mut Notes<'_, E>,
 ) -> Result<(), Failure>
     ensures done { OnOk result (ServesSo wanted.screen wanted.connections
         (W.contents output.old) (W.contents output.new)) }
@@ -44,20 +46,36 @@ pub fn serve_at<N: Net, W: Write>(
     ensures why { IfErr result (λ failure.
         (fault : Fault) × (failure ≡ Failure.Fault fault)) }
 {
-    let listener = TcpListener::bind(net, ("127.0.0.1", wanted.port))?;
-    serve_on(alloc, &listener, wanted.screen, wanted.connections, output)
+    match TcpListener::bind(net, ("127.0.0.1", wanted.port)) {
+        Ok(listener) => {
+            let _ = writeln!(notes, "rfb: listening on 127.0.0.1:{}", wanted.port);
+            serve_on(
+                alloc,
+                &listener,
+                wanted.screen,
+                wanted.connections,
+                output,
+                notes,
+            )
+        }
+        Err(error) => {
+            tell_unbound(wanted.port, &error, notes);
+            Err(Failure::from(error))
+        }
+    }
 }
 
 /// Serves so many connections, each with a fresh screen. As soon as one ends, a line on `output`
 /// says how many updates were sent, or which fault ended it. One that cannot be accepted counts,
 /// as a fault of a device. It gives an error only where a line cannot be written or flushed, or
 /// there is no memory for it; then a beginning of the lines was written.
-pub fn serve_on<L: OpenListener, W: Write>(
+pub fn serve_on<L: OpenListener, W: Write, N: Write>(
     alloc: Global,
     listener: &L,
     screen: Screen,
     connections: u16,
     output: &mut W,
+    notes: &mut N,
 ) -> Result<(), Failure>
 where
     L::Stream: Read + Write + OpenStream,
@@ -69,30 +87,48 @@ where
         (fault : Fault) × (failure ≡ Failure.Fault fault)) }
 {
     for _connection in 0..connections {
-        let ended = serve_next(alloc, listener, screen);
+        let ended = serve_next(alloc, listener, screen, notes);
         tell_end(alloc, ended, output)?;
     }
     Ok(())
 }
 
 // Serves the next connection, to its end. What is written goes out at once: a viewer waits for it.
-fn serve_next<L: OpenListener>(
+fn serve_next<L: OpenListener, N: Write>(
     alloc: Global,
     listener: &L,
     screen: Screen,
+    notes: &mut N,
 ) -> Result<u64, EngineFault>
 where
     L::Stream: Read + Write + OpenStream,
     ensures { IsServedSome screen result }
 {
-    let Ok((stream, _address)) = listener.accept() else {
+    let Ok((stream, address)) = listener.accept() else {
+        let _ = writeln!(notes, "rfb: a connection could not be accepted");
         return Err(EngineFault::Device);
     };
+    let _ = writeln!(notes, "rfb: {address} has connected");
     let _ = stream.set_nodelay(true);
     let Ok(other) = stream.try_clone() else {
         return Err(EngineFault::Device);
     };
-    serve_fresh(alloc, screen, stream, other)
+    let ended = serve_fresh(alloc, screen, stream, other);
+    tell_left(&ended, address, notes);
+    ended
+}
+
+// Says how a viewer has left.
+fn tell_left<N: Write>(ended: &Result<u64, EngineFault>, address: SocketAddr, notes: &mut N) {
+    match ended {
+        Ok(updates) => {
+            let _ = writeln!(notes, "rfb: {address} has left; updates sent: {updates}");
+        }
+        Err(fault) => {
+            tell_client(*fault, notes);
+            let _ = writeln!(notes, "rfb: {address} was let go");
+        }
+    }
 }
 
 // Serves a reader and a writer with a fresh screen.

@@ -2,6 +2,7 @@
 
 mod calls;
 mod devices;
+mod explain;
 mod language;
 mod loopback;
 mod nets;

@@ -8,6 +8,7 @@ ghost use Rattle.rfb.specs.Viewing.{LeavesSomeView, LeavesView, Views, ViewsSome
 
 mod look;
 
+use crate::explain::{Heard, Hearing, Notes, Speaking, tell_server, tell_unreached, tell_unsent};
 use crate::fault::{Failure, Fault};
 use crate::playing::fresh_viewer;
 use crate::recording::show;
@@ -18,12 +19,16 @@ use std::alloc::Global;
 use std::io::{Read, Write};
 use std::net::{Net, OpenStream, TcpStream};
 
+// How many bytes of a server are kept, for what they tell of it.
+const ROOM: usize = 1024;
+
 /// Connects to a server, and views it. What is written, and why it fails, is as for `view_on`.
-pub fn view_at<N: Net, W: Write>(
+pub fn view_at<N: Net, W: Write, E: Write>(
     net: &N,
     alloc: Global,
     look: Look<'_>,
     output: &mut W,
+    notes: &mut Notes<'_, E>,
 ) -> Result<(), Failure>
     ensures done { OnOk result
         (ViewsSome look.entry.sight (W.contents output.old) (W.contents output.new)) }
@@ -34,18 +39,25 @@ pub fn view_at<N: Net, W: Write>(
     ensures left { look.entry.sight.is_recorded ≡ false → OnErr result
         (LeavesSomeView look.entry.sight (W.contents output.old) (W.contents output.new)) }
 {
-    let stream = TcpStream::connect(net, (look.host, look.port))?;
-    view_on(alloc, stream, look.sight, output)
+    match TcpStream::connect(net, (look.host, look.port)) {
+        Ok(stream) => view_on(alloc, stream, look.sight, output, notes),
+        Err(error) => {
+            tell_unreached(look.host, look.port, &error, notes);
+            Err(Failure::from(error))
+        }
+    }
 }
 
 /// Views the server at the other end of a connection, up to the end of the last update that is
 /// wanted, and writes the picture that it shows then; or its bytes as they come, if these are
-/// wanted. What is sent goes out at once: the server waits for it.
-pub fn view_on<S: Read + Write + OpenStream + Drop, W: Write>(
+/// wanted. What is sent goes out at once: the server waits for it. `notes` say how it goes, and why
+/// it fails.
+pub fn view_on<S: Read + Write + OpenStream + Drop, W: Write, E: Write>(
     alloc: Global,
     stream: S,
     sight: Sight,
     output: &mut W,
+    notes: &mut Notes<'_, E>,
 ) -> Result<(), Failure>
     ensures done { OnOk result
         (ViewsSome sight (W.contents output.old) (W.contents output.new)) }
@@ -58,18 +70,19 @@ pub fn view_on<S: Read + Write + OpenStream + Drop, W: Write>(
 {
     let _ = stream.set_nodelay(true);
     let other = stream.try_clone()?;
-    view_over(alloc, stream, other, sight, output)
+    view_over(alloc, stream, other, sight, output, notes)
 }
 
 // Views a server whose bytes come from `reader`, and that is answered on `writer`. Then the picture
 // is written, or its bytes were as they came. Where the viewer or the bytes end with a fault no
 // picture is.
-fn view_over<R: Read + Drop, V: Write + Drop, W: Write>(
+fn view_over<R: Read + Drop, V: Write + Drop, W: Write, E: Write>(
     alloc: Global,
     reader: R,
     writer: V,
     sight: Sight,
     output: &mut W,
+    notes: &mut Notes<'_, E>,
 ) -> Result<(), Failure>
     ensures done { OnOk result (Views sight (R.remaining reader) (V.contents writer)
         (W.contents output.old) (W.contents output.new)) }
@@ -84,13 +97,50 @@ fn view_over<R: Read + Drop, V: Write + Drop, W: Write>(
     let updates = sight.updates;
     let is_recorded = sight.is_recorded;
     let mut viewer = fresh_viewer(alloc, sight.wants.format, sight.wants.encodings);
+    let room = if notes.are_wanted() { ROOM } else { 0 };
+    let mut heard = Heard::new(alloc, room, "connected to");
     if is_recorded {
-        return record(reader, writer, &mut viewer, updates, output);
+        return record(
+            reader,
+            writer,
+            &mut viewer,
+            updates,
+            output,
+            &mut heard,
+            notes,
+        );
     }
-    match watch(reader, writer, &mut viewer, updates) {
+    match watch_heard(reader, writer, &mut viewer, updates, &mut heard, notes) {
         Ok(_updates) => show(&viewer, output),
-        Err(fault) => Err(Failure::Engine(fault)),
+        Err(fault) => {
+            tell_server(fault, viewer.reason(), &heard, notes);
+            Err(Failure::Engine(fault))
+        }
     }
+}
+
+// Runs a viewer as `watch` does, and tells how it goes.
+fn watch_heard<R: Read + Drop, V: Write + Drop, N: Write>(
+    reader: R,
+    writer: V,
+    viewer: &mut Viewer,
+    updates: u32,
+    heard: &mut Heard,
+    notes: &mut N,
+) -> Result<u32, EngineFault>
+    requires some { 1 ≤ updates }
+    ensures saw { IfOk result (λ told.
+        Saw (R.remaining reader) (V.contents writer) None None viewer.old updates viewer.new) }
+    ensures stopped { IfErr result (λ fault.
+        StopsSeeing (R.remaining reader) (V.contents writer) None None viewer.old updates fault
+        viewer.new) }
+{
+    let mut unsent = None;
+    let hearing = Hearing::new(reader, heard, notes);
+    let speaking = Speaking::new(writer, &mut unsent);
+    let ended = watch(hearing, speaking, viewer, updates);
+    tell_unsent(&unsent, notes);
+    ended
 }
 
 // Runs a viewer until so many updates ended.
@@ -113,12 +163,14 @@ fn watch<R: Read + Drop, V: Write + Drop>(
 }
 
 // The same, and writes what the viewer is fed. All of it goes out, however it ends.
-fn record<R: Read + Drop, V: Write + Drop, W: Write>(
+fn record<R: Read + Drop, V: Write + Drop, W: Write, N: Write>(
     reader: R,
     writer: V,
     viewer: &mut Viewer,
     updates: u32,
     output: &mut W,
+    heard: &mut Heard,
+    notes: &mut N,
 ) -> Result<(), Failure>
     requires some { 1 ≤ updates }
     ensures saw { OnOk result
@@ -128,13 +180,15 @@ fn record<R: Read + Drop, V: Write + Drop, W: Write>(
         (R.remaining reader) (V.contents writer) (W.contents output.old) (W.contents output.new)
         viewer.old updates failure viewer.new) }
 {
-    match watch_and_keep(reader, writer, viewer, updates, output) {
+    let hearing = Hearing::new(reader, heard, notes);
+    match watch_and_keep(hearing, writer, viewer, updates, output) {
         Ok(_updates) => match output.flush() {
             Ok(()) => Ok(()),
             Err(error) => Err(Failure::Fault(Fault::from(error))),
         },
         Err(fault) => {
             let _ = output.flush();
+            tell_server(fault, viewer.reason(), heard, notes);
             Err(Failure::Engine(fault))
         }
     }

@@ -14,9 +14,11 @@ use crate::script::words::{read_colour, read_encodings, read_format, read_rect, 
 use rfb_picture::Rect;
 use rfb_pixel::{Colour, Format};
 
-const FULL: &[u8] = b"full";
+/// The word of a request for all.
+pub const FULL: &[u8] = b"full";
 
-const INCREMENTAL: &[u8] = b"inc";
+/// The word of a request for what has changed.
+pub const INCREMENTAL: &[u8] = b"inc";
 
 /// The size of the screen.
 pub fn read_size(words: &[&[u8]]) -> Option<Screen>

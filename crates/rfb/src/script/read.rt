@@ -12,11 +12,13 @@ use crate::script::line::{Line, Screen, Step, Wants};
 use arrayvec::ArrayVec;
 use rfb_session::Event;
 
-// The words that lines begin with.
-const SCREEN: &[u8] = b"screen";
+/// The word that the first line begins with.
+pub const SCREEN: &[u8] = b"screen";
 
-const VIEWER: &[u8] = b"viewer";
+/// The word that the second line may begin with.
+pub const VIEWER: &[u8] = b"viewer";
 
+// The words that later lines begin with.
 const FILL: &[u8] = b"fill";
 
 const COPY: &[u8] = b"copy";

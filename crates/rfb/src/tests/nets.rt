@@ -178,6 +178,17 @@ fn a_recording_that_cannot_be_flushed_is_a_fault(rt: HostRuntime) {
     }
 }
 
+// What is told of three viewers that come, and of two that do not.
+const COMINGS: &[u8] = b"rfb: 127.0.0.1:9 has connected
+rfb: 127.0.0.1:9 has left; updates sent: 1
+rfb: 127.0.0.1:9 has connected
+rfb: 127.0.0.1:9 has left; updates sent: 1
+rfb: 127.0.0.1:9 has connected
+rfb: 127.0.0.1:9 has left; updates sent: 1
+rfb: a connection could not be accepted
+rfb: a connection could not be accepted
+";
+
 #[test]
 fn each_line_of_serve_is_of_a_connection_of_its_own(rt: HostRuntime) {
     // Three come, and five are asked for.
@@ -187,9 +198,11 @@ fn each_line_of_serve_is_of_a_connection_of_its_own(rt: HostRuntime) {
         height: 1,
     };
     let mut lines = Vec::new(rt.alloc());
-    let served = serve_on(rt.alloc(), &ear, screen, 5, &mut lines);
+    let mut told = Vec::new(rt.alloc());
+    let served = serve_on(rt.alloc(), &ear, screen, 5, &mut lines, &mut told);
     assert!(rt; served.is_ok());
-    let told = b"ok 1\nok 1\nok 1\nfault 29 Device\nfault 29 Device\n".as_slice();
-    assert_eq!(rt; lines.as_slice(), told);
+    let ends = b"ok 1\nok 1\nok 1\nfault 29 Device\nfault 29 Device\n".as_slice();
+    assert_eq!(rt; lines.as_slice(), ends);
+    assert_eq!(rt; told.as_slice(), COMINGS);
     assert_eq!(rt; ear.left.get(), 0);
 }

@@ -34,7 +34,8 @@ fn a_viewer_is_served_over_a_socket(rt: HostRuntime) -> Result<(), Fail> {
     let listener = TcpListener::bind(&rt, ("127.0.0.1", 0))?;
     let viewer = viewer_of(&rt, &listener, CLIENT)?;
     let mut lines = Vec::new(rt.alloc());
-    let served = serve_on(rt.alloc(), &listener, TWO_PLACES, 1, &mut lines);
+    let mut told = Vec::new(rt.alloc());
+    let served = serve_on(rt.alloc(), &listener, TWO_PLACES, 1, &mut lines, &mut told);
     assert!(rt; served.is_ok());
     assert_eq!(rt; lines.as_slice(), b"ok 1\n".as_slice());
     assert_eq!(rt; sent_to(&rt, viewer)?.as_slice(), SERVER);
@@ -50,7 +51,8 @@ fn a_fault_ends_its_own_connection_alone(rt: HostRuntime) -> Result<(), Fail> {
     let unknown = viewer_of(&rt, &listener, b"RFB 003.008\n\x01\x01\x01")?;
     let whole = viewer_of(&rt, &listener, CLIENT)?;
     let mut lines = Vec::new(rt.alloc());
-    let served = serve_on(rt.alloc(), &listener, TWO_PLACES, 5, &mut lines);
+    let mut told = Vec::new(rt.alloc());
+    let served = serve_on(rt.alloc(), &listener, TWO_PLACES, 5, &mut lines, &mut told);
     assert!(rt; served.is_ok());
     assert_eq!(rt;
         lines.as_slice(),

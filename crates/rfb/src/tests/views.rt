@@ -2,6 +2,7 @@
 
 use super::calls::call;
 use super::streams::{PICTURE, REQUESTS, SERVER};
+use crate::explain::Notes;
 use crate::playing::only_raw;
 use crate::script::Wants;
 use crate::viewing::{Sight, view_on};
@@ -17,6 +18,7 @@ struct Seen {
     ended: String,
     output: Vec<u8>,
     sent: Vec<u8>,
+    told: Vec<u8>,
 }
 
 // One update, Raw at rgb888.
@@ -39,7 +41,10 @@ fn view(rt: &HostRuntime, bytes: &[u8], is_recorded: bool) -> io::Result<Seen> {
     server.write_all(bytes)?;
     server.shutdown(Shutdown::Write)?;
     let mut output = Vec::new(rt.alloc());
-    let ended = match view_on(rt.alloc(), viewer, sight(is_recorded), &mut output) {
+    let mut told = Vec::new(rt.alloc());
+    let mut notes = Notes::new(&mut told, true);
+    let seen = sight(is_recorded);
+    let ended = match view_on(rt.alloc(), viewer, seen, &mut output, &mut notes) {
         Ok(()) => format!(in rt.alloc(); "ok")?,
         Err(failure) => format!(in rt.alloc(); "{failure}")?,
     };
@@ -49,6 +54,7 @@ fn view(rt: &HostRuntime, bytes: &[u8], is_recorded: bool) -> io::Result<Seen> {
         ended,
         output,
         sent,
+        told,
     })
 }
 

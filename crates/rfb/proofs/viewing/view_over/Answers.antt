@@ -11,19 +11,19 @@ returns-then-is_recorded-clause-stopped g c =
 
 pub returns-in-Ok-clause-done : goal.returns-in-Ok-clause-done
 returns-in-Ok-clause-done g c =
-    views_shown c.args.sight _ _ _ _ c.fresh_viewer-viewer.result c.watch.new.viewer c.show.result c.fresh_viewer-viewer.ensures c.if-is_recorded.false c.in-Ok.ensures.saw c.show.ensures.done
+    views_shown c.args.sight _ _ _ _ c.fresh_viewer-viewer.result c.watch_heard.new.viewer c.show.result c.fresh_viewer-viewer.ensures c.if-is_recorded.false c.in-Ok.ensures.saw c.show.ensures.done
 
 pub returns-in-Ok-clause-stopped : goal.returns-in-Ok-clause-stopped
 returns-in-Ok-clause-stopped g c =
-    fails_shown c.args.sight _ _ _ _ c.fresh_viewer-viewer.result c.watch.new.viewer c.show.result c.fresh_viewer-viewer.ensures c.if-is_recorded.false c.in-Ok.ensures.saw c.show.ensures.stopped
+    fails_shown c.args.sight _ _ _ _ c.fresh_viewer-viewer.result c.watch_heard.new.viewer c.show.result c.fresh_viewer-viewer.ensures c.if-is_recorded.false c.in-Ok.ensures.saw c.show.ensures.stopped
 
 pub returns-then-is_recorded-clause-left : goal.returns-then-is_recorded-clause-left
 returns-then-is_recorded-clause-left g c = λ not. never_recorded c.args.sight.is_recorded _ c.if-is_recorded.true not
 
 pub returns-in-Ok-clause-left : goal.returns-in-Ok-clause-left
 returns-in-Ok-clause-left g c = λ not.
-    leaves_shown g.W.Write.contents c.args.sight _ _ c.args.output.now c.show.new.output c.fresh_viewer-viewer.result c.watch.new.viewer c.show.result c.fresh_viewer-viewer.ensures not c.in-Ok.ensures.saw c.show.ensures.left
+    leaves_shown g.W.Write.contents c.args.sight _ _ c.args.output.now c.show.new.output c.fresh_viewer-viewer.result c.watch_heard.new.viewer c.show.result c.fresh_viewer-viewer.ensures not c.in-Ok.ensures.saw c.show.ensures.left
 
 pub returns-clause-stopped : goal.returns-clause-stopped
 returns-clause-stopped g c =
-    fails_seeing c.args.sight _ _ _ _ c.fresh_viewer-viewer.result c.watch.new.viewer c.in-Err.fault c.fresh_viewer-viewer.ensures c.if-is_recorded.false c.in-Err.ensures.stopped
+    fails_seeing c.args.sight _ _ _ _ c.fresh_viewer-viewer.result c.watch_heard.new.viewer c.in-Err.fault c.fresh_viewer-viewer.ensures c.if-is_recorded.false c.in-Err.ensures.stopped

@@ -2,8 +2,8 @@ use Rattle.std.proofs.Common.{◌≡◌, ◌∙◌, ap, inl, sym, true, map}
 use Rattle.clap.specs.Values.{kind_of}
 use Rattle.clap.specs.declared.error.kind.ErrorKind.TheVariants.{OutOfMemory}
 use Rattle.rfb.proofs.CommandLemmas.{does_asked, leaves_asked, not_both, wrong_memory}
-use Rattle.rfb.proofs.command_line.command.Goals as goal
-use Rattle.rfb.proofs.command_line.command.Goals.{in-Ok, in-Err-Words, in-Err-Words-3}
+use Rattle.rfb.proofs.command_line.obey.Goals as goal
+use Rattle.rfb.proofs.command_line.obey.Goals.{in-Ok, in-Err-Words, in-Err-Words-3}
 
 pub returns-in-Ok-done-clause-played : goal.returns-in-Ok-done-clause-played
 returns-in-Ok-done-clause-played g c = λ zero command. elim c.match-read_words.branch [

@@ -1,0 +1,72 @@
+//! Sentences on standard error, for a person who reads there: why a command fails, and how it goes.
+//!
+//! They stand beside the lines that a command ends with, before the one that says why. Nothing else
+//! depends on them: a sentence that cannot be written is lost.
+
+mod escaped;
+mod failing;
+mod heard;
+mod hearing;
+mod naming;
+mod placing;
+
+pub use escaped::Escaped;
+pub use failing::{tell_client, tell_server};
+pub use heard::Heard;
+pub use hearing::{Hearing, Speaking};
+pub use placing::tell_place;
+use std::io;
+use std::io::Write;
+
+/// Where sentences go: to `errors`, or nowhere.
+#[derive(Drop)]
+pub struct Notes<'a, E> {
+    errors: &'a mut E,
+    are_wanted: bool,
+}
+
+impl<'a, E> Notes<'a, E> {
+    /// Sentences go to `errors` if any are wanted.
+    pub fn new(errors: &'a mut E, are_wanted: bool) -> Notes<'a, E> {
+        Notes { errors, are_wanted }
+    }
+
+    /// Whether they go anywhere.
+    pub fn are_wanted(&self) -> bool {
+        self.are_wanted
+    }
+}
+
+impl<E: Write> Write for Notes<'_, E> {
+    fn write(&mut self, buf: &[u8]) -> io::Result<usize> {
+        if self.are_wanted {
+            return self.errors.write(buf);
+        }
+        Ok(buf.len())
+    }
+
+    fn flush(&mut self) -> io::Result<()> {
+        Ok(())
+    }
+}
+
+/// Says that a connection to a host could not be had.
+pub fn tell_unreached<N: Write>(host: &str, port: u16, error: &io::Error, notes: &mut N) {
+    let _ = writeln!(
+        notes,
+        "rfb: no connection to {}, port {port}: {error}",
+        Escaped(host.as_bytes())
+    );
+}
+
+/// Says that a port cannot be listened on.
+pub fn tell_unbound<N: Write>(port: u16, error: &io::Error, notes: &mut N) {
+    let _ = writeln!(notes, "rfb: cannot listen on 127.0.0.1:{port}: {error}");
+}
+
+/// Says why what was to be sent did not go out, if so.
+pub fn tell_unsent<N: Write>(failure: &Option<io::Error>, notes: &mut N) {
+    if let Some(error) = failure {
+        let _ = writeln!(notes, "rfb: sending to the server failed: {error}");
+    }
+}

@@ -1,0 +1,133 @@
+//! Sentences for what an engine ended with.
+
+use crate::explain::heard::{tell_types, version_line};
+use crate::explain::naming::EncodingNumber;
+use crate::explain::{Escaped, Heard};
+use rfb_server::ServerFault;
+use rfb_session::EngineFault;
+use rfb_viewer::ViewerFault;
+use std::io;
+use std::io::Write;
+
+/// Says why what a server sent was no more looked at. `reason` is what it gave as its reason.
+pub fn tell_server<N: Write>(fault: EngineFault, reason: &[u8], heard: &Heard, notes: &mut N) {
+    let _ = match fault {
+        EngineFault::Viewer(fault) => tell_viewer_fault(fault, reason, heard, notes),
+        EngineFault::Truncated => writeln!(
+            notes,
+            "rfb: the server's bytes end too early, behind {} of them",
+            heard.total()
+        ),
+        EngineFault::NoMemory => writeln!(notes, "rfb: there is no memory"),
+        EngineFault::Device | EngineFault::Server(_) => Ok(()),
+    };
+}
+
+// What a server did wrong, or refused.
+fn tell_viewer_fault<N: Write>(
+    fault: ViewerFault,
+    reason: &[u8],
+    heard: &Heard,
+    notes: &mut N,
+) -> io::Result<()> {
+    match fault {
+        ViewerFault::BadVersion => writeln!(
+            notes,
+            "rfb: in place of a version came `{}`: no server of RFB is there",
+            Escaped(version_line(heard.as_slice()))
+        ),
+        ViewerFault::NoneNotOffered => tell_types(heard.as_slice(), notes),
+        ViewerFault::BadSecurityWord => tell_types(heard.as_slice(), notes),
+        ViewerFault::Refused(_) => writeln!(
+            notes,
+            "rfb: the server refuses the connection, and says `{}`",
+            Escaped(reason)
+        ),
+        ViewerFault::SecurityFailed(_) => writeln!(
+            notes,
+            "rfb: the server does not let the viewer in, and says `{}`",
+            Escaped(reason)
+        ),
+        ViewerFault::ScreenEmpty => writeln!(notes, "rfb: the server's screen has no place"),
+        ViewerFault::ScreenTooLarge => writeln!(
+            notes,
+            "rfb: the server's screen has more than 16777216 places"
+        ),
+        ViewerFault::NoMemory => writeln!(notes, "rfb: there is no memory for the screen"),
+        other => tell_message_fault(other, notes),
+    }
+}
+
+// What is wrong with a message of a server's.
+fn tell_message_fault<N: Write>(fault: ViewerFault, notes: &mut N) -> io::Result<()> {
+    match fault {
+        ViewerFault::UnknownMessage(kind) => {
+            writeln!(notes, "rfb: a message has type {kind}, which no server has")
+        }
+        ViewerFault::UnknownEncoding(number) => writeln!(
+            notes,
+            "rfb: a rectangle has encoding {}, and only raw, copyrect, rre and hextile are taken",
+            EncodingNumber(number)
+        ),
+        ViewerFault::RectOutside => writeln!(notes, "rfb: a rectangle leaves the screen"),
+        ViewerFault::SubrectOutside => {
+            writeln!(
+                notes,
+                "rfb: a subrectangle leaves its rectangle or its tile"
+            )
+        }
+        ViewerFault::NoBackground => writeln!(notes, "rfb: a tile of Hextile has no background"),
+        ViewerFault::NoForeground => writeln!(notes, "rfb: a tile of Hextile has no foreground"),
+        ViewerFault::BothColourBits => writeln!(
+            notes,
+            "rfb: a tile of Hextile has a foreground, and subrectangles with colours"
+        ),
+        ViewerFault::SourceOutside => {
+            writeln!(notes, "rfb: the source of a CopyRect leaves the screen")
+        }
+        _ => Ok(()),
+    }
+}
+
+/// Says why what a client sent was no more looked at.
+pub fn tell_client<N: Write>(fault: EngineFault, notes: &mut N) {
+    let _ = match fault {
+        EngineFault::Server(fault) => tell_server_fault(fault, notes),
+        EngineFault::Truncated => writeln!(notes, "rfb: the viewer left inside a message"),
+        EngineFault::Device => writeln!(notes, "rfb: the connection to the viewer broke"),
+        EngineFault::NoMemory => writeln!(notes, "rfb: there is no memory for the viewer"),
+        EngineFault::Viewer(_) => Ok(()),
+    };
+}
+
+// What a client did wrong.
+fn tell_server_fault<N: Write>(fault: ServerFault, notes: &mut N) -> io::Result<()> {
+    match fault {
+        ServerFault::UnknownMessage(kind) => writeln!(
+            notes,
+            "rfb: the viewer sent a message of type {kind}, which no client has"
+        ),
+        ServerFault::BadVersion => {
+            writeln!(notes, "rfb: the other end sent no version: it is no viewer")
+        }
+        ServerFault::VersionTooHigh => {
+            writeln!(notes, "rfb: the viewer's version is above the one offered")
+        }
+        ServerFault::BadSecurityChoice => writeln!(
+            notes,
+            "rfb: the viewer chose another security type than 1 (None)"
+        ),
+        ServerFault::NotTrueColour => {
+            writeln!(notes, "rfb: the viewer asked for pixels by a colour map")
+        }
+        ServerFault::NoMemory => writeln!(notes, "rfb: there is no memory for a text"),
+        ServerFault::BadBits
+        | ServerFault::DepthTooLarge
+        | ServerFault::BadMax
+        | ServerFault::ShiftTooLarge
+        | ServerFault::FieldsOverlap => writeln!(
+            notes,
+            "rfb: the viewer asked for a pixel format that cannot be: {fault}"
+        ),
+    }
+}

@@ -1,0 +1,45 @@
+//! Numbers of the protocol with the names that people know them by.
+
+use std::fmt;
+
+/// A security type, RFC 6143 sections 7.1.2 and 8.1.
+#[derive(Clone, Copy, Debug)]
+pub struct SecurityType(pub u8);
+
+impl fmt::Display for SecurityType {
+    fn fmt<F: fmt::Write>(&self, f: &mut fmt::Formatter<F>) -> fmt::Result {
+        let name = match self.0 {
+            0 => "Invalid",
+            1 => "None",
+            2 => "VNC Authentication",
+            16 => "Tight",
+            17 => "Ultra",
+            18 => "TLS",
+            19 => "VeNCrypt",
+            20 => "GTK-VNC SASL",
+            _ => return write!(f, "{}", self.0),
+        };
+        write!(f, "{} ({name})", self.0)
+    }
+}
+
+/// An encoding, sections 7.7 and 8.4.
+#[derive(Clone, Copy, Debug)]
+pub struct EncodingNumber(pub i32);
+
+impl fmt::Display for EncodingNumber {
+    fn fmt<F: fmt::Write>(&self, f: &mut fmt::Formatter<F>) -> fmt::Result {
+        let name = match self.0 {
+            4 => "CoRRE",
+            6 => "zlib",
+            7 => "Tight",
+            8 => "zlibhex",
+            15 => "TRLE",
+            16 => "ZRLE",
+            -223 => "DesktopSize",
+            -239 => "Cursor",
+            _ => return write!(f, "{}", self.0),
+        };
+        write!(f, "{} ({name})", self.0)
+    }
+}
