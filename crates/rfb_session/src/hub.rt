@@ -14,6 +14,8 @@ mod playing;
 pub(crate) mod seat;
 mod slots;
 mod telling;
+#[cfg(test)]
+mod tests;
 
 use crate::hub::event::{HubEvent, HubTold};
 use crate::hub::seat::Seat;
