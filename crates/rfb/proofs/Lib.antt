@@ -3,6 +3,11 @@ pub mod CommandLemmas
 pub mod ComposingLemmas
 pub mod DeliveryLemmas
 pub mod EndsLemmas
+pub mod HubWordLemmas
+pub mod HubStepLemmas
+pub mod HubLineLemmas
+pub mod HubPlayingLemmas
+pub mod HubScriptingLemmas
 pub mod LeavingLemmas
 pub mod LoopbackLemmas
 pub mod OptionLemmas

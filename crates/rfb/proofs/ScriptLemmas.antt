@@ -281,13 +281,13 @@ other_line all words first rest is e other gives =
 pub no_line : (all : List (List ℕ)) (words : List (Bor (List ℕ))) → texts words ≡ all → length words ≡ 0 → ¬ (GiveWants all)
 no_line all words is none gives = nothing (codes "viewer") gives.1.0 (sym (no_texts words none) ∙ is ∙ gives.1.1)
 
--- ---- no line has eight words
+-- ---- no line has nine words
 
 -- so many words behind a keyword
 begins_length : (n : ℕ) (key : List ℕ) (words rest : List (List ℕ)) → words ≡ key ∷ rest → length rest ≤ n → length words ≤ n + 1
 begins_length n key words rest e few = let s = ap (λ (l : List (List ℕ)). length l) e in omega (arith, s, few)
 
-pub too_many_words : (words : List (List ℕ)) → 7 < length words → SaysNothing words
+pub too_many_words : (words : List (List ℕ)) → 8 < length words → SaysNothing words
 too_many_words words many = go
   where
     over : (key : List ℕ) (rest : List (List ℕ)) → words ≡ key ∷ rest → length rest ≤ 6 → ⊥
@@ -314,9 +314,9 @@ too_many_words words many = go
     go (Step (OneEvent event)) said = event_over event said
     go (Step Settle) said = over (codes "settle") [] said (omega arith)
 
--- a push is refused where there are seven already
-pub seven_already : (n : ℕ) (pushed : Bool) → ((pushed ≡ true) ↔ (n < 7)) → false ≡ pushed → 7 ≤ n
-seven_already n pushed fits refused = elim (cases_lt n 7) [
+-- a push is refused where there are eight already
+pub eight_already : (n : ℕ) (pushed : Bool) → ((pushed ≡ true) ↔ (n < 8)) → false ≡ pushed → 8 ≤ n
+eight_already n pushed fits refused = elim (cases_lt n 8) [
   | inl under ↦ let yes = fits.1 under in absurd (cc)
   | inr over ↦ over
 ]

@@ -10,7 +10,13 @@ use Rattle.rfb_session.specs.World.{shown_by}
 use Rattle.rfb.specs.declared.script.line.Numbered.{Numbered}
 use Rattle.rfb.specs.declared.script.line.Screen.{Screen as Size}
 use Rattle.rfb.specs.declared.script.line.Wants.{Wants}
+use Rattle.rfb.specs.declared.script.hub.line.HubNumbered.{HubNumbered}
 use Rattle.rfb.specs.Playing.{IsPlayed}
+use Rattle.rfb.specs.HubPlaying.{hub_events}
+use Rattle.rfb.specs.HubScript.{AreHubScript, StopsReadingAny}
+use Rattle.rfb_session.specs.declared.hub.Hub.{Hub}
+use Rattle.rfb_session.specs.Hub.{shown_in}
+use Rattle.rfb_session.specs.HubSteps.{HubPlayed}
 use Rattle.rfb.specs.Script.{AreScript, StopsReading, lines_of}
 use Rattle.rfb_session.specs.Devices.{AppendsBeginning}
 use Rattle.rfb_session.specs.Pixmap.{pixmap}
@@ -34,6 +40,21 @@ pub record Plays (text : List ℕ) (picture : Grid Colour) : Type 0 where
   pub world : World
   pub is_played : IsPlayed size wants steps world
   pub is_shown : shown_by world ≡ Some picture
+
+-- a text is a hub's script, and the viewer of the slot that its last line names shows the picture
+-- in a hub that its steps led to
+pub record PlaysHub (text : List ℕ) (picture : Grid Colour) : Type 0 where
+  pub size : Size
+  pub steps : List HubNumbered
+  pub shown : ℕ
+  pub is_script : AreHubScript (lines_of text) size steps shown
+  pub hub : Hub
+  pub is_played : HubPlayed size.width size.height (hub_events steps) hub
+  pub is_shown : shown_in hub shown ≡ Some picture
+
+-- a text is a script of either kind
+abbrev pub PlaysAny : List ℕ → Grid Colour → Type 0
+PlaysAny text picture = Plays text picture ⊎ PlaysHub text picture
 
 -- this was written of what a world's viewer shows
 abbrev pub ShowsTo : (List ℕ → Type 0) → World → Type 0
@@ -62,11 +83,21 @@ abbrev pub LeavesPlayed : Size → Option Wants → List Numbered → Option (Li
 LeavesPlayed size wants steps before after =
     (after ≡ before) ⊎ PlayedTo (AppendsBeginning before after) size wants steps
 
+-- this was written of what a slot's viewer shows, and the same of the hub that steps lead to
+abbrev pub ShowsSlotTo : (List ℕ → Type 0) → ℕ → Hub → Type 0
+ShowsSlotTo Writes slot hub =
+    (picture : Grid Colour) × (shown_in hub slot ≡ Some picture) × Writes (pixmap picture)
+
+abbrev pub HubPlayedTo : (List ℕ → Type 0) → Size → List HubNumbered → ℕ → Type 0
+HubPlayedTo Writes size steps shown =
+    (hub : Hub) × HubPlayed size.width size.height (hub_events steps) hub
+    × ShowsSlotTo Writes shown hub
+
 -- what was read, where its bytes are known, is a script, and this was written of the picture that
 -- it leads to
 pub record PlaysScriptTo (Writes : List ℕ → Type 0) (read : Option (List ℕ)) : Type 0 where
   pub picture : Grid Colour
-  pub played : IfSome read (λ text. Plays text picture)
+  pub played : IfSome read (λ text. PlaysAny text picture)
   pub written : Writes (pixmap picture)
 
 -- the whole of it was; or the output is as it was, or a beginning was
@@ -77,7 +108,13 @@ abbrev pub LeavesScript : Option (List ℕ) → Option (List ℕ) → Option (Li
 LeavesScript read before after =
     (after ≡ before) ⊎ PlaysScriptTo (AppendsBeginning before after) read
 
--- a bad line that is told is the first one of what was read
+-- a bad line that is told is the first one of what was read, whose kind its first line tells
+abbrev pub FailsAtAny : Option (List ℕ) → Failure → Type 0
+FailsAtAny read (BadLine n) = IfSome read (λ text. StopsReadingAny (lines_of text) (BadLine n))
+FailsAtAny read (Fault fault) = ⊤
+FailsAtAny read (Engine fault) = ⊥
+
+-- the same of a script that is no hub's
 abbrev pub FailsAt : Option (List ℕ) → Failure → Type 0
 FailsAt read (BadLine n) = IfSome read (λ text. StopsReading (lines_of text) (BadLine n))
 FailsAt read (Fault fault) = ⊤

@@ -3,6 +3,8 @@ pub mod Delivery
 pub mod Explain
 pub mod Fault
 pub mod Few
+pub mod HubPlaying
+pub mod HubScript
 pub mod Loopback
 pub mod Number
 pub mod Options

@@ -23,6 +23,9 @@ pub enum Fault {
     /// Memory was refused.
     #[error("30 NoMemory")]
     NoMemory,
+    /// There is no viewer in the slot whose picture is wanted.
+    #[error("32 NoSuchSlot")]
+    NoSuchSlot,
 }
 
 impl From<AllocError> for Fault {
@@ -96,6 +99,14 @@ impl From<Device> for Failure {
 
     fn from(_error: Device) -> Failure {
         Failure::Fault(Fault::Device)
+    }
+}
+
+impl From<AllocError> for Failure {
+    ghost from_gives = { λ _ failure. failure ≡ Failure.Fault Fault.NoMemory };
+
+    fn from(error: AllocError) -> Failure {
+        Failure::from(Fault::from(error))
     }
 }
 

@@ -27,6 +27,15 @@ A script has a line for each step. One space parts two words:
   toserver N, toviewer N      at most N of the bytes in flight arrive
   settle                      all bytes arrive, eight times each way
 
+With several viewers, each in a slot S from 0 to 7:
+  hub W H                     first, in place of screen
+  join S shared|sole F E..    a viewer comes, beside others or to have the screen alone
+  leave S                     it goes
+  foreign S HEX               bytes that it did not send reach its session
+  at S request .., at S settle, ..
+                              a line of that viewer, or of its session
+  show S                      last: whose picture is written
+
 F is rgb888, rgb565, bgr233 or rgb101010; E is raw, copyrect, rre or hextile.
 docs/PROTOCOL.md has the language of scripts, with all that is bad in it.
 
@@ -36,7 +45,7 @@ Example:
 pub const LOOPBACK: &str = "\
 Both ends are in this process, and talk over a connection of 127.0.0.1. At each delivery at most
 4096 bytes are written before the other end reads them. What is printed is what `script` prints.
-`rfb help script` and docs/PROTOCOL.md have the language of scripts.
+There is no hub here. `rfb help script` and docs/PROTOCOL.md have the language of scripts.
 
 Example:
   rfb loop < examples/first.script > picture.ppm";

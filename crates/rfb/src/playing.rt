@@ -7,6 +7,8 @@ ghost use Rattle.rfb.specs.Few.{HasFew};
 ghost use Rattle.rfb.specs.Playing.{IsFreshServer, StandsFresh, TakesStep, TellsRefusal, encodings_of, format_of};
 ghost use Rattle.rfb.specs.Recording.{IsFresh};
 
+pub mod hub;
+
 use crate::fault::Fault;
 use crate::script::{Screen, Step, Wants};
 use arrayvec::ArrayVec;
@@ -18,11 +20,11 @@ use rfb_viewer::Viewer;
 use rfb_wire::Encoding;
 use std::alloc::{AllocError, Global};
 
-// How many bytes of a text each end keeps.
-const TEXT_LIMIT: u32 = 1024;
+/// How many bytes of a text each end keeps.
+pub const TEXT_LIMIT: u32 = 1024;
 
-// How many places of a screen the viewer admits: those of the largest one.
-const MAX_PLACES: u32 = 16_777_216;
+/// How many places of a screen a viewer admits: those of the largest one.
+pub const MAX_PLACES: u32 = 16_777_216;
 
 /// How often a `settle` delivers, each way.
 pub const TURNS: u32 = 8;

@@ -30,6 +30,7 @@ ghost use Rattle.rfb.specs.Script.{AreScript, GivesWants, Says, StopsReading, li
 
 mod arguments;
 mod cause;
+mod hub;
 mod line;
 mod number;
 mod read;
@@ -39,6 +40,8 @@ use crate::explain::Notes;
 use crate::fault::Failure;
 use crate::script::cause::tell_bad_line;
 use crate::script::read::{read_screen, read_step, read_viewer};
+pub use hub::line::{HubNumbered, HubStep};
+pub use hub::{HubScript, begins_hub, read_hub_script};
 pub use line::{Numbered, Screen, Step, Wants};
 use std::alloc::Global;
 use std::io::Write;

@@ -1,24 +1,28 @@
 //! A script from its bytes to its picture.
 
 ghost use Rattle.std.specs.Prelude.{◌≡◌, ◌⊎◌, ℕ, Err, OnOk, OnErr, IfErr};
-ghost use Rattle.rfb.specs.CommandLine.{FailsAt, LeavesPlayed, LeavesScript, PlaysScript};
+ghost use Rattle.rfb.specs.CommandLine.{FailsAtAny, LeavesPlayed, LeavesScript, PlaysScript};
 ghost use Rattle.rfb.specs.CommandLine.{ShowsTo, WritesPlayed, WritesShown};
 ghost use Rattle.rfb.specs.Playing.{TakesAll, ends_of};
 ghost use Rattle.rfb_session.specs.Devices.{AppendsBeginning};
 ghost use Rattle.rfb_session.specs.InFlight.{AreMade};
 ghost use Rattle.rfb.specs.declared.fault.Failure.TheVariants as Failure;
 
+mod hub;
+
 use crate::fault::{Failure, Fault};
 use crate::playing::{fresh_world, play};
-use crate::script::{Numbered, Script, read_explained};
+use crate::script::{Numbered, Script, begins_hub, read_explained, read_hub_script};
+use crate::scripting::hub::run_hub;
 use crate::writing::write_ppm;
 use rfb_session::{Refused, World};
 use std::alloc::Global;
 use std::io::{LineWriter, Read, Write};
 
 /// Runs the script that `input` has, between a server and a viewer in memory, and writes the
-/// viewer's picture. At a bad line nothing is written, and if sentences are wanted one says why it is
-/// bad.
+/// viewer's picture; of a hub's script, that of the slot that its last line names. At a bad line
+/// nothing is written. If sentences are wanted, one says why a line is bad, of a script without a
+/// hub.
 pub fn script<R: Read, W: Write, E: Write>(
     alloc: Global,
     input: &mut R,
@@ -28,14 +32,20 @@ pub fn script<R: Read, W: Write, E: Write>(
 ) -> Result<(), Failure>
     ensures done { OnOk result
         (PlaysScript (R.remaining input.old) (W.contents output.old) (W.contents output.new)) }
-    ensures stopped { IfErr result (FailsAt (R.remaining input.old)) }
+    ensures stopped { IfErr result (FailsAtAny (R.remaining input.old)) }
     ensures unwritten { (n : ℕ) → result ≡ Err (Failure.BadLine n) → output.new ≡ output.old }
     ensures left { OnErr result
         (LeavesScript (R.remaining input.old) (W.contents output.old) (W.contents output.new)) }
 {
     let mut text = Vec::new(alloc);
     input.read_to_end(&mut text)?;
-    let script = read_explained(alloc, &text, errors, explains)?;
+    let lines = text.as_slice();
+    if begins_hub(lines) {
+        let hub = read_hub_script(alloc, lines)?;
+        run_hub(alloc, &hub, output, errors)?;
+        return Ok(());
+    }
+    let script = read_explained(alloc, lines, errors, explains)?;
     run(alloc, &script, output, errors)?;
     Ok(())
 }

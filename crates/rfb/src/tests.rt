@@ -3,6 +3,9 @@
 mod calls;
 mod devices;
 mod explain;
+mod hub_lines;
+mod hub_refusals;
+mod hubs;
 mod language;
 mod loopback;
 mod nets;

@@ -19,26 +19,26 @@ pub const SCREEN: &[u8] = b"screen";
 pub const VIEWER: &[u8] = b"viewer";
 
 // The words that later lines begin with.
-const FILL: &[u8] = b"fill";
+pub const FILL: &[u8] = b"fill";
 
-const COPY: &[u8] = b"copy";
+pub const COPY: &[u8] = b"copy";
 
-const HINT: &[u8] = b"hint";
+pub const HINT: &[u8] = b"hint";
 
-const REQUEST: &[u8] = b"request";
+pub const REQUEST: &[u8] = b"request";
 
-const FORMAT: &[u8] = b"format";
+pub const FORMAT: &[u8] = b"format";
 
-const COMPOSE: &[u8] = b"compose";
+pub const COMPOSE: &[u8] = b"compose";
 
-const TO_VIEWER: &[u8] = b"toviewer";
+pub const TO_VIEWER: &[u8] = b"toviewer";
 
-const TO_SERVER: &[u8] = b"toserver";
+pub const TO_SERVER: &[u8] = b"toserver";
 
-const SETTLE: &[u8] = b"settle";
+pub const SETTLE: &[u8] = b"settle";
 
-// No line has more words.
-const WORDS_MAX: usize = 7;
+// No line has more words; of a hub's script one has so many.
+const WORDS_MAX: usize = 8;
 
 /// The screen's size, as a line without its newline gives it. It is `None` where the line gives
 /// none.
@@ -84,9 +84,9 @@ fn read_line(line: &[u8]) -> Option<Line>
     line_of(parted(line)?.as_slice())
 }
 
-// The words of a line, if they are not too many.
-fn parted<'a>(line: &'a [u8]) -> Option<ArrayVec<&'a [u8], WORDS_MAX>>
-    ensures { MatchOption result (7 < length (words_of line.now))
+/// The words of a line, if they are not too many.
+pub fn parted<'a>(line: &'a [u8]) -> Option<ArrayVec<&'a [u8], WORDS_MAX>>
+    ensures { MatchOption result (8 < length (words_of line.now))
         (λ words. texts words.items ≡ words_of line.now) }
 {
     let mut words = ArrayVec::new();

@@ -4,7 +4,7 @@ use super::calls::{FILL_LEFT_PLACE, LEFT_PLACE_FILLED, run, run_all};
 use std::test::Fail;
 
 // Lines that are bad wherever they stand after the first, each for one reason.
-const BAD_LINES: [&[u8]; 86] = [
+const BAD_LINES: [&[u8]; 92] = [
     // No keyword, or none that is known.
     b"paint 0 0 1 1 FF8001",
     b"Fill 0 0 1 1 FF8001",
@@ -20,6 +20,13 @@ const BAD_LINES: [&[u8]; 86] = [
     // A screen is there already, and the viewer's line is not the second.
     b"screen 2 1",
     b"viewer rgb888 raw",
+    // Lines of a hub's script.
+    b"hub 2 1",
+    b"join 0 shared rgb888 raw",
+    b"leave 0",
+    b"foreign 0 01",
+    b"at 0 settle",
+    b"show 0",
     // Words too many or too few.
     b"fill",
     b"fill 0 0 1 1",
@@ -125,7 +132,7 @@ const FIRST_BAD_LINES: [(&[u8], u64); 30] = [
     (b"\nsettle\nscreen 2 1\nsettle\n", 2),
     (b" screen 2 1\nsettle\n", 1),
     (b"Screen 2 1\nsettle\n", 1),
-    (b"hub 2 1\nsettle\n", 1),
+    (b"hub 2 1\nsettle\n", 2),
     (b"screen 2 1\r\nsettle\r\n", 1),
     (b"screen 2\nsettle\n", 1),
     (b"screen 2 1 1\nsettle\n", 1),

@@ -1,0 +1,331 @@
+-- Words of a line of a hub's script: which lines a keyword can begin.
+use Rattle.std.proofs.Common.{◌≡◌, ◌≢◌, ◌<◌, ◌≤◌, ◌+◌, ◌∙◌, ap, sym, refl, subst, Bool, true, false, not, Option, Some, None, MatchOption, length, ℕ, List, [], ◌∷◌, Bor, arith, codes}
+use Rattle.std.specs.Str.{bytes_eq}
+use Rattle.rfb_picture.specs.declared.rect.Rect.{Rect}
+use Rattle.rfb_pixel.specs.declared.colour.Colour.{Colour}
+use Rattle.rfb_session.specs.declared.hub.event.HubEvent.TheVariants.{Fill, Put, Copy, Hint, Join, Leave, Of, Foreign}
+use Rattle.rfb_session.specs.declared.hub.event.Setup.{Setup}
+use Rattle.rfb_session.specs.declared.hub.event.SlotEvent.{SlotEvent}
+use Rattle.rfb_session.specs.declared.hub.event.SlotEvent.TheVariants.{Request, SetFormat, SetEncodings, Key, Pointer, CutText, Compose, ToServer, ToViewer}
+use Rattle.rfb_session.specs.HubSeats.{event_of}
+use Rattle.rfb.specs.declared.script.hub.line.HubStep.{HubStep}
+use Rattle.rfb.specs.declared.script.hub.line.HubStep.TheVariants.{Event, Settle}
+use Rattle.rfb.specs.declared.script.line.Screen.{Screen as Size}
+use Rattle.rfb.specs.Few.{HasFewInHub}
+use Rattle.rfb.specs.HubScript.{AreForeign, AreJoin, AsksInHub, GivesHub, IsBehindSlot, IsSlotAlone, NamesShown, SaysAt, SaysHub, SaysHubStep, SaysShow}
+use Rattle.rfb.specs.Script.{Begins, SaysEvent, words_of}
+use Rattle.rfb.specs.Words.{AreFill, AreMove, AreSize, texts}
+use Rattle.rfb.proofs.HubWordLemmas.{no_slot_first, nothing_behind, none_behind, is_behind, split_texts}
+use Rattle.rfb.proofs.ScriptLemmas.{heads, nothing, no_texts, other_word, same_word, tails, words_are}
+
+-- two keywords that differ
+apart : (a b : List ℕ) (x y : List (List ℕ)) → bytes_eq a b ≡ false → a ∷ x ≡ b ∷ y → ⊥
+apart a b x y other e = other_word a b other (heads a b x y e)
+
+-- ---- the steps of a keyword
+
+pub hub_fill : (rest : List (List ℕ)) → ((rect : Rect) (colour : Colour) → ¬ (AreFill rest rect colour)) → (step : HubStep) → ¬ (SaysHubStep (codes "fill" ∷ rest) step)
+hub_fill rest none (Event (Fill rect colour)) said =
+    let e = tails _ _ rest said.0 said.1 in none rect colour (subst (λ (r : List (List ℕ)). AreFill r rect colour) e said.2)
+hub_fill rest none (Event (Copy rect sx sy)) said = apart (codes "fill") (codes "copy") rest said.0 refl said.1
+hub_fill rest none (Event (Hint rect sx sy)) said = apart (codes "fill") (codes "hint") rest said.0 refl said.1
+hub_fill rest none (Event (Join slot setup)) said = apart (codes "fill") (codes "join") rest said.0 refl said.1
+hub_fill rest none (Event (Leave slot)) said = apart (codes "fill") (codes "leave") rest said.0 refl said.1
+hub_fill rest none (Event (Foreign slot bytes)) said = apart (codes "fill") (codes "foreign") rest said.0 refl said.1
+hub_fill rest none (Event (Of slot event)) said = apart (codes "fill") (codes "at") rest said.0 refl said.1
+hub_fill rest none (Settle slot) said = apart (codes "fill") (codes "at") rest said.0 refl said.1
+hub_fill rest none (Event (Put x y row)) said = absurd said
+
+pub hub_copy : (rest : List (List ℕ)) → ((rect : Rect) (sx sy : ℕ) → ¬ (AreMove rest rect sx sy)) → (step : HubStep) → ¬ (SaysHubStep (codes "copy" ∷ rest) step)
+hub_copy rest none (Event (Fill rect colour)) said = apart (codes "copy") (codes "fill") rest said.0 refl said.1
+hub_copy rest none (Event (Copy rect sx sy)) said =
+    let e = tails _ _ rest said.0 said.1 in none rect sx sy (subst (λ (r : List (List ℕ)). AreMove r rect sx sy) e said.2)
+hub_copy rest none (Event (Hint rect sx sy)) said = apart (codes "copy") (codes "hint") rest said.0 refl said.1
+hub_copy rest none (Event (Join slot setup)) said = apart (codes "copy") (codes "join") rest said.0 refl said.1
+hub_copy rest none (Event (Leave slot)) said = apart (codes "copy") (codes "leave") rest said.0 refl said.1
+hub_copy rest none (Event (Foreign slot bytes)) said = apart (codes "copy") (codes "foreign") rest said.0 refl said.1
+hub_copy rest none (Event (Of slot event)) said = apart (codes "copy") (codes "at") rest said.0 refl said.1
+hub_copy rest none (Settle slot) said = apart (codes "copy") (codes "at") rest said.0 refl said.1
+hub_copy rest none (Event (Put x y row)) said = absurd said
+
+pub hub_hint : (rest : List (List ℕ)) → ((rect : Rect) (sx sy : ℕ) → ¬ (AreMove rest rect sx sy)) → (step : HubStep) → ¬ (SaysHubStep (codes "hint" ∷ rest) step)
+hub_hint rest none (Event (Fill rect colour)) said = apart (codes "hint") (codes "fill") rest said.0 refl said.1
+hub_hint rest none (Event (Copy rect sx sy)) said = apart (codes "hint") (codes "copy") rest said.0 refl said.1
+hub_hint rest none (Event (Hint rect sx sy)) said =
+    let e = tails _ _ rest said.0 said.1 in none rect sx sy (subst (λ (r : List (List ℕ)). AreMove r rect sx sy) e said.2)
+hub_hint rest none (Event (Join slot setup)) said = apart (codes "hint") (codes "join") rest said.0 refl said.1
+hub_hint rest none (Event (Leave slot)) said = apart (codes "hint") (codes "leave") rest said.0 refl said.1
+hub_hint rest none (Event (Foreign slot bytes)) said = apart (codes "hint") (codes "foreign") rest said.0 refl said.1
+hub_hint rest none (Event (Of slot event)) said = apart (codes "hint") (codes "at") rest said.0 refl said.1
+hub_hint rest none (Settle slot) said = apart (codes "hint") (codes "at") rest said.0 refl said.1
+hub_hint rest none (Event (Put x y row)) said = absurd said
+
+pub hub_join : (rest : List (List ℕ)) → ((slot : ℕ) (setup : Setup) → ¬ (AreJoin rest slot setup)) → (step : HubStep) → ¬ (SaysHubStep (codes "join" ∷ rest) step)
+hub_join rest none (Event (Fill rect colour)) said = apart (codes "join") (codes "fill") rest said.0 refl said.1
+hub_join rest none (Event (Copy rect sx sy)) said = apart (codes "join") (codes "copy") rest said.0 refl said.1
+hub_join rest none (Event (Hint rect sx sy)) said = apart (codes "join") (codes "hint") rest said.0 refl said.1
+hub_join rest none (Event (Join slot setup)) said =
+    let e = tails _ _ rest said.0 said.1 in none slot setup (subst (λ (r : List (List ℕ)). AreJoin r slot setup) e said.2)
+hub_join rest none (Event (Leave slot)) said = apart (codes "join") (codes "leave") rest said.0 refl said.1
+hub_join rest none (Event (Foreign slot bytes)) said = apart (codes "join") (codes "foreign") rest said.0 refl said.1
+hub_join rest none (Event (Of slot event)) said = apart (codes "join") (codes "at") rest said.0 refl said.1
+hub_join rest none (Settle slot) said = apart (codes "join") (codes "at") rest said.0 refl said.1
+hub_join rest none (Event (Put x y row)) said = absurd said
+
+pub hub_leave : (rest : List (List ℕ)) → ((slot : ℕ) → ¬ (IsSlotAlone rest slot)) → (step : HubStep) → ¬ (SaysHubStep (codes "leave" ∷ rest) step)
+hub_leave rest none (Event (Fill rect colour)) said = apart (codes "leave") (codes "fill") rest said.0 refl said.1
+hub_leave rest none (Event (Copy rect sx sy)) said = apart (codes "leave") (codes "copy") rest said.0 refl said.1
+hub_leave rest none (Event (Hint rect sx sy)) said = apart (codes "leave") (codes "hint") rest said.0 refl said.1
+hub_leave rest none (Event (Join slot setup)) said = apart (codes "leave") (codes "join") rest said.0 refl said.1
+hub_leave rest none (Event (Leave slot)) said =
+    let e = tails _ _ rest said.0 said.1 in none slot (subst (λ (r : List (List ℕ)). IsSlotAlone r slot) e said.2)
+hub_leave rest none (Event (Foreign slot bytes)) said = apart (codes "leave") (codes "foreign") rest said.0 refl said.1
+hub_leave rest none (Event (Of slot event)) said = apart (codes "leave") (codes "at") rest said.0 refl said.1
+hub_leave rest none (Settle slot) said = apart (codes "leave") (codes "at") rest said.0 refl said.1
+hub_leave rest none (Event (Put x y row)) said = absurd said
+
+pub hub_foreign : (rest : List (List ℕ)) → ((slot : ℕ) (bytes : List ℕ) → ¬ (AreForeign rest slot bytes)) → (step : HubStep) → ¬ (SaysHubStep (codes "foreign" ∷ rest) step)
+hub_foreign rest none (Event (Fill rect colour)) said = apart (codes "foreign") (codes "fill") rest said.0 refl said.1
+hub_foreign rest none (Event (Copy rect sx sy)) said = apart (codes "foreign") (codes "copy") rest said.0 refl said.1
+hub_foreign rest none (Event (Hint rect sx sy)) said = apart (codes "foreign") (codes "hint") rest said.0 refl said.1
+hub_foreign rest none (Event (Join slot setup)) said = apart (codes "foreign") (codes "join") rest said.0 refl said.1
+hub_foreign rest none (Event (Leave slot)) said = apart (codes "foreign") (codes "leave") rest said.0 refl said.1
+hub_foreign rest none (Event (Foreign slot bytes)) said =
+    let e = tails _ _ rest said.0 said.1 in none slot bytes.items (subst (λ (r : List (List ℕ)). AreForeign r slot bytes.items) e said.2)
+hub_foreign rest none (Event (Of slot event)) said = apart (codes "foreign") (codes "at") rest said.0 refl said.1
+hub_foreign rest none (Settle slot) said = apart (codes "foreign") (codes "at") rest said.0 refl said.1
+hub_foreign rest none (Event (Put x y row)) said = absurd said
+
+pub hub_at : (rest : List (List ℕ)) → ((step : HubStep) → ¬ (SaysAt rest step)) → (step : HubStep) → ¬ (SaysHubStep (codes "at" ∷ rest) step)
+hub_at rest none (Event (Fill rect colour)) said = apart (codes "at") (codes "fill") rest said.0 refl said.1
+hub_at rest none (Event (Copy rect sx sy)) said = apart (codes "at") (codes "copy") rest said.0 refl said.1
+hub_at rest none (Event (Hint rect sx sy)) said = apart (codes "at") (codes "hint") rest said.0 refl said.1
+hub_at rest none (Event (Join slot setup)) said = apart (codes "at") (codes "join") rest said.0 refl said.1
+hub_at rest none (Event (Leave slot)) said = apart (codes "at") (codes "leave") rest said.0 refl said.1
+hub_at rest none (Event (Foreign slot bytes)) said = apart (codes "at") (codes "foreign") rest said.0 refl said.1
+hub_at rest none (Event (Of slot event)) said =
+    let e = tails _ _ rest said.0 said.1 in none (Event (Of slot event)) (subst (λ (r : List (List ℕ)). SaysAt r (Event (Of slot event))) e said.2)
+hub_at rest none (Settle slot) said =
+    let e = tails _ _ rest said.0 said.1 in none (Settle slot) (subst (λ (r : List (List ℕ)). SaysAt r (Settle slot)) e said.2)
+hub_at rest none (Event (Put x y row)) said = absurd said
+
+pub says_at : (rest : List (List ℕ)) (step : HubStep) → SaysAt rest step → SaysHubStep (codes "at" ∷ rest) step
+says_at rest (Event (Of slot event)) said = (rest, refl, said)
+says_at rest (Settle slot) said = (rest, refl, said)
+says_at rest (Event (Fill rect colour)) said = absurd said
+says_at rest (Event (Put x y row)) said = absurd said
+says_at rest (Event (Copy rect sx sy)) said = absurd said
+says_at rest (Event (Hint rect sx sy)) said = absurd said
+says_at rest (Event (Join slot setup)) said = absurd said
+says_at rest (Event (Leave slot)) said = absurd said
+says_at rest (Event (Foreign slot bytes)) said = absurd said
+
+-- another keyword has none
+pub no_hub_step : (key : List ℕ) (rest : List (List ℕ)) → key ≢ codes "fill" → key ≢ codes "copy" → key ≢ codes "hint" → key ≢ codes "join" → key ≢ codes "leave" → key ≢ codes "foreign" → key ≢ codes "at" → (step : HubStep) → ¬ (SaysHubStep (key ∷ rest) step)
+no_hub_step key rest nfill ncopy nhint njoin nleave nforeign nat (Event (Fill rect colour)) said = nfill (heads key _ rest said.0 said.1)
+no_hub_step key rest nfill ncopy nhint njoin nleave nforeign nat (Event (Copy rect sx sy)) said = ncopy (heads key _ rest said.0 said.1)
+no_hub_step key rest nfill ncopy nhint njoin nleave nforeign nat (Event (Hint rect sx sy)) said = nhint (heads key _ rest said.0 said.1)
+no_hub_step key rest nfill ncopy nhint njoin nleave nforeign nat (Event (Join slot setup)) said = njoin (heads key _ rest said.0 said.1)
+no_hub_step key rest nfill ncopy nhint njoin nleave nforeign nat (Event (Leave slot)) said = nleave (heads key _ rest said.0 said.1)
+no_hub_step key rest nfill ncopy nhint njoin nleave nforeign nat (Event (Foreign slot bytes)) said = nforeign (heads key _ rest said.0 said.1)
+no_hub_step key rest nfill ncopy nhint njoin nleave nforeign nat (Event (Of slot event)) said = nat (heads key _ rest said.0 said.1)
+no_hub_step key rest nfill ncopy nhint njoin nleave nforeign nat (Settle slot) said = nat (heads key _ rest said.0 said.1)
+no_hub_step key rest nfill ncopy nhint njoin nleave nforeign nat (Event (Put x y row)) said = absurd said
+
+-- a word that is a keyword has the steps of it
+pub no_step_of : (key word : List ℕ) (rest : List (List ℕ)) → bytes_eq key word ≡ true → ((step : HubStep) → ¬ (SaysHubStep (word ∷ rest) step)) → (step : HubStep) → ¬ (SaysHubStep (key ∷ rest) step)
+no_step_of key word rest same none = subst (λ (k : List ℕ). (step : HubStep) → ¬ (SaysHubStep (k ∷ rest) step)) (sym (same_word key word same)) none
+
+pub step_of : (key word : List ℕ) (rest : List (List ℕ)) (step : HubStep) → bytes_eq key word ≡ true → SaysHubStep (word ∷ rest) step → SaysHubStep (key ∷ rest) step
+step_of key word rest step same said = subst (λ (k : List ℕ). SaysHubStep (k ∷ rest) step) (sym (same_word key word same)) said
+
+-- what is behind `at`, by what was read of it
+pub at_read : (key : List ℕ) (rest : List (List ℕ)) → bytes_eq key (codes "at") ≡ true → (r : Option HubStep) → MatchOption r ((step : HubStep) → ¬ (SaysAt rest step)) (SaysAt rest) → MatchOption r ((step : HubStep) → ¬ (SaysHubStep (key ∷ rest) step)) (SaysHubStep (key ∷ rest))
+at_read key rest same None none = no_step_of key (codes "at") rest same (hub_at rest none)
+at_read key rest same (Some step) said = step_of key (codes "at") rest step same (says_at rest step said)
+
+-- no words ask for nothing
+pub no_hub_words : (step : HubStep) → ¬ (SaysHubStep [] step)
+no_hub_words (Event (Fill rect colour)) said = nothing _ said.0 said.1
+no_hub_words (Event (Copy rect sx sy)) said = nothing _ said.0 said.1
+no_hub_words (Event (Hint rect sx sy)) said = nothing _ said.0 said.1
+no_hub_words (Event (Join slot setup)) said = nothing _ said.0 said.1
+no_hub_words (Event (Leave slot)) said = nothing _ said.0 said.1
+no_hub_words (Event (Foreign slot bytes)) said = nothing _ said.0 said.1
+no_hub_words (Event (Of slot event)) said = nothing _ said.0 said.1
+no_hub_words (Settle slot) said = nothing _ said.0 said.1
+no_hub_words (Event (Put x y row)) said = absurd said
+
+-- ---- what is behind a slot
+
+-- the events of a slot
+pub no_slot_event : (key : List ℕ) (rest : List (List ℕ)) → key ≢ codes "request" → key ≢ codes "format" → key ≢ codes "toserver" → key ≢ codes "toviewer" → ((key ≡ codes "compose") → (rest ≡ []) → ⊥) → (event : SlotEvent) → ¬ (SaysEvent (key ∷ rest) (event_of event))
+no_slot_event key rest nr nm ns nv nc (Request incremental rect) said = nr (heads key _ rest said.0 said.1)
+no_slot_event key rest nr nm ns nv nc (SetFormat format) said = nm (heads key _ rest said.0 said.1)
+no_slot_event key rest nr nm ns nv nc (ToServer n) said = ns (heads key _ rest said.0 said.1)
+no_slot_event key rest nr nm ns nv nc (ToViewer n) said = nv (heads key _ rest said.0 said.1)
+no_slot_event key rest nr nm ns nv nc Compose said = nc (heads key _ rest [] said) (sym (tails key _ rest [] said))
+no_slot_event key rest nr nm ns nv nc (SetEncodings encodings) said = absurd said
+no_slot_event key rest nr nm ns nv nc (Key down code) said = absurd said
+no_slot_event key rest nr nm ns nv nc (Pointer buttons x y) said = absurd said
+no_slot_event key rest nr nm ns nv nc (CutText text) said = absurd said
+
+no_slot_words : (event : SlotEvent) → ¬ (SaysEvent [] (event_of event))
+no_slot_words (Request incremental rect) said = nothing _ said.0 said.1
+no_slot_words (SetFormat format) said = nothing _ said.0 said.1
+no_slot_words (ToServer n) said = nothing _ said.0 said.1
+no_slot_words (ToViewer n) said = nothing _ said.0 said.1
+no_slot_words Compose said = nothing _ [] said
+no_slot_words (SetEncodings encodings) said = absurd said
+no_slot_words (Key down code) said = absurd said
+no_slot_words (Pointer buttons x y) said = absurd said
+no_slot_words (CutText text) said = absurd said
+
+-- nothing that is behind a slot
+no_at : (words : List (List ℕ)) → ((slot : ℕ) (Holds : List (List ℕ) → Type 0) → ¬ (IsBehindSlot slot words Holds)) → (step : HubStep) → ¬ (SaysAt words step)
+no_at words none (Event (Of slot event)) said = none slot _ said
+no_at words none (Settle slot) said = none slot _ said
+no_at words none (Event (Fill rect colour)) said = absurd said
+no_at words none (Event (Put x y row)) said = absurd said
+no_at words none (Event (Copy rect sx sy)) said = absurd said
+no_at words none (Event (Hint rect sx sy)) said = absurd said
+no_at words none (Event (Join slot setup)) said = absurd said
+no_at words none (Event (Leave slot)) said = absurd said
+no_at words none (Event (Foreign slot bytes)) said = absurd said
+
+pub no_at_words : (words : List (Bor (List ℕ))) → length words ≡ 0 → (step : HubStep) → ¬ (SaysAt (texts words) step)
+no_at_words words none = no_at (texts words) (λ slot Holds. nothing_behind words Holds none slot)
+
+pub no_at_slot : (words : List (Bor (List ℕ))) (first : Bor (List ℕ)) (rest : List (Bor (List ℕ))) → words ≡ first ∷ rest → ((slot : ℕ) → first.now ≡ (48 + slot) ∷ [] → slot ≤ 9 → ⊥) → (step : HubStep) → ¬ (SaysAt (texts words) step)
+no_at_slot words first rest e none = no_at (texts words) (λ slot Holds. no_slot_first words first rest Holds e (λ s is. none s is.0 is.1) slot)
+
+-- neither an event of a slot nor a settle is behind it
+pub no_at_line : (words : List (Bor (List ℕ))) (first : Bor (List ℕ)) (rest : List (Bor (List ℕ))) → words ≡ first ∷ rest → ((event : SlotEvent) → ¬ (SaysEvent (texts rest) (event_of event))) → ¬ (texts rest ≡ codes "settle" ∷ []) → (step : HubStep) → ¬ (SaysAt (texts words) step)
+no_at_line words first rest e none settle (Event (Of slot event)) said = none_behind words first rest (λ (line : List (List ℕ)). SaysEvent line (event_of event)) e (none event) slot said
+no_at_line words first rest e none settle (Settle slot) said = none_behind words first rest (λ (line : List (List ℕ)). line ≡ codes "settle" ∷ []) e settle slot said
+no_at_line words first rest e none settle (Event (Fill rect colour)) said = absurd said
+no_at_line words first rest e none settle (Event (Put x y row)) said = absurd said
+no_at_line words first rest e none settle (Event (Copy rect sx sy)) said = absurd said
+no_at_line words first rest e none settle (Event (Hint rect sx sy)) said = absurd said
+no_at_line words first rest e none settle (Event (Join slot setup)) said = absurd said
+no_at_line words first rest e none settle (Event (Leave slot)) said = absurd said
+no_at_line words first rest e none settle (Event (Foreign slot bytes)) said = absurd said
+
+-- nothing is behind it
+pub no_at_end : (words : List (Bor (List ℕ))) (first : Bor (List ℕ)) (rest : List (Bor (List ℕ))) → words ≡ first ∷ rest → length rest ≡ 0 → (step : HubStep) → ¬ (SaysAt (texts words) step)
+no_at_end words first rest e none =
+    let empty = no_texts rest none in
+    no_at_line words first rest e (λ event. rw empty (no_slot_words event)) (λ settle. nothing (codes "settle") [] (sym empty ∙ settle))
+
+-- ---- no line has nine words
+
+begins_length : (n : ℕ) (key : List ℕ) (words rest : List (List ℕ)) → words ≡ key ∷ rest → length rest ≤ n → length words ≤ n + 1
+begins_length n key words rest e few = let s = ap (λ (l : List (List ℕ)). length l) e in omega (arith, s, few)
+
+slot_event_length : (line : List (List ℕ)) (event : SlotEvent) → SaysEvent line (event_of event) → length line ≤ 6
+slot_event_length line (Request incremental rect) said = begins_length 5 _ line said.0 said.1 (let s = ap (λ (l : List (List ℕ)). length l) said.2.4 in omega (arith, s))
+slot_event_length line (SetFormat format) said = begins_length 5 _ line said.0 said.1 (let s = ap (λ (l : List (List ℕ)). length l) said.2.1 in omega (arith, s))
+slot_event_length line (ToServer n) said = begins_length 5 _ line said.0 said.1 (let s = ap (λ (l : List (List ℕ)). length l) said.2.1 in omega (arith, s))
+slot_event_length line (ToViewer n) said = begins_length 5 _ line said.0 said.1 (let s = ap (λ (l : List (List ℕ)). length l) said.2.1 in omega (arith, s))
+slot_event_length line Compose said = begins_length 5 _ line [] said (omega arith)
+slot_event_length line (SetEncodings encodings) said = absurd said
+slot_event_length line (Key down code) said = absurd said
+slot_event_length line (Pointer buttons x y) said = absurd said
+slot_event_length line (CutText text) said = absurd said
+
+pub too_many_in_hub : (words : List (List ℕ)) → 8 < length words → (step : HubStep) → ¬ (SaysHubStep words step)
+too_many_in_hub words many = go
+  where
+    over : (key : List ℕ) (rest : List (List ℕ)) → words ≡ key ∷ rest → length rest ≤ 7 → ⊥
+    over key rest e few = let s = begins_length 7 key words rest e few in omega (arith, s, many)
+
+    go : (step : HubStep) → ¬ (SaysHubStep words step)
+    go (Event (Fill rect colour)) said = over _ said.0 said.1 (let s = ap (λ (l : List (List ℕ)). length l) said.2.5 in omega (arith, s))
+    go (Event (Copy rect sx sy)) said = over _ said.0 said.1 (let s = ap (λ (l : List (List ℕ)). length l) said.2.6 in omega (arith, s))
+    go (Event (Hint rect sx sy)) said = over _ said.0 said.1 (let s = ap (λ (l : List (List ℕ)). length l) said.2.6 in omega (arith, s))
+    go (Event (Leave slot)) said = over _ said.0 said.1 (let s = ap (λ (l : List (List ℕ)). length l) said.2.1 in omega (arith, s))
+    go (Event (Foreign slot bytes)) said = over _ said.0 said.1 (let s = ap (λ (l : List (List ℕ)). length l) said.2.2 in omega (arith, s))
+    go (Event (Join slot setup)) said =
+        let a = ap (λ (l : List (List ℕ)). length l) said.2.2 in
+        let b = ap (λ (l : List (List ℕ)). length l) said.2.4.1.1 in
+        let c = ap (λ (l : List (List ℕ)). length l) said.2.4.1.2.2 in
+        over _ said.0 said.1 (omega (arith, a, b, c, said.2.4.1.2.4.2))
+    go (Event (Of slot event)) said =
+        let a = ap (λ (l : List (List ℕ)). length l) said.2.2 in
+        let b = slot_event_length said.2.1 event said.2.4 in
+        over _ said.0 said.1 (omega (arith, a, b))
+    go (Settle slot) said =
+        let a = ap (λ (l : List (List ℕ)). length l) said.2.2 in
+        let b = ap (λ (l : List (List ℕ)). length l) said.2.4 in
+        over _ said.0 said.1 (omega (arith, a, b))
+    go (Event (Put x y row)) said = absurd said
+
+pub too_many_for_hub : (words : List (List ℕ)) → 8 < length words → (size : Size) → ¬ (SaysHub words size)
+too_many_for_hub words many size said =
+    let a = ap (λ (l : List (List ℕ)). length l) said.1 in
+    let b = ap (λ (l : List (List ℕ)). length l) said.2.2 in
+    omega (arith, a, b, many)
+
+pub too_many_for_show : (words : List (List ℕ)) → 8 < length words → (slot : ℕ) → ¬ (SaysShow words slot)
+too_many_for_show words many slot said =
+    let a = ap (λ (l : List (List ℕ)). length l) said.1 in
+    let b = ap (λ (l : List (List ℕ)). length l) said.2.1 in
+    omega (arith, a, b, many)
+
+-- ---- foreign bytes
+
+pub eq_of_ne : (b r : Bool) → r ≡ not b → r ≡ false → b ≡ true
+eq_of_ne true r is none = refl
+eq_of_ne false r is none = let e : true ≡ false = sym is ∙ none in cc
+
+pub foreign_found : (words : List (Bor (List ℕ))) (first : Bor (List ℕ)) (rest : List (Bor (List ℕ))) (slot : ℕ) (bytes : List ℕ) → words ≡ first ∷ rest → bytes_eq first.now (codes "foreign") ≡ true → AreForeign (texts rest) slot bytes → Begins (codes "foreign") (texts words) (λ r. AreForeign r slot bytes)
+foreign_found words first rest slot bytes e same are = (texts rest, words_are words first rest (codes "foreign") e same, are)
+
+pub foreign_none : (words : List (Bor (List ℕ))) (first : Bor (List ℕ)) (rest : List (Bor (List ℕ))) → words ≡ first ∷ rest → bytes_eq first.now (codes "foreign") ≡ true → ((slot : ℕ) (bytes : List ℕ) → ¬ (AreForeign (texts rest) slot bytes)) → (step : HubStep) → ¬ (SaysHubStep (texts words) step)
+foreign_none words first rest e same none step said =
+    no_step_of first.now (codes "foreign") (texts rest) same (hub_foreign (texts rest) none) step (subst (λ (ws : List (List ℕ)). SaysHubStep ws step) (split_texts words first rest e) said)
+
+-- ---- the first line, and the last
+
+pub hub_line : (all : List (List ℕ)) (words : List (Bor (List ℕ))) (first : Bor (List ℕ)) (rest : List (Bor (List ℕ))) → texts words ≡ all → words ≡ first ∷ rest → bytes_eq first.now (codes "hub") ≡ true → (r : Option Size) → MatchOption r ((size : Size) → ¬ (AreSize (texts rest) size)) (AreSize (texts rest))
+    → MatchOption r (¬ ((size : Size) × SaysHub all size)) (SaysHub all)
+hub_line all words first rest is e same None none = λ gives.
+    none gives.0 (subst (λ (r : List (List ℕ)). AreSize r gives.0) (tails (codes "hub") (codes "hub") (texts rest) gives.1.0 (sym (words_are words first rest (codes "hub") e same) ∙ is ∙ gives.1.1)) gives.1.2)
+hub_line all words first rest is e same (Some size) are = (texts rest, sym is ∙ words_are words first rest (codes "hub") e same, are)
+
+pub show_line : (all : List (List ℕ)) (words : List (Bor (List ℕ))) (first : Bor (List ℕ)) (rest : List (Bor (List ℕ))) → texts words ≡ all → words ≡ first ∷ rest → bytes_eq first.now (codes "show") ≡ true → (r : Option ℕ) → MatchOption r ((slot : ℕ) → ¬ (IsSlotAlone (texts rest) slot)) (IsSlotAlone (texts rest))
+    → MatchOption r (¬ ((slot : ℕ) × SaysShow all slot)) (SaysShow all)
+show_line all words first rest is e same None none = λ gives.
+    none gives.0 (subst (λ (r : List (List ℕ)). IsSlotAlone r gives.0) (tails (codes "show") (codes "show") (texts rest) gives.1.0 (sym (words_are words first rest (codes "show") e same) ∙ is ∙ gives.1.1)) gives.1.2)
+show_line all words first rest is e same (Some slot) are = (texts rest, sym is ∙ words_are words first rest (codes "show") e same, are)
+
+pub other_first : (all : List (List ℕ)) (words : List (Bor (List ℕ))) (first : Bor (List ℕ)) (rest : List (Bor (List ℕ))) (key : List ℕ) → texts words ≡ all → words ≡ first ∷ rest → bytes_eq first.now key ≡ false → (more : List (List ℕ)) → ¬ (all ≡ key ∷ more)
+other_first all words first rest key is e other more said =
+    other_word first.now key other (heads first.now key (texts rest) more (sym (split_texts words first rest e) ∙ is ∙ said))
+
+pub no_first : (all : List (List ℕ)) (words : List (Bor (List ℕ))) (key : List ℕ) → texts words ≡ all → length words ≡ 0 → (more : List (List ℕ)) → ¬ (all ≡ key ∷ more)
+no_first all words key is none more said = nothing key more (sym (no_texts words none) ∙ is ∙ said)
+
+-- ---- no step has too many bytes
+
+few_slot_event : (line : List (List ℕ)) (slot : ℕ) (event : SlotEvent) → SaysEvent line (event_of event) → HasFewInHub (Event (Of slot event))
+few_slot_event line slot (Request incremental rect) said = omega arith
+few_slot_event line slot (SetFormat format) said = omega arith
+few_slot_event line slot (SetEncodings encodings) said = omega arith
+few_slot_event line slot (Key down code) said = omega arith
+few_slot_event line slot (Pointer buttons x y) said = omega arith
+few_slot_event line slot Compose said = omega arith
+few_slot_event line slot (ToServer n) said = omega arith
+few_slot_event line slot (ToViewer n) said = omega arith
+few_slot_event line slot (CutText text) said = absurd said
+
+pub few_in_hub : (words : List (List ℕ)) (step : HubStep) → SaysHubStep words step → HasFewInHub step
+few_in_hub words (Event (Fill rect colour)) said = omega arith
+few_in_hub words (Event (Put x y row)) said = omega arith
+few_in_hub words (Event (Copy rect sx sy)) said = omega arith
+few_in_hub words (Event (Hint rect sx sy)) said = omega arith
+few_in_hub words (Event (Join slot setup)) said = omega arith
+few_in_hub words (Event (Leave slot)) said = omega arith
+few_in_hub words (Event (Of slot event)) said = few_slot_event said.2.1 slot event said.2.4
+few_in_hub words (Event (Foreign slot bytes)) said = omega (arith, said.2.4.2)
+few_in_hub words (Settle slot) said = omega arith

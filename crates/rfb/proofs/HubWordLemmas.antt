@@ -1,0 +1,109 @@
+-- Words of a line of a hub's script: as many as they have to be, each for its value.
+use Rattle.std.proofs.Common.{◌≡◌, ◌≢◌, ◌≤◌, ◌+◌, ◌∙◌, ap, sym, refl, subst, Bool, true, false, Option, Some, None, MatchOption, length, ℕ, List, [], ◌∷◌, Bor, Ok, Err, Result, inl, inr, ◌⊎◌, arith, codes}
+use Rattle.hex.specs.Hex.{decode_of}
+use Rattle.hex.specs.declared.error.FromHexError.{FromHexError}
+use Rattle.rfb_session.specs.declared.hub.event.Setup.{Setup}
+use Rattle.rfb.specs.declared.script.line.Wants.{Wants}
+use Rattle.rfb.specs.HubScript.{AreForeign, AreJoin, AreSetup, IsBehindSlot, IsHexWord, IsSetup, IsSlotAlone, IsSlotWord, kind_of_join}
+use Rattle.rfb.specs.Script.{Begins}
+use Rattle.rfb.specs.Words.{AreWants, texts}
+use Rattle.rfb.proofs.ArgumentLemmas.{word, one_words, two_words}
+use Rattle.rfb.proofs.ScriptLemmas.{heads, nothing, no_texts, other_word, tails, texts_length}
+
+-- ---- a slot
+
+pub other_length : (w : List ℕ) → length w ≢ 1 → (slot : ℕ) → ¬ (IsSlotWord w slot)
+other_length w other slot said = other (ap (λ (l : List ℕ). length l) said.0)
+
+pub one_of : (a b : ℕ) → a ∷ [] ≡ b ∷ [] → a ≡ b
+one_of a b e = cc
+
+pub no_slot_alone : (words : List (Bor (List ℕ))) (d : Bor (List ℕ)) → length words ≡ 1 → ((slot : ℕ) → ¬ (IsSlotWord (word words 0 d) slot)) → (slot : ℕ) → ¬ (IsSlotAlone (texts words) slot)
+no_slot_alone words d len none slot said =
+    let f = sym (one_words words d len) ∙ said.1 in
+    let e0 : word words 0 d ≡ said.0 = cc in
+    none slot (rw e0 said.2)
+
+pub not_slot_alone : (words : List (Bor (List ℕ))) → length words ≢ 1 → (slot : ℕ) → ¬ (IsSlotAlone (texts words) slot)
+not_slot_alone words other slot said =
+    let s : length (texts words) ≡ 1 = ap (λ (l : List (List ℕ)). length l) said.1 in
+    other (sym (texts_length words) ∙ s)
+
+pub slot_alone : (words : List (Bor (List ℕ))) (d : Bor (List ℕ)) → length words ≡ 1 → (r : Option ℕ) → MatchOption r ((slot : ℕ) → ¬ (IsSlotWord (word words 0 d) slot)) (IsSlotWord (word words 0 d))
+    → MatchOption r ((slot : ℕ) → ¬ (IsSlotAlone (texts words) slot)) (IsSlotAlone (texts words))
+slot_alone words d len None none = no_slot_alone words d len none
+slot_alone words d len (Some slot) is = (word words 0 d, one_words words d len, is)
+
+-- ---- a slot, and what is behind it
+
+pub split_texts : (words : List (Bor (List ℕ))) (first : Bor (List ℕ)) (rest : List (Bor (List ℕ))) → words ≡ first ∷ rest → texts words ≡ first.now ∷ texts rest
+split_texts words first rest e = ap (λ (ws : List (Bor (List ℕ))). texts ws) e
+
+pub nothing_behind : (words : List (Bor (List ℕ))) (Holds : List (List ℕ) → Type 0) → length words ≡ 0 → (slot : ℕ) → ¬ (IsBehindSlot slot (texts words) Holds)
+nothing_behind words Holds none slot said = nothing said.0 said.1 (sym (no_texts words none) ∙ said.2)
+
+pub no_slot_first : (words : List (Bor (List ℕ))) (first : Bor (List ℕ)) (rest : List (Bor (List ℕ))) (Holds : List (List ℕ) → Type 0) → words ≡ first ∷ rest → ((slot : ℕ) → ¬ (IsSlotWord first.now slot)) → (slot : ℕ) → ¬ (IsBehindSlot slot (texts words) Holds)
+no_slot_first words first rest Holds e none slot said =
+    let same : first.now ≡ said.0 = heads first.now said.0 (texts rest) said.1 (sym (split_texts words first rest e) ∙ said.2) in
+    none slot (rw same said.3)
+
+pub none_behind : (words : List (Bor (List ℕ))) (first : Bor (List ℕ)) (rest : List (Bor (List ℕ))) (Holds : List (List ℕ) → Type 0) → words ≡ first ∷ rest → ¬ (Holds (texts rest)) → (slot : ℕ) → ¬ (IsBehindSlot slot (texts words) Holds)
+none_behind words first rest Holds e none slot said =
+    none (subst (λ (r : List (List ℕ)). Holds r) (tails first.now said.0 (texts rest) said.1 (sym (split_texts words first rest e) ∙ said.2)) said.4)
+
+pub is_behind : (words : List (Bor (List ℕ))) (first : Bor (List ℕ)) (rest : List (Bor (List ℕ))) (Holds : List (List ℕ) → Type 0) (slot : ℕ) → words ≡ first ∷ rest → IsSlotWord first.now slot → Holds (texts rest) → IsBehindSlot slot (texts words) Holds
+is_behind words first rest Holds slot e is holds = (first.now, texts rest, split_texts words first rest e, is, holds)
+
+-- ---- what a viewer that joins is made with
+
+pub no_setup_words : (words : List (Bor (List ℕ))) → length words ≡ 0 → (setup : Setup) → ¬ (AreSetup (texts words) setup)
+no_setup_words words none setup said = nothing (kind_of_join setup.shared) said.1.0 (sym (no_texts words none) ∙ said.1.1)
+
+pub no_setup_kind : (words : List (Bor (List ℕ))) (first : Bor (List ℕ)) (rest : List (Bor (List ℕ))) → words ≡ first ∷ rest → ((shared : Bool) → ¬ (first.now ≡ kind_of_join shared)) → (setup : Setup) → ¬ (AreSetup (texts words) setup)
+no_setup_kind words first rest e none setup said =
+    none setup.shared (heads first.now (kind_of_join setup.shared) (texts rest) said.1.0 (sym (split_texts words first rest e) ∙ said.1.1))
+
+pub no_setup_wants : (words : List (Bor (List ℕ))) (first : Bor (List ℕ)) (rest : List (Bor (List ℕ))) → words ≡ first ∷ rest → ((wants : Wants) → ¬ (AreWants (texts rest) wants)) → (setup : Setup) → ¬ (AreSetup (texts words) setup)
+no_setup_wants words first rest e none setup said =
+    none said.0 (subst (λ (r : List (List ℕ)). AreWants r said.0) (tails first.now (kind_of_join setup.shared) (texts rest) said.1.0 (sym (split_texts words first rest e) ∙ said.1.1)) said.1.2)
+
+pub is_setup : (words : List (Bor (List ℕ))) (first : Bor (List ℕ)) (rest : List (Bor (List ℕ))) (setup : Setup) (wants : Wants) → words ≡ first ∷ rest → first.now ≡ kind_of_join setup.shared → AreWants (texts rest) wants → IsSetup wants setup → AreSetup (texts words) setup
+is_setup words first rest setup wants e kind are is =
+    (wants, (texts rest, split_texts words first rest e ∙ ap (λ (w : List ℕ). w ∷ texts rest) kind, are), is)
+
+-- no other word is a kind of joining
+pub no_join_kind : (w : List ℕ) → w ≢ codes "shared" → w ≢ codes "sole" → (shared : Bool) → ¬ (w ≡ kind_of_join shared)
+no_join_kind w shared sole true e = shared e
+no_join_kind w shared sole false e = sole e
+
+-- ---- foreign bytes
+
+pub no_foreign_slot : (words : List (Bor (List ℕ))) (d : Bor (List ℕ)) → length words ≡ 2 → ((slot : ℕ) → ¬ (IsSlotWord (word words 0 d) slot)) → (slot : ℕ) (bytes : List ℕ) → ¬ (AreForeign (texts words) slot bytes)
+no_foreign_slot words d len none slot bytes said =
+    let f = sym (two_words words d len) ∙ said.2 in
+    let e0 : word words 0 d ≡ said.0 = cc in
+    none slot (rw e0 said.3)
+
+pub no_foreign_bytes : (words : List (Bor (List ℕ))) (d : Bor (List ℕ)) → length words ≡ 2 → ((bytes : List ℕ) → ¬ (IsHexWord (word words 1 d) bytes)) → (slot : ℕ) (bytes : List ℕ) → ¬ (AreForeign (texts words) slot bytes)
+no_foreign_bytes words d len none slot bytes said =
+    let f = sym (two_words words d len) ∙ said.2 in
+    let e1 : word words 1 d ≡ said.1 = cc in
+    none bytes (rw e1 said.4)
+
+pub not_foreign : (words : List (Bor (List ℕ))) → length words ≢ 2 → (slot : ℕ) (bytes : List ℕ) → ¬ (AreForeign (texts words) slot bytes)
+not_foreign words other slot bytes said =
+    let s : length (texts words) ≡ 2 = ap (λ (l : List (List ℕ)). length l) said.2 in
+    other (sym (texts_length words) ∙ s)
+
+pub is_foreign : (words : List (Bor (List ℕ))) (d : Bor (List ℕ)) → length words ≡ 2 → (slot : ℕ) (bytes : List ℕ) → IsSlotWord (word words 0 d) slot → IsHexWord (word words 1 d) bytes → AreForeign (texts words) slot bytes
+is_foreign words d len slot bytes is hex = (word words 0 d, word words 1 d, two_words words d len, is, hex)
+
+-- a word that decodes to other bytes, or to none, is no hexadecimal word
+pub not_hex : (w bytes : List ℕ) → decode_of w ≡ Ok bytes → (1 ≤ length bytes → length bytes ≤ 64 → ⊥) → (other : List ℕ) → ¬ (IsHexWord w other)
+not_hex w bytes e out other said =
+    let both : Ok bytes ≡ Ok other = sym e ∙ said.0 in
+    let same : bytes ≡ other = cc in
+    out (rw same said.1) (rw same said.2)
+
+pub no_hex : (w : List ℕ) (error : FromHexError) → decode_of w ≡ Err error → (other : List ℕ) → ¬ (IsHexWord w other)
+no_hex w error e other said = let both : Err error ≡ Ok other = sym e ∙ said.0 in cc

@@ -1,0 +1,9 @@
+-- So many turns led to this hub, and were told so.
+use Rattle.rfb.specs.HubPlaying.{LeadsHub, TellsLine, deliveries_in}
+use Rattle.rfb.proofs.playing.hub.settle.Given as goal
+
+abbrev pub invariant-loop-turn : goal.invariant-loop-turn
+invariant-loop-turn l = record {
+  leads : LeadsHub l.initial.hub (deliveries_in l.slot l._turn) l.hub;
+  told : TellsLine l.initial.hub (deliveries_in l.slot l._turn) l.all l.hub;
+}

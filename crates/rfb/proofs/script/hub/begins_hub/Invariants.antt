@@ -1,0 +1,7 @@
+-- The lines so far are empty.
+use Rattle.rfb.specs.Script.{AreEmpty}
+use Rattle.rfb.specs.Words.{texts}
+use Rattle.rfb.proofs.script.hub.begins_hub.Given as goal
+
+abbrev pub invariant-loop-line : goal.invariant-loop-line
+invariant-loop-line l = AreEmpty (texts l.yielded)

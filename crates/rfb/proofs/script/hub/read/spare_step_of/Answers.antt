@@ -1,0 +1,14 @@
+use Rattle.std.proofs.Common.{◌∙◌, sym, codes}
+use Rattle.rfb.proofs.HubStepLemmas.{at_read, no_step_of, hub_join, hub_leave}
+use Rattle.rfb.proofs.script.hub.read.spare_step_of.Goals as goal
+
+pub returns-in_err-slot : goal.returns-in_err-slot
+returns-in_err-slot c =
+    rw c.from_residual.ensures (no_step_of c.args.keyword.now (codes "join") _ (sym c.eq.ensures ∙ c.if-eq.true) (hub_join _ c.in_err-slot.ensures))
+
+pub returns-in_err-read_only_slot : goal.returns-in_err-read_only_slot
+returns-in_err-read_only_slot c =
+    rw c.from_residual-in_err-read_only_slot.ensures (no_step_of c.args.keyword.now (codes "leave") _ (sym c.eq-2.ensures ∙ c.if-eq-2.true) (hub_leave _ c.in_err-read_only_slot.ensures))
+
+pub returns-then-eq-3 : goal.returns-then-eq-3
+returns-then-eq-3 c = at_read c.args.keyword.now _ (sym c.eq-3.ensures ∙ c.if-eq-3.true) c.step_at.result c.step_at.ensures
