@@ -8,6 +8,9 @@ use crate::script::words::{read_colour, read_encoding, read_format, read_side};
 use std::io;
 use std::io::Write;
 
+// The word that the first line of a hub's script begins with.
+const HUB: &[u8] = b"hub";
+
 // What a word behind the first one is to be.
 #[derive(Clone, Copy, Debug)]
 enum Kind {
@@ -122,6 +125,12 @@ fn tell_words<N: Write>(line: &[u8], is_first: bool, notes: &mut N) -> io::Resul
     let Some(keyword) = line.split(|byte| *byte == b' ').next() else {
         return Ok(());
     };
+    if keyword == HUB {
+        return writeln!(
+            notes,
+            ": `hub W H`, each side 1 to 4096, stands first, with `rfb script`"
+        );
+    }
     let Some(kinds) = kinds_of(keyword) else {
         return writeln!(
             notes,

@@ -28,6 +28,10 @@ const BAD_LINES: &[(&str, &str)] = &[
     ("paint 1", " begins with `paint`, as no line does"),
     ("screen 2 1", ": `screen W H` stands first, and once"),
     (
+        "hub 2 1",
+        ": `hub W H`, each side 1 to 4096, stands first, with `rfb script`",
+    ),
+    (
         "fill 0 0 1 1",
         " has 4 words behind its first, and 5 are due",
     ),
