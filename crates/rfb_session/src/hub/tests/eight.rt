@@ -68,8 +68,17 @@ fn join_all(hub: &mut Hub) -> bool {
     all
 }
 
-// Each viewer asks for the row, and is sent what is due.
-fn update_all(hub: &mut Hub, incremental: bool) -> u32 {
+// Whether the viewer of a slot is sent an update.
+fn composes(hub: &mut Hub, slot: u8) -> bool {
+    match step(hub, HubEvent::Of(slot, SlotEvent::Compose)) {
+        Some(told) => told.composed,
+        None => false,
+    }
+}
+
+// Each viewer asks for the row, and is sent what is due. Bit k is set where slot k was sent an
+// update.
+fn update_all(hub: &mut Hub, incremental: bool) -> u8 {
     let mut composed = 0;
     for slot in 0..8 {
         let _asked = step(
@@ -79,8 +88,8 @@ fn update_all(hub: &mut Hub, incremental: bool) -> u32 {
     }
     trickle(hub);
     for slot in 0..8 {
-        if let Some(told) = step(hub, HubEvent::Of(slot, SlotEvent::Compose)) {
-            composed += u32::from(told.composed);
+        if composes(hub, slot) {
+            composed |= 1 << slot;
         }
     }
     trickle(hub);
@@ -130,10 +139,10 @@ fn run_all(hub: &mut Hub, alloc: Global) -> Result<[bool; 6], AllocError> {
     let joined = join_all(hub);
     let drawn = draw(hub, Rect { w: 1, ..ROW }, RED)
         && draw(hub, Rect { x: 1, w: 1, ..ROW }, WHITE);
-    let first = update_all(hub, false) == 8 && all_show(hub, [RED, WHITE, BLACK, BLACK]);
+    let first = update_all(hub, false) == 0b1111_1111 && all_show(hub, [RED, WHITE, BLACK, BLACK]);
     let failed = fail_seventh(hub, alloc)?;
     let scrolled = scroll(hub) && draw(hub, Rect { w: 2, ..ROW }, BLACK);
-    let second = update_all(hub, true) == 7 && all_show(hub, [BLACK, BLACK, RED, WHITE]);
+    let second = update_all(hub, true) == 0b0111_1111 && all_show(hub, [BLACK, BLACK, RED, WHITE]);
     Ok([
         joined,
         drawn,
