@@ -33,6 +33,7 @@ rfb_server tests::memory::a_text_that_was_refused_memory_fails_the_server_for_go
 rfb_viewer tests::long_texts::want_of_memory_is_told_for_good 0
 rfb_viewer tests::calls::a_text_without_memory_leaves_the_buffer 1
 rfb_session world::tests::memory::a_world_that_is_refused_memory_is_closed 0
+rfb_session hub::tests::memory::a_hub_that_is_refused_memory_is_closed 0
 '
 
 # The call numbered by REFUSE fails, and makes the file named by REFUSED. A run has a minute; `timeout`
