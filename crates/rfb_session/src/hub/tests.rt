@@ -5,6 +5,7 @@ ghost use Rattle.rfb_session.specs.Hub.{HasFewHubBytes};
 
 mod eight;
 mod hostile;
+mod lots;
 mod memory;
 mod sole;
 

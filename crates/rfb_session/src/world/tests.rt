@@ -6,7 +6,7 @@ mod calls;
 mod cuts;
 mod failed;
 mod lists;
-mod machine;
+pub(crate) mod machine;
 mod memory;
 
 use super::World;

@@ -4,9 +4,9 @@
 ghost use Rattle.std.specs.Prelude.{◌≤◌};
 
 mod beside;
-mod lot;
+pub(crate) mod lot;
 mod places;
-mod plain;
+pub(crate) mod plain;
 mod queue;
 mod stepping;
 
@@ -17,7 +17,7 @@ use plain::{Making, Plain};
 // Worlds of 3 versions by 3, of 3 formats, and of 28 lists of encodings.
 const WORLDS: u16 = 756;
 
-fn version_of(number: u16) -> Version {
+pub(crate) fn version_of(number: u16) -> Version {
     match number % 3 {
         0 => Version::V33,
         1 => Version::V37,
@@ -25,7 +25,7 @@ fn version_of(number: u16) -> Version {
     }
 }
 
-fn format_of(number: u16) -> Format {
+pub(crate) fn format_of(number: u16) -> Format {
     match number % 3 {
         0 => Format::rgb888(),
         1 => Format::rgb565(),
@@ -34,7 +34,7 @@ fn format_of(number: u16) -> Format {
 }
 
 // All encodings in one of their 24 orders, or behind these one of the four alone.
-fn encodings_of(number: u16) -> ArrayVec<Encoding, 4> {
+pub(crate) fn encodings_of(number: u16) -> ArrayVec<Encoding, 4> {
     let mut order = [
         Encoding::Raw,
         Encoding::CopyRect,

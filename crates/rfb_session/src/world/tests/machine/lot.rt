@@ -10,17 +10,17 @@ use std::alloc::{AllocError, Global};
 
 /// What is drawn next.
 #[derive(Drop)]
-pub(super) struct Lot {
+pub(crate) struct Lot {
     state: u64,
 }
 
 impl Lot {
-    pub(super) fn new(seed: u64) -> Lot {
+    pub(crate) fn new(seed: u64) -> Lot {
         Lot { state: seed }
     }
 
     /// A number up to `most`.
-    pub(super) fn up_to(&mut self, most: u16) -> u16
+    pub(crate) fn up_to(&mut self, most: u16) -> u16
         ensures { result ≤ most }
     {
         self.state = self
@@ -31,7 +31,7 @@ impl Lot {
     }
 
     /// An event at a screen of that size.
-    pub(super) fn event(
+    pub(crate) fn event(
         &mut self,
         alloc: Global,
         width: u16,

@@ -31,7 +31,7 @@ pub(super) struct Place {
 
 /// All places of a screen.
 #[derive(Drop)]
-pub(super) struct Places {
+pub(crate) struct Places {
     list: Vec<Place>,
 }
 
@@ -107,6 +107,12 @@ impl Places {
         Ok(Places { list })
     }
 
+    pub(crate) fn copied(&self, alloc: Global) -> Result<Places, AllocError> {
+        Ok(Places {
+            list: self.list.as_slice().to_vec(alloc)?,
+        })
+    }
+
     pub(super) fn fill(&mut self, rect: Rect, colour: Colour) {
         for place in &mut self.list {
             if has(rect, place.x, place.y) {
@@ -144,9 +150,7 @@ impl Places {
         sx: u16,
         sy: u16,
     ) -> Result<(), AllocError> {
-        let before = Places {
-            list: self.list.as_slice().to_vec(alloc)?,
-        };
+        let before = self.copied(alloc)?;
         for place in &mut self.list {
             if has(rect, place.x, place.y) {
                 let x = sx.saturating_add(place.x.saturating_sub(rect.x));

@@ -13,37 +13,37 @@ use std::alloc::{AllocError, Global};
 
 /// What both ends are made with: the lower of two versions, and the viewer's format and encodings.
 #[derive(Drop)]
-pub(super) struct Making {
-    pub(super) width: u16,
-    pub(super) height: u16,
-    pub(super) version: Version,
-    pub(super) format: Format,
-    pub(super) encodings: ArrayVec<Encoding, 4>,
+pub(crate) struct Making {
+    pub(crate) width: u16,
+    pub(crate) height: u16,
+    pub(crate) version: Version,
+    pub(crate) format: Format,
+    pub(crate) encodings: ArrayVec<Encoding, 4>,
 }
 
 /// Both ends, with what is in flight between them.
 #[derive(Drop)]
-pub(super) struct Plain {
+pub(crate) struct Plain {
     alloc: Global,
-    pub(super) width: u16,
-    pub(super) height: u16,
+    pub(crate) width: u16,
+    pub(crate) height: u16,
     pub(super) version: Version,
     // The viewer's format, and how many encodings it lists at first.
     pub(super) format: Format,
     pub(super) encodings: usize,
     // Whether no encoding but Raw was ever listed.
     pub(super) is_raw: bool,
-    pub(super) is_serving: bool,
+    pub(crate) is_serving: bool,
     pub(super) has_screen: bool,
     pub(super) is_viewing: bool,
     pub(super) is_outstanding: bool,
     pub(super) server_format: Format,
-    pub(super) to_server: Queue,
-    pub(super) to_viewer: Queue,
-    pub(super) places: Places,
+    pub(crate) to_server: Queue,
+    pub(crate) to_viewer: Queue,
+    pub(crate) places: Places,
     // Whether an update is in flight, and whether the latest delivery ended one.
     pub(super) is_updating: bool,
-    pub(super) has_ended: bool,
+    pub(crate) has_ended: bool,
     /// How many updates have arrived whole.
     pub(super) updates: u32,
 }
@@ -55,7 +55,7 @@ fn outside_unless(inside: bool) -> Option<Refused> {
 
 impl Plain {
     /// Two fresh ends: the server's greeting of twelve bytes is in flight.
-    pub(super) fn new(alloc: Global, making: &Making) -> Result<Plain, AllocError> {
+    pub(crate) fn new(alloc: Global, making: &Making) -> Result<Plain, AllocError> {
         let mut to_viewer = Queue::new(alloc);
         to_viewer.push(12, Act::Greets)?;
         Ok(Plain {
@@ -176,7 +176,7 @@ impl Plain {
 
     /// Whether a picture is what may be shown now. Between updates it stays; in one that may be Raw
     /// alone, places change one by one.
-    pub(super) fn shows(&mut self, picture: Option<&Picture<Colour>>) -> bool {
+    pub(crate) fn shows(&mut self, picture: Option<&Picture<Colour>>) -> bool {
         let Some(picture) = picture else {
             return !self.has_screen;
         };

@@ -36,7 +36,7 @@ struct Item {
 }
 
 #[derive(Drop)]
-pub(super) struct Queue {
+pub(crate) struct Queue {
     items: Vec<Item>,
     moved: usize,
 }
@@ -60,7 +60,7 @@ impl Queue {
     }
 
     /// How many bytes are in flight.
-    pub(super) fn len(&self) -> usize {
+    pub(crate) fn len(&self) -> usize {
         let mut sum = 0_usize;
         for item in &self.items {
             sum = sum.saturating_add(item.size);

@@ -15,7 +15,7 @@ fn list_size(count: usize) -> usize {
 
 impl Plain {
     /// A drawing or a call happens; how it is refused.
-    pub(super) fn refusal(&mut self, event: &Event) -> Result<Option<Refused>, AllocError> {
+    pub(crate) fn refusal(&mut self, event: &Event) -> Result<Option<Refused>, AllocError> {
         match event {
             Event::Fill(rect, colour) => Ok(self.fill(*rect, *colour)),
             Event::Put(x, y, row) => Ok(self.put(*x, *y, row)),
@@ -49,7 +49,7 @@ impl Plain {
     }
 
     /// Whether an update may be composed, or not composed, as it is told. It has so many bytes.
-    pub(super) fn compose(
+    pub(crate) fn compose(
         &mut self,
         event: &Event,
         composed: bool,
@@ -72,7 +72,7 @@ impl Plain {
     }
 
     /// How many bytes a delivery moves; the messages that are whole then act.
-    pub(super) fn deliver(&mut self, event: &Event) -> Result<u32, AllocError> {
+    pub(crate) fn deliver(&mut self, event: &Event) -> Result<u32, AllocError> {
         match event {
             Event::ToServer(count) => {
                 let moved = self.to_server.advance(*count);
