@@ -2,10 +2,10 @@
 # Runs a program, named by its path, on the calls of .ci/program, and refuses it one allocation in
 # each run: the first, the second, and so on to the last. Such a run must end with status 1, print
 # nothing on standard output, and end its standard error with the line 'fault 30 NoMemory'; or end as
-# a run does where none is refused, if it could do without it, sentences
-# of --explain aside. A command that prints as it goes,
-# `serve` or `view`, may have printed a beginning. A call with a file `as`, which names another,
-# asks for memory as often as that one, and so for none in what it has more.
+# a run does where none is refused, if it could do without it, sentences of --explain aside. A
+# command that prints as it goes, `serve` or `view`, may have printed a beginning. A call with a file
+# `as`, which names another, asks for memory as often as that one, and so for none in what it has
+# more.
 #
 #   .ci/memory.sh crates/rfb/out/rfb crates
 #
