@@ -25,7 +25,7 @@ use Rattle.rfb_session.specs.HubSteps.{HubActs, StaysAs, SlotSteps, SlotTells, H
 use Rattle.rfb_session.specs.Link.{Ends}
 use Rattle.rfb_session.specs.Network.{Network, Draws}
 use Rattle.rfb_session.proofs.DrawnLemmas.{link_drawn, held_or_not}
-use Rattle.rfb_session.proofs.HubSlotLemmas.{on_seat, each_seat, all_seats, seat_set_same, seat_set_other, other}
+use Rattle.rfb_session.proofs.HubSlotLemmas.{one_seat, not_both, some_fault, on_seat, each_seat, all_seats, seat_set_same, seat_set_other, other}
 
 -- ---- what each seat follows
 
@@ -102,16 +102,13 @@ emptied_follow screen old new own follow same emptied =
     all_seats (λ seat. Follows screen seat.link.session) new (λ k seat there.
     by k seat there (cases_eq k own))
   where
-    apart : (o : Option Seat) (seat : Seat) → o ≡ Some seat → o ≡ None → ⊥
-    apart o seat some none = cc
-
     by : (k : ℕ) (seat : Seat) → seat_at k new ≡ Some seat → ((k ≡ own) ⊎ (k ≢ own)) →
         Follows screen seat.link.session
     by k seat there (inl is) =
         each_seat (λ s. Follows screen s.link.session) old follow k seat
         (ap (λ (j : ℕ). seat_at j old) is ∙ (sym same ∙ (ap (λ (j : ℕ). seat_at j new) (sym is) ∙ there)))
     by k seat there (inr differ) =
-        absurd (apart (seat_at k new) seat there (emptied k (other k own differ)))
+        absurd (not_both (seat_at k new) seat there (emptied k (other k own differ)))
 
 -- ---- what it is made with
 
@@ -134,12 +131,6 @@ row_inside rect g refused = by (held_or_not rect g)
 
 abbrev pub Mark : Rect → Hub → Hub → Type 0
 Mark rect old new = (k : ℕ) → OnSlot (λ a b. IsDrawnOn rect a b) (seat_in old k) (seat_in new k)
-
-none_some : (o : Option HubFault) → o ≡ None → o ≢ None → ⊥
-none_some o none some = some none
-
-some_fault : (o : Option HubFault) (fault : HubFault) → o ≡ Some fault → o ≢ None
-some_fault o fault some none = cc
 
 -- a seat whose session was told stands for the network with the new screen
 pub seat_drawn : (e : Ends) (before after : Grid Colour) (a b : Seat) (n : Network) → KeepsSeat a b →
@@ -166,9 +157,6 @@ drawn_does old new rect Inside draw inside screens mark k a b was is e n stands 
       inl (here, ap (λ (g : Grid Colour). record n { screen = g }) (sym shown)),
       seat_drawn e old.screen new.screen a b n keeps stands,
     )
-  where
-    one_seat : (o : Option Seat) (x y : Seat) → o ≡ Some x → o ≡ Some y → x ≡ y
-    one_seat o x y first second = cc
 
 -- its event is known by what it does: its name would name a vector
 pub drawn_steps : (old new : Hub) (event : HubEvent) (told : HubTold) (rect : Rect)
@@ -204,9 +192,6 @@ hinted_does old new rect sx sy screens hint k a b was is e n stands =
       screen_is = stands.screen_is ∙ sym screens;
       link_is = link_drawn e n.screen n.screen a.link b.link n.link stands.link_is keeps.link keeps.session;
     }
-  where
-    one_seat : (o : Option Seat) (x y : Seat) → o ≡ Some x → o ≡ Some y → x ≡ y
-    one_seat o x y first second = cc
 
 pub hinted_steps : (old new : Hub) (event : HubEvent) (told : HubTold) (rect : Rect) (sx sy : ℕ) →
     new.screen ≡ old.screen →
@@ -252,6 +237,3 @@ refused_does hub event told Inside draw outside refused acts stays steps tells =
   );
   kept = λ some. refl;
 }
-  where
-    one_seat : (o : Option Seat) (x y : Seat) → o ≡ Some x → o ≡ Some y → x ≡ y
-    one_seat o x y first second = cc

@@ -23,21 +23,9 @@ use Rattle.rfb_session.specs.InFlight.{AreMade}
 use Rattle.rfb_session.specs.Link.{Ends, first_link}
 use Rattle.rfb_session.specs.LinkStanding.{server_fault_of, viewer_fault_of}
 use Rattle.rfb_session.specs.Network.{Network, IsReached}
-use Rattle.rfb_session.proofs.HubSlotLemmas.{other, on_seat}
+use Rattle.rfb_session.proofs.HubSlotLemmas.{one_seat, not_both, not_clear, some_fault, other, on_seat}
 use Rattle.rfb_session.proofs.NetworkLemmas.{first_reached}
 use Rattle.rfb_session.proofs.WorldLemmas.{reached_step}
-
-one_seat : (o : Option Seat) (a b : Seat) → o ≡ Some a → o ≡ Some b → a ≡ b
-one_seat o a b one two = cc
-
-not_both : (o : Option Seat) (a : Seat) → o ≡ Some a → o ≡ None → ⊥
-not_both o a some none = cc
-
-not_clear : (b : Bool) → b ≡ true → b ≡ false → ⊥
-not_clear b set clear = cc
-
-some_fault : (o : Option HubFault) (fault : HubFault) → o ≡ Some fault → o ≢ None
-some_fault o fault some none = cc
 
 -- ---- where a seat comes from
 

@@ -9,6 +9,7 @@ use Rattle.rfb_pixel.specs.declared.colour.Colour.{Colour}
 use Rattle.rfb_picture.specs.Grid.{Grid}
 use Rattle.rfb_picture.specs.Places.{has_bit}
 use Rattle.rfb_server.specs.Following.{Follows}
+use Rattle.rfb_session.specs.declared.hub.event.HubFault.{HubFault}
 use Rattle.rfb_session.specs.declared.hub.seat.Seat.{Seat}
 use Rattle.rfb_session.specs.HubSlots.{seat_at, is_taken, OnSlot, DoesIn, TakesOrNot}
 use Rattle.rfb_session.specs.HubSeats.{SeatDoes, TakesForeign}
@@ -33,8 +34,17 @@ seat_set_other slots i k x differ = get_or-set_other slots i k x None (apart k i
 pub none_past : (slots : List (Option Seat)) (k : ℕ) → length slots ≤ k → seat_at k slots ≡ None
 none_past slots k past = get_or_past slots k None past
 
-some_none : (o : Option Seat) (seat : Seat) → o ≡ Some seat → o ≡ None → ⊥
-some_none o seat some none = cc
+pub one_seat : (o : Option Seat) (a b : Seat) → o ≡ Some a → o ≡ Some b → a ≡ b
+one_seat o a b one two = cc
+
+pub not_both : (o : Option Seat) (a : Seat) → o ≡ Some a → o ≡ None → ⊥
+not_both o a some none = cc
+
+pub not_clear : (b : Bool) → b ≡ true → b ≡ false → ⊥
+not_clear b set clear = cc
+
+pub some_fault : (o : Option HubFault) (fault : HubFault) → o ≡ Some fault → o ≢ None
+some_fault o fault some none = cc
 
 -- a seat is within the list
 pub below : (slots : List (Option Seat)) (k : ℕ) (seat : Seat) → seat_at k slots ≡ Some seat →
@@ -43,7 +53,7 @@ below slots k seat is = by (cases_lt k (length slots))
   where
     by : ((k < length slots) ⊎ (length slots ≤ k)) → k < length slots
     by (inl lt) = lt
-    by (inr past) = absurd (some_none (seat_at k slots) seat is (none_past slots k past))
+    by (inr past) = absurd (not_both (seat_at k slots) seat is (none_past slots k past))
 
 -- what holds of each seat
 pub each_seat : (P : Seat → Type 0) (slots : List (Option Seat)) →
@@ -234,7 +244,7 @@ same_follows screen o a b one two follows =
 -- nothing follows of an empty slot
 pub none_follows : (screen : Grid Colour) (o : Option Seat) (seat : Seat) → o ≡ None → o ≡ Some seat →
     Follows screen seat.link.session
-none_follows screen o seat none some = absurd (some_none o seat some none)
+none_follows screen o seat none some = absurd (not_both o seat some none)
 
 pub taken_in : (taken : Bool) (bytes : List ℕ) (a b : Option Seat) → TakesOrNot taken bytes a b →
     taken ≡ true → (x y : Seat) × (a ≡ Some x) × (b ≡ Some y) × TakesForeign bytes x y

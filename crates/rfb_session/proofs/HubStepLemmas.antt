@@ -25,19 +25,7 @@ use Rattle.rfb_session.specs.Link.{Ends}
 use Rattle.rfb_session.specs.LinkStanding.{LinkStandsFor}
 use Rattle.rfb_session.specs.Network.{Network, Steps, IsReached}
 use Rattle.rfb_session.specs.Told.{Tells}
-use Rattle.rfb_session.proofs.HubSlotLemmas.{apart, other, no_bit}
-
-one_seat : (o : Option Seat) (a b : Seat) → o ≡ Some a → o ≡ Some b → a ≡ b
-one_seat o a b one two = cc
-
-not_both : (o : Option Seat) (a : Seat) → o ≡ Some a → o ≡ None → ⊥
-not_both o a some none = cc
-
-not_clear : (b : Bool) → b ≡ true → b ≡ false → ⊥
-not_clear b set clear = cc
-
-some_fault : (o : Option HubFault) (fault : HubFault) → o ≡ Some fault → o ≢ None
-some_fault o fault some none = cc
+use Rattle.rfb_session.proofs.HubSlotLemmas.{one_seat, not_both, not_clear, some_fault, apart, other, no_bit}
 
 -- what holds of a hub that nothing was changed of
 as_before : (old new : Hub) (k : ℕ) → new ≡ old → seat_in new k ≡ seat_in old k
