@@ -1,7 +1,9 @@
 pub mod ChannelLemmas
 pub mod FormatLemmas
+pub mod FormatLaws
 mod FieldsReadLemmas
 pub mod ReadingLemmas
+pub mod ReadingLaws
 mod WideningLemmas
 mod LaneLemmas
 mod UnpackLemmas

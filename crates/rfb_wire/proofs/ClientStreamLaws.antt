@@ -7,7 +7,7 @@ use Rattle.rfb_pixel.specs.declared.fault.FormatFault.TheVariants.{BadBits, Dept
 use Rattle.rfb_pixel.specs.Channel.{is_max, width_of}
 use Rattle.rfb_pixel.specs.Format.{PixelFormat}
 use Rattle.rfb_pixel.specs.Reading.{Spells, number_at, red_at, green_at, blue_at, first_fault, fault_of_fields}
-use Rattle.rfb_pixel.proofs.ReadingLemmas.{spells-same}
+use Rattle.rfb_pixel.proofs.ReadingLaws.{spells-same}
 use Rattle.rfb_wire.specs.declared.client_head.ClientHead.{ClientHead}
 use Rattle.rfb_wire.specs.declared.client_head.ClientHead.TheVariants.{SetPixelFormat as FormatHead, SetEncodings as EncodingsHead, Request, Key, Pointer, CutText}
 use Rattle.rfb_wire.specs.Fields.{s32_at}

@@ -2,6 +2,7 @@ pub mod stream_laws
 pub mod FieldLemmas
 pub mod ClientLemmas
 pub mod ServerLemmas
+pub mod ServerLaws
 pub mod RectLemmas
 pub mod ClientStreamLaws
 pub mod ServerMessageLaws

@@ -2,6 +2,7 @@
 pub mod PartLaws
 pub mod RepeatLaws
 pub mod HeadLemmas
+pub mod HeadLaws
 pub mod HeadedLaws
 pub mod ReadingLaws
 pub mod GrammarLaws

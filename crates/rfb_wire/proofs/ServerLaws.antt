@@ -1,0 +1,2 @@
+-- What crates above cite of the lemmas in `ServerLemmas`.
+pub use Rattle.rfb_wire.proofs.ServerLemmas.{server-sizes, server-spelled}
