@@ -55,7 +55,7 @@ pub contains_row : (r : Rect) (x y : ℕ) → r.x ≤ x → x < r.x + r.w → r.
 contains_row r x y a b c d = grind (arith, nat_tests)
 
 -- in the rectangle of a row, the index in the row is the distance from its first column
-column_in_row : (x0 y0 n w x y : ℕ) →
+pub column_in_row : (x0 y0 n w x y : ℕ) →
     contains (record { x = x0; y = y0; w = n; h = 1 }) x y ≡ true →
     (y * w + x - (y0 * w + x0) ≡ x - x0) × (x - x0 < n)
 column_in_row x0 y0 n w x y e =
@@ -91,13 +91,13 @@ module _ {X : Type 0} where
 
   -- ---- one place in a loop's step
 
-  either : (a b : Bool) (now u v : X) → now ≡ (if b then u else (if a then u else v)) →
+  pub either : (a b : Bool) (now u v : X) → now ≡ (if b then u else (if a then u else v)) →
       now ≡ (if a || b then u else v)
   either true true now u v e = e
   either true false now u v e = e
   either false b now u v e = e
 
-  at_value : (b : Bool) (now u v w : X) → now ≡ (if b then u else w) → (b ≡ true → u ≡ v) →
+  pub at_value : (b : Bool) (now u v w : X) → now ≡ (if b then u else w) → (b ≡ true → u ≡ v) →
       now ≡ (if b then v else w)
   at_value true now u v w e same = e ∙ same refl
   at_value false now u v w e same = e

@@ -1,8 +1,8 @@
 -- What contracts see of a `Picture`: its size, and the values at its places.
-use Rattle.std.specs.Prelude.{ℕ, List, [], ◌∷◌, ◌≡◌, ◌+◌, ◌-◌, ◌*◌, ◌/◌, ◌%◌, ◌≤◌, ◌&&◌, nat_le, nat_lt, length, take, drop, replicate, slice_index_or, if◌then◌else◌, refl}
+use Rattle.std.specs.Prelude.{ℕ, ℤ, List, [], ◌∷◌, ◌≡◌, ◌+◌, ◌-◌, ◌*◌, ◌/◌, ◌%◌, ◌≤◌, ◌&&◌, nat_le, nat_lt, length, take, drop, replicate, slice_index_or, if◌then◌else◌, refl}
 use Rattle.std.specs.Coded.{Coded, code_by, coded×, coded_list, coded_ℕ}
 use Rattle.rfb_picture.specs.declared.rect.Rect.{Rect}
-use Rattle.rfb_picture.specs.Rect.{contains}
+use Rattle.rfb_picture.specs.Rect.{contains, scrolled_to, scrolled_from}
 
 -- columns and rows of places, and the values at them, row after row from the top, each from the
 -- left
@@ -62,6 +62,12 @@ module _ {X : Type 0} where
       changed (λ x y old. if contains r x y then at_or g (sx + (x - r.x)) (sy + (y - r.y)) old
       else old) g
 
+  -- the grid where all that lay in the rectangle has moved, dx columns to the right and dy rows
+  -- down, but for what left the rectangle; the places that nothing came to are as they were
+  abbrev pub scrolled : Rect → ℤ → ℤ → Grid X → Grid X
+  scrolled r dx dy g =
+      copied (scrolled_to dx dy r) (scrolled_from dx dy r).x (scrolled_from dx dy r).y g
+
   -- the grid with the list's values at (x, y) and on to the right, and the others as they were
   abbrev pub with_row : ℕ → ℕ → List X → Grid X → Grid X
   with_row x y row g =
@@ -80,6 +86,15 @@ module _ {X : Type 0} where
       && nat_lt (j * g.width + i) (y * g.width + x + length run)
       then slice_index_or run (j * g.width + i - (y * g.width + x)) old else old)
       g).places
+
+  -- the grid with the list's values at the places of the rectangle, row after row from the top, each
+  -- from the left, and the others as they were
+  abbrev pub with_rows : Rect → List X → Grid X → Grid X
+  with_rows r rows g =
+      changed
+      (λ x y old. if contains r x y
+      then slice_index_or rows ((y - r.y) * r.w + (x - r.x)) old else old)
+      g
 
   -- the grid of that width and height with value c at every place
   unfoldable pub uniform : ℕ → ℕ → X → Grid X

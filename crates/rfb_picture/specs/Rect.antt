@@ -1,5 +1,5 @@
 -- Rectangles of places, RFC 6143 section 7.6.1: x-position, y-position, width and height.
-use Rattle.std.specs.Prelude.{ℕ, Bool, ◌+◌, ◌&&◌, nat_le, nat_lt}
+use Rattle.std.specs.Prelude.{ℕ, ℤ, pos, negsuc, Bool, ◌+◌, ◌-◌, ◌&&◌, nat_le, nat_lt, min, unsigned_abs}
 use Rattle.rfb_picture.specs.declared.rect.Rect.{Rect}
 
 -- place (x, y) lies in the rectangle
@@ -13,3 +13,28 @@ rect x y w h = record { x = x; y = y; w = w; h = h }
 -- the rectangle of the same size, x columns further to the right and y rows further down
 abbrev pub moved_by : ℕ → ℕ → Rect → Rect
 moved_by x y r = rect (x + r.x) (y + r.y) r.w r.h
+
+-- ---- a scroll: all that lies in a rectangle moves, and what leaves the rectangle is lost
+
+-- of `len` places from `start` on that move by so many: where the first that stays inside comes to
+-- lie
+abbrev pub start_after : ℕ → ℕ → ℤ → ℕ
+start_after start len (pos n) = start + min n len
+start_after start len (negsuc n) = start
+
+-- and where it lay
+abbrev pub start_before : ℕ → ℕ → ℤ → ℕ
+start_before start len (pos n) = start
+start_before start len (negsuc n) = start + min (n + 1) len
+
+-- the rectangle that comes to hold what stays, dx columns to the right and dy rows down
+abbrev pub scrolled_to : ℤ → ℤ → Rect → Rect
+scrolled_to dx dy r =
+    rect (start_after r.x r.w dx) (start_after r.y r.h dy) (r.w - unsigned_abs dx)
+    (r.h - unsigned_abs dy)
+
+-- the one of that size where it lay
+abbrev pub scrolled_from : ℤ → ℤ → Rect → Rect
+scrolled_from dx dy r =
+    rect (start_before r.x r.w dx) (start_before r.y r.h dy) (r.w - unsigned_abs dx)
+    (r.h - unsigned_abs dy)

@@ -3,7 +3,7 @@
 ghost use Rattle.std.specs.Prelude.{◌≡◌, ℕ, ◌+◌, ◌*◌, ◌<◌, ◌≤◌, ◌↔◌, length, slice_index_or, IfOk};
 ghost use Rattle.std.specs.Prelude.{IsTrue};
 ghost use Rattle.std.specs.Borrow.{sem};
-ghost use Rattle.rfb_picture.specs.inside.Runs.{RowsFilled, RunFilled, RunPut};
+ghost use Rattle.rfb_picture.specs.inside.Runs.{RowsFilled, RunFilled, RowsPut, RunPut};
 
 mod copying;
 #[cfg(test)]
@@ -40,7 +40,7 @@ impl<T> Model for Picture<T> {
 
 impl<T: Copy> Picture<T> {
     ghost use Rattle.rfb_picture.specs.Grid.{IsGrid, Holds, at_or, row_of};
-    ghost use Rattle.rfb_picture.specs.Grid.{filled, copied, with_row, uniform};
+    ghost use Rattle.rfb_picture.specs.Grid.{filled, copied, with_row, with_rows, uniform};
     ghost use Rattle.rfb_picture.specs.Loan.{LendsRow};
 
     /// A picture of `width` by `height` places with `value` at each. It asks for room for exactly
@@ -152,6 +152,18 @@ impl<T: Copy> Picture<T> {
         put_places(&mut self.places, start, row);
     }
 
+    /// Writes `rows` over the rectangle: its rows from the top, one behind the other, each from the
+    /// left. `rows` stays the caller's.
+    pub fn put_rows(&mut self, rect: Rect, rows: &[T])
+        requires held { Holds self.old rect }
+        requires size { length rows.now ≡ rect.h * rect.w }
+        ensures value { self.new ≡ with_rows rect rows.now self.old }
+        ensures width { self.new.width ≡ self.old.width }
+        ensures height { self.new.height ≡ self.old.height }
+    {
+        put_rows(&mut self.places, usize::from(self.width), rect, rows);
+    }
+
     /// Gives each place of `dst` what its place of the rectangle of that size at (`sx`, `sy`) had,
     /// as CopyRect does (RFC 6143 section 7.7.2). The two rectangles may lie over one another.
     pub fn copy(&mut self, dst: Rect, sx: u16, sy: u16)
@@ -202,6 +214,21 @@ fn fill_row<T: Copy>(row: &mut [T], value: T)
 {
     for place in row.iter_mut() {
         *place = value;
+    }
+}
+
+// Writes `rows`, one behind the other, over the rectangle's, in rows of `width` places.
+fn put_rows<T: Copy>(places: &mut [T], width: usize, rect: Rect, rows: &[T])
+    requires columns { rect.x + rect.w ≤ width }
+    requires rows { (rect.y + rect.h) * width ≤ length places.old }
+    requires size { length rows.now ≡ rect.h * rect.w }
+    ensures { RowsPut width rect rows.now places.old places.new }
+{
+    let count = usize::from(rect.w);
+    for row in 0..usize::from(rect.h) {
+        let start = (usize::from(rect.y) + row) * width + usize::from(rect.x);
+        let first = row * count;
+        put_places(places, start, &rows[first..first + count]);
     }
 }
 

@@ -1,7 +1,8 @@
 //! A rectangle of places, as RFC 6143 gives one: its top left corner and its size.
 
-ghost use Rattle.std.specs.Prelude.{◌≡◌, ◌+◌, ◌<◌, ◌^◌};
-ghost use Rattle.rfb_picture.specs.Rect.{rect, moved_by};
+ghost use Rattle.std.specs.Prelude.{◌≡◌, ◌+◌, ◌-◌, ◌<◌, ◌^◌, unsigned_abs};
+ghost use Rattle.rfb_picture.specs.Rect.{rect, moved_by, start_after, start_before};
+ghost use Rattle.rfb_picture.specs.Rect.{scrolled_to, scrolled_from};
 
 /// `w` columns and `h` rows of places from (`x`, `y`) on, to the right and down. All are in places.
 /// With `w` or `h` 0 it has no place. No size is refused: it may lie outside every picture.
@@ -21,6 +22,13 @@ impl Rect {
         Rect { x, y, w, h }
     }
 
+    /// All places of a picture of `width` by `height` places.
+    pub const fn whole(width: u16, height: u16) -> Rect
+        ensures { result ≡ rect 0 0 width height }
+    {
+        Rect::new(0, 0, width, height)
+    }
+
     /// The rectangle of the same size `x` columns further to the right and `y` rows further down.
     /// So a part of a rectangle, which counts from that one's corner, becomes places of a picture.
     #[inline]
@@ -30,5 +38,54 @@ impl Rect {
         ensures { result ≡ moved_by x y self }
     {
         Rect::new(x + self.x, y + self.y, self.w, self.h)
+    }
+
+    /// All that lies in the rectangle moves `dx` columns to the right and `dy` rows down, or to the
+    /// left and up where they are negative, and what leaves the rectangle is lost. This gives the
+    /// rectangle that comes to hold what stays, and the one of that size where it lay.
+    pub fn scrolled(self, dx: i16, dy: i16) -> (Rect, Rect)
+        requires columns { self.x + self.w < 2 ^ 16 }
+        requires rows { self.y + self.h < 2 ^ 16 }
+        ensures to { result.0 ≡ scrolled_to dx dy self }
+        ensures from { result.1 ≡ scrolled_from dx dy self }
+    {
+        let columns = shift(self.x, self.w, dx);
+        let rows = shift(self.y, self.h, dy);
+        (
+            Rect::new(columns.after, rows.after, columns.left, rows.left),
+            Rect::new(columns.before, rows.before, columns.left, rows.left),
+        )
+    }
+}
+
+// Where the first of some places in a line comes to lie, where it lay, and how many there are.
+#[derive(Clone, Copy)]
+struct Line {
+    after: u16,
+    before: u16,
+    left: u16,
+}
+
+// Those of `len` places from `start` on that stay among these where all move by `by`.
+fn shift(start: u16, len: u16, by: i16) -> Line
+    requires { start + len < 2 ^ 16 }
+    ensures after { result.after ≡ start_after start len by }
+    ensures before { result.before ≡ start_before start len by }
+    ensures left { result.left ≡ len - unsigned_abs by }
+{
+    let far = by.unsigned_abs().min(len);
+    let left = len - far;
+    if by < 0 {
+        Line {
+            after: start,
+            before: start + far,
+            left,
+        }
+    } else {
+        Line {
+            after: start + far,
+            before: start,
+            left,
+        }
     }
 }

@@ -213,3 +213,39 @@ fn copies_every_place(rt: HostRuntime) -> Result<(), AllocError> {
     drop(to);
     Ok(())
 }
+
+fn are_rows_put(picture: &mut Picture<u8>) -> bool {
+    let rect = Rect::new(1, 1, 2, 2);
+    if !picture.holds(rect) {
+        return false;
+    }
+    picture.put_rows(rect, &[1, 2, 3, 4]);
+    has_rows(picture, &[&[7, 7, 7], &[7, 1, 2], &[7, 3, 4]])
+}
+
+#[test]
+fn rows_are_put_one_under_the_other(rt: HostRuntime) -> Result<(), AllocError> {
+    let mut picture = bytes(rt.alloc(), 3, 3, 7)?;
+    assert!(rt; are_rows_put(&mut picture));
+    drop(picture);
+    Ok(())
+}
+
+// Ten columns and eight rows move three to the left and five down: seven columns and three rows
+// of them stay.
+#[test]
+fn a_scroll_keeps_what_stays_inside(rt: HostRuntime) -> Result<(), AllocError> {
+    let (to, from) = Rect::new(1, 2, 10, 8).scrolled(-3, 5);
+    assert_eq!(rt; to, Rect::new(1, 7, 7, 3));
+    assert_eq!(rt; from, Rect::new(4, 2, 7, 3));
+    Ok(())
+}
+
+#[test]
+fn a_scroll_by_more_than_all_keeps_nothing(rt: HostRuntime) -> Result<(), AllocError> {
+    let (to, from) = Rect::new(1, 2, 10, 8).scrolled(32_767, -32_768);
+    assert_eq!(rt; to, Rect::new(11, 2, 0, 0));
+    assert_eq!(rt; from, Rect::new(1, 10, 0, 0));
+    assert_eq!(rt; Rect::whole(3, 2), Rect::new(0, 0, 3, 2));
+    Ok(())
+}

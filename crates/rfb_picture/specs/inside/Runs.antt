@@ -30,6 +30,15 @@ module _ {X : Type 0} where
       ≡ (if in_run start (length row) i then slice_index_or row (i - start) d
       else slice_index_or old i d)
 
+  -- the rectangle's places have the values of a list, row after row, and the others what they had,
+  -- in rows of that width
+  abbrev pub RowsPut : ℕ → Rect → List X → List X → List X → Type 0
+  RowsPut width rect rows old new =
+      (x y : ℕ) (d : X) → x < width →
+      slice_index_or new (y * width + x) d
+      ≡ (if contains rect x y then slice_index_or rows ((y - rect.y) * rect.w + (x - rect.x)) d
+      else slice_index_or old (y * width + x) d)
+
   -- count places from one on have what those from another on had, and the others what they had
   abbrev pub RunCopied : ℕ → ℕ → ℕ → List X → List X → Type 0
   RunCopied from to count old new =

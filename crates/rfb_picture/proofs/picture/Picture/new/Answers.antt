@@ -1,6 +1,5 @@
-use Rattle.std.proofs.Common.{List, ℕ, ◌≡◌, ◌≤◌, ◌+◌, ◌*◌, ◌-◌, ◌++◌, length, replicate, take, ap, sym, ◌∙◌, arith, rules}
+use Rattle.std.proofs.Common.{List, ℕ, ◌≡◌, ◌≤◌, ◌*◌, ◌-◌, ◌++◌, length, replicate, take, ap, sym, ◌∙◌, arith, rules}
 use Rattle.std.proofs.lemmas.List.{take_all, replicate-append-replicate, length-replicate}
-use Rattle.std.proofs.Math.Nat.{min-le_left}
 use Rattle.rfb_picture.proofs.picture.Picture.new.Goals as goal
 
 -- a list of one value that is made longer by it is such a list
