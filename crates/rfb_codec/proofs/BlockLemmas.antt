@@ -9,7 +9,7 @@ use Rattle.rfb_pixel.specs.declared.colour.Colour.{Colour}
 use Rattle.rfb_pixel.specs.Format.{PixelFormat, pixel_of, ArePixels, size_of}
 use Rattle.rfb_picture.specs.declared.rect.Rect.{Rect}
 use Rattle.rfb_picture.specs.Grid.{Grid, grid, row_of}
-use Rattle.rfb_picture.proofs.GridLemmas.{place_below, slice_index_or-row_of}
+use Rattle.rfb_picture.proofs.GridLaws.{place_below, slice_index_or-row_of}
 use Rattle.rfb_codec.specs.Pixels.{IsPixel}
 use Rattle.rfb_codec.specs.inside.Encode.{PacksRows}
 use Rattle.rfb_codec.specs.Codec.{PacksRect}

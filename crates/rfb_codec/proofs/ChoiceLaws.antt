@@ -1,7 +1,7 @@
 -- The rules of the encoders have one choice for each block.
 use Rattle.std.proofs.Common.{◌≡◌, ℕ, ◌<◌, List, length, arith, subst}
 use Rattle.rfb_picture.specs.Grid.{Grid}
-use Rattle.rfb_picture.proofs.GridLemmas.{place_below}
+use Rattle.rfb_picture.proofs.GridLaws.{place_below}
 use Rattle.rfb_codec.specs.declared.subrect.Subrect.{Subrect}
 use Rattle.rfb_codec.specs.Codec.{IsBlock}
 use Rattle.rfb_codec.specs.Choice.{AreRuleSubs, IsRuleChoice}

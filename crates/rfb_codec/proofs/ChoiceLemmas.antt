@@ -4,7 +4,7 @@ use Rattle.std.proofs.Common.{◌≡◌, ◌≢◌, ℕ, zero, suc, ◌+◌, ◌
 use Rattle.std.proofs.lemmas.Bool.{cases_lt, cases_eq, cases_order, both_ways}
 use Rattle.std.proofs.lemmas.Nat.{div-add-mod', div_below, mod_below, div-mul-add, mod-mul-add}
 use Rattle.std.proofs.Math.Nat.{mul-le-mul_right}
-use Rattle.rfb_picture.proofs.GridLemmas.{place_below, some_in_row}
+use Rattle.rfb_picture.proofs.GridLaws.{place_below, some_in_row}
 use Rattle.rfb_codec.specs.declared.subrect.Subrect.{Subrect}
 use Rattle.rfb_codec.specs.Choice.{IsPixelOf, places_of, IsBackground, is_in_any, IsLeft, IsFree, IsFreeRun, IsNextSub, AreNextSubs, AreRuleSubs}
 use Rattle.rfb_codec.proofs.RuleLemmas.{next_push}

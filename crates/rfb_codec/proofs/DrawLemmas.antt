@@ -5,7 +5,7 @@ use Rattle.std.proofs.lemmas.List.{get_or_past}
 use Rattle.std.proofs.lemmas.Nat.{div-add-mod', mod_below, div_below, pow_pos}
 use Rattle.rfb_pixel.specs.Format.{PixelFormat, size_of}
 use Rattle.rfb_picture.specs.Grid.{Grid}
-use Rattle.rfb_picture.proofs.GridLemmas.{place_below, some_in_row}
+use Rattle.rfb_picture.proofs.GridLaws.{place_below, some_in_row}
 use Rattle.rfb_codec.specs.declared.subrect.Subrect.{Subrect}
 use Rattle.rfb_codec.specs.declared.hextile.layout.TileLayout.TheVariants.{Raw, Plain, Colored}
 use Rattle.rfb_codec.specs.declared.hextile.encode.carried.Carried.{Carried}

@@ -6,7 +6,7 @@ use Rattle.std.proofs.lemmas.Bool.{cases_lt}
 use Rattle.std.proofs.lemmas.List.{get_or_append_left, take-append-le, take_all, get_or-append-add, get_or-take, get_or-drop}
 use Rattle.std.proofs.lemmas.Nat.{div-mul-add, mod-mul-add, div-add-mod', mod_below}
 use Rattle.rfb_pixel.specs.Format.{PixelFormat}
-use Rattle.rfb_picture.proofs.GridLemmas.{place_below}
+use Rattle.rfb_picture.proofs.GridLaws.{place_below}
 use Rattle.rfb_wire.specs.stream.Reading.{ListedAfter}
 use Rattle.rfb_codec.specs.declared.subrect.Subrect.{Subrect}
 use Rattle.rfb_codec.specs.declared.hextile.layout.TileLayout.TheVariants.{Raw, Plain, Colored}

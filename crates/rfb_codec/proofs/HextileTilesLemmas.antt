@@ -5,7 +5,7 @@ use Rattle.std.proofs.lemmas.Nat.{div-add-mod', mod_below, div_below}
 use Rattle.rfb_pixel.specs.Format.{PixelFormat}
 use Rattle.rfb_picture.specs.declared.rect.Rect.{Rect}
 use Rattle.rfb_picture.specs.Grid.{Grid}
-use Rattle.rfb_picture.proofs.GridLemmas.{some_in_row, place_below}
+use Rattle.rfb_picture.proofs.GridLaws.{some_in_row, place_below}
 use Rattle.rfb_codec.specs.Tile.{Tile}
 use Rattle.rfb_codec.specs.Hextile.{across, tile_count, tile_width, tile_height, tile_part}
 use Rattle.rfb_codec.specs.HextileRule.{Held, left_by, HasPixelsOf, IsRuleTile, IsRuleTileOf, AreRuleTiles, tile_length, tiles_length}

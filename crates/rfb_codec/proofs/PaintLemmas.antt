@@ -5,11 +5,11 @@ use Rattle.std.proofs.lemmas.List.{drop-drop, drop-take}
 use Rattle.std.proofs.Math.Nat.{mul-le-mul_right}
 use Rattle.rfb_pixel.specs.declared.colour.Colour.{Colour}
 use Rattle.rfb_pixel.specs.Format.{PixelFormat, colour_of, pixel_number, size_of}
-use Rattle.rfb_pixel.proofs.FormatLemmas.{pixel_number-take}
+use Rattle.rfb_pixel.proofs.FormatLaws.{pixel_number-take}
 use Rattle.rfb_picture.specs.declared.rect.Rect.{Rect}
 use Rattle.rfb_picture.specs.Rect.{contains}
 use Rattle.rfb_picture.specs.Grid.{Grid, IsGrid, at_or, with_row}
-use Rattle.rfb_picture.proofs.GridLemmas.{at-changed, changed_twice, contains_more, contains_true, height-changed, same_changes, same_grid, whole-changed, width-changed}
+use Rattle.rfb_picture.proofs.GridLaws.{at-changed, changed_twice, contains_more, contains_true, height-changed, same_changes, same_grid, whole-changed, width-changed}
 use Rattle.rfb_codec.specs.Pixels.{drawn}
 use Rattle.rfb_codec.specs.Raw.{raw_pixel}
 use Rattle.rfb_codec.specs.RectData.{replaced}

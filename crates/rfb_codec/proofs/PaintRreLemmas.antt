@@ -9,7 +9,7 @@ use Rattle.rfb_pixel.specs.Format.{PixelFormat, colour_of, pixel_number, size_of
 use Rattle.rfb_picture.specs.declared.rect.Rect.{Rect}
 use Rattle.rfb_picture.specs.Rect.{contains}
 use Rattle.rfb_picture.specs.Grid.{Grid, IsGrid, at_or, filled}
-use Rattle.rfb_picture.proofs.GridLemmas.{changed_twice, same_changes}
+use Rattle.rfb_picture.proofs.GridLaws.{changed_twice, same_changes}
 use Rattle.rfb_wire.specs.stream.Reading.{More, Next}
 use Rattle.rfb_wire.specs.stream.Parts.{behind, done, many}
 use Rattle.rfb_wire.specs.RectHead.{IsOnScreen}
@@ -19,7 +19,7 @@ use Rattle.rfb_codec.specs.declared.subrect.Subrect.{Subrect}
 use Rattle.rfb_codec.specs.Pixels.{drawn}
 use Rattle.rfb_codec.specs.Rre.{RreHead, pixel_at, rre, rre_head_of, subrect, subrect_of}
 use Rattle.rfb_codec.specs.Painter.{over}
-use Rattle.rfb_pixel.proofs.FormatLemmas.{pixel_number-take}
+use Rattle.rfb_pixel.proofs.FormatLaws.{pixel_number-take}
 use Rattle.rfb_codec.proofs.RreLaws.{pixel_at-last}
 
 -- ---- a subrectangle

@@ -1,7 +1,8 @@
 -- Blocks that are drawn place by place.
+pub use Rattle.rfb_codec.proofs.PixelLemmas.{length-pixels}
 use Rattle.std.proofs.Common.{◌≡◌, ℕ, ◌<◌, sym, subst, ◌∙◌}
 use Rattle.rfb_picture.specs.Grid.{Grid, at_or, uniform}
-use Rattle.rfb_picture.proofs.GridLemmas.{at-changed, width-changed, height-changed, whole-changed, width-uniform, height-uniform, whole-uniform, same_grid}
+use Rattle.rfb_picture.proofs.GridLaws.{at-changed, width-changed, height-changed, whole-changed, width-uniform, height-uniform, whole-uniform, same_grid}
 use Rattle.rfb_codec.specs.Pixels.{IsSized, Shows, drawn}
 
 width-drawn : (w h : ℕ) (c : ℕ → ℕ → ℕ) → (drawn w h c).width ≡ w

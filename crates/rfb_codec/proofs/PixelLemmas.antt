@@ -10,9 +10,9 @@ use borrow.Rule.Slice.PartMut.{put_mid}
 use Rattle.byteorder.specs.Endian.{big_bytes, little_bytes}
 use Rattle.byteorder.specs.Numbers.{length-bytes_high_first, length-bytes_low_first}
 use Rattle.rfb_pixel.specs.Format.{PixelFormat, size_of, pixel_bytes, pixel_number}
-use Rattle.rfb_pixel.proofs.FormatLemmas.{pixel_number-pixel_bytes}
+use Rattle.rfb_pixel.proofs.FormatLaws.{pixel_number-pixel_bytes}
 use Rattle.rfb_picture.specs.Grid.{Grid, IsGrid}
-use Rattle.rfb_picture.proofs.GridLemmas.{place_below}
+use Rattle.rfb_picture.proofs.GridLaws.{place_below}
 use Rattle.rfb_codec.specs.Pixels.{HasPixels}
 use Rattle.rfb_codec.specs.Raw.{StandsRaw}
 

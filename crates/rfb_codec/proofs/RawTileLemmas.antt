@@ -7,7 +7,7 @@ use Rattle.rfb_pixel.specs.Format.{PixelFormat, size_of, colour_of}
 use Rattle.rfb_picture.specs.declared.rect.Rect.{Rect}
 use Rattle.rfb_picture.specs.Rect.{contains}
 use Rattle.rfb_picture.specs.Grid.{Grid, IsGrid, at_or}
-use Rattle.rfb_picture.proofs.GridLemmas.{same_changes, contains_true, place_below, whole_before}
+use Rattle.rfb_picture.proofs.GridLaws.{same_changes, contains_true, place_below, whole_before}
 use Rattle.rfb_codec.specs.declared.hextile.paint.tile_read.Seen.{Seen}
 use Rattle.rfb_codec.specs.declared.painter.stage.Place.{Place}
 use Rattle.rfb_codec.specs.declared.painter.stage.Stage.TheVariants.{InTiles, InRawTile}

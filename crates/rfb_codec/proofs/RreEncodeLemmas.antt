@@ -7,10 +7,10 @@ use Rattle.std.specs.List.{flat_map}
 use Rattle.byteorder.specs.Endian.{big_bytes}
 use Rattle.byteorder.specs.Numbers.{big_number-reads_back}
 use Rattle.rfb_pixel.specs.Format.{PixelFormat, size_of, pixel_bytes, pixel_number}
-use Rattle.rfb_pixel.proofs.FormatLemmas.{pixel_number-pixel_bytes}
+use Rattle.rfb_pixel.proofs.FormatLaws.{pixel_number-pixel_bytes}
 use Rattle.rfb_picture.specs.declared.rect.Rect.{Rect}
 use Rattle.rfb_picture.specs.Grid.{Grid, IsGrid}
-use Rattle.rfb_picture.proofs.GridLemmas.{place_below}
+use Rattle.rfb_picture.proofs.GridLaws.{place_below}
 use Rattle.rfb_wire.specs.Fields.{IsRectAt, rect_bytes}
 use Rattle.rfb_wire.specs.stream.Reading.{Listed}
 use Rattle.rfb_wire.specs.RectHead.{IsOnScreen}

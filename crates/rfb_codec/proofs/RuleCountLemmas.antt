@@ -7,7 +7,7 @@ use Rattle.std.proofs.lemmas.List.{length-map}
 use Rattle.std.proofs.lemmas.Nat.{div-add-mod', div_below, div-mul-add, mod-mul-add}
 use Rattle.std.proofs.Math.Nat.{mod-lt, mul-le-mul_right}
 use Rattle.rfb_picture.specs.Rect.{contains}
-use Rattle.rfb_picture.proofs.GridLemmas.{contains_true, contains_row, place_below}
+use Rattle.rfb_picture.proofs.GridLaws.{contains_true, contains_row, place_below}
 use Rattle.rfb_codec.specs.declared.subrect.Subrect.{Subrect}
 use Rattle.rfb_codec.specs.Choice.{IsPixelOf, IsBackground, is_in_any, IsLeft, IsBefore, IsNextSub, AreNextSubs, AreRuleSubs}
 use Rattle.rfb_codec.specs.inside.Background.{HasMore, AllDiffer}

@@ -9,10 +9,10 @@ use Rattle.rfb_pixel.specs.Format.{PixelFormat, size_of, colour_of, pixel_number
 use Rattle.rfb_picture.specs.declared.rect.Rect.{Rect}
 use Rattle.rfb_picture.specs.Rect.{contains}
 use Rattle.rfb_picture.specs.Grid.{Grid, IsGrid, at_or, with_row}
-use Rattle.rfb_picture.proofs.GridLemmas.{changed_twice, same_changes, contains_true, index_in_row}
+use Rattle.rfb_picture.proofs.GridLaws.{changed_twice, same_changes, contains_true, index_in_row}
 use Rattle.rfb_codec.specs.Raw.{raw_pixel}
 use Rattle.rfb_codec.specs.Front.{pixels_over}
-use Rattle.rfb_pixel.proofs.FormatLemmas.{pixel_number-take}
+use Rattle.rfb_pixel.proofs.FormatLaws.{pixel_number-take}
 
 -- a pixel whose bytes are there is the same whatever follows
 pub pixel_longer : (f : PixelFormat) (bytes more : List ℕ) (n : ℕ) → n + size_of f ≤ length bytes → pixel_number f (drop n (bytes ++ more)) ≡ pixel_number f (drop n bytes)

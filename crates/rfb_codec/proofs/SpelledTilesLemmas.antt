@@ -6,7 +6,7 @@ use Rattle.std.proofs.lemmas.List.{get_or_default, flat_map_more}
 use Rattle.rfb_pixel.specs.Format.{PixelFormat}
 use Rattle.rfb_picture.specs.declared.rect.Rect.{Rect}
 use Rattle.rfb_picture.specs.Grid.{Grid, IsGrid}
-use Rattle.rfb_picture.proofs.GridLemmas.{place_below}
+use Rattle.rfb_picture.proofs.GridLaws.{place_below}
 use Rattle.rfb_wire.specs.stream.Reading.{ListedAfter}
 use Rattle.rfb_codec.specs.declared.subrect.Subrect.{Subrect}
 use Rattle.rfb_codec.specs.declared.hextile.layout.TileLayout.{TileLayout}

@@ -5,7 +5,7 @@ use Rattle.rfb_pixel.specs.declared.colour.Colour.{Colour}
 use Rattle.rfb_pixel.specs.Format.{PixelFormat, size_of, colour_of, pixel_number}
 use Rattle.rfb_picture.specs.declared.rect.Rect.{Rect}
 use Rattle.rfb_picture.specs.Grid.{Grid, IsGrid, filled}
-use Rattle.rfb_picture.proofs.GridLemmas.{whole_before}
+use Rattle.rfb_picture.proofs.GridLaws.{whole_before}
 use Rattle.rfb_wire.specs.declared.encoding.Encoding.{Encoding}
 use Rattle.rfb_wire.specs.declared.encoding.Encoding.TheVariants.{CopyRect, Rre}
 use Rattle.rfb_wire.specs.stream.Reading.{Bad}
@@ -22,7 +22,7 @@ use Rattle.rfb_codec.specs.Front.{NoSource, NoHead, SomeParts, Shows}
 use Rattle.rfb_codec.specs.inside.Step.{moved_into}
 use Rattle.rfb_codec.specs.Stage.{StandsAt, IsRefused}
 use Rattle.rfb_codec.proofs.HextileEncodeLemmas.{listed_more}
-use Rattle.rfb_pixel.proofs.FormatLemmas.{pixel_number-take}
+use Rattle.rfb_pixel.proofs.FormatLaws.{pixel_number-take}
 use Rattle.rfb_codec.proofs.PaintRreLemmas.{over_filled}
 use Rattle.rfb_codec.proofs.RreLaws.{subrect_spelled}
 use Rattle.rfb_codec.proofs.RectDataLaws.{rect_data_reads}

@@ -8,7 +8,7 @@ use Rattle.rfb_pixel.specs.Format.{PixelFormat, size_of, colour_of}
 use Rattle.rfb_picture.specs.declared.rect.Rect.{Rect}
 use Rattle.rfb_picture.specs.Rect.{contains}
 use Rattle.rfb_picture.specs.Grid.{Grid, IsGrid, at_or}
-use Rattle.rfb_picture.proofs.GridLemmas.{same_changes, same_grid, at-changed, whole-changed, whole_before, width-changed, height-changed}
+use Rattle.rfb_picture.proofs.GridLaws.{same_changes, same_grid, at-changed, whole-changed, whole_before, width-changed, height-changed}
 use Rattle.rfb_wire.specs.stream.Reading.{Next, More, Got}
 use Rattle.rfb_wire.specs.RectHead.{IsOnScreen}
 use Rattle.rfb_codec.specs.declared.fault.PaintFault.{PaintFault}

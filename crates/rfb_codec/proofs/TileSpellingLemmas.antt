@@ -4,7 +4,7 @@ use Rattle.std.specs.List.{flat_map}
 use Rattle.std.proofs.Math.Nat.{mod-eq_of_lt}
 use Rattle.std.proofs.lemmas.List.{drop_at}
 use Rattle.rfb_pixel.specs.Format.{PixelFormat, size_of, pixel_bytes, pixel_number}
-use Rattle.rfb_pixel.proofs.FormatLemmas.{pixel_number-pixel_bytes}
+use Rattle.rfb_pixel.proofs.FormatLaws.{pixel_number-pixel_bytes}
 use Rattle.rfb_wire.specs.stream.Reading.{Listed, Optionally}
 use Rattle.rfb_codec.specs.declared.subrect.Subrect.{Subrect}
 use Rattle.rfb_codec.specs.declared.hextile.layout.TileLayout.{TileLayout}

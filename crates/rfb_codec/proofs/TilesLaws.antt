@@ -2,8 +2,8 @@
 use Rattle.std.proofs.Common.{◌≡◌, ℕ, ◌+◌, ◌-◌, ◌*◌, ◌/◌, ◌%◌, ◌<◌, ◌≤◌, min, true, ◌∙◌, ap, arith}
 use Rattle.std.proofs.lemmas.Nat.{div-add-mod', div-mul-add, mod_below, div_below}
 use Rattle.rfb_picture.specs.Rect.{contains}
-use Rattle.rfb_picture.proofs.GridLemmas.{contains_true, some_in_row}
-use Rattle.rfb_picture.proofs.GridLemmas.{contains_row}
+use Rattle.rfb_picture.proofs.GridLaws.{contains_true, some_in_row}
+use Rattle.rfb_picture.proofs.GridLaws.{contains_row}
 use Rattle.rfb_codec.specs.Hextile.{across, tile_count, tile_width, tile_height, tile_part, tile_at}
 use Rattle.rfb_codec.proofs.HextileEncodeLemmas.{column_of, row_of_tiles, in_tile}
 

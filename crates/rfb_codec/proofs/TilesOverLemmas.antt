@@ -9,7 +9,7 @@ use Rattle.rfb_pixel.specs.Format.{PixelFormat, colour_of}
 use Rattle.rfb_picture.specs.declared.rect.Rect.{Rect}
 use Rattle.rfb_picture.specs.Rect.{contains}
 use Rattle.rfb_picture.specs.Grid.{Grid, IsGrid, at_or}
-use Rattle.rfb_picture.proofs.GridLemmas.{changed_twice, same_changes, contains_true, same_grid, at-changed, whole-changed, width-changed, height-changed}
+use Rattle.rfb_picture.proofs.GridLaws.{changed_twice, same_changes, contains_true, same_grid, at-changed, whole-changed, width-changed, height-changed}
 use Rattle.rfb_wire.specs.RectHead.{IsOnScreen}
 use Rattle.rfb_codec.specs.Tile.{Tile, RawTile, tile_pixel}
 use Rattle.rfb_codec.specs.Hextile.{across, tile_count, tile_width, tile_height, tile_at, pixel_of_tiles}

@@ -1,6 +1,6 @@
 -- The background that an encoder chooses, by this project's rule.
 -- No public clause reads these words.
-use Rattle.std.specs.Prelude.{◌≡◌, ◌≢◌, ℕ, ◌*◌, ◌/◌, ◌%◌, ◌<◌, ◌≤◌, ◌⊎◌, slice_index, List, [], ◌∷◌, length, All}
+use Rattle.std.specs.Prelude.{◌≡◌, ◌≢◌, ℕ, zero, suc, ◌+◌, ◌-◌, Bool, nat_le, ◌==◌, if◌then◌else◌, ◌*◌, ◌/◌, ◌%◌, ◌<◌, ◌≤◌, ◌⊎◌, slice_index, List, [], ◌∷◌, length, All}
 use Rattle.rfb_codec.specs.declared.choice.background.Stop.{Stop}
 use Rattle.rfb_codec.specs.declared.choice.background.Stop.TheVariants.{Pixels, Room}
 use Rattle.rfb_codec.specs.Choice.{IsPixelOf, places_of}
@@ -45,6 +45,16 @@ pub record IsLed (aside : List ℕ) (better most result : ℕ) : Type 0 where
   pub each : (other : ℕ) → places_of other aside ≤ count
   pub tied : (other : ℕ) → 0 < places_of other aside → places_of other aside ≡ count →
       result ≤ other
+
+-- how many of the first places have another pixel than the place behind them
+abbrev pub changes_in : List ℕ → ℕ → ℕ
+changes_in pixels zero = 0
+changes_in pixels (suc n) =
+    changes_in pixels n + (if slice_index pixels (n + 1) == slice_index pixels n then 0 else 1)
+
+-- three places of four, or more, have another pixel than the place behind them
+abbrev pub is_restless : List ℕ → Bool
+is_restless pixels = nat_le (length pixels * 3) (changes_in pixels (length pixels - 1) * 4)
 
 -- a number that spreads pixels: the remainder by the slots of a table is the slot of the pixel
 unfoldable pub hash_of : ℕ → ℕ

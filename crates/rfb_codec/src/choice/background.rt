@@ -1,9 +1,9 @@
 //! The background that an encoder chooses, by this project's rule.
 
-ghost use Rattle.std.specs.Prelude.{◌≡◌, ◌+◌, ◌<◌, ◌≤◌, ◌++◌, length, replicate, IfOk, IfErr, IfSome, IfNone};
+ghost use Rattle.std.specs.Prelude.{◌≡◌, ◌+◌, ◌-◌, ◌<◌, ◌≤◌, ◌++◌, length, replicate, IfOk, IfErr, IfSome, IfNone};
 ghost use Rattle.std.specs.Bool.{OnTrue, OnFalse};
 ghost use Rattle.rfb_codec.specs.Choice.{IsBackground};
-ghost use Rattle.rfb_codec.specs.inside.Background.{HasMore, IsStopped, IsLed, IsRun, EndsRun, Leads, hash_of};
+ghost use Rattle.rfb_codec.specs.inside.Background.{HasMore, IsStopped, IsLed, IsRun, EndsRun, Leads, hash_of, changes_in, is_restless};
 
 use crate::block::PLACES;
 use arrayvec::ArrayVec;
@@ -20,6 +20,9 @@ const ASIDE: usize = 64;
 const MANY: usize = 4096;
 
 const TILE: usize = 256;
+
+// How many places are looked at to tell noise.
+const SAMPLE: usize = 64;
 
 // Why a tally has no result.
 #[derive(Clone, Copy, Debug, PartialEq, Eq)]
@@ -43,6 +46,10 @@ pub(crate) fn background_of(pixels: &[u32], most: usize) -> Option<u32>
     ensures background { IfSome result (λ pixel. IsBackground pixels.now pixel) }
     ensures more { IfNone result (HasMore most pixels.now) }
 {
+    // Of a tile of noise nothing else is asked.
+    if pixels.len() <= TILE && has_more::<FEW>(pixels, most) {
+        return None;
+    }
     match tally::<FEW, ASIDE>(pixels, most.min(FEW / 2)) {
         Ok(pixel) => return Some(pixel),
         Err(Stop::Pixels) if most <= FEW / 2 => return None,
@@ -51,23 +58,30 @@ pub(crate) fn background_of(pixels: &[u32], most: usize) -> Option<u32>
     if pixels.len() <= TILE {
         return tally::<FEW, TILE>(pixels, most).ok();
     }
-    if has_more(pixels, most) {
+    if has_more::<MANY>(pixels, most) {
         return None;
     }
     tally::<MANY, PLACES>(pixels, most).ok()
 }
 
-// Whether the pixels come to more slots of the large table than `most`, and so are more than that.
-// It may answer false where they are. It costs a quarter of a tally, which a block of noise, or of
-// a photograph, would take in vain.
-fn has_more(pixels: &[u32], most: usize) -> bool
+// Whether the pixels come to more slots of a table than `most`, and so are more than that. It may
+// answer false where they are, and does so where pixels come in runs. It costs a quarter of a tally,
+// which a block of noise would take in vain.
+fn has_more<const SLOTS: usize>(pixels: &[u32], most: usize) -> bool
+    requires some { 0 < length pixels.now }
     requires few { length pixels.now ≤ PLACES }
+    requires slots { (0 < SLOTS) × (SLOTS ≤ MANY) }
     ensures { OnTrue result (HasMore most pixels.now) }
 {
-    let mut taken = [0u8; MANY];
+    // Some places in the middle tell most blocks that have few pixels.
+    let half = pixels.len() / 2;
+    if !is_restless(&pixels[half..pixels.len().min(half + SAMPLE)]) {
+        return false;
+    }
+    let mut taken = [0u8; SLOTS];
     let mut free = most;
     for place in 0..pixels.len() {
-        let slot = hash(pixels[place]) % MANY;
+        let slot = hash(pixels[place]) % SLOTS;
         if taken[slot] == 0 {
             if free == 0 {
                 return true;
@@ -77,6 +91,33 @@ fn has_more(pixels: &[u32], most: usize) -> bool
         }
     }
     false
+}
+
+// Whether three places of four, or more, have another pixel than the place behind them, as in noise,
+// or in a photograph.
+fn is_restless(pixels: &[u32]) -> bool
+    requires some { 0 < length pixels.now }
+    requires few { length pixels.now ≤ PLACES }
+    ensures { result ≡ is_restless pixels.now }
+{
+    changes_in(pixels) * 4 >= pixels.len() * 3
+}
+
+// How many places have another pixel than the place behind them, if there is one. All are counted,
+// which goes by vectors.
+fn changes_in(pixels: &[u32]) -> usize
+    requires some { 0 < length pixels.now }
+    requires few { length pixels.now ≤ PLACES }
+    ensures value { result ≡ changes_in pixels.now (length pixels.now - 1) }
+    ensures few { result ≤ length pixels.now }
+{
+    let mut count = 0u32;
+    for place in 0..pixels.len() - 1 {
+        if pixels[place + 1] != pixels[place] {
+            count += 1;
+        }
+    }
+    count as usize
 }
 
 // The most frequent pixel, the least of those. It stops at more pixels than `free`, or at more

@@ -1,4 +1,4 @@
-//! The example of README.md, line for line.
+//! The decoder in a few lines: a rectangle of an update, painted from its bytes.
 
 use crate::Painter;
 use rfb_picture::{Picture, Rect};

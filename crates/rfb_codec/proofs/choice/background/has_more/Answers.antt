@@ -6,22 +6,23 @@ use Rattle.rfb_codec.proofs.choice.background.has_more.Goals as goal
 use Rattle.rfb_codec.proofs.choice.background.has_more.Goals.{then-taken-slot-eq0+else-free-eq0, else-taken-slot-eq0}
 
 pub returns-then-free-eq0 : goal.returns-then-free-eq0
-returns-then-free-eq0 c =
-    let slot = λ (p : ℕ). hash_of p % 4096 in
+returns-then-free-eq0 g c =
+    let slot = λ (p : ℕ). hash_of p % g.row.SLOTS in
     let pixels = c.args.pixels.now in
     let l = c.loop-place in
-    let at = c.hash-slot.result % 4096 in
-    let e : at ≡ hash_of (get_or pixels l.place 0) % 4096 = ap (λ (h : ℕ). h % 4096) c.hash-slot.ensures in
+    let at = c.hash-slot.result % g.row.SLOTS in
+    let e : at ≡ hash_of (get_or pixels l.place 0) % g.row.SLOTS = ap (λ (h : ℕ). h % g.row.SLOTS) c.hash-slot.ensures in
     more_than_allowed slot pixels l.taken l.place c.args.most c.loop-place-test.true (rw e at c.if-taken-slot-eq0.true) (rw c.if-free-eq0.true at l.invariant.claimed)
 
 pub loop-place-preserved : goal.loop-place-preserved
-loop-place-preserved c =
-    let slot = λ (p : ℕ). hash_of p % 4096 in
+loop-place-preserved g c =
+    let slot = λ (p : ℕ). hash_of p % g.row.SLOTS in
     let pixels = c.args.pixels.now in
     let l = c.loop-place in
-    let at = c.hash-slot.result % 4096 in
-    let e : at ≡ hash_of (get_or pixels l.place 0) % 4096 = ap (λ (h : ℕ). h % 4096) c.hash-slot.ensures in
-    let fits : at < length l.taken = omega (arith, l.invariant.sized) in
+    let at = c.hash-slot.result % g.row.SLOTS in
+    let e : at ≡ hash_of (get_or pixels l.place 0) % g.row.SLOTS = ap (λ (h : ℕ). h % g.row.SLOTS) c.hash-slot.ensures in
+    let below : at < g.row.SLOTS = omega (arith, c.requires.slots.0) in
+    let fits : at < length l.taken = omega (arith, l.invariant.sized, below) in
     elim c.if-taken-slot-eq0.branch [
       | then-taken-slot-eq0+else-free-eq0 w ↦
           rw (w.taken-is, w.free-is) (record {

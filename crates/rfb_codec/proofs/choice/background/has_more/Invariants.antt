@@ -4,7 +4,7 @@ use Rattle.rfb_codec.proofs.StepLemmas.{Claimed}
 use Rattle.rfb_codec.proofs.choice.background.has_more.Given as goal
 
 abbrev pub invariant-loop-place : goal.invariant-loop-place
-invariant-loop-place l = record {
-  sized : length l.taken ≡ 4096;
-  claimed : Claimed (λ (p : ℕ). hash_of p % 4096) l.pixels l.taken l.free l.most;
+invariant-loop-place g l = record {
+  sized : length l.taken ≡ g.row.SLOTS;
+  claimed : Claimed (λ (p : ℕ). hash_of p % g.row.SLOTS) l.pixels l.taken l.free l.most;
 }

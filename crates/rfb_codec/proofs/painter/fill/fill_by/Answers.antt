@@ -1,7 +1,7 @@
 use Rattle.std.proofs.Common.{◌≡◌, ℕ, ◌∙◌, ◌+◌, ◌<◌, refl, ap, arith, length, slice_index_or}
 use Rattle.rfb_pixel.specs.declared.colour.Colour.{Colour}
 use Rattle.rfb_picture.specs.Grid.{with_row}
-use Rattle.rfb_picture.proofs.LoanLemmas.{run_in_row}
+use Rattle.rfb_picture.proofs.LoanLaws.{run_in_row}
 use Rattle.rfb_codec.proofs.PaintLemmas.{over_more, over_none}
 use Rattle.rfb_codec.proofs.painter.fill.fill_by.Goals as goal
 

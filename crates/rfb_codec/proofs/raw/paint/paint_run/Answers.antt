@@ -2,8 +2,8 @@ use Rattle.std.proofs.Common.{◌≡◌, ◌∙◌, ◌+◌, ◌*◌, ◌<◌, �
 use Rattle.rfb_pixel.specs.declared.colour.Colour.{Colour}
 use Rattle.rfb_pixel.specs.Format.{colour_of, pixel_number, size_of}
 use Rattle.rfb_picture.specs.Grid.{Grid, IsGrid, with_row}
-use Rattle.rfb_picture.proofs.LoanLemmas.{run_in_row}
-use Rattle.rfb_picture.proofs.GridLemmas.{whole_before}
+use Rattle.rfb_picture.proofs.LoanLaws.{run_in_row}
+use Rattle.rfb_picture.proofs.GridLaws.{whole_before}
 use Rattle.rfb_codec.proofs.RunLemmas.{run_over}
 use Rattle.rfb_codec.proofs.raw.paint.paint_run.Goals as goal
 

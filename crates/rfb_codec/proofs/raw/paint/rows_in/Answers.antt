@@ -2,7 +2,7 @@ use Rattle.std.proofs.Common.{◌≡◌, ℕ, ◌∙◌, ◌+◌, ◌<◌, refl,
 use Rattle.rfb_pixel.specs.declared.colour.Colour.{Colour}
 use Rattle.rfb_pixel.specs.Format.{colour_of}
 use Rattle.rfb_picture.specs.Grid.{with_row}
-use Rattle.rfb_picture.proofs.LoanLemmas.{run_in_row}
+use Rattle.rfb_picture.proofs.LoanLaws.{run_in_row}
 use Rattle.rfb_codec.specs.Raw.{raw_pixel}
 use Rattle.rfb_codec.proofs.PaintLemmas.{over_more, over_none, pixel_of_row}
 use Rattle.rfb_codec.proofs.raw.paint.rows_in.Goals as goal

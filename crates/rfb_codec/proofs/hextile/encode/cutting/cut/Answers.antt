@@ -1,7 +1,7 @@
 use Rattle.std.proofs.Common.{◌≡◌, ◌∙◌, ◌≤◌, ℕ, ◌+◌, ◌*◌, ◌-◌, ◌<◌, List, ap, arith, drop, length, get_or, take, length-drop}
 use Rattle.std.proofs.Math.Nat.{mul-le-mul_right}
 use Rattle.std.proofs.lemmas.List.{length-take-le}
-use Rattle.rfb_picture.proofs.CopyLemmas.{row_fits}
+use Rattle.rfb_picture.proofs.CopyLaws.{row_fits}
 use Rattle.rfb_codec.proofs.HextileEncodeLemmas.{cut_more, row_at}
 use Rattle.rfb_codec.proofs.hextile.encode.cutting.cut.Goals as goal
 

@@ -2,7 +2,7 @@ use Rattle.std.proofs.Common.{◌≡◌, ◌∙◌, ◌++◌, ◌∷◌, [], Lis
 use Rattle.rfb_pixel.specs.Format.{colour_of}
 use Rattle.rfb_picture.specs.declared.rect.Rect.{Rect}
 use Rattle.rfb_picture.specs.Grid.{filled}
-use Rattle.rfb_picture.proofs.GridLemmas.{whole-changed}
+use Rattle.rfb_picture.proofs.GridLaws.{whole-changed}
 use Rattle.rfb_wire.specs.RectHead.{IsOnScreen}
 use Rattle.rfb_codec.specs.declared.subrect.Subrect.{Subrect}
 use Rattle.rfb_codec.specs.Rre.{pixel_at}
