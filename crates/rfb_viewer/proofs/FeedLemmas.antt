@@ -13,7 +13,7 @@ use Rattle.rfb_codec.proofs.UpdateWaitLaws.{message_waits, rect_short}
 use Rattle.rfb_hello.specs.declared.fault.HelloFault.{HelloFault}
 use Rattle.rfb_hello.specs.ServerHandshake.{ServerItem}
 use Rattle.rfb_hello.specs.ServerReading.{server_handshake}
-use Rattle.rfb_hello.proofs.ViewerHelloLemmas.{viewer_starts}
+use Rattle.rfb_hello.proofs.ViewerHelloLaws.{viewer_starts}
 use Rattle.rfb_viewer.specs.declared.fault.ViewerFault.{ViewerFault}
 use Rattle.rfb_viewer.specs.declared.viewer.Viewer.{Viewer}
 use Rattle.rfb_viewer.specs.declared.viewer.progress.Progress.{Progress}

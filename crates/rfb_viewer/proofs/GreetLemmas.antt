@@ -11,7 +11,7 @@ use Rattle.rfb_wire.specs.stream.End.{acts, EndsWith, Takes, FedBy, RefusedBy, R
 use Rattle.rfb_wire.specs.stream.Grammar.{ReadsAll}
 use Rattle.rfb_wire.specs.stream.Both.{event_as}
 use Rattle.rfb_wire.specs.declared.encoding.Encoding.{Encoding}
-use Rattle.rfb_picture.proofs.GridLemmas.{width-uniform, height-uniform}
+use Rattle.rfb_picture.proofs.GridLaws.{width-uniform, height-uniform}
 use Rattle.rfb_codec.specs.UpdateStream.{UpdatePoint}
 use Rattle.rfb_hello.specs.declared.version.Version.{Version}
 use Rattle.rfb_hello.specs.declared.version.Version.TheVariants.{V33, V37, V38}

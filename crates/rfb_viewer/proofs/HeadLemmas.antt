@@ -7,8 +7,8 @@ use Rattle.rfb_wire.specs.stream.Heads.{Misses}
 use Rattle.rfb_wire.specs.ServerHead.{SpellsServerHead, server_head_size}
 use Rattle.rfb_wire.specs.stream.Reading.{More}
 use Rattle.rfb_wire.specs.ServerMessage.{server_message}
-use Rattle.rfb_wire.proofs.stream_laws.HeadLemmas.{misses_rest}
-use Rattle.rfb_wire.proofs.ServerLemmas.{server-sizes, server-spelled}
+use Rattle.rfb_wire.proofs.stream_laws.HeadLaws.{misses_rest}
+use Rattle.rfb_wire.proofs.ServerLaws.{server-sizes, server-spelled}
 use Rattle.rfb_wire.proofs.WaitLaws.{server_head_waits}
 use Rattle.rfb_viewer.specs.Progress.{IsHeadBegun}
 

@@ -1,5 +1,5 @@
 -- What a viewer tells of what its server sent: events, as values that hold what was spelled.
-use Rattle.std.specs.Prelude.{ℕ, ◌==◌, Bool, true, false, List, length, take, Option, Some, None}
+use Rattle.std.specs.Prelude.{ℕ, ◌==◌, Bool, true, false, List, [], length, take, Option, Some, None}
 use Rattle.rfb_wire.specs.ServerMessage.{FramebufferUpdate, SetColorMapEntries, Bell as BellMessage, ServerCutText}
 use Rattle.rfb_codec.specs.UpdateStream.{UpdatePoint, UpdateItem, Message, Rectangle}
 use Rattle.rfb_hello.specs.declared.step.ViewerStep.{ViewerStep}
@@ -17,6 +17,15 @@ pub data ViewerTold : Type 0 where
   Bell : ViewerTold
   CutText : (kept : List ℕ) → (text_length : ℕ) → ViewerTold
   ColourMapSkipped : ViewerTold
+
+-- the bytes that are to be sent for it
+abbrev pub reply_bytes : ViewerTold → List ℕ
+reply_bytes (Reply bytes) = bytes
+reply_bytes (Ready bytes name name_length) = bytes
+reply_bytes UpdateDone = []
+reply_bytes Bell = []
+reply_bytes (CutText kept text_length) = []
+reply_bytes ColourMapSkipped = []
 
 -- the event that a value of the program is
 abbrev pub event_told : ViewerEvent → ViewerTold

@@ -1,5 +1,8 @@
 //! What a viewer tells of what its server sent.
 
+ghost use Rattle.std.specs.Prelude.{◌≡◌};
+ghost use Rattle.rfb_viewer.specs.Told.{event_told, reply_bytes};
+
 use arrayvec::ArrayVec;
 
 /// How many bytes an answer of the handshake has at most: a ProtocolVersion, RFC 6143 section
@@ -36,4 +39,21 @@ pub enum ViewerEvent {
     /// The last byte of SetColorMapEntries, section 7.6.2, of which nothing is kept: formats here
     /// have no colour map.
     ColourMapSkipped,
+}
+
+impl ViewerEvent {
+    /// Lends the bytes that are to be sent to the server for it: an answer's, and of other events
+    /// none.
+    pub fn reply(&self) -> &[u8]
+        ensures { result.now ≡ reply_bytes (event_told self.now) }
+    {
+        match self {
+            ViewerEvent::Reply(reply) => reply.as_slice(),
+            ViewerEvent::Ready { reply, .. } => reply.as_slice(),
+            ViewerEvent::UpdateDone
+            | ViewerEvent::Bell
+            | ViewerEvent::CutText { .. }
+            | ViewerEvent::ColourMapSkipped => &[],
+        }
+    }
 }

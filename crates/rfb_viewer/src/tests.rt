@@ -10,6 +10,7 @@ mod handshakes;
 mod hostile;
 mod long_texts;
 mod messages;
+mod one_server;
 mod painting;
 mod pending;
 mod plain;

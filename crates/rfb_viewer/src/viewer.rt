@@ -13,6 +13,7 @@ mod updates;
 
 use crate::event::ViewerEvent;
 use crate::fault::ViewerFault;
+use crate::setup::ViewerSetup;
 use arrayvec::ArrayVec;
 use progress::{Progress, Request};
 use rfb_hello::{Fed, Version, ViewerHello};
@@ -73,6 +74,23 @@ impl Viewer {
             request: Request::Answered,
             progress: Progress::Handshake,
         }
+    }
+
+    /// A viewer as `new` makes it, of these.
+    pub fn of(alloc: Global, setup: ViewerSetup) -> Viewer
+        ensures { let viewing = viewing_with setup.format setup.encodings.items setup.limit
+            setup.shared setup.max_places setup.text_limit in
+            StandsFor viewing result first_viewer [] }
+    {
+        Viewer::new(
+            alloc,
+            setup.format,
+            setup.encodings,
+            setup.limit,
+            setup.shared,
+            setup.max_places,
+            setup.text_limit,
+        )
     }
 
     /// Takes bytes of the server's, up to the last of its first item that is told of, or all. A

@@ -3,7 +3,7 @@ use Rattle.std.proofs.lemmas.List.{take_rest}
 use Rattle.std.proofs.lemmas.Result.{err_from_is_err_and}
 use Rattle.rfb_wire.specs.stream.End.{RefusedBy, RunsOutBy}
 use Rattle.rfb_wire.proofs.stream_laws.FeedLaws.{fed_step, refused_later, runs_out_later}
-use Rattle.rfb_hello.proofs.ServerHelloLemmas.{none_told, some_told}
+use Rattle.rfb_hello.proofs.ServerHelloLaws.{none_told, some_told}
 use Rattle.rfb_viewer.specs.declared.event.ViewerEvent.{ViewerEvent}
 use Rattle.rfb_viewer.specs.declared.event.ViewerEvent.TheVariants.{UpdateDone}
 use Rattle.rfb_viewer.specs.Told.{seen, UpdateDone as Done}
