@@ -7,8 +7,8 @@ use Rattle.rfb_picture.specs.Rect.{contains}
 use Rattle.rfb_picture.specs.Grid.{Grid, IsGrid, at_or, filled}
 use Rattle.rfb_picture.specs.Box.{is_in}
 use Rattle.rfb_picture.specs.Area.{Places, IsArea, added}
-use Rattle.rfb_picture.proofs.GridLemmas.{at-filled, same_changes, width-changed, height-changed, whole-uniform, width-uniform, height-uniform}
-use Rattle.rfb_picture.proofs.AreaLemmas.{area-added}
+use Rattle.rfb_picture.proofs.GridLaws.{at-filled, same_changes, width-changed, height-changed, whole-uniform, width-uniform, height-uniform}
+use Rattle.rfb_picture.proofs.AreaLaws.{area-added}
 use Rattle.rfb_server.specs.Request.{wanted_at}
 use Rattle.rfb_server.specs.inside.Marks.{AreAlike}
 use Rattle.rfb_server.specs.Following.{IsCaughtUp}

@@ -8,7 +8,7 @@ use Rattle.rfb_picture.specs.declared.rect.Rect.{Rect}
 use Rattle.rfb_picture.specs.Rect.{contains}
 use Rattle.rfb_picture.specs.Grid.{Grid, at_or, copied}
 use Rattle.rfb_picture.specs.Box.{is_in}
-use Rattle.rfb_picture.proofs.GridLemmas.{contains_true, at-filled, at-changed, width-changed, height-changed, whole-changed}
+use Rattle.rfb_picture.proofs.GridLaws.{contains_true, at-filled, at-changed, width-changed, height-changed, whole-changed}
 use Rattle.rfb_wire.specs.declared.encoding.Encoding.TheVariants.{CopyRect}
 use Rattle.rfb_codec.specs.RectData.{Source}
 use Rattle.rfb_server.specs.declared.session.Session.{Session}

@@ -5,8 +5,8 @@ use mir.Val.{bool_byte}
 use Rattle.rfb_picture.specs.declared.rect.Rect.{Rect}
 use Rattle.rfb_picture.specs.Rect.{contains}
 use Rattle.rfb_picture.specs.Grid.{IsGrid, Holds}
-use Rattle.rfb_picture.proofs.GridLemmas.{contains_row, contains_true}
-use Rattle.rfb_picture.proofs.CopyLemmas.{at-copied}
+use Rattle.rfb_picture.proofs.GridLaws.{contains_row, contains_true}
+use Rattle.rfb_picture.proofs.CopyLaws.{at-copied}
 use Rattle.rfb_codec.specs.RectData.{moved_to}
 use Rattle.rfb_server.specs.Server.{ServerState}
 use Rattle.rfb_server.specs.Request.{wanted, differs}

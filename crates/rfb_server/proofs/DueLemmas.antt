@@ -6,7 +6,7 @@ use Rattle.std.proofs.lemmas.Bool.{cases_eq, cases_lt, both_ways}
 use Rattle.rfb_pixel.specs.declared.colour.Colour.{Colour}
 use Rattle.rfb_picture.specs.declared.rect.Rect.{Rect}
 use Rattle.rfb_picture.specs.Grid.{Grid}
-use Rattle.rfb_picture.proofs.GridLemmas.{contains_true}
+use Rattle.rfb_picture.proofs.GridLaws.{contains_true}
 use Rattle.rfb_server.specs.declared.session.Session.{Session}
 use Rattle.rfb_server.specs.inside.Needs.{HasBox, needs_of}
 use Rattle.rfb_server.specs.Following.{Follows}

@@ -1,10 +1,7 @@
 -- What a session keeps that fails, and what its fault says of the bytes.
 use Rattle.std.proofs.Common.{◌≡◌, ◌≢◌, ℕ, List, [], ◌++◌, map, Option, None, Some, Result, Err, refl, sym, ap, subst, ◌∙◌, take, append-nil}
 use Rattle.rfb_pixel.specs.declared.colour.Colour.{Colour}
-use Rattle.rfb_pixel.specs.Format.{PixelFormat}
 use Rattle.rfb_picture.specs.Grid.{Grid}
-use Rattle.rfb_picture.specs.Area.{Places}
-use Rattle.rfb_wire.specs.declared.encoding.Encoding.{Encoding}
 use Rattle.rfb_wire.specs.stream.Reading.{Next, More, Got, Bad}
 use Rattle.rfb_wire.specs.stream.Parts.{named}
 use Rattle.rfb_wire.specs.stream.Grammar.{ReadsAll}
@@ -26,7 +23,7 @@ use Rattle.rfb_server.specs.Fault.{fault_of_hello}
 use Rattle.rfb_server.specs.ClientBytes.{ClientAt, FromClient, client_two, client_bytes}
 use Rattle.rfb_server.specs.Server.{Serving, ServerState, server, AsksMemory}
 use Rattle.rfb_server.specs.Progress.{fault_in}
-use Rattle.rfb_server.specs.Standing.{SessionStandsFor, Notes, notes_in, notes_at}
+use Rattle.rfb_server.specs.Standing.{SessionStandsFor, notes_in, notes_at}
 use Rattle.rfb_server.specs.Failing.{EndsAt, EndsAs}
 use Rattle.rfb_server.specs.inside.Slice.{StepsAs, RunsOutAs}
 use Rattle.rfb_server.proofs.ServerLaws.{server_machine, same_notes, session_noted}

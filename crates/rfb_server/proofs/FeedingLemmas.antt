@@ -5,7 +5,7 @@ use Rattle.rfb_pixel.specs.Format.{PixelFormat}
 use Rattle.rfb_picture.specs.declared.rect.Rect.{Rect}
 use Rattle.std.specs.Prelude.{Bool}
 use Rattle.rfb_picture.specs.Grid.{Grid}
-use Rattle.rfb_picture.proofs.GridLemmas.{width-uniform, height-uniform}
+use Rattle.rfb_picture.proofs.GridLaws.{width-uniform, height-uniform}
 use Rattle.rfb_wire.specs.stream.Reading.{Next, More, Got, Bad}
 use Rattle.rfb_wire.specs.stream.Parts.{named}
 use Rattle.rfb_wire.specs.stream.Sequel.{First, Second}

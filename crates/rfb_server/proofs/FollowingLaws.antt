@@ -4,7 +4,7 @@ use Rattle.rfb_pixel.specs.declared.colour.Colour.{Colour}
 use Rattle.rfb_picture.specs.declared.rect.Rect.{Rect}
 use Rattle.rfb_picture.specs.Rect.{contains}
 use Rattle.rfb_picture.specs.Grid.{Grid, IsGrid, at_or, changed}
-use Rattle.rfb_picture.proofs.GridLemmas.{at-changed, width-changed, height-changed, whole-changed}
+use Rattle.rfb_picture.proofs.GridLaws.{at-changed, width-changed, height-changed, whole-changed}
 use Rattle.rfb_server.specs.declared.session.Session.{Session}
 use Rattle.rfb_server.specs.Server.{black}
 use Rattle.rfb_server.specs.Following.{IsSameOutside, Follows}

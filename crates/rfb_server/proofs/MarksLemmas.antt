@@ -1,17 +1,16 @@
 -- Marks, where a session is made and where its screen is drawn.
-use Rattle.std.proofs.Common.{◌≡◌, ℕ, ◌<◌, Bool, true, false, Option, Some, None, if◌then◌else◌, ◌≤◌, ◌+◌, refl, sym, ◌∙◌, subst, arith}
+use Rattle.std.proofs.Common.{◌≡◌, ℕ, ◌<◌, Bool, true, false, Option, Some, None, if◌then◌else◌, ◌≤◌, ◌+◌, refl, sym, ◌∙◌, arith}
 use Rattle.std.proofs.lemmas.Bool.Decides.{nat_tests}
 use Rattle.rfb_pixel.specs.declared.colour.Colour.{Colour}
 use Rattle.rfb_pixel.specs.Format.{PixelFormat}
 use Rattle.rfb_picture.specs.declared.rect.Rect.{Rect}
 use Rattle.rfb_picture.specs.Rect.{contains}
-use Rattle.rfb_picture.specs.Grid.{Grid, IsGrid, at_or, changed, filled, uniform}
+use Rattle.rfb_picture.specs.Grid.{Grid, IsGrid, at_or, filled, uniform}
 use Rattle.rfb_picture.specs.Box.{is_in}
 use Rattle.rfb_picture.specs.Area.{Places}
-use Rattle.rfb_picture.proofs.GridLemmas.{at-changed, at-filled, width-changed, height-changed, whole-changed, whole-uniform, width-uniform, height-uniform}
+use Rattle.rfb_picture.proofs.GridLaws.{at-filled, width-changed, height-changed, whole-changed, whole-uniform, width-uniform, height-uniform}
 use Rattle.rfb_codec.specs.Effect.{IsAlike}
 use Rattle.rfb_server.specs.declared.session.Session.{Session}
-use Rattle.rfb_server.specs.Server.{black}
 use Rattle.rfb_server.specs.Request.{wanted_at}
 use Rattle.rfb_server.specs.inside.Marks.{AreAlike}
 use Rattle.rfb_server.specs.Following.{IsCaughtUp, IsSameOutside, Follows}

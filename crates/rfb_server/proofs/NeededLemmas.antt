@@ -13,14 +13,14 @@ use Rattle.rfb_picture.specs.Grid.{Grid, at_or, row_of}
 use Rattle.rfb_picture.specs.Box.{is_in}
 use Rattle.rfb_picture.specs.Area.{Places, asked_at, whole_at}
 use Rattle.rfb_picture.specs.Places.{has_bit, HasBitsBetween, HasRowBits}
-use Rattle.rfb_picture.proofs.GatherLemmas.{first_bit, last_bit}
-use Rattle.rfb_picture.proofs.WordLemmas.{has_bit-and, has_bit-or}
+use Rattle.rfb_picture.proofs.GatherLaws.{first_bit, last_bit}
+use Rattle.rfb_picture.proofs.WordLaws.{has_bit-and, has_bit-or}
 use Rattle.rfb_server.specs.declared.session.Session.{Session}
 use Rattle.rfb_server.specs.Record.{is_known, ShowsKnown, TellsKnown}
 use Rattle.rfb_server.specs.Request.{wanted_at, differs}
 use Rattle.rfb_server.specs.inside.Needs.{TellsOther, needs_of}
 use Rattle.rfb_server.specs.Following.{Follows}
-use Rattle.rfb_picture.proofs.GridLemmas.{slice_index_or-row_of}
+use Rattle.rfb_picture.proofs.GridLaws.{slice_index_or-row_of}
 use Rattle.rfb_server.specs.Server.{black}
 use Rattle.rfb_server.proofs.NeedingBits.{has_bit-up, has_bit-not, has_bit-zero}
 use Rattle.rfb_server.proofs.NeedingLemmas.{unmarked_quiet}

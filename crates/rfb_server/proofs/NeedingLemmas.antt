@@ -1,5 +1,5 @@
 -- Places that need sending are marked; and the least rectangle of them, row by row.
-use Rattle.std.proofs.Common.{◌≡◌, ℕ, ◌<◌, ◌≤◌, ◌+◌, ◌-◌, ◌&&◌, Bool, true, false, Option, Some, None, refl, arith, inl, inr, ◌⊎◌, subst}
+use Rattle.std.proofs.Common.{◌≡◌, ℕ, ◌<◌, ◌≤◌, ◌+◌, ◌-◌, ◌&&◌, ◌||◌, ◌==◌, not, Bool, true, false, Option, Some, None, refl, arith, inl, inr, ◌⊎◌, subst}
 use Rattle.std.proofs.lemmas.Bool.{cases_lt, cases_eq, both_ways}
 use Rattle.std.proofs.lemmas.Bool.Decides.{nat_tests}
 use Rattle.rfb_pixel.specs.declared.colour.Colour.{Colour}
@@ -8,12 +8,13 @@ use Rattle.rfb_picture.specs.Rect.{contains}
 use Rattle.rfb_picture.specs.Grid.{Grid, Holds}
 use Rattle.rfb_picture.specs.Box.{is_in, IsClear, IsBox}
 use Rattle.rfb_picture.specs.Area.{asked_at}
-use Rattle.rfb_picture.proofs.GridLemmas.{contains_true, contains_row}
+use Rattle.rfb_picture.proofs.GridLaws.{contains_true, contains_row}
 use Rattle.rfb_server.specs.declared.session.Session.{Session}
 use Rattle.rfb_server.specs.Request.{wanted_at, differs}
 use Rattle.rfb_server.specs.declared.session.update.needs.Columns.{Columns}
 use Rattle.rfb_server.specs.inside.Needs.{IsFirst, IsEnd, HasBox, HasInRow, IsLastOf, SpansRows, needs_of, rows_above}
 use Rattle.rfb_server.specs.Following.{Follows}
+use Rattle.rfb_server.specs.Record.{is_known}
 
 -- ---- marks
 
@@ -262,3 +263,31 @@ cell_zone screen session cell zone (Some r) about held box found = record {
       found.holds x y (box.holds x y c (needed_marked screen session x y about (omega (arith, held)) (omega (arith, held)) m)) m;
   tight = found.tight;
 }
+
+-- ---- one place
+
+-- it needs sending where it is asked and known to have another pixel
+pub asked_other : (asked whole : Bool) (wanted pixel : ℕ) (old : Option ℕ) → asked ≡ true → whole ≡ false → is_known old ≡ true →
+    ((known : ℕ) → old ≡ Some known → pixel ≡ known) → not (pixel == wanted) ≡ (asked && (whole || differs wanted old))
+asked_other true false wanted pixel (Some known) e f g shown = rw (shown known refl) refl
+asked_other true false wanted pixel None e f g shown = absurd (both_ways false refl g)
+asked_other true true wanted pixel old e f g shown = absurd (both_ways true f refl)
+asked_other false whole wanted pixel old e f g shown = absurd (both_ways false refl e)
+
+-- the least rectangle of a zone of one place
+pub single_box : (p : ℕ → ℕ → Bool) (zone : Rect) → zone.w ≡ 1 → zone.h ≡ 1 → p zone.x zone.y ≡ true → IsBox p zone zone
+single_box p zone wide high here =
+    let corner : contains zone zone.x zone.y ≡ true = contains_row zone zone.x zone.y (omega arith) (omega arith) (omega arith) (omega arith) in
+    let right : zone.x + zone.w - 1 ≡ zone.x = omega arith in
+    let low : zone.y + zone.h - 1 ≡ zone.y = omega arith in
+    record {
+      within = (omega arith, omega arith, omega arith, omega arith);
+      holds = λ x y c q. c;
+      tight = record {
+        some = (omega arith, omega arith);
+        left = (zone.y, corner, here);
+        right = rw right (zone.y, corner, here);
+        top = (zone.x, corner, here);
+        bottom = rw low (zone.x, corner, here);
+      };
+    }

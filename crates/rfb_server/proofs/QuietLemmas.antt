@@ -1,5 +1,6 @@
 -- A rectangle of which no place needs sending.
-use Rattle.std.proofs.Common.{◌≡◌, ℕ, zero, suc, ◌+◌, ◌-◌, ◌*◌, ◌<◌, ◌≤◌, ◌&&◌, ◌||◌, ◌⊎◌, Bool, true, false, not, List, Option, Some, None, if◌then◌else◌, refl, sym, arith, inl, inr}
+use Rattle.std.proofs.Common.{◌≡◌, ℕ, zero, suc, ◌+◌, ◌-◌, ◌*◌, ◌<◌, ◌≤◌, ◌&&◌, ◌||◌, Bool, true, false, not, List, Option, Some, None, if◌then◌else◌, refl, sym, arith, inl, inr}
+use Rattle.std.specs.Bool.{OnTrue, OnFalse}
 use Rattle.std.proofs.lemmas.Bool.{cases_lt}
 use Rattle.std.proofs.lemmas.Bool.Decides.{nat_tests}
 use Rattle.rfb_pixel.specs.declared.colour.Colour.{Colour}
@@ -8,8 +9,8 @@ use Rattle.rfb_picture.specs.declared.rect.Rect.{Rect}
 use Rattle.rfb_picture.specs.Rect.{contains}
 use Rattle.rfb_picture.specs.Grid.{Grid, Holds, at_or, copied}
 use Rattle.rfb_picture.specs.Area.{Places, asked_at, whole_at}
-use Rattle.rfb_picture.proofs.GridLemmas.{contains_true, contains_row, width-changed, height-changed}
-use Rattle.rfb_picture.proofs.CopyLemmas.{at-copied}
+use Rattle.rfb_picture.proofs.GridLaws.{contains_true, contains_row, width-changed, height-changed}
+use Rattle.rfb_picture.proofs.CopyLaws.{at-copied}
 use Rattle.rfb_server.specs.declared.hint.Hint.{Hint}
 use Rattle.rfb_server.specs.declared.session.Session.{Session}
 use Rattle.rfb_server.specs.Request.{wanted_at, differs}
@@ -43,7 +44,7 @@ short_row p x y (suc w) i l e =
           omega (arith, row_bound p x y w, none_of (p (x + w) y) (count_row p x y w) none)
     ]
 
-rows_bound : (p : ℕ → ℕ → Bool) (x y w h : ℕ) → count_rows p x y w h ≤ h * w
+pub rows_bound : (p : ℕ → ℕ → Bool) (x y w h : ℕ) → count_rows p x y w h ≤ h * w
 rows_bound p x y w zero = omega arith
 rows_bound p x y w (suc h) =
     let split : suc h * w ≡ h * w + w = grind arith in
@@ -136,11 +137,11 @@ quiet_copied screen old now hint free held known all =
         rw (free.not_whole x y c, read, c, right) (idle_by (asked_at old.area x y))
 
 -- that copy's rectangle, or no place at all
-pub quiet_either : (screen : Grid Colour) (known : Grid (Option ℕ)) (area : Places) (form : PixelFormat) (to found : Rect) (right : ℕ) →
-    ((found ≡ to) × (right ≡ to.h * to.w)) ⊎ (found ≡ record { x = 0; y = 0; w = 0; h = 0 }) →
-    (right ≡ to.h * to.w → AreQuiet screen known area form to) → AreQuiet screen known area form found
-quiet_either screen known area form to found right (inl (same, all)) quiet = rw same (quiet all)
-quiet_either screen known area form to found right (inr none) quiet = rw none (quiet_nowhere screen known area form)
+pub quiet_either : (screen : Grid Colour) (known : Grid (Option ℕ)) (area : Places) (form : PixelFormat) (to found : Rect) (all : Bool) (n : ℕ) →
+    OnTrue all (found ≡ to) → OnFalse all (found ≡ record { x = 0; y = 0; w = 0; h = 0 }) → OnTrue all (n ≡ to.h * to.w) →
+    (n ≡ to.h * to.w → AreQuiet screen known area form to) → AreQuiet screen known area form found
+quiet_either screen known area form to found true n same none right quiet = rw same (quiet right)
+quiet_either screen known area form to found false n same none right quiet = rw none (quiet_nowhere screen known area form)
 
 -- a cell that lies in a quiet rectangle has nothing to send
 pub quiet_cell : (screen : Grid Colour) (session : Session) (cell quiet : Rect) → Holds session.known cell → ((x y : ℕ) → contains cell x y ≡ true → contains quiet x y ≡ true) →

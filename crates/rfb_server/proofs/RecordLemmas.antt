@@ -8,7 +8,7 @@ use Rattle.rfb_picture.specs.Rect.{contains}
 use Rattle.rfb_picture.specs.Grid.{Grid, IsGrid, Holds, at_or, uniform, filled, copied, row_of, with_row}
 use Rattle.rfb_codec.specs.RectData.{moved_to}
 use Rattle.rfb_picture.specs.Box.{is_in}
-use Rattle.rfb_picture.proofs.GridLemmas.{at-changed, width-changed, height-changed, whole-changed, at-uniform, width-uniform, height-uniform, whole-uniform, same_grid, place_below, contains_more, contains_true, at-with_row, at-filled, slice_index_or-row_of}
+use Rattle.rfb_picture.proofs.GridLaws.{at-changed, width-changed, height-changed, whole-changed, at-uniform, width-uniform, height-uniform, whole-uniform, same_grid, place_below, contains_more, contains_true, at-with_row, at-filled, slice_index_or-row_of}
 use Rattle.rfb_codec.specs.Effect.{IsRecorded}
 use Rattle.rfb_picture.specs.Area.{Places, IsArea, added}
 use Rattle.rfb_picture.specs.Places.{AllMarked}

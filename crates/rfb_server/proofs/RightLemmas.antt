@@ -12,8 +12,8 @@ use Rattle.rfb_picture.specs.Grid.{Grid, at_or, row_of}
 use Rattle.rfb_picture.specs.Box.{is_in}
 use Rattle.rfb_picture.specs.Area.{Places}
 use Rattle.rfb_picture.specs.Places.{has_bit, HasBitsBetween}
-use Rattle.rfb_picture.proofs.GridLemmas.{contains_row, length-row_of, slice_index_or-row_of}
-use Rattle.rfb_picture.proofs.TakenWordLemmas.{has_bit-without}
+use Rattle.rfb_picture.proofs.GridLaws.{contains_row, length-row_of, slice_index_or-row_of}
+use Rattle.rfb_picture.proofs.TakenWordLaws.{has_bit-without}
 use Rattle.rfb_codec.specs.RectData.{moved_to}
 use Rattle.rfb_server.specs.declared.hint.Hint.{Hint}
 use Rattle.rfb_server.specs.declared.session.Session.{Session}

@@ -1,6 +1,8 @@
 -- Places of a copy that have the wanted pixel, counted part by part and row by row.
-use Rattle.std.proofs.Common.{◌≡◌, ◌∙◌, ℕ, zero, suc, ◌+◌, ◌-◌, ◌*◌, ◌<◌, ◌≤◌, Bool, Option, sym, ap, refl, arith}
-use Rattle.std.proofs.Math.Nat.{suc-mul}
+use Rattle.std.proofs.Common.{◌≡◌, ◌∙◌, ℕ, zero, suc, ◌+◌, ◌-◌, ◌*◌, ◌<◌, ◌≤◌, Bool, true, false, nat_eq, Option, sym, ap, refl, arith}
+use Rattle.std.proofs.Math.Nat.{suc-mul, mul-le-mul}
+use Rattle.std.specs.Bool.{OnFalse}
+use Rattle.std.proofs.lemmas.Bool.Decides.{nat_tests}
 use Rattle.rfb_pixel.specs.declared.colour.Colour.{Colour}
 use Rattle.rfb_pixel.specs.Format.{PixelFormat}
 use Rattle.rfb_picture.specs.declared.rect.Rect.{Rect}
@@ -88,3 +90,31 @@ pub rows_left : (p : ℕ → ℕ → Bool) (x y w k h : ℕ) → k ≤ h →
 rows_left p x y w k h order =
     let all : k + (h - k) ≡ h = omega arith in
     rw all at (rows_on p x y w k (h - k))
+
+-- ---- how many there can be
+
+-- of no more rows and columns than a screen has
+pub few_places : (n m : ℕ) → n ≤ 4096 → m ≤ 4096 → n * m ≤ 4096 * 4096
+few_places n m high wide = mul-le-mul high wide
+
+pub few_rows : (p : ℕ → ℕ → Bool) (x y w k : ℕ) → w ≤ 4096 → k ≤ 4096 → count_rows p x y w k ≤ 4096 * 4096
+few_rows p x y w k wide high = omega (arith, rows_left p x y w 0 k (omega arith), few_places (k - 0) w (omega arith) wide)
+
+-- where a row has fewer places than columns, the rectangle has fewer than its own
+pub rows_short : (p : ℕ → ℕ → Bool) (x y w k h : ℕ) → k < h → count_rows p x y w (k + 1) < (k + 1) * w → count_rows p x y w h < h * w
+rows_short p x y w k h order short =
+    let j = h - (k + 1) in
+    let sum : k + 1 + j ≡ h = omega arith in
+    let split : (k + 1 + j) * w ≡ (k + 1) * w + j * w = grind arith in
+    let all : h * w ≡ (k + 1) * w + j * w = ap (λ n. n * w) (sym sum) ∙ split in
+    omega (arith, short, all, rows_left p x y w (k + 1) h (omega arith))
+
+pub not_all : (p : ℕ → ℕ → Bool) (x y w k h : ℕ) → k ≤ h → (k < h → count_rows p x y w (k + 1) < (k + 1) * w) →
+    OnFalse (nat_eq k h) (count_rows p x y w h < h * w)
+not_all p x y w k h order short = by (nat_eq k h) refl
+  where
+    by : (b : Bool) → nat_eq k h ≡ b → OnFalse b (count_rows p x y w h < h * w)
+    by true e = tt
+    by false e =
+        let other : k < h = grind (arith, nat_tests) in
+        rows_short p x y w k h other (short other)

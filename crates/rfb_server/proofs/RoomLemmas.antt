@@ -10,7 +10,7 @@ use Rattle.rfb_pixel.specs.Format.{PixelFormat, size_of}
 use Rattle.rfb_picture.specs.declared.rect.Rect.{Rect}
 use Rattle.rfb_picture.specs.Rect.{contains}
 use Rattle.rfb_picture.specs.Box.{IsTight}
-use Rattle.rfb_picture.proofs.GridLemmas.{contains_true, contains_row}
+use Rattle.rfb_picture.proofs.GridLaws.{contains_true, contains_row}
 use Rattle.rfb_server.specs.Cells.{cell_of, IsCell}
 use Rattle.rfb_server.specs.inside.Sends.{sum_below, IsCost, AreCosts}
 

@@ -9,7 +9,7 @@ use Rattle.rfb_picture.specs.Rect.{contains}
 use Rattle.rfb_picture.specs.Grid.{Grid, IsGrid, at_or}
 use Rattle.rfb_picture.specs.Area.{IsArea}
 use Rattle.rfb_picture.specs.Box.{IsClear, IsBox}
-use Rattle.rfb_picture.proofs.GridLemmas.{contains_true, contains_row}
+use Rattle.rfb_picture.proofs.GridLaws.{contains_true, contains_row}
 use Rattle.rfb_codec.specs.Codec.{PacksRect}
 use Rattle.rfb_codec.specs.RectData.{Pixels}
 use Rattle.rfb_codec.specs.UpdateStream.{Rectangle}

@@ -13,7 +13,7 @@ use Rattle.rfb_server.specs.Cells.{IsCell}
 use Rattle.rfb_server.specs.inside.Needs.{needs_of}
 use Rattle.rfb_server.specs.Following.{Follows}
 use Rattle.rfb_server.specs.Composing.{Part}
-use Rattle.rfb_server.specs.inside.Sends.{IsKept, SendsPixels, SendsCell, state_of, AppendsCells, NoneMayNeed, may_need}
+use Rattle.rfb_server.specs.inside.Sends.{IsKept, SendsPixels, SendsCell, state_of, AppendsCells, NoneMayNeed, AreLimits, may_need}
 use Rattle.rfb_server.proofs.NeedingLemmas.{unmarked_quiet}
 use Rattle.rfb_server.proofs.SendsLemmas.{part_of, sends_start, sends_none, sends_skip, sends_some}
 
@@ -114,3 +114,13 @@ kept_then a b c one two = record {
 
 pub kept_same : (a : Session) → IsKept a a
 kept_same a = record { hello = refl; progress = refl; text_limit = refl; format = refl; encodings = refl; area = refl; marks = refl; hints = refl }
+
+-- which cells may have such places stays where no mark changes and nothing more is asked
+pub limits_kept : (old new : Session) (first end : ℕ) → IsKept old new → new.known.width ≡ old.known.width → new.known.height ≡ old.known.height →
+    AreLimits old first end → AreLimits new first end
+limits_kept old new first end kept wide high limits = record {
+  some = limits.some;
+  within = rw (wide, high) limits.within;
+  before = rw (wide, high, kept.marks, kept.area) limits.before;
+  behind = rw (wide, high, kept.marks, kept.area) limits.behind;
+}

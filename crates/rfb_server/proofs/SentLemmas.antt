@@ -7,7 +7,7 @@ use Rattle.rfb_picture.specs.Rect.{contains}
 use Rattle.rfb_picture.specs.Grid.{Grid, IsGrid, Holds, at_or}
 use Rattle.rfb_picture.specs.Box.{is_in, IsTight, IsBox}
 use Rattle.rfb_picture.specs.Area.{Places, asked_at, whole_at}
-use Rattle.rfb_picture.proofs.GridLemmas.{contains_true}
+use Rattle.rfb_picture.proofs.GridLaws.{contains_true}
 use Rattle.rfb_wire.specs.declared.encoding.Encoding.{Encoding}
 use Rattle.rfb_wire.specs.declared.encoding.Encoding.TheVariants.{Raw}
 use Rattle.rfb_codec.specs.Codec.{PacksRect}

@@ -13,7 +13,7 @@ use Rattle.rfb_codec.specs.Pixels.{IsSized}
 use Rattle.rfb_codec.specs.Tile.{Tile}
 use Rattle.rfb_codec.specs.Hextile.{tile_count, tile_part}
 use Rattle.rfb_codec.specs.HextileRule.{IsDrawn, IsRuleTile, AreRuleTiles, nothing_held, tile_length, tiles_length}
-use Rattle.rfb_codec.proofs.PixelLemmas.{length-pixels}
+use Rattle.rfb_codec.proofs.PixelLaws.{length-pixels}
 
 one_pixel : (f : PixelFormat) (block : Grid ℕ) → IsSized 1 1 block → raw_of f block ≡ size_of f
 one_pixel f block sized = rw (sized.width_is, sized.height_is) (omega arith)

@@ -9,8 +9,8 @@ use Rattle.rfb_picture.specs.Grid.{Grid, at_or}
 use Rattle.rfb_picture.specs.Box.{is_in}
 use Rattle.rfb_picture.specs.Area.{Places, nothing}
 use Rattle.rfb_picture.specs.Places.{without}
-use Rattle.rfb_picture.proofs.GridLemmas.{at-changed, width-changed, height-changed, whole-changed, width-uniform, height-uniform, contains_true}
-use Rattle.rfb_picture.proofs.AreaLemmas.{whole_at-no_places, area-no_places}
+use Rattle.rfb_picture.proofs.GridLaws.{at-changed, width-changed, height-changed, whole-changed, width-uniform, height-uniform, contains_true}
+use Rattle.rfb_picture.proofs.AreaLaws.{whole_at-no_places, area-no_places}
 use Rattle.rfb_wire.specs.ServerHead.{SpellsUpdate}
 use Rattle.rfb_wire.specs.stream.Sequel.{Second}
 use Rattle.rfb_codec.specs.Effect.{IsAlike}

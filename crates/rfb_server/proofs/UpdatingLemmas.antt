@@ -168,6 +168,19 @@ pub in_any : {A E : Type 0} (X : Type 0) (result : Result A E) → X → OnOk re
 in_any X (Ok value) x = x
 in_any X (Err error) x = tt
 
+-- a call that keeps all leaves what a drawing left
+pub then_kept : {A E : Type 0} (result : Result A E) (screen : Grid Colour) (old mid new : Server) →
+    Draws screen old mid → OnOk result (Draws mid.screen mid new) → OnOk result (Draws screen old new)
+then_kept (Ok value) screen old mid new drawn kept = record {
+  screen_is = kept.screen_is ∙ drawn.screen_is;
+  fault_is = kept.fault_is ∙ drawn.fault_is;
+  notes_are = kept.notes_are ∙ drawn.notes_are;
+  stands = λ serving s prefix stands.
+      subst (λ (g : Grid Colour). SessionStandsFor serving new.screen new.session (with_screen g s) prefix) drawn.screen_is
+      (kept.stands serving (with_screen screen s) prefix (drawn.stands serving s prefix stands));
+}
+then_kept (Err error) screen old mid new drawn kept = tt
+
 -- whatever it answers, bytes were appended, if only none
 pub appends : {E : Type 0} (screen : Grid Colour) (old new : Session) (before after : List ℕ) (result : Result Bool E) →
     IfOk result (λ did. did ≡ true → HasComposed screen old new before after) →

@@ -1,6 +1,6 @@
 -- What a `Server` stands for: a state, and the bytes that came of the client's next item, fewer
 -- than it has.
-use Rattle.std.specs.Prelude.{◌≡◌, ℕ, List, Option}
+use Rattle.std.specs.Prelude.{◌≡◌, ◌*◌, ℕ, List, length, Option}
 use Rattle.rfb_pixel.specs.declared.colour.Colour.{Colour}
 use Rattle.rfb_pixel.specs.Format.{PixelFormat}
 use Rattle.rfb_picture.specs.declared.rect.Rect.{Rect}
@@ -117,6 +117,10 @@ with_screen screen s = record s { screen = screen }
 -- `n` places of row y, from column x on
 abbrev pub row_from : ℕ → ℕ → ℕ → Rect
 row_from x y n = record { x = x; y = y; w = n; h = 1 }
+
+-- colours are those of all places of a rectangle that lies on the screen
+abbrev pub AreOf : Grid Colour → Rect → List Colour → Type 0
+AreOf screen rect colours = Holds screen rect × (length colours ≡ rect.h * rect.w)
 
 -- a rectangle, and the one of its size at (sx, sy), lie on the screen
 abbrev pub HoldsBoth : Grid Colour → Rect → ℕ → ℕ → Type 0

@@ -1,5 +1,5 @@
 -- What a server tells of what its client sent: events, as values that hold what was spelled.
-use Rattle.std.specs.Prelude.{ℕ, Bool, List, length, take, Option, Some, None, Result, Ok, Err}
+use Rattle.std.specs.Prelude.{ℕ, Bool, List, [], length, take, Option, Some, None, Result, Ok, Err}
 use Rattle.rfb_wire.specs.ClientMessage.{ClientMessage, SetPixelFormat, SetEncodings, FramebufferUpdateRequest, KeyEvent, PointerEvent, ClientCutText}
 use Rattle.rfb_hello.specs.declared.step.ServerStep.{ServerStep}
 use Rattle.rfb_hello.specs.declared.step.ServerStep.TheVariants.{Reply as ReplyStep, Ready as ReadyStep}
@@ -15,6 +15,14 @@ pub data ServerTold : Type 0 where
   Key : (down : Bool) → (key : ℕ) → ServerTold
   Pointer : (buttons : ℕ) → (x : ℕ) → (y : ℕ) → ServerTold
   CutText : (kept : List ℕ) → (text_length : ℕ) → ServerTold
+
+-- the bytes that are to be sent for it
+abbrev pub reply_bytes : ServerTold → List ℕ
+reply_bytes (Reply bytes) = bytes
+reply_bytes (Ready bytes shared) = bytes
+reply_bytes (Key down key) = []
+reply_bytes (Pointer buttons x y) = []
+reply_bytes (CutText kept text_length) = []
 
 -- the event that a value of the program is
 abbrev pub event_told : ServerEvent → ServerTold

@@ -1,5 +1,8 @@
 //! What a server tells of what its client sent.
 
+ghost use Rattle.std.specs.Prelude.{◌≡◌};
+ghost use Rattle.rfb_server.specs.Told.{event_told, reply_bytes};
+
 use arrayvec::ArrayVec;
 
 /// How many bytes an answer has at most: ServerInit with a name of 255 bytes, RFC 6143 section
@@ -36,4 +39,20 @@ pub enum ServerEvent {
         kept: Vec<u8>,
         length: u32,
     },
+}
+
+impl ServerEvent {
+    /// Lends the bytes that are to be sent to the client for it: an answer's, and of other events
+    /// none.
+    pub fn reply(&self) -> &[u8]
+        ensures { result.now ≡ reply_bytes (event_told self.now) }
+    {
+        match self {
+            ServerEvent::Reply(reply) => reply.as_slice(),
+            ServerEvent::Ready { reply, .. } => reply.as_slice(),
+            ServerEvent::Key { .. } | ServerEvent::Pointer { .. } | ServerEvent::CutText { .. } => {
+                &[]
+            }
+        }
+    }
 }

@@ -3,6 +3,27 @@
 //! Bytes of a client and drawings of the owner go in; answers, events and updates come out. Nothing
 //! here reads or writes a device: the caller owns the bytes, and sends what it is given in order.
 //! `law` says in contracts alone what the client's stream and the server's states rest on.
+//!
+//! # The order of calls
+//!
+//! 1. `Server::new` makes a server with a black screen.
+//! 2. `greeting` is sent before all else.
+//! 3. What came of the client goes to `feed`, until all of it is used. It gives one event a call:
+//!    the bytes of its `reply` are sent; keys, the pointer and texts are the owner's.
+//! 4. `fill`, `put`, `put_rows`, `copy` and `scroll` draw, at any time. `hint` says that a
+//!    rectangle looks as another did, so a copy may be sent for it.
+//! 5. `compose`, once all that came was fed, appends an update where the client asked for places
+//!    that it lacks. It is sent behind the replies.
+//! 6. An error of `feed` is the last of the connection: nothing is sent any more, and every later
+//!    call gives it again.
+//!
+//! | Bytes | Go to |
+//! |---|---|
+//! | of `greeting`, of an event's `reply`, of `compose`, in this order | the client |
+//! | of the client, in any slices | `feed` |
+//!
+//! `Session` is a server without its screen, which its calls are lent. Several of them show one
+//! screen: each is told where it is drawn on, `drawn`, before the screen changes.
 #![tactic(auto)]
 
 mod cells;
@@ -17,6 +38,7 @@ mod record;
 mod rectangle;
 mod server;
 mod session;
+mod setup;
 
 pub use drawing::row_area;
 pub use event::{MAX_REPLY, ServerEvent};
@@ -24,6 +46,7 @@ pub use fault::{Outside, ServerFault};
 pub use hint::MAX_HINTS;
 pub use server::Server;
 pub use session::Session;
+pub use setup::ServerSetup;
 
 #[cfg(test)]
 mod tests;

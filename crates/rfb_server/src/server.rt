@@ -8,6 +8,7 @@ use crate::drawing::row_area;
 use crate::event::ServerEvent;
 use crate::fault::{Outside, ServerFault};
 use crate::session::Session;
+use crate::setup::ServerSetup;
 use rfb_hello::{Fed, Version};
 use rfb_picture::{Area, Picture, Rect};
 use rfb_pixel::{Colour, Format};
@@ -26,7 +27,8 @@ pub struct Server {
 const BLACK: Colour = Colour { r: 0, g: 0, b: 0 };
 
 impl Server {
-    ghost use Rattle.rfb_picture.specs.Grid.{Holds, filled, copied, with_row};
+    ghost use Rattle.rfb_picture.specs.Grid.{Holds, filled, copied, scrolled};
+    ghost use Rattle.rfb_picture.specs.Grid.{with_row, with_rows};
     ghost use Rattle.rfb_wire.specs.stream.End.{FedBy, RefusedBy, RunsOutBy, StaysFailed};
     ghost use Rattle.rfb_server.specs.declared.fault.ServerFault.TheVariants.{NoMemory};
     ghost use Rattle.rfb_server.specs.ClientBytes.{client_bytes_pending, is_between};
@@ -35,13 +37,13 @@ impl Server {
     ghost use Rattle.rfb_server.specs.Server.{server, AsksMemory};
     ghost use Rattle.rfb_hello.specs.Version.{version_text};
     ghost use Rattle.rfb_server.specs.Standing.{StandsFor, serving_with, serving_of, fault_of};
-    ghost use Rattle.rfb_server.specs.Standing.{screen_of, row_from, HoldsBoth, Draws, Keeps};
+    ghost use Rattle.rfb_server.specs.Standing.{screen_of, row_from, AreOf, HoldsBoth, Draws, Keeps};
     ghost use Rattle.rfb_server.specs.Standing.{notes_of};
     ghost use Rattle.rfb_server.specs.Failing.{KeepsNotes};
     ghost use Rattle.rfb_server.specs.Standing.{session_of};
     ghost use Rattle.rfb_server.specs.Updating.{Updates, WasDue, StaysUnsent};
     ghost use Rattle.rfb_server.specs.Record.{ShowsKnown, TellsKnown};
-    ghost use Rattle.rfb_server.specs.Hints.{hints_of, with_hint};
+    ghost use Rattle.rfb_server.specs.Hints.{hints_of, with_hint, scroll_hint};
     ghost use Rattle.rfb_server.specs.Room.{GrowsWithin, room_for};
     ghost use Rattle.std.specs.Vec.{vec_capacity};
 
@@ -70,6 +72,28 @@ impl Server {
         let screen = Picture::new(alloc, width, height, BLACK)?;
         let session = Session::new(alloc, width, height, name, offer, text_limit)?;
         Ok(Server { screen, session })
+    }
+
+    /// A server as `new` makes it, of these.
+    pub fn of(alloc: Global, setup: ServerSetup) -> Result<Server, AllocError>
+        requires columns { (1 ≤ setup.width) × (setup.width ≤ 4096) }
+        requires rows { (1 ≤ setup.height) × (setup.height ≤ 4096) }
+        requires name { length setup.name.now ≤ 255 }
+        requires texts { setup.text_limit ≤ 1048576 }
+        ensures stands { let setup = setup.entry in
+            let serving = serving_with setup.offer setup.width setup.height setup.name.now
+            setup.text_limit in
+            IfOk result (λ server. StandsFor serving server (first_server serving) []) }
+        ensures hints { IfOk result (λ server. hints_of server ≡ []) }
+    {
+        Server::new(
+            alloc,
+            setup.width,
+            setup.height,
+            setup.name,
+            setup.offer,
+            setup.text_limit,
+        )
     }
 
     /// A server of a screen and a session that follows it, which are its own from here on.
@@ -124,6 +148,26 @@ impl Server {
         Ok(())
     }
 
+    /// Gives colours to a rectangle of the screen: `rows` has its rows from the top, one behind the
+    /// other, each from the left. Where the rectangle leaves the screen, or `rows` has another
+    /// number of colours than it has places, they are refused, and nothing changes; `rows` stays
+    /// the caller's.
+    pub fn put_rows(&mut self, rect: Rect, rows: &[Colour]) -> Result<(), Outside>
+        ensures refused { IsErr result ↔ (AreOf (screen_of self.old) rect rows.now → ⊥) }
+        ensures kept { OnErr result (self.new ≡ self.old) }
+        ensures drawn { OnOk result
+            (Draws (with_rows rect rows.now (screen_of self.old)) self.old self.new) }
+        ensures hints { hints_of self.new ≡ hints_of self.old }
+    {
+        let places = usize::from(rect.h) * usize::from(rect.w);
+        if rows.len() != places || !self.screen.holds(rect) {
+            return Err(Outside);
+        }
+        self.session.drawn(rect);
+        self.screen.put_rows(rect, rows);
+        Ok(())
+    }
+
     /// Gives each place of `dst` what its place of the rectangle of that size at (`sx`, `sy`) had,
     /// as CopyRect does (RFC 6143 section 7.7.2). Where one of them leaves the screen it is
     /// refused, and nothing changes.
@@ -161,6 +205,26 @@ impl Server {
             ≡ with_hint (record { to = dst; sx = sx; sy = sy }) (hints_of self.old)) }
     {
         self.session.hint(dst, sx, sy)
+    }
+
+    /// Moves all that lies in the rectangle `dx` columns to the right and `dy` rows down, or to the
+    /// left and up where they are negative, and gives the hint for it. What leaves the rectangle is
+    /// lost, and the places that nothing came to keep what they had. Where the rectangle leaves the
+    /// screen it is refused, and nothing changes.
+    pub fn scroll(&mut self, rect: Rect, dx: i16, dy: i16) -> Result<(), Outside>
+        ensures refused { IsErr result ↔ (Holds (screen_of self.old) rect → ⊥) }
+        ensures kept { OnErr result (self.new ≡ self.old) }
+        ensures drawn { OnOk result
+            (Draws (scrolled rect dx dy (screen_of self.old)) self.old self.new) }
+        ensures hints { OnOk result (hints_of self.new
+            ≡ with_hint (scroll_hint rect dx dy) (hints_of self.old)) }
+    {
+        if !self.screen.holds(rect) {
+            return Err(Outside);
+        }
+        let (to, from) = rect.scrolled(dx, dy);
+        self.copy(to, from.x, from.y)?;
+        self.hint(to, from.x, from.y)
     }
 
     /// Appends to `out` one FramebufferUpdate, RFC 6143 section 7.6.1, of what the viewer asked for

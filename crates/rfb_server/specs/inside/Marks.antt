@@ -1,14 +1,7 @@
 -- Where a screen may differ from what its viewer has: the places that a session has marked.
-use Rattle.std.specs.Prelude.{◌≡◌, ℕ, ◌<◌, ◌≤◌, Bool, true, false, Option, Some, None}
-use Rattle.rfb_pixel.specs.declared.colour.Colour.{Colour}
-use Rattle.rfb_pixel.specs.Format.{PixelFormat}
-use Rattle.rfb_picture.specs.declared.rect.Rect.{Rect}
-use Rattle.rfb_picture.specs.Rect.{contains}
-use Rattle.rfb_picture.specs.Grid.{Grid, IsGrid, at_or, filled, uniform}
-use Rattle.rfb_picture.specs.Box.{is_in}
-use Rattle.rfb_picture.specs.Area.{Places, IsArea, whole_at, no_places}
-use Rattle.rfb_server.specs.Server.{black}
-use Rattle.rfb_server.specs.Request.{wanted_at}
+use Rattle.std.specs.Prelude.{◌≡◌, ℕ, ◌≤◌, Bool, true, false, Option, None}
+use Rattle.rfb_picture.specs.Grid.{Grid, IsGrid, filled, uniform}
+use Rattle.rfb_picture.specs.Area.{Places, IsArea, no_places}
 
 -- what is known, what is asked and what is marked are of the places of one screen, and a screen has
 -- at most 4,096 columns and as many rows

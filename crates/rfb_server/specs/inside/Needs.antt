@@ -4,13 +4,11 @@ use Rattle.rfb_pixel.specs.declared.colour.Colour.{Colour}
 use Rattle.rfb_pixel.specs.Format.{PixelFormat}
 use Rattle.rfb_picture.specs.declared.rect.Rect.{Rect}
 use Rattle.rfb_picture.specs.Rect.{contains}
-use Rattle.rfb_picture.specs.Grid.{Grid, IsGrid, at_or}
+use Rattle.rfb_picture.specs.Grid.{Grid, at_or}
 use Rattle.rfb_picture.specs.Area.{Places}
 use Rattle.rfb_picture.specs.Box.{IsClear, IsBox}
 use Rattle.rfb_picture.specs.Places.{NoneInRow, has_bit}
-use Rattle.rfb_codec.specs.Effect.{IsAlike}
 use Rattle.rfb_server.specs.Request.{needs_at, differs}
-use Rattle.rfb_server.specs.Following.{IsCaughtUp}
 use Rattle.rfb_server.specs.declared.session.update.needs.Columns.{Columns}
 use Rattle.rfb_server.specs.declared.session.Session.{Session}
 

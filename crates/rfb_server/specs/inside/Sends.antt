@@ -159,6 +159,13 @@ pub record IsNext (session : Session) (n cell : ℕ) : Type 0 where
   pub is_cell : cell < div_ceil session.known.width 64 * div_ceil session.known.height 64
   pub none : NoneMayNeed session n cell
 
+-- only cells from one number on and before another may have such a place; these are the screen's
+pub record AreLimits (session : Session) (first end : ℕ) : Type 0 where
+  pub some : 0 < end → first < end
+  pub within : end ≤ div_ceil session.known.width 64 * div_ceil session.known.height 64
+  pub before : NoneMayNeed session 0 first
+  pub behind : NoneMayNeed session end (div_ceil session.known.width 64 * div_ceil session.known.height 64)
+
 -- that cell comes next, or there is no such place any more
 abbrev pub HasNext : Session → ℕ → Option ℕ → Type 0
 HasNext session n found =

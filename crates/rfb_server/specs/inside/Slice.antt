@@ -2,7 +2,7 @@
 use Rattle.std.specs.Prelude.{◌≡◌, ◌≢◌, ℕ, List, ◌++◌, Option, Result, Err}
 use Rattle.rfb_pixel.specs.declared.colour.Colour.{Colour}
 use Rattle.rfb_picture.specs.Grid.{Grid}
-use Rattle.rfb_wire.specs.stream.End.{FedBy, RunsOutBy, StepsBy}
+use Rattle.rfb_wire.specs.stream.End.{FedBy, StepsBy}
 use Rattle.rfb_server.specs.declared.event.ServerEvent.{ServerEvent}
 use Rattle.rfb_server.specs.declared.fault.ServerFault.{ServerFault}
 use Rattle.rfb_server.specs.declared.fault.ServerFault.TheVariants.{NoMemory}

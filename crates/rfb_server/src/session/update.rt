@@ -6,7 +6,7 @@ ghost use Rattle.std.specs.Bool.{OnTrue, OnFalse};
 ghost use Rattle.std.specs.Int.{div_ceil};
 ghost use Rattle.std.specs.Vec.{vec_capacity};
 ghost use Rattle.rfb_server.specs.Following.{Follows};
-ghost use Rattle.rfb_server.specs.inside.Sends.{IsEnough};
+ghost use Rattle.rfb_server.specs.inside.Sends.{IsEnough, AreLimits};
 ghost use Rattle.rfb_server.specs.inside.Sessions.{IsSame};
 ghost use Rattle.rfb_server.specs.inside.Copies.{usable_hints, AreMarkedFor};
 ghost use Rattle.rfb_server.specs.inside.Composed.{is_ready, IsAwaited, HasComposed, StaysIdle};
@@ -16,6 +16,7 @@ mod cells;
 mod copies;
 mod gains;
 mod needs;
+mod place;
 mod quiet;
 mod room;
 
@@ -24,6 +25,7 @@ use crate::rectangle::COPY_SIZE;
 use crate::session::Session;
 use crate::session::input::progress::Progress;
 use crate::session::update::quiet::NOWHERE;
+use crate::session::update::room::Room;
 use rfb_picture::Picture;
 use rfb_pixel::Colour;
 use rfb_wire::ServerHead;
@@ -97,12 +99,12 @@ impl Session {
         }
         self.mark_hints(screen);
         let room = self.room();
-        if room == 0 {
+        if room.bytes == 0 {
             return Ok(false);
         }
-        let more = UPDATE_HEAD_SIZE + COPY_SIZE * self.usable_hints() + room;
+        let more = UPDATE_HEAD_SIZE + COPY_SIZE * self.usable_hints() + room.bytes;
         match make_room(out, more) {
-            Ok(()) => Ok(self.update(screen, out)),
+            Ok(()) => Ok(self.update(screen, room, out)),
             Err(error) if self.is_due(screen) => Err(error),
             // The cells' marks alone said that there may be one.
             Err(_) => Ok(false),
@@ -120,12 +122,13 @@ impl Session {
     }
 
     // Appends the update, if there is one. There is room for it.
-    fn update(&mut self, screen: &Picture<Colour>, out: &mut Vec<u8>) -> bool
+    fn update(&mut self, screen: &Picture<Colour>, room: Room, out: &mut Vec<u8>) -> bool
         requires about { Follows screen.now self.old }
         requires ready { is_ready self.old.progress ≡ true }
         requires room { (room : ℕ) × IsEnough self.old (div_ceil self.old.known.width 64)
             (div_ceil self.old.known.width 64 * div_ceil self.old.known.height 64) room
             × (vec_len out.old + 4 + 16 * usable_hints self.old + room ≤ vec_capacity out.old) }
+        requires limits { AreLimits self.old room.first room.end }
         requires marked { AreMarkedFor screen.now self.old (usable_hints self.old) }
         ensures about { Follows screen.now self.new }
         ensures composed { OnTrue result
@@ -138,7 +141,7 @@ impl Session {
         append_within(out, ServerHead::Update(0).spell().as_slice());
         let mut quiet = NOWHERE;
         let copies = self.send_copies(screen, out, &mut quiet);
-        let count = copies + self.send_cells(screen, quiet, out);
+        let count = copies + self.send_cells(screen, quiet, room, out);
         if count == 0 {
             out.truncate(start);
             return false;

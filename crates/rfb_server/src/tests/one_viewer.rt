@@ -2,8 +2,7 @@
 
 use super::scene::{feed, ready};
 use super::shared::ORANGE;
-use crate::{Server, ServerEvent};
-use rfb_hello::Version;
+use crate::{Server, ServerSetup};
 use rfb_picture::Rect;
 use std::alloc::{AllocError, Global};
 use std::test::Fail;
@@ -68,19 +67,13 @@ fn serve(server: &mut Server, came: &[u8], sent: &mut Vec<u8>) -> Result<(), Fai
     while !rest.is_empty() {
         let fed = server.feed(rest)?;
         rest = &rest[fed.used..];
-        sent.extend_from_slice(reply_of(&fed.event))?;
+        if let Some(event) = &fed.event {
+            sent.extend_from_slice(event.reply())?;
+        }
     }
     server.fill(PLACE, ORANGE)?;
     server.compose(sent)?;
     Ok(())
-}
-
-fn reply_of(event: &Option<ServerEvent>) -> &[u8] {
-    match event {
-        Some(ServerEvent::Reply(reply)) => reply.as_slice(),
-        Some(ServerEvent::Ready { reply, .. }) => reply.as_slice(),
-        _ => &[],
-    }
 }
 
 fn serves_all(server: &mut Server, alloc: Global) -> Result<bool, Fail> {
@@ -93,7 +86,7 @@ fn serves_all(server: &mut Server, alloc: Global) -> Result<bool, Fail> {
 }
 
 fn serves_one_viewer(alloc: Global) -> Result<bool, Fail> {
-    let mut server = Server::new(alloc, 2, 1, b"t", Version::V38, 1_024)?;
+    let mut server = Server::of(alloc, ServerSetup::usual(2, 1, b"t"))?;
     let served = serves_all(&mut server, alloc);
     drop(server);
     served

@@ -1,6 +1,6 @@
 //! A screen that is scrolled by a row: one CopyRect, and the new row, RFC 6143 section 7.7.2.
 
-use super::scene::{Step, feed, first_wrong, ready};
+use super::scene::{feed, ready};
 use crate::Server;
 use rfb_picture::Rect;
 use rfb_pixel::Colour;
@@ -13,13 +13,6 @@ const LIST: &[u8] = b"\x02\0\0\x02\0\0\0\0\0\0\0\x01";
 const ALL: &[u8] = b"\x03\0\0\0\0\0\0\x40\0\x40";
 
 const CHANGED: &[u8] = b"\x03\x01\0\0\0\0\0\x40\0\x40";
-
-const ALL_BUT_LAST_ROW: Rect = Rect {
-    x: 0,
-    y: 0,
-    w: 64,
-    h: 63,
-};
 
 fn row(y: u16) -> Rect {
     Rect {
@@ -56,27 +49,19 @@ fn is_scrolled(bytes: &[u8]) -> bool {
     blue
 }
 
-// The screen is drawn a row higher, which is hinted, and its last row is blue.
-const SCROLLED: &[Step<'static>] = &[
-    Step::Copy(ALL_BUT_LAST_ROW, 0, 1),
-    Step::Hints(1, ALL_BUT_LAST_ROW, 0, 1),
-    Step::Fill(
-        Rect {
-            x: 0,
-            y: 63,
-            w: 64,
-            h: 1,
-        },
-        BLUE,
-    ),
-    Step::Feed(CHANGED),
-];
-
 const BLUE: Colour = Colour {
     r: 0,
     g: 0,
     b: 65_535,
 };
+
+// Its colours.
+const LAST_ROW: &[Colour] = &[BLUE; 64];
+
+// Whether all moves a row higher, and the last row becomes blue.
+fn scrolls_up(server: &mut Server) -> bool {
+    server.scroll(Rect::whole(64, 64), 0, -1).is_ok() && server.put_rows(row(63), LAST_ROW).is_ok()
+}
 
 // Whether the viewer gets all that it asks for.
 fn sends_all(server: &mut Server, alloc: Global) -> bool {
@@ -89,15 +74,14 @@ fn sends_all(server: &mut Server, alloc: Global) -> bool {
 
 // Whether it is scrolled for the viewer.
 fn sends_scrolled(server: &mut Server, alloc: Global) -> bool {
+    feed(server, CHANGED);
     let mut out = Vec::new(alloc);
     server.compose(&mut out) == Ok(true) && is_scrolled(out.as_slice())
 }
 
 // Whether all that a viewer has is scrolled for it.
 fn scrolls(server: &mut Server, alloc: Global) -> bool {
-    sends_all(server, alloc)
-        && first_wrong(server, alloc, SCROLLED) == None
-        && sends_scrolled(server, alloc)
+    sends_all(server, alloc) && scrolls_up(server) && sends_scrolled(server, alloc)
 }
 
 fn is_sent(alloc: Global) -> Result<bool, AllocError> {

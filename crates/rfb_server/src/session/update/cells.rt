@@ -9,25 +9,29 @@ ghost use Rattle.rfb_codec.specs.Raw.{raw_length};
 ghost use Rattle.rfb_server.specs.inside.Needs.{IsQuiet};
 ghost use Rattle.rfb_server.specs.Following.{Follows};
 ghost use Rattle.rfb_server.specs.inside.Sends.{IsKept, AppendsPixels, SendsCell, AppendsCells};
-ghost use Rattle.rfb_server.specs.inside.Sends.{IsCostIn, IsEnough};
+ghost use Rattle.rfb_server.specs.inside.Sends.{IsCostIn, IsEnough, AreLimits};
 
 use crate::cells::cell_at;
 use crate::rectangle::append_rect;
 use crate::session::Session;
+use crate::session::update::room::Room;
 use rfb_picture::{Picture, Rect};
 use rfb_pixel::Colour;
 
 impl Session {
     /// Sends what of each cell needs sending, and tells how many rectangles that makes. There is
-    /// room for it. Of `quiet` no place does, and so no cell inside it is looked at.
+    /// room for it. Of `quiet` no place does, and so no cell inside it is looked at. `room` tells
+    /// which cells may have such places.
     pub(super) fn send_cells(
         &mut self,
         screen: &Picture<Colour>,
         quiet: Rect,
+        room: Room,
         out: &mut Vec<u8>,
     ) -> u16
         requires about { Follows screen.now self.old }
         requires quiet { IsQuiet screen.now self.old quiet }
+        requires limits { AreLimits self.old room.first room.end }
         requires room { (room : ℕ) × IsEnough self.old (div_ceil self.old.known.width 64)
             (div_ceil self.old.known.width 64 * div_ceil self.old.known.height 64) room
             × (vec_len out.old + room ≤ vec_capacity out.old) }
@@ -42,7 +46,7 @@ impl Session {
         let height = self.known.height();
         let mut count = 0;
         let mut next = 0;
-        while let Some(index) = self.next_cell(next) {
+        while let Some(index) = self.next_within(next, room) {
             let sent = self.send_cell(screen, cell_at(width, height, index), quiet, out);
             count += u16::from(sent);
             next = index + 1;

@@ -139,12 +139,12 @@ impl Session {
         ensures len { vec_len out.new ≤ vec_len out.old + 16 }
         ensures room { vec_capacity out.new ≡ vec_capacity out.old }
     {
-        let Some(right) = self.gains(screen, hint) else {
+        let Some(all) = self.gains(screen, hint) else {
             return false;
         };
         append_copy(hint.to, hint.sx, hint.sy, out);
         self.known.copy(hint.to, hint.sx, hint.sy);
-        *quiet = quiet_behind(hint.to, right);
+        *quiet = quiet_behind(hint.to, all);
         true
     }
 }

@@ -60,12 +60,19 @@ impl Session {
         }
     }
 
-    // The same of a zone, from its first row with such a place on.
+    // The same of a zone, which is one place, or is gone through from its first row with such a
+    // place on.
     fn needed_in_zone(&self, screen: &Picture<Colour>, zone: Rect) -> Option<Rect>
         requires about { Follows screen.now self.now }
         requires held { Holds self.now.known zone }
         ensures { HasBox (needs_of screen.now self.now) zone result }
     {
+        if zone.w == 1 && zone.h == 1 {
+            if self.needs(screen, zone.x, zone.y) {
+                return Some(zone);
+            }
+            return None;
+        }
         let end = zone.x + zone.w;
         for y in zone.y..zone.y + zone.h {
             let first = self.first_needed(screen, y, zone.x, end);

@@ -1,7 +1,7 @@
 //! A rectangle of which no place needs sending, since a copy has left all of it right.
 
-ghost use Rattle.std.specs.Prelude.{◌≡◌, ◌⊎◌, ℕ, ◌*◌, true};
-ghost use Rattle.std.specs.Bool.{OnTrue};
+ghost use Rattle.std.specs.Prelude.{◌≡◌, ℕ, true};
+ghost use Rattle.std.specs.Bool.{OnTrue, OnFalse};
 ghost use Rattle.rfb_picture.specs.Grid.{Holds};
 ghost use Rattle.rfb_picture.specs.Rect.{contains};
 ghost use Rattle.rfb_server.specs.inside.Needs.{HasBox, IsQuiet, needs_of};
@@ -51,11 +51,12 @@ fn lies_in(rect: Rect, outer: Rect) -> bool
         && u32::from(rect.y) + u32::from(rect.h) <= u32::from(outer.y) + u32::from(outer.h)
 }
 
-/// The rectangle of a copy behind which so many of its places are right, if those are all.
-pub(super) fn quiet_behind(to: Rect, right: u32) -> Rect
-    ensures { ((result ≡ to) × (right ≡ to.h * to.w)) ⊎ (result ≡ NOWHERE) }
+/// The rectangle of a copy that leaves all of it right, as is told; else one without a place.
+pub(super) fn quiet_behind(to: Rect, all: bool) -> Rect
+    ensures right { OnTrue all (result ≡ to) }
+    ensures wrong { OnFalse all (result ≡ NOWHERE) }
 {
-    if right == u32::from(to.h) * u32::from(to.w) {
+    if all {
         return to;
     }
     NOWHERE

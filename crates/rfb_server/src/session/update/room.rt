@@ -4,32 +4,65 @@ ghost use Rattle.std.specs.Prelude.{ℕ, ◌+◌, ◌*◌, ◌≤◌};
 ghost use Rattle.std.specs.Int.{div_ceil};
 ghost use Rattle.rfb_server.specs.Cells.{IsCell};
 ghost use Rattle.rfb_server.specs.Room.{cell_room};
-ghost use Rattle.rfb_server.specs.inside.Sends.{IsCostIn, IsEnough, HasNext};
+ghost use Rattle.rfb_server.specs.inside.Sends.{IsCostIn, IsEnough, HasNext, AreLimits};
 
 use crate::cells::cell_at;
 use crate::rectangle::RECT_HEAD_SIZE;
 use crate::session::Session;
 use rfb_picture::Rect;
 
+/// The cells that may have marked places and asked ones.
+#[derive(Clone, Copy, Drop)]
+pub(super) struct Room {
+    /// How many bytes their rectangles take at most; none where no place is both.
+    pub bytes: usize,
+    /// The number of the first of these cells.
+    pub first: usize,
+    /// The number of the cell behind the last of them; 0 where there is none.
+    pub end: usize,
+}
+
 impl Session {
-    /// How many bytes the rectangles of cells take at most, by the cells that may have marked
-    /// places and asked ones: none where no place is both.
-    pub(super) fn room(&self) -> usize
+    /// The cells that may have marked places and asked ones, and the room of their rectangles.
+    pub(super) fn room(&self) -> Room
         ensures enough { IsEnough self.now (div_ceil self.now.known.width 64)
-            (div_ceil self.now.known.width 64 * div_ceil self.now.known.height 64) result }
-        ensures bound { result ≤ 4096 * 16396 }
-        ensures most { result ≤ div_ceil self.now.known.width 64
+            (div_ceil self.now.known.width 64 * div_ceil self.now.known.height 64) result.bytes }
+        ensures limits { AreLimits self.now result.first result.end }
+        ensures bound { result.bytes ≤ 4096 * 16396 }
+        ensures most { result.bytes ≤ div_ceil self.now.known.width 64
             * div_ceil self.now.known.height 64 * cell_room self.now.format }
     {
         let width = self.known.width();
         let height = self.known.height();
-        let mut room = 0;
-        let mut at = 0;
-        while let Some(index) = self.next_cell(at) {
-            room += self.cost_of(cell_at(width, height, index));
-            at = index + 1;
+        let Some(first) = self.next_cell(0) else {
+            return Room {
+                bytes: 0,
+                first: 0,
+                end: 0,
+            };
+        };
+        let mut bytes = self.cost_of(cell_at(width, height, first));
+        let mut end = first + 1;
+        while let Some(index) = self.next_cell(end) {
+            bytes += self.cost_of(cell_at(width, height, index));
+            end = index + 1;
         }
-        room
+        Room { bytes, first, end }
+    }
+
+    /// The same as `next_cell`, where the first of these cells and the end of them are known: one
+    /// that is the first or lies behind them is not searched for.
+    pub(super) fn next_within(&self, from: usize, room: Room) -> Option<usize>
+        requires { AreLimits self.now room.first room.end }
+        ensures { HasNext self.now from result }
+    {
+        if from >= room.end {
+            return None;
+        }
+        if from <= room.first {
+            return Some(room.first);
+        }
+        self.next_cell(from)
     }
 
     /// The number of the first cell from number `from` on that may have marked and asked places.

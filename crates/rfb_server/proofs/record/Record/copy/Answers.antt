@@ -1,6 +1,6 @@
 use Rattle.std.proofs.Common.{false, ap, sym, ◌∙◌}
-use Rattle.rfb_picture.proofs.AreaLemmas.{area-added}
-use Rattle.rfb_picture.proofs.GridLemmas.{whole-changed}
+use Rattle.rfb_picture.proofs.AreaLaws.{area-added}
+use Rattle.rfb_picture.proofs.GridLaws.{whole-changed}
 use Rattle.rfb_server.proofs.RecordLemmas.{width-record_of, height-record_of, record_copied}
 use Rattle.rfb_server.proofs.record.Record.copy.Goals as goal
 

@@ -1,6 +1,6 @@
 use Rattle.std.proofs.Common.{ap, sym, ◌∙◌}
-use Rattle.rfb_picture.proofs.AreaLemmas.{area-no_places}
-use Rattle.rfb_picture.proofs.GridLemmas.{width-uniform, height-uniform}
+use Rattle.rfb_picture.proofs.AreaLaws.{area-no_places}
+use Rattle.rfb_picture.proofs.GridLaws.{width-uniform, height-uniform}
 use Rattle.rfb_server.proofs.RecordLemmas.{width-record_of, height-record_of, record-forgotten}
 use Rattle.rfb_server.proofs.record.Record.forget.Goals as goal
 

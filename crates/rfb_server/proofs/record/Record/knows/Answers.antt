@@ -4,7 +4,7 @@ use Rattle.rfb_picture.specs.Grid.{Grid}
 use Rattle.rfb_picture.specs.Box.{is_in}
 use Rattle.rfb_picture.specs.Places.{AllMarked}
 use Rattle.rfb_picture.specs.Grid.{at_or}
-use Rattle.rfb_picture.proofs.GridLemmas.{contains_true}
+use Rattle.rfb_picture.proofs.GridLaws.{contains_true}
 use Rattle.rfb_server.proofs.RecordLemmas.{width-record_of, height-record_of, at-record_of, known_in}
 use Rattle.rfb_server.proofs.record.Record.knows.Goals as goal
 

@@ -1,5 +1,5 @@
 use Rattle.std.proofs.Common.{false, ap, sym, ◌∙◌}
-use Rattle.rfb_picture.proofs.AreaLemmas.{area-added}
+use Rattle.rfb_picture.proofs.AreaLaws.{area-added}
 use Rattle.rfb_server.proofs.RecordLemmas.{width-record_of, height-record_of, whole-record_of, recorded_of}
 use Rattle.rfb_server.proofs.record.Record.take.Goals as goal
 

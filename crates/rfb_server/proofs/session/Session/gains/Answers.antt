@@ -2,7 +2,9 @@ use Rattle.rfb_picture.specs.Grid.{Holds}
 use Rattle.rfb_codec.specs.RectData.{moved_to}
 use Rattle.rfb_server.specs.inside.Sends.{state_of}
 use Rattle.rfb_server.specs.Using.{move_of}
+use Rattle.rfb_server.specs.inside.Gains.{right_behind}
 use Rattle.rfb_server.proofs.CountLemmas.{gain_is, gain_only}
+use Rattle.rfb_server.proofs.RightRowsLemmas.{not_all}
 use Rattle.rfb_server.proofs.session.Session.gains.Goals as goal
 
 pub returns-clause-useful : goal.returns-clause-useful
@@ -32,3 +34,9 @@ returns-then-not-has_more_right-clause-useless c = λ useful.
     let target : Holds s.known c.args.hint.to = (rw (← size.columns) useful.gain.on_screen.0, rw (← size.rows) useful.gain.on_screen.1) in
     let source : Holds s.known (moved_to c.args.hint.sx c.args.hint.sy c.args.hint.to) = (rw (← size.columns) useful.gain.source_on_screen.0, rw (← size.rows) useful.gain.source_on_screen.1) in
     c.if-not-has_more_right.ensures.no_more (gain_only (state_of c.args.screen.now s) (move_of hint) s.alike.known_whole target source useful.gain.more_right)
+
+pub returns-clause-wrong : goal.returns-clause-wrong
+returns-clause-wrong c =
+    let hint = c.args.hint in
+    let to = hint.to in
+    not_all (right_behind c.args.screen.now c.args.self.now hint) to.x to.y to.w c.rows_right-top.result to.h c.rows_right-top.ensures.within c.rows_right-top.ensures.other

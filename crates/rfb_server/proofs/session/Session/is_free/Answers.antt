@@ -2,7 +2,7 @@ use Rattle.std.proofs.Common.{◌+◌, Bool, subst}
 use Rattle.rfb_picture.specs.Grid.{Grid}
 use Rattle.rfb_picture.specs.Box.{is_in, IsClear}
 use Rattle.rfb_picture.specs.Places.{AllMarked}
-use Rattle.rfb_picture.proofs.GridLemmas.{contains_true}
+use Rattle.rfb_picture.proofs.GridLaws.{contains_true}
 use Rattle.rfb_server.proofs.session.Session.is_free.Goals as goal
 
 pub returns-in-None-clause-free : goal.returns-in-None-clause-free

@@ -1,6 +1,6 @@
 use Rattle.std.proofs.Common.{ap, sym, ◌∙◌}
-use Rattle.rfb_picture.proofs.GridLemmas.{whole-changed, whole-uniform}
-use Rattle.rfb_picture.proofs.AreaLemmas.{area-no_places}
+use Rattle.rfb_picture.proofs.GridLaws.{whole-changed, whole-uniform}
+use Rattle.rfb_picture.proofs.AreaLaws.{area-no_places}
 use Rattle.rfb_hello.proofs.StandingLaws.{server_stands}
 use Rattle.rfb_server.proofs.MarksLemmas.{in_all, caught_unseen}
 use Rattle.rfb_server.proofs.session.Session.new.Goals as goal

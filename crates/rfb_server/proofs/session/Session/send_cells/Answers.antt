@@ -3,7 +3,7 @@ use Rattle.std.specs.Int.{div_ceil}
 use Rattle.rfb_server.specs.Cells.{IsCell}
 use Rattle.rfb_server.specs.inside.Sends.{IsCost, AppendsCells, NoneMayNeed, may_need}
 use Rattle.rfb_server.proofs.RoomLemmas.{sum_more, sum_order, few_cells}
-use Rattle.rfb_server.proofs.SentCells.{cells_start, cells_more, cells_skip, same_wide, same_high, kept_then, kept_same}
+use Rattle.rfb_server.proofs.SentCells.{cells_start, cells_more, cells_skip, same_wide, same_high, kept_then, kept_same, limits_kept}
 use Rattle.rfb_server.proofs.session.Session.send_cells.Goals as goal
 
 pub loop-index-init : goal.loop-index-init
@@ -74,7 +74,15 @@ returns-clause-sent c =
     let l = c.loop-index in
     let wide = same_wide c.args.screen.now s l.self c.requires.about l.invariant.about in
     let high = same_high c.args.screen.now s l.self c.requires.about l.invariant.about in
-    let none : NoneMayNeed l.self l.next (div_ceil l.self.known.width 64 * div_ceil l.self.known.height 64) = rw c.in_default.is at c.next_cell.ensures in
+    let none : NoneMayNeed l.self l.next (div_ceil l.self.known.width 64 * div_ceil l.self.known.height 64) = rw c.in_default.is at c.next_within.ensures in
     let all : div_ceil l.self.known.width 64 * div_ceil l.self.known.height 64 ≡ div_ceil s.known.width 64 * div_ceil s.known.height 64 = rw (wide, high) refl in
     cells_skip l.next (div_ceil s.known.width 64 * div_ceil s.known.height 64) c.args.screen.now s l.self c.args.out.now.items l.out.items l.count c.requires.about l.invariant.about l.invariant.kept l.invariant.within
     (subst (λ (m : ℕ). NoneMayNeed l.self l.next m) all none) l.invariant.sent
+
+pub next_within-requires : goal.next_within-requires
+next_within-requires c =
+    let s = c.args.self.now in
+    let l = c.loop-index in
+    limits_kept s l.self c.args.room.first c.args.room.end l.invariant.kept
+    (same_wide c.args.screen.now s l.self c.requires.about l.invariant.about)
+    (same_high c.args.screen.now s l.self c.requires.about l.invariant.about) c.requires.limits

@@ -46,5 +46,5 @@ returns-in-Ok-clause-room c =
     let s = c.mark_hints.new.self in
     let same = c.mark_hints.ensures.same in
     rw c.update.ensures.room
-    (room_within (vec_capacity c.args.out.now) (vec_len c.args.out.now) c.usable_hints.result c.room-room.result _ (vec_capacity c.make_room.new.out)
+    (room_within (vec_capacity c.args.out.now) (vec_len c.args.out.now) c.usable_hints.result c.room-room.result.bytes _ (vec_capacity c.make_room.new.out)
     c.usable_hints.ensures.few (rw (same.known, same.format) at c.room-room.ensures.most) c.make_room.ensures.most)

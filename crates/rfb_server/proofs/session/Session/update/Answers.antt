@@ -1,10 +1,11 @@
-use Rattle.std.proofs.Common.{◌≡◌, ℕ, ◌+◌, List, [], ◌∷◌, ◌++◌, length, ap, subst, ◌∙◌, rules, arith, vec_len}
+use Rattle.std.proofs.Common.{◌≡◌, ℕ, ◌+◌, List, [], ◌∷◌, ◌++◌, length, ap, sym, subst, ◌∙◌, rules, arith, vec_len}
 use Rattle.std.proofs.lemmas.Grind.{common_steps}
 use Rattle.std.proofs.Math.Seq.{take-append_seam}
 use Rattle.rfb_server.specs.inside.Copies.{AppendsCopies, usable_hints}
 use Rattle.rfb_server.specs.inside.Composed.{IsCounted}
 use Rattle.rfb_server.proofs.UpdateLemmas.{enough_kept, updated, about_updated, sent_whole, stayed}
 use Rattle.rfb_server.proofs.QuietLemmas.{quiet_nowhere}
+use Rattle.rfb_server.proofs.SentCells.{limits_kept}
 use Rattle.rfb_server.proofs.session.Session.update.Goals as goal
 
 pub send_cells-requires-clause-room : goal.send_cells-requires-clause-room
@@ -17,6 +18,13 @@ send_cells-requires-clause-room c =
       enough_kept s copied.new.self c.requires.room.0 copied.ensures.kept copied.ensures.sent.taken.alike c.requires.room.1,
       omega (arith, c.requires.room.2, four, copied.ensures.len, copied.ensures.room, c.append_within.ensures.room),
     )
+
+pub send_cells-requires-clause-limits : goal.send_cells-requires-clause-limits
+send_cells-requires-clause-limits c =
+    let s = c.args.self.now in
+    let copied = c.send_copies-copies in
+    let alike = copied.ensures.sent.taken.alike in
+    limits_kept s copied.new.self c.args.room.first c.args.room.end copied.ensures.kept (sym alike.columns) (sym alike.rows) c.requires.limits
 
 pub returns : goal.returns
 returns c =

@@ -1,5 +1,5 @@
 use Rattle.rfb_picture.specs.Grid.{uniform}
-use Rattle.rfb_picture.proofs.GridLemmas.{whole-uniform, width-uniform, height-uniform}
+use Rattle.rfb_picture.proofs.GridLaws.{whole-uniform, width-uniform, height-uniform}
 use Rattle.rfb_server.specs.Server.{black}
 use Rattle.rfb_server.proofs.tests.shared.Shared.new.Goals as goal
 

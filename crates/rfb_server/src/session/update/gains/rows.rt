@@ -1,0 +1,203 @@
+//! How many places of a row have the wanted pixel, before a copy and behind it.
+
+ghost use Rattle.std.specs.Prelude.{◌≡◌, ◌+◌, ◌-◌, ◌*◌, ◌/◌, ◌≤◌, ◌<◌, length, map};
+ghost use Rattle.rfb_pixel.specs.Format.{pixel_of};
+ghost use Rattle.rfb_picture.specs.Grid.{row_of};
+ghost use Rattle.rfb_server.specs.Following.{Follows};
+ghost use Rattle.rfb_server.specs.Composing.{count_row};
+ghost use Rattle.rfb_server.specs.inside.Gains.{MayCopy, part, right_before, right_behind};
+
+use crate::hint::Hint;
+use crate::session::Session;
+use rfb_picture::{Picture, Rect};
+use rfb_pixel::{Colour, count_equal, differing, first_diff};
+
+/// So many places have the wanted pixel: as they are, and behind a copy.
+#[derive(Clone, Copy, Drop)]
+pub(super) struct Right {
+    pub before: u32,
+    pub behind: u32,
+}
+
+impl Session {
+    /// How many places of one row have it behind the copy, in parts of 64 places.
+    pub(super) fn behind_in_row(&self, screen: &Picture<Colour>, row: Hint) -> u32
+        requires about { Follows screen.now self.now }
+        requires copy { MayCopy self.now.known row }
+        requires single { row.to.h ≡ 1 }
+        ensures value { result
+            ≡ count_row (right_behind screen.now self.now row) row.to.x row.to.y row.to.w }
+        ensures few { result ≤ row.to.w }
+    {
+        let end = row.to.x + row.to.w;
+        let mut count = 0;
+        let mut x = row.to.x;
+        while x < end {
+            let next = end.min(x + 64);
+            count += self.behind_in_part(screen, part_of(row, x, next));
+            x = next;
+        }
+        count
+    }
+
+    // The same of at most 64 places of a row.
+    fn behind_in_part(&self, screen: &Picture<Colour>, part: Hint) -> u32
+        requires about { Follows screen.now self.now }
+        requires copy { MayCopy self.now.known part }
+        requires single { part.to.h ≡ 1 }
+        requires few { part.to.w ≤ 64 }
+        ensures value { result
+            ≡ count_row (right_behind screen.now self.now part) part.to.x part.to.y part.to.w }
+        ensures few { result ≤ part.to.w }
+    {
+        let mut row = [0; 64];
+        let wanted = &mut row[..usize::from(part.to.w)];
+        let colours = screen.row(part.to.x, part.to.y, part.to.w);
+        self.format.pack_row(colours, wanted);
+        self.behind_by(screen, part, wanted)
+    }
+
+    // The same where the wanted pixels are given. All of the source is known.
+    fn behind_by(&self, screen: &Picture<Colour>, part: Hint, wanted: &[u32]) -> u32
+        requires about { Follows screen.now self.now }
+        requires copy { MayCopy self.now.known part }
+        requires single { part.to.h ≡ 1 }
+        requires wanted { wanted.now ≡ map (pixel_of self.now.format)
+            (row_of screen.now part.to.x part.to.y part.to.w) }
+        requires len { length wanted.now ≡ part.to.w }
+        ensures value { result
+            ≡ count_row (right_behind screen.now self.now part) part.to.x part.to.y part.to.w }
+        ensures few { result ≤ part.to.w }
+    {
+        let to = part.to;
+        let source = self.known.pixels().row(part.sx, part.sy, to.w);
+        // Mostly all are the same, which one compare tells.
+        if first_diff(wanted, source).is_none() {
+            return u32::from(to.w);
+        }
+        count_equal(wanted, source) as u32
+    }
+
+    /// How many places of one row have it as they are, in parts of one cell each.
+    pub(super) fn before_in_row(&self, screen: &Picture<Colour>, row: Hint) -> u32
+        requires about { Follows screen.now self.now }
+        requires copy { MayCopy self.now.known row }
+        requires single { row.to.h ≡ 1 }
+        ensures value { result
+            ≡ count_row (right_before screen.now self.now row) row.to.x row.to.y row.to.w }
+        ensures few { result ≤ row.to.w }
+    {
+        let end = row.to.x + row.to.w;
+        let mut count = 0;
+        let mut x = row.to.x;
+        while x < end {
+            let next = end.min(x / 64 * 64 + 64);
+            count += self.before_in_part(screen, part_of(row, x, next));
+            x = next;
+        }
+        count
+    }
+
+    // The same of places of one cell.
+    fn before_in_part(&self, screen: &Picture<Colour>, part: Hint) -> u32
+        requires about { Follows screen.now self.now }
+        requires copy { MayCopy self.now.known part }
+        requires single { part.to.h ≡ 1 }
+        requires some { 0 < part.to.w }
+        requires cell { part.to.x + part.to.w ≤ part.to.x / 64 * 64 + 64 }
+        ensures value { result
+            ≡ count_row (right_before screen.now self.now part) part.to.x part.to.y part.to.w }
+        ensures few { result ≤ part.to.w }
+    {
+        let mut row = [0; 64];
+        let wanted = &mut row[..usize::from(part.to.w)];
+        let colours = screen.row(part.to.x, part.to.y, part.to.w);
+        self.format.pack_row(colours, wanted);
+        self.before_by(screen, part, wanted)
+    }
+
+    // The same where the wanted pixels are given: those that are known, and have them.
+    fn before_by(&self, screen: &Picture<Colour>, part: Hint, wanted: &[u32]) -> u32
+        requires about { Follows screen.now self.now }
+        requires copy { MayCopy self.now.known part }
+        requires single { part.to.h ≡ 1 }
+        requires some { 0 < part.to.w }
+        requires cell { part.to.x + part.to.w ≤ part.to.x / 64 * 64 + 64 }
+        requires wanted { wanted.now ≡ map (pixel_of self.now.format)
+            (row_of screen.now part.to.x part.to.y part.to.w) }
+        requires len { length wanted.now ≡ part.to.w }
+        ensures value { result
+            ≡ count_row (right_before screen.now self.now part) part.to.x part.to.y part.to.w }
+        ensures few { result ≤ part.to.w }
+    {
+        let to = part.to;
+        let pixels = self.known.pixels();
+        let known = self.known.known().asked();
+        let other = differing(wanted, pixels.row(to.x, to.y, to.w)) << (to.x % 64);
+        let right = known.row_bits_between(to.y, to.x, to.x + to.w) & !other;
+        right.count_ones()
+    }
+
+    /// Both counts of one row, for which it is packed once.
+    pub(super) fn right_in_row(&self, screen: &Picture<Colour>, row: Hint) -> Right
+        requires about { Follows screen.now self.now }
+        requires copy { MayCopy self.now.known row }
+        requires single { row.to.h ≡ 1 }
+        ensures before { result.before
+            ≡ count_row (right_before screen.now self.now row) row.to.x row.to.y row.to.w }
+        ensures behind { result.behind
+            ≡ count_row (right_behind screen.now self.now row) row.to.x row.to.y row.to.w }
+        ensures few { (result.before ≤ row.to.w) × (result.behind ≤ row.to.w) }
+    {
+        let end = row.to.x + row.to.w;
+        let (mut before, mut behind) = (0, 0);
+        let mut x = row.to.x;
+        while x < end {
+            let next = end.min(x / 64 * 64 + 64);
+            let right = self.right_in_part(screen, part_of(row, x, next));
+            before += right.before;
+            behind += right.behind;
+            x = next;
+        }
+        Right { before, behind }
+    }
+
+    // The same of places of one cell.
+    fn right_in_part(&self, screen: &Picture<Colour>, part: Hint) -> Right
+        requires about { Follows screen.now self.now }
+        requires copy { MayCopy self.now.known part }
+        requires single { part.to.h ≡ 1 }
+        requires some { 0 < part.to.w }
+        requires cell { part.to.x + part.to.w ≤ part.to.x / 64 * 64 + 64 }
+        ensures before { result.before
+            ≡ count_row (right_before screen.now self.now part) part.to.x part.to.y part.to.w }
+        ensures behind { result.behind
+            ≡ count_row (right_behind screen.now self.now part) part.to.x part.to.y part.to.w }
+        ensures few { (result.before ≤ part.to.w) × (result.behind ≤ part.to.w) }
+    {
+        let mut row = [0; 64];
+        let wanted = &mut row[..usize::from(part.to.w)];
+        let colours = screen.row(part.to.x, part.to.y, part.to.w);
+        self.format.pack_row(colours, wanted);
+        Right {
+            before: self.before_by(screen, part, wanted),
+            behind: self.behind_by(screen, part, wanted),
+        }
+    }
+}
+
+// The copy of the columns of a row from one up to another.
+fn part_of(row: Hint, from: u16, to: u16) -> Hint
+    requires from { row.to.x ≤ from }
+    requires order { from ≤ to }
+    requires last { row.sx + (from - row.to.x) ≤ 4096 }
+    ensures { result ≡ part row from to }
+{
+    let sx = row.sx + (from - row.to.x);
+    let to = Rect {
+        x: from,
+        w: to - from,
+        ..row.to
+    };
+    Hint { to, sx, ..row }
+}
