@@ -93,11 +93,11 @@ refused e old new n refusal v message fault stands some same = (
 )
 
 -- the viewer that takes it is ready
-call_ready : (at : ServerAt) → None ≡ call_refused at → (p : UpdatePoint) × (at ≡ Second p)
+pub call_ready : (at : ServerAt) → None ≡ call_refused at → (p : UpdatePoint) × (at ≡ Second p)
 call_ready (First point) none = absurd cc
 call_ready (Second p) none = (p, refl)
 
-request_ready : (at : ServerAt) (outstanding : Bool) (rect : Rect) →
+pub request_ready : (at : ServerAt) (outstanding : Bool) (rect : Rect) →
     None ≡ request_refused at outstanding rect → (p : UpdatePoint) × (at ≡ Second p)
 request_ready (First point) outstanding rect none = absurd cc
 request_ready (Second p) outstanding rect none = (p, refl)

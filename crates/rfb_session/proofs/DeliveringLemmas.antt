@@ -41,7 +41,7 @@ pub to_server_length : (e : Ends) (w : Link) (n : Network) → LinkStandsFor e n
     length w.to_server ≡ flight_to_server e n.link
 to_server_length e w n stands = server_flight e n.link _ stands.carries.flies
 
-viewer_reached : (e : Ends) (n : Network) (l : LinkState) (count : ℕ) → IsReached e n →
+pub viewer_reached : (e : Ends) (n : Network) (l : LinkState) (count : ℕ) → IsReached e n →
     count ≤ flight_to_viewer e n.link → MovesToViewer e n.link count l →
     IsReached e (record n { link = l })
 viewer_reached e n l count r few moves =
@@ -49,7 +49,7 @@ viewer_reached e n l count r few moves =
     reached_step e n (record n { link = l }) (ToViewer count) r
     (refl, subst (λ (k : ℕ). MovesToViewer e n.link k l) (sym all) moves)
 
-server_reached : (e : Ends) (n : Network) (l : LinkState) (count : ℕ) → IsReached e n →
+pub server_reached : (e : Ends) (n : Network) (l : LinkState) (count : ℕ) → IsReached e n →
     count ≤ flight_to_server e n.link → MovesToServer e n.screen n.link count l →
     IsReached e (record n { link = l })
 server_reached e n l count r few moves =

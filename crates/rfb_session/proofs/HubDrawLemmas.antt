@@ -1,50 +1,40 @@
 -- Drawings on the screen of a hub, and hints.
-use Rattle.std.proofs.Common.{◌≡◌, ◌≢◌, ◌<◌, ◌≤◌, ◌⊎◌, ◌+◌, nat_eq, ℕ, true, false, List, length, set, All, Option, Some, None, inl, inr, refl, sym, ap, ◌∙◌, subst}
+use Rattle.std.proofs.Common.{◌≡◌, ◌<◌, ◌⊎◌, nat_eq, ℕ, true, false, List, length, set, All, Option, Some, None, inl, inr, refl, sym, ap, ◌∙◌, subst}
 use Rattle.std.specs.Option.{ForSome}
-use Rattle.std.proofs.lemmas.Bool.{cases_eq}
 use Rattle.rfb_pixel.specs.declared.colour.Colour.{Colour}
 use Rattle.rfb_picture.specs.declared.rect.Rect.{Rect}
 use Rattle.rfb_picture.specs.Rect.{contains}
 use Rattle.rfb_picture.specs.Grid.{Grid, Holds, changed}
 use Rattle.rfb_codec.specs.RectData.{moved_to}
 use Rattle.rfb_hello.specs.declared.version.Version.{Version}
-use Rattle.rfb_server.specs.declared.session.Session.{Session}
 use Rattle.rfb_server.specs.Following.{Follows}
 use Rattle.rfb_server.specs.Standing.{HoldsBoth, notes_in, serving_with}
-use Rattle.rfb_server.proofs.FollowingLaws.{follows_changed}
 use Rattle.rfb_session.specs.declared.hub.Hub.{Hub}
 use Rattle.rfb_session.specs.declared.hub.event.HubEvent.{HubEvent}
-use Rattle.rfb_session.specs.declared.hub.event.HubFault.{HubFault}
 use Rattle.rfb_session.specs.declared.hub.event.HubFault.TheVariants.{Outside}
 use Rattle.rfb_session.specs.declared.hub.event.HubTold.{HubTold}
 use Rattle.rfb_session.specs.declared.hub.seat.Seat.{Seat}
 use Rattle.rfb_session.specs.Hub.{seat_in, serving_in}
 use Rattle.rfb_session.specs.HubSeats.{KeepsSeat, IsDrawnOn, IsHintable, IsHintedOn, SeatStandsFor}
-use Rattle.rfb_session.specs.HubSlots.{seat_at, OnSlot}
+use Rattle.rfb_session.specs.Slots.{seat_at, OnSlot}
 use Rattle.rfb_session.specs.HubSteps.{HubActs, StaysAs, SlotSteps, SlotTells, HubSteps}
 use Rattle.rfb_session.specs.Link.{Ends}
 use Rattle.rfb_session.specs.Network.{Network, Draws}
 use Rattle.rfb_session.proofs.DrawnLemmas.{link_drawn, held_or_not}
-use Rattle.rfb_session.proofs.HubSlotLemmas.{one_seat, not_both, some_fault, on_seat, each_seat, all_seats, seat_set_same, seat_set_other, other}
+use Rattle.rfb_session.proofs.FollowLemmas.{AllFollow, held_known, all_about, all_drawn, all_still, all_set, all_emptied}
+use Rattle.rfb_session.proofs.HubSlotLemmas.{some_fault}
+use Rattle.rfb_session.proofs.SlotLemmas.{one_seat, on_seat}
 
 -- ---- what each seat follows
 
 abbrev pub EachFollows : Grid Colour → List (Option Seat) → Type 0
-EachFollows screen slots = All (λ slot. ForSome slot (λ seat. Follows screen seat.link.session)) slots
-
--- what lies on the screen lies on those that a session is about
-pub held_known : (screen : Grid Colour) (session : Session) (rect : Rect) → Follows screen session →
-    Holds screen rect → Holds (notes_in session).known rect
-held_known screen session rect follows held = (
-  subst (λ (n : ℕ). rect.x + rect.w ≤ n) follows.alike.columns held.0,
-  subst (λ (n : ℕ). rect.y + rect.h ≤ n) follows.alike.rows held.1,
-)
+EachFollows screen slots = AllFollow (λ seat. seat.link.session) screen slots
 
 pub all_held : (screen : Grid Colour) (slots : List (Option Seat)) (rect : Rect) →
     EachFollows screen slots → Holds screen rect →
     All (λ slot. ForSome slot (λ seat. Holds (notes_in seat.link.session).known rect)) slots
-all_held screen slots rect follow held = λ k d within seat is.
-    held_known screen seat.link.session rect (follow k d within seat is) held
+all_held screen slots rect follow held =
+    all_about (λ seat. seat.link.session) screen slots rect follow held
 
 pub all_hintable : (screen : Grid Colour) (slots : List (Option Seat)) (rect : Rect) (sx sy : ℕ) →
     EachFollows screen slots → HoldsBoth screen rect sx sy →
@@ -62,19 +52,16 @@ pub drawn_follow : (screen after : Grid Colour) (old new : List (Option Seat)) (
     after ≡ changed f screen →
     ((x y : ℕ) (c : Colour) → contains rect x y ≡ false → f x y c ≡ c) → EachFollows after new
 drawn_follow screen after old new rect f follow drawn is outside =
-    all_seats (λ seat. Follows after seat.link.session) new (λ k seat there.
-    let one = on_seat (λ a b. IsDrawnOn rect a b) (seat_at k old) (seat_at k new) seat (drawn k) there in
-    follows_changed one.0.link.session seat.link.session screen after rect f
-    (each_seat (λ s. Follows screen s.link.session) old follow k one.0 one.1) one.2.follows is outside)
+    all_drawn (λ seat. seat.link.session) (λ a b. IsDrawnOn rect a b) screen after old new rect f
+    (λ a b one. one.follows) follow drawn is outside
 
 pub hinted_follow : (screen : Grid Colour) (old new : List (Option Seat)) (rect : Rect) (sx sy : ℕ) →
     EachFollows screen old →
     ((k : ℕ) → OnSlot (λ a b. IsHintedOn rect sx sy a b) (seat_at k old) (seat_at k new)) →
     EachFollows screen new
 hinted_follow screen old new rect sx sy follow hinted =
-    all_seats (λ seat. Follows screen seat.link.session) new (λ k seat there.
-    let one = on_seat (λ a b. IsHintedOn rect sx sy a b) (seat_at k old) (seat_at k new) seat (hinted k) there in
-    one.2.follows screen (each_seat (λ s. Follows screen s.link.session) old follow k one.0 one.1))
+    all_still (λ seat. seat.link.session) (λ a b. IsHintedOn rect sx sy a b) screen old new
+    (λ a b one. one.follows screen) follow hinted
 
 -- one slot is set
 pub set_follow : (screen : Grid Colour) (slots : List (Option Seat)) (i : ℕ) (x : Option Seat) →
@@ -82,33 +69,14 @@ pub set_follow : (screen : Grid Colour) (slots : List (Option Seat)) (i : ℕ) (
     ((seat : Seat) → x ≡ Some seat → Follows screen seat.link.session) →
     EachFollows screen (set slots i x)
 set_follow screen slots i x within follow one =
-    all_seats (λ seat. Follows screen seat.link.session) (set slots i x) (λ k seat there.
-    by k seat there (cases_eq k i))
-  where
-    by : (k : ℕ) (seat : Seat) → seat_at k (set slots i x) ≡ Some seat → ((k ≡ i) ⊎ (k ≢ i)) →
-        Follows screen seat.link.session
-    by k seat there (inl is) =
-        one seat (sym (seat_set_same slots i x within)
-        ∙ (ap (λ (j : ℕ). seat_at j (set slots i x)) (sym is) ∙ there))
-    by k seat there (inr differ) =
-        each_seat (λ s. Follows screen s.link.session) slots follow k seat
-        (sym (seat_set_other slots i k x (other k i differ)) ∙ there)
+    all_set (λ seat. seat.link.session) screen slots i x within follow one
 
 -- all but one slot are emptied
 pub emptied_follow : (screen : Grid Colour) (old new : List (Option Seat)) (own : ℕ) →
     EachFollows screen old → seat_at own new ≡ seat_at own old →
     ((k : ℕ) → nat_eq k own ≡ false → seat_at k new ≡ None) → EachFollows screen new
 emptied_follow screen old new own follow same emptied =
-    all_seats (λ seat. Follows screen seat.link.session) new (λ k seat there.
-    by k seat there (cases_eq k own))
-  where
-    by : (k : ℕ) (seat : Seat) → seat_at k new ≡ Some seat → ((k ≡ own) ⊎ (k ≢ own)) →
-        Follows screen seat.link.session
-    by k seat there (inl is) =
-        each_seat (λ s. Follows screen s.link.session) old follow k seat
-        (ap (λ (j : ℕ). seat_at j old) is ∙ (sym same ∙ (ap (λ (j : ℕ). seat_at j new) (sym is) ∙ there)))
-    by k seat there (inr differ) =
-        absurd (not_both (seat_at k new) seat there (emptied k (other k own differ)))
+    all_emptied (λ seat. seat.link.session) screen old new own follow same emptied
 
 -- ---- what it is made with
 

@@ -11,7 +11,7 @@ use Rattle.rfb_viewer.specs.declared.viewer.Viewer.{Viewer}
 use Rattle.rfb_viewer.specs.Viewer.{first_viewer}
 use Rattle.rfb_viewer.specs.Standing.{StandsFor as ViewerStandsFor, viewing_with}
 use Rattle.rfb_session.specs.declared.hub.Hub.{Hub}
-use Rattle.rfb_session.specs.declared.hub.event.Setup.{Setup}
+use Rattle.rfb_viewer.specs.declared.setup.ViewerSetup.{ViewerSetup as Setup}
 use Rattle.rfb_session.specs.declared.hub.seat.Seat.{Seat}
 use Rattle.rfb_session.specs.declared.link.Link.{Link}
 use Rattle.rfb_session.specs.Hub.{serving_in, IsFreshSeat}

@@ -1,5 +1,5 @@
 -- What the slots of a hub stand for, step after step.
-use Rattle.std.proofs.Common.{◌≡◌, ◌≢◌, ◌⊎◌, ℕ, Bool, true, false, List, [], ◌∷◌, ◌++◌, Option, Some, None, inl, inr, refl, sym, ap, ◌∙◌, subst}
+use Rattle.std.proofs.Common.{◌≡◌, ◌≢◌, ◌⊎◌, ℕ, Bool, true, false, List, [], ◌∷◌, ◌++◌, Some, None, inl, inr, refl, sym, ap, ◌∙◌, subst}
 use Rattle.std.proofs.lemmas.Bool.{cases_eq}
 use Rattle.rfb_pixel.specs.declared.colour.Colour.{Colour}
 use Rattle.rfb_picture.specs.Grid.{Grid}
@@ -10,20 +10,20 @@ use Rattle.rfb_session.specs.declared.event.Event.TheVariants.{Fill as OfFill, P
 use Rattle.rfb_session.specs.declared.hub.Hub.{Hub}
 use Rattle.rfb_session.specs.declared.hub.event.HubEvent.{HubEvent}
 use Rattle.rfb_session.specs.declared.hub.event.HubEvent.TheVariants.{Fill, Put, Copy, Hint, Join, Leave, Of, Foreign}
-use Rattle.rfb_session.specs.declared.hub.event.HubFault.{HubFault}
 use Rattle.rfb_session.specs.declared.hub.event.HubFault.TheVariants.{Outside}
 use Rattle.rfb_session.specs.declared.hub.event.HubTold.{HubTold}
-use Rattle.rfb_session.specs.declared.hub.event.Setup.{Setup}
+use Rattle.rfb_viewer.specs.declared.setup.ViewerSetup.{ViewerSetup as Setup}
 use Rattle.rfb_session.specs.declared.hub.seat.Seat.{Seat}
 use Rattle.rfb_session.specs.Hub.{seat_in, serving_in, IsFreshSeat, Each, HubStands, IsEmptyHub}
 use Rattle.rfb_session.specs.HubSeats.{event_of, ends_of, KeepsSeat, IsDrawnOn, IsHintedOn, SeatStandsFor, SeatDoes}
-use Rattle.rfb_session.specs.HubSlots.{OnSlot}
-use Rattle.rfb_session.specs.HubSteps.{DrawsHub, JoinsAs, Beyond, Taken, Joined, LeavesAs, NoneLeft, Left, ForeignAs, NoneFed, Fed, HappensAs, NoneThere, Happened, StaysUnless, SlotSteps, HubSteps, RunsHub}
+use Rattle.rfb_session.specs.HubSteps.{DrawsHub, JoinsAs, Beyond, Taken, Joined, LeavesAs, NoneLeft, Left, ForeignAs, NoneFed, Fed, HappensAs, NoneThere, Happened, SlotSteps, HubSteps, RunsHub}
+use Rattle.rfb_session.specs.Slots.{OnSlot, StaysUnless}
 use Rattle.rfb_session.specs.InFlight.{AreMade}
 use Rattle.rfb_session.specs.Link.{Ends, first_link}
 use Rattle.rfb_session.specs.LinkStanding.{server_fault_of, viewer_fault_of}
 use Rattle.rfb_session.specs.Network.{Network, IsReached}
-use Rattle.rfb_session.proofs.HubSlotLemmas.{one_seat, not_both, not_clear, some_fault, other, on_seat}
+use Rattle.rfb_session.proofs.HubSlotLemmas.{some_fault}
+use Rattle.rfb_session.proofs.SlotLemmas.{one_seat, not_both, not_clear, other, on_seat}
 use Rattle.rfb_session.proofs.NetworkLemmas.{first_reached}
 use Rattle.rfb_session.proofs.WorldLemmas.{reached_step}
 

@@ -10,7 +10,7 @@ use Rattle.rfb_session.specs.declared.hub.event.HubEvent.TheVariants.{Join, Leav
 use Rattle.rfb_session.specs.declared.hub.event.HubFault.{HubFault}
 use Rattle.rfb_session.specs.declared.hub.event.HubFault.TheVariants.{NoSuchSlot}
 use Rattle.rfb_session.specs.declared.hub.event.HubTold.{HubTold}
-use Rattle.rfb_session.specs.declared.hub.event.Setup.{Setup}
+use Rattle.rfb_viewer.specs.declared.setup.ViewerSetup.{ViewerSetup as Setup}
 use Rattle.rfb_session.specs.declared.hub.event.SlotEvent.{SlotEvent}
 use Rattle.rfb_session.specs.declared.hub.seat.Seat.{Seat}
 use Rattle.rfb_session.specs.declared.told.Delivery.{Delivery}
@@ -18,14 +18,16 @@ use Rattle.rfb_session.specs.declared.told.Refused.{Refused}
 use Rattle.rfb_session.specs.declared.told.Told.{Told}
 use Rattle.rfb_session.specs.Hub.{seat_in, serving_in}
 use Rattle.rfb_session.specs.HubSeats.{event_of, SeatDoes, SeatStandsFor}
-use Rattle.rfb_session.specs.HubSteps.{JoinsAs, Beyond, Taken, Joined, LeavesAs, NoneLeft, Left, ForeignAs, NoneFed, Fed, EndsAs, NoneThere, Happened, StaysUnless, StaysAs, IsOther, HubActs, SlotSteps, SlotTells, SlotsDo, HubSteps}
+use Rattle.rfb_session.specs.HubSteps.{JoinsAs, Beyond, Taken, Joined, LeavesAs, NoneLeft, Left, ForeignAs, NoneFed, Fed, EndsAs, NoneThere, Happened, StaysAs, IsOther, HubActs, SlotSteps, SlotTells, SlotsDo, HubSteps}
+use Rattle.rfb_session.specs.Slots.{StaysUnless}
 use Rattle.rfb_session.specs.HubTelling.{IsMere, TellsFor, hub_refusal}
 use Rattle.rfb_session.specs.InFlight.{AreMade}
 use Rattle.rfb_session.specs.Link.{Ends}
 use Rattle.rfb_session.specs.LinkStanding.{LinkStandsFor}
 use Rattle.rfb_session.specs.Network.{Network, Steps, IsReached}
 use Rattle.rfb_session.specs.Told.{Tells}
-use Rattle.rfb_session.proofs.HubSlotLemmas.{one_seat, not_both, not_clear, some_fault, apart, other, no_bit}
+use Rattle.rfb_session.proofs.HubSlotLemmas.{some_fault}
+use Rattle.rfb_session.proofs.SlotLemmas.{one_seat, not_both, not_clear, apart, other, no_bit}
 
 -- what holds of a hub that nothing was changed of
 as_before : (old new : Hub) (k : ℕ) → new ≡ old → seat_in new k ≡ seat_in old k
@@ -38,12 +40,6 @@ pub stays_mere : (told : HubTold) (k : ℕ) (a b : Option Seat) → IsMere told 
     StaysUnless (has_bit told.ended k) a b
 stays_mere told k a b mere same =
     let clear : has_bit told.ended k ≡ false = ap (λ (n : ℕ). has_bit n k) mere.ended ∙ no_bit k in
-    (λ set. absurd (not_clear _ set clear), λ not_set. same)
-
-pub stays_clear : (ended k : ℕ) (a b : Option Seat) → ended ≡ 0 → b ≡ a →
-    StaysUnless (has_bit ended k) a b
-stays_clear ended k a b none same =
-    let clear : has_bit ended k ≡ false = ap (λ (n : ℕ). has_bit n k) none ∙ no_bit k in
     (λ set. absurd (not_clear _ set clear), λ not_set. same)
 
 -- a seat that is as it was stands for what it did

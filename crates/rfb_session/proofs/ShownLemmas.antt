@@ -24,7 +24,7 @@ shown_whole (Second p) picture stored (inr (before, now, was, is, pieces)) =
     ap (λ (b : List ℕ). length b) pieces.prefix_is in
     absurd (omega (arith, all, length-append pieces.front pieces.body, pieces.awaits.head_is.size))
 
-no_bytes : (bytes : List ℕ) → length bytes ≡ 0 → bytes ≡ []
+pub no_bytes : (bytes : List ℕ) → length bytes ≡ 0 → bytes ≡ []
 no_bytes [] none = refl
 no_bytes (byte ∷ bytes) none = absurd (omega (arith, none))
 

@@ -8,7 +8,7 @@ use Rattle.rfb_server.specs.Standing.{serving_with}
 use Rattle.rfb_session.specs.declared.hub.Hub.{Hub}
 use Rattle.rfb_session.specs.declared.hub.event.HubEvent.{HubEvent}
 use Rattle.rfb_session.specs.declared.hub.event.HubEvent.TheVariants.{Of, Foreign}
-use Rattle.rfb_session.specs.declared.hub.event.Setup.{Setup}
+use Rattle.rfb_viewer.specs.declared.setup.ViewerSetup.{ViewerSetup as Setup}
 use Rattle.rfb_session.specs.declared.hub.seat.Seat.{Seat}
 use Rattle.rfb_session.specs.Link.{Ends, first_link}
 use Rattle.rfb_session.specs.LinkStanding.{LinkStandsFor, server_fault_of, viewer_fault_of}
@@ -16,9 +16,9 @@ use Rattle.rfb_session.specs.LinkStanding.{number_of}
 use Rattle.rfb_session.specs.LinkStanding.{shown_on}
 use Rattle.rfb_session.specs.Headline.{IsHeadline, ShowsKnown, ShowsLatest, due_picture}
 use Rattle.rfb_session.specs.HubSeats.{ends_of, SeatStandsFor, HasFewSlotBytes}
-use Rattle.rfb_session.specs.HubSlots.{seat_at}
 use Rattle.rfb_session.specs.InFlight.{AreMade}
 use Rattle.rfb_session.specs.Network.{Network, IsReached}
+use Rattle.rfb_session.specs.Slots.{seat_at}
 
 -- ---- what a hub is
 

@@ -18,7 +18,7 @@ use Rattle.rfb_session.specs.declared.event.Event.TheVariants.{CutText as OfText
 use Rattle.rfb_session.specs.declared.event.Event.TheVariants.{Compose as OfComposing}
 use Rattle.rfb_session.specs.declared.event.Event.TheVariants.{ToServer as OfServer}
 use Rattle.rfb_session.specs.declared.event.Event.TheVariants.{ToViewer as OfViewer}
-use Rattle.rfb_session.specs.declared.hub.event.Setup.{Setup}
+use Rattle.rfb_viewer.specs.declared.setup.ViewerSetup.{ViewerSetup as Setup}
 use Rattle.rfb_session.specs.declared.hub.event.SlotEvent.{SlotEvent}
 use Rattle.rfb_session.specs.declared.hub.event.SlotEvent.TheVariants.{Request, SetFormat}
 use Rattle.rfb_session.specs.declared.hub.event.SlotEvent.TheVariants.{SetEncodings, Key, Pointer}

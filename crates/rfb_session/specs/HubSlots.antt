@@ -1,25 +1,11 @@
--- The slots of a hub: each is empty, or has a viewer's seat.
-use Rattle.std.specs.Prelude.{ℕ, Bool, true, false, List, Option, Some, None, slice_index_or}
+-- What happens in one slot of a hub.
+use Rattle.std.specs.Prelude.{ℕ, Bool, true, false, List, Option, Some, None}
 use Rattle.rfb_pixel.specs.declared.colour.Colour.{Colour}
 use Rattle.rfb_picture.specs.Grid.{Grid}
 use Rattle.rfb_session.specs.declared.hub.event.SlotEvent.{SlotEvent}
 use Rattle.rfb_session.specs.declared.hub.seat.Seat.{Seat}
 use Rattle.rfb_session.specs.declared.told.Delivery.{Delivery}
 use Rattle.rfb_session.specs.HubSeats.{SeatDoes, SeatSpares, TakesForeign}
-
--- the seat of slot k, where it is taken; past the last slot there is none
-abbrev pub seat_at : ℕ → List (Option Seat) → Option Seat
-seat_at k slots = slice_index_or slots k None
-
-abbrev pub is_taken : Option Seat → Bool
-is_taken None = false
-is_taken (Some seat) = true
-
--- a slot that is empty stays so, and of a seat there becomes what the relation says
-abbrev pub OnSlot : (Seat → Seat → Type 0) → Option Seat → Option Seat → Type 0
-OnSlot Becomes None None = Unit {0}
-OnSlot Becomes (Some old) (Some new) = Becomes old new
-OnSlot Becomes old new = ⊥
 
 -- an event of a slot happens where there is a seat
 abbrev pub DoesIn : Grid Colour → Option Seat → SlotEvent → Option Delivery → Option Seat → Type 0

@@ -1,5 +1,5 @@
 -- What an event makes of a hub: of the screen, of its own slot, and of the others.
-use Rattle.std.specs.Prelude.{◌≡◌, ◌≢◌, ◌⊎◌, ◌<◌, ◌≤◌, ℕ, Bool, true, false, ◌&&◌, not, nat_eq}
+use Rattle.std.specs.Prelude.{◌≡◌, ◌≢◌, ◌⊎◌, ◌<◌, ◌≤◌, ℕ, Bool, false, ◌&&◌, not, nat_eq}
 use Rattle.std.specs.Prelude.{List, [], ◌∷◌, length, Option, Some, None}
 use Rattle.rfb_pixel.specs.declared.colour.Colour.{Colour}
 use Rattle.rfb_picture.specs.Grid.{Grid, Holds, filled, copied, with_row, uniform}
@@ -16,7 +16,7 @@ use Rattle.rfb_session.specs.declared.hub.event.HubEvent.TheVariants.{Leave, Of,
 use Rattle.rfb_session.specs.declared.hub.event.HubFault.TheVariants.{Outside, SlotTaken}
 use Rattle.rfb_session.specs.declared.hub.event.HubFault.TheVariants.{NoSuchSlot}
 use Rattle.rfb_session.specs.declared.hub.event.HubTold.{HubTold}
-use Rattle.rfb_session.specs.declared.hub.event.Setup.{Setup}
+use Rattle.rfb_viewer.specs.declared.setup.ViewerSetup.{ViewerSetup as Setup}
 use Rattle.rfb_session.specs.declared.hub.event.SlotEvent.{SlotEvent}
 use Rattle.rfb_session.specs.declared.hub.seat.Seat.{Seat}
 use Rattle.rfb_session.specs.declared.told.Delivery.{Delivery}
@@ -24,12 +24,13 @@ use Rattle.rfb_session.specs.declared.told.Told.{Told}
 use Rattle.rfb_session.specs.Hub.{seat_in, serving_in, IsFreshSeat, IsEmptyHub, AllHeadlines}
 use Rattle.rfb_session.specs.HubSeats.{event_of, SeatDoes, SeatStandsFor, TakesForeign, IsDrawnOn}
 use Rattle.rfb_session.specs.HubSeats.{IsHintedOn}
-use Rattle.rfb_session.specs.HubSlots.{is_taken, OnSlot, SparesIn}
+use Rattle.rfb_session.specs.HubSlots.{SparesIn}
 use Rattle.rfb_session.specs.HubTelling.{IsMere, TellsFor}
 use Rattle.rfb_session.specs.InFlight.{AreMade}
 use Rattle.rfb_session.specs.Link.{Ends}
 use Rattle.rfb_session.specs.Network.{Network, Steps, IsReached}
 use Rattle.rfb_session.specs.Played.{name}
+use Rattle.rfb_session.specs.Slots.{is_taken, OnSlot, StaysUnless}
 use Rattle.rfb_session.specs.Told.{Tells}
 
 -- ---- the screen, and the event's own slot
@@ -104,12 +105,9 @@ IsOther (Of j event) k = nat_eq k j ≡ false
 IsOther (Foreign j bytes) k = nat_eq k j ≡ false
 IsOther event k = Unit {0}
 
--- a slot that is told as emptied is empty; of any other its session, its viewer, the bytes in
--- flight and the latest composing are what they were
-abbrev pub StaysUnless : Bool → Option Seat → Option Seat → Type 0
-StaysUnless ended old new = (ended ≡ true → new ≡ None) × (ended ≡ false → new ≡ old)
-
--- what an event makes of a slot that it is not of: a drawing marks its session, a hint reaches it
+-- what an event makes of a slot that it is not of: a drawing marks its session, a hint reaches it;
+-- else, where it is not told as emptied, its session, its viewer, the bytes in flight and the latest
+-- composing are what they were
 abbrev pub StaysAs : HubEvent → HubTold → ℕ → Option Seat → Option Seat → Type 0
 StaysAs (Fill rect colour) told k old new =
     told.refused ≡ None → OnSlot (λ a b. IsDrawnOn rect a b) old new

@@ -8,10 +8,8 @@ use Rattle.rfb_wire.specs.stream.Grammar.{ReadsAll, IsWithinFirst}
 use Rattle.rfb_hello.specs.Version.{version_text}
 use Rattle.rfb_hello.specs.ServerAnswers.{IsSetup}
 use Rattle.rfb_server.specs.Server.{ServerState}
-use Rattle.rfb_server.specs.Told.{ServerTold, Reply as ServerReply, Ready as ServerReady, Key}
-use Rattle.rfb_server.specs.Told.{Pointer, CutText as ClientText}
-use Rattle.rfb_viewer.specs.Told.{ViewerTold, Reply, Ready, UpdateDone, Bell, CutText}
-use Rattle.rfb_viewer.specs.Told.{ColourMapSkipped}
+use Rattle.rfb_server.specs.Told.{ServerTold, reply_bytes as bytes_of_server}
+use Rattle.rfb_viewer.specs.Told.{ViewerTold, reply_bytes as bytes_of_viewer}
 use Rattle.rfb_viewer.specs.Viewer.{ViewerState}
 use Rattle.rfb_session.specs.Link.{Ends, server_stream, viewer_stream, server_of, LinkState}
 use Rattle.rfb_session.specs.LinkSteps.{MovesToViewer, MovesToServer}
@@ -50,23 +48,14 @@ first_flight e = record {
   server_gets = [];
 }
 
--- the bytes that are sent for what an end tells
+-- the bytes that are sent for what an end tells, if it tells something
 abbrev pub viewer_reply : Option ViewerTold → List ℕ
 viewer_reply None = []
-viewer_reply (Some (Reply bytes)) = bytes
-viewer_reply (Some (Ready bytes name name_length)) = bytes
-viewer_reply (Some UpdateDone) = []
-viewer_reply (Some Bell) = []
-viewer_reply (Some (CutText kept text_length)) = []
-viewer_reply (Some ColourMapSkipped) = []
+viewer_reply (Some event) = bytes_of_viewer event
 
 abbrev pub server_reply : Option ServerTold → List ℕ
 server_reply None = []
-server_reply (Some (ServerReply bytes)) = bytes
-server_reply (Some (ServerReady bytes shared)) = bytes
-server_reply (Some (Key down key)) = []
-server_reply (Some (Pointer buttons x y)) = []
-server_reply (Some (ClientText kept text_length)) = []
+server_reply (Some event) = bytes_of_server event
 
 -- bytes reached the viewer: the link moves by as many, the viewer is in the state that they lead
 -- to, what is left is still in flight, and what it answers is in flight to the server

@@ -6,19 +6,19 @@ ghost use Rattle.std.specs.Option.{ForSome};
 ghost use Rattle.rfb_server.specs.Following.{Follows};
 ghost use Rattle.rfb_session.specs.LinkStanding.{session_of_link};
 
-mod drawing;
+pub(crate) mod drawing;
 pub(crate) mod event;
 mod joining;
 mod of_slot;
 mod playing;
 pub(crate) mod seat;
-mod slots;
 mod telling;
 #[cfg(test)]
 mod tests;
 
 use crate::hub::event::{HubEvent, HubTold};
 use crate::hub::seat::Seat;
+use crate::slots::SLOTS;
 use crate::told::NoMemory;
 use arrayvec::ArrayVec;
 use rfb_hello::Version;
@@ -26,14 +26,11 @@ use rfb_picture::Picture;
 use rfb_pixel::Colour;
 use std::alloc::{AllocError, Global};
 
-/// How many slots a hub has.
-pub const SLOTS: usize = 8;
+/// The longest name of a screen, in bytes.
+pub(crate) const NAME_LIMIT: usize = 255;
 
-// The longest name of a screen, in bytes.
-const NAME_LIMIT: usize = 255;
-
-// The colour of a screen that was not drawn on.
-const BLACK: Colour = Colour { r: 0, g: 0, b: 0 };
+/// The colour of a screen that was not drawn on.
+pub(crate) const BLACK: Colour = Colour { r: 0, g: 0, b: 0 };
 
 /// One screen, and eight slots for viewers of it. Each viewer has a session of its own, and bytes
 /// in flight between the two. What happens comes as events: drawings are everyone's, all else is
@@ -208,8 +205,8 @@ impl Hub {
     }
 }
 
-// The name of a screen, to be kept.
-fn name_of(name: &[u8]) -> ArrayVec<u8, NAME_LIMIT>
+/// The name of a screen, to be kept.
+pub(crate) fn name_of(name: &[u8]) -> ArrayVec<u8, NAME_LIMIT>
     requires { length name.now ≤ 255 }
     ensures { result.items ≡ name.now }
 {

@@ -28,7 +28,9 @@ ghost use Rattle.rfb_session.specs.InFlight.{AreMade, Flight, Flies, first_fligh
 ghost use Rattle.rfb_session.specs.InFlight.{ReachesViewer, ReachesServer};
 
 pub mod messages;
+pub mod seats;
 pub mod streams;
+pub mod viewers;
 
 /// Whatever is drawn, asked, composed and delivered, in any number and order, refused calls among
 /// it: wherever it is known what the viewer has, it shows that once all that is in flight to it has

@@ -4,6 +4,25 @@
 //! A `World` is all of that: events happen to it, one by one or as a run, and its contracts say
 //! what the viewer comes to show. `law` says in contracts alone what holds of the two ends
 //! together, whatever is drawn, asked, composed and delivered.
+//!
+//! # What to begin with
+//!
+//! - One end over a reader and a writer: `serve` with a `Scene` that draws, `view` with a number of
+//!   updates, `play` of what a server sent. Each takes a `Source` and a `Sink`, reads 4,096 bytes
+//!   at most at once, and writes all that is owed before it reads again.
+//! - Both ends in one process: `World::new` of a server and a viewer, then `step` or `run`.
+//! - One screen and up to eight viewers: `Hub::new`, a `Join` for each viewer, then `step` or
+//!   `run`. A slot's events are `Of(slot, ..)`; drawings are everyone's.
+//! - One screen and up to eight viewers elsewhere: `Share::new`, `join` for each, `received` with
+//!   what came, `to_write` for what waits. It has the servers' ends alone, and knows no socket.
+//! - `Link` is a session and a viewer with the bytes in flight, over a screen that it is lent at
+//!   each call: what worlds and hubs are made of.
+//!
+//! | Bytes | Go |
+//! |---|---|
+//! | that an end sends | into flight; `ToServer` and `ToViewer` deliver so many of them |
+//! | of an engine's end | to its `Sink`, in order |
+//! | of a `Foreign` event | into flight to the session of a slot, whoever sent them |
 #![tactic(auto)]
 
 mod channel;
@@ -14,6 +33,8 @@ mod latest;
 pub mod law;
 mod link;
 mod reply;
+mod share;
+mod slots;
 mod told;
 mod world;
 
@@ -22,8 +43,13 @@ pub use engine::{
     view_recording,
 };
 pub use event::Event;
-pub use hub::event::{HubEvent, HubFault, HubTold, Setup, SlotEvent};
-pub use hub::{Hub, SLOTS};
+pub use hub::Hub;
+pub use hub::event::{HubEvent, HubFault, HubTold, SlotEvent};
 pub use link::Link;
+pub use reply::{server_reply, viewer_reply};
+pub use rfb_viewer::ViewerSetup as Setup;
+pub use share::Share;
+pub use share::event::{Composing, Drawing, Heard, SeatEvent, ShareFault};
+pub use slots::SLOTS;
 pub use told::{Delivery, NoMemory, Refused, Told};
 pub use world::World;

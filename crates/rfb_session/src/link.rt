@@ -1,6 +1,7 @@
 //! A link: a session and its viewer, with the bytes in flight between them.
 
-ghost use Rattle.std.specs.Prelude.{◌≡◌, ◌↔◌, ◌++◌, ℕ, List, [], length, None, IfOk, OnOk, OnErr, IsErr};
+ghost use Rattle.std.specs.Prelude.{◌≡◌, ◌↔◌, ◌++◌, ℕ, List, [], length, None, IfOk, OnOk, OnErr};
+ghost use Rattle.std.specs.Prelude.{IsErr};
 ghost use Rattle.std.specs.Prelude.{option_copied};
 ghost use Rattle.rfb_server.specs.Standing.{notes_in};
 ghost use Rattle.rfb_session.specs.inside.Room.{HasRoom};
@@ -12,6 +13,7 @@ mod delivering;
 use crate::channel::Channel;
 use crate::latest::Latest;
 pub(crate) use calling::copy_of;
+pub(crate) use delivering::asks_sole;
 use rfb_picture::{Picture, Rect};
 use rfb_pixel::Colour;
 use rfb_server::{Outside, Session};

@@ -9,31 +9,22 @@ ghost use Rattle.rfb_session.specs.InFlight.{viewer_reply as reply_of_viewer};
 use rfb_server::ServerEvent;
 use rfb_viewer::ViewerEvent;
 
-// The bytes that are sent for what a server tells.
-pub(crate) fn server_reply(event: &Option<ServerEvent>) -> &[u8]
+/// Lends the bytes that are to be sent for what a server told, if it told something.
+pub fn server_reply(event: &Option<ServerEvent>) -> &[u8]
     ensures { result.now ≡ reply_of_server (seen_by_server event.now) }
 {
     match event {
-        Some(ServerEvent::Reply(reply)) => reply.as_slice(),
-        Some(ServerEvent::Ready { reply, .. }) => reply.as_slice(),
-        Some(ServerEvent::Key { .. })
-        | Some(ServerEvent::Pointer { .. })
-        | Some(ServerEvent::CutText { .. })
-        | None => &[],
+        Some(event) => event.reply(),
+        None => &[],
     }
 }
 
-// The bytes that are sent for what a viewer tells.
-pub(crate) fn viewer_reply(event: &Option<ViewerEvent>) -> &[u8]
+/// Lends the bytes that are to be sent for what a viewer told, if it told something.
+pub fn viewer_reply(event: &Option<ViewerEvent>) -> &[u8]
     ensures { result.now ≡ reply_of_viewer (seen_by_viewer event.now) }
 {
     match event {
-        Some(ViewerEvent::Reply(reply)) => reply.as_slice(),
-        Some(ViewerEvent::Ready { reply, .. }) => reply.as_slice(),
-        Some(ViewerEvent::UpdateDone)
-        | Some(ViewerEvent::Bell)
-        | Some(ViewerEvent::CutText { .. })
-        | Some(ViewerEvent::ColourMapSkipped)
-        | None => &[],
+        Some(event) => event.reply(),
+        None => &[],
     }
 }

@@ -50,6 +50,7 @@ fn feed_all<R: Source>(source: &mut R, viewer: &mut Viewer) -> Result<u64, Engin
 {
     let mut part = [0; READ_SIZE];
     let mut updates = 0;
+    // Each turn reads a byte or is the last, so these are never all of them.
     for _turn in 0..u64::MAX {
         let Ok(count) = source.read(&mut part) else {
             return Err(EngineFault::Device);

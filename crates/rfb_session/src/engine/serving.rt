@@ -96,6 +96,7 @@ fn serve_all<R: Source, W: Sink, S: Scene>(
     let mut part = [0; READ_SIZE];
     let mut out = Vec::new(alloc);
     let mut updates: u64 = 0;
+    // Each turn reads a byte or is the last, so these are never all of them.
     for _turn in 0..u64::MAX {
         match turn(&mut part, &mut out, source, sink, server, scene) {
             Ok(Some(more)) => updates = updates.saturating_add(more),

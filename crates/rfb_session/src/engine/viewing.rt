@@ -73,6 +73,7 @@ pub fn view_recording<R: Source, W: Sink, K: Sink>(
 {
     let mut part = [0; READ_SIZE];
     let mut left = updates;
+    // Each turn reads a byte or is the last, so these are never all of them.
     for _turn in 0..u64::MAX {
         let Ok(count) = source.read(&mut part) else {
             return Err(EngineFault::Device);

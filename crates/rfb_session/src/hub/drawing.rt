@@ -6,9 +6,9 @@ ghost use Rattle.rfb_session.specs.declared.hub.event.HubEvent.TheVariants.{Fill
 
 use crate::hub::Hub;
 use crate::hub::event::{HubFault, HubTold};
-use crate::hub::slots::{draw_all, hint_all};
 use crate::hub::telling::{told_made, told_refused};
-use rfb_picture::Rect;
+use crate::slots::{draw_all, hint_all};
+use rfb_picture::{Picture, Rect};
 use rfb_pixel::Colour;
 use rfb_server::row_area;
 
@@ -45,7 +45,7 @@ impl Hub {
     pub(super) fn copy(&mut self, rect: Rect, sx: u16, sy: u16) -> HubTold
         ensures { HubSteps self.old (Copy rect sx sy) result self.new }
     {
-        if !self.holds_both(rect, sx, sy) {
+        if !holds_both(&self.screen, rect, sx, sy) {
             return told_refused(HubFault::Outside);
         }
         draw_all(&mut self.slots, rect);
@@ -57,23 +57,23 @@ impl Hub {
     pub(super) fn hint(&mut self, rect: Rect, sx: u16, sy: u16) -> HubTold
         ensures { HubSteps self.old (Hint rect sx sy) result self.new }
     {
-        if !self.holds_both(rect, sx, sy) {
+        if !holds_both(&self.screen, rect, sx, sy) {
             return told_refused(HubFault::Outside);
         }
         hint_all(&mut self.slots, rect, sx, sy);
         told_made()
     }
+}
 
-    // Whether the rectangle, and the one of its size at (`sx`, `sy`), lie on the screen.
-    fn holds_both(&self, rect: Rect, sx: u16, sy: u16) -> bool
-        ensures inside { result ≡ true → HoldsBoth self.now.screen rect sx sy }
-        ensures outside { result ≡ false → HoldsBoth self.now.screen rect sx sy → ⊥ }
-    {
-        let source = Rect {
-            x: sx,
-            y: sy,
-            ..rect
-        };
-        self.screen.holds(rect) && self.screen.holds(source)
-    }
+/// Whether the rectangle, and the one of its size at (`sx`, `sy`), lie on the screen.
+pub(crate) fn holds_both(screen: &Picture<Colour>, rect: Rect, sx: u16, sy: u16) -> bool
+    ensures inside { result ≡ true → HoldsBoth screen.now rect sx sy }
+    ensures outside { result ≡ false → HoldsBoth screen.now rect sx sy → ⊥ }
+{
+    let source = Rect {
+        x: sx,
+        y: sy,
+        ..rect
+    };
+    screen.holds(rect) && screen.holds(source)
 }

@@ -5,28 +5,11 @@ ghost use Rattle.rfb_session.specs.HubTelling.{hub_refusal};
 
 use crate::told::Refused;
 use arrayvec::ArrayVec;
-use rfb_hello::Version;
 use rfb_picture::Rect;
 use rfb_pixel::{Colour, Format};
+use rfb_viewer::ViewerSetup as Setup;
 use rfb_wire::Encoding;
 use thiserror::Error;
-
-/// What a viewer that joins is made with, as `Viewer::new` takes it.
-#[derive(Debug, Drop)]
-pub struct Setup {
-    /// The format that it asks for, RFC 6143 section 7.4.
-    pub format: Format,
-    /// The encodings that it takes, the best first.
-    pub encodings: ArrayVec<Encoding, 4>,
-    /// The highest version that it goes up to.
-    pub limit: Version,
-    /// Whether others may go on: the shared-flag of its ClientInit, section 7.3.1.
-    pub shared: bool,
-    /// How many places a screen may have that it admits.
-    pub max_places: u32,
-    /// How many bytes it keeps of each text.
-    pub text_limit: u32,
-}
 
 /// One thing that happens to a hub. Slots are numbered from 0 to 7.
 #[derive(Debug, Drop)]

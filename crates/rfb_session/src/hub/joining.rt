@@ -1,19 +1,20 @@
 //! Viewers that come to a hub and go, and bytes that none of them sent.
 
 ghost use Rattle.std.specs.Prelude.{◌≡◌, ◌≤◌, length, None, IfOk, IsOk};
-ghost use Rattle.rfb_session.specs.HubSlots.{TakesOrNot, OnSlot};
+ghost use Rattle.rfb_session.specs.HubSlots.{TakesOrNot};
+ghost use Rattle.rfb_session.specs.Slots.{OnSlot};
 ghost use Rattle.rfb_session.specs.LinkStanding.{session_of_link};
 ghost use Rattle.rfb_session.specs.declared.hub.event.HubEvent.TheVariants.{Join, Leave, Foreign};
 
-use crate::hub::event::{HubFault, HubTold, Setup};
+use crate::hub::Hub;
+use crate::hub::event::{HubFault, HubTold};
 use crate::hub::seat::Seat;
-use crate::hub::slots::{empty, seat_in, taken};
 use crate::hub::telling::{told_made, told_refused};
-use crate::hub::{Hub, SLOTS};
 use crate::link::{Link, copy_of};
+use crate::slots::{SLOTS, empty, seat_in, taken};
 use crate::told::NoMemory;
 use rfb_server::Session;
-use rfb_viewer::Viewer;
+use rfb_viewer::{Viewer, ViewerSetup as Setup};
 
 impl Hub {
     ghost use Rattle.rfb_session.specs.Hub.{IsFreshSeat};
@@ -26,15 +27,15 @@ impl Hub {
             HubSteps self.old (Join slot setup.now) told self.new) }
         ensures spared { NeedsNoMemory self.old (Join slot setup.now) → IsOk result }
     {
-        let place = slot as usize;
-        if place >= SLOTS {
+        let wanted = slot as usize;
+        if wanted >= SLOTS {
             return Ok(told_refused(HubFault::NoSuchSlot));
         }
-        if taken(&self.slots, place) {
+        if taken(&self.slots, wanted) {
             return Ok(told_refused(HubFault::SlotTaken));
         }
         let seat = self.seat_for(setup)?;
-        seat_in(&mut self.slots[place], seat);
+        seat_in(&mut self.slots[wanted], seat);
         Ok(told_made())
     }
 

@@ -8,11 +8,11 @@ ghost use Rattle.rfb_session.specs.HubSeats.{HasFewSlotBytes};
 ghost use Rattle.rfb_session.specs.HubSlots.{DoesIn, SparesIn};
 ghost use Rattle.rfb_session.specs.declared.hub.event.HubEvent.TheVariants.{Of};
 
+use crate::hub::Hub;
 use crate::hub::event::{HubFault, HubTold, SlotEvent};
 use crate::hub::seat::Seat;
-use crate::hub::slots::empty_others;
 use crate::hub::telling::{told_for, told_refused};
-use crate::hub::{Hub, SLOTS};
+use crate::slots::{SLOTS, empty_others};
 use crate::told::{Delivery, NoMemory};
 use rfb_picture::Picture;
 use rfb_pixel::Colour;

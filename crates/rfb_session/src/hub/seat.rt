@@ -1,14 +1,17 @@
 //! A viewer's seat at a hub: its session, itself, and what is between them.
 
-ghost use Rattle.std.specs.Prelude.{◌≡◌, ◌≢◌, ◌≤◌, length, true, false, None, IfOk, OnOk, IsOk, IsErr};
+ghost use Rattle.std.specs.Prelude.{◌≡◌, ◌≢◌, ◌≤◌, length, true, false, None, IfOk, OnOk, IsOk};
+ghost use Rattle.std.specs.Prelude.{IsErr};
 ghost use Rattle.std.specs.Prelude.{OnErr};
 
-use crate::hub::event::{Setup, SlotEvent};
+use crate::hub::event::SlotEvent;
 use crate::link::Link;
+use crate::slots::Follower;
 use crate::told::{Delivery, NoMemory, Told};
 use rfb_picture::{Picture, Rect};
 use rfb_pixel::Colour;
 use rfb_server::Outside;
+use rfb_viewer::ViewerSetup as Setup;
 
 /// A viewer that joined, with its link to a session of its own.
 #[derive(Debug, Drop)]
@@ -20,12 +23,10 @@ pub struct Seat {
 }
 
 impl Seat {
-    ghost use Rattle.rfb_picture.specs.Grid.{Holds};
     ghost use Rattle.rfb_server.specs.Following.{Follows};
-    ghost use Rattle.rfb_server.specs.Standing.{notes_in};
     ghost use Rattle.rfb_session.specs.LinkStanding.{session_of_link};
     ghost use Rattle.rfb_session.specs.HubSeats.{SeatDoes, SeatSpares, HasFewSlotBytes};
-    ghost use Rattle.rfb_session.specs.HubSeats.{IsSeated, TakesForeign, IsDrawnOn, IsHintable, IsHintedOn};
+    ghost use Rattle.rfb_session.specs.HubSeats.{IsSeated, TakesForeign};
 
     /// A viewer of this setup takes a seat, with its link.
     pub(crate) fn new(setup: Setup, link: Link) -> Seat
@@ -43,25 +44,6 @@ impl Seat {
         ensures { result.now ≡ self.now.link }
     {
         &self.link
-    }
-
-    /// Its session is told that the screen is drawn on inside the rectangle.
-    pub(crate) fn drawn(&mut self, rect: Rect)
-        requires held { Holds (notes_in (session_of_link self.old.link)).known rect }
-        ensures { IsDrawnOn rect self.old self.new }
-    {
-        self.link.drawn(rect);
-    }
-
-    /// Its session is told that a rectangle looks as another did.
-    pub(crate) fn hint(&mut self, rect: Rect, sx: u16, sy: u16)
-        requires held { IsHintable rect sx sy self.old }
-        ensures { IsHintedOn rect sx sy self.old self.new }
-    {
-        match self.link.hint(rect, sx, sy) {
-            Ok(()) => {}
-            Err(Outside) => {}
-        }
     }
 
     /// Bytes that the viewer did not send are in flight to the session. Memory can be wanting.
@@ -100,6 +82,32 @@ impl Seat {
             SlotEvent::Compose => Ok(alone(self.link.compose(screen)?)),
             SlotEvent::ToServer(count) => self.link.deliver_to_session(*count),
             SlotEvent::ToViewer(count) => Ok(alone(self.link.move_to_viewer(*count)?)),
+        }
+    }
+}
+
+impl Follower for Seat {
+    ghost use Rattle.rfb_picture.specs.Grid.{Holds};
+    ghost use Rattle.rfb_server.specs.Standing.{notes_in};
+    ghost use Rattle.rfb_session.specs.LinkStanding.{session_of_link};
+    ghost use Rattle.rfb_session.specs.HubSeats.{IsHintable, IsDrawnOn, IsHintedOn};
+
+    ghost Drawable = { λ rect seat. Holds (notes_in (session_of_link seat.link)).known rect };
+
+    ghost Hintable = { λ rect sx sy seat. IsHintable rect sx sy seat };
+
+    ghost Drawn = { λ rect a b. IsDrawnOn rect a b };
+
+    ghost Hinted = { λ rect sx sy a b. IsHintedOn rect sx sy a b };
+
+    fn drawn(&mut self, rect: Rect) {
+        self.link.drawn(rect);
+    }
+
+    fn hint(&mut self, rect: Rect, sx: u16, sy: u16) {
+        match self.link.hint(rect, sx, sy) {
+            Ok(()) => {}
+            Err(Outside) => {}
         }
     }
 }

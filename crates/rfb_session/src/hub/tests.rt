@@ -10,11 +10,12 @@ mod memory;
 mod sole;
 
 use super::Hub;
-use crate::hub::event::{HubEvent, HubFault, HubTold, Setup, SlotEvent};
+use crate::hub::event::{HubEvent, HubFault, HubTold, SlotEvent};
 use arrayvec::ArrayVec;
 use rfb_hello::Version;
 use rfb_picture::Rect;
 use rfb_pixel::{Colour, Format};
+use rfb_viewer::ViewerSetup as Setup;
 use rfb_wire::Encoding;
 use std::alloc::{AllocError, Global};
 

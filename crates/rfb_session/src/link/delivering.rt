@@ -218,8 +218,8 @@ fn either(one: bool, other: bool) -> bool
     one || other
 }
 
-// Whether a client that is told of so asks for the screen alone: its ClientInit has shared-flag 0.
-fn asks_sole(event: &Option<ServerEvent>) -> bool
+/// Whether a client that is told of so asks for the screen alone: its ClientInit has shared-flag 0.
+pub(crate) fn asks_sole(event: &Option<ServerEvent>) -> bool
     ensures { IsSole result (sole_told (seen event.now)) }
 {
     matches!(event, Some(ServerEvent::Ready { shared: false, .. }))

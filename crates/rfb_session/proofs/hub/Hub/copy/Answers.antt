@@ -1,4 +1,4 @@
-use Rattle.std.proofs.Common.{◌+◌, ◌-◌, if◌then◌else◌, inl, refl, ◌∙◌}
+use Rattle.std.proofs.Common.{◌+◌, ◌-◌, if◌then◌else◌, inl, refl, ◌∙◌, arith}
 use Rattle.rfb_picture.specs.Rect.{contains}
 use Rattle.rfb_picture.specs.Grid.{at_or, copied}
 use Rattle.rfb_server.specs.Standing.{HoldsBoth}
@@ -8,11 +8,11 @@ use Rattle.rfb_session.proofs.hub.Hub.copy.Goals as goal
 
 pub draw_all-requires : goal.draw_all-requires
 draw_all-requires c =
-    let s = c.args.self.now in
-    record {
-      held = all_held s.screen s.slots c.args.rect s.follow
-          (c.holds_both.ensures.inside c.if-not-holds_both.false).0;
-    }
+    let s = c.args.self.now in (
+      omega arith,
+      all_held s.screen s.slots c.args.rect s.follow
+          (c.holds_both.ensures.inside c.if-not-holds_both.false).0,
+    )
 
 pub invariant_of-self : goal.invariant_of-self
 invariant_of-self c =

@@ -1,4 +1,4 @@
-use Rattle.std.proofs.Common.{if◌then◌else◌, inl, refl, ◌∙◌}
+use Rattle.std.proofs.Common.{if◌then◌else◌, inl, refl, ◌∙◌, arith}
 use Rattle.rfb_picture.specs.Rect.{contains}
 use Rattle.rfb_picture.specs.Grid.{Holds, filled}
 use Rattle.rfb_session.specs.declared.hub.event.HubEvent.TheVariants.{Fill}
@@ -7,11 +7,11 @@ use Rattle.rfb_session.proofs.hub.Hub.fill.Goals as goal
 
 pub draw_all-requires : goal.draw_all-requires
 draw_all-requires c =
-    let s = c.args.self.now in
-    record {
-      held = all_held s.screen s.slots c.args.rect s.follow
-          (c.holds.ensures.0 (rw c.if-not-holds.false refl));
-    }
+    let s = c.args.self.now in (
+      omega arith,
+      all_held s.screen s.slots c.args.rect s.follow
+          (c.holds.ensures.0 (rw c.if-not-holds.false refl)),
+    )
 
 pub invariant_of-self : goal.invariant_of-self
 invariant_of-self c =

@@ -6,7 +6,8 @@ use Rattle.rfb_session.specs.declared.hub.event.HubEvent.TheVariants.{Foreign}
 use Rattle.rfb_session.specs.HubSeats.{TakesForeign}
 use Rattle.rfb_session.specs.HubSteps.{Fed}
 use Rattle.rfb_session.proofs.HubDrawLemmas.{set_follow}
-use Rattle.rfb_session.proofs.HubSlotLemmas.{at_slot, each_seat, on_seat, taken_in, seat_set_same, seat_set_other}
+use Rattle.rfb_session.proofs.HubSlotLemmas.{taken_in}
+use Rattle.rfb_session.proofs.SlotLemmas.{at_slot, each_seat, on_seat, seat_set_same, seat_set_other}
 use Rattle.rfb_session.proofs.HubStepLemmas.{foreign_steps}
 use Rattle.rfb_session.proofs.hub.Hub.foreign.Goals as goal
 

@@ -1,15 +1,15 @@
-use Rattle.std.proofs.Common.{inl, refl, ◌∙◌}
+use Rattle.std.proofs.Common.{inl, refl, ◌∙◌, arith}
 use Rattle.rfb_session.specs.declared.hub.event.HubEvent.TheVariants.{Hint}
 use Rattle.rfb_session.proofs.HubDrawLemmas.{all_hintable, hinted_follow, hinted_steps}
 use Rattle.rfb_session.proofs.hub.Hub.hint.Goals as goal
 
 pub hint_all-requires : goal.hint_all-requires
 hint_all-requires c =
-    let s = c.args.self.now in
-    record {
-      held = all_hintable s.screen s.slots c.args.rect c.args.sx c.args.sy s.follow
-          (c.holds_both.ensures.inside c.if-not-holds_both.false);
-    }
+    let s = c.args.self.now in (
+      omega arith,
+      all_hintable s.screen s.slots c.args.rect c.args.sx c.args.sy s.follow
+          (c.holds_both.ensures.inside c.if-not-holds_both.false),
+    )
 
 pub invariant_of-self : goal.invariant_of-self
 invariant_of-self c =

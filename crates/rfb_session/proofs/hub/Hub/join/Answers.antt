@@ -2,7 +2,8 @@ use Rattle.std.proofs.Common.{◌<◌, length, sym, refl, ◌∙◌, arith}
 use Rattle.std.proofs.lemmas.List.{length-set}
 use Rattle.rfb_session.specs.HubSteps.{Taken, Joined}
 use Rattle.rfb_session.proofs.HubDrawLemmas.{set_follow}
-use Rattle.rfb_session.proofs.HubSlotLemmas.{not_taken, taken_by, same_follows, seat_set_same, seat_set_other}
+use Rattle.rfb_session.proofs.HubSlotLemmas.{same_follows}
+use Rattle.rfb_session.proofs.SlotLemmas.{not_taken, taken_by, seat_set_same, seat_set_other}
 use Rattle.rfb_session.proofs.HubStepLemmas.{join_steps}
 use Rattle.rfb_session.proofs.hub.Hub.join.Goals as goal
 
@@ -12,13 +13,13 @@ returns-then-taken-clause-steps c =
     let told = c.told_refused-then-taken in
     let there = taken_by _ (sym c.taken.ensures ∙ c.if-taken.true) in
     join_steps s s c.args.slot c.args.setup.now told.result told.ensures.mere refl refl refl
-    (Taken (omega (arith, c.if-place-ge-SLOTS.false)) there.0 there.1 told.ensures.refused)
+    (Taken (omega (arith, c.if-wanted-ge-SLOTS.false)) there.0 there.1 told.ensures.refused)
     (λ k differ. refl) (λ some. refl)
 
 pub invariant_of-self : goal.invariant_of-self
 invariant_of-self c =
     let s = c.args.self.now in
-    let within : c.args.slot < length s.slots = omega (arith, c.if-place-ge-SLOTS.false, s.eight) in
+    let within : c.args.slot < length s.slots = omega (arith, c.if-wanted-ge-SLOTS.false, s.eight) in
     record {
       eight = length-set s.slots c.args.slot c.seat_in.new.slot ∙ s.eight;
       columns = s.columns;
@@ -31,9 +32,9 @@ invariant_of-self c =
 pub returns-clause-steps : goal.returns-clause-steps
 returns-clause-steps c =
     let s = c.args.self.now in
-    let within : c.args.slot < length s.slots = omega (arith, c.if-place-ge-SLOTS.false, s.eight) in
+    let within : c.args.slot < length s.slots = omega (arith, c.if-wanted-ge-SLOTS.false, s.eight) in
     join_steps s _ c.args.slot c.args.setup.now c.told_made.result c.told_made.ensures.mere refl
-    refl refl (Joined (omega (arith, c.if-place-ge-SLOTS.false))
+    refl refl (Joined (omega (arith, c.if-wanted-ge-SLOTS.false))
     (not_taken _ (sym c.taken.ensures ∙ c.if-taken.false)) c.told_made.ensures.refused
     c.in_ok-seat.seat (seat_set_same s.slots c.args.slot c.seat_in.new.slot within ∙ c.seat_in.ensures)
     c.in_ok-seat.ensures)

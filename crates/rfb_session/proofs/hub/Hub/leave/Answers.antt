@@ -1,9 +1,10 @@
 use Rattle.std.proofs.Common.{◌<◌, length, sym, refl, ap, ◌∙◌, arith}
 use Rattle.std.proofs.lemmas.List.{length-set}
-use Rattle.rfb_session.specs.HubSlots.{is_taken}
+use Rattle.rfb_session.specs.Slots.{is_taken}
 use Rattle.rfb_session.specs.HubSteps.{Left}
 use Rattle.rfb_session.proofs.HubDrawLemmas.{set_follow}
-use Rattle.rfb_session.proofs.HubSlotLemmas.{at_slot, taken_by, none_follows, seat_set_same, seat_set_other}
+use Rattle.rfb_session.proofs.HubSlotLemmas.{none_follows}
+use Rattle.rfb_session.proofs.SlotLemmas.{at_slot, taken_by, seat_set_same, seat_set_other}
 use Rattle.rfb_session.proofs.HubStepLemmas.{leave_steps}
 use Rattle.rfb_session.proofs.hub.Hub.leave.Goals as goal
 

@@ -1,4 +1,4 @@
-use Rattle.std.proofs.Common.{◌-◌, length, if◌then◌else◌, inl, refl, ◌∙◌}
+use Rattle.std.proofs.Common.{◌-◌, length, if◌then◌else◌, inl, refl, ◌∙◌, arith}
 use Rattle.std.specs.Prelude.{slice_index_or}
 use Rattle.rfb_picture.specs.Rect.{contains}
 use Rattle.rfb_picture.specs.Grid.{Holds, with_row}
@@ -12,11 +12,11 @@ draw_all-requires c =
     let s = c.args.self.now in
     let row = c.args.row.now.items in
     let inside = row_inside (row_from c.args.x c.args.y (length row)) s.screen
-    (rw c.deref.ensures.value at c.in-Ok.ensures.refused.1) in
-    record {
-      held = all_held s.screen s.slots c.in-Ok.area s.follow
-          (rw (c.in-Ok.ensures.value, c.deref.ensures.value) inside);
-    }
+    (rw c.deref.ensures.value at c.in-Ok.ensures.refused.1) in (
+      omega arith,
+      all_held s.screen s.slots c.in-Ok.area s.follow
+          (rw (c.in-Ok.ensures.value, c.deref.ensures.value) inside),
+    )
 
 pub invariant_of-self : goal.invariant_of-self
 invariant_of-self c =

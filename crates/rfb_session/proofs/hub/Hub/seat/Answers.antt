@@ -1,5 +1,5 @@
 use Rattle.std.proofs.Common.{sym, arith}
-use Rattle.rfb_session.proofs.HubSlotLemmas.{none_past}
+use Rattle.rfb_session.proofs.SlotLemmas.{none_past}
 use Rattle.rfb_session.proofs.hub.Hub.seat.Goals as goal
 
 pub returns-then-place-ge-SLOTS : goal.returns-then-place-ge-SLOTS

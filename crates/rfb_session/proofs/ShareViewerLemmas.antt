@@ -1,0 +1,278 @@
+-- A share's seat and a viewer of this project's go on as a link does: as bytes
+-- pass, and drawings.
+use Rattle.std.proofs.Common.{◌≡◌, ◌≢◌, ℕ, List, [], ◌++◌, length, length-append}
+use Rattle.std.proofs.Common.{take, drop, take-append-drop, append_assoc, Option, Some}
+use Rattle.std.proofs.Common.{None, inl, refl, sym, ap, ◌∙◌, subst, arith}
+use Rattle.rfb_pixel.specs.declared.colour.Colour.{Colour}
+use Rattle.rfb_picture.specs.Grid.{Grid}
+use Rattle.rfb_wire.specs.stream.End.{FedBy, RefusedBy, acts}
+use Rattle.rfb_hello.specs.Version.{version_text}
+use Rattle.rfb_server.specs.declared.fault.ServerFault.{ServerFault}
+use Rattle.rfb_server.specs.declared.fault.ServerFault.TheVariants.{NoMemory}
+use Rattle.rfb_server.specs.declared.session.Session.{Session}
+use Rattle.rfb_server.specs.Failing.{EndsAs}
+use Rattle.rfb_server.specs.Server.{Serving, server, first_server}
+use Rattle.rfb_server.specs.Standing.{SessionStandsFor, with_screen}
+use Rattle.rfb_server.proofs.ServerLaws.{client_bytes_laws, session_over}
+use Rattle.rfb_viewer.specs.declared.viewer.Viewer.{Viewer}
+use Rattle.rfb_viewer.specs.Standing.{StandsFor as ViewerStandsFor}
+use Rattle.rfb_viewer.specs.Told.{ViewerTold}
+use Rattle.rfb_viewer.specs.Viewer.{first_viewer, viewer as viewer_end}
+use Rattle.rfb_session.specs.declared.event.Event.TheVariants.{Fill as OfFill, Put as OfPut}
+use Rattle.rfb_session.specs.declared.event.Event.TheVariants.{Copy as OfCopy, Hint as OfHint}
+use Rattle.rfb_session.specs.declared.share.Share.{Share}
+use Rattle.rfb_session.specs.declared.share.event.Drawing.{Drawing}
+use Rattle.rfb_session.specs.declared.share.event.Drawing.TheVariants.{Fill, Put, Copy, Hint}
+use Rattle.rfb_session.specs.declared.share.event.Heard.{Heard}
+use Rattle.rfb_session.specs.declared.share.event.ShareFault.TheVariants.{Session as OfSession}
+use Rattle.rfb_session.specs.declared.share.seat.ShareSeat.{ShareSeat}
+use Rattle.rfb_session.specs.Carrying.{Carries}
+use Rattle.rfb_session.specs.InFlight.{AreMade, Flies, first_flight, server_reply, viewer_reply}
+use Rattle.rfb_session.specs.Link.{Ends, first_link}
+use Rattle.rfb_session.specs.LinkStanding.{ServesOver}
+use Rattle.rfb_session.specs.Network.{Network, IsReached}
+use Rattle.rfb_session.specs.Share.{seat_in, screen_of, serving_in, waits_at, waiting_for}
+use Rattle.rfb_session.specs.ShareSeats.{waiting_in, WritesAt}
+use Rattle.rfb_session.specs.ShareSteps.{JoinsAs, Full, Joined, DrawsOn, IsInside, IsToldOf}
+use Rattle.rfb_session.specs.ShareSteps.{ReceivesAs, RefusesAs, NoneHeard, SeatEnded, WritesAs}
+use Rattle.rfb_session.specs.ShareSteps.{drawn_by}
+use Rattle.rfb_session.specs.ShareViewers.{IsWatchedBy, Watches}
+use Rattle.rfb_session.proofs.CarryLemmas.{viewer_fed, server_fed, server_keeps}
+use Rattle.rfb_session.proofs.DeliveringLemmas.{server_reached, viewer_reached}
+use Rattle.rfb_session.proofs.FlightLemmas.{first_flies}
+use Rattle.rfb_session.proofs.MoveLemmas.{viewer_flight, server_flight}
+use Rattle.rfb_session.proofs.NetworkLemmas.{first_reached, reached_holds}
+use Rattle.rfb_session.proofs.ShareLawLemmas.{became, told_keeps}
+use Rattle.rfb_session.proofs.SlotLemmas.{one_seat, not_both}
+use Rattle.rfb_session.proofs.WorldLemmas.{reached_step}
+
+-- what is carried between a session and a viewer
+abbrev pub Between : Ends → Network → Session → Viewer → List ℕ → List ℕ → Type 0
+Between e n session viewer to_server to_viewer =
+    Carries (ServesOver n.screen) ViewerStandsFor e n.screen session viewer to_server to_viewer
+    n.link
+
+-- by the seat that is there
+pub by_seat : (e : Ends) (share : Share) (k : ℕ) (viewer : Viewer) (to_server on_way : List ℕ)
+    (n : Network) (w : IsWatchedBy e share k viewer to_server on_way n) (seat : ShareSeat) →
+    seat_in share k ≡ Some seat →
+    Between e n seat.session viewer to_server (on_way ++ waiting_in seat)
+by_seat e share k viewer to_server on_way n w seat there =
+    subst (λ (s : ShareSeat). Between e n s.session viewer to_server (on_way ++ waiting_in s))
+    (one_seat (seat_in share k) w.seat seat w.there there) w.carries
+
+-- other bytes are in flight to the viewer, which are the same
+pub to_viewer_same : (e : Ends) (n : Network) (session : Session) (viewer : Viewer)
+    (to_server old new : List ℕ) → new ≡ old → Between e n session viewer to_server old →
+    Between e n session viewer to_server new
+to_viewer_same e n session viewer to_server old new is c =
+    subst (λ (q : List ℕ). Between e n session viewer to_server q) (sym is) c
+
+-- ---- a viewer that joins
+
+pub watched_joined : (e : Ends) (old new : Share) (joined : Option ℕ) (k : ℕ) (viewer : Viewer) →
+    e.serving ≡ serving_in old → ViewerStandsFor e.viewing viewer first_viewer [] →
+    JoinsAs old joined new → joined ≡ Some k → Watches e new k viewer [] []
+watched_joined e old new joined k viewer made fresh (Full taken none same) is =
+    absurd (apart joined none is)
+  where
+    apart : (o : Option ℕ) → o ≡ None → o ≡ Some k → ⊥
+    apart o none some = cc
+watched_joined e old new joined k viewer made fresh
+    (Joined j told within free first seat there begins keeps others) is = (
+      record { screen = screen_of new; link = first_link e },
+      record {
+        seat = seat;
+        there = subst (λ (i : ℕ). seat_in new i ≡ Some seat) (one joined told is) there;
+        screen_is = refl;
+        reached = first_reached e (screen_of new)
+            (ap (λ (g : Grid Colour). g.width) keeps.screen
+            ∙ ap (λ (s : Serving). s.hello.width) (sym made))
+            (ap (λ (g : Grid Colour). g.height) keeps.screen
+            ∙ ap (λ (s : Serving). s.hello.height) (sym made));
+        carries = record {
+          server_has = [];
+          viewer_has = [];
+          server_is = subst (λ (s : Serving). SessionStandsFor s (screen_of new) seat.session
+              (with_screen (screen_of new) (first_server s)) []) (sym made)
+              (subst (λ (g : Grid Colour). SessionStandsFor (serving_in old) g seat.session
+              (with_screen g (first_server (serving_in old))) []) (sym keeps.screen) begins.fresh);
+          viewer_is = fresh;
+          flies = subst (λ (bytes : List ℕ). Flies e (first_link e)
+              (record (first_flight e) { viewer_gets = bytes }))
+              (ap (λ (s : Serving). version_text s.hello.offer) made ∙ sym begins.greets)
+              (first_flies e);
+        };
+      },
+    )
+  where
+    one : (o : Option ℕ) → o ≡ Some j → o ≡ Some k → j ≡ k
+    one o some other = cc
+
+-- ---- drawings
+
+-- a drawing of the share's is one of the network's
+drawn_reached : (e : Ends) (drawing : Drawing) (n : Network) (screen : Grid Colour) →
+    IsInside n.screen drawing → screen ≡ drawn_by drawing n.screen → IsReached e n →
+    IsReached e (record n { screen = screen })
+drawn_reached e (Fill rect colour) n screen inside is reached =
+    reached_step e n (record n { screen = screen }) (OfFill rect colour) reached
+    (inl (inside, ap (λ (g : Grid Colour). record n { screen = g }) is))
+drawn_reached e (Put x y row) n screen inside is reached =
+    reached_step e n (record n { screen = screen }) (OfPut x y row) reached
+    (inl (inside, ap (λ (g : Grid Colour). record n { screen = g }) is))
+drawn_reached e (Copy rect sx sy) n screen inside is reached =
+    reached_step e n (record n { screen = screen }) (OfCopy rect sx sy) reached
+    (inl (inside, ap (λ (g : Grid Colour). record n { screen = g }) is))
+drawn_reached e (Hint rect sx sy) n screen inside is reached =
+    reached_step e n (record n { screen = screen }) (OfHint rect sx sy) reached
+    (ap (λ (g : Grid Colour). record n { screen = g }) is)
+
+pub watched_drawn : (e : Ends) (old new : Share) (drawing : Drawing) (k : ℕ) (viewer : Viewer)
+    (to_server on_way : List ℕ) → IsInside (screen_of old) drawing → DrawsOn old drawing new →
+    Watches e old k viewer to_server on_way → Watches e new k viewer to_server on_way
+watched_drawn e old new drawing k viewer to_server on_way inside draws (n, w) =
+    let one = became (λ a b. IsToldOf drawing a b) (seat_in old k) (seat_in new k) w.seat
+    (draws.seats k) w.there in
+    let keeps = told_keeps drawing w.seat one.0 one.2 in
+    let had = w.carries in (
+      record n { screen = screen_of new },
+      record {
+        seat = one.0;
+        there = one.1;
+        screen_is = refl;
+        reached = drawn_reached e drawing n (screen_of new)
+            (subst (λ (g : Grid Colour). IsInside g drawing) (sym w.screen_is) inside)
+            (draws.screen ∙ ap (λ (g : Grid Colour). drawn_by drawing g) (sym w.screen_is))
+            w.reached;
+        carries = to_viewer_same e (record n { screen = screen_of new }) one.0.session viewer
+            to_server (on_way ++ waiting_in w.seat) (on_way ++ waiting_in one.0)
+            (ap (λ (q : List ℕ). on_way ++ q) keeps.waits)
+            (record {
+              server_has = had.server_has;
+              viewer_has = had.viewer_has;
+              server_is = session_over e.serving n.screen (screen_of new) one.0.session _ _
+                  (keeps.session.stands e.serving n.screen _ _ had.server_is);
+              viewer_is = had.viewer_is;
+              flies = had.flies;
+            });
+      },
+    )
+
+-- ---- bytes that reach the seat
+
+pub watched_received : (e : Ends) (old new : Share) (k : ℕ) (bytes : List ℕ) (told : Heard)
+    (viewer : Viewer) (to_server later on_way : List ℕ) → AreMade e →
+    to_server ≡ take told.used bytes ++ later → ReceivesAs old k bytes told new →
+    Watches e old k viewer to_server on_way → Watches e new k viewer later on_way
+watched_received e old new k bytes told viewer to_server later on_way made is r (n, w) =
+    let front = take told.used bytes in
+    let c = subst (λ (q : List ℕ). Between e n r.was.session viewer q (on_way ++ waiting_in r.was))
+    is (by_seat e old k viewer to_server on_way n w r.was r.was_there) in
+    let one = server_fed (ServesOver n.screen) ViewerStandsFor e n.screen r.was.session
+    r.now.session viewer front later (on_way ++ waiting_in r.was) r.told n.link made
+    (reached_holds e n w.reached) c (r.hears.fed e.serving n.screen) in
+    let all = server_flight e n.link _ c.flies in
+    let sum = length-append front later in (
+      record n { link = one.0 },
+      record {
+        seat = r.now;
+        there = r.is_there;
+        screen_is = w.screen_is ∙ sym r.keeps.screen;
+        reached = server_reached e n one.0 (length front) w.reached (omega (arith, all, sum)) one.1;
+        carries = to_viewer_same e (record n { link = one.0 }) r.now.session viewer later
+            ((on_way ++ waiting_in r.was) ++ server_reply r.told) (on_way ++ waiting_in r.now)
+            (ap (λ (q : List ℕ). on_way ++ q) r.hears.waits
+            ∙ sym (append_assoc on_way (waiting_in r.was) (server_reply r.told))) one.3;
+      },
+    )
+
+-- what a session ended at is refused by its fault
+ended_refused : (old new : Session) (bytes : List ℕ) (fault : ServerFault) →
+    EndsAs old bytes fault new → fault ≢ NoMemory → (serving : Serving) (screen : Grid Colour) →
+    RefusedBy (server serving) (SessionStandsFor serving screen) old bytes fault
+ended_refused old new bytes fault ends some serving screen = λ s prefix stands.
+    let r = ends serving screen s prefix stands in
+    record {
+      items = r.items;
+      rest = r.front ++ r.later;
+      reads = r.reads;
+      quiet = r.quiet;
+      bad = (client_bytes_laws serving.hello.offer).bad (acts (server serving) s r.items).point
+          r.front r.later fault (r.asked.bad some);
+    }
+
+pub watched_never : (e : Ends) (old new : Share) (k : ℕ) (bytes : List ℕ) (fault : ServerFault)
+    (viewer : Viewer) (to_server later on_way : List ℕ) → fault ≢ NoMemory →
+    to_server ≡ bytes ++ later → RefusesAs old k bytes (OfSession fault) new →
+    Watches e old k viewer to_server on_way → ⊥
+watched_never e old new k bytes fault viewer to_server later on_way some is
+    (NoneHeard told none all) (n, w) = not_both (seat_in old k) w.seat w.there none
+watched_never e old new k bytes fault viewer to_server later on_way some is
+    (SeatEnded of told was now there here ends keeps others) (n, w) =
+    let same : fault ≡ of = one told in
+    let c = subst (λ (q : List ℕ). Between e n was.session viewer q (on_way ++ waiting_in was))
+    is (by_seat e old k viewer to_server on_way n w was there) in
+    server_keeps (ServesOver n.screen) ViewerStandsFor e n.screen was.session viewer bytes later
+    (on_way ++ waiting_in was) fault n.link c
+    (ended_refused was.session now.session bytes fault
+    (subst (λ (f : ServerFault). EndsAs was.session bytes f now.session) (sym same) ends.ends)
+    some e.serving n.screen)
+  where
+    one : OfSession fault ≡ OfSession of → fault ≡ of
+    one e = cc
+
+-- ---- bytes that are written, and that reach the viewer
+
+pub watched_written : (e : Ends) (old new : Share) (k count : ℕ) (viewer : Viewer)
+    (to_server on_way : List ℕ) → WritesAs old k count new →
+    Watches e old k viewer to_server on_way →
+    Watches e new k viewer to_server (on_way ++ take count (waits_at old k))
+watched_written e old new k count viewer to_server on_way writes (n, w) =
+    let one = became (λ a b. WritesAt count a b) (seat_in old k) (seat_in new k) w.seat
+    writes.seat w.there in
+    let bytes : waits_at old k ≡ waiting_in w.seat =
+    ap (λ (o : Option ShareSeat). waiting_for o) w.there in
+    let whole : (on_way ++ take count (waits_at old k)) ++ waiting_in one.0
+    ≡ on_way ++ waiting_in w.seat =
+    ap (λ (l : List ℕ). (on_way ++ take count l) ++ waiting_in one.0) bytes
+    ∙ ap (λ (l : List ℕ). (on_way ++ take count (waiting_in w.seat)) ++ l) one.2.waits
+    ∙ append_assoc on_way (take count (waiting_in w.seat)) (drop count (waiting_in w.seat))
+    ∙ ap (λ (l : List ℕ). on_way ++ l) (take-append-drop count (waiting_in w.seat)) in (
+      n,
+      record {
+        seat = one.0;
+        there = one.1;
+        screen_is = w.screen_is ∙ sym writes.keeps.screen;
+        reached = w.reached;
+        carries = to_viewer_same e n one.0.session viewer to_server (on_way ++ waiting_in w.seat)
+            ((on_way ++ take count (waits_at old k)) ++ waiting_in one.0) whole
+            (subst (λ (s : Session). Between e n s viewer to_server (on_way ++ waiting_in w.seat))
+            (sym one.2.session) w.carries);
+      },
+    )
+
+pub watched_shown : (e : Ends) (share : Share) (k : ℕ) (old new : Viewer)
+    (bytes later : List ℕ) (event : Option ViewerTold) (to_server on_way : List ℕ) →
+    AreMade e → on_way ≡ bytes ++ later →
+    FedBy (viewer_end e.viewing) (ViewerStandsFor e.viewing) old bytes event new →
+    Watches e share k old to_server on_way →
+    Watches e share k new (to_server ++ viewer_reply event) later
+watched_shown e share k old new bytes later event to_server on_way made is fed (n, w) =
+    let waits = waiting_in w.seat in
+    let c = to_viewer_same e n w.seat.session old to_server (on_way ++ waits)
+    (bytes ++ (later ++ waits))
+    (sym (append_assoc bytes later waits) ∙ ap (λ (q : List ℕ). q ++ waits) (sym is)) w.carries in
+    let one = viewer_fed (ServesOver n.screen) ViewerStandsFor e n.screen w.seat.session old new
+    to_server bytes (later ++ waits) event n.link made (reached_holds e n w.reached) c fed in
+    let all = viewer_flight e n.link _ c.flies in
+    let sum = length-append bytes (later ++ waits) in (
+      record n { link = one.0 },
+      record {
+        seat = w.seat;
+        there = w.there;
+        screen_is = w.screen_is;
+        reached = viewer_reached e n one.0 (length bytes) w.reached (omega (arith, all, sum)) one.1;
+        carries = one.3;
+      },
+    )

@@ -1,0 +1,84 @@
+use Rattle.std.proofs.Common.{◌≤◌, length, length-append, take, sym, ap, refl, subst, arith}
+use Rattle.rfb_server.specs.Told.{seen}
+use Rattle.rfb_session.specs.declared.share.seat.ShareSeat.{ShareSeat}
+use Rattle.rfb_session.specs.declared.share.waiting.Waiting.{Waiting}
+use Rattle.rfb_session.specs.declared.share.waiting.Waiting.TheVariants.{Answers}
+use Rattle.rfb_session.specs.ShareRoom.{kept_in, HasRoomForAnswers}
+use Rattle.rfb_session.specs.ShareSeats.{Hears, holds_update}
+use Rattle.rfb_session.proofs.ShareSeatLemmas.{not_failed, answer_fits, none_behind, fits_behind}
+use Rattle.rfb_session.proofs.ShareSeatLemmas.{answers_behind, heard_answer, heard_behind}
+use Rattle.rfb_session.proofs.ShareSeatLemmas.{update_has_none, update_stays}
+use Rattle.rfb_session.proofs.share.seat.ShareSeat.hear.Goals as goal
+use Rattle.rfb_session.proofs.share.seat.ShareSeat.hear.Goals.{in-Answers, in-Update}
+
+pub append-requires : goal.append-requires
+append-requires c =
+    let s = c.args.self.now in
+    let going = not_failed _ s.session c.feed.new.self c.feed.result c.in_ok-fed.fed
+    c.feed.ensures.failed c.in_ok-fed.was in (
+      omega arith,
+      rw c.server_reply.ensures (answer_fits s.session c.feed.new.self c.in-Answers.kept
+          (take c.in_ok-fed.fed.used c.args.bytes.now) (seen c.in_ok-fed.fed.event) going
+          c.in_ok-fed.ensures.fed
+          (subst (λ (w : Waiting). ∥ HasRoomForAnswers s.session w ∥₁) c.in-Answers.is s.roomy)),
+    )
+
+pub invariant_of-self-in-Answers : goal.invariant_of-self-in-Answers
+invariant_of-self-in-Answers c =
+    let s = c.args.self.now in
+    let going = not_failed _ s.session c.feed.new.self c.feed.result c.in_ok-fed.fed
+    c.feed.ensures.failed c.in_ok-fed.was in
+    let more = rw c.server_reply.ensures at c.append.ensures.items in
+    let within : s.written ≤ length c.in-Answers.kept.items =
+    subst (λ (w : Waiting). s.written ≤ length (kept_in w)) c.in-Answers.is s.within in
+    let long = ap (λ xs. length xs) c.append.ensures.items in
+    let sum = length-append c.in-Answers.kept.items c.server_reply.result.now in
+    let room = answer_fits s.session c.feed.new.self c.in-Answers.kept
+    (take c.in_ok-fed.fed.used c.args.bytes.now) (seen c.in_ok-fed.fed.event) going
+    c.in_ok-fed.ensures.fed
+    (subst (λ (w : Waiting). ∥ HasRoomForAnswers s.session w ∥₁) c.in-Answers.is s.roomy) in
+    let reply = ap (λ xs. length xs) c.server_reply.ensures in
+    record {
+      within = omega (arith, within, long, sum);
+      few = omega (arith, room, long, sum, reply);
+      roomy = fits_behind s.session c.feed.new.self (Answers c.in-Answers.kept)
+          (Answers c.append.new.kept) (take c.in_ok-fed.fed.used c.args.bytes.now)
+          (seen c.in_ok-fed.fed.event) going c.in_ok-fed.ensures.fed
+          (answers_behind c.in-Answers.kept c.append.new.kept (seen c.in_ok-fed.fed.event) more)
+          (subst (λ (w : Waiting). ∥ HasRoomForAnswers s.session w ∥₁) c.in-Answers.is s.roomy);
+    }
+
+pub invariant_of-self-in-Update : goal.invariant_of-self-in-Update
+invariant_of-self-in-Update c =
+    let s = c.args.self.now in
+    let going = not_failed _ s.session c.feed.new.self c.feed.result c.in_ok-fed.fed
+    c.feed.ensures.failed c.in_ok-fed.was in
+    record {
+      within = s.within;
+      few = s.few;
+      roomy = fits_behind s.session c.feed.new.self s.waiting s.waiting
+          (take c.in_ok-fed.fed.used c.args.bytes.now) (seen c.in_ok-fed.fed.event) going
+          c.in_ok-fed.ensures.fed (update_stays s.waiting (seen c.in_ok-fed.fed.event)
+          (ap (λ (w : Waiting). holds_update w) c.in-Update.is)) s.roomy;
+    }
+
+pub returns-clause-heard : goal.returns-clause-heard
+returns-clause-heard c =
+    let s = c.args.self.now in
+    let bytes = take c.in_ok-fed.fed.used c.args.bytes.now in
+    let told = seen c.in_ok-fed.fed.event in
+    let going = not_failed _ s.session c.feed.new.self c.feed.result c.in_ok-fed.fed
+    c.feed.ensures.failed c.in_ok-fed.was in
+    elim c.match-self.branch [
+      | in-Answers w ↦
+          subst (λ (seat : ShareSeat). Hears bytes told s seat) (sym w.self-is)
+          (heard_answer s _ w.in-Answers.kept w.append.new.kept bytes told w.in-Answers.is refl
+          refl (rw w.server_reply.ensures at w.append.ensures.items) going c.in_ok-fed.ensures.fed
+          c.feed.ensures.made c.feed.ensures.hints)
+      | in-Update w ↦
+          subst (λ (seat : ShareSeat). Hears bytes told s seat) (sym w.self-is)
+          (heard_behind s _ bytes told refl refl (none_behind s.session c.feed.new.self s.waiting
+          bytes told going c.in_ok-fed.ensures.fed (λ point. update_has_none point s.waiting
+          (ap (λ (v : Waiting). holds_update v) w.in-Update.is)) s.roomy) going
+          c.in_ok-fed.ensures.fed c.feed.ensures.made c.feed.ensures.hints)
+    ]

@@ -1,0 +1,18 @@
+use Rattle.std.proofs.Common.{[], refl}
+use Rattle.rfb_pixel.specs.declared.colour.Colour.{Colour}
+use Rattle.rfb_picture.specs.Grid.{Grid}
+use Rattle.rfb_server.specs.Standing.{notes_in}
+use Rattle.rfb_session.proofs.ShareSeatLemmas.{fits_kept}
+use Rattle.rfb_session.proofs.share.seat.ShareSeatFollower.hint.Goals as goal
+
+pub invariant_of-self-clause-roomy : goal.invariant_of-self-clause-roomy
+invariant_of-self-clause-roomy c =
+    let s = c.args.self.now in
+    fits_kept s.session _ s.waiting s.waiting c.hint.ensures.kept (λ point fit. fit) s.roomy
+
+pub returns-in-Err : goal.returns-in-Err
+returns-in-Err c =
+    let known = (notes_in c.args.self.now.session).known in
+    let screen : Grid Colour = record { width = known.width; height = known.height; places = [] } in
+    let refused = c.hint.ensures.refused screen (record { columns = refl; rows = refl }) in
+    absurd (refused.0 (rw c.in-Err.is refl) (c.requires.held.target, c.requires.held.source))

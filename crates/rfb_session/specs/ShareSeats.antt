@@ -1,0 +1,152 @@
+-- A seat at a share: what it has, and what its calls make of it, whatever its session stands for.
+use Rattle.std.specs.Prelude.{◌≡◌, ℕ, ◌≤◌, Bool, true, false, List, [], ◌++◌, drop, length, Option}
+use Rattle.std.specs.Prelude.{None, Some}
+use Rattle.rfb_pixel.specs.declared.colour.Colour.{Colour}
+use Rattle.rfb_picture.specs.declared.rect.Rect.{Rect}
+use Rattle.rfb_picture.specs.Grid.{Grid, IsGrid, Holds}
+use Rattle.rfb_codec.specs.RectData.{moved_to}
+use Rattle.rfb_wire.specs.stream.End.{FedBy}
+use Rattle.rfb_hello.specs.Version.{version_text}
+use Rattle.rfb_server.specs.declared.fault.ServerFault.{ServerFault}
+use Rattle.rfb_server.specs.declared.session.Session.{Session}
+use Rattle.rfb_server.specs.Failing.{EndsAs}
+use Rattle.rfb_server.specs.Following.{Follows, IsSameOutside}
+use Rattle.rfb_server.specs.Hints.{hints_in, with_hint}
+use Rattle.rfb_server.specs.Room.{update_room}
+use Rattle.rfb_server.specs.Server.{Serving, server, first_server}
+use Rattle.rfb_server.specs.Standing.{SessionStandsFor, session_fault, session_serving, notes_in}
+use Rattle.rfb_server.specs.Standing.{KeepsSession, with_screen}
+use Rattle.rfb_server.specs.Told.{ServerTold}
+use Rattle.rfb_server.specs.Updating.{SendsUpdate, OwesUpdate, OwesNone}
+use Rattle.rfb_session.specs.declared.share.event.Composing.{Composing}
+use Rattle.rfb_session.specs.declared.share.event.Composing.TheVariants.{Composed, NotDue}
+use Rattle.rfb_session.specs.declared.share.event.Composing.TheVariants.{Waiting as Waits}
+use Rattle.rfb_session.specs.declared.share.event.Composing.TheVariants.{NoSuchSeat}
+use Rattle.rfb_session.specs.declared.share.seat.ShareSeat.{ShareSeat}
+use Rattle.rfb_session.specs.declared.share.waiting.Waiting.{Waiting}
+use Rattle.rfb_session.specs.declared.share.waiting.Waiting.TheVariants.{Answers, Update}
+use Rattle.rfb_session.specs.InFlight.{server_reply}
+use Rattle.rfb_session.specs.ShareRoom.{kept_in}
+
+-- ---- what a seat has
+
+abbrev pub session_at : ShareSeat → Session
+session_at seat = seat.session
+
+-- the bytes that wait to be written, in order
+abbrev pub waiting_in : ShareSeat → List ℕ
+waiting_in seat = drop seat.written (kept_in seat.waiting)
+
+-- they are an update's
+abbrev pub holds_update : Waiting → Bool
+holds_update (Answers answers) = false
+holds_update (Update bytes) = true
+
+abbrev pub is_update : ShareSeat → Bool
+is_update seat = holds_update seat.waiting
+
+-- a session that was fed nothing, whose name has at most 255 bytes
+abbrev pub IsFresh : Session → Type 0
+IsFresh session =
+    (serving : Serving) × (length serving.hello.name ≤ 255) × ((screen : Grid Colour) →
+    SessionStandsFor serving screen session (with_screen screen (first_server serving)) [])
+
+-- it has that session, and the session's greeting waits
+pub record IsSeatOf (session : Session) (seat : ShareSeat) : Type 0 where
+  pub session_is : session_at seat ≡ session
+  pub greets : waiting_in seat ≡ version_text (session_serving session).hello.offer
+
+-- ---- bytes of its viewer's
+
+-- its session, which has not failed, was fed them, whatever it stands for over whatever screen, and
+-- told that of them; its answer, if that is one, waits behind what waited. Where an update waits
+-- there is none
+pub record Hears (bytes : List ℕ) (told : Option ServerTold) (old new : ShareSeat) : Type 0 where
+  pub going : session_fault (session_at old) ≡ None
+  pub fed : (serving : Serving) (screen : Grid Colour) →
+      FedBy (server serving) (SessionStandsFor serving screen) (session_at old) bytes told
+      (session_at new)
+  pub waits : waiting_in new ≡ waiting_in old ++ server_reply told
+  pub update : is_update new ≡ is_update old
+  pub quiet : is_update old ≡ true → waiting_in new ≡ waiting_in old
+  pub made : session_serving (session_at new) ≡ session_serving (session_at old)
+  pub hints : hints_in (session_at new) ≡ hints_in (session_at old)
+
+-- its session ended at them by that fault, or had ended by it before; what waited waits
+pub record Ends (bytes : List ℕ) (fault : ServerFault) (old new : ShareSeat) : Type 0 where
+  pub fails : session_fault (session_at new) ≡ Some fault
+  pub ends : EndsAs (session_at old) bytes fault (session_at new)
+  pub waits : waiting_in new ≡ waiting_in old
+  pub made : session_serving (session_at new) ≡ session_serving (session_at old)
+  pub failed : (before : ServerFault) → session_fault (session_at old) ≡ Some before → new ≡ old
+
+-- ---- bytes that are written
+
+-- the first bytes that wait are written, so many or all; its session is as it was
+pub record WritesAt (count : ℕ) (old new : ShareSeat) : Type 0 where
+  pub waits : waiting_in new ≡ drop count (waiting_in old)
+  pub session : session_at new ≡ session_at old
+
+-- ---- composing
+
+-- nothing waited, and an update of the screen does, which has at most the room that composing
+-- reserves
+pub record Sends (screen : Grid Colour) (old new : ShareSeat) : Type 0 where
+  pub going : session_fault (session_at old) ≡ None
+  pub written : waiting_in old ≡ []
+  pub update : SendsUpdate screen (session_at old) (session_at new) [] (waiting_in new)
+  pub room : length (waiting_in new) ≤ update_room (session_at old)
+  pub spent : hints_in (session_at new) ≡ []
+
+-- nothing waited, none was due, and nothing waits
+pub record SendsNone (screen : Grid Colour) (old new : ShareSeat) : Type 0 where
+  pub written : waiting_in old ≡ []
+  pub none : OwesNone screen (session_at old) (session_at new) [] (waiting_in new)
+  pub hints : hints_in (session_at new) ≡ hints_in (session_at old)
+
+-- earlier bytes wait, and nothing has changed
+pub record StillWaits (old new : ShareSeat) : Type 0 where
+  pub some : waiting_in old ≡ [] → ⊥
+  pub same : new ≡ old
+
+abbrev pub ComposesAt : Grid Colour → Composing → ShareSeat → ShareSeat → Type 0
+ComposesAt screen Composed old new = Sends screen old new
+ComposesAt screen NotDue old new = SendsNone screen old new
+ComposesAt screen Waits old new = StillWaits old new
+ComposesAt screen NoSuchSeat old new = ⊥
+
+-- nothing waited, an update was due for which there was no memory, and nothing waits
+pub record WantsRoom (screen : Grid Colour) (old new : ShareSeat) : Type 0 where
+  pub written : waiting_in old ≡ []
+  pub due : OwesUpdate screen (session_at old)
+  pub kept : KeepsSession (session_at old) (session_at new)
+  pub waits : waiting_in new ≡ []
+  pub hints : hints_in (session_at new) ≡ hints_in (session_at old)
+
+-- ---- drawings and hints
+
+-- what waits is as it was, and its session has nothing new but its marks and hints
+pub record KeepsShareSeat (old new : ShareSeat) : Type 0 where
+  pub waits : waiting_in new ≡ waiting_in old
+  pub update : is_update new ≡ is_update old
+  pub session : KeepsSession (session_at old) (session_at new)
+
+-- its session was told that the screen is drawn on inside the rectangle
+pub record IsMarkedIn (rect : Rect) (old new : ShareSeat) : Type 0 where
+  pub keeps : KeepsShareSeat old new
+  pub hints : hints_in (session_at new) ≡ hints_in (session_at old)
+  pub follows : (before after : Grid Colour) → Follows before (session_at old) → IsGrid after →
+      IsSameOutside rect before after → Follows after (session_at new)
+
+-- both rectangles of a hint lie on the screens that its session is about
+pub record CanBeTold (rect : Rect) (sx sy : ℕ) (seat : ShareSeat) : Type 0 where
+  pub target : Holds (notes_in (session_at seat)).known rect
+  pub source : Holds (notes_in (session_at seat)).known (moved_to sx sy rect)
+
+-- its session was told that the rectangle looks as the one of its size at (sx, sy) did
+pub record IsTold (rect : Rect) (sx sy : ℕ) (old new : ShareSeat) : Type 0 where
+  pub keeps : KeepsShareSeat old new
+  pub hints : hints_in (session_at new)
+      ≡ with_hint (record { to = rect; sx = sx; sy = sy }) (hints_in (session_at old))
+  pub follows : (screen : Grid Colour) → Follows screen (session_at old) →
+      Follows screen (session_at new)

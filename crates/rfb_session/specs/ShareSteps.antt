@@ -1,0 +1,174 @@
+-- What the calls of a share make of it: of the screen, of the seat that a call is of, and of the
+-- others.
+use Rattle.std.specs.Prelude.{◌≡◌, ℕ, ◌<◌, Bool, true, false, ◌&&◌, not, nat_eq, List, length, take}
+use Rattle.std.specs.Prelude.{Option, Some, None}
+use Rattle.rfb_pixel.specs.declared.colour.Colour.{Colour}
+use Rattle.rfb_picture.specs.Grid.{Grid, Holds, filled, copied, with_row}
+use Rattle.rfb_picture.specs.Places.{has_bit}
+use Rattle.rfb_server.specs.declared.fault.ServerFault.{ServerFault}
+use Rattle.rfb_server.specs.Standing.{row_from, HoldsBoth}
+use Rattle.rfb_server.specs.Told.{ServerTold, Reply, Ready, Key, Pointer, CutText}
+use Rattle.rfb_session.specs.declared.share.Share.{Share}
+use Rattle.rfb_session.specs.declared.share.event.Composing.{Composing}
+use Rattle.rfb_session.specs.declared.share.event.Drawing.{Drawing}
+use Rattle.rfb_session.specs.declared.share.event.Drawing.TheVariants.{Fill, Put, Copy, Hint}
+use Rattle.rfb_session.specs.declared.share.event.Heard.{Heard}
+use Rattle.rfb_session.specs.declared.share.event.SeatEvent.{SeatEvent}
+use Rattle.rfb_session.specs.declared.share.event.SeatEvent.TheVariants.{Ready as ReadyEvent}
+use Rattle.rfb_session.specs.declared.share.event.SeatEvent.TheVariants.{Key as KeyEvent}
+use Rattle.rfb_session.specs.declared.share.event.SeatEvent.TheVariants.{Pointer as PointerEvent}
+use Rattle.rfb_session.specs.declared.share.event.SeatEvent.TheVariants.{CutText as TextEvent}
+use Rattle.rfb_session.specs.declared.share.event.ShareFault.{ShareFault}
+use Rattle.rfb_session.specs.declared.share.event.ShareFault.TheVariants.{NoSuchSeat, Session}
+use Rattle.rfb_session.specs.declared.share.seat.ShareSeat.{ShareSeat}
+use Rattle.rfb_session.specs.Share.{seat_in, screen_of, serving_in, IsFreshIn, AllTaken}
+use Rattle.rfb_session.specs.ShareSeats.{Hears, Ends, WritesAt, IsMarkedIn, IsTold}
+use Rattle.rfb_session.specs.ShareSlots.{ComposesIn, WantsRoomIn}
+use Rattle.rfb_session.specs.Slots.{is_taken, OnSlot, StaysUnless}
+
+-- ---- what stays
+
+-- the screen is as it was, and so is what its sessions are made with
+pub record KeepsScreen (old new : Share) : Type 0 where
+  pub screen : screen_of new ≡ screen_of old
+  pub made : serving_in new ≡ serving_in old
+
+-- every other seat is as it was: its session, and what waits there
+abbrev pub OthersKept : Share → ℕ → Share → Type 0
+OthersKept old k new = (j : ℕ) → nat_eq j k ≡ false → seat_in new j ≡ seat_in old j
+
+-- nothing has changed
+pub record KeepsAll (old new : Share) : Type 0 where
+  pub screen : KeepsScreen old new
+  pub seats : (j : ℕ) → seat_in new j ≡ seat_in old j
+
+-- ---- drawings and hints
+
+-- all that a drawing needs lies on the screen
+abbrev pub IsInside : Grid Colour → Drawing → Type 0
+IsInside screen (Fill rect colour) = Holds screen rect
+IsInside screen (Put x y row) = Holds screen (row_from x y (length row.items))
+IsInside screen (Copy rect sx sy) = HoldsBoth screen rect sx sy
+IsInside screen (Hint rect sx sy) = HoldsBoth screen rect sx sy
+
+-- the screen that it leaves
+abbrev pub drawn_by : Drawing → Grid Colour → Grid Colour
+drawn_by (Fill rect colour) screen = filled rect colour screen
+drawn_by (Put x y row) screen = with_row x y row.items screen
+drawn_by (Copy rect sx sy) screen = copied rect sx sy screen
+drawn_by (Hint rect sx sy) screen = screen
+
+-- the session of a seat was told of it
+abbrev pub IsToldOf : Drawing → ShareSeat → ShareSeat → Type 0
+IsToldOf (Fill rect colour) old new = IsMarkedIn rect old new
+IsToldOf (Put x y row) old new = IsMarkedIn (row_from x y (length row.items)) old new
+IsToldOf (Copy rect sx sy) old new = IsMarkedIn rect old new
+IsToldOf (Hint rect sx sy) old new = IsTold rect sx sy old new
+
+-- the screen is drawn on, and each session was told; nothing else has changed
+pub record DrawsOn (old : Share) (drawing : Drawing) (new : Share) : Type 0 where
+  pub screen : screen_of new ≡ drawn_by drawing (screen_of old)
+  pub seats : (k : ℕ) → OnSlot (λ a b. IsToldOf drawing a b) (seat_in old k) (seat_in new k)
+  pub made : serving_in new ≡ serving_in old
+
+-- ---- viewers that come and go
+
+-- a viewer takes the first seat that is empty; where all are taken nothing has changed
+pub data JoinsAs (old : Share) (joined : Option ℕ) (new : Share) : Type 0 where
+  Full : AllTaken old → joined ≡ None → new ≡ old → JoinsAs old joined new
+  Joined : (k : ℕ) → joined ≡ Some k → k < 8 → seat_in old k ≡ None →
+      ((j : ℕ) → j < k → is_taken (seat_in old j) ≡ true) →
+      (seat : ShareSeat) → seat_in new k ≡ Some seat → IsFreshIn old seat →
+      KeepsScreen old new → OthersKept old k new → JoinsAs old joined new
+
+-- a seat is emptied, and it is told whether it was taken
+pub record LeavesAs (old : Share) (k : ℕ) (taken : Bool) (new : Share) : Type 0 where
+  pub taken_is : taken ≡ is_taken (seat_in old k)
+  pub gone : seat_in new k ≡ None
+  pub keeps : KeepsScreen old new
+  pub others : OthersKept old k new
+
+-- ---- bytes that a viewer sent
+
+-- what a viewer did: its handshake is done, a key, the pointer, a text
+pub data SeatTold : Type 0 where
+  IsReady : (shared : Bool) → SeatTold
+  OfKey : (down : Bool) → (key : ℕ) → SeatTold
+  OfPointer : (buttons : ℕ) → (x : ℕ) → (y : ℕ) → SeatTold
+  OfText : (kept : List ℕ) → (text_length : ℕ) → SeatTold
+
+-- as a value of the program has it
+abbrev pub event_seen : Option SeatEvent → Option SeatTold
+event_seen None = None
+event_seen (Some (ReadyEvent shared)) = Some (IsReady shared)
+event_seen (Some (KeyEvent down key)) = Some (OfKey down key)
+event_seen (Some (PointerEvent buttons x y)) = Some (OfPointer buttons x y)
+event_seen (Some (TextEvent kept text_length)) = Some (OfText kept.items text_length)
+
+-- what is told of what a session tells: answers are not
+abbrev pub seat_told : Option ServerTold → Option SeatTold
+seat_told None = None
+seat_told (Some (Reply bytes)) = None
+seat_told (Some (Ready bytes shared)) = Some (IsReady shared)
+seat_told (Some (Key down key)) = Some (OfKey down key)
+seat_told (Some (Pointer buttons x y)) = Some (OfPointer buttons x y)
+seat_told (Some (CutText kept text_length)) = Some (OfText kept text_length)
+
+-- a client that is told of so asks for the screen alone: its ClientInit has shared-flag 0, RFC 6143
+-- section 7.3.1
+abbrev pub asks_alone : Option ServerTold → Bool
+asks_alone None = false
+asks_alone (Some (Reply bytes)) = false
+asks_alone (Some (Ready bytes shared)) = not shared
+asks_alone (Some (Key down key)) = false
+asks_alone (Some (Pointer buttons x y)) = false
+asks_alone (Some (CutText kept text_length)) = false
+
+-- the session of the seat was fed those that were taken: up to its first item that is answered or
+-- told, or all. What its viewer did is told with the seat. Where it asked for the screen alone, all
+-- other seats that are taken are told as emptied
+pub record ReceivesAs (old : Share) (k : ℕ) (bytes : List ℕ) (heard : Heard) (new : Share)
+    : Type 0 where
+  pub was : ShareSeat
+  pub now : ShareSeat
+  pub told : Option ServerTold
+  pub was_there : seat_in old k ≡ Some was
+  pub is_there : seat_in new k ≡ Some now
+  pub hears : Hears (take heard.used bytes) told was now
+  pub all : told ≡ None → heard.used ≡ length bytes
+  pub seat_is : heard.seat ≡ k
+  pub event_is : event_seen heard.event ≡ seat_told told
+  pub ended : (j : ℕ) → has_bit heard.ended j
+      ≡ (asks_alone told && (not (nat_eq j k) && is_taken (seat_in old j)))
+  pub others : (j : ℕ) → nat_eq j k ≡ false →
+      StaysUnless (has_bit heard.ended j) (seat_in old j) (seat_in new j)
+  pub keeps : KeepsScreen old new
+
+-- there is no viewer there; or its session has ended, and nothing else has changed
+pub data RefusesAs (old : Share) (k : ℕ) (bytes : List ℕ) (fault : ShareFault) (new : Share)
+    : Type 0 where
+  NoneHeard : fault ≡ NoSuchSeat → seat_in old k ≡ None → KeepsAll old new →
+      RefusesAs old k bytes fault new
+  SeatEnded : (of : ServerFault) → fault ≡ Session of → (was now : ShareSeat) →
+      seat_in old k ≡ Some was → seat_in new k ≡ Some now → Ends bytes of was now →
+      KeepsScreen old new → OthersKept old k new → RefusesAs old k bytes fault new
+
+-- ---- bytes that wait, and updates
+
+-- the first that wait at the seat are written, so many or all
+pub record WritesAs (old : Share) (k count : ℕ) (new : Share) : Type 0 where
+  pub seat : OnSlot (λ a b. WritesAt count a b) (seat_in old k) (seat_in new k)
+  pub keeps : KeepsScreen old new
+  pub others : OthersKept old k new
+
+-- an update of the screen was composed for the seat, or not
+pub record ComposesAs (old : Share) (k : ℕ) (told : Composing) (new : Share) : Type 0 where
+  pub seat : ComposesIn (screen_of old) told (seat_in old k) (seat_in new k)
+  pub keeps : KeepsScreen old new
+  pub others : OthersKept old k new
+
+-- there was no memory for it
+pub record WantsRoomAs (old : Share) (k : ℕ) (new : Share) : Type 0 where
+  pub seat : WantsRoomIn (screen_of old) (seat_in old k) (seat_in new k)
+  pub keeps : KeepsScreen old new
+  pub others : OthersKept old k new

@@ -1,0 +1,70 @@
+-- A seat of a share whose viewer is this project's: both ends, and the bytes between them, are a
+-- link over the share's screen.
+use Rattle.std.specs.Prelude.{◌≡◌, ℕ, List, ◌++◌, map, Option, Some, None}
+use Rattle.rfb_picture.specs.declared.rect.Rect.{Rect}
+use Rattle.rfb_pixel.specs.Format.{PixelFormat}
+use Rattle.rfb_wire.specs.Encoding.{number_of}
+use Rattle.rfb_wire.specs.ClientMessage.{ClientMessage, SetEncodings as EncodingsMessage}
+use Rattle.rfb_wire.specs.ClientMessage.{KeyEvent, PointerEvent, ClientCutText}
+use Rattle.rfb_viewer.specs.declared.viewer.Viewer.{Viewer}
+use Rattle.rfb_viewer.specs.Viewer.{ViewerState}
+use Rattle.rfb_viewer.specs.Calls.{call_refusal, request_refusal, format_refusal}
+use Rattle.rfb_viewer.specs.Calls.{requested, formatted}
+use Rattle.rfb_viewer.specs.Standing.{StandsFor as ViewerStandsFor}
+use Rattle.rfb_session.specs.declared.event.Event.{Event}
+use Rattle.rfb_session.specs.declared.event.Event.TheVariants.{SetEncodings, Key, Pointer, CutText}
+use Rattle.rfb_session.specs.declared.share.Share.{Share}
+use Rattle.rfb_session.specs.declared.share.seat.ShareSeat.{ShareSeat}
+use Rattle.rfb_session.specs.Carrying.{Carries}
+use Rattle.rfb_session.specs.Link.{Ends}
+use Rattle.rfb_session.specs.LinkStanding.{ServesOver}
+use Rattle.rfb_session.specs.Network.{Network, IsReached}
+use Rattle.rfb_session.specs.Share.{seat_in, screen_of}
+use Rattle.rfb_session.specs.ShareSeats.{session_at, waiting_in}
+
+-- the viewer sent bytes of which those have not been received at the seat; and of the bytes that
+-- were written for it, those have not reached it. Behind these come the ones that wait. So both
+-- stand for a network over the share's screen, to which events of a world led
+pub record IsWatchedBy (e : Ends) (share : Share) (k : ℕ) (viewer : Viewer)
+    (to_server on_way : List ℕ) (n : Network) : Type 0 where
+  pub seat : ShareSeat
+  pub there : seat_in share k ≡ Some seat
+  pub screen_is : n.screen ≡ screen_of share
+  pub reached : IsReached e n
+  pub carries : Carries (ServesOver n.screen) ViewerStandsFor e n.screen (session_at seat) viewer
+      to_server (on_way ++ waiting_in seat) n.link
+
+-- the same of some network
+abbrev pub Watches : Ends → Share → ℕ → Viewer → List ℕ → List ℕ → Type 0
+Watches e share k viewer to_server on_way =
+    (n : Network) × IsWatchedBy e share k viewer to_server on_way n
+
+-- ---- calls of the viewer that are not refused
+
+-- a request
+pub record Requests (e : Ends) (rect : Rect) (old new : Viewer) : Type 0 where
+  pub taken : (s : ViewerState) (prefix : List ℕ) → ViewerStandsFor e.viewing old s prefix →
+      None ≡ request_refusal s rect
+  pub stands : (s : ViewerState) (prefix : List ℕ) → ViewerStandsFor e.viewing old s prefix →
+      ViewerStandsFor e.viewing new (requested s) prefix
+
+-- a format
+pub record AsksFormat (e : Ends) (form : PixelFormat) (old new : Viewer) : Type 0 where
+  pub taken : (s : ViewerState) (prefix : List ℕ) → ViewerStandsFor e.viewing old s prefix →
+      None ≡ format_refusal s prefix
+  pub stands : (s : ViewerState) (prefix : List ℕ) → ViewerStandsFor e.viewing old s prefix →
+      ViewerStandsFor e.viewing new (formatted form s) prefix
+
+-- a call that changes nothing of it
+abbrev pub MaySend : Ends → Viewer → Type 0
+MaySend e viewer = (s : ViewerState) (prefix : List ℕ) →
+    ViewerStandsFor e.viewing viewer s prefix → None ≡ call_refusal s
+
+-- the message of an event that changes nothing of the viewer
+abbrev pub plain_message : Event → Option ClientMessage
+plain_message (SetEncodings encodings) =
+    Some (EncodingsMessage (map (λ encoding. number_of encoding) encodings.items))
+plain_message (Key down key) = Some (KeyEvent down key)
+plain_message (Pointer buttons x y) = Some (PointerEvent buttons x y)
+plain_message (CutText text) = Some (ClientCutText text.items)
+plain_message event = None

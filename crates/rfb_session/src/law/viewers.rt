@@ -1,0 +1,107 @@
+//! Laws of a share's seat whose viewer is this project's, with nothing to run: what it comes to
+//! show, whatever is drawn and whatever other viewers do.
+
+ghost use Rattle.std.specs.Prelude.{◌≡◌, ◌≢◌, ℕ, Bool, List, [], ◌++◌, take, Option, Some, None};
+ghost use Rattle.rfb_pixel.specs.declared.colour.Colour.{Colour};
+ghost use Rattle.rfb_pixel.specs.Format.{PixelFormat};
+ghost use Rattle.rfb_picture.specs.declared.rect.Rect.{Rect};
+ghost use Rattle.rfb_picture.specs.Grid.{Grid};
+ghost use Rattle.rfb_wire.specs.ClientMessage.{ClientMessage, SetPixelFormat};
+ghost use Rattle.rfb_wire.specs.ClientMessage.{FramebufferUpdateRequest, SpellsClientMessage};
+ghost use Rattle.rfb_wire.specs.stream.End.{FedBy};
+ghost use Rattle.rfb_server.specs.declared.fault.ServerFault.{ServerFault};
+ghost use Rattle.rfb_server.specs.declared.fault.ServerFault.TheVariants.{NoMemory};
+ghost use Rattle.rfb_viewer.specs.declared.viewer.Viewer.{Viewer};
+ghost use Rattle.rfb_viewer.specs.Showing.{Shows};
+ghost use Rattle.rfb_viewer.specs.Standing.{StandsFor as ViewerStandsFor, fault_of};
+ghost use Rattle.rfb_viewer.specs.Told.{ViewerTold};
+ghost use Rattle.rfb_viewer.specs.Viewer.{Viewing, ViewerState, first_viewer};
+ghost use Rattle.rfb_viewer.specs.Viewer.{viewer as viewer_end};
+ghost use Rattle.rfb_session.specs.declared.event.Event.{Event};
+ghost use Rattle.rfb_session.specs.declared.share.Share.{Share};
+ghost use Rattle.rfb_session.specs.declared.share.event.Composing.{Composing};
+ghost use Rattle.rfb_session.specs.declared.share.event.Drawing.{Drawing};
+ghost use Rattle.rfb_session.specs.declared.share.event.Heard.{Heard};
+ghost use Rattle.rfb_session.specs.declared.share.event.ShareFault.TheVariants.{Session};
+ghost use Rattle.rfb_session.specs.Headline.{IsHeadline, due_picture};
+ghost use Rattle.rfb_session.specs.InFlight.{AreMade, viewer_reply};
+ghost use Rattle.rfb_session.specs.Link.{Ends};
+ghost use Rattle.rfb_session.specs.Network.{Network};
+ghost use Rattle.rfb_session.specs.Share.{screen_of, serving_in, waits_at, fault_in};
+ghost use Rattle.rfb_session.specs.ShareSteps.{JoinsAs, IsInside, DrawsOn, ReceivesAs, RefusesAs};
+ghost use Rattle.rfb_session.specs.ShareSteps.{WritesAs, ComposesAs};
+ghost use Rattle.rfb_session.specs.ShareViewers.{IsWatchedBy, Watches, Requests, AsksFormat};
+ghost use Rattle.rfb_session.specs.ShareViewers.{MaySend, plain_message};
+
+/// A fresh viewer at a seat that was just taken, and the bytes between the two, stand for a fresh
+/// link over the share's screen. Each call of the share's goes on as a link does: a drawing, bytes
+/// of the viewer's that are received there, bytes that are written, a composing. And where nothing
+/// but the viewer's own bytes reaches the seat, its session refuses none of them.
+pub fn a_seat_goes_on_as_a_link()
+    ensures joined { (e : Ends) (old new : Share) (joined : Option ℕ) (k : ℕ) (viewer : Viewer) →
+        e.serving ≡ serving_in old → ViewerStandsFor e.viewing viewer first_viewer [] →
+        JoinsAs old joined new → joined ≡ Some k → Watches e new k viewer [] [] }
+    ensures drawn { (e : Ends) (old new : Share) (drawing : Drawing) (k : ℕ) (viewer : Viewer)
+        (to_server on_way : List ℕ) → IsInside (screen_of old) drawing → DrawsOn old drawing new →
+        Watches e old k viewer to_server on_way → Watches e new k viewer to_server on_way }
+    ensures received { (e : Ends) (old new : Share) (k : ℕ) (bytes : List ℕ) (told : Heard)
+        (viewer : Viewer) (to_server later on_way : List ℕ) → AreMade e →
+        to_server ≡ take told.used bytes ++ later → ReceivesAs old k bytes told new →
+        Watches e old k viewer to_server on_way → Watches e new k viewer later on_way }
+    ensures never_refused { (e : Ends) (old new : Share) (k : ℕ) (bytes : List ℕ)
+        (fault : ServerFault) (viewer : Viewer) (to_server later on_way : List ℕ) →
+        fault ≢ NoMemory → to_server ≡ bytes ++ later →
+        RefusesAs old k bytes (Session fault) new →
+        Watches e old k viewer to_server on_way → ⊥ }
+    ensures written { (e : Ends) (old new : Share) (k count : ℕ) (viewer : Viewer)
+        (to_server on_way : List ℕ) → WritesAs old k count new →
+        Watches e old k viewer to_server on_way →
+        Watches e new k viewer to_server (on_way ++ take count (waits_at old k)) }
+    ensures composed { (e : Ends) (old new : Share) (k : ℕ) (told : Composing) (viewer : Viewer)
+        (to_server on_way : List ℕ) → ComposesAs old k told new →
+        Watches e old k viewer to_server on_way → Watches e new k viewer to_server on_way }
+{}
+
+/// So does each call of the viewer's that is not refused, a request, a format, and what changes
+/// nothing of it; and so do bytes that reach it.
+pub fn a_viewer_of_a_seat_goes_on_as_a_link()
+    ensures shown { (e : Ends) (share : Share) (k : ℕ) (old new : Viewer) (bytes later : List ℕ)
+        (event : Option ViewerTold) (to_server on_way : List ℕ) → AreMade e →
+        on_way ≡ bytes ++ later →
+        FedBy (viewer_end e.viewing) (ViewerStandsFor e.viewing) old bytes event new →
+        Watches e share k old to_server on_way →
+        Watches e share k new (to_server ++ viewer_reply event) later }
+    ensures requested { (e : Ends) (share : Share) (k : ℕ) (old new : Viewer) (incremental : Bool)
+        (rect : Rect) (bytes to_server on_way : List ℕ) → Requests e rect old new →
+        SpellsClientMessage (FramebufferUpdateRequest incremental rect) bytes →
+        Watches e share k old to_server on_way → Watches e share k new (to_server ++ bytes) on_way }
+    ensures format { (e : Ends) (share : Share) (k : ℕ) (old new : Viewer) (form : PixelFormat)
+        (bytes to_server on_way : List ℕ) → AsksFormat e form old new →
+        SpellsClientMessage (SetPixelFormat form) bytes →
+        Watches e share k old to_server on_way → Watches e share k new (to_server ++ bytes) on_way }
+    ensures sent { (e : Ends) (share : Share) (k : ℕ) (viewer : Viewer) (message : ClientMessage)
+        (event : Event) (bytes to_server on_way : List ℕ) → MaySend e viewer →
+        plain_message event ≡ Some message → SpellsClientMessage message bytes →
+        Watches e share k viewer to_server on_way →
+        Watches e share k viewer (to_server ++ bytes) on_way }
+{}
+
+/// At any time neither end of such a seat has failed. Once all that is on its way and all that
+/// waits has reached the viewer, it shows what the session knows it to show; and over the area of
+/// its latest update the screen as it was composed of, as that update's format can show it. Where
+/// nothing is on its way and nothing waits, that is what it shows.
+pub fn a_viewer_of_a_seat_shows_the_screen()
+    ensures going { (e : Ends) (share : Share) (k : ℕ) (viewer : Viewer)
+        (to_server on_way : List ℕ) (n : Network) →
+        IsWatchedBy e share k viewer to_server on_way n →
+        (fault_in share k ≡ None) × (fault_of viewer ≡ None) }
+    ensures headline { (e : Ends) (share : Share) (k : ℕ) (viewer : Viewer)
+        (to_server on_way : List ℕ) (n : Network) →
+        IsWatchedBy e share k viewer to_server on_way n → IsHeadline e n.link }
+    ensures arrived { (e : Ends) (share : Share) (k : ℕ) (viewer : Viewer) (to_server : List ℕ)
+        (n : Network) (stored : Option (Grid Colour)) → waits_at share k ≡ [] →
+        IsWatchedBy e share k viewer to_server [] n →
+        ((viewing : Viewing) (s : ViewerState) (prefix : List ℕ) →
+        ViewerStandsFor viewing viewer s prefix → Shows s prefix stored) →
+        stored ≡ due_picture e n.link }
+{}

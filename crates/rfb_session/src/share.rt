@@ -1,0 +1,112 @@
+//! A share: one screen that its owner draws on, and seats for eight viewers of it. It has no
+//! sockets: its owner brings it what the viewers send, and writes to them what waits for them.
+
+ghost use Rattle.std.specs.Prelude.{◌≡◌, ◌≤◌, length, All, IfOk, option_copied};
+ghost use Rattle.std.specs.Option.{ForSome};
+ghost use Rattle.rfb_server.specs.Following.{Follows};
+ghost use Rattle.rfb_session.specs.ShareSeats.{session_at};
+
+mod drawing;
+pub(crate) mod event;
+mod joining;
+mod receiving;
+pub(crate) mod seat;
+mod sending;
+#[cfg(test)]
+mod tests;
+pub(crate) mod waiting;
+
+use crate::hub::{BLACK, NAME_LIMIT, name_of};
+use crate::share::seat::ShareSeat;
+use crate::slots::SLOTS;
+use arrayvec::ArrayVec;
+use rfb_hello::Version;
+use rfb_picture::Picture;
+use rfb_pixel::Colour;
+use rfb_server::ServerFault;
+use std::alloc::{AllocError, Global};
+
+/// One screen, and eight seats. A viewer has a session of its own at its seat, and what is to be
+/// written to it waits there, in order. An update is composed only where nothing waits, so a seat
+/// holds at most 297 bytes of answers, or one update. Nothing that one viewer does, or leaves
+/// undone, changes what another has, but asking for the screen alone.
+#[derive(Debug, Drop)]
+pub struct Share {
+    alloc: Global,
+    screen: Picture<Colour>,
+    name: ArrayVec<u8, NAME_LIMIT>,
+    offer: Version,
+    text_limit: u32,
+    seats: [Option<ShareSeat>; SLOTS],
+    ghost eight: { length seats ≡ 8 },
+    ghost columns: { screen.width ≤ 4096 },
+    ghost rows: { screen.height ≤ 4096 },
+    ghost follow: { All (λ slot. ForSome slot (λ seat. Follows screen (session_at seat))) seats },
+}
+
+impl Share {
+    ghost use Rattle.rfb_picture.specs.Grid.{uniform};
+    ghost use Rattle.rfb_server.specs.Server.{black};
+    ghost use Rattle.rfb_server.specs.Standing.{serving_with};
+    ghost use Rattle.rfb_session.specs.Share.{IsEmptyShare, seat_in, serving_in, screen_of};
+    ghost use Rattle.rfb_session.specs.Share.{fault_in};
+
+    /// A share with a black screen and eight empty seats. Each session offers versions up to
+    /// `offer`, names the screen, and keeps at most `text_limit` bytes of each text that its viewer
+    /// cuts. Where there is no memory it gives the error, and nothing is kept.
+    pub fn new(
+        alloc: Global,
+        width: u16,
+        height: u16,
+        name: &[u8],
+        offer: Version,
+        text_limit: u32,
+    ) -> Result<Share, AllocError>
+        requires columns { width ≤ 4096 }
+        requires rows { height ≤ 4096 }
+        requires name { length name.now ≤ 255 }
+        ensures empty { IfOk result IsEmptyShare }
+        ensures screen { IfOk result (λ share. screen_of share ≡ uniform width height black) }
+        ensures made { IfOk result (λ share. serving_in share
+            ≡ serving_with offer width height name.now text_limit) }
+    {
+        let screen = Picture::new(alloc, width, height, BLACK)?;
+        Ok(Share {
+            alloc,
+            screen,
+            name: name_of(name),
+            offer,
+            text_limit,
+            seats: [None, None, None, None, None, None, None, None],
+        })
+    }
+
+    /// Lends the screen.
+    pub fn picture(&self) -> &Picture<Colour>
+        ensures { result.now ≡ screen_of self.now }
+    {
+        &self.screen
+    }
+
+    /// The fault that the session of a seat has failed with, if it has. Its viewer is to be let go:
+    /// what it sends is not taken any more, and no update is composed for it.
+    pub fn fault(&self, seat: u8) -> Option<ServerFault>
+        ensures { result ≡ fault_in self.now seat }
+    {
+        match self.seat(seat) {
+            Some(seat) => seat.fault(),
+            None => None,
+        }
+    }
+
+    // The seat of that number, where it is taken.
+    fn seat(&self, seat: u8) -> Option<&ShareSeat>
+        ensures { option_copied result ≡ seat_in self.now seat }
+    {
+        let place = seat as usize;
+        if place >= SLOTS {
+            return None;
+        }
+        self.seats[place].as_ref()
+    }
+}

@@ -1,0 +1,57 @@
+//! Viewers that come to a share and go.
+
+ghost use Rattle.std.specs.Prelude.{◌≡◌, IfOk, IsOk, OnErr, Ok, None};
+
+use crate::share::Share;
+use crate::share::seat::ShareSeat;
+use crate::slots::{SLOTS, empty, first_empty, seat_in};
+use crate::told::NoMemory;
+use rfb_server::Session;
+
+impl Share {
+    ghost use Rattle.rfb_session.specs.Share.{IsFreshIn, AllTaken};
+    ghost use Rattle.rfb_session.specs.ShareSteps.{JoinsAs, LeavesAs};
+
+    /// A viewer takes the first empty seat, with a session of its own, whose greeting waits. Where
+    /// all are taken it gives none. Its memory is taken before anything is changed, all that it
+    /// will have but for updates and texts.
+    pub fn join(&mut self) -> Result<Option<u8>, NoMemory>
+        ensures joins { IfOk result (λ seat. JoinsAs self.old seat self.new) }
+        ensures full { AllTaken self.old → result ≡ Ok None }
+        ensures kept { OnErr result (self.new ≡ self.old) }
+    {
+        let Some(place) = first_empty(&self.seats) else {
+            return Ok(None);
+        };
+        let seat = self.fresh_seat()?;
+        seat_in(&mut self.seats[place], seat);
+        Ok(Some(place as u8))
+    }
+
+    // A seat with a session of this screen.
+    fn fresh_seat(&self) -> Result<ShareSeat, NoMemory>
+        ensures { IfOk result (λ seat. IsFreshIn self.now seat) }
+    {
+        let session = Session::new(
+            self.alloc,
+            self.screen.width(),
+            self.screen.height(),
+            self.name.as_slice(),
+            self.offer,
+            self.text_limit,
+        )?;
+        Ok(ShareSeat::new(self.alloc, session))
+    }
+
+    /// The viewer of a seat goes, and with it its session and what waited. It tells whether there
+    /// was one.
+    pub fn left(&mut self, seat: u8) -> bool
+        ensures { LeavesAs self.old seat result self.new }
+    {
+        let place = seat as usize;
+        if place >= SLOTS {
+            return false;
+        }
+        empty(&mut self.seats[place])
+    }
+}

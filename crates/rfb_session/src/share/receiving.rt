@@ -1,0 +1,103 @@
+//! Bytes that the viewers of a share sent.
+
+ghost use Rattle.std.specs.Prelude.{◌≡◌, ◌≤◌, ◌<◌, length, take, IfOk, IfErr, None};
+ghost use Rattle.std.specs.Option.{ForSome};
+ghost use Rattle.rfb_pixel.specs.declared.colour.Colour.{Colour};
+ghost use Rattle.rfb_picture.specs.Grid.{Grid};
+ghost use Rattle.rfb_server.specs.Following.{Follows};
+ghost use Rattle.rfb_server.specs.Told.{seen};
+ghost use Rattle.rfb_session.specs.ShareSeats.{session_at};
+ghost use Rattle.rfb_session.specs.ShareSlots.{HearsIn, EndsIn};
+ghost use Rattle.rfb_session.specs.ShareSteps.{event_seen, seat_told};
+
+use crate::link::asks_sole;
+use crate::share::Share;
+use crate::share::event::{Heard, SeatEvent, ShareFault};
+use crate::share::seat::ShareSeat;
+use crate::slots::{SLOTS, empty_others};
+use rfb_hello::Fed;
+use rfb_server::ServerEvent;
+
+impl Share {
+    ghost use Rattle.rfb_session.specs.ShareSteps.{ReceivesAs, RefusesAs};
+
+    /// Takes bytes that the viewer of a seat sent, up to the last of its first item that is
+    /// answered or told, or all. An answer waits behind what waits there. What the viewer did is
+    /// told with its seat. A viewer that asks for the screen alone, by its ClientInit (RFC 6143
+    /// section 7.3.1), empties the other seats at that byte, which is told too.
+    ///
+    /// What a client did wrong comes as a fault of its seat, and want of memory for a text; so does
+    /// it again at each later call, which takes nothing. What waits there goes on to wait, and no
+    /// other seat is changed. No other memory is taken.
+    pub fn received(&mut self, seat: u8, bytes: &[u8]) -> Result<Heard, ShareFault>
+        ensures used { IfOk result (λ heard. heard.used ≤ length bytes.now) }
+        ensures some { IfOk result (λ heard. 0 < length bytes.now → 0 < heard.used) }
+        ensures heard { IfOk result (λ heard.
+            ReceivesAs self.old seat bytes.now heard self.new) }
+        ensures refused { IfErr result (λ fault. RefusesAs self.old seat bytes.now fault self.new) }
+    {
+        let place = seat as usize;
+        if place >= SLOTS {
+            return Err(ShareFault::NoSuchSeat);
+        }
+        let fed = match hear_in(&mut self.seats[place], bytes) {
+            Ok(fed) => fed,
+            Err(fault) => return Err(fault),
+        };
+        if asks_sole(&fed.event) {
+            let ended = empty_others(&mut self.seats, place);
+            return Ok(told_of(seat, fed, ended));
+        }
+        Ok(told_of(seat, fed, 0))
+    }
+}
+
+// What is told of bytes that were taken there, which emptied those seats.
+fn told_of(seat: u8, fed: Fed<ServerEvent>, ended: u8) -> Heard
+    ensures seat { result.seat ≡ seat }
+    ensures used { result.used ≡ fed.used }
+    ensures event { event_seen result.event ≡ seat_told (seen fed.event) }
+    ensures ended { result.ended ≡ ended }
+{
+    Heard {
+        seat,
+        used: fed.used,
+        event: event_of(fed.event),
+        ended,
+    }
+}
+
+// The viewer of a seat is heard, where there is one.
+fn hear_in(slot: &mut Option<ShareSeat>, bytes: &[u8]) -> Result<Fed<ServerEvent>, ShareFault>
+    ensures used { IfOk result (λ fed. fed.used ≤ length bytes.now) }
+    ensures all { IfOk result (λ fed. fed.event ≡ None → fed.used ≡ length bytes.now) }
+    ensures some { IfOk result (λ fed. 0 < length bytes.now → 0 < fed.used) }
+    ensures heard { IfOk result (λ fed.
+        HearsIn (take fed.used bytes.now) (seen fed.event) slot.old slot.new) }
+    ensures ended { IfErr result (λ fault. EndsIn bytes.now fault slot.old slot.new) }
+    ensures follows { (screen : Grid Colour) →
+        ForSome slot.old (λ seat. Follows screen (session_at seat)) →
+        ForSome slot.new (λ seat. Follows screen (session_at seat)) }
+{
+    match slot {
+        Some(seat) => match seat.hear(bytes) {
+            Ok(fed) => Ok(fed),
+            Err(fault) => Err(ShareFault::Session(fault)),
+        },
+        None => Err(ShareFault::NoSuchSeat),
+    }
+}
+
+// What a viewer did, if that is told: answers are not.
+fn event_of(event: Option<ServerEvent>) -> Option<SeatEvent>
+    ensures { event_seen result ≡ seat_told (seen event) }
+{
+    match event {
+        None => None,
+        Some(ServerEvent::Reply(_)) => None,
+        Some(ServerEvent::Ready { reply: _, shared }) => Some(SeatEvent::Ready { shared }),
+        Some(ServerEvent::Key { down, key }) => Some(SeatEvent::Key { down, key }),
+        Some(ServerEvent::Pointer { buttons, x, y }) => Some(SeatEvent::Pointer { buttons, x, y }),
+        Some(ServerEvent::CutText { kept, length }) => Some(SeatEvent::CutText { kept, length }),
+    }
+}

@@ -1,0 +1,155 @@
+//! A viewer's seat at a share: its session, and the bytes that wait to be written to the viewer.
+
+ghost use Rattle.std.specs.Prelude.{◌≡◌, ◌≢◌, ◌≤◌, ◌<◌, ◌++◌, ℕ, [], length, take, drop};
+ghost use Rattle.std.specs.Prelude.{true, false, None, Some, IfOk, IfErr, OnErr};
+ghost use Rattle.rfb_server.specs.Told.{seen};
+ghost use Rattle.rfb_session.specs.ShareRoom.{kept_in, answers_in, HasRoomForAnswers};
+
+use crate::reply::server_reply;
+use crate::share::event::Composing;
+use crate::share::waiting::Waiting;
+use crate::slots::Follower;
+use crate::told::NoMemory;
+use arrayvec::ArrayVec;
+use rfb_hello::Fed;
+use rfb_picture::{Picture, Rect};
+use rfb_pixel::Colour;
+use rfb_server::{Outside, ServerEvent, ServerFault, Session};
+use rfb_wire::pieces::append;
+use std::alloc::Global;
+
+/// A viewer's seat. Its session is told of drawings and is fed what the viewer sends; what it sends
+/// waits in order, until the caller says that it is written.
+#[derive(Debug, Drop)]
+pub struct ShareSeat {
+    alloc: Global,
+    session: Session,
+    waiting: Waiting,
+    // So many of the bytes kept are written.
+    written: usize,
+    ghost within: { written ≤ length (kept_in waiting) },
+    ghost few: { answers_in waiting ≤ 297 },
+    ghost roomy: { ∥ HasRoomForAnswers session waiting ∥₁ },
+}
+
+impl ShareSeat {
+    ghost use Rattle.rfb_pixel.specs.declared.colour.Colour.{Colour};
+    ghost use Rattle.rfb_picture.specs.Grid.{Grid};
+    ghost use Rattle.rfb_hello.specs.Version.{version_text};
+    ghost use Rattle.rfb_server.specs.Following.{Follows};
+    ghost use Rattle.rfb_server.specs.Standing.{session_fault};
+    ghost use Rattle.rfb_session.specs.ShareSeats.{waiting_in, session_at, is_update, IsFresh};
+    ghost use Rattle.rfb_session.specs.ShareSeats.{IsSeatOf, Hears, Ends, ComposesAt, WantsRoom};
+    ghost use Rattle.rfb_session.specs.ShareSeats.{WritesAt};
+
+    /// A seat of a session that was fed nothing, with its greeting.
+    pub(crate) fn new(alloc: Global, session: Session) -> ShareSeat
+        requires fresh { IsFresh session }
+        ensures { IsSeatOf session result }
+    {
+        let mut kept = ArrayVec::new();
+        append(&mut kept, &session.greeting());
+        ShareSeat {
+            alloc,
+            session,
+            waiting: Waiting::Answers(kept),
+            written: 0,
+        }
+    }
+
+    /// Takes bytes of the viewer's, as `Session::feed` does. The answer waits behind what waited.
+    pub(crate) fn hear(&mut self, bytes: &[u8]) -> Result<Fed<ServerEvent>, ServerFault>
+        ensures used { IfOk result (λ fed. fed.used ≤ length bytes.now) }
+        ensures all { IfOk result (λ fed. fed.event ≡ None → fed.used ≡ length bytes.now) }
+        ensures some { IfOk result (λ fed. 0 < length bytes.now → 0 < fed.used) }
+        ensures heard { IfOk result (λ fed.
+            Hears (take fed.used bytes.now) (seen fed.event) self.old self.new) }
+        ensures ended { IfErr result (λ fault. Ends bytes.now fault self.old self.new) }
+        ensures follows { (screen : Grid Colour) → Follows screen (session_at self.old)
+            → Follows screen (session_at self.new) }
+    {
+        let fed = self.session.feed(bytes)?;
+        match &mut self.waiting {
+            Waiting::Answers(kept) => append(kept, server_reply(&fed.event)),
+            Waiting::Update(_) => {}
+        }
+        Ok(fed)
+    }
+
+    /// Lends the bytes that wait.
+    pub(crate) fn waiting(&self) -> &[u8]
+        ensures value { result.now ≡ waiting_in self.now }
+        ensures few { is_update self.now ≡ false → length result.now ≤ 297 }
+    {
+        &self.waiting.kept()[self.written..]
+    }
+
+    /// The first bytes that wait are written, so many or all. Behind the last of them their memory
+    /// is given back.
+    pub(crate) fn write(&mut self, count: usize)
+        ensures { WritesAt count self.old self.new }
+    {
+        let kept = self.waiting.kept().len();
+        if count < kept - self.written {
+            self.written += count;
+            return;
+        }
+        self.waiting = Waiting::Answers(ArrayVec::new());
+        self.written = 0;
+    }
+
+    /// Composes an update of the screen, if nothing waits and one is due. Where there is no memory
+    /// for it, none waits, and it may be composed later.
+    pub(crate) fn compose(&mut self, screen: &Picture<Colour>) -> Result<Composing, NoMemory>
+        requires follows { Follows screen.now (session_at self.old) }
+        ensures composes { IfOk result (λ told. ComposesAt screen.now told self.old self.new) }
+        ensures wants { OnErr result (WantsRoom screen.now self.old self.new) }
+        ensures follows { Follows screen.now (session_at self.new) }
+    {
+        if !self.waiting().is_empty() {
+            return Ok(Composing::Waiting);
+        }
+        let mut update = Vec::new(self.alloc);
+        match self.session.compose(screen, &mut update) {
+            Ok(true) => {
+                self.waiting = Waiting::Update(update);
+                self.written = 0;
+                Ok(Composing::Composed)
+            }
+            Ok(false) => Ok(Composing::NotDue),
+            Err(_) => Err(NoMemory),
+        }
+    }
+
+    /// The fault that its session has failed with, if it has.
+    pub(crate) fn fault(&self) -> Option<ServerFault>
+        ensures { result ≡ session_fault (session_at self.now) }
+    {
+        self.session.fault()
+    }
+}
+
+impl Follower for ShareSeat {
+    ghost use Rattle.rfb_picture.specs.Grid.{Holds};
+    ghost use Rattle.rfb_server.specs.Standing.{notes_in};
+    ghost use Rattle.rfb_session.specs.ShareSeats.{session_at, IsMarkedIn, IsTold, CanBeTold};
+
+    ghost Drawable = { λ rect seat. Holds (notes_in (session_at seat)).known rect };
+
+    ghost Hintable = { λ rect sx sy seat. CanBeTold rect sx sy seat };
+
+    ghost Drawn = { λ rect a b. IsMarkedIn rect a b };
+
+    ghost Hinted = { λ rect sx sy a b. IsTold rect sx sy a b };
+
+    fn drawn(&mut self, rect: Rect) {
+        self.session.drawn(rect);
+    }
+
+    fn hint(&mut self, rect: Rect, sx: u16, sy: u16) {
+        match self.session.hint(rect, sx, sy) {
+            Ok(()) => {}
+            Err(Outside) => {}
+        }
+    }
+}

@@ -1,0 +1,84 @@
+//! Bytes that wait for the viewers of a share, and updates.
+
+ghost use Rattle.std.specs.Prelude.{◌≡◌, ◌≤◌, length, false, IfOk, OnErr};
+ghost use Rattle.std.specs.Option.{ForSome};
+ghost use Rattle.rfb_server.specs.Following.{Follows};
+ghost use Rattle.rfb_session.specs.ShareSeats.{session_at, WritesAt};
+ghost use Rattle.rfb_session.specs.ShareSlots.{ComposesIn, WantsRoomIn};
+ghost use Rattle.rfb_session.specs.Slots.{OnSlot};
+
+use crate::share::Share;
+use crate::share::event::Composing;
+use crate::share::seat::ShareSeat;
+use crate::slots::SLOTS;
+use crate::told::NoMemory;
+use rfb_picture::Picture;
+use rfb_pixel::Colour;
+
+impl Share {
+    ghost use Rattle.rfb_session.specs.Share.{waits_at, is_update_at};
+    ghost use Rattle.rfb_session.specs.ShareSteps.{WritesAs, ComposesAs, WantsRoomAs};
+
+    /// Lends the bytes that wait to be written to the viewer of a seat, in order; none where there
+    /// is no viewer. They are answers, at most 297 bytes, or one update.
+    pub fn to_write(&self, seat: u8) -> &[u8]
+        ensures value { result.now ≡ waits_at self.now seat }
+        ensures few { is_update_at self.now seat ≡ false → length result.now ≤ 297 }
+    {
+        match self.seat(seat) {
+            Some(seat) => seat.waiting(),
+            None => &[],
+        }
+    }
+
+    /// The first bytes that wait there are written, so many, or all if they are fewer. Behind the
+    /// last of them their memory is given back.
+    pub fn written(&mut self, seat: u8, count: usize)
+        ensures { WritesAs self.old seat count self.new }
+    {
+        let place = seat as usize;
+        if place >= SLOTS {
+            return;
+        }
+        write_in(&mut self.seats[place], count);
+    }
+
+    /// Composes an update for the viewer of a seat, if all earlier bytes there are written and one
+    /// is due: of what the viewer asked for and does not have of the screen. So many requests are
+    /// answered by one update, and a viewer that does not read costs no more than what waits for
+    /// it. Room is asked for once, as `Session::compose` does; where there is none nothing waits,
+    /// and the update may be composed later.
+    pub fn compose(&mut self, seat: u8) -> Result<Composing, NoMemory>
+        ensures composes { IfOk result (λ told. ComposesAs self.old seat told self.new) }
+        ensures wants { OnErr result (WantsRoomAs self.old seat self.new) }
+    {
+        let place = seat as usize;
+        if place >= SLOTS {
+            return Ok(Composing::NoSuchSeat);
+        }
+        compose_in(&mut self.seats[place], &self.screen)
+    }
+}
+
+// The first bytes that wait at a seat are written, where there is a viewer.
+fn write_in(slot: &mut Option<ShareSeat>, count: usize)
+    ensures { OnSlot (λ a b. WritesAt count a b) slot.old slot.new }
+{
+    match slot {
+        Some(seat) => seat.write(count),
+        None => {}
+    }
+}
+
+// An update is composed for a seat, where there is a viewer.
+fn compose_in(slot: &mut Option<ShareSeat>, screen: &Picture<Colour>) -> Result<Composing, NoMemory>
+    requires follows { ForSome slot.old (λ seat. Follows screen.now (session_at seat)) }
+    ensures composes { IfOk result (λ told. ComposesIn screen.now told slot.old slot.new) }
+    ensures wants { OnErr result (WantsRoomIn screen.now slot.old slot.new) }
+    ensures follows { ForSome slot.new (λ seat. Follows screen.now (session_at seat)) }
+{
+    match slot {
+        Some(seat) => seat.compose(screen),
+        None => Ok(Composing::NoSuchSeat),
+    }
+}

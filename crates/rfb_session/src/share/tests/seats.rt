@@ -1,0 +1,92 @@
+//! A ninth viewer, one that asks for the screen alone, and what is told with a seat.
+
+use super::*;
+use crate::share::event::{Heard, SeatEvent};
+
+// Eight join, in the order of the seats; a ninth does not, before one has left.
+fn ninth_waits(share: &mut Share) -> bool {
+    let mut all = true;
+    for seat in 0..8_u8 {
+        all = seated(share) == seat && all;
+    }
+    all && share.join() == Ok(None) && share.left(3) && seated(share) == 3
+}
+
+fn told_of_a_ninth(alloc: Global) -> Result<bool, AllocError> {
+    let mut share = share_of_two_places(alloc)?;
+    let told = ninth_waits(&mut share);
+    drop(share);
+    Ok(told)
+}
+
+#[test]
+fn a_ninth_viewer_gets_no_seat(rt: HostRuntime) -> Result<(), AllocError> {
+    let told = told_of_a_ninth(rt.alloc())?;
+    assert!(rt; told);
+    Ok(())
+}
+
+// Whether one byte was taken, and the seats 0 and 1 were emptied by it.
+fn empties_two(heard: &Heard) -> bool {
+    heard.used == 1
+        && heard.ended == 0b0000_0011
+        && heard.seat == 2
+        && matches!(heard.event, Some(SeatEvent::Ready { shared: false }))
+}
+
+// Whether it tells that key "a" went down at seat 2, section 7.5.4.
+fn tells_the_key(heard: &Heard) -> bool {
+    heard.used == 8
+        && heard.ended == 0
+        && heard.seat == 2
+        && matches!(
+            heard.event,
+            Some(SeatEvent::Key {
+                down: true,
+                key: 97
+            })
+        )
+}
+
+// The third asks for the screen alone, and a key follows in the same bytes.
+fn asks_alone(share: &mut Share) -> bool {
+    let bytes = b"\0\x04\x01\0\0\0\0\0\x61";
+    let emptied = match share.received(2, bytes) {
+        Ok(heard) => empties_two(&heard),
+        Err(_) => false,
+    };
+    let keyed = match share.received(2, &bytes[1..]) {
+        Ok(heard) => tells_the_key(&heard),
+        Err(_) => false,
+    };
+    emptied && keyed && takes(share, 2, SERVER_INIT)
+}
+
+// Two viewers have joined, and a third is about to say whether it shares the screen.
+fn three_joined(share: &mut Share) -> bool {
+    let two = greeted(share, ALONE) && greeted(share, SHARED);
+    let seat = seated(share);
+    two && takes(share, seat, GREETING)
+        && send(share, seat, CLIENT_VERSION)
+        && takes(share, seat, TYPES)
+        && send(share, seat, CHOICE)
+        && takes(share, seat, SUCCESS)
+}
+
+fn told_of_one_alone(alloc: Global) -> Result<[bool; 3], AllocError> {
+    let mut share = share_of_two_places(alloc)?;
+    let told = [
+        three_joined(&mut share),
+        asks_alone(&mut share),
+        !share.left(0) && !share.left(1) && share.left(2),
+    ];
+    drop(share);
+    Ok(told)
+}
+
+#[test]
+fn the_other_seats_are_emptied_at_the_byte_that_asks(rt: HostRuntime) -> Result<(), AllocError> {
+    let told = told_of_one_alone(rt.alloc())?;
+    assert_eq!(rt; told, [true; 3]);
+    Ok(())
+}

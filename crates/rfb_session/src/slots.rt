@@ -1,0 +1,162 @@
+//! Eight slots, in which whoever has a session that follows a screen may sit.
+
+ghost use Rattle.std.specs.Prelude.{◌≡◌, ◌<◌, ℕ, ◌&&◌, length, nat_eq, not, None, Some, All, true};
+ghost use Rattle.std.specs.Prelude.{false, IfSome};
+ghost use Rattle.std.specs.Option.{ForSome};
+ghost use Rattle.rfb_picture.specs.declared.rect.Rect.{Rect};
+ghost use Rattle.rfb_picture.specs.Places.{has_bit};
+ghost use Rattle.rfb_session.specs.Slots.{seat_at, is_taken, OnSlot};
+
+use rfb_picture::Rect;
+use std::mem;
+
+/// How many slots there are.
+pub const SLOTS: usize = 8;
+
+/// Who sits in a slot: a session is told there of drawings and hints.
+pub(crate) trait Follower {
+    // Whether its session is about the places of a rectangle; and of those of a hint, both.
+    ghost Drawable: { Rect → Self → Type 0 };
+
+    ghost Hintable: { Rect → ℕ → ℕ → Self → Type 0 };
+
+    // What becomes of it where its session is told.
+    ghost Drawn: { Rect → Self → Self → Type 0 };
+
+    ghost Hinted: { Rect → ℕ → ℕ → Self → Self → Type 0 };
+
+    /// Its session is told that the screen is drawn on inside the rectangle.
+    fn drawn(&mut self, rect: Rect)
+        requires held { Drawable rect self.old }
+        ensures drawn { Drawn rect self.old self.new };
+
+    /// Its session is told that a rectangle looks as the one of its size at (`sx`, `sy`) did.
+    fn hint(&mut self, rect: Rect, sx: u16, sy: u16)
+        requires held { Hintable rect sx sy self.old }
+        ensures hinted { Hinted rect sx sy self.old self.new };
+}
+
+// Every session is told that the screen is drawn on inside the rectangle.
+pub(crate) fn draw_all<F: Follower>(slots: &mut [Option<F>; SLOTS], rect: Rect)
+    requires held { All (λ slot. ForSome slot (λ seat. F.Drawable rect seat)) slots.old }
+    ensures size { length slots.new ≡ length slots.old }
+    ensures drawn { (k : ℕ) →
+        OnSlot (λ a b. F.Drawn rect a b) (seat_at k slots.old) (seat_at k slots.new) }
+{
+    for slot in slots.iter_mut() {
+        draw(slot, rect);
+    }
+}
+
+// So is the session of one slot, where there is one.
+fn draw<F: Follower>(slot: &mut Option<F>, rect: Rect)
+    requires held { ForSome slot.old (λ seat. F.Drawable rect seat) }
+    ensures { OnSlot (λ a b. F.Drawn rect a b) slot.old slot.new }
+{
+    match slot {
+        Some(seat) => seat.drawn(rect),
+        None => {}
+    }
+}
+
+// Every session is told that a rectangle looks as another did.
+pub(crate) fn hint_all<F: Follower>(slots: &mut [Option<F>; SLOTS], rect: Rect, sx: u16, sy: u16)
+    requires held { All (λ slot. ForSome slot (λ seat. F.Hintable rect sx sy seat)) slots.old }
+    ensures size { length slots.new ≡ length slots.old }
+    ensures hinted { (k : ℕ) →
+        OnSlot (λ a b. F.Hinted rect sx sy a b) (seat_at k slots.old) (seat_at k slots.new) }
+{
+    for slot in slots.iter_mut() {
+        hint(slot, rect, sx, sy);
+    }
+}
+
+// So is the session of one slot, where there is one.
+fn hint<F: Follower>(slot: &mut Option<F>, rect: Rect, sx: u16, sy: u16)
+    requires held { ForSome slot.old (λ seat. F.Hintable rect sx sy seat) }
+    ensures { OnSlot (λ a b. F.Hinted rect sx sy a b) slot.old slot.new }
+{
+    match slot {
+        Some(seat) => seat.hint(rect, sx, sy),
+        None => {}
+    }
+}
+
+// Every slot but one is emptied. Bit k of what it gives is set where slot k was taken.
+pub(crate) fn empty_others<T: Drop>(slots: &mut [Option<T>; SLOTS], own: usize) -> u8
+    ensures size { length slots.new ≡ length slots.old }
+    ensures own { seat_at own slots.new ≡ seat_at own slots.old }
+    ensures others { (k : ℕ) → nat_eq k own ≡ false → seat_at k slots.new ≡ None }
+    ensures ended { (k : ℕ) → has_bit result k
+        ≡ (not (nat_eq k own) && is_taken (seat_at k slots.old)) }
+{
+    let mut ended = 0;
+    for (k, slot) in slots.iter_mut().enumerate() {
+        ended |= end(slot, k, own);
+    }
+    ended
+}
+
+// Slot k is emptied, if it is not that one. Bit k of what it gives is set where it was taken.
+fn end<T: Drop>(slot: &mut Option<T>, k: usize, own: usize) -> u8
+    requires { k < 8 }
+    ensures own { k ≡ own → slot.new ≡ slot.old }
+    ensures emptied { nat_eq k own ≡ false → slot.new ≡ None }
+    ensures bit { (j : ℕ) → has_bit result j
+        ≡ (nat_eq j k && (not (nat_eq k own) && is_taken slot.old)) }
+{
+    if k == own {
+        return 0;
+    }
+    match slot.take() {
+        Some(seat) => {
+            // By a call: what is let go at the end of a scope is proved field by field.
+            drop(seat);
+            1 << k
+        }
+        None => 0,
+    }
+}
+
+// The first slot that is empty, if one is.
+pub(crate) fn first_empty<T>(slots: &[Option<T>; SLOTS]) -> Option<usize>
+    ensures found { IfSome result (λ k. (k < 8) × (seat_at k slots.now ≡ None)) }
+    ensures first { IfSome result (λ k. (j : ℕ) → j < k → is_taken (seat_at j slots.now) ≡ true) }
+    ensures full { result ≡ None → (j : ℕ) → j < 8 → is_taken (seat_at j slots.now) ≡ true }
+{
+    for k in 0..SLOTS {
+        if !taken(slots, k) {
+            return Some(k);
+        }
+    }
+    None
+}
+
+// Whether a slot is taken.
+pub(crate) fn taken<T>(slots: &[Option<T>; SLOTS], place: usize) -> bool
+    requires { place < 8 }
+    ensures { result ≡ is_taken (seat_at place slots.now) }
+{
+    slots[place].is_some()
+}
+
+// The slot, which is empty, is taken.
+pub(crate) fn seat_in<T: Drop>(slot: &mut Option<T>, seat: T)
+    ensures { slot.new ≡ Some seat }
+{
+    drop(mem::replace(slot, Some(seat)));
+}
+
+// The slot is emptied. It tells whether it was taken.
+pub(crate) fn empty<T: Drop>(slot: &mut Option<T>) -> bool
+    ensures empty { slot.new ≡ None }
+    ensures taken { result ≡ is_taken slot.old }
+{
+    match slot.take() {
+        Some(seat) => {
+            drop(seat);
+            true
+        }
+        None => false,
+    }
+}
