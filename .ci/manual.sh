@@ -30,7 +30,7 @@ options_of_page() {
 
 # The options that the help of the command $1 has, but for the one that every command has.
 options_of_help() {
-    "$program" help "$1" | sed -n 's/^ *\(-[a-z], \)\{0,1\}\(--[a-z-]*\).*/\2/p' | grep -vx -- --help | sort
+    "$program" help "$1" | sed -n 's/^  *\(-[a-z], \)\{0,1\}\(--[a-z-]*\).*/\2/p' | grep -vx -- --help | sort
 }
 
 commands=$("$program" help | awk '/^Commands:/ { inside = 1; next } /^$/ { inside = 0 }

@@ -1,33 +1,39 @@
 -- What a command has done, from its parts.
-use Rattle.std.proofs.Common.{◌≡◌, ◌∙◌, sym, subst, inl, inr, ℕ, Bool, true, false, [], List, Option, OnOk, OnErr, Result, Ok, Err}
+use Rattle.std.proofs.Common.{◌≡◌, ◌∙◌, ◌⊎◌, ap, sym, subst, inl, inr, ℕ, Bool, true, false, [], List, Option, OnOk, OnErr, Result, Ok, Err}
 use Rattle.clap.specs.Values.{kind_of}
 use Rattle.clap.specs.Words.{HasKind, IsAmong, Kinds, Text}
 use Rattle.clap.specs.declared.error.Error.{Error}
 use Rattle.clap.specs.declared.error.kind.ErrorKind.TheVariants.{OutOfMemory}
 use Rattle.rfb.specs.declared.fault.Failure.{Failure}
-use Rattle.rfb.specs.declared.options.Task.{Task}
+use Rattle.rfb.specs.declared.options.Order.{Order}
 use Rattle.rfb.specs.declared.options.WrongWords.{WrongWords}
 use Rattle.rfb.specs.declared.options.WrongWords.TheVariants.{Words}
-use Rattle.rfb.specs.CommandLine.{Does, DoesAsked, Leaves, LeavesAsked}
-use Rattle.rfb.specs.Options.{AreAsked, AreCommand, AreWrong}
+use Rattle.rfb.specs.CommandLine.{Does, DoesAsked, Leaves, LeavesAsked, Through}
+use Rattle.rfb.specs.Options.{AreCommand, AreOrdered, AreWrong}
 
-pub does_asked : (words : List Text) (task : Task) (read before after last : Option (List ℕ))
-    (u : Unit {0}) (r done : Result (Unit {0}) Failure) → AreAsked words task →
-    OnOk r (Does task read before after) → done ≡ r → done ≡ Ok u → last ≡ after →
+pub does_asked : (words : List Text) (order : Order) (read before after last : Option (List ℕ))
+    (u : Unit {0}) (r done : Result (Unit {0}) Failure) → AreOrdered words order →
+    OnOk r (Through order.paths (Does order.task) read before after) → done ≡ r → done ≡ Ok u → last ≡ after →
     DoesAsked words read before last
-does_asked words task read before after last u r done asked does same is kept =
+does_asked words order read before after last u r done asked does same is kept =
     let ok : r ≡ Ok u = sym same ∙ is in
-    let did : Does task read before after = subst (λ (x : Result (Unit {0}) Failure). OnOk x (Does task read before after)) ok does in
-    (task, asked, subst (λ (o : Option (List ℕ)). Does task read before o) (sym kept) did)
+    let did : Through order.paths (Does order.task) read before after =
+    subst (λ (x : Result (Unit {0}) Failure). OnOk x (Through order.paths (Does order.task) read before after)) ok does in
+    (order, asked, subst (λ (o : Option (List ℕ)). Through order.paths (Does order.task) read before o) (sym kept) did)
 
-pub leaves_asked : (words : List Text) (task : Task) (read before after last : Option (List ℕ)) (failure : Failure)
-    (r done : Result (Unit {0}) Failure) → AreAsked words task →
-    OnErr r (Leaves task read before after) → done ≡ r → done ≡ Err failure → last ≡ after →
-    LeavesAsked words read before last
-leaves_asked words task read before after last failure r done asked leaves same is kept =
-    let err : r ≡ Err failure = sym same ∙ is in
-    let left : Leaves task read before after = subst (λ (x : Result (Unit {0}) Failure). OnErr x (Leaves task read before after)) err leaves in
-    inr (task, asked, subst (λ (o : Option (List ℕ)). Leaves task read before o) (sym kept) left)
+pub leaves_asked : {W : Type 0} (contents : W → Option (List ℕ)) (words : List Text) (order : Order) (read last : Option (List ℕ))
+    (old new : W) (failure : Failure) (r done : Result (Unit {0}) Failure) → AreOrdered words order →
+    OnErr r ((new ≡ old) ⊎ Through order.paths (Leaves order.task) read (contents old) (contents new)) →
+    done ≡ r → done ≡ Err failure → last ≡ contents new → LeavesAsked words read (contents old) last
+leaves_asked contents words order read last old new failure r done asked leaves same is kept =
+    some (subst (λ (x : Result (Unit {0}) Failure). OnErr x ((new ≡ old)
+    ⊎ Through order.paths (Leaves order.task) read (contents old) (contents new))) (sym same ∙ is) leaves)
+  where
+    some : (new ≡ old) ⊎ Through order.paths (Leaves order.task) read (contents old) (contents new) →
+        LeavesAsked words read (contents old) last
+    some (inl kept_so) = inl (kept ∙ ap contents kept_so)
+    some (inr left) =
+        inr (order, asked, subst (λ (o : Option (List ℕ)). Through order.paths (Leaves order.task) read (contents old) o) (sym kept) left)
 
 -- of a list without kinds the one kind is want of memory
 pub only_memory : (kinds : Kinds) (e : Error) → kinds ≡ [] → HasKind kinds e → kind_of e ≡ OutOfMemory

@@ -18,8 +18,8 @@ use Rattle.rfb_viewer.specs.Viewer.{Viewing, viewer, AsksMemory as ViewerAsks}
 use Rattle.rfb_session.specs.declared.engine.fault.EngineFault.TheVariants.{Server as ServerEnded}
 use Rattle.rfb_session.specs.Turns.{IsAnswered}
 use Rattle.rfb_session.specs.Watching.{viewer_driven}
-use Rattle.rfb_session.proofs.EngineRunLemmas.{ran_then}
-use Rattle.rfb_session.proofs.ServeLemmas.{Heard, call_ended, heard_all, heard_more, heard_none, hearing_stops}
+use Rattle.rfb_session.proofs.EngineRunLaws.{ran_then}
+use Rattle.rfb_session.proofs.ServeLaws.{Heard, call_ended, heard_all, heard_more, heard_none, hearing_stops}
 use Rattle.rfb.specs.Delivery.{Crosses, EndsHearing, EndsWatching, Hears, IsFed, ReachesServer, ReachesViewer, Watches}
 use Rattle.rfb.proofs.LoopbackLemmas.{FedSoFar, fed_all, fed_more, fed_none}
 

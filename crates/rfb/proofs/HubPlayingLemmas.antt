@@ -18,7 +18,7 @@ use Rattle.rfb_session.specs.HubSeats.{ends_of}
 use Rattle.rfb_session.specs.HubSteps.{HubPlayed, HubSteps, LeavesAs, RunsHub}
 use Rattle.rfb_session.specs.HubSteps.LeavesAs.{NoneLeft, Left}
 use Rattle.rfb_session.specs.Played.{name}
-use Rattle.rfb_session.proofs.NetworkLemmas.{headline_holds}
+use Rattle.rfb_session.proofs.NetworkLaws.{headline_holds}
 use Rattle.rfb.specs.declared.fault.Fault.{Fault}
 use Rattle.rfb.specs.declared.playing.hub.LineTold.{LineTold}
 use Rattle.rfb.specs.declared.script.hub.line.HubNumbered.{HubNumbered}

@@ -2,7 +2,7 @@
 use Rattle.std.proofs.Common.{◌≡◌, ◌≢◌, ◌≤◌, ◌+◌, ◌∙◌, ap, sym, refl, subst, Bool, true, false, Option, Some, None, MatchOption, length, ℕ, List, [], ◌∷◌, Bor, Ok, Err, Result, inl, inr, ◌⊎◌, arith, codes}
 use Rattle.hex.specs.Hex.{decode_of}
 use Rattle.hex.specs.declared.error.FromHexError.{FromHexError}
-use Rattle.rfb_session.specs.declared.hub.event.Setup.{Setup}
+use Rattle.rfb_viewer.specs.declared.setup.ViewerSetup.{ViewerSetup as Setup}
 use Rattle.rfb.specs.declared.script.line.Wants.{Wants}
 use Rattle.rfb.specs.HubScript.{AreForeign, AreJoin, AreSetup, IsBehindSlot, IsHexWord, IsSetup, IsSlotAlone, IsSlotWord, kind_of_join}
 use Rattle.rfb.specs.Script.{Begins}

@@ -1,3 +1,4 @@
+pub mod AddressLemmas
 pub mod ArgumentLemmas
 pub mod CommandLemmas
 pub mod ComposingLemmas
@@ -16,6 +17,7 @@ pub mod RecordingLemmas
 pub mod SceneLemmas
 pub mod ScriptLemmas
 pub mod ServingLemmas
+pub mod ThroughLemmas
 pub mod ViewingLemmas
 pub mod WordLemmas
 pub mod LinesLemmas

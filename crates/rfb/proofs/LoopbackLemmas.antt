@@ -10,8 +10,8 @@ use Rattle.rfb_viewer.specs.Told.{seen}
 use Rattle.rfb_viewer.specs.Viewer.{Viewing, viewer}
 use Rattle.rfb_session.specs.InFlight.{viewer_reply}
 use Rattle.rfb_session.specs.Watching.{ViewerRuns, ends_told, viewer_driven}
-use Rattle.rfb_session.proofs.EngineRunLemmas.{ran_fed, ran_none, ran_then}
-use Rattle.rfb_session.proofs.WrittenLemmas.{rest_is}
+use Rattle.rfb_session.proofs.EngineRunLaws.{ran_fed, ran_none, ran_then}
+use Rattle.rfb_session.proofs.WrittenLaws.{rest_is}
 use Rattle.rfb.specs.declared.fault.Fault.{Fault}
 use Rattle.rfb.specs.declared.script.line.Numbered.{Numbered}
 use Rattle.rfb.specs.declared.script.line.Screen.{Screen}

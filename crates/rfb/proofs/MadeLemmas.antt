@@ -2,7 +2,7 @@
 use Rattle.std.proofs.Common.{◌≡◌, ◌≤◌, ◌<◌, ◌^◌, ◌*◌, ◌∙◌, ℕ, List, [], ◌∷◌, Option, Some, None, ap, sym, refl, subst, inl, inr, length, map, arith}
 use Rattle.std.proofs.lemmas.Nat.{mul-le}
 use Rattle.rfb_pixel.specs.Format.{IsFormat, PixelFormat, bgr233, rgb565, rgb101010}
-use Rattle.rfb_pixel.proofs.FormatLemmas.{rgb888-is_format}
+use Rattle.rfb_pixel.proofs.FormatLaws.{rgb888-is_format}
 use Rattle.rfb_wire.specs.declared.encoding.Encoding.{Encoding}
 use Rattle.rfb_session.specs.InFlight.{AreMade}
 use Rattle.rfb.specs.declared.script.line.Numbered.{Numbered}

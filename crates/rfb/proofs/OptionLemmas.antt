@@ -1,5 +1,5 @@
 -- What was given to options, from what the getters tell.
-use Rattle.std.proofs.Common.{◌≡◌, ◌<◌, ◌^◌, ◌∙◌, ap₂, sym, refl, subst, codes, [], ℕ, Bool, true, false, not, ◌&&◌, List, Option, Some, None, Result, Ok, Err, MatchResult, option_map}
+use Rattle.std.proofs.Common.{◌≡◌, ◌<◌, ◌^◌, ◌∙◌, ap, ap₂, sym, refl, subst, codes, [], ℕ, Bool, true, false, not, ◌&&◌, List, Option, Some, None, Result, Ok, Err, MatchResult, option_map}
 use Rattle.std.proofs.lemmas.Option.{none-some, same_Some}
 use Rattle.std.specs.Str.Parse.{IsNumeral, ParsesUnsigned, digits_value, without_leading_plus}
 use Rattle.clap.specs.Matches.{ReadsOne}
@@ -7,12 +7,12 @@ use Rattle.clap.specs.Walk.{Row, Text, first_of}
 use Rattle.rfb_pixel.specs.Format.{PixelFormat}
 use Rattle.rfb.specs.declared.options.BadValue.{BadValue}
 use Rattle.clap.specs.Faults.{fault_of}
-use Rattle.rfb.specs.declared.options.Task.{Task}
+use Rattle.rfb.specs.declared.options.Order.{Order}
 use Rattle.rfb.specs.declared.options.WrongWords.{WrongWords}
 use Rattle.rfb.specs.declared.options.WrongWords.TheVariants.{Words, Value}
 use Rattle.arrayvec.specs.ArrayVec.{ArrayVec}
 use Rattle.rfb_wire.specs.declared.encoding.Encoding.{Encoding}
-use Rattle.rfb.specs.Options.{AreAsked, AreWrong, GivesEncodings, GivesFormat, HasBadEncodings, HasBadFormat, HasBadValue, IsTask, IsWrongValue, asked, NamesEncodings, NamesFormat, program}
+use Rattle.rfb.specs.Options.{AreOrdered, AreWrong, GivesEncodings, GivesFormat, HasBadEncodings, HasBadFormat, HasBadValue, IsOrder, IsWrongValue, asked, NamesEncodings, NamesFormat, program}
 use Rattle.rfb.specs.Words.{AreEncodings, IsFormatWord, parts_of}
 
 -- a plain command has no global argument
@@ -67,13 +67,20 @@ pub none_read : (bits : ℕ) (E : Type 0) (G : List ℕ → Result ℕ E → Typ
 none_read bits E G t None is h only = only t (Err h.0) h.1
 none_read bits E G t (Some m) is h only = absurd (none-some m (sym is))
 
+pub read_given : (bits : ℕ) (E : Type 0) (G : List ℕ → Result ℕ E → Type 0) (t : List ℕ) (r : Option ℕ) →
+    ReadsOne G t r → ((u : List ℕ) (x : Result ℕ E) → G u x → ParsesUnsigned bits 10 u x) →
+    IsNumeral 10 (without_leading_plus t) → digits_value 10 (without_leading_plus t) < 2 ^ bits →
+    r ≡ Some (digits_value 10 (without_leading_plus t))
+read_given bits E G t None h only numeral small = absurd (none_read bits E G t None refl h only (numeral, small))
+read_given bits E G t (Some m) h only numeral small = ap (λ (n : ℕ). Some n) (number_read bits E G t (Some m) m refl h only)
+
 -- ---- what words ask for
 
-pub asked_task : (words : List Text) (o : Option (Text × List Row)) (r : Result Task WrongWords) →
-    fault_of program words ≡ [] → o ≡ asked words → MatchResult r (IsTask o) (IsWrongValue o) →
-    MatchResult r (AreAsked words) (AreWrong words)
-asked_task words o (Ok task) taken same is =
-    (taken, subst (λ (a : Option (Text × List Row)). IsTask a task) same is)
-asked_task words o (Err (Words error)) taken same is = absurd is
-asked_task words o (Err (Value value)) taken same is =
+pub asked_order : (words : List Text) (o : Option (Text × List Row)) (r : Result Order WrongWords) →
+    fault_of program words ≡ [] → o ≡ asked words → MatchResult r (IsOrder o) (IsWrongValue o) →
+    MatchResult r (AreOrdered words) (AreWrong words)
+asked_order words o (Ok order) taken same is =
+    (taken, subst (λ (a : Option (Text × List Row)). IsOrder a order) same is)
+asked_order words o (Err (Words error)) taken same is = absurd is
+asked_order words o (Err (Value value)) taken same is =
     (taken, subst HasBadValue same is)

@@ -3,7 +3,7 @@ use Rattle.std.proofs.Common.{OnOk, Result, Ok, Err, true, ◌≡◌, ℕ, ◌+�
 use Rattle.rfb_hello.specs.declared.version.Version.TheVariants.{V38}
 use Rattle.rfb_pixel.specs.Format.{PixelFormat}
 use Rattle.rfb_picture.specs.Grid.{uniform}
-use Rattle.rfb_picture.proofs.GridLemmas.{height-uniform, width-uniform}
+use Rattle.rfb_picture.proofs.GridLaws.{height-uniform, width-uniform}
 use Rattle.rfb_wire.specs.declared.encoding.Encoding.{Encoding}
 use Rattle.rfb_server.specs.declared.server.Server.{Server}
 use Rattle.rfb_server.specs.Server.{black, first_server}
@@ -19,8 +19,8 @@ use Rattle.rfb_session.specs.Link.{Ends}
 use Rattle.rfb_session.specs.Network.{Network, StepsAll}
 use Rattle.rfb_session.specs.World.{AreFresh, Does, HasFewBytes, Reaches}
 use Rattle.rfb_session.specs.InFlight.{AreMade}
-use Rattle.rfb_session.proofs.NetworkLemmas.{first_reached, headline_holds}
-use Rattle.rfb_session.proofs.RunLemmas.{Any, neither_failed, reached_more, run_more, run_none}
+use Rattle.rfb_session.proofs.NetworkLaws.{first_reached, headline_holds}
+use Rattle.rfb_session.proofs.RunLaws.{Any, neither_failed, reached_more, run_more, run_none}
 use Rattle.rfb.specs.declared.script.line.Numbered.{Numbered}
 use Rattle.rfb.specs.declared.script.line.Screen.{Screen as Size}
 use Rattle.rfb.specs.declared.script.line.Wants.{Wants}

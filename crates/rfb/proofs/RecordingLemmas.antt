@@ -1,5 +1,5 @@
 -- A recording that was played, from its parts.
-use Rattle.std.proofs.Common.{◌≡◌, ◌⊎◌, ap, inl, inr, ℕ, [], ◌∷◌, List, Option, OnOk, OnErr, IfErr, Result, Ok, Err}
+use Rattle.std.proofs.Common.{◌≡◌, ◌⊎◌, ap, sym, subst, inl, inr, ℕ, Bool, true, false, refl, [], ◌∷◌, List, Option, OnOk, OnErr, IfErr, Result, Ok, Err}
 use Rattle.rfb_wire.specs.declared.encoding.Encoding.TheVariants.{Raw}
 use Rattle.rfb_viewer.specs.declared.viewer.Viewer.{Viewer}
 use Rattle.rfb_session.specs.declared.engine.fault.EngineFault.{EngineFault}
@@ -7,7 +7,8 @@ use Rattle.rfb.specs.declared.fault.Fault.{Fault}
 use Rattle.rfb.specs.declared.fault.Failure.{Failure}
 use Rattle.rfb.specs.declared.fault.Failure.TheVariants as failure
 use Rattle.rfb.specs.declared.recording.replay.Replay.{Replay}
-use Rattle.rfb.specs.Recording.{BeginsPicture, FailsToPlay, IsFresh, LeavesRecording, PlaysRecording, Watches, WritesPicture}
+use Rattle.rfb_session.proofs.WrittenLaws.{whole_beginning}
+use Rattle.rfb.specs.Recording.{BeginsPicture, EndsShown, FailsToPlay, IsFresh, LeavesRecording, MayWritePicture, PlaysRecording, ShowsEnd, StopsWatching, Watches, WritesPicture, shows_end}
 
 pub plays_recording : (replay : Replay) (read before after : Option (List ℕ)) (first last : Viewer) (told : ℕ)
     (r : Result (Unit {0}) Failure) → IsFresh replay.format (Raw ∷ []) first → Watches replay.updates read first told last →
@@ -28,23 +29,91 @@ pub leaves_recording : {W : Type 0} (contents : W → Option (List ℕ)) (replay
     OnErr r (LeavesRecording replay read (contents old) (contents new))
 leaves_recording contents replay read old new first last told (Ok done) fresh watched left = tt
 leaves_recording contents replay read old new first last told (Err failure) fresh watched (inl same) = inl (ap contents same)
-leaves_recording contents replay read old new first last told (Err failure) fresh watched (inr begun) = inr (record {
+leaves_recording contents replay read old new first last told (Err failure) fresh watched (inr begun) = inr (inl (record {
   first = first;
   fresh = fresh;
   told = told;
   last = last;
   watches = watched;
   written = begun;
-})
+}))
 
-pub fails_to_show : (replay : Replay) (read : Option (List ℕ)) (r : Result (Unit {0}) Failure) →
-    IfErr r (λ f. (fault : Fault) × (f ≡ failure.Fault fault)) → IfErr r (FailsToPlay replay read)
-fails_to_show replay read (Ok done) is = tt
-fails_to_show replay read (Err (failure.Fault fault)) is = tt
-fails_to_show replay read (Err (failure.BadLine n)) is = let e = is.1 in absurd (cc)
-fails_to_show replay read (Err (failure.Engine fault)) is = let e = is.1 in absurd (cc)
+pub fails_to_show : (replay : Replay) (read before after : Option (List ℕ)) (r : Result (Unit {0}) Failure) →
+    IfErr r (λ f. (fault : Fault) × (f ≡ failure.Fault fault)) → IfErr r (FailsToPlay replay read before after)
+fails_to_show replay read before after (Ok done) is = tt
+fails_to_show replay read before after (Err (failure.Fault fault)) is = tt
+fails_to_show replay read before after (Err (failure.BadLine n)) is = let e = is.1 in absurd (cc)
+fails_to_show replay read before after (Err (failure.Engine fault)) is = let e = is.1 in absurd (cc)
 
 pub shown_no_engine : (engine : EngineFault) (r : Result (Unit {0}) Failure) →
     IfErr r (λ f. (fault : Fault) × (f ≡ failure.Fault fault)) → r ≡ Err (failure.Engine engine) → ⊥
 shown_no_engine engine (Ok done) is same = cc
 shown_no_engine engine (Err f) is same = let e = is.1 in cc
+
+-- ---- an early end
+
+both_ways : (b : Bool) → (b ≡ true) ⊎ (b ≡ false)
+both_ways true = inl refl
+both_ways false = inr refl
+
+-- all of a picture is a beginning of it
+begins_whole : (last : Viewer) (before after : Option (List ℕ)) →
+    WritesPicture last before after → BeginsPicture last before after
+begins_whole last before after written =
+    (written.0, written.1, whole_beginning before after _ written.2)
+
+-- the output is as it was, or a beginning of the picture was written, where that is wanted
+pub begins_early : (is_wanted : Bool) (last : Viewer) (fault : EngineFault) (before after : Option (List ℕ)) (f : Failure) →
+    EndsShown is_wanted last fault before after f →
+    (after ≡ before) ⊎ ((shows_end is_wanted fault ≡ true) × BeginsPicture last before after)
+begins_early is_wanted last fault before after (failure.Engine told) (same, shows) =
+    begun (both_ways (shows_end is_wanted fault))
+  where
+    begun : (shows_end is_wanted fault ≡ true) ⊎ (shows_end is_wanted fault ≡ false) →
+        (after ≡ before) ⊎ ((shows_end is_wanted fault ≡ true) × BeginsPicture last before after)
+    begun (inr not) = inl (shows.1 not)
+    begun (inl is) = written is (shows.0 is)
+      where
+        written : shows_end is_wanted fault ≡ true → MayWritePicture last before after →
+            (after ≡ before) ⊎ ((shows_end is_wanted fault ≡ true) × BeginsPicture last before after)
+        written is (inl none) = inl none.1
+        written is (inr whole) = inr (is, begins_whole last before after whole)
+begins_early is_wanted last fault before after (failure.Fault own) begun = inr begun
+begins_early is_wanted last fault before after (failure.BadLine n) none = absurd none
+
+-- an engine's fault is told as it is
+pub ends_same : (is_wanted : Bool) (last : Viewer) (fault told : EngineFault) (before after : Option (List ℕ)) (f : Failure) →
+    EndsShown is_wanted last fault before after f → f ≡ failure.Engine told → told ≡ fault
+ends_same is_wanted last fault told before after (failure.Engine other) ends same = let e = ends.0 in cc
+ends_same is_wanted last fault told before after (failure.Fault own) ends same = absurd (cc)
+ends_same is_wanted last fault told before after (failure.BadLine n) ends same = absurd ends
+
+pub fails_early : (replay : Replay) (read before after : Option (List ℕ)) (first last : Viewer) (fault : EngineFault) (f : Failure) →
+    IsFresh replay.format (Raw ∷ []) first → StopsWatching replay.updates read first fault last →
+    EndsShown replay.is_partial last fault before after f → FailsToPlay replay read before after f
+fails_early replay read before after first last fault (failure.Engine told) fresh stops ends = (
+  first,
+  last,
+  fresh,
+  subst (λ (e : EngineFault). StopsWatching replay.updates read first e last) (sym ends.0) stops,
+  subst (λ (e : EngineFault). ShowsEnd replay.is_partial last e before after) (sym ends.0) ends.1,
+)
+fails_early replay read before after first last fault (failure.Fault own) fresh stops ends = tt
+fails_early replay read before after first last fault (failure.BadLine n) fresh stops ends = absurd ends
+
+pub leaves_early : (replay : Replay) (read before after : Option (List ℕ)) (first last : Viewer) (fault : EngineFault) →
+    IsFresh replay.format (Raw ∷ []) first → StopsWatching replay.updates read first fault last →
+    (after ≡ before) ⊎ ((shows_end replay.is_partial fault ≡ true) × BeginsPicture last before after) →
+    LeavesRecording replay read before after
+leaves_early replay read before after first last fault fresh stops (inl same) = inl same
+leaves_early replay read before after first last fault fresh stops (inr (is, begun)) = inr (inr (
+  fault,
+  record {
+    is_shown = is;
+    first = first;
+    fresh = fresh;
+    last = last;
+    stops = stops;
+    begun = begun;
+  },
+))

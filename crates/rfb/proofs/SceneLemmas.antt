@@ -6,7 +6,7 @@ use Rattle.rfb_pixel.specs.declared.colour.Colour.{Colour}
 use Rattle.rfb_picture.specs.declared.rect.Rect.{Rect}
 use Rattle.rfb_picture.specs.Grid.{Grid, IsGrid, at_or, changed, copied, filled, with_row}
 use Rattle.rfb_picture.specs.Rect.{contains, rect}
-use Rattle.rfb_picture.proofs.GridLemmas.{changed_is, changed_twice, height-changed, same_changes, width-changed}
+use Rattle.rfb_picture.proofs.GridLaws.{changed_is, changed_twice, height-changed, same_changes, width-changed}
 use Rattle.rfb_codec.specs.Effect.{IsAlike}
 use Rattle.rfb_server.specs.declared.server.Server.{Server}
 use Rattle.rfb_server.specs.declared.fault.Outside.{Outside}

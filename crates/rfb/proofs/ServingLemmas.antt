@@ -9,8 +9,8 @@ use Rattle.rfb_server.specs.Server.{first_server}
 use Rattle.rfb_server.specs.Standing.{Draws, StandsFor, screen_of, with_screen}
 use Rattle.rfb_session.specs.Devices.{AppendsBeginning}
 use Rattle.rfb_session.specs.ServeEngine.{AllServed, GoesOn, ServerBetween, StopsServing}
-use Rattle.rfb_session.proofs.ServeLemmas.{begun_behind}
-use Rattle.rfb_session.proofs.WrittenLemmas.{no_beginning, whole_beginning}
+use Rattle.rfb_session.proofs.ServeLaws.{begun_behind}
+use Rattle.rfb_session.proofs.WrittenLaws.{no_beginning, whole_beginning}
 use Rattle.rfb.specs.declared.script.line.Screen.{Screen as Size}
 use Rattle.rfb.specs.Playing.{IsFreshServer, serving_of}
 use Rattle.rfb.specs.Scene.{ShowsScene, pattern}

@@ -1,5 +1,5 @@
 -- A view, from its parts.
-use Rattle.std.proofs.Common.{◌≡◌, ◌∙◌, ◌⊎◌, ap, inl, inr, sym, subst, Bool, ℕ, List, Option, None, OnOk, OnErr, IfErr, Result, Ok, Err, true, false, if◌then◌else◌}
+use Rattle.std.proofs.Common.{◌≡◌, ◌∙◌, ◌⊎◌, ap, inl, inr, sym, subst, Bool, ℕ, List, Option, None, refl, OnOk, OnErr, IfErr, Result, Ok, Err, true, false, if◌then◌else◌}
 use Rattle.std.proofs.KnownBytes.{Appends-kept}
 use Rattle.std.specs.Io.KnownBytes.{Keeps}
 use Rattle.rfb_viewer.specs.declared.viewer.Viewer.{Viewer}
@@ -11,8 +11,8 @@ use Rattle.rfb.specs.declared.fault.Fault.{Fault}
 use Rattle.rfb.specs.declared.fault.Failure.{Failure}
 use Rattle.rfb.specs.declared.fault.Failure.TheVariants as failure
 use Rattle.rfb.specs.declared.viewing.look.Sight.{Sight}
-use Rattle.rfb.specs.Recording.{BeginsPicture, WritesPicture}
-use Rattle.rfb.specs.Viewing.{FailsToView, IsMadeFor, LeavesSomeView, LeavesView, Saw, StopsSeeing, StopsView, Views}
+use Rattle.rfb.specs.Recording.{BeginsPicture, EndsShown, ShowsEnd, WritesPicture, shows_end}
+use Rattle.rfb.specs.Viewing.{FailsToView, IsMadeFor, LeavesSomeView, LeavesView, Saw, ShowsView, StopsSeeing, StopsView, Views}
 
 -- ---- what is kept, where it is and where it is not
 
@@ -146,13 +146,13 @@ pub leaves_shown : {W : Type 0} (contents : W → Option (List ℕ)) (sight : Si
     OnErr r (LeavesView sight read answered (contents old) (contents new))
 leaves_shown contents sight read answered old new first last (Ok done) fresh not saw left = tt
 leaves_shown contents sight read answered old new first last (Err f) fresh not saw (inl same) = inl (ap contents same)
-leaves_shown contents sight read answered old new first last (Err f) fresh not saw (inr begun) = inr (record {
+leaves_shown contents sight read answered old new first last (Err f) fresh not saw (inr begun) = inr (inl (record {
   first = first;
   fresh = fresh;
   last = last;
   saw = saw_unkept sight.is_recorded read answered (contents old) (contents new) first sight.updates last not saw;
   shown = begun;
-})
+}))
 
 pub never_recorded : (b : Bool) (P : Type 0) → b ≡ true → b ≡ false → P
 never_recorded b P is not = let bad : true ≡ false = sym is ∙ not in absurd (cc)
@@ -161,31 +161,84 @@ never_recorded b P is not = let bad : true ≡ false = sym is ∙ not in absurd 
 pub leaves_some : (sight : Sight) (read answered before after : Option (List ℕ)) (r : Result (Unit {0}) Failure) →
     OnErr r (LeavesView sight read answered before after) → OnErr r (LeavesSomeView sight before after)
 leaves_some sight read answered before after (Ok done) left = tt
-leaves_some sight read answered before after (Err f) (inl same) = inl same
-leaves_some sight read answered before after (Err f) (inr views) = inr (read, answered, views)
+leaves_some sight read answered before after (Err f) left = inr (read, answered, left)
+
+-- a recording is no picture
+shows_recorded : (sight : Sight) (read answered before after : Option (List ℕ)) (first last : Viewer) (f : Failure) →
+    sight.is_recorded ≡ true → StopsView read answered before after first sight.updates f last →
+    ShowsView sight last before after f
+shows_recorded sight read answered before after first last (failure.Engine fault) is stops = λ not.
+    never_recorded sight.is_recorded _ is not
+shows_recorded sight read answered before after first last (failure.Fault fault) is stops = tt
+shows_recorded sight read answered before after first last (failure.BadLine n) is stops = absurd stops
 
 pub fails_recorded : (sight : Sight) (read answered before after : Option (List ℕ)) (first last : Viewer)
     (r : Result (Unit {0}) Failure) → IsMadeFor sight first → sight.is_recorded ≡ true →
     IfErr r (λ f. StopsView read answered before after first sight.updates f last) →
     IfErr r (FailsToView sight read answered before after)
 fails_recorded sight read answered before after first last (Ok done) fresh is stops = tt
-fails_recorded sight read answered before after first last (Err f) fresh is stops =
-    (first, last, fresh, stops_kept sight.is_recorded read answered before after first sight.updates f last is stops)
+fails_recorded sight read answered before after first last (Err f) fresh is stops = (
+  first,
+  last,
+  fresh,
+  inl (
+    stops_kept sight.is_recorded read answered before after first sight.updates f last is stops,
+    shows_recorded sight read answered before after first last f is stops,
+  ),
+)
 
-pub fails_seeing : (sight : Sight) (read answered before after : Option (List ℕ)) (first last : Viewer) (fault : EngineFault) →
+pub fails_seeing : (sight : Sight) (read answered before after : Option (List ℕ)) (first last : Viewer) (fault : EngineFault) (f : Failure) →
     IsMadeFor sight first → sight.is_recorded ≡ false →
     StopsSeeing read answered None None first sight.updates fault last →
-    FailsToView sight read answered before after (failure.Engine fault)
-fails_seeing sight read answered before after first last fault fresh not stops =
-    (first, last, fresh, stops_unkept sight.is_recorded read answered before after first sight.updates (failure.Engine fault) last not stops)
+    EndsShown sight.is_partial last fault before after f → FailsToView sight read answered before after f
+fails_seeing sight read answered before after first last fault (failure.Engine told) fresh not stops ends = (
+  first,
+  last,
+  fresh,
+  inl (
+    stops_unkept sight.is_recorded read answered before after first sight.updates (failure.Engine told) last not
+        (subst (λ (e : EngineFault). StopsSeeing read answered None None first sight.updates e last) (sym ends.0) stops),
+    λ unrecorded. subst (λ (e : EngineFault). ShowsEnd sight.is_partial last e before after) (sym ends.0) ends.1,
+  ),
+)
+fails_seeing sight read answered before after first last fault (failure.Fault own) fresh not stops ends = (
+  first,
+  last,
+  fresh,
+  inr (
+    own,
+    refl,
+    fault,
+    record { is_picture = not; is_shown = ends.0; stops = stops; begun = ends.1 },
+  ),
+)
+fails_seeing sight read answered before after first last fault (failure.BadLine n) fresh not stops ends = absurd ends
+
+pub leaves_seeing : (sight : Sight) (read answered before after : Option (List ℕ)) (first last : Viewer) (fault : EngineFault) →
+    IsMadeFor sight first → sight.is_recorded ≡ false →
+    StopsSeeing read answered None None first sight.updates fault last →
+    (after ≡ before) ⊎ ((shows_end sight.is_partial fault ≡ true) × BeginsPicture last before after) →
+    LeavesView sight read answered before after
+leaves_seeing sight read answered before after first last fault fresh not stops (inl same) = inl same
+leaves_seeing sight read answered before after first last fault fresh not stops (inr (is, begun)) = inr (inr (
+  fault,
+  first,
+  last,
+  fresh,
+  record { is_picture = not; is_shown = is; stops = stops; begun = begun },
+))
 
 pub fails_shown : (sight : Sight) (read answered before after : Option (List ℕ)) (first last : Viewer)
     (r : Result (Unit {0}) Failure) → IsMadeFor sight first → sight.is_recorded ≡ false →
     Saw read answered None None first sight.updates last →
     IfErr r (λ f. (fault : Fault) × (f ≡ failure.Fault fault)) → IfErr r (FailsToView sight read answered before after)
 fails_shown sight read answered before after first last (Ok done) fresh not saw is = tt
-fails_shown sight read answered before after first last (Err (failure.Fault fault)) fresh not saw is =
-    (first, last, fresh, stops_unkept sight.is_recorded read answered before after first sight.updates (failure.Fault fault) last not saw)
+fails_shown sight read answered before after first last (Err (failure.Fault fault)) fresh not saw is = (
+  first,
+  last,
+  fresh,
+  inl (stops_unkept sight.is_recorded read answered before after first sight.updates (failure.Fault fault) last not saw, tt),
+)
 fails_shown sight read answered before after first last (Err (failure.BadLine n)) fresh not saw is = let e = is.1 in absurd (cc)
 fails_shown sight read answered before after first last (Err (failure.Engine fault)) fresh not saw is = let e = is.1 in absurd (cc)
 

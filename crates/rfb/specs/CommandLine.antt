@@ -1,5 +1,6 @@
 -- What the commands do.
-use Rattle.std.specs.Prelude.{◌≡◌, ◌⊎◌, ⊤, ℕ, false, List, Option, Some, IfSome}
+use Rattle.std.specs.Prelude.{◌≡◌, ◌⊎◌, ⊤, ℕ, false, List, Option, Some, None, IfSome}
+use Rattle.std.specs.Borrow.{Bor}
 use Rattle.std.specs.Io.KnownBytes.{Appends}
 use Rattle.rfb_pixel.specs.declared.colour.Colour.{Colour}
 use Rattle.rfb_picture.specs.Grid.{Grid}
@@ -21,10 +22,12 @@ use Rattle.rfb.specs.Script.{AreScript, StopsReading, lines_of}
 use Rattle.rfb_session.specs.Devices.{AppendsBeginning}
 use Rattle.rfb_session.specs.Pixmap.{pixmap}
 use Rattle.clap.specs.Words.{Text}
+use Rattle.rfb.specs.declared.options.Order.{Order}
 use Rattle.rfb.specs.declared.options.Task.{Task}
+use Rattle.rfb.specs.declared.options.paths.Paths.{Paths}
 use Rattle.rfb.specs.declared.options.Task.TheVariants.{Script, Loop, Play, Serve, View}
 use Rattle.rfb.specs.Loopback.{LeavesSomePicture, PlaysSomeScript}
-use Rattle.rfb.specs.Options.{AreAsked}
+use Rattle.rfb.specs.Options.{AreOrdered}
 use Rattle.rfb.specs.Recording.{LeavesRecording, PlaysRecording}
 use Rattle.rfb.specs.Serving.{ServesFewer, ServesSo}
 use Rattle.rfb.specs.Viewing.{FailsSomehow, LeavesSomeView, ViewsSome}
@@ -142,12 +145,34 @@ Leaves (View look) read before after =
     × FailsSomehow look.sight before after
 Leaves (Play replay) read before after = LeavesRecording replay read before after
 
+-- where a file is named, it is read in place of standard input; of its bytes nothing is known
+abbrev pub FromFile : Option (Bor Text) → (Option (List ℕ) → Type 0) → Option (List ℕ) → Type 0
+FromFile None Acts read = Acts read
+FromFile (Some path) Acts read = (bytes : Option (List ℕ)) × Acts bytes
+
+-- where a file is named, it is written in place of standard output, which stays as it was
+abbrev pub IntoFile : Option (Bor Text) → (Option (List ℕ) → Option (List ℕ) → Type 0) →
+    Option (List ℕ) → Option (List ℕ) → Type 0
+IntoFile None Acts before after = Acts before after
+IntoFile (Some path) Acts before after =
+    (after ≡ before) × (blank full : Option (List ℕ)) × Acts blank full
+
+-- both; where no file is named, this is what was read and written
+abbrev pub Through : Paths → (Option (List ℕ) → Option (List ℕ) → Option (List ℕ) → Type 0) →
+    Option (List ℕ) → Option (List ℕ) → Option (List ℕ) → Type 0
+Through paths Acts read before after =
+    IntoFile paths.output (λ blank full. FromFile paths.input (λ bytes. Acts bytes blank full)
+    read) before after
+
 -- the same of what words ask for
 abbrev pub DoesAsked : List Text → Option (List ℕ) → Option (List ℕ) → Option (List ℕ) → Type 0
 DoesAsked words read before after =
-    (task : Task) × AreAsked words task × Does task read before after
+    (order : Order) × AreOrdered words order
+    × Through order.paths (Does order.task) read before after
 
--- and of a command that failed, or for which there was no memory
+-- and of a command that failed, or for which there was no memory or no file
 abbrev pub LeavesAsked : List Text → Option (List ℕ) → Option (List ℕ) → Option (List ℕ) → Type 0
 LeavesAsked words read before after =
-    (after ≡ before) ⊎ ((task : Task) × AreAsked words task × Leaves task read before after)
+    (after ≡ before)
+    ⊎ ((order : Order) × AreOrdered words order
+    × Through order.paths (Leaves order.task) read before after)

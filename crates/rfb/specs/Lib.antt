@@ -1,3 +1,4 @@
+pub mod Address
 pub mod CommandLine
 pub mod Delivery
 pub mod Explain

@@ -1,5 +1,5 @@
 -- What the words of the command line ask for.
-use Rattle.std.specs.Prelude.{◌≡◌, ◌≢◌, ◌≤◌, ◌⊎◌, ℕ, pos, Bool, true, false, List, [], ◌∷◌, Option, Some, None, codes, filter, not, nat_eq}
+use Rattle.std.specs.Prelude.{◌≡◌, ◌≢◌, ◌≤◌, ◌⊎◌, ℕ, pos, Bool, true, false, List, [], ◌∷◌, Option, Some, None, codes, filter, not, nat_eq, ◌&&◌, option_map}
 use Rattle.std.specs.Cmp.Lexicographic.{pointwise}
 use Rattle.std.specs.Str.Parse.{IsNumeral, digits_value, without_leading_plus}
 use Rattle.clap.specs.declared.builder.action.ArgAction.TheVariants.{SetTrue}
@@ -11,7 +11,9 @@ use Rattle.clap.specs.declared.error.kind.ErrorKind.TheVariants.{DisplayHelp, Di
 use Rattle.rfb_pixel.specs.Format.{PixelFormat, rgb888}
 use Rattle.rfb_wire.specs.declared.encoding.Encoding.{Encoding}
 use Rattle.rfb_wire.specs.declared.encoding.Encoding.TheVariants.{Raw}
+use Rattle.rfb.specs.declared.options.Order.{Order}
 use Rattle.rfb.specs.declared.options.Task.{Task}
+use Rattle.rfb.specs.declared.options.paths.Paths.{Paths}
 use Rattle.rfb.specs.declared.options.Task.TheVariants.{Script, Loop, Play, Serve, View}
 use Rattle.rfb.specs.declared.options.WrongWords.{WrongWords}
 use Rattle.rfb.specs.declared.options.WrongWords.TheVariants.{Words, Value}
@@ -19,6 +21,7 @@ use Rattle.rfb.specs.declared.recording.replay.Replay.{Replay}
 use Rattle.rfb.specs.declared.serving.Wanted.{Wanted}
 use Rattle.rfb.specs.declared.viewing.look.Look.{Look}
 use Rattle.rfb.specs.declared.viewing.look.Sight.{Sight}
+use Rattle.rfb.specs.Address.{GivesServer}
 use Rattle.rfb.specs.Words.{AreEncodings, IsFormatWord, parts_of}
 
 -- ---- the words that there are
@@ -35,18 +38,49 @@ word_rule name default = record (new_rule name) {
 abbrev pub format_rule : Rule
 format_rule = word_rule (codes "format") (codes "rgb888")
 
+-- a server, by a word that stands alone
+abbrev pub server_rule : Rule
+server_rule = record (new_rule (codes "server")) { value_names = 1 }
+
 abbrev pub host_rule : Rule
-host_rule = word_rule (codes "host") (codes "127.0.0.1")
+host_rule = record (new_rule (codes "host")) {
+  long = Some (codes "host");
+  value_names = 1;
+}
+
+abbrev pub listen_rule : Rule
+listen_rule = word_rule (codes "listen") (codes "127.0.0.1")
 
 abbrev pub encodings_rule : Rule
 encodings_rule = word_rule (codes "encodings") (codes "raw")
 
 -- a word that is given or not
-abbrev pub record_rule : Rule
-record_rule = record (new_rule (codes "record")) {
-  long = Some (codes "record");
+abbrev pub flag_rule : Text → Rule
+flag_rule name = record (new_rule name) {
+  long = Some name;
   action = Some SetTrue;
 }
+
+abbrev pub record_rule : Rule
+record_rule = flag_rule (codes "record")
+
+-- what has come by an early end is wanted
+abbrev pub partial_rule : Rule
+partial_rule = flag_rule (codes "partial")
+
+-- a file, by its path
+abbrev pub path_rule : Text → ℕ → Rule
+path_rule name short = record (new_rule name) {
+  long = Some name;
+  short = Some short;
+  value_names = 1;
+}
+
+abbrev pub input_rule : Rule
+input_rule = path_rule (codes "input") 105
+
+abbrev pub output_rule : Rule
+output_rule = path_rule (codes "output") 111
 
 -- a number in a range, by its digits
 abbrev pub number_rule : Text → ℕ → ℕ → Rule
@@ -56,8 +90,11 @@ number_rule name least most = record (new_rule name) {
   parser = Some (Signed (pos least) (pos most));
 }
 
+abbrev pub any_port_rule : Rule
+any_port_rule = number_rule (codes "port") 1 65535
+
 abbrev pub port_rule : Rule
-port_rule = record (number_rule (codes "port") 1 65535) { required = true }
+port_rule = record any_port_rule { required = true }
 
 abbrev pub side_rule : Text → Rule
 side_rule name = record (number_rule name 1 4096) { defaults = codes "64" ∷ [] }
@@ -71,29 +108,40 @@ connections_rule = record (number_rule (codes "connections") 1 65535) {
 abbrev pub first_updates_rule : Rule
 first_updates_rule = number_rule (codes "updates") 1 4294967295
 
+-- after how many seconds waiting ends, or else never
+abbrev pub timeout_rule : Rule
+timeout_rule = number_rule (codes "timeout") 1 4294967295
+
 abbrev pub updates_rule : Rule
 updates_rule = record (number_rule (codes "updates") 1 4294967295) {
   defaults = codes "1" ∷ [];
 }
 
+-- files may stand in place of standard input and output
+abbrev pub with_paths : App → App
+with_paths app = with_rule (with_rule app input_rule) output_rule
+
 -- the commands
 abbrev pub script_shape : Shape
-script_shape = new_shape (codes "script")
+script_shape = (with_paths (new_app (codes "script"))).top
 
 abbrev pub loop_shape : Shape
-loop_shape = new_shape (codes "loop")
+loop_shape = (with_paths (new_app (codes "loop"))).top
 
 abbrev pub play_shape : Shape
-play_shape = (with_rule (with_rule (new_app (codes "play")) format_rule) first_updates_rule).top
+play_shape = (with_paths (with_rule (with_rule (with_rule (new_app (codes "play")) format_rule)
+    first_updates_rule) partial_rule)).top
 
 abbrev pub serve_shape : Shape
-serve_shape = (with_rule (with_rule (with_rule (with_rule (new_app (codes "serve")) port_rule)
-    (side_rule (codes "width"))) (side_rule (codes "height"))) connections_rule).top
+serve_shape = (with_rule (with_rule (with_rule (with_rule (with_rule (with_rule
+    (new_app (codes "serve")) port_rule) (side_rule (codes "width"))) (side_rule (codes "height")))
+    connections_rule) timeout_rule) listen_rule).top
 
 abbrev pub view_shape : Shape
-view_shape = (with_rule (with_rule (with_rule (with_rule (with_rule (with_rule
-    (new_app (codes "view")) host_rule) port_rule) updates_rule) format_rule) encodings_rule)
-    record_rule).top
+view_shape = (with_rule (with_rule (with_rule (with_rule (with_rule (with_rule (with_rule
+    (with_rule (with_rule (with_rule (new_app (codes "view")) server_rule) host_rule) any_port_rule)
+    updates_rule) format_rule) encodings_rule) record_rule) timeout_rule) partial_rule)
+    output_rule).top
 
 -- the program has a version, and commands, one of which has to be named
 abbrev pub top : App
@@ -145,25 +193,57 @@ pub record MayGiveNumber (name : Text) (least most : ℕ) (rows : List Row) (n :
       digits_value 10 (without_leading_plus text) ≤ most →
       n ≡ Some (digits_value 10 (without_leading_plus text))
 
+-- a word that is given or not is there
+abbrev pub IsFlagged : Text → List Row → Bool → Type 0
+IsFlagged name rows flag =
+    (one_of name rows ≡ Some (codes "true") → flag ≡ true)
+    × (one_of name rows ≡ Some (codes "false") → flag ≡ false)
+
+-- the files that are named, where one is
+pub record GivesPaths (rows : List Row) (paths : Paths) : Type 0 where
+  pub input : option_map (λ path. path.now) paths.input ≡ first_of (codes "input") rows
+  pub output : option_map (λ path. path.now) paths.output ≡ first_of (codes "output") rows
+
+-- the same of a command; where none is named there is no file
+abbrev pub GivesFiles : Option (Text × List Row) → Paths → Type 0
+GivesFiles None paths = (paths.input ≡ None) × (paths.output ≡ None)
+GivesFiles (Some (name, rows)) paths = GivesPaths rows paths
+
+-- an address that is given, or the loopback address
+abbrev pub NamesHost : Option Text → Text → Type 0
+NamesHost None host = host ≡ codes "127.0.0.1"
+NamesHost (Some word) host = host ≡ word
+
 -- what `serve` is asked for
 pub record GivesWanted (rows : List Row) (wanted : Wanted) : Type 0 where
   pub port : GivesNumber (codes "port") 1 65535 rows wanted.port
+  pub listen : NamesHost (first_of (codes "listen") rows) wanted.listen.now
   pub width : GivesNumber (codes "width") 1 4096 rows wanted.screen.width
   pub height : GivesNumber (codes "height") 1 4096 rows wanted.screen.height
   pub connections : GivesNumber (codes "connections") 1 65535 rows wanted.connections
+  pub timeout : MayGiveNumber (codes "timeout") 1 4294967295 rows wanted.timeout
 
 -- what `play` is asked for
 pub record GivesReplay (rows : List Row) (replay : Replay) : Type 0 where
   pub format : GivesFormat rows replay.format
   pub updates : MayGiveNumber (codes "updates") 1 4294967295 rows replay.updates
+  pub is_partial : IsFlagged (codes "partial") rows replay.is_partial
 
--- the host that is given, or the loopback address
-abbrev pub NamesHost : Option Text → Text → Type 0
-NamesHost None host = host ≡ codes "127.0.0.1"
-NamesHost (Some word) host = host ≡ word
+-- the server that is given
+abbrev pub NamesServer : List Row → Option ℕ → Text → ℕ → Type 0
+NamesServer rows number host port =
+    GivesServer (first_of (codes "server") rows) (first_of (codes "host") rows) number host port
 
-abbrev pub GivesHost : List Row → Text → Type 0
-GivesHost rows host = NamesHost (first_of (codes "host") rows) host
+abbrev pub GivesAddress : List Row → Text → ℕ → Type 0
+GivesAddress rows host port =
+    (number : Option ℕ) × MayGiveNumber (codes "port") 1 65535 rows number
+    × NamesServer rows number host port
+
+-- none is, or what is given names none
+abbrev pub HasBadAddress : List Row → Type 0
+HasBadAddress rows =
+    (number : Option ℕ) × MayGiveNumber (codes "port") 1 65535 rows number
+    × ((host : Text) (port : ℕ) → ¬ (NamesServer rows number host port))
 
 -- the encodings that are given by their names, with commas between them, or Raw
 abbrev pub NamesEncodings : Option Text → List Encoding → Type 0
@@ -179,28 +259,27 @@ HasBadEncodings rows =
     (list : Text) × (first_of (codes "encodings") rows ≡ Some list)
     × ((encodings : List Encoding) → ¬ (AreEncodings (parts_of list) encodings))
 
--- a word that is given or not is there
-abbrev pub IsFlagged : Text → List Row → Bool → Type 0
-IsFlagged name rows flag =
-    (one_of name rows ≡ Some (codes "true") → flag ≡ true)
-    × (one_of name rows ≡ Some (codes "false") → flag ≡ false)
-
 -- what is to be seen of a server
 pub record GivesSight (rows : List Row) (sight : Sight) : Type 0 where
   pub format : GivesFormat rows sight.wants.format
   pub encodings : GivesEncodings rows sight.wants.encodings.items
   pub updates : GivesNumber (codes "updates") 1 4294967295 rows sight.updates
   pub is_recorded : IsFlagged (codes "record") rows sight.is_recorded
+  pub is_partial : IsFlagged (codes "partial") rows sight.is_partial
 
 -- what `view` is asked for
 pub record GivesLook (rows : List Row) (look : Look) : Type 0 where
-  pub host : GivesHost rows look.host.now
-  pub port : GivesNumber (codes "port") 1 65535 rows look.port
+  pub address : GivesAddress rows look.host.now look.port
+  pub timeout : MayGiveNumber (codes "timeout") 1 4294967295 rows look.timeout
   pub sight : GivesSight rows look.sight
 
 -- a word of `view` is no format, or no list of encodings
 abbrev pub HasBadSight : List Row → Type 0
 HasBadSight rows = HasBadFormat rows ⊎ HasBadEncodings rows
+
+-- or it names no server
+abbrev pub HasBadLook : List Row → Type 0
+HasBadLook rows = HasBadAddress rows ⊎ HasBadSight rows
 
 -- a command, by its name and its options; `script` is the one with no other name
 abbrev pub IsTask : Option (Text × List Row) → Task → Type 0
@@ -220,7 +299,7 @@ IsTask (Some (name, rows)) (View look) = (name ≡ codes "view") × GivesLook ro
 abbrev pub HasBadValue : Option (Text × List Row) → Type 0
 HasBadValue None = ⊥
 HasBadValue (Some (name, rows)) =
-    ((name ≡ codes "play") × HasBadFormat rows) ⊎ ((name ≡ codes "view") × HasBadSight rows)
+    ((name ≡ codes "play") × HasBadFormat rows) ⊎ ((name ≡ codes "view") × HasBadLook rows)
 
 -- ---- words
 
@@ -236,18 +315,33 @@ plain_of words = filter (λ word. not (is_explain word)) words
 abbrev pub AreCommand : List Text → Type 0
 AreCommand words = fault_of program words ≡ []
 
+-- a command with its files
+abbrev pub IsOrder : Option (Text × List Row) → Order → Type 0
+IsOrder given order = IsTask given order.task × GivesFiles given order.paths
+
 -- they ask for this
-abbrev pub AreAsked : List Text → Task → Type 0
-AreAsked words task = AreCommand words × IsTask (asked words) task
+abbrev pub AreOrdered : List Text → Order → Type 0
+AreOrdered words order = AreCommand words × IsOrder (asked words) order
 
 -- the words ask for help, or for the version
 abbrev pub AskForText : List Text → Type 0
 AskForText words =
     IsAmong DisplayHelp (fault_of program words) ⊎ IsAmong DisplayVersion (fault_of program words)
 
+-- a word is this one
+abbrev pub is_word : Text → Text → Bool
+is_word word other = pointwise nat_eq word other
+
+-- the words behind the program's name ask for the table of faults
+abbrev pub ask_for_faults : List Text → Bool
+ask_for_faults (name ∷ first ∷ second ∷ []) =
+    is_word first (codes "help") && is_word second (codes "faults")
+ask_for_faults _ = false
+
 -- the words ask for something that there is
 abbrev pub HaveMeaning : List Text → Type 0
-HaveMeaning words = ((task : Task) × AreAsked words task) ⊎ AskForText words
+HaveMeaning words =
+    ((order : Order) × AreOrdered words order) ⊎ AskForText words ⊎ (ask_for_faults words ≡ true)
 
 -- the words are none that there are
 abbrev pub AreUnknown : List Text → Type 0

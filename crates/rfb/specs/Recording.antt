@@ -1,5 +1,5 @@
 -- Recordings of a server that are played to a viewer.
-use Rattle.std.specs.Prelude.{◌≡◌, ◌<◌, ◌⊎◌, ⊤, ℕ, true, List, [], ◌∷◌, Option, Some, None}
+use Rattle.std.specs.Prelude.{◌≡◌, ◌<◌, ◌⊎◌, ◌&&◌, ⊤, ℕ, Bool, true, false, List, [], ◌∷◌, Option, Some, None}
 use Rattle.std.specs.Io.KnownBytes.{Appends}
 use Rattle.rfb_pixel.specs.Format.{PixelFormat}
 use Rattle.rfb_pixel.specs.declared.colour.Colour.{Colour}
@@ -11,6 +11,7 @@ use Rattle.rfb_viewer.specs.declared.viewer.Viewer.{Viewer}
 use Rattle.rfb_viewer.specs.Viewer.{Viewing, first_viewer}
 use Rattle.rfb_viewer.specs.Standing.{StandsFor, picture_of, viewing_with}
 use Rattle.rfb_session.specs.declared.engine.fault.EngineFault.{EngineFault}
+use Rattle.rfb_session.specs.declared.engine.fault.EngineFault.TheVariants.{Server, Viewer as ViewerEnded, Truncated, Device, NoMemory}
 use Rattle.rfb_session.specs.Devices.{AppendsBeginning}
 use Rattle.rfb_session.specs.Playing.{AllPlayed, StopsPlaying}
 use Rattle.rfb_session.specs.PlayingSome.{PlayedFirst, StopsPlayingSome}
@@ -102,15 +103,63 @@ abbrev pub PlaysRecording : Replay → Option (List ℕ) → Option (List ℕ) �
 PlaysRecording replay read before after =
     PlaysTo (λ viewer. WritesPicture viewer before after) replay read
 
--- the output is as it was, or a beginning was
+-- the bytes came to an end, and no viewer did
+abbrev pub is_end : EngineFault → Bool
+is_end Truncated = true
+is_end Device = true
+is_end (Server fault) = false
+is_end (ViewerEnded fault) = false
+is_end NoMemory = false
+
+-- what came by then is shown
+abbrev pub shows_end : Bool → EngineFault → Bool
+shows_end is_wanted fault = is_wanted && is_end fault
+
+-- a viewer has no picture, and nothing was written; or the whole of its picture was
+abbrev pub MayWritePicture : Viewer → Option (List ℕ) → Option (List ℕ) → Type 0
+MayWritePicture viewer before after =
+    ((picture_of viewer ≡ None) × (after ≡ before)) ⊎ WritesPicture viewer before after
+
+-- where an engine ended with a fault: at an early end, if that is wanted, what the viewer shows was
+-- written; else nothing was
+abbrev pub ShowsEnd : Bool → Viewer → EngineFault → Option (List ℕ) → Option (List ℕ) → Type 0
+ShowsEnd is_wanted viewer fault before after =
+    (shows_end is_wanted fault ≡ true → MayWritePicture viewer before after)
+    × (shows_end is_wanted fault ≡ false → after ≡ before)
+
+-- why the command ends then: for that fault, or since the picture could not be written
+abbrev pub EndsShown : Bool → Viewer → EngineFault → Option (List ℕ) → Option (List ℕ) → Failure →
+    Type 0
+EndsShown is_wanted viewer fault before after (Engine told) =
+    (told ≡ fault) × ShowsEnd is_wanted viewer fault before after
+EndsShown is_wanted viewer fault before after (Fault own) =
+    (shows_end is_wanted fault ≡ true) × BeginsPicture viewer before after
+EndsShown is_wanted viewer fault before after (BadLine n) = ⊥
+
+-- a fresh viewer was fed what came by an early end, which is wanted, and a beginning of what it
+-- then shows was written
+pub record PlaysPart (replay : Replay) (read before after : Option (List ℕ)) (fault : EngineFault)
+    : Type 0 where
+  pub is_shown : shows_end replay.is_partial fault ≡ true
+  pub first : Viewer
+  pub fresh : IsFresh replay.format (Raw ∷ []) first
+  pub last : Viewer
+  pub stops : StopsWatching replay.updates read first fault last
+  pub begun : BeginsPicture last before after
+
+-- the output is as it was, or a beginning was, also of what came by an early end
 abbrev pub LeavesRecording : Replay → Option (List ℕ) → Option (List ℕ) → Option (List ℕ) → Type 0
 LeavesRecording replay read before after =
     (after ≡ before) ⊎ PlaysTo (λ viewer. BeginsPicture viewer before after) replay read
+    ⊎ ((fault : EngineFault) × PlaysPart replay read before after fault)
 
--- what a fresh viewer was fed ended it, or ended where it must not
-abbrev pub FailsToPlay : Replay → Option (List ℕ) → Failure → Type 0
-FailsToPlay replay read (Engine fault) =
+-- what a fresh viewer was fed ended it, or ended where it must not, and so much of what it then
+-- shows was written
+abbrev pub FailsToPlay : Replay → Option (List ℕ) → Option (List ℕ) → Option (List ℕ) → Failure →
+    Type 0
+FailsToPlay replay read before after (Engine fault) =
     (first last : Viewer) × IsFresh replay.format (Raw ∷ []) first
     × StopsWatching replay.updates read first fault last
-FailsToPlay replay read (Fault fault) = ⊤
-FailsToPlay replay read (BadLine n) = ⊥
+    × ShowsEnd replay.is_partial last fault before after
+FailsToPlay replay read before after (Fault fault) = ⊤
+FailsToPlay replay read before after (BadLine n) = ⊥

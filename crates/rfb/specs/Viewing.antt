@@ -1,5 +1,5 @@
 -- What a fresh viewer saw of a server.
-use Rattle.std.specs.Prelude.{◌≡◌, ◌⊎◌, ℕ, false, List, Option, None, if◌then◌else◌}
+use Rattle.std.specs.Prelude.{◌≡◌, ◌⊎◌, ⊤, ℕ, true, false, List, Option, None, if◌then◌else◌}
 use Rattle.rfb_viewer.specs.declared.viewer.Viewer.{Viewer}
 use Rattle.rfb_session.specs.declared.engine.fault.EngineFault.{EngineFault}
 use Rattle.rfb_session.specs.ViewEngine.{HasViewed, StopsViewing}
@@ -7,7 +7,7 @@ use Rattle.rfb.specs.declared.fault.Failure.{Failure}
 use Rattle.rfb.specs.declared.fault.Fault.{Fault as OwnFault}
 use Rattle.rfb.specs.declared.fault.Failure.TheVariants.{BadLine, Fault, Engine}
 use Rattle.rfb.specs.declared.viewing.look.Sight.{Sight}
-use Rattle.rfb.specs.Recording.{BeginsPicture, IsFresh, WritesPicture}
+use Rattle.rfb.specs.Recording.{BeginsPicture, IsFresh, ShowsEnd, WritesPicture, shows_end}
 
 -- a viewer asked and was fed, up to the end of the last of so many updates; its bytes were there to
 -- be read, what it sent stands behind what was written before, and what it was fed stands on the
@@ -51,12 +51,24 @@ Views sight read answered before after =
     ViewsTo (λ last. sight.is_recorded ≡ false → WritesPicture last before after) sight
     read answered before after
 
--- the output is as it was, or a beginning of the picture was written
+-- a viewer was fed what came by an early end, which is wanted, and a beginning of what it then
+-- shows was written
+pub record ViewsPart (sight : Sight) (read answered before after : Option (List ℕ))
+    (fault : EngineFault) (first last : Viewer) : Type 0 where
+  pub is_picture : sight.is_recorded ≡ false
+  pub is_shown : shows_end sight.is_partial fault ≡ true
+  pub stops : StopsSeeing read answered None None first sight.updates fault last
+  pub begun : BeginsPicture last before after
+
+-- the output is as it was, or a beginning of the picture was written, also of what came by an early
+-- end
 abbrev pub LeavesView : Sight → Option (List ℕ) → Option (List ℕ) → Option (List ℕ) →
     Option (List ℕ) → Type 0
 LeavesView sight read answered before after =
     (after ≡ before)
     ⊎ ViewsTo (λ last. BeginsPicture last before after) sight read answered before after
+    ⊎ ((fault : EngineFault) × (first last : Viewer) × IsMadeFor sight first
+    × ViewsPart sight read answered before after fault first last)
 
 -- a viewer that was fed is the reason why nothing more is seen; or all was seen, and the machine is
 abbrev pub StopsView : Option (List ℕ) → Option (List ℕ) → Option (List ℕ) → Option (List ℕ) →
@@ -67,14 +79,23 @@ StopsView read answered blank copied old updates (Fault fault) new =
     Saw read answered blank copied old updates new
 StopsView read answered blank copied old updates (BadLine n) new = ⊥
 
+-- what it ended with, and, where no recording is wanted, so much of its picture was written
+abbrev pub ShowsView : Sight → Viewer → Option (List ℕ) → Option (List ℕ) → Failure → Type 0
+ShowsView sight last before after (Engine fault) =
+    sight.is_recorded ≡ false → ShowsEnd sight.is_partial last fault before after
+ShowsView sight last before after (Fault fault) = ⊤
+ShowsView sight last before after (BadLine n) = ⊥
+
 -- what a fresh viewer was fed ended it, or ended too early, or it saw all; a recording has what the
--- engine says of it
+-- engine says of it; or the picture of what came by an early end could not be written
 abbrev pub FailsToView : Sight → Option (List ℕ) → Option (List ℕ) → Option (List ℕ) →
     Option (List ℕ) → Failure → Type 0
 FailsToView sight read answered before after failure =
-    (first last : Viewer) × IsMadeFor sight first
-    × StopsView read answered (kept_on sight before) (kept_on sight after) first sight.updates
-    failure last
+    (first last : Viewer) × IsMadeFor sight first × ((StopsView read answered
+    (kept_on sight before) (kept_on sight after) first sight.updates failure last
+    × ShowsView sight last before after failure)
+    ⊎ ((own : OwnFault) × (failure ≡ Fault own) × (fault : EngineFault)
+    × ViewsPart sight read answered before after fault first last))
 
 -- ---- a connection of whose bytes nothing is known
 
@@ -87,8 +108,7 @@ ViewsSome sight before after =
 abbrev pub LeavesSomeView : Sight → Option (List ℕ) → Option (List ℕ) → Type 0
 LeavesSomeView sight before after =
     (after ≡ before)
-    ⊎ ((read answered : Option (List ℕ))
-    × ViewsTo (λ last. BeginsPicture last before after) sight read answered before after)
+    ⊎ ((read answered : Option (List ℕ)) × LeavesView sight read answered before after)
 
 -- there was none, and the output is as it was; or what came over it ended a fresh viewer, or ended
 -- early, or all was seen and the machine failed

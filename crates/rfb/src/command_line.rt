@@ -1,25 +1,24 @@
 //! The command line: what the words ask for is done, and the exit status is chosen.
 
-ghost use Rattle.std.specs.Prelude.{◌≡◌, ◌≢◌, ◌≤◌, map, IfOk, OnOk, OnErr};
-ghost use Rattle.rfb.specs.Options.{AreCommand, AreMistaken, HaveMeaning, plain_of};
-ghost use Rattle.rfb.specs.CommandLine.{Does, DoesAsked, Leaves, LeavesAsked};
+ghost use Rattle.std.specs.Prelude.{◌≡◌, ◌≢◌, ◌≤◌, map, IfOk};
+ghost use Rattle.rfb.specs.Options.{AreCommand, AreMistaken, HaveMeaning, ask_for_faults, plain_of};
+ghost use Rattle.rfb.specs.CommandLine.{DoesAsked, LeavesAsked};
 ghost use Rattle.std.specs.IoError.{error_kind};
 ghost use Rattle.std.specs.declared.io.ErrorKind.TheVariants.{InvalidData};
 
 use crate::explain::Notes;
 use crate::fault::{Failure, Fault};
-use crate::loopback::script_through_loopback;
-use crate::options::{BadValue, Task, WrongWords, read_words};
-use crate::recording::play_recording;
-use crate::scripting::script;
-use crate::serving::serve_at;
-use crate::viewing::view_at;
+use crate::faults::write_faults;
+use crate::options::{BadValue, WrongWords, read_words};
+use crate::working::work_through;
 use clap::error::ErrorKind;
 use std::alloc::{AllocError, Global};
 use std::convert::AsStr;
+use std::fs::Files;
 use std::io;
 use std::io::{Read, Write};
 use std::net::Net;
+use std::time::Clock;
 
 // The statuses that `command` answers.
 const DONE: u8 = 0;
@@ -36,6 +35,21 @@ For more information, try '--help'.";
 /// The word that asks for sentences.
 pub const EXPLAIN: &str = "--explain";
 
+const SERVERS: &str = "\
+error: the argument '[SERVER]' cannot be used with '--host <H>' or '--port <P>'
+
+Usage: rfb view [OPTIONS] [SERVER]
+
+For more information, try '--help'.";
+
+const NO_SERVER: &str = "\
+error: the following required arguments were not provided:
+  --port <P>
+
+Usage: rfb view --port <P>
+
+For more information, try '--help'.";
+
 const ENCODINGS: &str = "\
 rfb: encodings are raw, copyrect, rre and hextile: one to four of them, with a comma between two";
 
@@ -45,14 +59,15 @@ rfb: encodings are raw, copyrect, rre and hextile: one to four of them, with a c
 /// - 0: the work is done. Help and the version count as work, and go to `output`.
 /// - 1: it failed, and a line on `errors` says why. Nothing was written to `output`, unless writing
 ///   there is what failed: then a beginning of what was to be written. What `serve` and `view
-///   --record` write as they go stays.
+///   --record` write as they go stays. With `--partial` the picture of what came by an early end is
+///   written.
 /// - 2: the words ask for nothing that there is, and `errors` has a text that says so.
 ///
 /// `output` is flushed before the status is chosen. A write to `errors` that fails changes nothing.
 ///
 /// The word `--explain`, wherever it stands, adds sentences to `errors`, each a line that begins
 /// with `rfb: `. The status and what is written to `output` are those of the other words.
-pub fn command<P: AllocGlobal + Net, S: AsStr, R: Read, W: Write, E: Write>(
+pub fn command<P: AllocGlobal + Clock + Files + Net, S: AsStr, R: Read, W: Write, E: Write>(
     rt: &P,
     words: &[S],
     input: &mut R,
@@ -93,7 +108,7 @@ fn plain_words<'a, S: AsStr>(alloc: Global, words: &'a [S]) -> Result<Vec<&'a S>
 }
 
 // Does what words without `--explain` ask for, with sentences or without.
-fn obey<P: AllocGlobal + Net, S: AsStr, R: Read, W: Write, E: Write>(
+fn obey<P: AllocGlobal + Clock + Files + Net, S: AsStr, R: Read, W: Write, E: Write>(
     rt: &P,
     words: &[S],
     explains: bool,
@@ -113,7 +128,7 @@ fn obey<P: AllocGlobal + Net, S: AsStr, R: Read, W: Write, E: Write>(
 {
     let alloc = rt.alloc();
     let done = match read_words(alloc, words) {
-        Ok(task) => work(rt, task, explains, input, output, errors),
+        Ok(order) => work_through(rt, order, explains, input, output, errors),
         Err(WrongWords::Value(value)) => {
             tell_value(value, explains, errors);
             return BAD_WORDS;
@@ -121,6 +136,7 @@ fn obey<P: AllocGlobal + Net, S: AsStr, R: Read, W: Write, E: Write>(
         Err(WrongWords::Words(answer)) if answer.kind() == ErrorKind::OutOfMemory => {
             Err(Failure::Fault(Fault::NoMemory))
         }
+        Err(WrongWords::Words(_)) if ask_for_faults(words) => show_faults(output),
         Err(WrongWords::Words(answer)) if answer.use_stderr() => {
             let _ = write!(errors, "{answer}");
             return BAD_WORDS;
@@ -130,39 +146,6 @@ fn obey<P: AllocGlobal + Net, S: AsStr, R: Read, W: Write, E: Write>(
     match done {
         Ok(()) => DONE,
         Err(failure) => tell(failure, errors),
-    }
-}
-
-// Does what the words ask for.
-fn work<P: AllocGlobal + Net, R: Read, W: Write, E: Write>(
-    rt: &P,
-    task: Task<'_>,
-    explains: bool,
-    input: &mut R,
-    output: &mut W,
-    errors: &mut E,
-) -> Result<(), Failure>
-    ensures done { OnOk result (Does task.entry
-        (R.remaining input.old) (W.contents output.old) (W.contents output.new)) }
-    ensures left { OnErr result (Leaves task.entry
-        (R.remaining input.old) (W.contents output.old) (W.contents output.new)) }
-{
-    let alloc = rt.alloc();
-    match task {
-        Task::Script => script(alloc, input, output, errors, explains),
-        Task::Loop => script_through_loopback(rt, alloc, input, output, errors, explains),
-        Task::Play(replay) => {
-            let mut notes = Notes::new(errors, explains);
-            play_recording(alloc, replay, input, output, &mut notes)
-        }
-        Task::Serve(wanted) => {
-            let mut notes = Notes::new(errors, explains);
-            serve_at(rt, alloc, wanted, output, &mut notes)
-        }
-        Task::View(look) => {
-            let mut notes = Notes::new(errors, explains);
-            view_at(rt, alloc, look, output, &mut notes)
-        }
     }
 }
 
@@ -188,6 +171,15 @@ For more information, try '--help'."
             let _ = writeln!(Notes::new(errors, explains), "{ENCODINGS}");
             writeln!(errors, "bad encodings")
         }
+        BadValue::Server(word) => writeln!(
+            errors,
+            "error: invalid value '{word}' for '[SERVER]'
+  [HOST, HOST:DISPLAY with a display from 0 to 99, or HOST::PORT]
+
+For more information, try '--help'."
+        ),
+        BadValue::Servers => writeln!(errors, "{SERVERS}"),
+        BadValue::NoServer => writeln!(errors, "{NO_SERVER}"),
     };
 }
 
@@ -202,6 +194,22 @@ pub fn without_words<E: Write>(error: io::Error, errors: &mut E) -> u8
         return BAD_WORDS;
     }
     tell(Failure::Fault(Fault::from(error)), errors)
+}
+
+// Whether the words, the first of which is the program's own name, ask for the table of faults.
+fn ask_for_faults<S: AsStr>(words: &[S]) -> bool
+    ensures { result ≡ ask_for_faults (map S.text words.now) }
+{
+    match words {
+        [_name, first, second] => first.as_str() == "help" && second.as_str() == "faults",
+        _ => false,
+    }
+}
+
+// Prints that table.
+fn show_faults<W: Write>(output: &mut W) -> Result<(), Failure> {
+    write_faults(output)?;
+    Ok(())
 }
 
 // Prints a help text that the words asked for.

@@ -59,9 +59,40 @@ pub fn tell_unreached<N: Write>(host: &str, port: u16, error: &io::Error, notes:
     );
 }
 
-/// Says that a port cannot be listened on.
-pub fn tell_unbound<N: Write>(port: u16, error: &io::Error, notes: &mut N) {
-    let _ = writeln!(notes, "rfb: cannot listen on 127.0.0.1:{port}: {error}");
+/// Says that a port of an address is listened on.
+pub fn tell_bound<N: Write>(host: &str, port: u16, notes: &mut N) {
+    let _ = writeln!(
+        notes,
+        "rfb: listening on {}:{port}",
+        Escaped(host.as_bytes())
+    );
+}
+
+/// Says that it cannot be.
+pub fn tell_unbound<N: Write>(host: &str, port: u16, error: &io::Error, notes: &mut N) {
+    let _ = writeln!(
+        notes,
+        "rfb: cannot listen on {}:{port}: {error}",
+        Escaped(host.as_bytes())
+    );
+}
+
+/// Says that a file cannot be read.
+pub fn tell_unread<N: Write>(path: &str, error: &io::Error, notes: &mut N) {
+    let _ = writeln!(
+        notes,
+        "rfb: cannot read {}: {error}",
+        Escaped(path.as_bytes())
+    );
+}
+
+/// Says that a file cannot be written.
+pub fn tell_unwritten<N: Write>(path: &str, error: &io::Error, notes: &mut N) {
+    let _ = writeln!(
+        notes,
+        "rfb: cannot write {}: {error}",
+        Escaped(path.as_bytes())
+    );
 }
 
 /// Says why what was to be sent did not go out, if so.

@@ -78,6 +78,16 @@ pub enum Failure {
     Engine(EngineFault),
 }
 
+impl Failure {
+    /// Whether bytes ended too early, or could not be had, and neither end has failed.
+    pub fn is_early(&self) -> bool {
+        matches!(
+            self,
+            Failure::Engine(EngineFault::Truncated | EngineFault::Device)
+        )
+    }
+}
+
 impl From<Fault> for Failure {
     ghost from_gives = { λ fault failure. failure ≡ Failure.Fault fault };
 

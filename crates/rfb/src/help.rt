@@ -12,7 +12,7 @@ Status:
 With --explain, at any command, sentences on standard error say how it goes and why it fails. At a
 terminal they do by themselves.
 
-docs/PROTOCOL.md has the language of scripts, and refusals and faults by number.";
+`rfb help faults` has refusals and faults by number, docs/PROTOCOL.md the language of scripts.";
 
 pub const LANGUAGE: &str = "\
 A script has a line for each step. One space parts two words:
@@ -58,12 +58,13 @@ docs/PROTOCOL.md has the formats, and the faults by number.
 
 Examples:
   rfb play --format rgb565 < server.rfb > picture.ppm
-  rfb play --updates 2 < server.rfb > picture.ppm";
+  rfb play --updates 2 -i server.rfb -o picture.ppm";
 
 pub const VIEWERS: &str = "\
 Each connection has a fresh screen. Behind each update the picture scrolls up by a row. As soon as a
 connection ends, a line on standard output says `ok` and how many updates were sent, or `fault` and
-which fault ended it; then the next one is served.
+which fault ended it; then the next one is served. With --timeout a viewer that sends nothing for so
+long is let go by `fault 29 Device`.
 docs/PROTOCOL.md has the faults by number.
 
 Example, with a viewer of TigerVNC:
@@ -75,9 +76,11 @@ A viewer asks for the whole screen and then, after each update, for what changed
 updates came. A server sends none while nothing changes. Then the picture is written. With --record
 standard output gets in its place what the server sent up to there, as it comes: `rfb play` shows
 that as the same picture, in the same format. The server must offer the security type None.
+With --timeout a connection that is refused is tried again, and waiting ends behind so many seconds.
+With --partial the picture of what came by then is written; the status is 1 all the same.
 docs/PROTOCOL.md has the formats, and the faults by number.
 
 Examples:
-  rfb view --port 5901 > picture.ppm
+  rfb view example.org:1 -o picture.ppm
   rfb view --host example.org --port 5900 --encodings hextile,copyrect --updates 3 > picture.ppm
   rfb view --port 5901 --record > server.rfb";

@@ -7,37 +7,48 @@
 mod command_line;
 mod explain;
 mod fault;
+mod faults;
 mod help;
 mod loopback;
 mod options;
 mod playing;
+mod reaching;
 mod recording;
 mod scene;
 mod script;
 mod scripting;
 mod serving;
+mod terminal;
 #[cfg(test)]
 mod tests;
 mod viewing;
+mod working;
 mod writing;
 
 use command_line::{EXPLAIN, command, without_words};
+use explain::Notes;
 use std::io::IsTerminal;
 use std::process::ExitCode;
 use std::{env, io};
+use terminal::Shown;
 
 fn main(rt: HostRuntime) -> ExitCode {
     let status = match words(&rt) {
-        Ok(words) => command(
-            &rt,
-            words.as_slice(),
-            &mut rt.stdin(),
-            &mut rt.stdout(),
-            &mut rt.stderr(),
-        ),
+        Ok(words) => answer(&rt, &words),
         Err(error) => without_words(error, &mut rt.stderr()),
     };
     ExitCode::from(status)
+}
+
+// Does what the words ask for, with the streams of this process.
+fn answer(rt: &HostRuntime, words: &[String]) -> u8 {
+    let mut errors = rt.stderr();
+    let explains = words.iter().any(|word| word.as_str() == EXPLAIN);
+    let notes = Notes::new(&mut errors, explains);
+    let output = rt.stdout();
+    let is_terminal = output.is_terminal();
+    let mut shown = Shown::new(output, is_terminal, notes);
+    command(rt, words, &mut rt.stdin(), &mut shown, &mut rt.stderr())
 }
 
 // The words that the program was called with, its own name first, and `--explain` behind them where

@@ -1,28 +1,32 @@
 //! The words of the command line: which there are, and what they ask for.
 
+mod address;
 mod looking;
+mod paths;
 mod replaying;
 mod serving;
 
 ghost use Rattle.std.specs.Prelude.{◌≡◌, ◌≤◌, false, map, Some, IfOk, MatchResult};
 ghost use Rattle.clap.specs.Words.{FailsBy, fault_of, found_of, rows_of, rule_of, shape_of, subcommand_rows_of};
 ghost use Rattle.clap.specs.Simple.{app_of, with_subcommand};
-ghost use Rattle.rfb.specs.Options.{AreAsked, AreWrong, IsWrongValue};
-ghost use Rattle.rfb.specs.Options.{GivesFormat, GivesNumber, HasBadFormat, HasBadValue, IsTask, asked};
+ghost use Rattle.rfb.specs.Options.{AreOrdered, AreWrong, GivesFiles, IsOrder, IsWrongValue};
+ghost use Rattle.rfb.specs.Options.{GivesFormat, GivesNumber, HasBadFormat, HasBadValue, IsFlagged, IsTask, asked};
 ghost use Rattle.rfb_pixel.specs.Format.{PixelFormat};
 ghost use Rattle.rfb.specs.Words.{IsFormatWord};
-ghost use Rattle.rfb.specs.Options.{format_rule, port_rule};
+ghost use Rattle.rfb.specs.Options.{format_rule, partial_rule, port_rule};
 ghost use Rattle.rfb.specs.Options.{loop_shape, program, script_shape, serve_shape, top, view_shape};
 
 use crate::help::{LANGUAGE, LOOPBACK, STATUSES, VERSION};
 use crate::options::looking::{look_in, view_words};
+pub use crate::options::paths::Paths;
+use crate::options::paths::{paths_in, with_paths};
 use crate::options::replaying::{play_words, replay_in};
 use crate::options::serving::{serve_words, wanted_in};
 use crate::recording::Replay;
 use crate::script::read_format;
 use crate::serving::Wanted;
 use crate::viewing::Look;
-use clap::{Arg, ArgMatches, Command, Error};
+use clap::{Arg, ArgAction, ArgMatches, Command, Error};
 use rfb_pixel::Format;
 use std::alloc::{AllocError, Global};
 use std::convert::AsStr;
@@ -37,9 +41,27 @@ pub enum Task<'a> {
     /// To play a recording.
     Play(Replay),
     /// To serve the test scene.
-    Serve(Wanted),
+    Serve(Wanted<'a>),
     /// To view a server.
     View(Look<'a>),
+}
+
+impl Task<'_> {
+    /// Whether what has come by an early end is wanted.
+    pub fn is_partial(&self) -> bool {
+        match self {
+            Task::Play(replay) => replay.is_partial,
+            Task::View(look) => look.sight.is_partial,
+            Task::Script | Task::Loop | Task::Serve(_) => false,
+        }
+    }
+}
+
+/// What the words ask for, and with which files.
+#[derive(Debug, PartialEq, Eq, Drop)]
+pub struct Order<'a> {
+    pub task: Task<'a>,
+    pub paths: Paths<'a>,
 }
 
 /// A word that no value of its option is.
@@ -49,6 +71,12 @@ pub enum BadValue<'a> {
     Format(&'a str),
     /// No list of one to four encodings.
     Encodings,
+    /// No name of a server.
+    Server(&'a str),
+    /// Two servers: one by its name, and one by a host or a port.
+    Servers,
+    /// No server at all.
+    NoServer,
 }
 
 /// Why words ask for no task.
@@ -61,12 +89,12 @@ pub enum WrongWords<'a> {
 }
 
 /// What the words ask for.
-pub fn read_words<'a, S: AsStr>(alloc: Global, words: &'a [S]) -> Result<Task<'a>, WrongWords<'a>>
-    ensures { MatchResult result (AreAsked (map S.text words.now))
+pub fn read_words<'a, S: AsStr>(alloc: Global, words: &'a [S]) -> Result<Order<'a>, WrongWords<'a>>
+    ensures { MatchResult result (AreOrdered (map S.text words.now))
         (AreWrong (map S.text words.now)) }
 {
     match parse(alloc, words) {
-        Ok(matches) => task_in(&matches),
+        Ok(matches) => order_in(&matches),
         Err(error) => Err(WrongWords::Words(error)),
     }
 }
@@ -107,8 +135,8 @@ fn with_scripts<'a>(alloc: Global, command: Command<'a>) -> Result<Command<'a>, 
         ≡ with_subcommand (with_subcommand (app_of command.entry) script_shape) loop_shape) }
 {
     command
-        .subcommand(script_words(alloc))?
-        .subcommand(loop_words(alloc))
+        .subcommand(script_words(alloc)?)?
+        .subcommand(loop_words(alloc)?)
 }
 
 // Adds the commands that are one end, with a peer of another process.
@@ -122,21 +150,23 @@ fn with_peers<'a>(alloc: Global, command: Command<'a>) -> Result<Command<'a>, Al
 }
 
 // The words of `script`.
-fn script_words<'a>(alloc: Global) -> Command<'a>
-    ensures { shape_of result ≡ script_shape }
+fn script_words<'a>(alloc: Global) -> Result<Command<'a>, AllocError>
+    ensures { IfOk result (λ command. shape_of command ≡ script_shape) }
 {
-    Command::new(alloc, "script")
+    let command = Command::new(alloc, "script")
         .about("Runs a script from standard input, and writes the viewer's picture as PPM")
-        .after_help(LANGUAGE)
+        .after_help(LANGUAGE);
+    with_paths(alloc, command)
 }
 
 // The words of `loop`.
-fn loop_words<'a>(alloc: Global) -> Command<'a>
-    ensures { shape_of result ≡ loop_shape }
+fn loop_words<'a>(alloc: Global) -> Result<Command<'a>, AllocError>
+    ensures { IfOk result (λ command. shape_of command ≡ loop_shape) }
 {
-    Command::new(alloc, "loop")
+    let command = Command::new(alloc, "loop")
         .about("Runs a script as `script` does, and delivers its bytes through a connection")
-        .after_help(LOOPBACK)
+        .after_help(LOOPBACK);
+    with_paths(alloc, command)
 }
 
 // The word of a port.
@@ -164,14 +194,41 @@ fn format_word<'a>(alloc: Global) -> Arg<'a>
         .help("The format of pixels, from the first update on: rgb888, rgb565, bgr233 or rgb101010")
 }
 
+// The word that asks for what has come by an early end.
+fn partial_word<'a>(alloc: Global) -> Arg<'a>
+    ensures rule { rule_of result ≡ partial_rule }
+    ensures local { result.global ≡ false }
+{
+    Arg::new(alloc, "partial")
+        .long("partial")
+        .action(ArgAction::SetTrue)
+        .help("Writes the picture of what has come by an early end, too; the status is 1 then")
+}
+
 // What the words ask for, once they are parsed.
-fn task_in<'a>(matches: &ArgMatches<'a>) -> Result<Task<'a>, WrongWords<'a>>
-    ensures { MatchResult result (IsTask (subcommand_rows_of matches.now))
+fn order_in<'a>(matches: &ArgMatches<'a>) -> Result<Order<'a>, WrongWords<'a>>
+    ensures { MatchResult result (IsOrder (subcommand_rows_of matches.now))
         (IsWrongValue (subcommand_rows_of matches.now)) }
 {
     match task_of(matches) {
-        Ok(task) => Ok(task),
+        Ok(task) => Ok(Order {
+            task,
+            paths: paths_of(matches),
+        }),
         Err(value) => Err(WrongWords::Value(value)),
+    }
+}
+
+// The files of the command that is named.
+fn paths_of<'a>(matches: &ArgMatches<'a>) -> Paths<'a>
+    ensures { GivesFiles (subcommand_rows_of matches.now) result }
+{
+    match matches.subcommand() {
+        Some((_name, given)) => paths_in(given),
+        None => Paths {
+            input: None,
+            output: None,
+        },
     }
 }
 
@@ -211,6 +268,13 @@ fn command_of<'a>(name: &str, given: &ArgMatches<'a>) -> Result<Task<'a>, BadVal
         };
     }
     Ok(Task::Script)
+}
+
+// Whether a word that may be given is.
+fn is_given(given: &ArgMatches<'_>, name: &str) -> bool
+    ensures { IsFlagged name.now (rows_of (found_of given.now)) result }
+{
+    given.get_flag(name)
 }
 
 // The format that is given, or else rgb888.

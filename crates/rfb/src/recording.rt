@@ -1,10 +1,11 @@
 //! Recordings of a server, played to a viewer.
 
-ghost use Rattle.std.specs.Prelude.{◌≡◌, ◌≤◌, ◌⊎◌, Err, IfOk, IfErr, IfSome, OnOk, OnErr};
+ghost use Rattle.std.specs.Prelude.{◌≡◌, ◌≤◌, ◌⊎◌, false, Err, IfOk, IfErr, IfSome, OnOk, OnErr};
 ghost use Rattle.rfb.specs.declared.fault.Fault.{Fault};
 ghost use Rattle.rfb_session.specs.declared.engine.fault.EngineFault.{EngineFault};
 ghost use Rattle.rfb.specs.declared.fault.Failure.TheVariants as Failure;
 ghost use Rattle.rfb.specs.Recording.{BeginsPicture, FailsToPlay, LeavesRecording, PlaysRecording};
+ghost use Rattle.rfb.specs.Recording.{EndsShown, MayWritePicture, is_end, shows_end};
 ghost use Rattle.rfb.specs.Recording.{WritesPicture, Watches, StopsWatching};
 ghost use Rattle.rfb.specs.Recording.{WatchesAll, StopsWatchingAll, WatchesSome, StopsWatchingSome};
 
@@ -26,7 +27,8 @@ const RECORDING_ROOM: usize = 16_777_216;
 /// Plays what `input` has, the bytes of a server, to a fresh viewer that takes pixels of
 /// `replay.format`: up to the end of the last of so many updates, or all of it. Then it writes the
 /// picture that the viewer shows. Nothing is written where the viewer or the bytes end with a
-/// fault; then `notes` say why.
+/// fault; then `notes` say why. Only where the bytes end too early, or a read fails, the picture of
+/// all that came is written if it is wanted.
 pub fn play_recording<R: Read, W: Write, E: Write>(
     alloc: Global,
     replay: Replay,
@@ -36,9 +38,10 @@ pub fn play_recording<R: Read, W: Write, E: Write>(
 ) -> Result<(), Failure>
     ensures done { OnOk result (PlaysRecording replay
         (R.remaining input.old) (W.contents output.old) (W.contents output.new)) }
-    ensures stopped { IfErr result (FailsToPlay replay (R.remaining input.old)) }
+    ensures stopped { IfErr result (FailsToPlay replay
+        (R.remaining input.old) (W.contents output.old) (W.contents output.new)) }
     ensures unwritten { (fault : EngineFault) → result ≡ Err (Failure.Engine fault) →
-        output.new ≡ output.old }
+        shows_end replay.is_partial fault ≡ false → output.new ≡ output.old }
     ensures left { OnErr result (LeavesRecording replay
         (R.remaining input.old) (W.contents output.old) (W.contents output.new)) }
 {
@@ -54,7 +57,7 @@ pub fn play_recording<R: Read, W: Write, E: Write>(
         Err(fault) => {
             tell_server(fault, viewer.reason(), &heard, notes);
             tell_place(alloc, replay.format, fault, &heard, notes);
-            Err(Failure::Engine(fault))
+            Err(show_early(&viewer, replay.is_partial, fault, output))
         }
     }
 }
@@ -117,6 +120,50 @@ fn watch_all<R: Read>(input: &mut R, viewer: &mut Viewer) -> Result<u64, EngineF
 {
     let mut source = Tally::new(input);
     rfb_session::play(&mut source, viewer)
+}
+
+/// Behind an engine that ended with this fault, writes the picture of what has come, if that is
+/// wanted and the end is an early one; and answers why the command ends.
+pub fn show_early<W: Write>(
+    viewer: &Viewer,
+    is_wanted: bool,
+    fault: EngineFault,
+    output: &mut W,
+) -> Failure
+    ensures ends { EndsShown is_wanted viewer.now fault
+        (W.contents output.old) (W.contents output.new) result }
+    ensures unwanted { shows_end is_wanted fault ≡ false → output.new ≡ output.old }
+{
+    if is_wanted && is_end(fault) {
+        return match show_part(viewer, output) {
+            Ok(()) => Failure::Engine(fault),
+            Err(own) => Failure::Fault(own),
+        };
+    }
+    Failure::Engine(fault)
+}
+
+// Whether the bytes came to an end, and no viewer did.
+fn is_end(fault: EngineFault) -> bool
+    ensures { result ≡ is_end fault }
+{
+    match fault {
+        EngineFault::Truncated | EngineFault::Device => true,
+        EngineFault::Server(_) | EngineFault::Viewer(_) | EngineFault::NoMemory => false,
+    }
+}
+
+// Writes what a viewer shows, if it shows a picture.
+fn show_part<W: Write>(viewer: &Viewer, output: &mut W) -> Result<(), Fault>
+    ensures done { OnOk result
+        (MayWritePicture viewer.now (W.contents output.old) (W.contents output.new)) }
+    ensures left { OnErr result
+        (BeginsPicture viewer.now (W.contents output.old) (W.contents output.new)) }
+{
+    match viewer.picture() {
+        Some(picture) => write_ppm(picture, output),
+        None => Ok(()),
+    }
 }
 
 /// Writes what a viewer shows. What ends it is a fault of the program's own, and no engine's.

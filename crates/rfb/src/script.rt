@@ -43,6 +43,7 @@ use crate::script::read::{read_screen, read_step, read_viewer};
 pub use hub::line::{HubNumbered, HubStep};
 pub use hub::{HubScript, begins_hub, read_hub_script};
 pub use line::{Numbered, Screen, Step, Wants};
+pub use number::read_number;
 use std::alloc::Global;
 use std::io::Write;
 pub use words::{MAX_SIDE, read_format, read_list};

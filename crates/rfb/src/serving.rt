@@ -10,9 +10,10 @@ ghost use Rattle.rfb.specs.Serving.{ServesFewer, ServesSo};
 ghost use Rattle.rfb.specs.declared.fault.Failure.TheVariants as Failure;
 ghost use Rattle.rfb.specs.declared.fault.Fault.{Fault};
 
-use crate::explain::{Notes, tell_client, tell_unbound};
+use crate::explain::{Notes, tell_bound, tell_client, tell_unbound};
 use crate::fault::Failure;
 use crate::playing::fresh_server;
+use crate::reaching::Timed;
 use crate::scene::TestScene;
 use crate::script::Screen;
 use crate::writing::write_whole;
@@ -25,33 +26,38 @@ use std::net::{Net, OpenListener, OpenStream, SocketAddr, TcpListener};
 
 /// What `serve` is asked for.
 #[derive(Clone, Copy, Debug, PartialEq, Eq)]
-pub struct Wanted {
+pub struct Wanted<'a> {
     pub port: u16,
+    /// The address that is listened on, or its name.
+    pub listen: &'a str,
     pub screen: Screen,
     pub connections: u16,
+    /// A client that sends nothing for so many seconds is let go, if there is a number.
+    pub timeout: Option<u32>,
 }
 
-/// Serves so many connections on a port of 127.0.0.1, one after another. `notes` say how it goes.
+/// Serves so many connections on a port of an address, one after another. `notes` say how it goes.
 pub fn serve_at<N: Net, W: Write, E: Write>(
     net: &N,
     alloc: Global,
-    wanted: Wanted,
+    wanted: Wanted<'_>,
     output: &mut W,
     notes: &mut Notes<'_, E>,
 ) -> Result<(), Failure>
-    ensures done { OnOk result (ServesSo wanted.screen wanted.connections
+    ensures done { OnOk result (ServesSo wanted.entry.screen wanted.entry.connections
         (W.contents output.old) (W.contents output.new)) }
-    ensures stopped { OnErr result (ServesFewer wanted.screen wanted.connections
+    ensures stopped { OnErr result (ServesFewer wanted.entry.screen wanted.entry.connections
         (W.contents output.old) (W.contents output.new)) }
     ensures why { IfErr result (λ failure.
         (fault : Fault) × (failure ≡ Failure.Fault fault)) }
 {
-    match TcpListener::bind(net, ("127.0.0.1", wanted.port)) {
+    match TcpListener::bind(net, (wanted.listen, wanted.port)) {
         Ok(listener) => {
-            let _ = writeln!(notes, "rfb: listening on 127.0.0.1:{}", wanted.port);
+            tell_bound(wanted.listen, wanted.port, notes);
+            let timed = Timed::new(listener, wanted.timeout);
             serve_on(
                 alloc,
-                &listener,
+                &timed,
                 wanted.screen,
                 wanted.connections,
                 output,
@@ -59,7 +65,7 @@ pub fn serve_at<N: Net, W: Write, E: Write>(
             )
         }
         Err(error) => {
-            tell_unbound(wanted.port, &error, notes);
+            tell_unbound(wanted.listen, wanted.port, &error, notes);
             Err(Failure::from(error))
         }
     }

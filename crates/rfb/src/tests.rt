@@ -3,6 +3,7 @@
 mod calls;
 mod devices;
 mod explain;
+mod files;
 mod hub_lines;
 mod hub_refusals;
 mod hubs;

@@ -4,6 +4,7 @@ ghost use Rattle.std.specs.Prelude.{◌≡◌, ◌≤◌, false, None, Err, IfOk
 ghost use Rattle.rfb_session.specs.declared.engine.fault.EngineFault.{EngineFault};
 ghost use Rattle.rfb.specs.declared.fault.Failure.TheVariants as Failure;
 ghost use Rattle.rfb.specs.Viewing.{FailsToView, FailsToViewSome, Saw, StopsSeeing, StopsView};
+ghost use Rattle.rfb.specs.Recording.{shows_end};
 ghost use Rattle.rfb.specs.Viewing.{LeavesSomeView, LeavesView, Views, ViewsSome};
 
 mod look;
@@ -11,19 +12,23 @@ mod look;
 use crate::explain::{Heard, Hearing, Notes, Speaking, tell_server, tell_unreached, tell_unsent};
 use crate::fault::{Failure, Fault};
 use crate::playing::fresh_viewer;
-use crate::recording::show;
+use crate::reaching::{Patient, connect};
+use crate::recording::{show, show_early};
 pub use look::{Look, Sight};
 use rfb_session::{EngineFault, Lent, Sink, Tally, view_recording};
 use rfb_viewer::Viewer;
 use std::alloc::Global;
 use std::io::{Read, Write};
-use std::net::{Net, OpenStream, TcpStream};
+use std::net::{Net, OpenStream};
+use std::time::Clock;
 
 // How many bytes of a server are kept, for what they tell of it.
 const ROOM: usize = 1024;
 
+const ENDLESS: &str = "rfb: it waits as long as it takes: there is no --timeout";
+
 /// Connects to a server, and views it. What is written, and why it fails, is as for `view_on`.
-pub fn view_at<N: Net, W: Write, E: Write>(
+pub fn view_at<N: Net + Clock, W: Write, E: Write>(
     net: &N,
     alloc: Global,
     look: Look<'_>,
@@ -35,12 +40,16 @@ pub fn view_at<N: Net, W: Write, E: Write>(
     ensures stopped { IfErr result (FailsToViewSome look.entry.sight
         (W.contents output.old) (W.contents output.new)) }
     ensures unwritten { look.entry.sight.is_recorded ≡ false → (fault : EngineFault) →
-        result ≡ Err (Failure.Engine fault) → output.new ≡ output.old }
+        result ≡ Err (Failure.Engine fault) →
+        shows_end look.entry.sight.is_partial fault ≡ false → output.new ≡ output.old }
     ensures left { look.entry.sight.is_recorded ≡ false → OnErr result
         (LeavesSomeView look.entry.sight (W.contents output.old) (W.contents output.new)) }
 {
-    match TcpStream::connect(net, (look.host, look.port)) {
-        Ok(stream) => view_on(alloc, stream, look.sight, output, notes),
+    if look.timeout.is_none() {
+        let _ = writeln!(notes, "{ENDLESS}");
+    }
+    match connect(net, look.host, look.port, look.timeout) {
+        Ok(connection) => view_on(alloc, connection, look.sight, output, notes),
         Err(error) => {
             tell_unreached(look.host, look.port, &error, notes);
             Err(Failure::from(error))
@@ -52,9 +61,9 @@ pub fn view_at<N: Net, W: Write, E: Write>(
 /// wanted, and writes the picture that it shows then; or its bytes as they come, if these are
 /// wanted. What is sent goes out at once: the server waits for it. `notes` say how it goes, and why
 /// it fails.
-pub fn view_on<S: Read + Write + OpenStream + Drop, W: Write, E: Write>(
+pub fn view_on<S: Read + Write + OpenStream + Drop, C: Clock, W: Write, E: Write>(
     alloc: Global,
-    stream: S,
+    connection: Patient<'_, S, C>,
     sight: Sight,
     output: &mut W,
     notes: &mut Notes<'_, E>,
@@ -64,18 +73,18 @@ pub fn view_on<S: Read + Write + OpenStream + Drop, W: Write, E: Write>(
     ensures stopped { IfErr result (FailsToViewSome sight
         (W.contents output.old) (W.contents output.new)) }
     ensures unwritten { sight.is_recorded ≡ false → (fault : EngineFault) →
-        result ≡ Err (Failure.Engine fault) → output.new ≡ output.old }
+        result ≡ Err (Failure.Engine fault) → shows_end sight.is_partial fault ≡ false →
+        output.new ≡ output.old }
     ensures left { sight.is_recorded ≡ false → OnErr result
         (LeavesSomeView sight (W.contents output.old) (W.contents output.new)) }
 {
-    let _ = stream.set_nodelay(true);
-    let other = stream.try_clone()?;
-    view_over(alloc, stream, other, sight, output, notes)
+    let other = connection.answering()?;
+    view_over(alloc, connection, other, sight, output, notes)
 }
 
 // Views a server whose bytes come from `reader`, and that is answered on `writer`. Then the picture
 // is written, or its bytes were as they came. Where the viewer or the bytes end with a fault no
-// picture is.
+// picture is; but where the bytes end too early, that of what came is, if it is wanted.
 fn view_over<R: Read + Drop, V: Write + Drop, W: Write, E: Write>(
     alloc: Global,
     reader: R,
@@ -89,13 +98,15 @@ fn view_over<R: Read + Drop, V: Write + Drop, W: Write, E: Write>(
     ensures stopped { IfErr result (FailsToView sight (R.remaining reader) (V.contents writer)
         (W.contents output.old) (W.contents output.new)) }
     ensures unwritten { sight.is_recorded ≡ false → (fault : EngineFault) →
-        result ≡ Err (Failure.Engine fault) → output.new ≡ output.old }
+        result ≡ Err (Failure.Engine fault) → shows_end sight.is_partial fault ≡ false →
+        output.new ≡ output.old }
     ensures left { sight.is_recorded ≡ false → OnErr result
         (LeavesView sight (R.remaining reader) (V.contents writer)
         (W.contents output.old) (W.contents output.new)) }
 {
     let updates = sight.updates;
     let is_recorded = sight.is_recorded;
+    let is_partial = sight.is_partial;
     let mut viewer = fresh_viewer(alloc, sight.wants.format, sight.wants.encodings);
     let room = if notes.are_wanted() { ROOM } else { 0 };
     let mut heard = Heard::new(alloc, room, "connected to");
@@ -114,7 +125,7 @@ fn view_over<R: Read + Drop, V: Write + Drop, W: Write, E: Write>(
         Ok(_updates) => show(&viewer, output),
         Err(fault) => {
             tell_server(fault, viewer.reason(), &heard, notes);
-            Err(Failure::Engine(fault))
+            Err(show_early(&viewer, is_partial, fault, output))
         }
     }
 }

@@ -94,7 +94,10 @@ pub fn tell_client<N: Write>(fault: EngineFault, notes: &mut N) {
     let _ = match fault {
         EngineFault::Server(fault) => tell_server_fault(fault, notes),
         EngineFault::Truncated => writeln!(notes, "rfb: the viewer left inside a message"),
-        EngineFault::Device => writeln!(notes, "rfb: the connection to the viewer broke"),
+        EngineFault::Device => writeln!(
+            notes,
+            "rfb: the connection to the viewer broke, or nothing came in the time of --timeout"
+        ),
         EngineFault::NoMemory => writeln!(notes, "rfb: there is no memory for the viewer"),
         EngineFault::Viewer(_) => Ok(()),
     };

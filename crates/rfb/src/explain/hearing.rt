@@ -78,8 +78,9 @@ impl<W: Write> Write for Speaking<'_, W> {
 
 // Says why a read failed.
 fn tell_read<N: Write>(error: &io::Error, notes: &mut N) {
-    let _ = if error.kind() == ErrorKind::WouldBlock {
-        writeln!(notes, "rfb: nothing came within the time that was given")
+    let kind = error.kind();
+    let _ = if kind == ErrorKind::WouldBlock || kind == ErrorKind::TimedOut {
+        writeln!(notes, "rfb: the time of --timeout is up, and no more came")
     } else {
         writeln!(notes, "rfb: reading failed: {error}")
     };

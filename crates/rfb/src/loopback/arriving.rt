@@ -2,17 +2,14 @@
 
 ghost use Rattle.std.specs.Prelude.{◌≡◌, ◌≢◌, ◌≤◌, ◌++◌, drop, take, IfOk, OnOk};
 ghost use Rattle.rfb_server.specs.declared.fault.ServerFault.TheVariants as ServerFault;
-ghost use Rattle.rfb_server.specs.Told.{seen as seen_by_server};
 ghost use Rattle.rfb_viewer.specs.declared.fault.ViewerFault.TheVariants as ViewerFault;
-ghost use Rattle.rfb_viewer.specs.Told.{seen as seen_by_viewer};
-ghost use Rattle.rfb_session.specs.InFlight.{server_reply as reply_of_server};
-ghost use Rattle.rfb_session.specs.InFlight.{viewer_reply as reply_of_viewer};
 ghost use Rattle.rfb.specs.Delivery.{Hears, ReachesServer, ReachesViewer, Watches, server_end, viewer_end};
 
 use crate::fault::Fault;
 use crate::loopback::link::{Link, PART};
-use rfb_server::{Server, ServerEvent, ServerFault};
-use rfb_viewer::{Viewer, ViewerEvent, ViewerFault};
+use rfb_server::{Server, ServerFault};
+use rfb_session::{server_reply, viewer_reply};
+use rfb_viewer::{Viewer, ViewerFault};
 use std::collections::VecDeque;
 use std::io::{Read, Write};
 
@@ -122,34 +119,5 @@ fn end_of_viewer(fault: ViewerFault) -> Result<(), Fault>
     match fault {
         ViewerFault::NoMemory => Err(Fault::NoMemory),
         _ => Ok(()),
-    }
-}
-
-// The bytes that are sent for what a server tells.
-fn server_reply(event: &Option<ServerEvent>) -> &[u8]
-    ensures { result.now ≡ reply_of_server (seen_by_server event.now) }
-{
-    match event {
-        Some(ServerEvent::Reply(reply)) => reply.as_slice(),
-        Some(ServerEvent::Ready { reply, .. }) => reply.as_slice(),
-        Some(ServerEvent::Key { .. })
-        | Some(ServerEvent::Pointer { .. })
-        | Some(ServerEvent::CutText { .. })
-        | None => &[],
-    }
-}
-
-// The bytes that are sent for what a viewer tells.
-fn viewer_reply(event: &Option<ViewerEvent>) -> &[u8]
-    ensures { result.now ≡ reply_of_viewer (seen_by_viewer event.now) }
-{
-    match event {
-        Some(ViewerEvent::Reply(reply)) => reply.as_slice(),
-        Some(ViewerEvent::Ready { reply, .. }) => reply.as_slice(),
-        Some(ViewerEvent::UpdateDone)
-        | Some(ViewerEvent::Bell)
-        | Some(ViewerEvent::CutText { .. })
-        | Some(ViewerEvent::ColourMapSkipped)
-        | None => &[],
     }
 }

@@ -4,13 +4,16 @@ ghost use Rattle.std.specs.Prelude.{◌≡◌, ◌≤◌, false, codes, List, If
 ghost use Rattle.clap.specs.Words.{found_of, rows_of, rule_of, shape_of};
 ghost use Rattle.clap.specs.Simple.{app_of, with_rule};
 ghost use Rattle.rfb_wire.specs.declared.encoding.Encoding.{Encoding};
-ghost use Rattle.rfb.specs.Options.{encodings_rule, format_rule, host_rule, record_rule, updates_rule, view_shape};
-ghost use Rattle.rfb.specs.Options.{GivesEncodings, GivesHost, GivesLook, GivesNumber, GivesSight, HasBadEncodings, HasBadSight, IsFlagged};
+ghost use Rattle.rfb.specs.Options.{any_port_rule, host_rule, server_rule, view_shape};
+ghost use Rattle.rfb.specs.Options.{encodings_rule, format_rule, output_rule, partial_rule, record_rule, timeout_rule, updates_rule};
+ghost use Rattle.rfb.specs.Options.{GivesEncodings, GivesLook, GivesNumber, GivesSight, HasBadEncodings, HasBadLook, HasBadSight};
 ghost use Rattle.rfb.specs.Words.{AreEncodings, parts_of};
 
 use crate::help::SERVERS;
-use crate::options::replaying::updates_given;
-use crate::options::{BadValue, format_in, format_word, number_in, port_word};
+use crate::options::address::{address_in, any_port_word, host_word, server_word};
+use crate::options::paths::output_word;
+use crate::options::replaying::number_given;
+use crate::options::{BadValue, format_in, format_word, is_given, partial_word};
 use crate::playing::only_raw;
 use crate::script::{Wants, read_list};
 use crate::viewing::{Look, Sight};
@@ -19,19 +22,26 @@ use clap::{Arg, ArgAction, ArgMatches, Command};
 use rfb_wire::Encoding;
 use std::alloc::{AllocError, Global};
 
-const LOOPBACK: &str = "127.0.0.1";
-
 /// The words of `view`.
 pub fn view_words<'a>(alloc: Global) -> Result<Command<'a>, AllocError>
     ensures { IfOk result (λ command. shape_of command ≡ view_shape) }
 {
     let command = Command::new(alloc, "view")
         .about("Views a server, and writes the picture that it shows as PPM")
-        .after_help(SERVERS)
+        .after_help(SERVERS);
+    let server = with_server(alloc, command)?.arg(updates_word(alloc))?;
+    with_patience(alloc, with_sight(alloc, server)?)
+}
+
+// Adds which server it is.
+fn with_server<'a>(alloc: Global, command: Command<'a>) -> Result<Command<'a>, AllocError>
+    ensures { IfOk result (λ more. app_of more ≡ with_rule (with_rule
+        (with_rule (app_of command.entry) server_rule) host_rule) any_port_rule) }
+{
+    command
+        .arg(server_word(alloc))?
         .arg(host_word(alloc))?
-        .arg(port_word(alloc))?
-        .arg(updates_word(alloc))?;
-    with_sight(alloc, command)
+        .arg(any_port_word(alloc))
 }
 
 // Adds what is to be seen of the server, and how.
@@ -45,16 +55,27 @@ fn with_sight<'a>(alloc: Global, command: Command<'a>) -> Result<Command<'a>, Al
         .arg(record_word(alloc))
 }
 
-// The word of a host.
-fn host_word<'a>(alloc: Global) -> Arg<'a>
-    ensures rule { rule_of result ≡ host_rule }
+// Adds how long it waits, what it writes then, and where.
+fn with_patience<'a>(alloc: Global, command: Command<'a>) -> Result<Command<'a>, AllocError>
+    ensures { IfOk result (λ more. app_of more ≡ with_rule (with_rule
+        (with_rule (app_of command.entry) timeout_rule) partial_rule) output_rule) }
+{
+    command
+        .arg(timeout_word(alloc))?
+        .arg(partial_word(alloc))?
+        .arg(output_word(alloc))
+}
+
+// The word of a time.
+fn timeout_word<'a>(alloc: Global) -> Arg<'a>
+    ensures rule { rule_of result ≡ timeout_rule }
     ensures local { result.global ≡ false }
 {
-    Arg::new(alloc, "host")
-        .long("host")
-        .value_name("H")
-        .default_value(LOOPBACK)
-        .help("The name or the address of the server")
+    Arg::new(alloc, "timeout")
+        .long("timeout")
+        .value_name("S")
+        .value_parser(clap::value_parser!(u32).range(1..))
+        .help("After so many seconds it ends, 1 to 4294967295; without it, it waits")
 }
 
 // The word of how many updates are viewed.
@@ -96,12 +117,17 @@ fn record_word<'a>(alloc: Global) -> Arg<'a>
 /// The server that is to be viewed, and what is to be seen of it.
 pub fn look_in<'a>(given: &ArgMatches<'a>) -> Result<Look<'a>, BadValue<'a>>
     ensures { MatchResult result (GivesLook (rows_of (found_of given.now)))
-        (λ _. HasBadSight (rows_of (found_of given.now))) }
+        (λ _. HasBadLook (rows_of (found_of given.now))) }
 {
+    let address = match address_in(given) {
+        Ok(address) => address,
+        Err(value) => return Err(value),
+    };
     match sight_in(given) {
         Ok(sight) => Ok(Look {
-            host: host_in(given),
-            port: number_in(given, "port", 1, u16::MAX),
+            host: address.host,
+            port: address.port,
+            timeout: number_given(given, "timeout"),
             sight,
         }),
         Err(value) => Err(value),
@@ -121,19 +147,10 @@ fn sight_in<'a>(given: &ArgMatches<'a>) -> Result<Sight, BadValue<'a>>
         Ok(encodings) => Ok(Sight {
             wants: Wants { format, encodings },
             updates: updates_in(given),
-            is_recorded: is_recorded(given),
+            is_recorded: is_given(given, "record"),
+            is_partial: is_given(given, "partial"),
         }),
         Err(value) => Err(value),
-    }
-}
-
-// The host that is given, or else the loopback address.
-fn host_in<'a>(given: &ArgMatches<'a>) -> &'a str
-    ensures { GivesHost (rows_of (found_of given.now)) result.now }
-{
-    match given.get_str("host") {
-        Some(host) => host,
-        None => LOOPBACK,
     }
 }
 
@@ -143,17 +160,10 @@ fn updates_in(given: &ArgMatches<'_>) -> u32
         result }
     ensures some { 1 ≤ result }
 {
-    match updates_given(given) {
+    match number_given(given, "updates") {
         Some(number) => number,
         None => 1,
     }
-}
-
-// Whether the server's bytes are wanted.
-fn is_recorded(given: &ArgMatches<'_>) -> bool
-    ensures { IsFlagged (codes "record") (rows_of (found_of given.now)) result }
-{
-    given.get_flag("record")
 }
 
 // The encodings that are given, or else Raw.

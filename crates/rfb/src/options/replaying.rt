@@ -1,12 +1,13 @@
-//! The words of `play`, and how many updates words ask for.
+//! The words of `play`, and numbers that words may ask for.
 
-ghost use Rattle.std.specs.Prelude.{◌≡◌, ◌≤◌, false, codes, IfOk, IfSome, MatchResult};
+ghost use Rattle.std.specs.Prelude.{◌≡◌, ◌≤◌, false, IfOk, IfSome, MatchResult};
 ghost use Rattle.clap.specs.Words.{found_of, rows_of, rule_of, shape_of};
 ghost use Rattle.rfb.specs.Options.{first_updates_rule, play_shape};
 ghost use Rattle.rfb.specs.Options.{GivesReplay, HasBadFormat, MayGiveNumber};
 
 use crate::help::RECORDINGS;
-use crate::options::{BadValue, format_in, format_word};
+use crate::options::paths::with_paths;
+use crate::options::{BadValue, format_in, format_word, is_given, partial_word};
 use crate::recording::Replay;
 use clap::{Arg, ArgMatches, Command};
 use std::alloc::{AllocError, Global};
@@ -15,11 +16,13 @@ use std::alloc::{AllocError, Global};
 pub fn play_words<'a>(alloc: Global) -> Result<Command<'a>, AllocError>
     ensures { IfOk result (λ command. shape_of command ≡ play_shape) }
 {
-    Command::new(alloc, "play")
+    let command = Command::new(alloc, "play")
         .about("Plays a server's bytes from standard input, and writes the last picture as PPM")
         .after_help(RECORDINGS)
         .arg(format_word(alloc))?
-        .arg(first_updates_word(alloc))
+        .arg(first_updates_word(alloc))?
+        .arg(partial_word(alloc))?;
+    with_paths(alloc, command)
 }
 
 // The word of how many updates are played.
@@ -42,19 +45,19 @@ pub fn replay_in<'a>(given: &ArgMatches<'a>) -> Result<Replay, BadValue<'a>>
     match format_in(given) {
         Ok(format) => Ok(Replay {
             format,
-            updates: updates_given(given),
+            updates: number_given(given, "updates"),
+            is_partial: is_given(given, "partial"),
         }),
         Err(value) => Err(value),
     }
 }
 
-/// How many updates are asked for, if a number is given.
-pub fn updates_given(given: &ArgMatches<'_>) -> Option<u32>
-    ensures number { MayGiveNumber (codes "updates") 1 4294967295
-        (rows_of (found_of given.now)) result }
+/// The number that is asked for, if one is given.
+pub fn number_given(given: &ArgMatches<'_>, name: &str) -> Option<u32>
+    ensures number { MayGiveNumber name.now 1 4294967295 (rows_of (found_of given.now)) result }
     ensures some { IfSome result (λ count. 1 ≤ count) }
 {
-    match given.get_one::<u32>("updates") {
+    match given.get_one::<u32>(name) {
         Some(number) => Some(at_least_one(number)),
         None => None,
     }

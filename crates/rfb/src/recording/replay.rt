@@ -12,5 +12,7 @@ pub struct Replay {
     /// After so many updates it ends. Without a number, or where the recording has fewer, it ends
     /// with the recording.
     pub updates: Option<u32>,
+    /// Where the recording ends too early, the picture of what it has is written all the same.
+    pub is_partial: bool,
     ghost some: { IfSome updates (λ count. 1 ≤ count) } by { Prim.hlevel props },
 }

@@ -1,6 +1,6 @@
 //! What the words of a command ask for.
 
-use crate::options::{Task, read_words};
+use crate::options::{Order, Paths, Task, read_words};
 use crate::playing::only_raw;
 use crate::recording::Replay;
 use crate::script::{Screen, Wants};
@@ -12,6 +12,11 @@ use rfb_wire::Encoding;
 
 // What these words ask for, if it is something.
 fn task<'a>(rt: &HostRuntime, words: &'a [&'a str]) -> Option<Task<'a>> {
+    Some(order(rt, words)?.task)
+}
+
+// The same with its files.
+fn order<'a>(rt: &HostRuntime, words: &'a [&'a str]) -> Option<Order<'a>> {
     read_words(rt.alloc(), words).ok()
 }
 
@@ -33,6 +38,7 @@ fn a_recording_is_played_in_a_format_and_whole_or_in_part(rt: HostRuntime) {
             Replay {
                 format: Format::rgb888(),
                 updates: None,
+                is_partial: false,
             },
         ),
         (
@@ -40,6 +46,7 @@ fn a_recording_is_played_in_a_format_and_whole_or_in_part(rt: HostRuntime) {
             Replay {
                 format: Format::rgb565(),
                 updates: None,
+                is_partial: false,
             },
         ),
         (
@@ -47,13 +54,15 @@ fn a_recording_is_played_in_a_format_and_whole_or_in_part(rt: HostRuntime) {
             Replay {
                 format: Format::bgr233(),
                 updates: Some(1),
+                is_partial: false,
             },
         ),
         (
-            ["rfb", "play", "--updates=4294967295"].as_slice(),
+            ["rfb", "play", "--updates=4294967295", "--partial"].as_slice(),
             Replay {
                 format: Format::rgb888(),
                 updates: Some(u32::MAX),
+                is_partial: true,
             },
         ),
     ] {
@@ -102,11 +111,25 @@ fn numbers_may_be_the_least_and_the_greatest(rt: HostRuntime) {
         let wanted = Wanted {
             port,
             screen: Screen { width, height },
+            listen: "127.0.0.1",
             connections,
+            timeout: None,
         };
         let given = task(&rt, &all[..2 + count]);
         assert_eq!(rt; given, Some(Task::Serve(wanted)), "{words:?}");
     }
+    let words = ["rfb", "serve", "--port=9", "--timeout=7", "--listen=::"];
+    let wanted = Wanted {
+        port: 9,
+        listen: "::",
+        screen: Screen {
+            width: 64,
+            height: 64,
+        },
+        connections: 1,
+        timeout: Some(7),
+    };
+    assert_eq!(rt; task(&rt, words.as_slice()), Some(Task::Serve(wanted)));
 }
 
 // Of a server on this machine, the first update in Raw at rgb888.
@@ -121,16 +144,18 @@ fn a_view_of_a_port_has_defaults(rt: HostRuntime) {
         },
         updates: 1,
         is_recorded: false,
+        is_partial: false,
     };
     let look = Look {
         host: "127.0.0.1",
         port: 9,
+        timeout: None,
         sight,
     };
     assert_eq!(rt; task(&rt, LEAST.as_slice()), Some(Task::View(look)));
 }
 
-const MOST: [&str; 11] = [
+const MOST: [&str; 13] = [
     "rfb",
     "view",
     "--port=65535",
@@ -142,6 +167,8 @@ const MOST: [&str; 11] = [
     "--encodings",
     "hextile,raw,hextile,copyrect",
     "--record",
+    "--partial",
+    "--timeout=4294967295",
 ];
 
 #[test]
@@ -158,11 +185,76 @@ fn a_view_has_all_that_is_given(rt: HostRuntime) {
         },
         updates: u32::MAX,
         is_recorded: true,
+        is_partial: true,
     };
     let look = Look {
         host: "::1",
         port: 65_535,
+        timeout: Some(u32::MAX),
         sight,
     };
     assert_eq!(rt; task(&rt, MOST.as_slice()), Some(Task::View(look)));
+}
+
+#[test]
+fn files_may_stand_in_place_of_standard_input_and_output(rt: HostRuntime) {
+    let none = Paths {
+        input: None,
+        output: None,
+    };
+    let both = Paths {
+        input: Some("a.script"),
+        output: Some("b.ppm"),
+    };
+    let output = Paths {
+        input: None,
+        output: Some("-"),
+    };
+    for (words, paths) in [
+        (["rfb", "script"].as_slice(), none),
+        (["rfb", "serve", "--port", "9"].as_slice(), none),
+        (
+            ["rfb", "script", "-i", "a.script", "-o", "b.ppm"].as_slice(),
+            both,
+        ),
+        (
+            ["rfb", "loop", "--output=b.ppm", "-ia.script"].as_slice(),
+            both,
+        ),
+        (
+            ["rfb", "play", "-o=b.ppm", "--input", "a.script"].as_slice(),
+            both,
+        ),
+        (
+            ["rfb", "view", "--port", "9", "--output", "-"].as_slice(),
+            output,
+        ),
+    ] {
+        let order = order(&rt, words);
+        assert!(rt;
+            order.is_some_and(|order| order.paths == paths),
+            "{words:?}"
+        );
+    }
+}
+
+#[test]
+fn a_server_is_named_by_a_word_or_by_its_host_and_its_port(rt: HostRuntime) {
+    for (words, host, port) in [
+        (["rfb", "view", "a"].as_slice(), "a", 5900),
+        (["rfb", "view", "a.b:0"].as_slice(), "a.b", 5900),
+        (["rfb", "view", "a:99"].as_slice(), "a", 5999),
+        (["rfb", "view", ":1"].as_slice(), "127.0.0.1", 5901),
+        (["rfb", "view", "a::65535"].as_slice(), "a", 65_535),
+        (["rfb", "view", "::1"].as_slice(), "127.0.0.1", 1),
+        (["rfb", "view", "--host", "::1"].as_slice(), "::1", 5900),
+        (["rfb", "view", "--host=a", "--port=7"].as_slice(), "a", 7),
+    ] {
+        let Some(Task::View(look)) = task(&rt, words) else {
+            assert!(rt; false, "{words:?}");
+            return;
+        };
+        assert_eq!(rt; look.host, host, "{words:?}");
+        assert_eq!(rt; look.port, port, "{words:?}");
+    }
 }

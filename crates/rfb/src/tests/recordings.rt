@@ -61,6 +61,37 @@ fn a_recording_that_ends_inside_a_message_is_truncated(rt: HostRuntime) {
 }
 
 #[test]
+fn what_a_recording_has_by_an_early_end_is_shown_if_it_is_wanted(rt: HostRuntime) {
+    let words = ["rfb", "play", "--partial"];
+    for (count, picture) in [
+        (SERVER.len(), PICTURE),
+        // One whole pixel of the two.
+        (65, b"P6\n2 1\n65535\n\0\0\0\0\0\0\0\0\0\0\0\0".as_slice()),
+        // The size of the screen is not there.
+        (36, b"".as_slice()),
+    ] {
+        let is_whole = count == SERVER.len();
+        let (status, told) = if is_whole {
+            (0, b"".as_slice())
+        } else {
+            (1, b"fault 28 Truncated\n".as_slice())
+        };
+        let ended = call(&rt, words.as_slice(), &SERVER[..count]);
+        assert!(rt; ended.is(status, picture, told), "{count}");
+        let failed = call_on_failing_input(
+            &rt,
+            words.as_slice(),
+            &SERVER[..count],
+            ErrorKind::Other,
+        );
+        assert!(rt; failed.is(1, picture, b"fault 29 Device\n"), "{count}");
+    }
+    // A server's fault is no early end.
+    let ended = call_all(&rt, words.as_slice(), &[SERVER, b"\xFF"]);
+    assert!(rt; ended.is_ok_and(|ended| ended.is(1, b"", b"fault 7 UnknownMessage\n")));
+}
+
+#[test]
 fn a_failing_read_ends_a_recording(rt: HostRuntime) {
     for (count, kind) in [
         (0, ErrorKind::Other),

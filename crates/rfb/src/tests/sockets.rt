@@ -2,6 +2,7 @@
 
 use super::calls::call;
 use super::streams::{CLIENT, SERVER};
+use crate::reaching::Timed;
 use crate::script::Screen;
 use crate::serving::serve_on;
 use std::io;
@@ -65,5 +66,19 @@ ok 1
             .as_slice()
     );
     drop((silent, garbage, cut, unknown, whole));
+    Ok(())
+}
+
+#[test]
+fn a_viewer_that_sends_nothing_in_time_is_let_go(rt: HostRuntime) -> Result<(), Fail> {
+    let listener = TcpListener::bind(&rt, ("127.0.0.1", 0))?;
+    let silent = TcpStream::connect(&rt, listener.local_addr()?)?;
+    let timed = Timed::new(listener, Some(1));
+    let mut lines = Vec::new(rt.alloc());
+    let mut told = Vec::new(rt.alloc());
+    let served = serve_on(rt.alloc(), &timed, TWO_PLACES, 1, &mut lines, &mut told);
+    assert!(rt; served.is_ok());
+    assert_eq!(rt; lines.as_slice(), b"fault 29 Device\n".as_slice());
+    drop(silent);
     Ok(())
 }

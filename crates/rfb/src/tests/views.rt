@@ -4,6 +4,7 @@ use super::calls::call;
 use super::streams::{PICTURE, REQUESTS, SERVER};
 use crate::explain::Notes;
 use crate::playing::only_raw;
+use crate::reaching::{Deadline, Patient};
 use crate::script::Wants;
 use crate::viewing::{Sight, view_on};
 use rfb_pixel::Format;
@@ -30,6 +31,7 @@ fn sight(is_recorded: bool) -> Sight {
         },
         updates: 1,
         is_recorded,
+        is_partial: false,
     }
 }
 
@@ -44,7 +46,8 @@ fn view(rt: &HostRuntime, bytes: &[u8], is_recorded: bool) -> io::Result<Seen> {
     let mut told = Vec::new(rt.alloc());
     let mut notes = Notes::new(&mut told, true);
     let seen = sight(is_recorded);
-    let ended = match view_on(rt.alloc(), viewer, seen, &mut output, &mut notes) {
+    let endless = Patient::new(viewer, Deadline::new(rt, None)?);
+    let ended = match view_on(rt.alloc(), endless, seen, &mut output, &mut notes) {
         Ok(()) => format!(in rt.alloc(); "ok")?,
         Err(failure) => format!(in rt.alloc(); "{failure}")?,
     };

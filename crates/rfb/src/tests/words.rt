@@ -5,7 +5,7 @@ use crate::command_line::without_words;
 use std::io;
 use std::io::ErrorKind;
 
-const BAD_WORDS: [&[&str]; 31] = [
+const BAD_WORDS: [&[&str]; 50] = [
     &[],
     &["rfb"],
     &["rfb", "scrip"],
@@ -32,11 +32,30 @@ const BAD_WORDS: [&[&str]; 31] = [
     &["rfb", "serve", "--port", "9", "--connections", "0"],
     &["rfb", "serve", "--port", "9", "--connections", "65536"],
     &["rfb", "serve", "--port", "nine"],
+    &["rfb", "serve", "--port", "9", "--timeout", "0"],
     &["rfb", "view"],
     &["rfb", "view", "--port", "0"],
     &["rfb", "view", "--port", "9", "--updates", "0"],
     &["rfb", "view", "--port", "9", "--updates", "4294967296"],
     &["rfb", "view", "--port", "9", "--format", "bgr101010"],
+    &["rfb", "view", "--port", "9", "--timeout", "0"],
+    &["rfb", "view", "--port", "9", "--timeout", "0.5"],
+    &["rfb", "play", "--partial", "yes"],
+    &["rfb", "view", "a:"],
+    &["rfb", "view", "a:100"],
+    &["rfb", "view", "a:one"],
+    &["rfb", "view", "a::0"],
+    &["rfb", "view", "a::65536"],
+    &["rfb", "view", "[::1]"],
+    &["rfb", "view", "a", "b"],
+    &["rfb", "view", "a", "--port", "9"],
+    &["rfb", "view", "a:1", "--host", "b"],
+    &["rfb", "faults"],
+    &["rfb", "help", "fault"],
+    &["rfb", "help", "faults", "1"],
+    &["rfb", "play", "-i"],
+    &["rfb", "script", "-i", "a", "-i", "b"],
+    &["rfb", "serve", "--port", "9", "-o", "a"],
 ];
 
 // Lists of encodings, none of which is one.

@@ -10,6 +10,8 @@ pub struct Look<'a> {
     /// A name or an address.
     pub host: &'a str,
     pub port: u16,
+    /// After so many seconds waiting ends, if there is a number.
+    pub timeout: Option<u32>,
     pub sight: Sight,
 }
 
@@ -21,5 +23,8 @@ pub struct Sight {
     pub updates: u32,
     /// The server's bytes are written as they come, in place of the picture.
     pub is_recorded: bool,
+    /// Where waiting or the server's bytes end too early, the picture of what came is written all
+    /// the same.
+    pub is_partial: bool,
     ghost some: { 1 ≤ updates },
 }

@@ -1,7 +1,11 @@
-use Rattle.std.proofs.Common.{◌∙◌, ap}
-use Rattle.clap.specs.Simple.{App, shape_of_fields}
+use Rattle.std.proofs.Common.{◌≡◌, ◌∙◌, ap, codes}
+use Rattle.std.proofs.lemmas.Result.{IfOk-weaker}
+use Rattle.clap.specs.Simple.{App, app_of, app_of_fields, new_app}
+use Rattle.rfb.specs.Options.{with_paths}
 use Rattle.rfb.proofs.options.script_words.Goals as goal
 
 pub returns : goal.returns
 returns c =
-    ap shape_of_fields c.after_help.ensures ∙ ap shape_of_fields c.about.ensures ∙ ap (λ (a : App). a.top) c.new.ensures.app
+    let old : app_of c.after_help-command.result ≡ new_app (codes "script") =
+    ap app_of_fields c.after_help-command.ensures ∙ ap app_of_fields c.about.ensures ∙ c.new.ensures.app in
+    IfOk-weaker c.with_paths.result _ _ (λ r more. ap (λ (a : App). a.top) (more ∙ ap with_paths old)) c.with_paths.ensures

@@ -11,5 +11,5 @@ is_plain s = s.is_plain
 pub returns : goal.returns
 returns c =
     let one : app_of c.in_ok-subcommand.field-0 ≡ with_subcommand (app_of c.args.command) script_shape =
-    c.in_ok-subcommand.ensures.shape (no_globals _ _ _ _ (ap is_plain c.script_words.ensures)) ∙ ap (with_subcommand (app_of c.args.command)) c.script_words.ensures in
-    IfOk-weaker c.subcommand-2.result _ _ (λ r adds. adds.shape (no_globals _ _ _ _ (ap is_plain c.loop_words.ensures)) ∙ ap₂ with_subcommand one c.loop_words.ensures) c.subcommand-2.ensures
+    c.in_ok-subcommand.ensures.shape (no_globals _ _ _ _ (ap is_plain c.in_ok-script_words.ensures)) ∙ ap (with_subcommand (app_of c.args.command)) c.in_ok-script_words.ensures in
+    IfOk-weaker c.subcommand-2.result _ _ (λ r adds. adds.shape (no_globals _ _ _ _ (ap is_plain c.in_ok-loop_words.ensures)) ∙ ap₂ with_subcommand one c.in_ok-loop_words.ensures) c.subcommand-2.ensures

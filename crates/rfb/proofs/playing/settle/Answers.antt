@@ -1,6 +1,6 @@
 use Rattle.std.proofs.Common.{[], ◌∷◌, refl, arith}
 use Rattle.rfb_session.specs.declared.event.Event.TheVariants.{ToServer, ToViewer}
-use Rattle.rfb_session.proofs.RunLemmas.{run_none}
+use Rattle.rfb_session.proofs.RunLaws.{run_none}
 use Rattle.rfb.proofs.PlayingLemmas.{eight_turns, turn_more}
 use Rattle.rfb.proofs.playing.settle.Goals as goal
 

@@ -1,7 +1,7 @@
 -- So many turns led to this world.
 use Rattle.rfb.specs.Playing.{deliveries}
 use Rattle.rfb_session.specs.World.{Reaches}
-use Rattle.rfb_session.proofs.RunLemmas.{Any}
+use Rattle.rfb_session.proofs.RunLaws.{Any}
 use Rattle.rfb.proofs.playing.settle.Given as goal
 
 abbrev pub invariant-loop-turn : goal.invariant-loop-turn

@@ -1,7 +1,7 @@
 use Rattle.std.proofs.Common.{◌≡◌, ◌+◌, ◌∙◌, ◌∷◌, [], ◌++◌, List, ap, subst, sym, take, arith}
 use Rattle.std.proofs.lemmas.List.{take_all, take_more}
 use Rattle.rfb_session.specs.World.{Reaches}
-use Rattle.rfb_session.proofs.RunLemmas.{Any, run_none}
+use Rattle.rfb_session.proofs.RunLaws.{Any, run_none}
 use Rattle.rfb.specs.declared.script.line.Numbered.{Numbered}
 use Rattle.rfb.specs.Playing.{all_events}
 use Rattle.rfb.proofs.PlayingLemmas.{step_more}

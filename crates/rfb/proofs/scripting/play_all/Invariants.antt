@@ -1,7 +1,7 @@
 -- The steps so far led to this world.
 use Rattle.std.proofs.Common.{take}
 use Rattle.rfb_session.specs.World.{Reaches}
-use Rattle.rfb_session.proofs.RunLemmas.{Any}
+use Rattle.rfb_session.proofs.RunLaws.{Any}
 use Rattle.rfb.specs.Playing.{all_events}
 use Rattle.rfb.proofs.scripting.play_all.Given as goal
 

@@ -10,7 +10,7 @@ use Rattle.rfb.specs.declared.script.line.Wants.{Wants}
 use Rattle.rfb.specs.CommandLine.{LeavesPlayed, LeavesScript, PlaysAny}
 use Rattle.rfb.specs.Playing.{IsPlayed}
 use Rattle.rfb.specs.Script.{AreScript, StopsReading, lines_of}
-use Rattle.rfb_session.proofs.WrittenLemmas.{on_err}
+use Rattle.rfb_session.proofs.WrittenLaws.{on_err}
 use Rattle.rfb.specs.HubScript.{AreHubScript, StopsReadingHub}
 use Rattle.rfb.proofs.HubScriptingLemmas.{fails_any, hub_left, hub_plays, stops_hub, stops_plain}
 use Rattle.rfb.proofs.MadeLemmas.{made}

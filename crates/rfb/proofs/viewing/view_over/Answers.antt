@@ -1,4 +1,7 @@
-use Rattle.rfb.proofs.ViewingLemmas.{fails_recorded, fails_seeing, fails_shown, leaves_shown, never_recorded, views_recorded, views_shown}
+use Rattle.std.proofs.Common.{◌∙◌, ap, sym}
+use Rattle.rfb.specs.Recording.{shows_end}
+use Rattle.rfb.proofs.RecordingLemmas.{begins_early, ends_same}
+use Rattle.rfb.proofs.ViewingLemmas.{fails_recorded, fails_seeing, fails_shown, leaves_seeing, leaves_shown, never_recorded, views_recorded, views_shown}
 use Rattle.rfb.proofs.viewing.view_over.Goals as goal
 
 pub returns-then-is_recorded-clause-done : goal.returns-then-is_recorded-clause-done
@@ -26,4 +29,16 @@ returns-in-Ok-clause-left g c = λ not.
 
 pub returns-clause-stopped : goal.returns-clause-stopped
 returns-clause-stopped g c =
-    fails_seeing c.args.sight _ _ _ _ c.fresh_viewer-viewer.result c.watch_heard.new.viewer c.in-Err.fault c.fresh_viewer-viewer.ensures c.if-is_recorded.false c.in-Err.ensures.stopped
+    fails_seeing c.args.sight _ _ _ _ c.fresh_viewer-viewer.result c.watch_heard.new.viewer c.in-Err.fault c.show_early.result
+    c.fresh_viewer-viewer.ensures c.if-is_recorded.false c.in-Err.ensures.stopped c.show_early.ensures.ends
+
+pub returns-clause-unwritten : goal.returns-clause-unwritten
+returns-clause-unwritten g c = λ not fault is unshown.
+    let same = ends_same c.args.sight.is_partial c.watch_heard.new.viewer c.in-Err.fault fault _ _ c.show_early.result c.show_early.ensures.ends (cc) in
+    c.show_early.ensures.unwanted (ap (shows_end c.args.sight.is_partial) (sym same) ∙ unshown)
+
+pub returns-clause-left : goal.returns-clause-left
+returns-clause-left g c = λ not.
+    leaves_seeing c.args.sight _ _ _ _ c.fresh_viewer-viewer.result c.watch_heard.new.viewer c.in-Err.fault
+    c.fresh_viewer-viewer.ensures not c.in-Err.ensures.stopped
+    (begins_early c.args.sight.is_partial c.watch_heard.new.viewer _ _ _ c.show_early.result c.show_early.ensures.ends)

@@ -1,6 +1,6 @@
 use Rattle.std.proofs.KnownBytes.{Appends-kept}
 use Rattle.rfb_session.specs.Pixmap.{pixmap}
-use Rattle.rfb_session.proofs.WrittenLemmas.{on_err, whole_beginning}
+use Rattle.rfb_session.proofs.WrittenLaws.{on_err, whole_beginning}
 use Rattle.rfb.proofs.writing.write_ppm.Goals as goal
 
 -- a flush keeps what was written

@@ -1,7 +1,7 @@
 //! Words of a line of a hub's script that stand for a value.
 
 ghost use Rattle.std.specs.Prelude.{◌≡◌, ℕ, Bool, List, IfOk, MatchOption};
-ghost use Rattle.rfb_session.specs.declared.hub.event.Setup.{Setup};
+ghost use Rattle.rfb_viewer.specs.declared.setup.ViewerSetup.{ViewerSetup as Setup};
 ghost use Rattle.rfb.specs.HubScript.{AreForeign, AreJoin, IsHexWord, IsSlotAlone, IsSlotWord, kind_of_join};
 ghost use Rattle.rfb.specs.Words.{texts};
 

@@ -1,6 +1,6 @@
 use Rattle.std.proofs.Common.{Some, Err, rules}
-use Rattle.rfb_session.proofs.WrittenLemmas.{empty_rest}
-use Rattle.rfb_session.proofs.ServeLemmas.{call_heard}
+use Rattle.rfb_session.proofs.WrittenLaws.{empty_rest}
+use Rattle.rfb_session.proofs.ServeLaws.{call_heard}
 use Rattle.rfb.proofs.DeliveryLemmas.{hearing_none, hearing_more, hears_all, hears_until, on_ok_all}
 use Rattle.rfb.proofs.loopback.arriving.hear.Goals as goal
 

@@ -1,5 +1,5 @@
 use Rattle.std.proofs.Common.{Some, Err, rules}
-use Rattle.rfb_session.proofs.WrittenLemmas.{empty_rest}
+use Rattle.rfb_session.proofs.WrittenLaws.{empty_rest}
 use Rattle.rfb.proofs.LoopbackLemmas.{call_fed}
 use Rattle.rfb.proofs.DeliveryLemmas.{watching_none, watching_more, watches_all, watches_until, on_ok_all}
 use Rattle.rfb.proofs.loopback.arriving.watch.Goals as goal

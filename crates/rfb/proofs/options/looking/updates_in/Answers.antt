@@ -4,8 +4,8 @@ use Rattle.rfb.proofs.options.looking.updates_in.Goals as goal
 
 pub returns-in-Some-clause-number : goal.returns-in-Some-clause-number
 returns-in-Some-clause-number c = λ text is numeral above below.
-    same_Some _ _ (sym c.in-Some.is ∙ c.updates_given.ensures.number.given text is numeral above below)
+    same_Some _ _ (sym c.in-Some.is ∙ c.number_given.ensures.number.given text is numeral above below)
 
 pub returns-in-None-clause-number : goal.returns-in-None-clause-number
 returns-in-None-clause-number c = λ text is numeral above below.
-    absurd (none-some _ (sym c.in-None.is ∙ c.updates_given.ensures.number.given text is numeral above below))
+    absurd (none-some _ (sym c.in-None.is ∙ c.number_given.ensures.number.given text is numeral above below))

@@ -1,8 +1,11 @@
 use Rattle.std.proofs.Common.{◌≡◌, ◌∙◌, ap, ap₂, codes}
 use Rattle.std.proofs.lemmas.Result.{IfOk-weaker}
 use Rattle.clap.specs.Simple.{App, app_of, app_of_fields, new_app, with_rule}
-use Rattle.rfb.specs.Options.{port_rule, side_rule}
+use Rattle.rfb.specs.Options.{connections_rule, listen_rule, port_rule, side_rule, timeout_rule}
 use Rattle.rfb.proofs.options.serving.serve_words.Goals as goal
+
+abbrev listening : App → App
+listening app = with_rule (with_rule app timeout_rule) listen_rule
 
 pub returns : goal.returns
 returns c =
@@ -14,4 +17,6 @@ returns c =
     c.in_ok-arg-2.ensures.shape c.width_word.ensures.local ∙ ap₂ with_rule one c.width_word.ensures.rule in
     let three : app_of c.in_ok-arg-3.field-0 ≡ with_rule (with_rule (with_rule (new_app (codes "serve")) port_rule) (side_rule (codes "width"))) (side_rule (codes "height")) =
     c.in_ok-arg-3.ensures.shape c.height_word.ensures.local ∙ ap₂ with_rule two c.height_word.ensures.rule in
-    IfOk-weaker c.arg-4.result _ _ (λ r adds. ap (λ (a : App). a.top) (adds.shape c.connections_word.ensures.local ∙ ap₂ with_rule three c.connections_word.ensures.rule)) c.arg-4.ensures
+    let four : app_of c.in_ok-command.command ≡ with_rule (with_rule (with_rule (with_rule (new_app (codes "serve")) port_rule) (side_rule (codes "width"))) (side_rule (codes "height"))) connections_rule =
+    c.in_ok-command.ensures.shape c.connections_word.ensures.local ∙ ap₂ with_rule three c.connections_word.ensures.rule in
+    IfOk-weaker c.with_listening.result _ _ (λ r more. ap (λ (a : App). a.top) (more ∙ ap listening four)) c.with_listening.ensures

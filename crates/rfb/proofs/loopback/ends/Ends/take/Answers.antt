@@ -9,7 +9,7 @@ use Rattle.rfb_viewer.specs.Messages.{format_message, encodings_message, request
 use Rattle.arrayvec.specs.ArrayVec.{ArrayVec}
 use Rattle.rfb_wire.specs.declared.encoding.Encoding.{Encoding}
 use Rattle.rfb_session.specs.declared.event.Event.{Event}
-use Rattle.rfb_session.proofs.DrawnLemmas.{held_or_not, both_held_or_not}
+use Rattle.rfb_session.proofs.DrawnLaws.{held_or_not, both_held_or_not}
 use Rattle.rfb.specs.declared.loopback.ends.Ends.{Ends}
 use Rattle.rfb.specs.Loopback.{AsksMemory, DrawsOn, TakesEvent}
 use Rattle.rfb.proofs.EndsLemmas.{always_ok, always_err, draws_on, call_taken, message_taken, text_sends, asks, text_asks}

@@ -1,0 +1,10 @@
+use Rattle.std.proofs.Common.{◌∙◌, codes}
+use Rattle.clap.specs.Matches.{found_of}
+use Rattle.clap.proofs.WalkLemmas.{first_value-rows}
+use Rattle.rfb.proofs.options.paths.paths_in.Goals as goal
+
+pub returns : goal.returns
+returns c = record {
+  input = c.get_str.ensures ∙ first_value-rows (found_of c.args.given.now) (codes "input");
+  output = c.get_str-2.ensures ∙ first_value-rows (found_of c.args.given.now) (codes "output");
+}

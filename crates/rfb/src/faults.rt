@@ -1,0 +1,175 @@
+//! The faults and the refusals by number, with what they mean: `rfb help faults`.
+
+use crate::fault::Fault;
+use rfb_server::ServerFault;
+use rfb_session::{EngineFault, HubFault};
+use rfb_viewer::ViewerFault;
+use std::io;
+use std::io::Write;
+use thiserror::Error;
+
+// What has a number. It prints as its number and its name.
+#[derive(Clone, Copy, Debug, Error)]
+enum Numbered {
+    // What a client did wrong.
+    #[error("{0}")]
+    Client(ServerFault),
+    // What a server did wrong.
+    #[error("{0}")]
+    Server(ViewerFault),
+    // Why a call is refused.
+    #[error("{0}")]
+    Refusal(HubFault),
+    // Why an engine ends.
+    #[error("{0}")]
+    Engine(EngineFault),
+    // Why the program ends.
+    #[error("{0}")]
+    Program(Fault),
+}
+
+const HEAD: &str = "\
+Each fault and refusal by its number and its name, and when it comes. 1 to 6 are of the format that a
+client asks for, 1 to 23 of a peer's bytes. 24 to 27 and 31 are refusals of a script's lines.
+";
+
+// What has a number, by its number, and when it comes.
+const TABLE: [(Numbered, &str); 32] = [
+    (
+        Numbered::Client(ServerFault::BadBits),
+        "bits-per-pixel is not 8, 16 or 32",
+    ),
+    (
+        Numbered::Client(ServerFault::DepthTooLarge),
+        "depth is above bits-per-pixel",
+    ),
+    (
+        Numbered::Client(ServerFault::NotTrueColour),
+        "the format has a colour map",
+    ),
+    (
+        Numbered::Client(ServerFault::BadMax),
+        "a maximum is not 2^N - 1 with N from 1 to 16",
+    ),
+    (
+        Numbered::Client(ServerFault::ShiftTooLarge),
+        "a field leaves the pixel",
+    ),
+    (
+        Numbered::Client(ServerFault::FieldsOverlap),
+        "two fields share a bit",
+    ),
+    (
+        Numbered::Client(ServerFault::UnknownMessage(0)),
+        "a message has a type that there is not",
+    ),
+    (
+        Numbered::Server(ViewerFault::UnknownEncoding(0)),
+        "a rectangle is in none of raw, copyrect, rre and hextile",
+    ),
+    (
+        Numbered::Server(ViewerFault::RectOutside),
+        "a rectangle leaves the screen",
+    ),
+    (
+        Numbered::Server(ViewerFault::SubrectOutside),
+        "a subrectangle leaves its rectangle or its tile",
+    ),
+    (
+        Numbered::Server(ViewerFault::NoBackground),
+        "a tile needs a background, and its rectangle has had none",
+    ),
+    (
+        Numbered::Server(ViewerFault::NoForeground),
+        "a tile needs a foreground, and its rectangle has had none",
+    ),
+    (
+        Numbered::Server(ViewerFault::BothColourBits),
+        "a tile has a foreground, and subrectangles with colours",
+    ),
+    (
+        Numbered::Server(ViewerFault::SourceOutside),
+        "the source of a CopyRect leaves the screen",
+    ),
+    (
+        Numbered::Server(ViewerFault::BadVersion),
+        "the peer's first bytes are no version of RFB",
+    ),
+    (
+        Numbered::Client(ServerFault::VersionTooHigh),
+        "a client's version is above the one offered",
+    ),
+    (
+        Numbered::Client(ServerFault::BadSecurityChoice),
+        "a client chose another security type than None",
+    ),
+    (
+        Numbered::Server(ViewerFault::NoneNotOffered),
+        "a server does not offer the security type None",
+    ),
+    (
+        Numbered::Server(ViewerFault::Refused(0)),
+        "a server refuses the connection, with a reason",
+    ),
+    (
+        Numbered::Server(ViewerFault::BadSecurityWord),
+        "a server of version 3.3 has a security type above 2",
+    ),
+    (
+        Numbered::Server(ViewerFault::SecurityFailed(0)),
+        "a server does not let the viewer in, with a reason",
+    ),
+    (
+        Numbered::Server(ViewerFault::ScreenEmpty),
+        "a server's screen has no place",
+    ),
+    (
+        Numbered::Server(ViewerFault::ScreenTooLarge),
+        "a server's screen has more than 16777216 places",
+    ),
+    (
+        Numbered::Refusal(HubFault::Outside),
+        "a drawing or a hint leaves the screen",
+    ),
+    (
+        Numbered::Refusal(HubFault::NotReady),
+        "the viewer is not ready, or there is no picture to write",
+    ),
+    (
+        Numbered::Refusal(HubFault::Busy),
+        "a request is outstanding",
+    ),
+    (
+        Numbered::Refusal(HubFault::AreaOutside),
+        "the area of a request is empty, or leaves the screen",
+    ),
+    (
+        Numbered::Engine(EngineFault::Truncated),
+        "bytes end inside a message or the handshake",
+    ),
+    (
+        Numbered::Engine(EngineFault::Device),
+        "a read, a write or a connection failed",
+    ),
+    (
+        Numbered::Engine(EngineFault::NoMemory),
+        "memory was refused",
+    ),
+    (
+        Numbered::Refusal(HubFault::SlotTaken),
+        "a viewer joins a slot in which there is one",
+    ),
+    (
+        Numbered::Program(Fault::NoSuchSlot),
+        "there is no viewer in the slot that is named",
+    ),
+];
+
+/// Writes them, a line each.
+pub fn write_faults<W: Write>(output: &mut W) -> io::Result<()> {
+    writeln!(output, "{HEAD}")?;
+    for (numbered, meaning) in &TABLE {
+        writeln!(output, "{numbered}: {meaning}")?;
+    }
+    output.flush()
+}

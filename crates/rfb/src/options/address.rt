@@ -1,0 +1,155 @@
+//! The server that `view` is asked for.
+
+ghost use Rattle.std.specs.Prelude.{◌≡◌, codes, ℕ, List, false, option_map, MatchOption, MatchResult};
+ghost use Rattle.clap.specs.Words.{found_of, rows_of, rule_of};
+ghost use Rattle.rfb.specs.Address.{GivesServer, IsAddress, NamesDisplay, NamesPort, OrLoopback};
+ghost use Rattle.rfb.specs.Options.{GivesAddress, HasBadAddress, MayGiveNumber};
+ghost use Rattle.rfb.specs.Options.{any_port_rule, host_rule, server_rule};
+
+use crate::options::BadValue;
+use crate::script::read_number;
+use clap::{Arg, ArgMatches};
+use std::alloc::Global;
+
+const LOOPBACK: &str = "127.0.0.1";
+
+// The port of a host's display 0, and the last display that is named by its number.
+const DISPLAYS: u16 = 5900;
+
+const LAST_DISPLAY: u16 = 99;
+
+/// A server, by its name or address and its port.
+#[derive(Clone, Copy, Debug, PartialEq, Eq)]
+pub struct Address<'a> {
+    pub host: &'a str,
+    pub port: u16,
+}
+
+/// The word of a server, which has no option before it.
+pub fn server_word<'a>(alloc: Global) -> Arg<'a>
+    ensures rule { rule_of result ≡ server_rule }
+    ensures local { result.global ≡ false }
+{
+    Arg::new(alloc, "server").value_name("SERVER").help(
+        "HOST, HOST:DISPLAY or HOST::PORT; display N is at port 5900 + N, HOST alone at 5900",
+    )
+}
+
+/// The word of a host.
+pub fn host_word<'a>(alloc: Global) -> Arg<'a>
+    ensures rule { rule_of result ≡ host_rule }
+    ensures local { result.global ≡ false }
+{
+    Arg::new(alloc, "host").long("host").value_name("H").help(
+        "The name or the address of the server, 127.0.0.1 without it",
+    )
+}
+
+/// The word of a port that may be left out.
+pub fn any_port_word<'a>(alloc: Global) -> Arg<'a>
+    ensures rule { rule_of result ≡ any_port_rule }
+    ensures local { result.global ≡ false }
+{
+    Arg::new(alloc, "port")
+        .long("port")
+        .value_name("P")
+        .value_parser(clap::value_parser!(u16).range(1..))
+        .help("The port, 1 to 65535; 5900 without it")
+}
+
+/// The server that is given: by a word, or by its host, its port or both, and never by both ways.
+pub fn address_in<'a>(given: &ArgMatches<'a>) -> Result<Address<'a>, BadValue<'a>>
+    ensures { MatchResult result
+        (λ address. GivesAddress (rows_of (found_of given.now)) address.host.now address.port)
+        (λ _. HasBadAddress (rows_of (found_of given.now))) }
+{
+    address_of(
+        given.get_str("server"),
+        given.get_str("host"),
+        port_given(given),
+    )
+}
+
+// The server of a word, a host and a port, each of which may be left out.
+fn address_of<'a>(
+    word: Option<&'a str>,
+    host: Option<&'a str>,
+    port: Option<u16>,
+) -> Result<Address<'a>, BadValue<'a>>
+    ensures { MatchResult result
+        (λ address. GivesServer (option_map (λ s. s.now) word.entry)
+        (option_map (λ s. s.now) host.entry) port address.host.now address.port)
+        (λ _. (h : List ℕ) (p : ℕ) → ¬ (GivesServer (option_map (λ s. s.now) word.entry)
+        (option_map (λ s. s.now) host.entry) port h p)) }
+{
+    match (word, host, port) {
+        (Some(word), None, None) => address_named(word),
+        (Some(_), _, _) => Err(BadValue::Servers),
+        (None, None, None) => Err(BadValue::NoServer),
+        (None, Some(host), port) => Ok(Address {
+            host,
+            port: port.unwrap_or(DISPLAYS),
+        }),
+        (None, None, Some(port)) => Ok(Address {
+            host: LOOPBACK,
+            port,
+        }),
+    }
+}
+
+// The port that is given, if one is.
+fn port_given(given: &ArgMatches<'_>) -> Option<u16>
+    ensures { MayGiveNumber (codes "port") 1 65535 (rows_of (found_of given.now)) result }
+{
+    given.get_one::<u16>("port")
+}
+
+// The server that a word names.
+fn address_named<'a>(word: &'a str) -> Result<Address<'a>, BadValue<'a>>
+    ensures { MatchResult result
+        (λ address. IsAddress word.now address.host.now address.port)
+        (λ _. (host : List ℕ) (port : ℕ) → ¬ (IsAddress word.now host port)) }
+{
+    let Some((host, behind)) = word.split_once(':') else {
+        return Ok(Address {
+            host: or_loopback(word),
+            port: DISPLAYS,
+        });
+    };
+    match port_named(behind.as_bytes()) {
+        Some(port) => Ok(Address {
+            host: or_loopback(host),
+            port,
+        }),
+        None => Err(BadValue::Server(word)),
+    }
+}
+
+// This host, or the loopback address where it is left out.
+fn or_loopback(host: &str) -> &str
+    ensures { OrLoopback host.now result.now }
+{
+    if host.is_empty() { LOOPBACK } else { host }
+}
+
+// What stands behind the first colon: a display, or a colon and a port.
+fn port_named(text: &[u8]) -> Option<u16>
+    ensures { MatchOption result ((port : ℕ) → ¬ (NamesPort text.now port))
+        (λ port. NamesPort text.now port) }
+{
+    match text {
+        [b':', digits @ ..] => read_number(digits).filter(|port| *port > 0),
+        digits => display_port(digits),
+    }
+}
+
+// The port of a display.
+fn display_port(digits: &[u8]) -> Option<u16>
+    ensures { MatchOption result ((port : ℕ) → ¬ (NamesDisplay digits.now port))
+        (λ port. NamesDisplay digits.now port) }
+{
+    match read_number(digits) {
+        Some(display) if display <= LAST_DISPLAY => Some(DISPLAYS + display),
+        _ => None,
+    }
+}

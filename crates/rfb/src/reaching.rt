@@ -1,0 +1,152 @@
+//! How long is waited for a peer: a connection to a server, and those that a listener takes.
+
+use std::io::{ErrorKind, Read};
+use std::net::{Net, OpenListener, OpenStream, SocketAddr, TcpStream, ToSocketAddrs};
+use std::time::{Clock, Duration, Instant};
+use std::{io, thread};
+
+// How long it rests before a refused connection is tried again, in milliseconds.
+const PAUSE: u64 = 100;
+
+/// When waiting ends, if ever.
+#[derive(Clone, Copy)]
+pub struct Deadline<'a, C> {
+    clock: &'a C,
+    end: Option<(Instant, Duration)>,
+}
+
+impl<'a, C: Clock> Deadline<'a, C> {
+    /// So many seconds from here on, or never.
+    pub fn new(clock: &'a C, seconds: Option<u32>) -> io::Result<Deadline<'a, C>> {
+        let end = match seconds {
+            Some(seconds) => Some((
+                Instant::now(clock)?,
+                Duration::from_secs(u64::from(seconds)),
+            )),
+            None => None,
+        };
+        Ok(Deadline { clock, end })
+    }
+
+    /// How much time is left, where there is an end. It is an error where none is.
+    fn left(&self) -> io::Result<Option<Duration>> {
+        let Some((start, limit)) = self.end else {
+            return Ok(None);
+        };
+        let left = limit.saturating_sub(start.elapsed(self.clock)?);
+        if left == Duration::ZERO {
+            return Err(io::Error::from(ErrorKind::TimedOut));
+        }
+        Ok(Some(left))
+    }
+}
+
+/// Connects to a host. Within so many seconds, if there is a number, a refused connection is tried
+/// again, and each read ends.
+pub fn connect<'a, N: Net + Clock>(
+    net: &'a N,
+    host: &str,
+    port: u16,
+    seconds: Option<u32>,
+) -> io::Result<Patient<'a, N::Stream, N>> {
+    let deadline = Deadline::new(net, seconds)?;
+    let stream = connect_until(net, host, port, &deadline)?;
+    Ok(Patient::new(stream, deadline))
+}
+
+// Tries to connect until the deadline, or once where there is none.
+fn connect_until<N: Net + Clock>(
+    net: &N,
+    host: &str,
+    port: u16,
+    deadline: &Deadline<'_, N>,
+) -> io::Result<N::Stream> {
+    for _turn in 0..u64::MAX {
+        let Some(left) = deadline.left()? else {
+            return TcpStream::connect(net, (host, port));
+        };
+        match connect_within(net, host, port, left) {
+            Err(error) if error.kind() == ErrorKind::ConnectionRefused => {
+                let pause = Duration::from_millis(PAUSE);
+                if left <= pause {
+                    return Err(error);
+                }
+                thread::sleep(net, pause);
+            }
+            other => return other,
+        }
+    }
+    Err(io::Error::from(ErrorKind::TimedOut))
+}
+
+// Connects to the first address of a host that takes it.
+fn connect_within<N: Net>(net: &N, host: &str, port: u16, left: Duration) -> io::Result<N::Stream> {
+    let mut last = io::Error::from(ErrorKind::NotFound);
+    for address in (host, port).to_socket_addrs(net)? {
+        match TcpStream::connect_timeout(net, &address, left) {
+            Ok(stream) => return Ok(stream),
+            Err(error) => last = error,
+        }
+    }
+    Err(last)
+}
+
+/// A connection whose reads end at a deadline, if there is one.
+#[derive(Drop)]
+pub struct Patient<'a, S, C> {
+    stream: S,
+    deadline: Deadline<'a, C>,
+}
+
+impl<'a, S, C> Patient<'a, S, C> {
+    /// Reads what `stream` gives.
+    pub fn new(stream: S, deadline: Deadline<'a, C>) -> Patient<'a, S, C> {
+        Patient { stream, deadline }
+    }
+}
+
+impl<S: OpenStream, C> Patient<'_, S, C> {
+    /// The same connection, to write to. What is written goes out at once.
+    pub fn answering(&self) -> io::Result<S> {
+        let _ = self.stream.set_nodelay(true);
+        self.stream.try_clone()
+    }
+}
+
+impl<S: Read + OpenStream, C: Clock> Read for Patient<'_, S, C> {
+    fn read(&mut self, buf: &mut [u8]) -> io::Result<usize> {
+        if let Some(left) = self.deadline.left()? {
+            self.stream.set_read_timeout(Some(left))?;
+        }
+        self.stream.read(buf)
+    }
+}
+
+/// A listener on whose connections a read ends where nothing comes for some time.
+#[derive(Drop)]
+pub struct Timed<L> {
+    listener: L,
+    seconds: Option<u32>,
+}
+
+impl<L> Timed<L> {
+    /// Takes what `listener` takes. After so many seconds, if there is a number, a read ends.
+    pub fn new(listener: L, seconds: Option<u32>) -> Timed<L> {
+        Timed { listener, seconds }
+    }
+}
+
+impl<L: OpenListener> OpenListener for Timed<L>
+where
+    L::Stream: OpenStream,
+{
+    type Stream = L::Stream;
+
+    fn accept(&self) -> io::Result<(L::Stream, SocketAddr)> {
+        let (stream, address) = self.listener.accept()?;
+        if let Some(seconds) = self.seconds {
+            stream.set_read_timeout(Some(Duration::from_secs(u64::from(seconds))))?;
+        }
+        Ok((stream, address))
+    }
+}

@@ -1,0 +1,48 @@
+//! Standard output, where it may be a terminal: that is no place for a picture.
+
+use crate::explain::Notes;
+use std::io;
+use std::io::{ErrorKind, Write};
+
+// What a picture begins with, and what a server's bytes do.
+const PICTURE: &[u8] = b"P6\n";
+
+const RECORDING: &[u8] = b"RFB ";
+
+const REFUSAL: &str = "\
+rfb: standard output is a terminal, which shows no picture and no recording: name a file by -o";
+
+/// An output that, where it is a terminal, takes text alone.
+#[derive(Drop)]
+pub struct Shown<'a, W, E> {
+    output: W,
+    is_terminal: bool,
+    notes: Notes<'a, E>,
+}
+
+impl<'a, W, E> Shown<'a, W, E> {
+    /// Writes to `output`. Where a picture or a recording is refused, `notes` say so.
+    pub fn new(output: W, is_terminal: bool, notes: Notes<'a, E>) -> Shown<'a, W, E> {
+        Shown {
+            output,
+            is_terminal,
+            notes,
+        }
+    }
+}
+
+impl<W: Write, E: Write> Write for Shown<'_, W, E> {
+    /// Writes to a terminal what does not begin as a picture or a recording does. Else it is an
+    /// error of the kind `InvalidInput`.
+    fn write(&mut self, buf: &[u8]) -> io::Result<usize> {
+        if self.is_terminal && (buf.starts_with(PICTURE) || buf.starts_with(RECORDING)) {
+            let _ = writeln!(self.notes, "{REFUSAL}");
+            return Err(io::Error::from(ErrorKind::InvalidInput));
+        }
+        self.output.write(buf)
+    }
+
+    fn flush(&mut self) -> io::Result<()> {
+        self.output.flush()
+    }
+}
