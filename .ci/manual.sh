@@ -12,7 +12,7 @@ program=$1
 page=$2
 passed=0 failed=0
 
-# Whether the words of the page, behind $1, are those of the help, one a line.
+# Whether the words of the page, after $1, are those of the help, one a line.
 same() {
     if [ "$2" = "$3" ] && [ -n "$1" ]; then
         passed=$((passed + 1))

@@ -10,10 +10,10 @@
 #   .ci/memory.sh crates/rfb/out/rfb crates
 #
 # Calls whose memory or output is limited, whose input is made up, or that need another run beside
-# them are left out.
-# In the folder behind it are the crates, with their test programs: these are refused each allocation
-# of the tests that are named below, which reach growths that no call of the program does. Such a
-# test must pass whatever is refused. Only where its own set-up is, it may end with that error.
+# them are left out. In the folder that the next word names are the crates, with their test
+# programs: these are refused each allocation of the tests that are named below, which reach growths
+# that no call of the program does. Such a test must pass whatever is refused. Only where its own
+# set-up is, it may end with that error.
 #
 # It needs a C compiler, for malloc and realloc in the place of libc's; where there is none it says
 # so, and tries nothing.
@@ -30,7 +30,7 @@ trap 'rm -rf "$room"' EXIT
 tests='
 rfb_server tests::memory::an_update_that_was_refused_memory_is_composed_by_the_next_call 0
 rfb_server tests::memory::a_text_that_was_refused_memory_fails_the_server_for_good 0
-rfb_viewer tests::long_texts::want_of_memory_is_told_for_good 0
+rfb_viewer tests::long_texts::want_of_memory_is_reported_for_good 0
 rfb_viewer tests::calls::a_text_without_memory_leaves_the_buffer 1
 rfb_session world::tests::memory::a_world_that_is_refused_memory_is_closed 0
 rfb_session hub::tests::memory::a_hub_that_is_refused_memory_is_closed 0
@@ -74,7 +74,7 @@ cc -shared -fPIC -o "$room/refuse.so" "$room/refuse.c" || exit 2
 file() { if [ -e "$1" ]; then echo "$1"; else echo /dev/null; fi; }
 
 # Runs a program with allocation $1 refused; its outputs and its status go to files named $2. What
-# is behind these is the program and its words.
+# is after these is the program and its words.
 refuse() {
     local number=$1 name=$2 status=0
     shift 2
@@ -85,7 +85,7 @@ refuse() {
     sed -i '/^rfb: /d' "$room/$name.err"
 }
 
-# The same with the call $1, and the number and the names behind it.
+# The same with the call $1, and the number and the names after it.
 run() {
     local words
     mapfile -t words < "$(file "$1/args")"
@@ -127,7 +127,7 @@ for call in "$calls"/*/; do
         fi
     done
     asked[$name]=$((number - 1))
-    echo "$name: $((number - 1)) allocations, $refused of them told as want of memory"
+    echo "$name: $((number - 1)) allocations, $refused of them reported as want of memory"
 done
 if [ "$passed$failed" = 00 ]; then
     failed=1
@@ -146,7 +146,7 @@ done
 # Whether the test passed, and is one that there is.
 is_passed() { [ "$(cat "$room/one.status")" = 0 ] && grep -qxF 'test result: ok' "$room/one.out"; }
 
-# Whether it ended as one does whose set-up was refused. Behind an assertion that fails it says where.
+# Whether it ended as one does whose set-up was refused. After an assertion that fails it says where.
 is_not_set_up() {
     printf 'Error: AllocError\nthe test failed: its result gives status 1\n' | cmp -s - "$room/one.err"
 }

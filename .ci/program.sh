@@ -1,9 +1,9 @@
 #!/usr/bin/env bash
 # Runs programs, named by their paths, on each call of .ci/program, and compares standard output, standard
 # error and status. A call is a folder of these files; what a missing one would hold is empty:
-#   args     the words behind the program's name, one a line
+#   args     the words after the program's name, one a line
 #   stdin    what the program reads
-#   more     what it reads behind that: a number, and a line that comes so many times
+#   more     what it reads after that: a number, and a line that comes that number of times
 #   stdout   what it must print, and nothing else
 #   stderr   what it must print there, and nothing else
 #   status   the exit status that it must have

@@ -64,7 +64,7 @@ put('format_of_no_meaning',args='play\n--format\nrgb\n',stderr="error: invalid v
 # Fields of ten bits: (1023, 514, 4), and (0, 0, 1) under two bits that mean nothing.
 TEN=bytes.fromhex('00000001'+'0000000000020001'+'00000000'+'0408F83F'+'010000C0')
 put('recording_at_rgb101010',args='play\n--format\nrgb101010\n',stdin=HELLO+TEN,stdout=ppm(2,1,bytes.fromhex('FFFF80A00100'+'000000000040')),status='0\n')
-# Behind the handshake an update in each of the four encodings, with none of the memory that it took.
+# After the handshake an update in each of the four encodings, with none of the memory that it took.
 FOUR=bytes.fromhex(
     '00000004'
     +'0000000000020001'+'00000000'+'00000000'+'02000400'    # Raw: black, and (4, 0, 2)

@@ -43,7 +43,7 @@ def up(number, by):
 
 
 def picture(w, h, size):
-    """A value of so many bytes for each place: six for a colour, three components of two bytes."""
+    """A value of `size` bytes for each place: six for a colour, three components of two bytes."""
     return [w * h * size]
 
 
@@ -101,7 +101,7 @@ AGAIN = 'request inc 0 0 {0} {1}', 'settle', 'compose', 'settle'
 
 
 def scripts(size, *lines):
-    """A script on each screen, with one update at a format whose pixels have so many bytes, or none."""
+    """A script on each screen, with one update at a format whose pixels have `size` bytes, or none."""
     for w, h in SIZES:
         said = [line.format(w, h) for line in lines]
         yield ['script'], script(w, h, *said), world(w, h) + (update(w, h, size) if size else [])

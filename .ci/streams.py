@@ -406,7 +406,7 @@ def everything(a, b):
 REST_38 = h('00000000') + init(2, 1)
 
 # Name, format, bytes, verdict, and the pixels that are shown where it is good (None: not told here).
-# Behind them: how many bytes at the beginning are left as they are, so that no screen gets large by
+# After them: how many bytes at the beginning are left as they are, so that no screen gets large by
 # a changed byte.
 FROM_SERVER = [
     ('a handshake of 3.8', 'rgb888', hello(2, 1), 0, [A, A]),
@@ -546,7 +546,7 @@ def formatted(name, **bytes_at):
 
 
 # Name, bytes, and the line that `serve` prints where the screen has 2 by 1 places.
-# Behind them: how many bytes at the beginning are left as they are.
+# After them: how many bytes at the beginning are left as they are.
 FROM_CLIENT = [
     ('a handshake of 3.8', HELLO + WANTS, 'ok 0'),
     ('a handshake of 3.7', b'RFB 003.007\n' + h('01 01') + WANTS, 'ok 0'),
@@ -571,7 +571,7 @@ FROM_CLIENT = [
     ('rgb565 in Hextile', formatted('rgb565') + wants(HEXTILE) + WHOLE, 'ok 1'),
     ('rgb101010 in RRE', formatted('rgb101010') + wants(RRE) + WHOLE, 'ok 1'),
     ('the highest byte first', formatted('rgb565', at_2=1) + WHOLE, 'ok 1'),
-    ('another format behind the request', WHOLE + formatted('bgr233'), 'ok 1'),
+    ('another format after the request', WHOLE + formatted('bgr233'), 'ok 1'),
     ('24 bits', formatted('rgb565', at_0=24), 'fault 1 BadBits'),
     ('a depth of 17', formatted('rgb565', at_1=17), 'fault 2 DepthTooLarge'),
     ('a colour map', formatted('rgb565', at_3=0), 'fault 3 NotTrueColour'),

@@ -12,7 +12,7 @@ def fields(c,fmt):
     return tuple((v*m+32767)//65535 for v,m in zip(c,MAX[fmt]))
 def seen(c,fmt):
     return tuple((v*65535+(m-1)//2)//m for v,m in zip(fields(c,fmt),MAX[fmt]))
-# The screen of `serve` after so many steps.
+# The screen of `serve` after a number of steps.
 def scene(w,h,steps):
     rows=[[(4*x%256*257,4*y%256*257,2*(x+y)%256*257) for x in range(w)] for y in range(h)]
     for n in range(1,steps+1):
@@ -43,6 +43,6 @@ bad('view_in_five_encodings','bad encodings\n','--port','1','--encodings','raw,r
 put('view_where_nothing_listens',args=words('view','--port','1'),stderr='fault 29 Device\n',status='1\n')
 viewed('view_of_a_scene',(2,1),'ok 1',ppm(scene(2,1,0)))
 viewed('view_that_records',(2,1),'ok 1',sent(2,1),'--record')
-viewed('view_behind_three_updates',(70,66),'ok 3',ppm(scene(70,66,2),'rgb565'),'--updates','3','--format','rgb565','--encodings','hextile,copyrect')
+viewed('view_after_three_updates',(70,66),'ok 3',ppm(scene(70,66,2),'rgb565'),'--updates','3','--format','rgb565','--encodings','hextile,copyrect')
 viewed('view_of_a_host',(9,5),'ok 5',ppm(scene(9,5,4),'bgr233'),'--host','127.0.0.1','--updates=5','--format=bgr233','--encodings=copyrect,rre')
 viewed('view_to_a_full_device',(2,1),'ok 1','',device='/dev/full\n',stderr='fault 29 Device\n',status='1\n')

@@ -27,7 +27,8 @@ within() {
   valgrind --tool=callgrind --callgrind-out-file=/dev/null --toggle-collect="$3" "$copy/crates/$1/out/$1_tests" "$2" 2>&1 > /dev/null | awk '/Collected/ {print $4}'
 }
 
-# A line: what, the instructions that the first test needs more than the second, over so many places.
+# A line: what, the instructions that the first test needs more than the second, over the number of
+# places.
 difference() {
   awk -v what="$1" -v a="$(instructions "$2" "$3")" -v b="$(instructions "$2" "$4")" -v n="$5" \
     'BEGIN {printf n == 1 ? "%s: %d\n" : "%s, a place: %.1f\n", what, (a - b) / n}'

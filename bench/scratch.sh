@@ -30,7 +30,7 @@ END
 }
 
 # feeds WHAT PROGRAM HEAD: runs the program on the bytes that the Python expression HEAD makes, and
-# the fills behind them; prints as WHAT the instructions of its `feed_all`, a place and a byte, and
+# the fills after them; prints as WHAT the instructions of its `feed_all`, a place and a byte, and
 # what it told.
 feeds() {
   local told

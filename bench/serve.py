@@ -38,7 +38,7 @@ def connect(port, server):
 
 
 def read(stream, count):
-    """Takes so many bytes."""
+    """Takes that number of bytes."""
     taken = bytearray()
     while len(taken) < count:
         got = stream.recv(min(count - len(taken), 1 << 20))
@@ -49,7 +49,7 @@ def read(stream, count):
 
 
 def take(stream, count):
-    """Takes so many bytes, and drops them."""
+    """Takes that number of bytes, and drops them."""
     while count > 0:
         part = min(count, 1 << 20)
         read(stream, part)
@@ -101,7 +101,7 @@ def take_update(stream):
 
 
 def ask_steps(stream, width, height, encodings, steps):
-    """These encodings, a whole update, and so many more of what has changed."""
+    """These encodings, a whole update, and a number of further ones of what has changed."""
     listed = struct.pack(f">BxH{len(encodings)}i", 2, len(encodings), *encodings)
     stream.sendall(listed + struct.pack(">BBHHHH", 3, 0, 0, 0, width, height))
     take_update(stream)
@@ -112,7 +112,7 @@ def ask_steps(stream, width, height, encodings, steps):
 
 def count(program, width, height, asks, updates):
     """The instructions of one connection, from the program's start to its end. Once the handshake
-    is done `asks` is called, and so many updates are sent for it."""
+    is done `asks` is called, and that number of updates is sent for it."""
     port = free_port()
     words = ["valgrind", "--tool=callgrind", "--callgrind-out-file=/dev/null", program, "serve"]
     words += ["--port", str(port), "--width", str(width), "--height", str(height)]

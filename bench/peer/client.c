@@ -1,5 +1,5 @@
 /* A viewer of libvncclient that decodes updates of a recording. Each one is read from the file that
- * the library takes for its connection. `take_update` is what is measured; Callgrind is told its
+ * the library takes for its connection. `take_update` is what is measured; Callgrind is given its
  * name.
  *
  *     client WIDTH HEIGHT RECORDING BITS OFFSET..
@@ -25,7 +25,7 @@ static void stop(const char *why) {
 /* The library takes one message. */
 MEASURED static rfbBool take_update(void) { return HandleRFBServerMessage(client); }
 
-/* A viewer that has shaken hands. It was told of no message that the server would take, so it sends
+/* A viewer that has shaken hands. It knows of no message that the server would take, so it sends
  * no request after an update. */
 static void begin(int bits, int width, int height, int file) {
     client = rfbGetClient(8, 3, bits / 8);

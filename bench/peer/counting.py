@@ -47,7 +47,7 @@ class Measured:
     """The functions of a program whose instructions are counted, with all that they call: one that
     takes a message, one that sends an update, and others; where drawing is counted by itself, one
     that copies a rectangle. Callgrind forgets that a function is to be counted where another name
-    begins alike, and it is told to write at that function too. So names to be counted begin with a
+    begins alike, and it then writes at that function too. So names to be counted begin with a
     star, and names to write at do not."""
 
     def __init__(self, names, take, send, copy=None):
@@ -59,7 +59,7 @@ class Measured:
 
 class Round:
     """What an update cost: what was drawn before it from the first copy on, the request with the
-    update, and what was done behind it up to the next copy or message."""
+    update, and what was done after it up to the next copy or message."""
 
     def __init__(self, drawn, sent, shown):
         self.drawn, self.sent, self.shown = drawn, sent, shown
@@ -104,7 +104,7 @@ def rounds(words, measured, script, room):
 
 def drawings(words, stepping, found, script, room):
     """The same of a program that draws within its steps: these are counted whole. Of what they need
-    from one update to the next request, what was done behind the update is taken off."""
+    from one update to the next request, what was done after the update is taken off."""
     text = "".join(line + "\n" for line in script).encode()
     counts, _ = counted(words, stepping.flags, room, text)
     between, sum_of = [], 0

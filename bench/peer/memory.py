@@ -13,7 +13,7 @@ def free_port():
 
 
 class Peak:
-    """A program at work, of which the largest memory is told."""
+    """A program at work, of which the largest memory is reported."""
 
     def __init__(self, room, name, words, text=b""):
         self.file = os.path.join(room, name)

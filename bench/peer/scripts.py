@@ -106,7 +106,7 @@ def whole_updates(name, encoding, width, height):
 
 
 def moved(x, y, w, h, sx, sy):
-    """A rectangle takes what another had, and the server is told so."""
+    """A rectangle takes what another had, and the server gets the hint."""
     return [f"{word} {x} {y} {w} {h} {sx} {sy}" for word in ("copy", "hint")]
 
 
@@ -143,7 +143,7 @@ def character(width, height):
 
 
 def changes(width, height):
-    """What is drawn before each update behind the first, by name. The first of them is drawn to no
+    """What is drawn before each update after the first, by name. The first of them is drawn to no
     purpose: what is done for the first time at all costs more. The last request stays open."""
     place = f"fill {width // 2 + 32} {height // 2 + 32} 1 1"
     return [

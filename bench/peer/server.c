@@ -3,7 +3,7 @@
  * one end of a pair of sockets, and the library reads them at the other. What the library sends
  * goes to a file, from the greeting on, and can be played.
  *
- * What is measured has a function of its own, whose name Callgrind is told: `draw_fill`,
+ * What is measured has a function of its own, whose name Callgrind is given: `draw_fill`,
  * `draw_copy`, `take_message`, `send_update`.
  *
  *     server asked|own SENT < script
@@ -39,7 +39,7 @@ static uint32_t *place(int x, int y) {
     return (uint32_t *)screen->frameBuffer + (size_t)y * screen->width + x;
 }
 
-/* A rectangle of the screen gets one pixel, and the library is told. */
+/* A rectangle of the screen gets one pixel, and the library is notified. */
 MEASURED static void draw_fill(int x, int y, int w, int h, uint32_t pixel) {
     for (int row = y; row < y + h; row++) {
         uint32_t *first = place(x, row);
@@ -48,7 +48,7 @@ MEASURED static void draw_fill(int x, int y, int w, int h, uint32_t pixel) {
     rfbMarkRectAsModified(screen, x, y, x + w, y + h);
 }
 
-/* A rectangle takes what the one at (sx, sy) had, and the library is told. */
+/* A rectangle takes what the one at (sx, sy) had, and the library is notified. */
 MEASURED static void draw_copy(int x, int y, int w, int h, int sx, int sy) {
     if (w && h) rfbDoCopyRect(screen, x, y, x + w, y + h, x - sx, y - sy);
 }

@@ -9,15 +9,15 @@ use Rattle.rfb.specs.Address.{GivesServer, HasNoColon, IsAddress, NamesPort}
 use Rattle.rfb.specs.Options.{GivesAddress, HasBadAddress, MayGiveNumber}
 
 -- a word is parted by its first colon in one way
-pub no_address : (word named behind : Text) → word ≡ named ++ 58 ∷ behind → HasNoColon named →
-    ((port : ℕ) → ¬ (NamesPort behind port)) → (host : Text) (port : ℕ) → ¬ (IsAddress word host port)
-no_address word named behind is lacks none host port (inl (lack, named_so, at)) =
-    let there : list_any (λ x. x == 58) word ≡ true = ap (list_any (λ x. x == 58)) is ∙ list_any-at 58 named behind in
+pub no_address : (word named after : Text) → word ≡ named ++ 58 ∷ after → HasNoColon named →
+    ((port : ℕ) → ¬ (NamesPort after port)) → (host : Text) (port : ℕ) → ¬ (IsAddress word host port)
+no_address word named after is lacks none host port (inl (lack, named_so, at)) =
+    let there : list_any (λ x. x == 58) word ≡ true = ap (list_any (λ x. x == 58)) is ∙ list_any-at 58 named after in
     let away : list_any (λ x. x == 58) word ≡ false = list_any-Lacks 58 word lack in
     let both : true ≡ false = sym there ∙ away in cc
-no_address word named behind is lacks none host port (inr (other, rest, same, lack, named_so, names)) =
-    let e : rest ≡ behind =
-    sym (after_first-at 58 other rest lack) ∙ (ap (after_first (λ x. x == 58)) (sym same ∙ is) ∙ after_first-at 58 named behind lacks) in
+no_address word named after is lacks none host port (inr (other, rest, same, lack, named_so, names)) =
+    let e : rest ≡ after =
+    sym (after_first-at 58 other rest lack) ∙ (ap (after_first (λ x. x == 58)) (sym same ∙ is) ∙ after_first-at 58 named after lacks) in
     none port (subst (λ (t : Text). NamesPort t port) e names)
 
 -- a server that is named by a word alone

@@ -1,4 +1,4 @@
--- The words behind a keyword: as many as they have to be, each for its value.
+-- The words after a keyword: as many as they have to be, each for its value.
 use Rattle.std.proofs.Common.{◌<◌, ◌≤◌, zero, suc, take, Option, Some, None, MatchOption, ◌≡◌, ◌≢◌, ◌∙◌, ap, sym, refl, subst, Bool, true, false, length, ℕ, List, [], ◌∷◌, Bor, slice_index_or, arith, codes, map}
 use Rattle.std.proofs.lemmas.List.{take_all}
 use Rattle.rfb_picture.specs.declared.rect.Rect.{Rect}

@@ -6,7 +6,7 @@ use Rattle.rfb_server.specs.Standing.{fault_of}
 use Rattle.rfb_server.specs.Updating.{StaysUnsent, Updates}
 use Rattle.rfb.specs.Loopback.{ComposesInto, SendsNothing}
 
--- what was appended to an empty buffer is in flight behind the others
+-- what was appended to an empty buffer is in flight after the others
 updates_into : (old new : Server) (empty update before after : List ℕ) → empty ≡ [] →
     after ≡ before ++ update → Updates old new empty update → Updates old new before after
 updates_into old new empty update before after none wrote was = record {
@@ -16,7 +16,7 @@ updates_into old new empty update before after none wrote was = record {
       let one = was.sent serving s prefix stands in
       record {
         due = one.due;
-        behind = one.behind;
+        resulting = one.resulting;
         bytes = one.bytes;
         copies = one.copies;
         blocks = one.blocks;

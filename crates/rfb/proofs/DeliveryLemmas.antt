@@ -335,7 +335,7 @@ crosses_then bytes more before mid after unread between left came next one two =
       ∙ ap (λ (n : ℕ). length bytes + n) two.as_many ∙ sym (length-append bytes more);
 }
 
--- the bytes of one part behind those before
+-- the bytes of one part after those before
 pub next_part : (all now part rest : List ℕ) (n k m : ℕ) → now ≡ drop n all → now ≡ part ++ rest → length part ≡ k →
     n + k ≡ m → take n all ++ part ≡ take m all
 next_part all now part rest n k m is parts size sum =
@@ -366,29 +366,29 @@ reaches_viewer_none all n unsent unread old before none =
 
 -- one part more
 pub reaches_server_more : (all now part rest : List ℕ) (n k m : ℕ) (unsent mid sent unread between left : Option (List ℕ))
-    (old last new : Server) (before after behind : List ℕ) →
+    (old last new : Server) (before after later : List ℕ) →
     now ≡ drop n all → now ≡ part ++ rest → length part ≡ k →
     n + k ≡ m → ReachesServer (take n all) unsent mid unread between old before after last →
-    ReachesServer part mid sent between left last after behind new →
-    ReachesServer (take m all) unsent sent unread left old before behind new
-reaches_server_more all now part rest n k m unsent mid sent unread between left old last new before after behind is parts size sum was more =
-    subst (λ (l : List ℕ). ReachesServer l unsent sent unread left old before behind new) (next_part all now part rest n k m is parts size sum)
+    ReachesServer part mid sent between left last after later new →
+    ReachesServer (take m all) unsent sent unread left old before later new
+reaches_server_more all now part rest n k m unsent mid sent unread between left old last new before after later is parts size sum was more =
+    subst (λ (l : List ℕ). ReachesServer l unsent sent unread left old before later new) (next_part all now part rest n k m is parts size sum)
     (record {
       came = was.came ++ more.came;
       crosses = crosses_then (take n all) part unsent mid sent unread between left was.came more.came was.crosses more.crosses;
-      hears = hears_then old last new was.came more.came before after behind was.hears more.hears;
+      hears = hears_then old last new was.came more.came before after later was.hears more.hears;
     })
 
 pub reaches_viewer_more : (all now part rest : List ℕ) (n k m : ℕ) (unsent mid sent unread between left : Option (List ℕ))
-    (old last new : Viewer) (before after behind : List ℕ) →
+    (old last new : Viewer) (before after later : List ℕ) →
     now ≡ drop n all → now ≡ part ++ rest → length part ≡ k →
     n + k ≡ m → ReachesViewer (take n all) unsent mid unread between old before after last →
-    ReachesViewer part mid sent between left last after behind new →
-    ReachesViewer (take m all) unsent sent unread left old before behind new
-reaches_viewer_more all now part rest n k m unsent mid sent unread between left old last new before after behind is parts size sum was more =
-    subst (λ (l : List ℕ). ReachesViewer l unsent sent unread left old before behind new) (next_part all now part rest n k m is parts size sum)
+    ReachesViewer part mid sent between left last after later new →
+    ReachesViewer (take m all) unsent sent unread left old before later new
+reaches_viewer_more all now part rest n k m unsent mid sent unread between left old last new before after later is parts size sum was more =
+    subst (λ (l : List ℕ). ReachesViewer l unsent sent unread left old before later new) (next_part all now part rest n k m is parts size sum)
     (record {
       came = was.came ++ more.came;
       crosses = crosses_then (take n all) part unsent mid sent unread between left was.came more.came was.crosses more.crosses;
-      watches = watches_then old last new was.came more.came before after behind was.watches more.watches;
+      watches = watches_then old last new was.came more.came before after later was.watches more.watches;
     })

@@ -6,7 +6,7 @@ use Rattle.std.proofs.lemmas.List.Elements.{All-nil, All-cons, All-head, All-tai
 use Rattle.rfb.specs.declared.script.hub.line.HubNumbered.{HubNumbered}
 use Rattle.rfb.specs.declared.script.hub.line.HubStep.{HubStep}
 use Rattle.rfb.specs.declared.script.line.Screen.{Screen as Size}
-use Rattle.rfb.specs.HubScript.{AreHubScript, AreOpenHub, AskInHub, AsksInHub, BeginHub, GivesHub, IsBadInHub, IsFirstBadInHub, IsWithoutShow, NamesShown, SaysHub, SaysHubStep, SaysShow, first_line, line_behind}
+use Rattle.rfb.specs.HubScript.{AreHubScript, AreOpenHub, AskInHub, AsksInHub, BeginHub, GivesHub, IsBadInHub, IsFirstBadInHub, IsWithoutShow, NamesShown, SaysHub, SaysHubStep, SaysShow, first_line, line_after}
 use Rattle.rfb.specs.Script.{AreEmpty, words_of}
 use Rattle.rfb.specs.Words.{texts}
 use Rattle.rfb.proofs.LinesLemmas.{parted, texts_more}
@@ -29,7 +29,7 @@ empty_more (l ∷ lines) line all none =
 later_more : (lines blank later : List (List ℕ)) (first line : List ℕ) → lines ≡ blank ++ first ∷ later → lines ++ line ∷ [] ≡ blank ++ first ∷ (later ++ line ∷ [])
 later_more lines blank later first line whole = ap (λ (l : List (List ℕ)). l ++ line ∷ []) whole ∙ append_assoc blank (first ∷ later) (line ∷ [])
 
--- ---- the lines behind the first
+-- ---- the lines after the first
 
 asks_blank : (n : ℕ) (lines : List (List ℕ)) (line : List ℕ) (steps : List HubNumbered) → line ≡ [] → AskInHub n lines steps → AskInHub n (lines ++ line ∷ []) steps
 asks_blank n [] line [] none asks = rw none tt
@@ -160,31 +160,31 @@ hub_first_bad all words word n front turn count bad =
       bad = bad;
     }
 
--- ---- the line behind the last
+-- ---- the line after the last
 
-behind_blank : (lines : List (List ℕ)) (line : List ℕ) → line ≡ [] → line_behind (lines ++ line ∷ []) ≡ length lines + 1
-behind_blank [] line none = rw none refl
-behind_blank (l ∷ []) line none = rw none refl
-behind_blank (l ∷ (m ∷ lines)) line none = let e = behind_blank (m ∷ lines) line none in omega (arith, e)
+line_after_blank : (lines : List (List ℕ)) (line : List ℕ) → line ≡ [] → line_after (lines ++ line ∷ []) ≡ length lines + 1
+line_after_blank [] line none = rw none refl
+line_after_blank (l ∷ []) line none = rw none refl
+line_after_blank (l ∷ (m ∷ lines)) line none = let e = line_after_blank (m ∷ lines) line none in omega (arith, e)
 
-behind_chars : (lines : List (List ℕ)) (line : List ℕ) → line ≢ [] → line_behind (lines ++ line ∷ []) ≡ length lines + 2
-behind_chars [] [] some = absurd (some refl)
-behind_chars [] (char ∷ line) some = refl
-behind_chars (l ∷ []) [] some = absurd (some refl)
-behind_chars (l ∷ []) (char ∷ line) some = refl
-behind_chars (l ∷ (m ∷ lines)) line some = let e = behind_chars (m ∷ lines) line some in omega (arith, e)
+line_after_chars : (lines : List (List ℕ)) (line : List ℕ) → line ≢ [] → line_after (lines ++ line ∷ []) ≡ length lines + 2
+line_after_chars [] [] some = absurd (some refl)
+line_after_chars [] (char ∷ line) some = refl
+line_after_chars (l ∷ []) [] some = absurd (some refl)
+line_after_chars (l ∷ []) (char ∷ line) some = refl
+line_after_chars (l ∷ (m ∷ lines)) line some = let e = line_after_chars (m ∷ lines) line some in omega (arith, e)
 
-pub behind_more : (words : List (Bor (List ℕ))) (word : Bor (List ℕ)) (n : ℕ) → n ≡ length words → word.now ≡ [] → n + 1 ≡ line_behind (texts (words ++ word ∷ []))
-behind_more words word n count none =
-    let e = behind_blank (texts words) word.now none in
+pub line_after_more : (words : List (Bor (List ℕ))) (word : Bor (List ℕ)) (n : ℕ) → n ≡ length words → word.now ≡ [] → n + 1 ≡ line_after (texts (words ++ word ∷ []))
+line_after_more words word n count none =
+    let e = line_after_blank (texts words) word.now none in
     rw (texts_more words word) (omega (arith, e, count, texts_length words))
 
-pub behind_more_chars : (words : List (Bor (List ℕ))) (word : Bor (List ℕ)) (n : ℕ) → n ≡ length words → word.now ≢ [] → (n + 1) + 1 ≡ line_behind (texts (words ++ word ∷ []))
-behind_more_chars words word n count some =
-    let e = behind_chars (texts words) word.now some in
+pub line_after_more_chars : (words : List (Bor (List ℕ))) (word : Bor (List ℕ)) (n : ℕ) → n ≡ length words → word.now ≢ [] → (n + 1) + 1 ≡ line_after (texts (words ++ word ∷ []))
+line_after_more_chars words word n count some =
+    let e = line_after_chars (texts words) word.now some in
     rw (texts_more words word) (omega (arith, e, count, texts_length words))
 
-pub without_show : (lines : List (List ℕ)) (screen : Option Size) (steps : List HubNumbered) (shown : Option ℕ) (n : ℕ) → ReadHub lines screen steps shown → (screen ≡ None) ⊎ (shown ≡ None) → n ≡ line_behind lines → IsWithoutShow lines n
+pub without_show : (lines : List (List ℕ)) (screen : Option Size) (steps : List HubNumbered) (shown : Option ℕ) (n : ℕ) → ReadHub lines screen steps shown → (screen ≡ None) ⊎ (shown ≡ None) → n ≡ line_after lines → IsWithoutShow lines n
 without_show lines None steps shown n read lacks is = (inl read.0, is)
 without_show lines (Some size) steps None n read lacks is = (inr (size, steps, read), is)
 without_show lines (Some size) steps (Some slot) n read (inl e) is = absurd (cc)

@@ -1,4 +1,4 @@
--- Runs of a hub's script, and what is told of its lines.
+-- Runs of a hub's script, and what is reported of its lines.
 use Rattle.std.proofs.Common.{◌≡◌, ◌≢◌, ◌+◌, ◌∙◌, ap, sym, refl, subst, Bool, true, false, is_some, inl, inr, ◌⊎◌, zero, suc, ℕ, Option, Some, None, List, [], ◌∷◌, ◌++◌, OnErr, Result, Ok, Err, append-nil, append_assoc, bit_or, arith}
 use Rattle.rfb_picture.specs.Grid.{uniform}
 use Rattle.rfb_server.specs.Server.{black}
@@ -70,7 +70,7 @@ leads_one old new event told step stands = record { runs = (new, told, step, ref
 pub leads_two : (a b c : Hub) (e f : HubEvent) (t u : HubTold) → HubSteps a e t b → HubSteps b f u c → (HubStands a → HubStands b) → (HubStands b → HubStands c) → LeadsHub a (e ∷ f ∷ []) c
 leads_two a b c e f t u one two first second = record { runs = (b, t, one, (c, u, two, refl)); stands = λ s. second (first s) }
 
--- ---- what is told of a line
+-- ---- what is reported of a line
 
 refusal_more : (first : Option HubFault) (all : List HubTold) (told : HubTold) → refusal_with first (all ++ told ∷ []) ≡ or_refusal (refusal_with first all) told.refused
 refusal_more first [] told = refl

@@ -16,7 +16,7 @@ use Rattle.rfb.specs.HubPlaying.{hub_events}
 use Rattle.rfb.specs.HubScript.{AreHubScript, BeginHub, StopsReadingAny, StopsReadingHub}
 use Rattle.rfb.specs.Script.{StopsReading, lines_of}
 
--- what was read behind nothing is what there was to read
+-- what was read after nothing is what there was to read
 pub fails_any : (read : Option (List ℕ)) (empty all : List ℕ) (failure : Failure) → empty ≡ [] →
     IfSome read (λ text. all ≡ empty ++ text) → StopsReadingAny (lines_of all) failure → FailsAtAny read failure
 fails_any None empty all (BadLine n) e is stops = tt

@@ -12,10 +12,10 @@ use Rattle.rfb.specs.declared.script.hub.line.HubStep.{HubStep}
 use Rattle.rfb.specs.declared.script.hub.line.HubStep.TheVariants.{Event, Settle}
 use Rattle.rfb.specs.declared.script.line.Screen.{Screen as Size}
 use Rattle.rfb.specs.Few.{HasFewInHub}
-use Rattle.rfb.specs.HubScript.{AreForeign, AreJoin, AsksInHub, GivesHub, IsBehindSlot, IsSlotAlone, NamesShown, SaysAt, SaysHub, SaysHubStep, SaysShow}
+use Rattle.rfb.specs.HubScript.{AreForeign, AreJoin, AsksInHub, GivesHub, IsSlotThen, IsSlotAlone, NamesShown, SaysAt, SaysHub, SaysHubStep, SaysShow}
 use Rattle.rfb.specs.Script.{Begins, SaysEvent, words_of}
 use Rattle.rfb.specs.Words.{AreFill, AreMove, AreSize, texts}
-use Rattle.rfb.proofs.HubWordLemmas.{no_slot_first, nothing_behind, none_behind, is_behind, split_texts}
+use Rattle.rfb.proofs.HubWordLemmas.{no_slot_first, nothing_after, none_after, is_after, split_texts}
 use Rattle.rfb.proofs.ScriptLemmas.{heads, nothing, no_texts, other_word, same_word, tails, words_are}
 
 -- two keywords that differ
@@ -139,7 +139,7 @@ no_step_of key word rest same none = subst (λ (k : List ℕ). (step : HubStep) 
 pub step_of : (key word : List ℕ) (rest : List (List ℕ)) (step : HubStep) → bytes_eq key word ≡ true → SaysHubStep (word ∷ rest) step → SaysHubStep (key ∷ rest) step
 step_of key word rest step same said = subst (λ (k : List ℕ). SaysHubStep (k ∷ rest) step) (sym (same_word key word same)) said
 
--- what is behind `at`, by what was read of it
+-- what is after `at`, by what was read of it
 pub at_read : (key : List ℕ) (rest : List (List ℕ)) → bytes_eq key (codes "at") ≡ true → (r : Option HubStep) → MatchOption r ((step : HubStep) → ¬ (SaysAt rest step)) (SaysAt rest) → MatchOption r ((step : HubStep) → ¬ (SaysHubStep (key ∷ rest) step)) (SaysHubStep (key ∷ rest))
 at_read key rest same None none = no_step_of key (codes "at") rest same (hub_at rest none)
 at_read key rest same (Some step) said = step_of key (codes "at") rest step same (says_at rest step said)
@@ -156,7 +156,7 @@ no_hub_words (Event (Of slot event)) said = nothing _ said.0 said.1
 no_hub_words (Settle slot) said = nothing _ said.0 said.1
 no_hub_words (Event (Put x y row)) said = absurd said
 
--- ---- what is behind a slot
+-- ---- what is after a slot
 
 -- the events of a slot
 pub no_slot_event : (key : List ℕ) (rest : List (List ℕ)) → key ≢ codes "request" → key ≢ codes "format" → key ≢ codes "toserver" → key ≢ codes "toviewer" → ((key ≡ codes "compose") → (rest ≡ []) → ⊥) → (event : SlotEvent) → ¬ (SaysEvent (key ∷ rest) (event_of event))
@@ -181,8 +181,8 @@ no_slot_words (Key down code) said = absurd said
 no_slot_words (Pointer buttons x y) said = absurd said
 no_slot_words (CutText text) said = absurd said
 
--- nothing that is behind a slot
-no_at : (words : List (List ℕ)) → ((slot : ℕ) (Holds : List (List ℕ) → Type 0) → ¬ (IsBehindSlot slot words Holds)) → (step : HubStep) → ¬ (SaysAt words step)
+-- nothing that is after a slot
+no_at : (words : List (List ℕ)) → ((slot : ℕ) (Holds : List (List ℕ) → Type 0) → ¬ (IsSlotThen slot words Holds)) → (step : HubStep) → ¬ (SaysAt words step)
 no_at words none (Event (Of slot event)) said = none slot _ said
 no_at words none (Settle slot) said = none slot _ said
 no_at words none (Event (Fill rect colour)) said = absurd said
@@ -194,15 +194,15 @@ no_at words none (Event (Leave slot)) said = absurd said
 no_at words none (Event (Foreign slot bytes)) said = absurd said
 
 pub no_at_words : (words : List (Bor (List ℕ))) → length words ≡ 0 → (step : HubStep) → ¬ (SaysAt (texts words) step)
-no_at_words words none = no_at (texts words) (λ slot Holds. nothing_behind words Holds none slot)
+no_at_words words none = no_at (texts words) (λ slot Holds. nothing_after words Holds none slot)
 
 pub no_at_slot : (words : List (Bor (List ℕ))) (first : Bor (List ℕ)) (rest : List (Bor (List ℕ))) → words ≡ first ∷ rest → ((slot : ℕ) → first.now ≡ (48 + slot) ∷ [] → slot ≤ 9 → ⊥) → (step : HubStep) → ¬ (SaysAt (texts words) step)
 no_at_slot words first rest e none = no_at (texts words) (λ slot Holds. no_slot_first words first rest Holds e (λ s is. none s is.0 is.1) slot)
 
--- neither an event of a slot nor a settle is behind it
+-- neither an event of a slot nor a settle is after it
 pub no_at_line : (words : List (Bor (List ℕ))) (first : Bor (List ℕ)) (rest : List (Bor (List ℕ))) → words ≡ first ∷ rest → ((event : SlotEvent) → ¬ (SaysEvent (texts rest) (event_of event))) → ¬ (texts rest ≡ codes "settle" ∷ []) → (step : HubStep) → ¬ (SaysAt (texts words) step)
-no_at_line words first rest e none settle (Event (Of slot event)) said = none_behind words first rest (λ (line : List (List ℕ)). SaysEvent line (event_of event)) e (none event) slot said
-no_at_line words first rest e none settle (Settle slot) said = none_behind words first rest (λ (line : List (List ℕ)). line ≡ codes "settle" ∷ []) e settle slot said
+no_at_line words first rest e none settle (Event (Of slot event)) said = none_after words first rest (λ (line : List (List ℕ)). SaysEvent line (event_of event)) e (none event) slot said
+no_at_line words first rest e none settle (Settle slot) said = none_after words first rest (λ (line : List (List ℕ)). line ≡ codes "settle" ∷ []) e settle slot said
 no_at_line words first rest e none settle (Event (Fill rect colour)) said = absurd said
 no_at_line words first rest e none settle (Event (Put x y row)) said = absurd said
 no_at_line words first rest e none settle (Event (Copy rect sx sy)) said = absurd said
@@ -211,7 +211,7 @@ no_at_line words first rest e none settle (Event (Join slot setup)) said = absur
 no_at_line words first rest e none settle (Event (Leave slot)) said = absurd said
 no_at_line words first rest e none settle (Event (Foreign slot bytes)) said = absurd said
 
--- nothing is behind it
+-- nothing is after it
 pub no_at_end : (words : List (Bor (List ℕ))) (first : Bor (List ℕ)) (rest : List (Bor (List ℕ))) → words ≡ first ∷ rest → length rest ≡ 0 → (step : HubStep) → ¬ (SaysAt (texts words) step)
 no_at_end words first rest e none =
     let empty = no_texts rest none in

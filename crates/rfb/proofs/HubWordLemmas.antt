@@ -4,7 +4,7 @@ use Rattle.hex.specs.Hex.{decode_of}
 use Rattle.hex.specs.declared.error.FromHexError.{FromHexError}
 use Rattle.rfb_viewer.specs.declared.setup.ViewerSetup.{ViewerSetup as Setup}
 use Rattle.rfb.specs.declared.script.line.Wants.{Wants}
-use Rattle.rfb.specs.HubScript.{AreForeign, AreJoin, AreSetup, IsBehindSlot, IsHexWord, IsSetup, IsSlotAlone, IsSlotWord, kind_of_join}
+use Rattle.rfb.specs.HubScript.{AreForeign, AreJoin, AreSetup, IsSlotThen, IsHexWord, IsSetup, IsSlotAlone, IsSlotWord, kind_of_join}
 use Rattle.rfb.specs.Script.{Begins}
 use Rattle.rfb.specs.Words.{AreWants, texts}
 use Rattle.rfb.proofs.ArgumentLemmas.{word, one_words, two_words}
@@ -34,25 +34,25 @@ pub slot_alone : (words : List (Bor (List ℕ))) (d : Bor (List ℕ)) → length
 slot_alone words d len None none = no_slot_alone words d len none
 slot_alone words d len (Some slot) is = (word words 0 d, one_words words d len, is)
 
--- ---- a slot, and what is behind it
+-- ---- a slot, and what is after it
 
 pub split_texts : (words : List (Bor (List ℕ))) (first : Bor (List ℕ)) (rest : List (Bor (List ℕ))) → words ≡ first ∷ rest → texts words ≡ first.now ∷ texts rest
 split_texts words first rest e = ap (λ (ws : List (Bor (List ℕ))). texts ws) e
 
-pub nothing_behind : (words : List (Bor (List ℕ))) (Holds : List (List ℕ) → Type 0) → length words ≡ 0 → (slot : ℕ) → ¬ (IsBehindSlot slot (texts words) Holds)
-nothing_behind words Holds none slot said = nothing said.0 said.1 (sym (no_texts words none) ∙ said.2)
+pub nothing_after : (words : List (Bor (List ℕ))) (Holds : List (List ℕ) → Type 0) → length words ≡ 0 → (slot : ℕ) → ¬ (IsSlotThen slot (texts words) Holds)
+nothing_after words Holds none slot said = nothing said.0 said.1 (sym (no_texts words none) ∙ said.2)
 
-pub no_slot_first : (words : List (Bor (List ℕ))) (first : Bor (List ℕ)) (rest : List (Bor (List ℕ))) (Holds : List (List ℕ) → Type 0) → words ≡ first ∷ rest → ((slot : ℕ) → ¬ (IsSlotWord first.now slot)) → (slot : ℕ) → ¬ (IsBehindSlot slot (texts words) Holds)
+pub no_slot_first : (words : List (Bor (List ℕ))) (first : Bor (List ℕ)) (rest : List (Bor (List ℕ))) (Holds : List (List ℕ) → Type 0) → words ≡ first ∷ rest → ((slot : ℕ) → ¬ (IsSlotWord first.now slot)) → (slot : ℕ) → ¬ (IsSlotThen slot (texts words) Holds)
 no_slot_first words first rest Holds e none slot said =
     let same : first.now ≡ said.0 = heads first.now said.0 (texts rest) said.1 (sym (split_texts words first rest e) ∙ said.2) in
     none slot (rw same said.3)
 
-pub none_behind : (words : List (Bor (List ℕ))) (first : Bor (List ℕ)) (rest : List (Bor (List ℕ))) (Holds : List (List ℕ) → Type 0) → words ≡ first ∷ rest → ¬ (Holds (texts rest)) → (slot : ℕ) → ¬ (IsBehindSlot slot (texts words) Holds)
-none_behind words first rest Holds e none slot said =
+pub none_after : (words : List (Bor (List ℕ))) (first : Bor (List ℕ)) (rest : List (Bor (List ℕ))) (Holds : List (List ℕ) → Type 0) → words ≡ first ∷ rest → ¬ (Holds (texts rest)) → (slot : ℕ) → ¬ (IsSlotThen slot (texts words) Holds)
+none_after words first rest Holds e none slot said =
     none (subst (λ (r : List (List ℕ)). Holds r) (tails first.now said.0 (texts rest) said.1 (sym (split_texts words first rest e) ∙ said.2)) said.4)
 
-pub is_behind : (words : List (Bor (List ℕ))) (first : Bor (List ℕ)) (rest : List (Bor (List ℕ))) (Holds : List (List ℕ) → Type 0) (slot : ℕ) → words ≡ first ∷ rest → IsSlotWord first.now slot → Holds (texts rest) → IsBehindSlot slot (texts words) Holds
-is_behind words first rest Holds slot e is holds = (first.now, texts rest, split_texts words first rest e, is, holds)
+pub is_after : (words : List (Bor (List ℕ))) (first : Bor (List ℕ)) (rest : List (Bor (List ℕ))) (Holds : List (List ℕ) → Type 0) (slot : ℕ) → words ≡ first ∷ rest → IsSlotWord first.now slot → Holds (texts rest) → IsSlotThen slot (texts words) Holds
+is_after words first rest Holds slot e is holds = (first.now, texts rest, split_texts words first rest e, is, holds)
 
 -- ---- what a viewer that joins is made with
 

@@ -8,7 +8,7 @@ use Rattle.rfb.specs.declared.script.line.Screen.{Screen as Size}
 use Rattle.rfb.specs.declared.script.line.Wants.{Wants}
 use Rattle.rfb.specs.declared.script.line.Line.TheVariants.{Screen, Viewer}
 use Rattle.rfb.specs.Words.{texts}
-use Rattle.rfb.specs.Script.{AreEmpty, AreScript, AskBehind, AskFor, AskForAll, GivesSize, IsBadBehind, IsFirstBad, IsNoMore, Says, SaysStep, words_of}
+use Rattle.rfb.specs.Script.{AreEmpty, AreScript, AskAfter, AskFor, AskForAll, GivesSize, IsBadAfter, IsFirstBad, IsNoMore, Says, SaysStep, words_of}
 use Rattle.rfb.proofs.ScriptLemmas.{texts_length}
 
 -- what lines are that were read so far: empty, or a script
@@ -29,7 +29,7 @@ empty_more [] line all none = All-cons IsEmpty line [] none (All-nil IsEmpty)
 empty_more (l ∷ lines) line all none =
     All-cons IsEmpty l (lines ++ line ∷ []) (All-head IsEmpty l lines all) (empty_more lines line (All-tail IsEmpty l lines all) none)
 
--- ---- the lines behind the screen's
+-- ---- the lines after the screen's
 
 asks_blank : (n : ℕ) (lines : List (List ℕ)) (line : List ℕ) (steps : List Numbered) → line ≡ [] → AskFor n lines steps → AskFor n (lines ++ line ∷ []) steps
 asks_blank n [] line [] none asks = rw none tt
@@ -53,7 +53,7 @@ asks_none n [] asks = All-nil IsEmpty
 asks_none n ([] ∷ lines) asks = All-cons IsEmpty [] lines refl (asks_none (n + 1) lines asks)
 asks_none n ((char ∷ l) ∷ lines) asks = absurd asks
 
--- the line stands behind the later ones
+-- the line stands after the later ones
 later_more : (lines blank later : List (List ℕ)) (first line : List ℕ) → lines ≡ blank ++ first ∷ later → lines ++ line ∷ [] ≡ blank ++ first ∷ (later ++ line ∷ [])
 later_more lines blank later first line whole = ap (λ (l : List (List ℕ)). l ++ line ∷ []) whole ∙ append_assoc blank (first ∷ later) (line ∷ [])
 
@@ -83,7 +83,7 @@ all_more n lines line (Some wants) steps step asks at some says =
       steps_are = asks_more (n + length asks.blank + 1) (n + length lines) asks.later line steps step asks.steps_are (omega (arith, size)) at some says;
     }
 
-all_wants : (n : ℕ) (lines : List (List ℕ)) (line : List ℕ) (wants : Wants) (steps : List Numbered) → steps ≡ [] → AskFor n lines steps → Says (words_of line) (Viewer wants) → AskBehind n (lines ++ line ∷ []) wants steps
+all_wants : (n : ℕ) (lines : List (List ℕ)) (line : List ℕ) (wants : Wants) (steps : List Numbered) → steps ≡ [] → AskFor n lines steps → Says (words_of line) (Viewer wants) → AskAfter n (lines ++ line ∷ []) wants steps
 all_wants n lines line wants [] none asks says = record {
   blank = lines;
   second = line;
@@ -197,16 +197,16 @@ step_so_far words word n screen wants steps step count read begun some at says =
 
 -- ---- what is answered to a line that is bad
 
-pub bad_size : (lines : List (List ℕ)) (line : List ℕ) (screen : Option Size) (wants : Option Wants) (steps : List Numbered) → line ≢ [] → ReadSoFar lines screen wants steps → is_some screen ≡ false → ¬ (GivesSize line) → IsBadBehind lines line
+pub bad_size : (lines : List (List ℕ)) (line : List ℕ) (screen : Option Size) (wants : Option Wants) (steps : List Numbered) → line ≢ [] → ReadSoFar lines screen wants steps → is_some screen ≡ false → ¬ (GivesSize line) → IsBadAfter lines line
 bad_size lines line None wants steps some read none not = (some, inl (read.0, not))
 bad_size lines line (Some size) wants steps some read none not = absurd (cc)
 
-pub bad_step : (lines : List (List ℕ)) (line : List ℕ) (screen : Option Size) (wants : Option Wants) (steps : List Numbered) → line ≢ [] → ReadSoFar lines screen wants steps → is_some screen ≡ true → IsNoMore wants steps line → IsBadBehind lines line
+pub bad_step : (lines : List (List ℕ)) (line : List ℕ) (screen : Option Size) (wants : Option Wants) (steps : List Numbered) → line ≢ [] → ReadSoFar lines screen wants steps → is_some screen ≡ true → IsNoMore wants steps line → IsBadAfter lines line
 bad_step lines line None wants steps some read begun not = absurd (cc)
 bad_step lines line (Some size) wants steps some read begun not = (some, inr (size, wants, steps, read, not))
 
 -- the line under way is the first bad one
-pub first_bad : (all : List (List ℕ)) (words : List (Bor (List ℕ))) (word : Bor (List ℕ)) (n : ℕ) → texts words ≡ take (length words) all → (length words < length all) × (word.now ≡ get_or all (length words) word.now) → n ≡ length words → IsBadBehind (texts words) word.now → IsFirstBad all (n + 1)
+pub first_bad : (all : List (List ℕ)) (words : List (Bor (List ℕ))) (word : Bor (List ℕ)) (n : ℕ) → texts words ≡ take (length words) all → (length words < length all) × (word.now ≡ get_or all (length words) word.now) → n ≡ length words → IsBadAfter (texts words) word.now → IsFirstBad all (n + 1)
 first_bad all words word n front turn count bad =
     let size = texts_length words in
     record {

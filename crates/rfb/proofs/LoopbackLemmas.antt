@@ -33,7 +33,7 @@ leaves_some_picture contents viewer old new (Ok done) left = tt
 leaves_some_picture contents viewer old new (Err fault) (inl same) = inl (ap contents same)
 leaves_some_picture contents viewer old new (Err fault) (inr begun) = inr (viewer, begun)
 
--- what was read behind nothing is what there was to read
+-- what was read after nothing is what there was to read
 pub some_script : (read : Option (List ℕ)) (empty all : List ℕ) (size : Screen) (wants : Option Wants)
     (steps : List Numbered) → empty ≡ [] → IfSome read (λ text. all ≡ empty ++ text) →
     AreScript (lines_of all) size wants steps → IfSome read (λ text. AreSomeScript (lines_of text))
@@ -76,7 +76,7 @@ call_fed old new bytes used event before after answer fed is wrote = record {
   wrote = subst (λ (l : List ℕ). Appends before after l) is wrote;
 }
 
--- calls behind one another
+-- calls one after another
 pub fed_more : (old : Viewer) (bytes rest : List ℕ) (before mid after : Option (List ℕ)) (last : Viewer)
     (used : ℕ) (new : Viewer) → FedSoFar old bytes rest before mid last →
     IsFed last (take used rest) mid after new →

@@ -48,7 +48,7 @@ steps_append : (e : Ends) (a b c : Network) (xs ys : List Event) → StepsAll e 
 steps_append e a b c [] ys is steps = subst (λ (n : Network). StepsAll e n ys c) is steps
 steps_append e a b c (event ∷ xs) ys (mid, one, more) steps = (mid, one, steps_append e mid b c xs ys more steps)
 
--- a run behind a run
+-- a run after a run
 pub runs_append : (old mid new : World) (xs ys : List Event) → Reaches old xs mid Any → Reaches mid ys new Any → Reaches old (xs ++ ys) new Any
 runs_append old mid new xs ys first second = λ e n made reached stands.
     let one = first e n made reached stands in
@@ -64,7 +64,7 @@ pub deliveries_more : (n : ℕ) → deliveries n ++ (ToServer 4294967295 ∷ ToV
 deliveries_more zero = refl
 deliveries_more (suc n) = ap (λ (l : List Event). ToServer 4294967295 ∷ ToViewer 4294967295 ∷ l) (deliveries_more n)
 
--- a run, and one turn behind it
+-- a run, and one turn after it
 pub turn_more : (n : ℕ) (old mid new : World) (turn : List Event) → turn ≡ ToServer 4294967295 ∷ ToViewer 4294967295 ∷ [] → Reaches old (deliveries n) mid Any → Reaches mid turn new Any → Reaches old (deliveries (n + 1)) new Any
 turn_more n old mid new turn is first second =
     subst (λ (events : List Event). Reaches old events new Any) (ap (λ (l : List Event). deliveries n ++ l) is ∙ deliveries_more n ∙ ap (λ (k : ℕ). deliveries k) next) (runs_append old mid new (deliveries n) turn first second)
@@ -82,7 +82,7 @@ all_more [] step = append-nil (events_of step.step)
 all_more (s ∷ steps) step =
     ap (λ (l : List Event). events_of s.step ++ l) (all_more steps step) ∙ sym (append_assoc (events_of s.step) (all_events steps) (events_of step.step))
 
--- behind all steps
+-- after all steps
 pub is_played : (size : Size) (wants : Option Wants) (steps : List Numbered) (first world : World) → StandsFresh size wants first → Reaches first (all_events steps) world Any → AreMade (ends_of size wants) → IsPlayed size wants steps world
 is_played size wants steps first world fresh runs made =
     let e = ends_of size wants in
@@ -91,7 +91,7 @@ is_played size wants steps first world fresh runs made =
     let one = runs e (first_of size wants) made reached fresh in
     (one.0, one.1, one.2, neither_failed e world one.0 one.2, headline_holds e one.0 (reached_more e (first_of size wants) one.0 (all_events steps) reached one.1))
 
--- a run, and one step behind it
+-- a run, and one step after it
 pub step_more : (first mid new : World) (steps more : List Numbered) (step : Numbered) → more ≡ steps ++ step ∷ [] → Reaches first (all_events steps) mid Any → TakesStep mid step.step new → Reaches first (all_events more) new Any
 step_more first mid new steps more step is runs takes =
     subst (λ (events : List Event). Reaches first events new Any) (sym (ap (λ (l : List Numbered). all_events l) is ∙ all_more steps step)) (runs_append first mid new (all_events steps) (events_of step.step) runs takes)

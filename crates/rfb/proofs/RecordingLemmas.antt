@@ -81,7 +81,7 @@ begins_early is_wanted last fault before after (failure.Engine told) (same, show
 begins_early is_wanted last fault before after (failure.Fault own) begun = inr begun
 begins_early is_wanted last fault before after (failure.BadLine n) none = absurd none
 
--- an engine's fault is told as it is
+-- an engine's fault is reported as it is
 pub ends_same : (is_wanted : Bool) (last : Viewer) (fault told : EngineFault) (before after : Option (List ℕ)) (f : Failure) →
     EndsShown is_wanted last fault before after f → f ≡ failure.Engine told → told ≡ fault
 ends_same is_wanted last fault told before after (failure.Engine other) ends same = let e = ends.0 in cc

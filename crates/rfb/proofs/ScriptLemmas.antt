@@ -283,7 +283,7 @@ no_line all words is none gives = nothing (codes "viewer") gives.1.0 (sym (no_te
 
 -- ---- no line has nine words
 
--- so many words behind a keyword
+-- a keyword, and at most `n` words after it
 begins_length : (n : ℕ) (key : List ℕ) (words rest : List (List ℕ)) → words ≡ key ∷ rest → length rest ≤ n → length words ≤ n + 1
 begins_length n key words rest e few = let s = ap (λ (l : List (List ℕ)). length l) e in omega (arith, s, few)
 

@@ -9,7 +9,7 @@ use Rattle.rfb_server.specs.Server.{first_server}
 use Rattle.rfb_server.specs.Standing.{Draws, StandsFor, screen_of, with_screen}
 use Rattle.rfb_session.specs.Devices.{AppendsBeginning}
 use Rattle.rfb_session.specs.ServeEngine.{AllServed, GoesOn, ServerBetween, StopsServing}
-use Rattle.rfb_session.proofs.ServeLaws.{begun_behind}
+use Rattle.rfb_session.proofs.ServeLaws.{begun_after}
 use Rattle.rfb_session.proofs.WrittenLaws.{no_beginning, whole_beginning}
 use Rattle.rfb.specs.declared.script.line.Screen.{Screen as Size}
 use Rattle.rfb.specs.Playing.{IsFreshServer, serving_of}
@@ -18,12 +18,12 @@ use Rattle.rfb.specs.Serving.{End, IsLineOf, IsServedFrom, IsServedSome, ServesA
 
 -- ---- a line
 
-pub behind_nothing : (all empty text : List ℕ) → empty ≡ [] → all ≡ empty ++ text → all ≡ text
-behind_nothing all empty text none is = is ∙ ap (λ (l : List ℕ). l ++ text) none
+pub after_nothing : (all empty text : List ℕ) → empty ≡ [] → all ≡ empty ++ text → all ≡ text
+after_nothing all empty text none is = is ∙ ap (λ (l : List ℕ). l ++ text) none
 
 pub some_text : (all empty text : List ℕ) → empty ≡ [] → all ≡ empty ++ (codes "fault " ++ text ++ 10 ∷ []) →
     (t : List ℕ) × (all ≡ codes "fault " ++ t ++ 10 ∷ [])
-some_text all empty text none is = (text, behind_nothing all empty (codes "fault " ++ text ++ 10 ∷ []) none is)
+some_text all empty text none is = (text, after_nothing all empty (codes "fault " ++ text ++ 10 ∷ []) none is)
 
 -- ---- one connection
 
@@ -83,7 +83,7 @@ serves_fewer contents size n connections end before last new few so served (inr 
   omega arith,
   so.0 ++ told.0,
   tells_more size n end so.0 told.0 so.1 served told.1,
-  begun_behind before (contents last) (contents new) so.0 told.0 so.2 told.2,
+  begun_after before (contents last) (contents new) so.0 told.0 so.2 told.2,
 )
 
 pub serves_not : (size : Size) (connections : ℕ) (before : Option (List ℕ)) → ServesFewer size connections before before

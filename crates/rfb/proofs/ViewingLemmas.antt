@@ -40,7 +40,7 @@ stops_unkept : (b : Bool) (read answered before after : Option (List ℕ)) (firs
 stops_unkept false read answered before after first updates f last is stops = stops
 stops_unkept true read answered before after first updates f last is stops = let bad : true ≡ false = is in absurd (cc)
 
--- ---- behind a flush, which keeps what was written
+-- ---- after a flush, which keeps what was written
 
 beginning_flushed : (a b c : Option (List ℕ)) (text : List ℕ) → AppendsBeginning a b text → Keeps b c →
     AppendsBeginning a c text

@@ -15,24 +15,24 @@ abbrev pub OrLoopback : Text → Text → Type 0
 OrLoopback [] host = host ≡ codes "127.0.0.1"
 OrLoopback (first ∷ rest) host = host ≡ first ∷ rest
 
--- a display from 0 to 99 is at port 5900 and so many more
+-- a display from 0 to 99 is at port 5900 plus its number
 abbrev pub NamesDisplay : Text → ℕ → Type 0
 NamesDisplay digits port =
     IsNumber digits × (digits_value 10 digits ≤ 99) × (port ≡ 5900 + digits_value 10 digits)
 
--- behind the first colon stands a display; or one more colon, and a port from 1 to 65535
+-- after the first colon stands a display; or one more colon, and a port from 1 to 65535
 abbrev pub NamesPort : Text → ℕ → Type 0
-NamesPort behind port =
-    NamesDisplay behind port
-    ⊎ ((digits : Text) × (behind ≡ 58 ∷ digits) × IsNumber digits × (1 ≤ port)
+NamesPort after port =
+    NamesDisplay after port
+    ⊎ ((digits : Text) × (after ≡ 58 ∷ digits) × IsNumber digits × (1 ≤ port)
     × (port ≡ digits_value 10 digits))
 
 -- a host alone is at port 5900
 abbrev pub IsAddress : Text → Text → ℕ → Type 0
 IsAddress word host port =
     (HasNoColon word × OrLoopback word host × (port ≡ 5900))
-    ⊎ ((named behind : Text) × (word ≡ named ++ 58 ∷ behind) × HasNoColon named
-    × OrLoopback named host × NamesPort behind port)
+    ⊎ ((named after : Text) × (word ≡ named ++ 58 ∷ after) × HasNoColon named
+    × OrLoopback named host × NamesPort after port)
 
 -- ---- by a word, by its host or by its port
 

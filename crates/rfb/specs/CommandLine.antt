@@ -64,7 +64,7 @@ abbrev pub ShowsTo : (List ℕ → Type 0) → World → Type 0
 ShowsTo Writes world =
     (picture : Grid Colour) × (shown_by world ≡ Some picture) × Writes (pixmap picture)
 
--- the whole of it was written behind what stood there before; or the output is as it was, or a
+-- the whole of it was written after what stood there before; or the output is as it was, or a
 -- beginning was
 abbrev pub WritesShown : World → Option (List ℕ) → Option (List ℕ) → Type 0
 WritesShown world before after = ShowsTo (Appends before after) world
@@ -111,7 +111,7 @@ abbrev pub LeavesScript : Option (List ℕ) → Option (List ℕ) → Option (Li
 LeavesScript read before after =
     (after ≡ before) ⊎ PlaysScriptTo (AppendsBeginning before after) read
 
--- a bad line that is told is the first one of what was read, whose kind its first line tells
+-- a bad line that is reported is the first one of what was read, whose kind its first line tells
 abbrev pub FailsAtAny : Option (List ℕ) → Failure → Type 0
 FailsAtAny read (BadLine n) = IfSome read (λ text. StopsReadingAny (lines_of text) (BadLine n))
 FailsAtAny read (Fault fault) = ⊤

@@ -25,8 +25,8 @@ server_end link = link.server
 abbrev pub viewer_end : {C : Type 0} → Link C → C
 viewer_end link = link.viewer
 
--- bytes were written at one end, behind what stood there before, and as many were read at the
--- other: what came
+-- bytes were written at one end, after what stood there before, and as many were read at the other:
+-- what came
 pub record Crosses (bytes : List ℕ) (before after unread left : Option (List ℕ)) (came : List ℕ)
     : Type 0 where
   pub sent : Appends before after bytes
@@ -36,7 +36,7 @@ pub record Crosses (bytes : List ℕ) (before after unread left : Option (List �
 -- ---- the server
 
 -- it ended at some of these bytes, and not for want of memory; its answers to those before stand
--- behind the others, and the bytes behind them changed nothing
+-- after the others, and the bytes after them changed nothing
 pub record EndsHearing (old : Server) (bytes before after : List ℕ) (new : Server) : Type 0 where
   pub fault : ServerFault
   pub read : List ℕ
@@ -45,7 +45,7 @@ pub record EndsHearing (old : Server) (bytes before after : List ℕ) (new : Ser
   pub ended : IsEnded old read (Some before) (Some after) fault new
   pub has_memory : fault ≢ ServerWantsMemory
 
--- these bytes came to a server: it was fed them all, and its answers stand behind the others; or
+-- these bytes came to a server: it was fed them all, and its answers stand after the others; or
 -- it ended at some; and one that had failed takes them to no effect
 pub record Hears (old : Server) (bytes before after : List ℕ) (new : Server) : Type 0 where
   pub heard : server_fault new ≡ None → IsAnswered old bytes (Some before) (Some after) new
@@ -63,7 +63,7 @@ pub record ReachesServer (bytes : List ℕ) (sent_before sent unread left : Opti
 
 -- ---- the viewer
 
--- a viewer was fed all of these bytes, and its answers were written behind what stood there before
+-- a viewer was fed all of these bytes, and its answers were written after what stood there before
 pub record IsFed (old : Viewer) (bytes : List ℕ) (before after : Option (List ℕ)) (new : Viewer)
     : Type 0 where
   pub sent : List ℕ
@@ -71,7 +71,7 @@ pub record IsFed (old : Viewer) (bytes : List ℕ) (before after : Option (List 
   pub runs : ViewerRuns old bytes sent updates new
   pub wrote : Appends before after sent
 
--- it was fed some of them, all answers were written, and it ended at those behind them
+-- it was fed some of them, all answers were written, and it ended at those after them
 pub record IsFedUntil (old : Viewer) (bytes : List ℕ) (before after : Option (List ℕ))
     (fault : ViewerFault) (new : Viewer) : Type 0 where
   pub fed : List ℕ

@@ -15,7 +15,7 @@ use Rattle.rfb.specs.declared.script.hub.line.HubStep.TheVariants.{Event, Settle
 
 -- ---- the events of steps
 
--- in a slot all bytes reach the session, and then all the viewer, so many times
+-- in a slot all bytes reach the session, and then all the viewer, the given number of times
 abbrev pub deliveries_in : ℕ → ℕ → List HubEvent
 deliveries_in slot zero = []
 deliveries_in slot (suc n) =
@@ -45,7 +45,7 @@ abbrev pub or_refusal : Option HubFault → Option HubFault → Option HubFault
 or_refusal None later = later
 or_refusal (Some fault) later = Some fault
 
--- the first refusal, and all slots that are told as emptied, with those of answers that come behind
+-- the first refusal, and all slots that are reported as emptied, with those of later answers
 abbrev pub refusal_with : Option HubFault → List HubTold → Option HubFault
 refusal_with first [] = first
 refusal_with first (told ∷ all) = refusal_with (or_refusal first told.refused) all
@@ -54,7 +54,7 @@ abbrev pub ended_with : ℕ → List HubTold → ℕ
 ended_with ended [] = ended
 ended_with ended (told ∷ all) = ended_with (bit_or ended told.ended) all
 
--- a line is told by the answers of its events
+-- what is reported of a line, by the answers of its events
 pub record TellsLine (old : Hub) (events : List HubEvent) (told : LineTold) (new : Hub)
     : Type 0 where
   pub all : List HubTold

@@ -22,13 +22,13 @@ use Rattle.rfb.specs.Words.{AreFill, AreMove, AreSize, AreWants}
 abbrev pub IsSlotWord : List ℕ → ℕ → Type 0
 IsSlotWord word slot = (word ≡ (48 + slot) ∷ []) × (slot ≤ 9)
 
--- words are a slot, and nothing behind it
+-- words are a slot, and nothing after it
 abbrev pub IsSlotAlone : List (List ℕ) → ℕ → Type 0
 IsSlotAlone words slot = (s : List ℕ) × (words ≡ s ∷ []) × IsSlotWord s slot
 
--- words are a slot, and others behind it of which this holds
-abbrev pub IsBehindSlot : ℕ → List (List ℕ) → (List (List ℕ) → Type 0) → Type 0
-IsBehindSlot slot words Holds =
+-- words are a slot, and others after it of which this holds
+abbrev pub IsSlotThen : ℕ → List (List ℕ) → (List (List ℕ) → Type 0) → Type 0
+IsSlotThen slot words Holds =
     (s : List ℕ) × (rest : List (List ℕ)) × (words ≡ s ∷ rest) × IsSlotWord s slot × Holds rest
 
 -- others may go on beside a viewer, or it asks for the screen alone
@@ -53,7 +53,7 @@ AreSetup words setup =
 
 -- words are a slot, and what the viewer that takes it is made with
 abbrev pub AreJoin : List (List ℕ) → ℕ → Setup → Type 0
-AreJoin words slot setup = IsBehindSlot slot words (λ rest. AreSetup rest setup)
+AreJoin words slot setup = IsSlotThen slot words (λ rest. AreSetup rest setup)
 
 -- a word has two hexadecimal digits for each of 1 to 64 bytes
 abbrev pub IsHexWord : List ℕ → List ℕ → Type 0
@@ -66,15 +66,15 @@ AreForeign words slot bytes =
 
 -- ---- what a line says
 
--- what the words behind `at` and a slot ask for there
+-- what the words after `at` and a slot ask for there
 abbrev pub SaysAt : List (List ℕ) → HubStep → Type 0
 SaysAt words (Event (Of slot event)) =
-    IsBehindSlot slot words (λ line. SaysEvent line (event_of event))
-SaysAt words (Settle slot) = IsBehindSlot slot words (λ line. line ≡ codes "settle" ∷ [])
+    IsSlotThen slot words (λ line. SaysEvent line (event_of event))
+SaysAt words (Settle slot) = IsSlotThen slot words (λ line. line ≡ codes "settle" ∷ [])
 SaysAt words step = ⊥
 
--- the words of a line ask for a step: drawings and hints stand alone, and what is of one slot
--- behind `at`
+-- the words of a line ask for a step: drawings and hints stand alone, and what is of one slot after
+-- `at`
 abbrev pub SaysHubStep : List (List ℕ) → HubStep → Type 0
 SaysHubStep words (Event (Fill rect colour)) =
     Begins (codes "fill") words (λ rest. AreFill rest rect colour)
@@ -165,14 +165,14 @@ BeginHub lines = GivesHub (first_line lines)
 
 -- ---- bad lines
 
--- a line asks for nothing behind these that are no whole script: they are empty and it gives no
+-- a line asks for nothing after these that are no whole script: they are empty and it gives no
 -- size, or it asks for no step and names no slot to be shown
 abbrev pub IsNoMoreOfHub : List (List ℕ) → List ℕ → Type 0
 IsNoMoreOfHub lines line =
     (AreEmpty lines × ¬ (GivesHub line))
     ⊎ (AreSomeOpenHub lines × ¬ (AsksInHub line) × ¬ (NamesShown line))
 
--- a line is bad behind these: it has characters, and asks for nothing, or a script has ended
+-- a line is bad after these: it has characters, and asks for nothing, or a script has ended
 abbrev pub IsBadInHub : List (List ℕ) → List ℕ → Type 0
 IsBadInHub lines line = (line ≢ []) × (IsNoMoreOfHub lines line ⊎ AreSomeHubScript lines)
 
@@ -185,16 +185,16 @@ pub record IsFirstBadInHub (lines : List (List ℕ)) (n : ℕ) : Type 0 where
   pub count : n ≡ length before + 1
   pub bad : IsBadInHub before line
 
--- the number of the line behind the last; an empty one behind the last newline is that line
-abbrev pub line_behind : List (List ℕ) → ℕ
-line_behind [] = 0
-line_behind ([] ∷ []) = 1
-line_behind ((char ∷ line) ∷ []) = 2
-line_behind (line ∷ (next ∷ lines)) = line_behind (next ∷ lines) + 1
+-- the number of the line after the last; an empty one after the last newline is that line
+abbrev pub line_after : List (List ℕ) → ℕ
+line_after [] = 0
+line_after ([] ∷ []) = 1
+line_after ((char ∷ line) ∷ []) = 2
+line_after (line ∷ (next ∷ lines)) = line_after (next ∷ lines) + 1
 
--- lines that name no slot to be shown are bad at the line behind them
+-- lines that name no slot to be shown are bad at the line after them
 abbrev pub IsWithoutShow : List (List ℕ) → ℕ → Type 0
-IsWithoutShow lines n = (AreEmpty lines ⊎ AreSomeOpenHub lines) × (n ≡ line_behind lines)
+IsWithoutShow lines n = (AreEmpty lines ⊎ AreSomeOpenHub lines) × (n ≡ line_after lines)
 
 -- why lines are read to no hub's script
 abbrev pub StopsReadingHub : List (List ℕ) → Failure → Type 0

@@ -28,7 +28,7 @@ use Rattle.rfb.specs.declared.loopback.ends.Ends.{Ends}
 use Rattle.rfb.specs.Recording.{BeginsPicture, WritesPicture}
 use Rattle.rfb.specs.Script.{AreSomeScript, lines_of}
 
--- the whole of what some viewer shows was written behind what stood there before
+-- the whole of what some viewer shows was written after what stood there before
 abbrev pub WritesSomePicture : Option (List ℕ) → Option (List ℕ) → Type 0
 WritesSomePicture before after = (viewer : Viewer) × WritesPicture viewer before after
 
@@ -58,7 +58,7 @@ pub record DrawsOn (Inside : Type 0) (screen : Grid Colour) (hints : List Hint) 
   pub others : new ≡ record old { server = new.server }
 
 -- a call is refused as what the viewer stands for says, and then nothing changes; else its message
--- is in flight to the server behind the others, and of all else only the viewer may change
+-- is in flight to the server after the others, and of all else only the viewer may change
 pub record Sends (refusal_in : ViewerState → List ℕ → Option CallFault) (message : List ℕ)
     (old : Ends) (refused : Option Refused) (new : Ends) : Type 0 where
   pub refusal : (viewing : Viewing) (s : ViewerState) (prefix : List ℕ) →
@@ -75,7 +75,7 @@ pub record Becomes (called : ViewerState → ViewerState) (old : Viewer) (refuse
       StandsFor viewing old s prefix → StandsFor viewing new (called s) prefix
   pub picture : picture_of new ≡ picture_of old
 
--- an update was due and is in flight behind the others, and no hint is left
+-- an update was due and is in flight after the others, and no hint is left
 abbrev pub SendsUpdate : Server → Server → List ℕ → List ℕ → Type 0
 SendsUpdate old new before after = Updates old new before after × (hints_of new ≡ [])
 

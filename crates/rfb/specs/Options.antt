@@ -332,7 +332,7 @@ AskForText words =
 abbrev pub is_word : Text → Text → Bool
 is_word word other = pointwise nat_eq word other
 
--- the words behind the program's name ask for the table of faults
+-- the words after the program's name ask for the table of faults
 abbrev pub ask_for_faults : List Text → Bool
 ask_for_faults (name ∷ first ∷ second ∷ []) =
     is_word first (codes "help") && is_word second (codes "faults")

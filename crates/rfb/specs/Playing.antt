@@ -27,7 +27,7 @@ use Rattle.rfb.specs.declared.script.line.Step.TheVariants.{Event as OneEvent, S
 
 -- ---- the events of steps
 
--- all bytes reach the server, and then all the viewer, so many times
+-- all bytes reach the server, and then all the viewer, the given number of times
 abbrev pub deliveries : ℕ → List Event
 deliveries zero = []
 deliveries (suc n) = ToServer 4294967295 ∷ ToViewer 4294967295 ∷ deliveries n

@@ -45,14 +45,13 @@ pub record StopsWatchingAll (read : Option (List ℕ)) (old : Viewer) (fault : E
   pub failed : ℕ
   pub stopped : StopsPlaying read left 0 failed old fault new
 
--- it was fed the first bytes of what there was to read, up to the end of the last of so many
--- updates
+-- it was fed the first bytes of what there was to read, up to the end of the `updates`-th update
 pub record WatchesFirst (read : Option (List ℕ)) (old : Viewer) (updates : ℕ) (new : Viewer)
     : Type 0 where
   pub left : Option (List ℕ)
   pub played : PlayedFirst read left old updates new
 
--- so many updates ended, and it was fed no more; or fewer, and it was fed all
+-- `enough` updates ended, and it was fed no more; or fewer did, and it was fed all
 abbrev pub WatchesSome : ℕ → Option (List ℕ) → Viewer → ℕ → Viewer → Type 0
 WatchesSome enough read old told new =
     ((told ≡ enough) × WatchesFirst read old enough new)
@@ -65,7 +64,7 @@ pub record StopsWatchingSome (enough : ℕ) (read : Option (List ℕ)) (old : Vi
   pub failed : ℕ
   pub stopped : StopsPlayingSome read left 0 failed old enough fault new
 
--- it was fed as much as is wanted: up to so many updates, or all
+-- it was fed as much as is wanted: up to a number of updates, or all
 abbrev pub Watches : Option ℕ → Option (List ℕ) → Viewer → ℕ → Viewer → Type 0
 Watches None read old told new = WatchesAll read old told new
 Watches (Some enough) read old told new = WatchesSome enough read old told new
@@ -75,7 +74,7 @@ abbrev pub StopsWatching : Option ℕ → Option (List ℕ) → Viewer → Engin
 StopsWatching None read old fault new = StopsWatchingAll read old fault new
 StopsWatching (Some enough) read old fault new = StopsWatchingSome enough read old fault new
 
--- the whole of what a viewer shows was written behind what stood there before
+-- the whole of what a viewer shows was written after what stood there before
 abbrev pub WritesPicture : Viewer → Option (List ℕ) → Option (List ℕ) → Type 0
 WritesPicture viewer before after =
     (picture : Grid Colour) × (picture_of viewer ≡ Some picture)
@@ -153,7 +152,7 @@ LeavesRecording replay read before after =
     (after ≡ before) ⊎ PlaysTo (λ viewer. BeginsPicture viewer before after) replay read
     ⊎ ((fault : EngineFault) × PlaysPart replay read before after fault)
 
--- what a fresh viewer was fed ended it, or ended where it must not, and so much of what it then
+-- what a fresh viewer was fed ended it, or ended where it must not, and this much of what it then
 -- shows was written
 abbrev pub FailsToPlay : Replay → Option (List ℕ) → Option (List ℕ) → Option (List ℕ) → Failure →
     Type 0

@@ -51,7 +51,7 @@ moved_up old = if nat_lt 1 old.height then copied (upper_rows old) 0 1 old else 
 abbrev pub stepped : ℕ → Grid Colour → Grid Colour
 stepped n old = filled (last_row old) (step_colour n) (moved_up old)
 
--- the viewer may be told that they moved
+-- the viewer may be sent the move as a copy
 abbrev pub hinted : Grid Colour → List Hint → List Hint
 hinted old hints =
     if nat_lt 1 old.height then with_hint (record { to = upper_rows old; sx = 0; sy = 1 }) hints

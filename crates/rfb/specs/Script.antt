@@ -25,7 +25,7 @@ words_of line = slice_split (λ byte. byte == 32) line
 
 -- ---- what a line says
 
--- the words are that one, and others behind it of which this holds
+-- the words are that one, and others after it of which this holds
 abbrev pub Begins : List ℕ → List (List ℕ) → (List (List ℕ) → Type 0) → Type 0
 Begins keyword words Holds = (rest : List (List ℕ)) × (words ≡ keyword ∷ rest) × Holds rest
 
@@ -91,8 +91,8 @@ AskFor n ((char ∷ line) ∷ lines) [] = ⊥
 AskFor n ((char ∷ line) ∷ lines) (step ∷ steps) =
     (step.line ≡ n) × SaysStep (words_of (char ∷ line)) step.step × AskFor (n + 1) lines steps
 
--- the same behind a line with what the viewer wants, and empty ones before it
-pub record AskBehind (n : ℕ) (lines : List (List ℕ)) (wants : Wants) (steps : List Numbered)
+-- the same after a line with what the viewer wants, and empty ones before it
+pub record AskAfter (n : ℕ) (lines : List (List ℕ)) (wants : Wants) (steps : List Numbered)
     : Type 0 where
   pub blank : List (List ℕ)
   pub second : List ℕ
@@ -102,10 +102,10 @@ pub record AskBehind (n : ℕ) (lines : List (List ℕ)) (wants : Wants) (steps 
   pub wants_is : Says (words_of second) (Viewer wants)
   pub steps_are : AskFor (n + length blank + 1) later steps
 
--- the lines behind the screen's, with or without what the viewer wants
+-- the lines after the screen's, with or without what the viewer wants
 abbrev pub AskForAll : ℕ → List (List ℕ) → Option Wants → List Numbered → Type 0
 AskForAll n lines None steps = AskFor n lines steps
-AskForAll n lines (Some wants) steps = AskBehind n lines wants steps
+AskForAll n lines (Some wants) steps = AskAfter n lines wants steps
 
 -- lines are a script: empty ones, one with the screen's size, perhaps one with what the viewer
 -- wants, and others that ask for its steps
@@ -127,25 +127,25 @@ AreSomeScript lines =
 
 -- ---- bad lines
 
--- a line asks for nothing behind a script: for no step, and it is no second line with what the
+-- a line asks for nothing after a script: for no step, and it is no second line with what the
 -- viewer wants
 abbrev pub IsNoMore : Option Wants → List Numbered → List ℕ → Type 0
 IsNoMore wants steps line =
     ¬ (AsksForStep line) × (wants ≡ None → steps ≡ [] → ¬ (GivesWants line))
 
--- a line is bad behind some script
-abbrev pub IsBadBehindScript : List (List ℕ) → List ℕ → Type 0
-IsBadBehindScript lines line =
+-- a line is bad after some script
+abbrev pub IsBadAfterScript : List (List ℕ) → List ℕ → Type 0
+IsBadAfterScript lines line =
     (size : Size) × (wants : Option Wants) × (steps : List Numbered)
     × AreScript lines size wants steps × IsNoMore wants steps line
 
--- a line is bad behind these: it has characters, and gives no size behind empty lines, or asks for
--- nothing behind a script
-abbrev pub IsBadBehind : List (List ℕ) → List ℕ → Type 0
-IsBadBehind lines line =
-    (line ≢ []) × ((AreEmpty lines × ¬ (GivesSize line)) ⊎ IsBadBehindScript lines line)
+-- a line is bad after these: it has characters, and gives no size after empty lines, or asks for
+-- nothing after a script
+abbrev pub IsBadAfter : List (List ℕ) → List ℕ → Type 0
+IsBadAfter lines line =
+    (line ≢ []) × ((AreEmpty lines × ¬ (GivesSize line)) ⊎ IsBadAfterScript lines line)
 
--- the first bad line has this number: those before it are empty or a script, and it is bad behind
+-- the first bad line has this number: those before it are empty or a script, and it is bad after
 -- them
 pub record IsFirstBad (lines : List (List ℕ)) (n : ℕ) : Type 0 where
   pub before : List (List ℕ)
@@ -153,9 +153,9 @@ pub record IsFirstBad (lines : List (List ℕ)) (n : ℕ) : Type 0 where
   pub after : List (List ℕ)
   pub whole : lines ≡ before ++ line ∷ after
   pub count : n ≡ length before + 1
-  pub bad : IsBadBehind before line
+  pub bad : IsBadAfter before line
 
--- lines that are all empty are bad at the last of them, behind the last newline
+-- lines that are all empty are bad at the last of them, after the last newline
 abbrev pub IsWithoutScreen : List (List ℕ) → ℕ → Type 0
 IsWithoutScreen lines n = AreEmpty lines × (n ≡ length lines)
 

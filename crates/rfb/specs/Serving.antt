@@ -12,12 +12,12 @@ use Rattle.rfb.specs.Scene.{ShowsScene}
 
 -- ---- one connection
 
--- how a connection ended: after so many updates, or by a fault
+-- how a connection ended: with the number of its updates, or by a fault
 abbrev pub End : Type 0
 End = Result ℕ EngineFault
 
--- a server was fed all that there was to read, which ends between two messages; it composed so many
--- updates, and all that it sent was written
+-- a server was fed all that there was to read, which ends between two messages; it composed
+-- `updates` updates, and all that it sent was written
 pub record ServesAll (read written : Option (List ℕ)) (first : Server) (updates : ℕ)
     : Type 0 where
   pub left : Option (List ℕ)
@@ -61,19 +61,19 @@ abbrev pub IsLineOf : End → List ℕ → Type 0
 IsLineOf (Ok updates) line = line ≡ codes "ok " ++ decimal updates ++ 10 ∷ []
 IsLineOf (Err fault) line = (text : List ℕ) × (line ≡ codes "fault " ++ text ++ 10 ∷ [])
 
--- a text has a line for each of so many connections, in their order, that says how it ended
+-- a text has a line for each of a number of connections, in their order, that says how it ended
 abbrev pub TellsEnds : Size → ℕ → List ℕ → Type 0
 TellsEnds size zero text = text ≡ []
 TellsEnds size (suc n) text =
     (before line : List ℕ) × (end : End) × TellsEnds size n before
     × IsServedSome size end × IsLineOf end line × (text ≡ before ++ line)
 
--- the lines of so many connections stand behind what was written before
+-- the lines of `connections` connections stand after what was written before
 abbrev pub ServesSo : Size → ℕ → Option (List ℕ) → Option (List ℕ) → Type 0
 ServesSo size connections before after =
     (text : List ℕ) × TellsEnds size connections text × Appends before after text
 
--- a beginning of the lines of at most so many does
+-- a beginning of the lines of at most `connections` connections does
 abbrev pub ServesFewer : Size → ℕ → Option (List ℕ) → Option (List ℕ) → Type 0
 ServesFewer size connections before after =
     (n : ℕ) × (n ≤ connections) × (text : List ℕ) × TellsEnds size n text

@@ -9,8 +9,8 @@ use Rattle.rfb.specs.declared.fault.Failure.TheVariants.{BadLine, Fault, Engine}
 use Rattle.rfb.specs.declared.viewing.look.Sight.{Sight}
 use Rattle.rfb.specs.Recording.{BeginsPicture, IsFresh, ShowsEnd, WritesPicture, shows_end}
 
--- a viewer asked and was fed, up to the end of the last of so many updates; its bytes were there to
--- be read, what it sent stands behind what was written before, and what it was fed stands on the
+-- a viewer asked and was fed, up to the end of the `updates`-th update; its bytes were there to be
+-- read, what it sent stands after what was written before, and what it was fed stands on the
 -- output, if it is kept there
 pub record Saw (read before blank copied : Option (List ℕ)) (old : Viewer) (updates : ℕ)
     (new : Viewer) : Type 0 where
@@ -44,7 +44,7 @@ pub record ViewsTo (Writes : Viewer → Type 0) (sight : Sight)
   pub saw : Saw read answered (kept_on sight before) (kept_on sight after) first sight.updates last
   pub shown : Writes last
 
--- if no recording is wanted, the whole picture was written behind what stood there before
+-- if no recording is wanted, the whole picture was written after what stood there before
 abbrev pub Views : Sight → Option (List ℕ) → Option (List ℕ) → Option (List ℕ) →
     Option (List ℕ) → Type 0
 Views sight read answered before after =
@@ -79,7 +79,7 @@ StopsView read answered blank copied old updates (Fault fault) new =
     Saw read answered blank copied old updates new
 StopsView read answered blank copied old updates (BadLine n) new = ⊥
 
--- what it ended with, and, where no recording is wanted, so much of its picture was written
+-- what it ended with, and, where no recording is wanted, this much of its picture was written
 abbrev pub ShowsView : Sight → Viewer → Option (List ℕ) → Option (List ℕ) → Failure → Type 0
 ShowsView sight last before after (Engine fault) =
     sight.is_recorded ≡ false → ShowsEnd sight.is_partial last fault before after

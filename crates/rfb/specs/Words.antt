@@ -1,4 +1,4 @@
--- What the words of a line stand for, behind the first one.
+-- What the words of a line stand for, after the first one.
 use Rattle.std.specs.Prelude.{◌≡◌, ◌==◌, ◌+◌, ◌*◌, ◌≤◌, ◌⊎◌, ℕ, Bool, true, false, List, [], ◌∷◌, Ok, codes, length, map}
 use Rattle.std.specs.Borrow.{Bor}
 use Rattle.std.specs.List.{AllPass, slice_split}
@@ -13,7 +13,7 @@ use Rattle.rfb.specs.declared.script.line.Screen.{Screen as Size}
 use Rattle.rfb.specs.declared.script.line.Wants.{Wants}
 use Rattle.rfb.specs.Number.{IsCount, IsNumber}
 
--- the words behind references to them
+-- the words after references to them
 abbrev pub texts : List (Bor (List ℕ)) → List (List ℕ)
 texts words = map (λ word. word.now) words
 
@@ -97,7 +97,7 @@ abbrev pub AreEncodings : List (List ℕ) → List Encoding → Type 0
 AreEncodings words encodings =
     (words ≡ map name_of encodings) × (1 ≤ length words) × (length words ≤ 4)
 
--- ---- the words behind the first of a line
+-- ---- the words after the first of a line
 
 -- the size of a screen
 abbrev pub AreSize : List (List ℕ) → Size → Type 0

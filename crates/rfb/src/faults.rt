@@ -121,11 +121,11 @@ const TABLE: [(Numbered, &str); 32] = [
     ),
     (
         Numbered::Server(ViewerFault::ScreenEmpty),
-        "a server's screen has no place",
+        "a server's screen has no pixel",
     ),
     (
         Numbered::Server(ViewerFault::ScreenTooLarge),
-        "a server's screen has more than 16777216 places",
+        "a server's screen has more than 16777216 pixels",
     ),
     (
         Numbered::Refusal(HubFault::Outside),

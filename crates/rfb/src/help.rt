@@ -1,6 +1,6 @@
 //! What `--help` says.
 
-/// The version that `--version` prints behind the program's name.
+/// The version that `--version` prints after the program's name.
 pub const VERSION: &str = "0.1.0";
 
 pub const STATUSES: &str = "\
@@ -16,11 +16,11 @@ terminal they do by themselves.
 
 pub const LANGUAGE: &str = "\
 A script has a line for each step. One space parts two words:
-  screen W H                  first: the size of the screen, 1 to 4096 places a side
+  screen W H                  first: the size of the screen, 1 to 4096 pixels a side
   viewer F E..                second, or not at all: the format and the encodings that it takes
   fill X Y W H RRGGBB         the server draws; twelve digits are four for each component
   copy X Y W H SX SY          the same, from the rectangle at (SX, SY)
-  hint X Y W H SX SY          it is told that a rectangle looks as the one at (SX, SY) did
+  hint X Y W H SX SY          a hint: a rectangle looks as the one at (SX, SY) did
   request full|inc X Y W H    the viewer asks for a rectangle, or for what changed there
   format F                    the viewer asks for another format
   compose                     the server composes an update, if one is due
@@ -52,8 +52,8 @@ Example:
 
 pub const RECORDINGS: &str = "\
 A recording is all that a server sent, from its greeting to the end of a message. What a viewer
-would answer is dropped. With --updates the picture is the one right behind that update, and what
-comes after it is not looked at; a recording of fewer updates is played whole.
+would answer is dropped. With --updates the picture is the one right after that update, and what
+comes later is not looked at; a recording of fewer updates is played whole.
 docs/PROTOCOL.md has the formats, and the faults by number.
 
 Examples:
@@ -61,10 +61,10 @@ Examples:
   rfb play --updates 2 -i server.rfb -o picture.ppm";
 
 pub const VIEWERS: &str = "\
-Each connection has a fresh screen. Behind each update the picture scrolls up by a row. As soon as a
+Each connection has a fresh screen. After each update the picture scrolls up by a row. As soon as a
 connection ends, a line on standard output says `ok` and how many updates were sent, or `fault` and
-which fault ended it; then the next one is served. With --timeout a viewer that sends nothing for so
-long is let go by `fault 29 Device`.
+which fault ended it; then the next one is served. With --timeout S a viewer that sends nothing for
+S seconds is let go by `fault 29 Device`.
 docs/PROTOCOL.md has the faults by number.
 
 Example, with a viewer of TigerVNC:
@@ -72,11 +72,12 @@ Example, with a viewer of TigerVNC:
   vncviewer 127.0.0.1::5950";
 
 pub const SERVERS: &str = "\
-A viewer asks for the whole screen and then, after each update, for what changed, until so many
-updates came. A server sends none while nothing changes. Then the picture is written. With --record
-standard output gets in its place what the server sent up to there, as it comes: `rfb play` shows
-that as the same picture, in the same format. The server must offer the security type None.
-With --timeout a connection that is refused is tried again, and waiting ends behind so many seconds.
+A viewer asks for the whole screen and then, after each update, for what changed, until it has the
+updates that --updates asks for. A server sends none while nothing changes. Then the picture is
+written. With --record standard output gets in its place what the server sent up to there, as it
+comes: `rfb play` shows that as the same picture, in the same format. The server must offer the
+security type None.
+With --timeout S a connection that is refused is tried again, and waiting ends after S seconds.
 With --partial the picture of what came by then is written; the status is 1 all the same.
 docs/PROTOCOL.md has the formats, and the faults by number.
 

@@ -102,8 +102,8 @@ fn finish<C: Read + Write, W: Write, E: Write>(
     write_picture(&ends.viewer, output)
 }
 
-// Takes all steps. Those that are refused are told on `errors`, each in one write, and do not end
-// the script.
+// Takes all steps. Each that is refused is reported on `errors`, in one write, and does not end the
+// script.
 fn play_all<C: Read + Write, E: Write>(
     alloc: Global,
     ends: &mut Ends,

@@ -51,7 +51,7 @@ fn answer(rt: &HostRuntime, words: &[String]) -> u8 {
     command(rt, words, &mut rt.stdin(), &mut shown, &mut rt.stderr())
 }
 
-// The words that the program was called with, its own name first, and `--explain` behind them where
+// The words that the program was called with, its own name first, and `--explain` after them where
 // a person reads the errors. A word that is not UTF-8 is an error of the kind `InvalidData`.
 fn words(rt: &HostRuntime) -> io::Result<Vec<String>> {
     let mut words: Vec<String> = env::args(rt)?.collect(rt.alloc())?;

@@ -16,7 +16,7 @@ pub struct Deadline<'a, C> {
 }
 
 impl<'a, C: Clock> Deadline<'a, C> {
-    /// So many seconds from here on, or never.
+    /// A number of seconds from here on, or never.
     pub fn new(clock: &'a C, seconds: Option<u32>) -> io::Result<Deadline<'a, C>> {
         let end = match seconds {
             Some(seconds) => Some((
@@ -41,8 +41,8 @@ impl<'a, C: Clock> Deadline<'a, C> {
     }
 }
 
-/// Connects to a host. Within so many seconds, if there is a number, a refused connection is tried
-/// again, and each read ends.
+/// Connects to a host. Within `seconds` seconds, if there is a number, a refused connection is
+/// tried again, and each read ends.
 pub fn connect<'a, N: Net + Clock>(
     net: &'a N,
     host: &str,
@@ -130,7 +130,7 @@ pub struct Timed<L> {
 }
 
 impl<L> Timed<L> {
-    /// Takes what `listener` takes. After so many seconds, if there is a number, a read ends.
+    /// Takes what `listener` takes. A read ends after `seconds` seconds, if there is a number.
     pub fn new(listener: L, seconds: Option<u32>) -> Timed<L> {
         Timed { listener, seconds }
     }

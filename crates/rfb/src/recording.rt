@@ -25,10 +25,10 @@ use std::io::{Read, Write};
 const RECORDING_ROOM: usize = 16_777_216;
 
 /// Plays what `input` has, the bytes of a server, to a fresh viewer that takes pixels of
-/// `replay.format`: up to the end of the last of so many updates, or all of it. Then it writes the
-/// picture that the viewer shows. Nothing is written where the viewer or the bytes end with a
-/// fault; then `notes` say why. Only where the bytes end too early, or a read fails, the picture of
-/// all that came is written if it is wanted.
+/// `replay.format`, until `replay.updates` updates ended, or all of it. Then it writes the picture
+/// that the viewer shows. Nothing is written where the viewer or the bytes end with a fault; then
+/// `notes` say why. Only where the bytes end too early, or a read fails, the picture of all that
+/// came is written if it is wanted.
 pub fn play_recording<R: Read, W: Write, E: Write>(
     alloc: Global,
     replay: Replay,
@@ -80,8 +80,8 @@ fn watch_heard<R: Read, N: Write>(
     watch(&mut hearing, viewer, updates)
 }
 
-// Feeds a viewer what `input` has, until so many updates ended or all is fed, and tells how many
-// ended.
+// Feeds a viewer what `input` has, until `updates` updates ended or all is fed, and returns how
+// many ended.
 fn watch<R: Read>(
     input: &mut R,
     viewer: &mut Viewer,
@@ -99,7 +99,7 @@ fn watch<R: Read>(
     }
 }
 
-// Feeds a viewer what `input` has, until so many updates ended, or all of it if fewer do.
+// Feeds a viewer what `input` has, until `updates` updates ended, or all of it if fewer do.
 fn watch_some<R: Read>(input: &mut R, viewer: &mut Viewer, updates: u32) -> Result<u64, EngineFault>
     requires some { 1 ≤ updates }
     ensures watched { IfOk result (λ told.
@@ -122,7 +122,7 @@ fn watch_all<R: Read>(input: &mut R, viewer: &mut Viewer) -> Result<u64, EngineF
     rfb_session::play(&mut source, viewer)
 }
 
-/// Behind an engine that ended with this fault, writes the picture of what has come, if that is
+/// After an engine that ended with this fault, writes the picture of what has come, if that is
 /// wanted and the end is an early one; and answers why the command ends.
 pub fn show_early<W: Write>(
     viewer: &Viewer,

@@ -18,7 +18,7 @@ use std::alloc::{AllocError, Global};
 /// The steps of the pattern.
 #[derive(Drop)]
 pub struct TestScene {
-    // So many steps were drawn, modulo 256. Colours depend on no more of it.
+    // The number of steps that were drawn, modulo 256. Colours depend on no more of it.
     step: u8,
 }
 
@@ -112,8 +112,8 @@ impl Scene for TestScene {
     }
 }
 
-// A step: where there is more than one row, all move up by one, and the viewer may be told so; and
-// the last one gets a colour.
+// A step: where there is more than one row, all move up by one, which the viewer may be sent as a
+// copy; and the last one gets a colour.
 fn draw_step(server: &mut Server, step: u8)
     requires some { 1 ≤ (screen_of server.old).height }
     ensures drawn { Draws (stepped step (screen_of server.old)) server.old server.new }
@@ -131,7 +131,7 @@ fn draw_step(server: &mut Server, step: u8)
     fill(server, last, colour_of(step));
 }
 
-// So many rows get what those below have, and the viewer may be told so.
+// The first `above` rows get what those below have, which the viewer may be sent as a copy.
 fn move_up(server: &mut Server, w: u16, above: u16)
     requires columns { w ≡ (screen_of server.old).width }
     requires rows { above + 1 ≡ (screen_of server.old).height }
@@ -160,7 +160,7 @@ fn copy(server: &mut Server, moved: Rect)
     let _ = server.copy(moved, 0, 1);
 }
 
-// The server is told that a rectangle looks as the one a row below did.
+// A hint to the server: a rectangle looks as the one a row below did.
 fn hint(server: &mut Server, moved: Rect)
     requires inside { HoldsBoth (screen_of server.old) moved 0 1 }
     ensures drawn { Draws (screen_of server.old) server.old server.new }

@@ -4,12 +4,12 @@
 //! are parted by exactly one space. Empty lines are skipped, and counted.
 //!
 //! ```text
-//! screen W H                 first and once: the size of the screen, each side 1 to 4,096 places
+//! screen W H                 first and once: the size of the screen, each side 1 to 4,096 pixels
 //! viewer F E..               second, or not at all: what the viewer asks for, a format and one to
 //!                            four encodings, the best first
 //! fill X Y W H RRGGBB        the server gives a rectangle of its screen a colour
 //! copy X Y W H SX SY         a rectangle of the screen takes what the one at (SX, SY) had
-//! hint X Y W H SX SY         the server is told that a rectangle looks as the one there did
+//! hint X Y W H SX SY         a hint: a rectangle looks as the one there did
 //! request full X Y W H       the viewer requests all of a rectangle
 //! request inc X Y W H        the viewer requests what has changed of it
 //! format F                   the viewer asks for another format

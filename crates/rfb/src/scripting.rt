@@ -91,8 +91,8 @@ fn finish<W: Write, E: Write>(
     Ok(())
 }
 
-// Takes all steps. Those that are refused are told on `errors`, each in one write, and do not end
-// the script.
+// Takes all steps. Each that is refused is reported on `errors`, in one write, and does not end the
+// script.
 fn play_all<E: Write>(
     alloc: Global,
     world: &mut World,

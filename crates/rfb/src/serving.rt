@@ -32,11 +32,12 @@ pub struct Wanted<'a> {
     pub listen: &'a str,
     pub screen: Screen,
     pub connections: u16,
-    /// A client that sends nothing for so many seconds is let go, if there is a number.
+    /// If there is a number, a client that sends nothing for that many seconds is let go.
     pub timeout: Option<u32>,
 }
 
-/// Serves so many connections on a port of an address, one after another. `notes` say how it goes.
+/// Serves `wanted.connections` connections on a port of an address, one after another. `notes` say
+/// how it goes.
 pub fn serve_at<N: Net, W: Write, E: Write>(
     net: &N,
     alloc: Global,
@@ -71,10 +72,10 @@ pub fn serve_at<N: Net, W: Write, E: Write>(
     }
 }
 
-/// Serves so many connections, each with a fresh screen. As soon as one ends, a line on `output`
-/// says how many updates were sent, or which fault ended it. One that cannot be accepted counts,
-/// as a fault of a device. It gives an error only where a line cannot be written or flushed, or
-/// there is no memory for it; then a beginning of the lines was written.
+/// Serves `connections` connections, each with a fresh screen. As soon as one ends, a line on
+/// `output` says how many updates were sent, or which fault ended it. One that cannot be accepted
+/// counts, as a fault of a device. It gives an error only where a line cannot be written or
+/// flushed, or there is no memory for it; then a beginning of the lines was written.
 pub fn serve_on<L: OpenListener, W: Write, N: Write>(
     alloc: Global,
     listener: &L,
@@ -219,7 +220,7 @@ fn line_of(alloc: Global, ended: Result<u64, EngineFault>) -> io::Result<Vec<u8>
     }
 }
 
-// The line behind so many updates.
+// The line of a connection that ended after `updates` updates.
 fn line_of_updates(alloc: Global, updates: u64) -> io::Result<Vec<u8>>
     ensures { IfOk result (λ line. IsLineOf (Ok updates) line.items) }
 {
@@ -228,7 +229,7 @@ fn line_of_updates(alloc: Global, updates: u64) -> io::Result<Vec<u8>>
     Ok(line)
 }
 
-// The line behind a fault.
+// The line of a connection that ended by a fault.
 fn line_of_fault(alloc: Global, fault: EngineFault) -> io::Result<Vec<u8>>
     ensures { IfOk result (λ line. IsLineOf (Err fault) line.items) }
 {

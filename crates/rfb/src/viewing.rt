@@ -154,7 +154,7 @@ fn watch_heard<R: Read + Drop, V: Write + Drop, N: Write>(
     ended
 }
 
-// Runs a viewer until so many updates ended.
+// Runs a viewer until `updates` updates ended.
 fn watch<R: Read + Drop, V: Write + Drop>(
     reader: R,
     writer: V,
@@ -205,7 +205,7 @@ fn record<R: Read + Drop, V: Write + Drop, W: Write, N: Write>(
     }
 }
 
-// Runs a viewer until so many updates ended, and writes what it is fed.
+// Runs a viewer until `updates` updates ended, and writes what it is fed.
 fn watch_and_keep<R: Read + Drop, V: Write + Drop, W: Write>(
     reader: R,
     writer: V,

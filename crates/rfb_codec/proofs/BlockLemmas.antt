@@ -1,4 +1,4 @@
--- Rows of pixels put one behind another.
+-- Rows of pixels put one after another.
 use Rattle.std.proofs.Common.{◌≡◌, ℕ, ◌+◌, ◌-◌, ◌*◌, ◌<◌, ◌≤◌, inl, inr, List, ◌++◌, length, map, take, get_or, slice_index, ◌∙◌, ap, sym, arith, length-append}
 use Rattle.std.proofs.Math.Pow.{pow_pos}
 use Rattle.std.proofs.lemmas.Bool.{cases_lt}
@@ -30,9 +30,9 @@ rows_packed f picture rect n old row colours size wide are is before x y d p q =
       ∙ ap (λ (xs : List Colour). pixel_of f (get_or xs x d)) are ∙ ap (pixel_of f) (slice_index_or-row_of picture rect.x (rect.y + n) rect.w x d p))
 ]
 
--- pixels behind pixels
-pub pixels_behind : (f : PixelFormat) (old row : List ℕ) → ArePixels f old → ArePixels f row → ArePixels f (old ++ row)
-pixels_behind f old row before here i within = elim (cases_lt i (length old)) [
+-- pixels after pixels
+pub pixels_after : (f : PixelFormat) (old row : List ℕ) → ArePixels f old → ArePixels f row → ArePixels f (old ++ row)
+pixels_after f old row before here i within = elim (cases_lt i (length old)) [
   | inl above ↦ rw (get_or_append_left old row 0 i above) (before i above)
   | inr from ↦
       let split : i ≡ length old + (i - length old) = omega arith in
@@ -40,7 +40,7 @@ pixels_behind f old row before here i within = elim (cases_lt i (length old)) [
       rw split (rw (get_or-append-add old row (i - length old) 0) (here (i - length old) (omega (arith, all))))
 ]
 
--- a row written behind the rows before it is one row more of the first pixels
+-- a row written after the rows before it is one row more of the first pixels
 pub row_written : (f : PixelFormat) (picture : Grid Colour) (rect : Rect) (n start k : ℕ) (pixels row : List ℕ) (colours : List Colour) →
     start ≡ n * rect.w → (n + 1) * rect.w ≤ length pixels → length colours ≡ rect.w → colours ≡ row_of picture rect.x (rect.y + n) rect.w → row ≡ map (pixel_of f) colours →
     PacksRows f picture rect n (take (n * rect.w) pixels) × ArePixels f (take (n * rect.w) pixels) → ArePixels f row →
@@ -51,7 +51,7 @@ row_written f picture rect n start k pixels row colours at room wide are is befo
     let within : start ≤ length pixels = omega (arith, at, room) in
     let size : length (take (n * rect.w) pixels) ≡ n * rect.w = length-take-le (n * rect.w) pixels (omega (arith, room)) in
     rw (take-put_mid start k pixels row ((n + 1) * rect.w) end within, at)
-    (rows_packed f picture rect n (take (n * rect.w) pixels) row colours size wide are is before.0, pixels_behind f (take (n * rect.w) pixels) row before.1 fit)
+    (rows_packed f picture rect n (take (n * rect.w) pixels) row colours size wide are is before.0, pixels_after f (take (n * rect.w) pixels) row before.1 fit)
 
 -- past the end there is none, and 0 is one
 pub pixels_everywhere : (f : PixelFormat) (pixels : List ℕ) → ArePixels f pixels → (i : ℕ) → IsPixel f (slice_index pixels i)

@@ -6,7 +6,7 @@ use Rattle.rfb_wire.proofs.stream_laws.FeedLaws.{take_add}
 use Rattle.rfb_wire.proofs.stream_laws.ReadingLaws.{reads_more, reads_bad}
 
 module _ {A F : Type 0} where
-  -- with the byte that an item was waited for with, nothing is left behind it
+  -- with the byte that an item was waited for with, nothing is left after it
   pub last_byte : (p : Reading A F) (s : Says A F) → Reads p s → (xs : List ℕ) (b : ℕ) (a : A) (rest : List ℕ) → p xs ≡ More → p (xs ++ b ∷ []) ≡ Got a rest → rest ≡ []
   last_byte p s reads xs b a [] more got = refl
   last_byte p s reads xs b a (r ∷ rs) more got =

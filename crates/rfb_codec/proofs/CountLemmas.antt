@@ -12,7 +12,8 @@ pub record IsOwner (slot : ℕ → ℕ) (pixels firsts : List ℕ) (p : ℕ) : T
   pub taken : 0 < get_or firsts (slot p) 0
   pub is : get_or pixels (get_or firsts (slot p) 0 - 1) 0 ≡ p
 
--- the places before start are counted in the table, or stand aside; so many have the best of those in the table
+-- the places before start are counted in the table, or stand aside; `most` of them have the best of
+-- those in the table
 pub record Tallied (slot : ℕ → ℕ) (pixels firsts counts aside : List ℕ) (start better most : ℕ) : Type 0 where
   pub vacant : (p : ℕ) → get_or firsts (slot p) 0 ≡ 0 → (get_or counts (slot p) 0 ≡ 0) × (places_of p (take start pixels) ≡ 0)
   pub counted : (p : ℕ) → IsOwner slot pixels firsts p → get_or counts (slot p) 0 ≡ places_of p (take start pixels)

@@ -45,7 +45,7 @@ done_outside x y w h u v i j wide high out noted low_in =
                   | inl above ↦ grind (arith, nat_tests)
                   | inr reached ↦ let under : y + h ≤ j = grind (arith, nat_tests) in grind (arith, nat_tests)
                 ]
-            | inr behind ↦ let same : v ≡ u = grind (arith, nat_tests) in rw same (done_aside x y u i j (inr (omega arith)))
+            | inr after ↦ let same : v ≡ u = grind (arith, nat_tests) in rw same (done_aside x y u i j (inr (omega arith)))
           ]
     ]
 

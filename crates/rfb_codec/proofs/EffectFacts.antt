@@ -38,9 +38,9 @@ a_source_is_copied : effect point (item left_place CopyRect (0 ∷ 1 ∷ 0 ∷ 0
 unfolding effect rect_data changed
 a_source_is_copied = refl
 
-one_item_behind_another : effects point (item right_place Raw (7 ∷ []) ∷ item left_place CopyRect (0 ∷ 1 ∷ 0 ∷ 0 ∷ []) ∷ []) (grid 2 1 (black ∷ black ∷ [])) ≡ grid 2 1 (red ∷ red ∷ [])
+one_item_after_another : effects point (item right_place Raw (7 ∷ []) ∷ item left_place CopyRect (0 ∷ 1 ∷ 0 ∷ 0 ∷ []) ∷ []) (grid 2 1 (black ∷ black ∷ [])) ≡ grid 2 1 (red ∷ red ∷ [])
 unfolding effect rect_data raw changed uniform
-one_item_behind_another = refl
+one_item_after_another = refl
 
 bytes_that_are_too_few_paint_nothing : effect point (item right_place Raw []) (grid 2 1 (black ∷ black ∷ [])) ≡ grid 2 1 (black ∷ black ∷ [])
 unfolding effect rect_data raw

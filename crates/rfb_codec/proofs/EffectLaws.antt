@@ -28,7 +28,7 @@ data_got f width height head contents body spelled =
     let read : rect_data f width height head.rect head.encoding (body ++ []) ≡ Got contents [] = (rect_data_reads f width height head.rect head.encoding).only contents body [] spelled in
     subst (λ (ys : List ℕ). rect_data f width height head.rect head.encoding ys ≡ Got contents []) (append-nil body) read
 
--- what is read has nothing behind it exactly where the bytes are data
+-- what is read has nothing after it exactly where the bytes are data
 pub data_spelled : (f : PixelFormat) (width height : ℕ) (head : RectHead) (contents : RectData) (body : List ℕ) →
     rect_data f width height head.rect head.encoding body ≡ Got contents [] →
     SpellsData f width height head.rect head.encoding contents body
@@ -73,7 +73,7 @@ effects_left p left [] picture = refl
 effects_left p left (item ∷ items) picture =
     ap (effects (record p { left = left }) items) (effect_left p left item picture) ∙ effects_left p left items (effect p item picture)
 
--- the effect of items behind items
+-- the effect of items after items
 pub effects_more : (p : UpdatePoint) (xs ys : List UpdateItem) (picture : Grid Colour) → effects p (xs ++ ys) picture ≡ effects p ys (effects p xs picture)
 effects_more p [] ys picture = refl
 effects_more p (item ∷ xs) ys picture = effects_more p xs ys (effect p item picture)

@@ -1,4 +1,4 @@
--- How many bytes are enough for a reading: where so many are there it waits for no more.
+-- How many bytes are enough for a reading: where that many are there it waits for no more.
 use Rattle.std.proofs.Common.{◌≡◌, ℕ, zero, suc, ◌+◌, ◌*◌, ◌≤◌, ◌<◌, nat_le, Bool, true, false, List, [], ◌∷◌, ◌++◌, Some, None, length, take, drop, refl, sym, subst, arith, length-drop}
 use Rattle.std.proofs.lemmas.List.{get_or-append-add, get_or-drop}
 use Rattle.std.proofs.Math.Nat.{mul-le-mul_right}
@@ -9,15 +9,15 @@ use Rattle.rfb_wire.specs.stream.Parts.{done, and_then, valued, optional, each, 
 use Rattle.rfb_codec.specs.declared.fault.PaintFault.{PaintFault}
 use Rattle.rfb_codec.specs.Tile.{counted}
 
--- bytes behind others are bytes
-pub bytes_behind : (front rest : List ℕ) → AreBytes (front ++ rest) → AreBytes rest
-bytes_behind front rest bytes = λ i. subst (λ (n : ℕ). n < 256) (get_or-append-add front rest i 0) (bytes (length front + i))
+-- bytes after others are bytes
+pub bytes_after : (front rest : List ℕ) → AreBytes (front ++ rest) → AreBytes rest
+bytes_after front rest bytes = λ i. subst (λ (n : ℕ). n < 256) (get_or-append-add front rest i 0) (bytes (length front + i))
 
 pub bytes_dropped : (n : ℕ) (xs : List ℕ) → AreBytes xs → AreBytes (drop n xs)
 bytes_dropped n xs bytes = λ i. subst (λ (k : ℕ). k < 256) (sym (get_or-drop n xs i 0)) (bytes (n + i))
 
 module _ {A F : Type 0} where
-  -- an item was read of at most so many bytes, and what is left are bytes
+  -- an item was read of at most `n` bytes, and what is left are bytes
   pub record IsRead (n : ℕ) (bytes : List ℕ) (next : Next A F) : Type 0 where
     pub item : A
     pub rest : List ℕ
@@ -25,7 +25,7 @@ module _ {A F : Type 0} where
     pub few : length bytes ≤ n + length rest
     pub are_bytes : AreBytes rest
 
-  -- so many are enough
+  -- `n` bytes are enough
   abbrev pub Suffices : ℕ → Reading A F → Type 0
   Suffices n p = (bytes : List ℕ) → AreBytes bytes → n ≤ length bytes → IsRead n bytes (p bytes)
 
@@ -44,7 +44,7 @@ module _ {A F : Type 0} where
       }
 
 module _ {A B F : Type 0} where
-  -- one part and another behind it
+  -- one part and another after it
   pub then_suffices : (n m : ℕ) (p : Reading A F) (k : A → Reading B F) → Suffices n p → ((a : A) → Suffices m (k a)) → Suffices (n + m) (and_then p k)
   then_suffices n m p k first second bytes are enough =
       let one = first bytes are (omega (arith, enough)) in
@@ -90,4 +90,4 @@ module _ {A : Type 0} where
   counted_suffices n true p one (count ∷ rest) are enough =
       let small : count < 256 = are 0 in
       let all : count * n ≤ 255 * n = mul-le-mul_right n (omega (arith, small)) in
-      counted_of n p count rest all (many_suffices n count p one rest (bytes_behind (count ∷ []) rest are) (omega (arith, enough, all)))
+      counted_of n p count rest all (many_suffices n count p one rest (bytes_after (count ∷ []) rest are) (omega (arith, enough, all)))

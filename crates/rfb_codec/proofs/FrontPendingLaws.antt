@@ -44,16 +44,16 @@ listed_length f w h (s ∷ subs) list (front, back, whole, one, more) =
     let rest = listed_length f w h subs back more in
     ap length whole ∙ length-append front back ∙ omega (arith, first, rest)
 
--- behind whole tiles those of the next
-behind_tiles : (f : PixelFormat) (w h left more : ℕ) (before tiles : List Tile) (front rest : List ℕ) → ListedAfter (SpellsNextTile f w h) before tiles front → left ≡ length tiles + more → tiles_pending f w h left before (front ++ rest) ≡ tiles_pending f w h more (before ++ tiles) rest
-behind_tiles f w h left more before [] front rest listed number =
+-- after whole tiles those of the next
+after_tiles : (f : PixelFormat) (w h left more : ℕ) (before tiles : List Tile) (front rest : List ℕ) → ListedAfter (SpellsNextTile f w h) before tiles front → left ≡ length tiles + more → tiles_pending f w h left before (front ++ rest) ≡ tiles_pending f w h more (before ++ tiles) rest
+after_tiles f w h left more before [] front rest listed number =
     let same : left ≡ more = omega (arith, number) in
     rw (same, listed) (ap (λ (all : List Tile). tiles_pending f w h more all rest) (sym (append-nil before)))
-behind_tiles f w h zero more before (t ∷ tiles) front rest listed number = absurd (omega (arith, number))
-behind_tiles f w h (suc left) more before (t ∷ tiles) front rest (one, back, whole, spelled, others) number =
+after_tiles f w h zero more before (t ∷ tiles) front rest listed number = absurd (omega (arith, number))
+after_tiles f w h (suc left) more before (t ∷ tiles) front rest (one, back, whole, spelled, others) number =
     let got : next_tile f w h before (one ++ (back ++ rest)) ≡ Got t (back ++ rest) = (tile_reads f (tile_width w (length before)) (tile_height w h (length before)) before).only t one (back ++ rest) spelled in
     let here : front ++ rest ≡ one ++ (back ++ rest) = ap (λ (ys : List ℕ). ys ++ rest) whole ∙ append_assoc one back rest in
-    let later = behind_tiles f w h left more (before ++ t ∷ []) tiles back rest others (omega (arith, number)) in
+    let later = after_tiles f w h left more (before ++ t ∷ []) tiles back rest others (omega (arith, number)) in
     rw (here, got) (later ∙ ap (λ (all : List Tile). tiles_pending f w h more all rest) (append_assoc before (t ∷ []) tiles))
 
 tile_waits : (f : PixelFormat) (w h more : ℕ) (tiles : List Tile) (rest : List ℕ) → 0 < more → next_tile f w h tiles rest ≡ More → tiles_pending f w h more tiles rest ≡ tile_pending f rest
@@ -96,7 +96,7 @@ kept_is_pending f rect (InTiles tile seen) pending now before body (tiles, numbe
     let few = few_tiles f rect.w rect.h tiles pending p.begins in
     let more = tile_count rect.w rect.h - length tiles in
     let all : tile_count rect.w rect.h ≡ length tiles + more = omega (arith, few) in
-    rw p.whole (behind_tiles f rect.w rect.h (tile_count rect.w rect.h) more [] tiles p.front pending p.spelled all ∙ none_pending f rect.w rect.h more tiles pending refl p.begins)
+    rw p.whole (after_tiles f rect.w rect.h (tile_count rect.w rect.h) more [] tiles p.front pending p.spelled all ∙ none_pending f rect.w rect.h more tiles pending refl p.begins)
 kept_is_pending f rect (InRawTile tile seen at) pending now before body (tiles, pixels, number, sees, s) =
     let p = s.spelled in
     let w = tile_width rect.w (length tiles) in
@@ -107,7 +107,7 @@ kept_is_pending f rect (InRawTile tile seen at) pending now before body (tiles, 
     let short = fewer_bytes f (h * w) _ pixels pending p.back p.some p.left in
     let waits = raw_waits f rect.w rect.h tiles (p.mask ∷ p.back) p.mask (omega arith) refl p.raw short in
     let raw : tile_pending f (p.mask ∷ p.back) ≡ in_pieces (size_of f) p.back = rw p.raw refl in
-    rw p.whole (behind_tiles f rect.w rect.h (tile_count rect.w rect.h) more [] tiles p.front (p.mask ∷ p.back) p.spelled all
+    rw p.whole (after_tiles f rect.w rect.h (tile_count rect.w rect.h) more [] tiles p.front (p.mask ∷ p.back) p.spelled all
     ∙ tile_waits f rect.w rect.h more tiles (p.mask ∷ p.back) (omega (arith, fewer)) waits ∙ raw ∙ pixels_pending f _ _ pixels pending p.back p.some)
 
 -- what they stand for is shown

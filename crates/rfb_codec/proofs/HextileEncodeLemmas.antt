@@ -1,4 +1,4 @@
--- Tiles put one behind another show a block.
+-- Tiles put one after another show a block.
 use Rattle.std.proofs.Common.{◌≡◌, ℕ, ◌+◌, ◌-◌, ◌*◌, ◌/◌, ◌%◌, ◌<◌, inl, inr, List, [], ◌∷◌, ◌++◌, true, Option, Some, length, take, drop, map, min, get_or, slice_index, slice_index_or, refl, sym, subst, ◌∙◌, ap, append-nil, append_assoc, arith, length-append}
 use Rattle.std.proofs.Math.Nat.{mod-eq_of_lt}
 use Rattle.std.proofs.Math.Seq.{get_or-append_seam}
@@ -23,7 +23,7 @@ use Rattle.rfb_codec.proofs.CarriedLemmas.{last_of-more}
 -- ---- lists
 
 module _ {A : Type 0} where
-  -- one item more behind those before it
+  -- one item more after those before it
   pub listed_more : (R : List A → A → List ℕ → Type 0) (before items : List A) (a : A) (bytes more : List ℕ) → ListedAfter R before items bytes → R (before ++ items) a more → ListedAfter R before (items ++ a ∷ []) (bytes ++ more)
   listed_more R before [] a bytes more none one =
       let here : R before a more = subst (λ (xs : List A). R xs a more) (append-nil before) one in
@@ -123,7 +123,7 @@ tile_below w h x y p q = place_below (across w) (across h) (x / 16) (y / 16) (co
 
 -- ---- the pixels of a tile
 
--- one row more of a tile is cut out of a block
+-- one row more of a tile is copied out of a block
 pub cut_more : (n w left top columns : ℕ) (old row places : List ℕ) → length old ≡ n * w → length row ≡ w → ((x : ℕ) → x < w → get_or row x 0 ≡ get_or places ((top + n) * columns + (left + x)) 0) → ((x y : ℕ) → x < w → y < n → get_or old (y * w + x) 0 ≡ get_or places ((top + y) * columns + (left + x)) 0) → (x y : ℕ) → x < w → y < n + 1 → get_or (old ++ row) (y * w + x) 0 ≡ get_or places ((top + y) * columns + (left + x)) 0
 cut_more n w left top columns old row places size wide here before x y p q = elim (cases_lt y n) [
   | inl above ↦

@@ -9,7 +9,7 @@ use Rattle.rfb_wire.proofs.stream_laws.PartLaws.{alone, done_says, done_reads, t
 use Rattle.rfb_wire.proofs.stream_laws.RepeatLaws.{each_says, each_reads}
 use Rattle.rfb_codec.specs.declared.fault.PaintFault.{PaintFault}
 use Rattle.rfb_codec.specs.Pixels.{IsSized, Shows, drawn}
-use Rattle.rfb_codec.specs.Tile.{Tile, tile_behind}
+use Rattle.rfb_codec.specs.Tile.{Tile, tile_after}
 use Rattle.rfb_codec.specs.Hextile.{tile_count, tile_width, tile_height, SpellsNextTile, pixel_of_tiles, StandsHextile, FaultsHextile, hextile}
 use Rattle.rfb_codec.proofs.PixelLaws.{sized-drawn, shows-drawn, drawn_is}
 use Rattle.rfb_codec.proofs.TileLaws.{tile_says, tile_reads}
@@ -18,9 +18,9 @@ use Rattle.rfb_codec.proofs.TileLaws.{tile_says, tile_reads}
 abbrev pub hextile_says : PixelFormat → ℕ → ℕ → Says (Grid ℕ) PaintFault
 hextile_says f w h = record { item = λ block bytes. IsSized w h block × StandsHextile f block bytes; fault = FaultsHextile f w h }
 
--- a tile behind those before it
+-- a tile after those before it
 abbrev pub next_tile : PixelFormat → ℕ → ℕ → List Tile → Reading Tile PaintFault
-next_tile f w h before = tile_behind f (tile_width w (length before)) (tile_height w h (length before)) before
+next_tile f w h before = tile_after f (tile_width w (length before)) (tile_height w h (length before)) before
 
 abbrev pub next_tile_says : PixelFormat → ℕ → ℕ → List Tile → Says Tile PaintFault
 next_tile_says f w h before = tile_says f (tile_width w (length before)) (tile_height w h (length before)) before

@@ -180,7 +180,7 @@ sent_is f (Colored background) pixels subs = refl
 
 -- ---- drawn tiles that are no shorter than raw
 
--- so many subrectangles have at least the pixels' bytes
+-- more subrectangles than the limit have at least the bytes of the pixels
 long_parts : {A : Type 0} (size room limit : ℕ) (parts : List A) → 0 < size → limit ≡ min 255 (room / size) → limit + 1 ≤ length parts → length parts < 256 → 1 + room ≤ parts_length size parts
 long_parts size room limit [] some is more few = absurd (omega (arith, more))
 long_parts size room limit (part ∷ parts) some is more few =

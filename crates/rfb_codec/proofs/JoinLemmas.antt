@@ -10,7 +10,7 @@ use Rattle.rfb_wire.specs.stream.Reading.{Next, More, Bad}
 use Rattle.rfb_codec.specs.declared.fault.PaintFault.{PaintFault}
 use Rattle.rfb_codec.specs.declared.painter.stage.Stage.{Stage}
 use Rattle.rfb_codec.specs.declared.painter.stage.Stage.TheVariants.{BeforeSource, Copied, InPixels, BeforeHead, InSubrects, InTiles, InRawTile}
-use Rattle.rfb_codec.specs.Tile.{Tile, is_raw, subrects_colored, mask_fault, behind_mask}
+use Rattle.rfb_codec.specs.Tile.{Tile, is_raw, subrects_colored, mask_fault, after_mask}
 use Rattle.rfb_codec.specs.Hextile.{tile_count, tile_width, tile_height, next_tile}
 use Rattle.rfb_codec.specs.Front.{BeginsTile, tile_places}
 use Rattle.rfb_codec.specs.Stage.{StandsAt, is_ended, is_sound}
@@ -43,7 +43,7 @@ begins_still f w h tiles [] more some short begins = absurd (omega arith)
 begins_still f w h tiles (mask ∷ rest) more some short (fewer, drawn, waits) =
     let here : nat_le 1 (length (mask ∷ (rest ++ more))) ≡ true = grind (arith, nat_tests) in
     let good = mask_is_good f w h tiles mask rest waits in
-    let list : behind_mask f (tile_width w (length tiles)) (tile_height w h (length tiles)) mask (is_raw mask) (subrects_colored mask) (rest ++ more) ≡ More =
+    let list : after_mask f (tile_width w (length tiles)) (tile_height w h (length tiles)) mask (is_raw mask) (subrects_colored mask) (rest ++ more) ≡ More =
     least_waits f (tile_width w (length tiles)) (tile_height w h (length tiles)) (mask ∷ rest) more some drawn short in
     let waits' : next_tile f w h tiles (mask ∷ (rest ++ more)) ≡ More = rw (here, good, list) refl in
     (fewer, drawn, waits')

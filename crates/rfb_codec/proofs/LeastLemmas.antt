@@ -7,7 +7,7 @@ use Rattle.rfb_pixel.specs.Format.{PixelFormat, size_of, pixel_number}
 use Rattle.rfb_wire.specs.Fields.{u8_at}
 use Rattle.rfb_wire.specs.stream.Reading.{More, Got}
 use Rattle.rfb_wire.specs.stream.Parts.{valued, optional}
-use Rattle.rfb_codec.specs.Tile.{is_raw, background_specified, foreground_specified, any_subrects, subrects_colored, tile_colour, place_of, colored_of, counted, behind_mask}
+use Rattle.rfb_codec.specs.Tile.{is_raw, background_specified, foreground_specified, any_subrects, subrects_colored, tile_colour, place_of, colored_of, counted, after_mask}
 use Rattle.rfb_codec.specs.inside.TileRead.{sub_size, colour_size, colours_end, list_end, least_size}
 use Rattle.rfb_codec.proofs.PaintTileLemmas.{valued_got, valued_short, counted_short}
 
@@ -29,7 +29,7 @@ colour_there f true at xs enough =
 -- ---- what follows the mask
 
 -- the list waits where the colours are there
-colored_waits : (f : PixelFormat) (w h mask : ℕ) (xs : List ℕ) → is_raw mask ≡ false → subrects_colored mask ≡ true → 1 ≤ length xs → (colours_end f mask true ≤ length xs → counted (any_subrects mask) (valued (size_of f + 2) (colored_of f)) (drop (colours_end f mask true) xs) ≡ More) → behind_mask f w h mask (is_raw mask) (subrects_colored mask) (drop 1 xs) ≡ More
+colored_waits : (f : PixelFormat) (w h mask : ℕ) (xs : List ℕ) → is_raw mask ≡ false → subrects_colored mask ≡ true → 1 ≤ length xs → (colours_end f mask true ≤ length xs → counted (any_subrects mask) (valued (size_of f + 2) (colored_of f)) (drop (colours_end f mask true) xs) ≡ More) → after_mask f w h mask (is_raw mask) (subrects_colored mask) (drop 1 xs) ≡ More
 colored_waits f w h mask xs drawn colored some list = elim (cases_lt (length xs) (colours_end f mask true)) [
   | inl short ↦ rw (drawn, colored, colour_waits f (background_specified mask) 1 xs some short) refl
   | inr enough ↦
@@ -37,7 +37,7 @@ colored_waits f w h mask xs drawn colored some list = elim (cases_lt (length xs)
       rw (drawn, colored, first.1, list enough) refl
 ]
 
-plain_waits : (f : PixelFormat) (w h mask : ℕ) (xs : List ℕ) → is_raw mask ≡ false → subrects_colored mask ≡ false → 1 ≤ length xs → (colours_end f mask false ≤ length xs → counted (any_subrects mask) (valued 2 place_of) (drop (colours_end f mask false) xs) ≡ More) → behind_mask f w h mask (is_raw mask) (subrects_colored mask) (drop 1 xs) ≡ More
+plain_waits : (f : PixelFormat) (w h mask : ℕ) (xs : List ℕ) → is_raw mask ≡ false → subrects_colored mask ≡ false → 1 ≤ length xs → (colours_end f mask false ≤ length xs → counted (any_subrects mask) (valued 2 place_of) (drop (colours_end f mask false) xs) ≡ More) → after_mask f w h mask (is_raw mask) (subrects_colored mask) (drop 1 xs) ≡ More
 plain_waits f w h mask xs drawn colored some list =
     let middle = 1 + colour_size f (background_specified mask) in
     elim (cases_lt (length xs) middle) [
@@ -73,7 +73,7 @@ module _ {A : Type 0} where
   ]
 
 pub least_waits : (f : PixelFormat) (w h : ℕ) (bytes more : List ℕ) → 0 < length bytes → is_raw (slice_index bytes 0) ≡ false → length (bytes ++ more) < least_size f bytes →
-    behind_mask f w h (slice_index bytes 0) (is_raw (slice_index bytes 0)) (subrects_colored (slice_index bytes 0)) (drop 1 (bytes ++ more)) ≡ More
+    after_mask f w h (slice_index bytes 0) (is_raw (slice_index bytes 0)) (subrects_colored (slice_index bytes 0)) (drop 1 (bytes ++ more)) ≡ More
 least_waits f w h bytes more some drawn short = by (subrects_colored mask) refl
   where
     mask : ℕ
@@ -82,7 +82,7 @@ least_waits f w h bytes more some drawn short = by (subrects_colored mask) refl
     first : 1 ≤ length (bytes ++ more)
     first = let long = length-append bytes more in omega (arith, long, some)
 
-    by : (b : Bool) → subrects_colored mask ≡ b → behind_mask f w h mask (is_raw mask) (subrects_colored mask) (drop 1 (bytes ++ more)) ≡ More
+    by : (b : Bool) → subrects_colored mask ≡ b → after_mask f w h mask (is_raw mask) (subrects_colored mask) (drop 1 (bytes ++ more)) ≡ More
     by true e =
         let short' : length (bytes ++ more) < (if any_subrects mask then list_end f true (colours_end f mask true) bytes else colours_end f mask true) = rw e at short in
         colored_waits f w h mask (bytes ++ more) drawn e first (λ there. list_waits f true (any_subrects mask) (colored_of f) (colours_end f mask true) bytes more there short')

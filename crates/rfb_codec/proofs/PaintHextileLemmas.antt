@@ -1,11 +1,11 @@
--- Tiles of Hextile, read one behind another and painted one after another.
+-- Tiles of Hextile, read one after another and painted one after another.
 use Rattle.std.proofs.Common.{◌≡◌, ℕ, ◌+◌, List, [], ◌∷◌, ◌++◌, true, false, Option, take, drop, map, refl, ◌∙◌, ap}
 use Rattle.rfb_pixel.specs.declared.colour.Colour.{Colour}
 use Rattle.rfb_pixel.specs.Format.{PixelFormat, colour_of, size_of}
 use Rattle.rfb_picture.specs.declared.rect.Rect.{Rect}
 use Rattle.rfb_picture.specs.Grid.{Grid}
 use Rattle.rfb_wire.specs.stream.Reading.{Next}
-use Rattle.rfb_wire.specs.stream.Parts.{behind, done}
+use Rattle.rfb_wire.specs.stream.Parts.{continue_with, done}
 use Rattle.rfb_codec.specs.declared.fault.PaintFault.{PaintFault}
 use Rattle.rfb_codec.specs.declared.hextile.layout.TileLayout.{TileLayout}
 use Rattle.rfb_codec.specs.declared.hextile.layout.TileLayout.TheVariants.{Raw, Plain, Colored}
@@ -23,7 +23,7 @@ use Rattle.rfb_codec.specs.Painter.{over}
 
 -- what tiles are read as
 abbrev pub shown_tiles : PixelFormat → ℕ → ℕ → Next (List Tile) PaintFault → Next (Grid ℕ) PaintFault
-shown_tiles f w h tiles = behind (λ (all : List Tile). done (drawn w h (pixel_of_tiles f w all))) tiles
+shown_tiles f w h tiles = continue_with (λ (all : List Tile). done (drawn w h (pixel_of_tiles f w all))) tiles
 
 pub hextile_opened : (f : PixelFormat) (w h : ℕ) (bytes : List ℕ) → hextile f w h bytes ≡ shown_tiles f w h (all_tiles f w h bytes)
 unfolding hextile

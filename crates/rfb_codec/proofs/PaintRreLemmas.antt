@@ -11,7 +11,7 @@ use Rattle.rfb_picture.specs.Rect.{contains}
 use Rattle.rfb_picture.specs.Grid.{Grid, IsGrid, at_or, filled}
 use Rattle.rfb_picture.proofs.GridLaws.{changed_twice, same_changes}
 use Rattle.rfb_wire.specs.stream.Reading.{More, Next}
-use Rattle.rfb_wire.specs.stream.Parts.{behind, done, many}
+use Rattle.rfb_wire.specs.stream.Parts.{continue_with, done, many}
 use Rattle.rfb_wire.specs.RectHead.{IsOnScreen}
 use Rattle.rfb_wire.proofs.stream_laws.PartLaws.{piece_short}
 use Rattle.rfb_codec.specs.declared.fault.PaintFault.{PaintFault}
@@ -24,14 +24,14 @@ use Rattle.rfb_codec.proofs.RreLaws.{pixel_at-last}
 
 -- ---- a subrectangle
 
--- a number behind so many bytes, as a slice of the rest gives it
-abbrev u16_behind : List ℕ → ℕ → ℕ
-u16_behind bytes n = big_number 2 (take (length bytes - n) (drop n bytes))
+-- a number after `n` bytes, as a slice of the rest gives it
+abbrev u16_after : List ℕ → ℕ → ℕ
+u16_after bytes n = big_number 2 (take (length bytes - n) (drop n bytes))
 
 -- what is read of its bytes at their offsets
-pub subrect_read : (f : PixelFormat) (bytes : List ℕ) (size pixel x y w h : ℕ) → size ≡ size_of f → pixel ≡ pixel_number f (take size bytes) → x ≡ u16_behind bytes size → y ≡ u16_behind bytes (size + 2) → w ≡ u16_behind bytes (size + 4) → h ≡ u16_behind bytes (size + 6) → ◌≡◌ {A = Subrect} (record { pixel = pixel; rect = record { x = x; y = y; w = w; h = h } }) (subrect_of f bytes)
+pub subrect_read : (f : PixelFormat) (bytes : List ℕ) (size pixel x y w h : ℕ) → size ≡ size_of f → pixel ≡ pixel_number f (take size bytes) → x ≡ u16_after bytes size → y ≡ u16_after bytes (size + 2) → w ≡ u16_after bytes (size + 4) → h ≡ u16_after bytes (size + 6) → ◌≡◌ {A = Subrect} (record { pixel = pixel; rect = record { x = x; y = y; w = w; h = h } }) (subrect_of f bytes)
 subrect_read f bytes size pixel x y w h size_is pixel_is x_is y_is w_is h_is =
-    let at : (n m : ℕ) → n ≡ u16_behind bytes (size + m) → n ≡ big_number 2 (drop m (drop (size_of f) bytes)) = λ n m is.
+    let at : (n m : ℕ) → n ≡ u16_after bytes (size + m) → n ≡ big_number 2 (drop m (drop (size_of f) bytes)) = λ n m is.
     is ∙ ap (big_number 2) (take_rest bytes (size + m) ∙ sym (drop-drop m size bytes) ∙ ap (λ (k : ℕ). drop m (drop k bytes)) size_is) in
     let pixel' : pixel ≡ pixel_number f bytes = pixel_is ∙ pixel_number-take f bytes size (omega arith) in
     let x' : x ≡ big_number 2 (drop (size_of f) bytes) = x_is ∙ ap (big_number 2) (take_rest bytes size ∙ ap (λ (k : ℕ). drop k bytes) size_is) in
@@ -85,11 +85,11 @@ over_filled f rect b subs s g whole on =
 
 -- what subrectangles are read as, over a background
 abbrev pub shown_over : ℕ → ℕ → ℕ → Next (List Subrect) PaintFault → Next (Grid ℕ) PaintFault
-shown_over w h background subs = behind (λ (all : List Subrect). done (drawn w h (pixel_at background all))) subs
+shown_over w h background subs = continue_with (λ (all : List Subrect). done (drawn w h (pixel_at background all))) subs
 
 -- without all of a head they are waited for
 pub rre_short : (f : PixelFormat) (w h : ℕ) (bytes : List ℕ) → length bytes < 4 + size_of f → rre f w h bytes ≡ More
 unfolding rre
 rre_short f w h bytes fewer =
-    ap (λ (part : Next (List ℕ) PaintFault). behind (λ (head : RreHead). λ (rest : List ℕ). shown_over w h head.background (many head.count (subrect f w h) rest)) (behind (λ (xs : List ℕ). done (rre_head_of f xs)) part))
+    ap (λ (part : Next (List ℕ) PaintFault). continue_with (λ (head : RreHead). λ (rest : List ℕ). shown_over w h head.background (many head.count (subrect f w h) rest)) (continue_with (λ (xs : List ℕ). done (rre_head_of f xs)) part))
     (piece_short {F = PaintFault} (4 + size_of f) bytes fewer)

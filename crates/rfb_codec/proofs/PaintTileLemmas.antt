@@ -15,7 +15,7 @@ use Rattle.rfb_codec.specs.declared.fault.PaintFault.{PaintFault}
 use Rattle.rfb_codec.specs.declared.hextile.layout.TileLayout.{TileLayout}
 use Rattle.rfb_codec.specs.declared.hextile.layout.TileLayout.TheVariants.{Plain, Colored}
 use Rattle.rfb_codec.specs.declared.hextile.paint.tile_read.TileRead.{TileRead}
-use Rattle.rfb_codec.specs.Tile.{Tile, has_bit, is_raw, background_specified, foreground_specified, any_subrects, subrects_colored, tile_colour, place_of, colored_of, counted, behind_mask, rect_in, are_inside, mask_fault, places_of, tile_behind}
+use Rattle.rfb_codec.specs.Tile.{Tile, has_bit, is_raw, background_specified, foreground_specified, any_subrects, subrects_colored, tile_colour, place_of, colored_of, counted, after_mask, rect_in, are_inside, mask_fault, places_of, tile_after}
 use Rattle.rfb_codec.specs.inside.TileRead.{values_in, tile_of_read, LiesIn, IsCount, places_from}
 
 -- ---- values
@@ -28,7 +28,7 @@ module _ {A : Type 0} where
   pub valued_short : (unit : ℕ) (value : List ℕ → A) (bytes : List ℕ) → length bytes < unit → valued {F = PaintFault} unit value bytes ≡ More
   valued_short unit value bytes short = rw (piece_short {F = PaintFault} unit bytes short) refl
 
-  -- so many values, whose bytes are all there
+  -- `n` values, whose bytes are all there
   each_got : (unit : ℕ) (value : List ℕ → A) (n : ℕ) (before : List A) (bytes : List ℕ) → n * unit ≤ length bytes → each {F = PaintFault} n (λ _. valued unit value) before bytes ≡ Got (values_in value unit n bytes) (drop (n * unit) bytes)
   each_got unit value zero before bytes enough = let none : 0 * unit ≡ 0 = omega arith in rw none refl
   each_got unit value (suc n) before bytes enough =
@@ -48,7 +48,7 @@ module _ {A : Type 0} where
         rw (valued_got unit value bytes enough, more) refl
   ]
 
--- behind the byte that counts them, if there is one
+-- after the byte that counts them, if there is one
 counted_byte : (at : ℕ) (bytes : List ℕ) → at < length bytes → valued {F = PaintFault} 1 (u8_at 0) (drop at bytes) ≡ Got (slice_index bytes at) (drop (at + 1) bytes)
 counted_byte at bytes within =
     let left : length (drop at bytes) ≡ length bytes - at = length-drop at bytes in
@@ -73,7 +73,7 @@ module _ {A : Type 0} where
   counted_short true unit value at bytes count list is within short =
       let left : length (drop list bytes) ≡ length bytes - list = length-drop list bytes in
       let first : valued {F = PaintFault} 1 (u8_at 0) (drop at bytes) ≡ Got count (drop list bytes) = counted_byte at bytes is.2 ∙ rw (is.0, is.1) refl in
-      let behind_it : list ≤ length bytes = omega (arith, is.1, is.2) in
+      let after_it : list ≤ length bytes = omega (arith, is.1, is.2) in
       let all = each_short unit value count [] (drop list bytes) (omega (arith, left)) in
       rw (first, all) refl
 
@@ -85,15 +85,15 @@ bit_clear value mask e = rw e refl
 pub bit_set : (value mask : ℕ) → bit_and mask value ≢ 0 → has_bit value mask ≡ true
 bit_set value mask e = grind (arith, nat_tests)
 
--- ---- a tile behind its mask
+-- ---- a tile after its mask
 
 -- what is found of a tile that the bytes may not have whole
 abbrev pub IsFound : PixelFormat → ℕ → ℕ → ℕ → List ℕ → Option TileRead → Type 0
 IsFound f w h mask bytes result =
-    MatchOption result (behind_mask f w h mask (is_raw mask) (subrects_colored mask) (drop 1 bytes) ≡ More)
-    (λ read. (behind_mask f w h mask (is_raw mask) (subrects_colored mask) (drop 1 bytes) ≡ Got (tile_of_read f w h read bytes) (drop read.used bytes)) × LiesIn f w h read bytes)
+    MatchOption result (after_mask f w h mask (is_raw mask) (subrects_colored mask) (drop 1 bytes) ≡ More)
+    (λ read. (after_mask f w h mask (is_raw mask) (subrects_colored mask) (drop 1 bytes) ≡ Got (tile_of_read f w h read bytes) (drop read.used bytes)) × LiesIn f w h read bytes)
 
--- it is told where its bytes are there
+-- it is reported where its bytes are there
 abbrev pub IsWhole : TileLayout → ℕ → ℕ → ℕ → List ℕ → Option TileRead → Type 0
 IsWhole layout list count used bytes result = MatchOption result (length bytes < used) (λ read. (read ≡ record { layout = layout; list = list; count = count; used = used }) × (used ≤ length bytes))
 
@@ -103,7 +103,7 @@ found_colored f w h mask bytes background at count list used None drawn colored 
     rw (drawn, colored, first, all) refl
 found_colored f w h mask bytes background at count list used (Some read) drawn colored first within some is end (same, enough) =
     let all = counted_got (any_subrects mask) (size_of f + 2) (colored_of f) at bytes count list is (omega (arith, enough, end)) in
-    subst (λ (r : TileRead). (behind_mask f w h mask (is_raw mask) (subrects_colored mask) (drop 1 bytes) ≡ Got (tile_of_read f w h r bytes) (drop r.used bytes)) × LiesIn f w h r bytes) (sym same)
+    subst (λ (r : TileRead). (after_mask f w h mask (is_raw mask) (subrects_colored mask) (drop 1 bytes) ≡ Got (tile_of_read f w h r bytes) (drop r.used bytes)) × LiesIn f w h r bytes) (sym same)
     (rw (drawn, colored, first, all, end) refl, record { end = end; within = enough; some = some })
 
 pub found_plain : (f : PixelFormat) (w h mask : ℕ) (bytes : List ℕ) (background foreground : Option ℕ) (middle at count list used : ℕ) (result : Option TileRead) → is_raw mask ≡ false → subrects_colored mask ≡ false → optional (background_specified mask) (tile_colour f) (drop 1 bytes) ≡ Got background (drop middle bytes) → optional (foreground_specified mask) (tile_colour f) (drop middle bytes) ≡ Got foreground (drop at bytes) → at ≤ length bytes → 1 ≤ list → IsCount (any_subrects mask) at bytes count list → used ≡ list + count * 2 → IsWhole (Plain background foreground) list count used bytes result → IsFound f w h mask bytes result
@@ -112,12 +112,12 @@ found_plain f w h mask bytes background foreground middle at count list used Non
     rw (drawn, colored, first, second, all) refl
 found_plain f w h mask bytes background foreground middle at count list used (Some read) drawn colored first second within some is end (same, enough) =
     let all = counted_got (any_subrects mask) 2 place_of at bytes count list is (omega (arith, enough, end)) in
-    subst (λ (r : TileRead). (behind_mask f w h mask (is_raw mask) (subrects_colored mask) (drop 1 bytes) ≡ Got (tile_of_read f w h r bytes) (drop r.used bytes)) × LiesIn f w h r bytes) (sym same)
+    subst (λ (r : TileRead). (after_mask f w h mask (is_raw mask) (subrects_colored mask) (drop 1 bytes) ≡ Got (tile_of_read f w h r bytes) (drop r.used bytes)) × LiesIn f w h r bytes) (sym same)
     (rw (drawn, colored, first, second, all, end) refl, record { end = end; within = enough; some = some })
 
 -- ---- places
 
--- the places of plain subrectangles, and those of coloured ones behind their pixels
+-- the places of plain subrectangles, and those of coloured ones after their pixels
 pub places_plain : (n : ℕ) (list : List ℕ) → values_in place_of 2 n list ≡ places_from 0 n list
 places_plain zero list = refl
 places_plain (suc n) list = rw (places_plain n (drop 2 list)) refl
@@ -128,30 +128,30 @@ places_colored f (suc n) list =
     let here : drop (size_of f) (take (size_of f + 2) list) ≡ take 2 (drop (size_of f) list) = drop-take (size_of f) 2 list in
     rw (here, places_colored f n (drop (size_of f + 2) list)) refl
 
--- the place behind so many others
-abbrev pub place_behind : ℕ → ℕ → List ℕ → Rect
-place_behind skip k list = place_of (take 2 (drop (k * (skip + 2) + skip) list))
+-- the place after `k` others
+abbrev pub nth_place : ℕ → ℕ → List ℕ → Rect
+nth_place skip k list = place_of (take 2 (drop (k * (skip + 2) + skip) list))
 
-behind_one : (skip k : ℕ) (list : List ℕ) → place_behind skip k (drop (skip + 2) list) ≡ place_behind skip (k + 1) list
-behind_one skip k list = ap (λ (ys : List ℕ). place_of (take 2 ys)) (drop-drop (k * (skip + 2) + skip) (skip + 2) list ∙ ap (λ (n : ℕ). drop n list) (omega arith))
+after_one : (skip k : ℕ) (list : List ℕ) → nth_place skip k (drop (skip + 2) list) ≡ nth_place skip (k + 1) list
+after_one skip k list = ap (λ (ys : List ℕ). place_of (take 2 ys)) (drop-drop (k * (skip + 2) + skip) (skip + 2) list ∙ ap (λ (n : ℕ). drop n list) (omega arith))
 
 -- all are inside where each is
-pub all_inside : (w h skip n : ℕ) (list : List ℕ) → ((k : ℕ) → k < n → is_on_screen w h (place_behind skip k list) ≡ true) → are_inside w h (places_from skip n list) ≡ true
+pub all_inside : (w h skip n : ℕ) (list : List ℕ) → ((k : ℕ) → k < n → is_on_screen w h (nth_place skip k list) ≡ true) → are_inside w h (places_from skip n list) ≡ true
 all_inside w h skip zero list each_is = refl
 all_inside w h skip (suc n) list each_is =
     let first : is_on_screen w h (place_of (take 2 (drop skip list))) ≡ true = subst (λ (k : ℕ). is_on_screen w h (place_of (take 2 (drop k list))) ≡ true) (omega arith) (each_is 0 (omega arith)) in
-    let more = all_inside w h skip n (drop (skip + 2) list) (λ k below. subst (λ (r : Rect). is_on_screen w h r ≡ true) (sym (behind_one skip k list)) (each_is (k + 1) (omega arith))) in
+    let more = all_inside w h skip n (drop (skip + 2) list) (λ k below. subst (λ (r : Rect). is_on_screen w h r ≡ true) (sym (after_one skip k list)) (each_is (k + 1) (omega arith))) in
     rw (first, more) refl
 
 -- and not where one is not
-pub one_outside : (w h skip n k : ℕ) (list : List ℕ) → k < n → is_on_screen w h (place_behind skip k list) ≡ false → are_inside w h (places_from skip n list) ≡ false
+pub one_outside : (w h skip n k : ℕ) (list : List ℕ) → k < n → is_on_screen w h (nth_place skip k list) ≡ false → are_inside w h (places_from skip n list) ≡ false
 one_outside w h skip zero k list below off = absurd (omega arith)
 one_outside w h skip (suc n) zero list below off =
     let first : is_on_screen w h (place_of (take 2 (drop skip list))) ≡ false = subst (λ (k : ℕ). is_on_screen w h (place_of (take 2 (drop k list))) ≡ false) (omega arith) off in
     rw first refl
 one_outside w h skip (suc n) (suc k) list below off =
     let far : suc k ≡ k + 1 = omega arith in
-    let more = one_outside w h skip n k (drop (skip + 2) list) (omega arith) (subst (λ (r : Rect). is_on_screen w h r ≡ false) (sym (behind_one skip k list)) (rw far at off)) in
+    let more = one_outside w h skip n k (drop (skip + 2) list) (omega arith) (subst (λ (r : Rect). is_on_screen w h r ≡ false) (sym (after_one skip k list)) (rw far at off)) in
     rw more (either (is_on_screen w h (place_of (take 2 (drop skip list)))))
   where
     either : (b : Bool) → (b && false) ≡ false
@@ -161,7 +161,7 @@ one_outside w h skip (suc n) (suc k) list below off =
 -- ---- a tile from its mask on
 
 -- a good mask, a whole tile, and subrectangles inside
-pub tile_got : (f : PixelFormat) (w h : ℕ) (before : List Tile) (bytes : List ℕ) (mask : ℕ) (tile : Tile) (rest : List ℕ) → 1 ≤ length bytes → mask ≡ slice_index bytes 0 → mask_fault before mask ≡ None → behind_mask f w h mask (is_raw mask) (subrects_colored mask) (drop 1 bytes) ≡ Got tile rest → are_inside w h (places_of tile) ≡ true → tile_behind f w h before bytes ≡ Got tile rest
+pub tile_got : (f : PixelFormat) (w h : ℕ) (before : List Tile) (bytes : List ℕ) (mask : ℕ) (tile : Tile) (rest : List ℕ) → 1 ≤ length bytes → mask ≡ slice_index bytes 0 → mask_fault before mask ≡ None → after_mask f w h mask (is_raw mask) (subrects_colored mask) (drop 1 bytes) ≡ Got tile rest → are_inside w h (places_of tile) ≡ true → tile_after f w h before bytes ≡ Got tile rest
 tile_got f w h before bytes mask tile rest some mask_is good found inside =
     let whole : nat_le 1 (length bytes) ≡ true = grind (arith, nat_tests) in
     let first : u8_at 0 (take 1 bytes) ≡ mask = get_or-take 1 bytes 0 0 (omega arith) ∙ sym mask_is in

@@ -8,7 +8,7 @@ use Rattle.rfb_codec.specs.inside.Background.{Leads}
 use Rattle.rfb_codec.specs.Choice.{places_of}
 use Rattle.rfb_codec.specs.inside.Palette.{IsMoreFrequent}
 
--- where each place has one of two, the places of both are all: first of so many
+-- where each place has one of two, the places of both are all: first of the first `n`
 counted_up_to : (a b n : ℕ) (pixels : List ℕ) → a ≢ b → ((i : ℕ) → i < length pixels → (slice_index pixels i ≡ a) ⊎ (slice_index pixels i ≡ b)) → n ≤ length pixels → places_of a (take n pixels) + places_of b (take n pixels) ≡ n
 counted_up_to a b zero pixels differ each within = refl
 counted_up_to a b (suc n) pixels differ each within =

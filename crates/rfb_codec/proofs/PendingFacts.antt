@@ -1,4 +1,4 @@
--- How many bytes are pending behind each front of data, computed at pixels of one byte.
+-- How many bytes are pending after each front of data, computed at pixels of one byte.
 use Rattle.std.proofs.Common.{◌≡◌, ℕ, List, [], ◌∷◌, ◌++◌, refl}
 use Rattle.rfb_pixel.specs.Format.{rgb565, bgr233}
 use Rattle.rfb_picture.specs.declared.rect.Rect.{Rect}
@@ -44,7 +44,7 @@ a_background_and_a_subrectangle = refl
 inside : UpdatePoint
 inside = record { width = 4; height = 1; form = rgb565; left = 1 }
 
--- a head, and a pixel and a half behind it
+-- a head, and a pixel and a half after it
 a_rectangle : byte_by_byte (update_pending inside) [] (0 ∷ 0 ∷ 0 ∷ 0 ∷ 0 ∷ 2 ∷ 0 ∷ 1 ∷ 0 ∷ 0 ∷ 0 ∷ 0 ∷ 7 ∷ 56 ∷ 2 ∷ []) ≡ 1 ∷ 2 ∷ 3 ∷ 4 ∷ 5 ∷ 6 ∷ 7 ∷ 8 ∷ 9 ∷ 10 ∷ 11 ∷ 0 ∷ 1 ∷ 0 ∷ 1 ∷ []
 unfolding update_pending data_pending inside
 a_rectangle = refl

@@ -13,7 +13,7 @@ use Rattle.rfb_wire.specs.Fields.{s32_at}
 use Rattle.rfb_wire.specs.stream.Reading.{More, Got, Listed, ListedAfter}
 use Rattle.rfb_wire.specs.RectHead.{SpellsRectHead, IsOnScreen}
 use Rattle.rfb_wire.specs.RectStream.{rect_head, rect_head_of, rect_of, head_fault, encoding_of}
-use Rattle.rfb_wire.specs.stream.Pending.{in_pieces, behind_piece}
+use Rattle.rfb_wire.specs.stream.Pending.{in_pieces, after_piece}
 use Rattle.rfb_wire.specs.Pending.{server_piece_size, server_pending, rect_pending}
 use Rattle.rfb_wire.specs.ServerHead.{server_head_size}
 use Rattle.rfb_wire.proofs.stream_laws.PendingLaws.{counted_pending, pieces_pending, piece_pending, past_piece, pieces_within, piece_within, piece_below, message_within}
@@ -24,11 +24,11 @@ use Rattle.rfb_codec.specs.Tile.{Tile}
 use Rattle.rfb_codec.specs.Hextile.{tile_count, SpellsNextTile}
 use Rattle.rfb_codec.specs.Hextile.{next_tile}
 use Rattle.rfb_codec.specs.UpdateStream.{UpdatePoint}
-use Rattle.rfb_codec.specs.Pending.{tile_pending, data_pending, pending_behind, next_pending, update_pending}
+use Rattle.rfb_codec.specs.Pending.{tile_pending, data_pending, pending_after_head, next_pending, update_pending}
 use Rattle.rfb_wire.proofs.stream_laws.RepeatLaws.{checked_reads}
 use Rattle.rfb_wire.proofs.RectStreamLaws.{rect_head_reads}
 use Rattle.rfb_codec.proofs.EnoughLaws.{bytes_dropped}
-use Rattle.rfb_codec.proofs.PendingTileLaws.{tiles_behind, size_small, tiles_below, tiles_within}
+use Rattle.rfb_codec.proofs.PendingTileLaws.{tiles_after, size_small, tiles_below, tiles_within}
 
 -- ---- data
 
@@ -52,7 +52,7 @@ subrects_pending f rect count background subs head list rest head_is listed less
 
 pub hextile_pending : (f : PixelFormat) (rect : Rect) (tiles : List Tile) (front rest : List ℕ) → ListedAfter (SpellsNextTile f rect.w rect.h) [] tiles front → length tiles < tile_count rect.w rect.h → next_tile f rect.w rect.h tiles rest ≡ More → data_pending f rect Hextile (front ++ rest) ≡ tile_pending f rest
 unfolding data_pending
-hextile_pending f rect tiles front rest listed less waits = tiles_behind f rect.w rect.h (tile_count rect.w rect.h) [] tiles front rest listed less waits
+hextile_pending f rect tiles front rest listed less waits = tiles_after f rect.w rect.h (tile_count rect.w rect.h) [] tiles front rest listed less waits
 
 -- ---- the bound
 
@@ -99,34 +99,34 @@ short_head_pending p bytes some less = by p.left some
   where
     by : (left : ℕ) → 0 < left → next_pending p.form left bytes ≡ length bytes
     by zero none = absurd (omega (arith, none))
-    by (suc left) some = piece_pending 12 (pending_behind p.form (rect_head_of (take 12 bytes))) bytes less
+    by (suc left) some = piece_pending 12 (pending_after_head p.form (rect_head_of (take 12 bytes))) bytes less
 
--- behind a head it is what is pending of the data
-pub data_pending_next : (p : UpdatePoint) (head : RectHead) (front behind_it : List ℕ) → 0 < p.left → SpellsRectHead head front → IsOnScreen p.width p.height head.rect → update_pending p (front ++ behind_it) ≡ pending_behind p.form head behind_it
+-- after a head it is what is pending of the data
+pub data_pending_next : (p : UpdatePoint) (head : RectHead) (front after_it : List ℕ) → 0 < p.left → SpellsRectHead head front → IsOnScreen p.width p.height head.rect → update_pending p (front ++ after_it) ≡ pending_after_head p.form head after_it
 unfolding update_pending
-data_pending_next p head front behind_it some head_is on = by p.left some
+data_pending_next p head front after_it some head_is on = by p.left some
   where
-    same : rect_head_of (take 12 (front ++ behind_it)) ≡ head
-    same = ap rect_head_of (take_at front behind_it 12 head_is.size) ∙ head_of p.width p.height head front head_is on
+    same : rect_head_of (take 12 (front ++ after_it)) ≡ head
+    same = ap rect_head_of (take_at front after_it 12 head_is.size) ∙ head_of p.width p.height head front head_is on
 
-    by : (left : ℕ) → 0 < left → next_pending p.form left (front ++ behind_it) ≡ pending_behind p.form head behind_it
+    by : (left : ℕ) → 0 < left → next_pending p.form left (front ++ after_it) ≡ pending_after_head p.form head after_it
     by zero none = absurd (omega (arith, none))
     by (suc left) some =
-        subst (λ (h : RectHead). rect_pending (pending_behind p.form h) (front ++ behind_it) ≡ pending_behind p.form head behind_it) (sym same)
-        (past_piece 12 (pending_behind p.form head) front behind_it head_is.size)
+        subst (λ (h : RectHead). rect_pending (pending_after_head p.form h) (front ++ after_it) ≡ pending_after_head p.form head after_it) (sym same)
+        (past_piece 12 (pending_after_head p.form head) front after_it head_is.size)
 
 pub update_pending_below : (p : UpdatePoint) (bytes : List ℕ) → IsFormat p.form → AreBytes bytes → update_pending p bytes ≤ 1535
 unfolding update_pending
 update_pending_below p bytes format are = by p.left
   where
-    below : (head : RectHead) → rect_pending (pending_behind p.form head) bytes ≤ 1535
+    below : (head : RectHead) → rect_pending (pending_after_head p.form head) bytes ≤ 1535
     below head = elim (cases_lt (length bytes) 12) [
-      | inl less ↦ rw (piece_pending 12 (pending_behind p.form head) bytes less) (omega (arith, less))
+      | inl less ↦ rw (piece_pending 12 (pending_after_head p.form head) bytes less) (omega (arith, less))
       | inr more ↦
           let short : length (take 12 bytes) ≡ 12 = length-take-le 12 bytes more in
           let whole : take 12 bytes ++ drop 12 bytes ≡ bytes = take-append-drop 12 bytes in
-          let behind' : behind_piece 12 (pending_behind p.form head) (take 12 bytes ++ drop 12 bytes) ≡ pending_behind p.form head (drop 12 bytes) = past_piece 12 (pending_behind p.form head) (take 12 bytes) (drop 12 bytes) short in
-          let same : rect_pending (pending_behind p.form head) bytes ≡ pending_behind p.form head (drop 12 bytes) = subst (λ (ys : List ℕ). behind_piece 12 (pending_behind p.form head) ys ≡ pending_behind p.form head (drop 12 bytes)) whole behind' in
+          let after' : after_piece 12 (pending_after_head p.form head) (take 12 bytes ++ drop 12 bytes) ≡ pending_after_head p.form head (drop 12 bytes) = past_piece 12 (pending_after_head p.form head) (take 12 bytes) (drop 12 bytes) short in
+          let same : rect_pending (pending_after_head p.form head) bytes ≡ pending_after_head p.form head (drop 12 bytes) = subst (λ (ys : List ℕ). after_piece 12 (pending_after_head p.form head) ys ≡ pending_after_head p.form head (drop 12 bytes)) whole after' in
           rw same (data_pending_below p.form head.rect head.encoding (drop 12 bytes) format (bytes_dropped 12 bytes are))
     ]
 
@@ -142,4 +142,4 @@ update_pending_within p bytes = by p.left
     by zero = message_within server_head_size server_piece_size bytes
     by (suc left) =
         let head = rect_head_of (take 12 bytes) in
-        piece_within 12 (pending_behind p.form head) (λ rest. data_pending_within p.form head.rect head.encoding rest) bytes
+        piece_within 12 (pending_after_head p.form head) (λ rest. data_pending_within p.form head.rect head.encoding rest) bytes

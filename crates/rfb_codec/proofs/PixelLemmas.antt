@@ -1,4 +1,4 @@
--- Laws of the bytes of pixels, one behind another.
+-- Laws of the bytes of pixels, one after another.
 use Rattle.std.proofs.Common.{◌≡◌, ℕ, zero, suc, ◌+◌, ◌-◌, ◌*◌, ◌%◌, ◌^◌, ◌<◌, ◌≤◌, List, [], ◌∷◌, ◌++◌, Bool, true, false, cond, length, take, drop, slice_index, arith, ap, ◌∙◌, sym, append-nil, length-append, append_assoc}
 use Rattle.std.proofs.Math.Nat.{mod-eq_of_lt, mul-le-mul_right}
 use Rattle.std.proofs.Math.Seq.{take-add}
@@ -24,7 +24,7 @@ length-pixel_bytes f pixel = ordered f.big_endian
     ordered true = length-bytes_high_first (size_of f) pixel
     ordered false = length-bytes_low_first 0 (size_of f) pixel
 
--- one pixel more behind those that are written
+-- one pixel more after those that are written
 pub pixels_more : (f : PixelFormat) (pixels bytes part : List ℕ) (i size k : ℕ) → size ≡ size_of f → i < length pixels → i * size ≤ length bytes → part ≡ pixel_bytes f (slice_index pixels i) → take (i * size) bytes ≡ flat_map (pixel_bytes f) (take i pixels) → take ((i + 1) * size) (put_mid (i * size) k bytes part) ≡ flat_map (pixel_bytes f) (take (i + 1) pixels)
 pixels_more f pixels bytes part i size k e within room is before =
     let long : length part ≡ size = ap length is ∙ length-pixel_bytes f (slice_index pixels i) ∙ sym e in
@@ -33,7 +33,7 @@ pixels_more f pixels bytes part i size k e within room is before =
     take-put_mid (i * size) k bytes part ((i + 1) * size) end room
     ∙ sym (ap (flat_map (pixel_bytes f)) (take_more pixels i 0 within) ∙ flat_map-append (pixel_bytes f) (take i pixels) (slice_index pixels i ∷ []) ∙ ap (λ (rest : List ℕ). flat_map (pixel_bytes f) (take i pixels) ++ rest) one ∙ ap (λ (front : List ℕ). front ++ part) (sym before))
 
--- so many pixels have so many bytes
+-- how many bytes pixels have
 pub length-pixels : (f : PixelFormat) (pixels : List ℕ) → length (flat_map (pixel_bytes f) pixels) ≡ length pixels * size_of f
 length-pixels f [] = omega arith
 length-pixels f (p ∷ pixels) =
@@ -41,7 +41,7 @@ length-pixels f (p ∷ pixels) =
     let here = length-pixel_bytes f p in
     rw length-append (omega (arith, more, here))
 
--- behind the bytes of the pixels before it, a pixel is read
+-- after the bytes of the pixels before it, a pixel is read
 pub pixel_number-pixels : (f : PixelFormat) (pixels : List ℕ) (i : ℕ) → i < length pixels → pixel_number f (drop (i * size_of f) (flat_map (pixel_bytes f) pixels)) ≡ slice_index pixels i % 2 ^ (8 * size_of f)
 pixel_number-pixels f [] i within = absurd (omega arith)
 pixel_number-pixels f (p ∷ pixels) zero within =

@@ -40,7 +40,7 @@ pixels_all f rect count pixels g whole all =
 -- a raw tile that is whole
 raw_spelled : (f : PixelFormat) (w h : ℕ) (tiles : List Tile) (mask : ℕ) (pixels : List ℕ) → is_raw mask ≡ true → length pixels ≡ raw_length f (tile_width w (length tiles)) (tile_height w h (length tiles)) → SpellsNextTile f w h tiles (RawTile pixels) (mask ∷ pixels)
 raw_spelled f w h tiles mask pixels raw size = (
-  record { head = mask ∷ []; rest = pixels; whole = refl; one = refl; good = rw raw refl; behind = (raw, refl, size) },
+  record { head = mask ∷ []; rest = pixels; whole = refl; one = refl; good = rw raw refl; after = (raw, refl, size) },
   tt,
 )
 

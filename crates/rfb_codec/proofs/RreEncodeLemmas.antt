@@ -38,7 +38,7 @@ rect_read rect x y w h = record {
   height = big_number-reads_back 2 rect.h [] h;
 }
 
--- a subrectangle has so many bytes
+-- how many bytes a subrectangle has
 pub length-subrect : (f : PixelFormat) (s : Subrect) → length (subrect_bytes f s) ≡ size_of f + 8
 length-subrect f s = let pixel = length-pixel_bytes f s.pixel in rw length-append (omega (arith, pixel))
 
@@ -50,7 +50,7 @@ subrect_read f s small inside = record {
   rect_is = rw (drop_at (pixel_bytes f s.pixel) (rect_bytes s.rect) (size_of f) (length-pixel_bytes f s.pixel)) (rect_read s.rect (omega arith) (omega arith) (omega arith) (omega arith));
 }
 
--- so many have so many bytes
+-- how many bytes subrectangles have
 pub length-subrects : (f : PixelFormat) (subs : List Subrect) → length (flat_map (subrect_bytes f) subs) ≡ length subs * (size_of f + 8)
 length-subrects f [] = omega arith
 length-subrects f (s ∷ subs) =
@@ -100,7 +100,7 @@ stands_rre f block background subs whole wide high few small chosen cover rule =
   bytes_are = refl;
 }
 
--- so many places can be covered by a third as many subrectangles, where that is shorter than Raw
+-- where fewer subrectangles than this are shorter than Raw, a third of the places is no fewer
 pub limit_fits : (places size n : ℕ) → places ≤ 3 * n → size ≤ 4 → places * size / (size + 8) ≤ n
 limit_fits places size n few small =
     let bytes : places * size ≤ 3 * n * size = mul-le-mul_right size few in

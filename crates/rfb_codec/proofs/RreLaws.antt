@@ -91,7 +91,7 @@ rre_says f w h = record {
   fault = λ fault bytes. (fault ≡ SubrectOutside) × LeavesAtEnd f w h bytes;
 }
 
--- the subrectangles behind a head
+-- the subrectangles after a head
 abbrev list_says : PixelFormat → ℕ → ℕ → RreHead → Says (Grid ℕ) PaintFault
 list_says f w h head = then_says (many_says head.count (subrect_says f w h)) (λ subs. done_says (drawn w h (pixel_at head.background subs)))
 

@@ -71,8 +71,8 @@ module _ (width height : ℕ) (pixels : List ℕ) (background : ℕ) where
   no_more before (s ∷ some) (t ∷ all) (next, each) (next', other) none =
       let same = next_same before s t next next' in
       let rest = subst (λ (u : Subrect). AreNextSubs width height pixels background (before ++ u ∷ []) some) same each in
-      let behind : (x y : ℕ) → x < width → y < height → IsLeft width pixels background ((before ++ t ∷ []) ++ all) x y → ⊥ = λ x y p q. subst (λ (l : List Subrect). IsLeft width pixels background l x y → ⊥) (sym (append_assoc before (t ∷ []) all)) (none x y p q) in
-      let less = no_more (before ++ t ∷ []) some all rest other behind in
+      let after : (x y : ℕ) → x < width → y < height → IsLeft width pixels background ((before ++ t ∷ []) ++ all) x y → ⊥ = λ x y p q. subst (λ (l : List Subrect). IsLeft width pixels background l x y → ⊥) (sym (append_assoc before (t ∷ []) all)) (none x y p q) in
+      let less = no_more (before ++ t ∷ []) some all rest other after in
       omega (arith, less)
 
   -- and fewer, where they leave a place
@@ -86,8 +86,8 @@ module _ (width height : ℕ) (pixels : List ℕ) (background : ℕ) where
       let same = next_same before s t next next' in
       let rest = subst (λ (u : Subrect). AreNextSubs width height pixels background (before ++ u ∷ []) some) same each in
       let left_over = subst (λ (l : List Subrect). IsLeft width pixels background l x y) (sym (append_assoc before (t ∷ []) some)) (subst (λ (u : Subrect). IsLeft width pixels background (before ++ u ∷ some) x y) same left) in
-      let behind : (x y : ℕ) → x < width → y < height → IsLeft width pixels background ((before ++ t ∷ []) ++ all) x y → ⊥ = λ x y p q. subst (λ (l : List Subrect). IsLeft width pixels background l x y → ⊥) (sym (append_assoc before (t ∷ []) all)) (none x y p q) in
-      let less = fewer (before ++ t ∷ []) some all x y p q rest other left_over behind in
+      let after : (x y : ℕ) → x < width → y < height → IsLeft width pixels background ((before ++ t ∷ []) ++ all) x y → ⊥ = λ x y p q. subst (λ (l : List Subrect). IsLeft width pixels background l x y → ⊥) (sym (append_assoc before (t ∷ []) all)) (none x y p q) in
+      let less = fewer (before ++ t ∷ []) some all x y p q rest other left_over after in
       omega (arith, less)
 
   -- two lists that leave no place are one
@@ -121,9 +121,9 @@ module _ (width height : ℕ) (pixels : List ℕ) (background : ℕ) where
     ]
   ]
 
-  -- a place that is left behind one more was left, and is not its corner
-  left_behind : (before : List Subrect) (s : Subrect) (x y : ℕ) → IsLeft width pixels background (before ++ s ∷ []) x y → IsLeft width pixels background before x y × (contains s.rect x y ≡ false)
-  left_behind before s x y left = let parts = neither (is_in_any before x y) (contains s.rect x y) (sym (in_push before s x y) ∙ left.1) in ((left.0, parts.0), parts.1)
+  -- a place that is left after one more was left, and is not its corner
+  left_after : (before : List Subrect) (s : Subrect) (x y : ℕ) → IsLeft width pixels background (before ++ s ∷ []) x y → IsLeft width pixels background before x y × (contains s.rect x y ≡ false)
+  left_after before s x y left = let parts = neither (is_in_any before x y) (contains s.rect x y) (sym (in_push before s x y) ∙ left.1) in ((left.0, parts.0), parts.1)
     where
       neither : (a b : Bool) → (a || b) ≡ false → (a ≡ false) × (b ≡ false)
       neither true b e = absurd cc
@@ -144,7 +144,7 @@ module _ (width height : ℕ) (pixels : List ℕ) (background : ℕ) where
       let other : y * width + x ≡ place → ⊥ = λ same. next.left.0 (ap (λ (n : ℕ). slice_index pixels n) same ∙ plain) in
       let rest = in_order (before ++ s ∷ []) subs (y * width + x + 1) place each (omega (arith, inside)) below plain
       (λ i j p q left.
-      let (old, apart) = left_behind before s i j left in
+      let (old, apart) = left_after before s i j left in
       elim (cases_order (y * width + x) (j * width + i)) [
         | inl same ↦ absurd (both_ways (contains s.rect i j) apart (corner i j p column same))
         | inr apart ↦ elim apart [
@@ -190,7 +190,7 @@ taken_out p (x ∷ xs) (inr there) =
     let (ys, size, kept) = taken_out p xs there in
     (x ∷ ys, ap suc size, λ q other is. elim is [ inl e ↦ inl e | inr deeper ↦ inr (kept q other deeper) ])
 
--- so many different ones are among no fewer
+-- different ones are among no fewer
 different_among : (some all : List ℕ) → AllDiffer some → All (λ p. Among p all) some → length some ≤ length all
 different_among [] all differ there = omega arith
 different_among (p ∷ some) all (apart, differ) there =

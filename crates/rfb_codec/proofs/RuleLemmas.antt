@@ -167,7 +167,7 @@ module _ (width height x y : ℕ) (pixels until : List ℕ) (background : ℕ) (
       at_place i j l from false e =
           elim (cases_lt i x) [
             | inl before ↦ aside i j l from (let now = noted i l in grind (arith, nat_tests))
-            | inr behind ↦
+            | inr later ↦
                 elim (cases_lt i (x + s.rect.w)) [
                   | inl within ↦
                       let now = noted i l in
@@ -175,7 +175,7 @@ module _ (width height x y : ℕ) (pixels until : List ℕ) (background : ℕ) (
                       elim (cases_lt j (y + s.rect.h)) [
                         | inl above ↦ absurd (both_ways (contains s.rect i j) e (contains_row s.rect i j (omega (arith, column)) (omega (arith, column)) (omega (arith, row)) (omega (arith, row))))
                         | inr under ↦
-                            let low = uncovered i behind within in
+                            let low = uncovered i later within in
                             let was : nat_lt j (slice_index until i) ≡ false = grind (arith, nat_tests) in
                             let is : nat_lt j (slice_index after i) ≡ false = grind (arith, nat_tests) in
                             or_false (is_in_any subs i j) ∙ (old.reach i j l from ∙ (was ∙ sym is))

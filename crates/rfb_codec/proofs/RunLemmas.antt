@@ -25,8 +25,8 @@ pixel_longer f bytes more n within =
     ∙ pixel_number-take f (drop n bytes) (size_of f) (omega arith)
 
 -- those that follow are read from the rest
-pub pixel_behind : (f : PixelFormat) (bytes more : List ℕ) (n m : ℕ) → n ≡ length bytes + m → pixel_number f (drop n (bytes ++ more)) ≡ pixel_number f (drop m more)
-pixel_behind f bytes more n m is = ap (λ (k : ℕ). pixel_number f (drop k (bytes ++ more))) is ∙ ap (pixel_number f) (drop-append-add bytes more m)
+pub pixel_after : (f : PixelFormat) (bytes more : List ℕ) (n m : ℕ) → n ≡ length bytes + m → pixel_number f (drop n (bytes ++ more)) ≡ pixel_number f (drop m more)
+pixel_after f bytes more n m is = ap (λ (k : ℕ). pixel_number f (drop k (bytes ++ more))) is ∙ ap (pixel_number f) (drop-append-add bytes more m)
 
 outside : (b : Bool) → (b ≡ true → ⊥) → b ≡ false
 outside true never = absurd (never refl)
@@ -74,7 +74,7 @@ earlier_pixel f w i j count pixels bytes size below =
 later_pixel : (f : PixelFormat) (w i j count k : ℕ) (pixels bytes : List ℕ) → length pixels ≡ count * size_of f → j * w + i ≡ count + k → pixel_number f (drop (k * size_of f) bytes) ≡ raw_pixel f w (pixels ++ bytes) i j
 later_pixel f w i j count k pixels bytes size is =
     let place : (j * w + i) * size_of f ≡ count * size_of f + k * size_of f = rw is (omega arith) in
-    sym (pixel_behind f pixels bytes ((j * w + i) * size_of f) (k * size_of f) (omega (arith, place, size)))
+    sym (pixel_after f pixels bytes ((j * w + i) * size_of f) (k * size_of f) (omega (arith, place, size)))
 
 first_below : (inside : Bool) (k count : ℕ) → (inside && nat_lt k count) ≡ true → k < count
 first_below true k count e = grind (arith, nat_tests)

@@ -11,7 +11,7 @@ use Rattle.rfb_codec.proofs.CountLemmas.{IsOwner, Tallied, passed, slot_claimed,
 
 -- ---- how many pixels own a slot
 
--- so many pixels own a slot that with those still allowed they are the limit
+-- the pixels that own a slot and those still allowed are together the limit
 pub record Claimed (slot : ℕ → ℕ) (pixels firsts : List ℕ) (free limit : ℕ) : Type 0 where
   pub owners : List ℕ
   pub many : length owners + free ≡ limit

@@ -17,7 +17,7 @@ use Rattle.rfb_codec.specs.declared.hextile.paint.tile_read.Seen.{Seen}
 use Rattle.rfb_codec.specs.declared.painter.stage.Step.{Step}
 use Rattle.rfb_codec.specs.declared.painter.stage.Stage.TheVariants.{InTiles, InRawTile}
 use Rattle.rfb_codec.specs.Raw.{raw_pixel}
-use Rattle.rfb_codec.specs.Tile.{Tile, PlainTile, is_raw, later, tile_pixel, tile_behind}
+use Rattle.rfb_codec.specs.Tile.{Tile, PlainTile, is_raw, later, tile_pixel, tile_after}
 use Rattle.rfb_codec.specs.Hextile.{across, tile_count, tile_width, tile_height, tile_at, pixel_of_tiles, SpellsNextTile}
 use Rattle.rfb_codec.specs.inside.TileRead.{tile_of_read, TellsTile, background_named, foreground_named}
 use Rattle.rfb_codec.specs.Stage.{Sees}
@@ -38,8 +38,8 @@ use Rattle.rfb_codec.proofs.ByteLemmas.{last_byte}
 pub some_before : (seen : Seen) → (tiles : List Tile) × Sees tiles seen
 some_before seen = (PlainTile seen.background seen.foreground [] ∷ [], record { background = refl; foreground = refl })
 
--- what is told of a tile of that size is told of the rectangle's next
-pub told_next : (f : PixelFormat) (w h n tw th : ℕ) (tiles : List Tile) (bytes : List ℕ) (result : Result (Option TileRead) PaintFault) → length tiles ≡ n → tw ≡ tile_width w n → th ≡ tile_height w h n → TellsTile f tw th bytes result (tile_behind f tw th tiles bytes) → TellsTile f (tile_width w n) (tile_height w h n) bytes result (next_tile f w h tiles bytes)
+-- what a reading gives of a tile of that size it gives of the rectangle's next
+pub told_next : (f : PixelFormat) (w h n tw th : ℕ) (tiles : List Tile) (bytes : List ℕ) (result : Result (Option TileRead) PaintFault) → length tiles ≡ n → tw ≡ tile_width w n → th ≡ tile_height w h n → TellsTile f tw th bytes result (tile_after f tw th tiles bytes) → TellsTile f (tile_width w n) (tile_height w h n) bytes result (next_tile f w h tiles bytes)
 told_next f w h n tw th tiles bytes result number wide high told = rw number (rw (wide, high) at told)
 
 -- a tile that is read whole, from its own bytes

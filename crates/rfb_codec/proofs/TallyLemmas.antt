@@ -10,11 +10,12 @@ use Rattle.rfb_codec.proofs.PlacesLemmas.{run_counted, run_passed, none_before}
 
 -- ---- the best of two counts, and of those of more pixels
 
--- so many places have the best, and those that another has are no more, or as many and it comes after
+-- `most` places have the best, and those that another has are no more, or as many and it comes
+-- after
 abbrev pub Yields : ℕ → ℕ → ℕ → ℕ → Type 0
 Yields count other most better = (count ≤ most) × (0 < count → count ≡ most → better ≤ other)
 
--- of these places the best so far, which was one that so many places had
+-- of these places the best so far, which was one that `before` places had
 pub record Led (aside : List ℕ) (first before better most : ℕ) : Type 0 where
   pub from : ((better ≡ first) × (most ≡ before)) ⊎ ((0 < most) × (most ≤ places_of better aside))
   pub kept : before ≤ most
@@ -29,7 +30,7 @@ led_none first before = record {
   each = λ other. (omega arith, λ some. absurd (omega arith));
 }
 
--- one more pixel, of so many places, is better
+-- one more pixel, of `n` places, is better
 led_taken : (xs xs' : List ℕ) (pixel n first before better most : ℕ) → 0 < n → places_of pixel xs' ≡ n → ((other : ℕ) → other ≢ pixel → places_of other xs' ≡ places_of other xs) →
     Leads n pixel most better → Led xs first before better most → Led xs' first before pixel n
 led_taken xs xs' pixel n first before better most some counted passed leads old =

@@ -17,7 +17,7 @@ use Rattle.rfb_codec.specs.declared.fault.PaintFault.{PaintFault}
 use Rattle.rfb_codec.specs.declared.hextile.paint.tile_read.Seen.{Seen}
 use Rattle.rfb_codec.specs.declared.painter.stage.Stage.TheVariants.{InTiles}
 use Rattle.rfb_codec.specs.Raw.{raw_length}
-use Rattle.rfb_codec.specs.Tile.{Tile, RawTile, is_raw, subrects_colored, behind_mask, mask_fault}
+use Rattle.rfb_codec.specs.Tile.{Tile, RawTile, is_raw, subrects_colored, after_mask, mask_fault}
 use Rattle.rfb_codec.specs.Hextile.{tile_count, tile_width, tile_height, SpellsNextTile, hextile}
 use Rattle.rfb_codec.specs.Stage.{Sees}
 use Rattle.rfb_codec.specs.Hextile.{next_tile}
@@ -39,7 +39,7 @@ raw_waits f w h tiles bytes mask some mask_is raw short =
     let whole : nat_le 1 (length bytes) ≡ true = grind (arith, nat_tests) in
     let first : u8_at 0 (take 1 bytes) ≡ mask = get_or-take 1 bytes 0 0 (omega arith) ∙ sym mask_is in
     let good : mask_fault tiles mask ≡ None = rw raw refl in
-    let waits : behind_mask f tw th mask (is_raw mask) (subrects_colored mask) (drop 1 bytes) ≡ More = rw (raw, piece_short {F = PaintFault} (raw_length f tw th) (drop 1 bytes) short) refl in
+    let waits : after_mask f tw th mask (is_raw mask) (subrects_colored mask) (drop 1 bytes) ≡ More = rw (raw, piece_short {F = PaintFault} (raw_length f tw th) (drop 1 bytes) short) refl in
     rw (whole, first, good, waits) refl
 
 -- and never at fault
@@ -54,7 +54,7 @@ raw_is_good f w h tiles mask rest fault raw bad =
           let both : ◌≡◌ {A = Next Tile PaintFault} More (Bad fault) = sym more ∙ bad in cc
       | inr enough ↦
           let long : nat_le n (length rest) ≡ true = grind (arith, nat_tests) in
-          let found : behind_mask f tw th mask (is_raw mask) (subrects_colored mask) rest ≡ Got (RawTile (take n rest)) (drop n rest) = rw (raw, long) refl in
+          let found : after_mask f tw th mask (is_raw mask) (subrects_colored mask) rest ≡ Got (RawTile (take n rest)) (drop n rest) = rw (raw, long) refl in
           let got = tile_got f tw th tiles (mask ∷ rest) mask (RawTile (take n rest)) (drop n rest) (omega arith) refl good found refl in
           let both : ◌≡◌ {A = Next Tile PaintFault} (Got (RawTile (take n rest)) (drop n rest)) (Bad fault) = sym got ∙ bad in cc
     ]

@@ -76,9 +76,9 @@ place_reads = same_reads (valued 2 place_of) (valued_says 2 place_of) place_says
       fault_back = λ fault bytes none. none;
     }
 
--- so many bytes less a pixel's
-length-behind_pixel : (f : PixelFormat) (bytes : List ℕ) → length bytes ≡ size_of f + 2 → length (drop (size_of f) bytes) ≡ 2
-length-behind_pixel f bytes size = rw length-drop (omega (arith, size))
+-- the bytes less a pixel's
+length-after_pixel : (f : PixelFormat) (bytes : List ℕ) → length bytes ≡ size_of f + 2 → length (drop (size_of f) bytes) ≡ 2
+length-after_pixel f bytes size = rw length-drop (omega (arith, size))
 
 abbrev colored_says : PixelFormat → Says Subrect PaintFault
 colored_says f = record { item = SpellsColored f; fault = never }
@@ -93,7 +93,7 @@ colored_reads f = same_reads (valued (size_of f + 2) (colored_of f)) (valued_say
 
     same : Same (valued_says (size_of f + 2) (colored_of f)) (colored_says f)
     same = record {
-      item = λ s bytes told. subst (λ (t : Subrect). SpellsColored f t bytes) (sym told.1) (record { size = told.0; pixel_is = refl; place_is = place_spelled (drop (size_of f) bytes) (length-behind_pixel f bytes told.0) });
+      item = λ s bytes told. subst (λ (t : Subrect). SpellsColored f t bytes) (sym told.1) (record { size = told.0; pixel_is = refl; place_is = place_spelled (drop (size_of f) bytes) (length-after_pixel f bytes told.0) });
       fault = λ fault bytes none. none;
       item_back = λ s bytes spelled. (spelled.size, is s bytes spelled);
       fault_back = λ fault bytes none. none;

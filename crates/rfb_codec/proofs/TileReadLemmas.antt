@@ -1,4 +1,4 @@
--- What a tile's bytes give: its subrectangles, and the colours seen behind it.
+-- What a tile's bytes give: its subrectangles, and the colours seen after it.
 use Rattle.std.proofs.Common.{◌≡◌, ℕ, zero, suc, ◌+◌, ◌*◌, ◌<◌, ◌≤◌, List, [], ◌∷◌, ◌++◌, Bool, true, false, Option, None, length, take, drop, map, refl, sym, subst, ◌∙◌, ap, arith}
 use Rattle.std.proofs.lemmas.List.{drop-drop}
 use Rattle.rfb_pixel.specs.Format.{PixelFormat, size_of}
@@ -9,7 +9,7 @@ use Rattle.rfb_codec.specs.declared.hextile.layout.TileLayout.{TileLayout}
 use Rattle.rfb_codec.specs.declared.hextile.layout.TileLayout.TheVariants.{Raw, Plain, Colored}
 use Rattle.rfb_codec.specs.declared.hextile.paint.tile_read.Seen.{Seen}
 use Rattle.rfb_codec.specs.Tile.{Tile, background_of, foreground_of, later, last_of, AreInside, place_of, colored_of, rect_in, in_pixel}
-use Rattle.rfb_codec.specs.inside.TileRead.{values_in, tile_in, background_named, foreground_named, sub_behind, subs_in, AreSubsInside}
+use Rattle.rfb_codec.specs.inside.TileRead.{values_in, tile_in, background_named, foreground_named, sub_after, subs_in, AreSubsInside}
 use Rattle.rfb_codec.specs.Stage.{Sees}
 use Rattle.rfb_codec.proofs.CarriedLemmas.{last_of-more}
 
@@ -34,7 +34,7 @@ subs_in-none f g false list = refl
 subs_in-none f g true list = refl
 
 -- one subrectangle more
-pub subs_in-more : (f : PixelFormat) (g : ℕ) (colored : Bool) (n : ℕ) (list : List ℕ) → subs_in f g colored n list ++ sub_behind f g colored n list ∷ [] ≡ subs_in f g colored (n + 1) list
+pub subs_in-more : (f : PixelFormat) (g : ℕ) (colored : Bool) (n : ℕ) (list : List ℕ) → subs_in f g colored n list ++ sub_after f g colored n list ∷ [] ≡ subs_in f g colored (n + 1) list
 subs_in-more f g false n list =
     let number : suc n ≡ n + 1 = omega arith in
     sym (map-more g (values_in place_of 2 n list) (place_of (take 2 (drop (n * 2) list)))) ∙ ap (map (in_pixel g)) (sym (values_in-more place_of 2 n list)) ∙ ap (λ (m : ℕ). map (in_pixel g) (values_in place_of 2 m list)) number

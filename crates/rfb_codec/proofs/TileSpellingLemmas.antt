@@ -11,7 +11,7 @@ use Rattle.rfb_codec.specs.declared.hextile.layout.TileLayout.{TileLayout}
 use Rattle.rfb_codec.specs.declared.hextile.layout.TileLayout.TheVariants.{Raw, Plain, Colored}
 use Rattle.rfb_codec.specs.Pixels.{IsPixel}
 use Rattle.rfb_codec.specs.Tile.{is_raw, background_specified, foreground_specified, any_subrects, subrects_colored, Tile, background_of, foreground_of, later, last_of, is_missing, mask_fault, AreInside, FitsTile, rect_in, SpellsPixel, SpellsPlace, SpellsColored, CountedIf, SpellsTile}
-use Rattle.rfb_codec.specs.inside.TileSpelling.{tile_of, mask_of, own_place, behind_bytes, tile_bytes, IsTilePart, AreTileParts}
+use Rattle.rfb_codec.specs.inside.TileSpelling.{tile_of, mask_of, own_place, after_bytes, tile_bytes, IsTilePart, AreTileParts}
 use Rattle.rfb_codec.specs.SentTile.{bit_if, is_there, are_some, colour_bytes, colored_bytes, counted_bytes}
 use Rattle.rfb_codec.proofs.PixelLemmas.{length-pixel_bytes, length-pixels}
 
@@ -113,7 +113,7 @@ bits_colored true false = record { drawn = refl; background_is = refl; foregroun
 bits_colored false true = record { drawn = refl; background_is = refl; foreground_is = refl; any_is = refl; colored_is = refl }
 bits_colored false false = record { drawn = refl; background_is = refl; foreground_is = refl; any_is = refl; colored_is = refl }
 
--- the colour in force behind tiles, where a tile specifies this one or none
+-- the colour in force after tiles, where a tile specifies this one or none
 abbrev pub IsInForce : Option ℕ → (Tile → Option ℕ) → List Tile → ℕ → Type 0
 IsInForce specified colour before value = later specified (last_of colour before) ≡ Some value
 
@@ -170,7 +170,7 @@ spells_raw f w h before pixels subs size = record {
   whole = refl;
   one = refl;
   good = refl;
-  behind = (refl, refl, length-pixels f pixels ∙ ap (λ (n : ℕ). n * size_of f) size);
+  after = (refl, refl, length-pixels f pixels ∙ ap (λ (n : ℕ). n * size_of f) size);
 }
 
 -- a tile of subrectangles in the foreground
@@ -179,11 +179,11 @@ spells_plain f w h before background foreground pixels subs b small parts one tw
     let bits = bits_plain (is_there background) (is_there foreground) (are_some subs) in
     record {
       head = mask_of (Plain background foreground) subs ∷ [];
-      rest = behind_bytes f (Plain background foreground) pixels subs;
+      rest = after_bytes f (Plain background foreground) pixels subs;
       whole = refl;
       one = refl;
       good = plain_good before background foreground subs b in_force used;
-      behind = (
+      after = (
         bits.drawn,
         bits.colored_is,
         record {
@@ -204,11 +204,11 @@ spells_colored_tile f w h before background pixels subs b small parts one in_for
     let bits = bits_colored (is_there background) (are_some subs) in
     record {
       head = mask_of (Colored background) subs ∷ [];
-      rest = behind_bytes f (Colored background) pixels subs;
+      rest = after_bytes f (Colored background) pixels subs;
       whole = refl;
       one = refl;
       good = colored_good before background subs b in_force;
-      behind = (
+      after = (
         bits.drawn,
         bits.colored_is,
         record {

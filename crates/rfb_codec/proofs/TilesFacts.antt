@@ -35,7 +35,7 @@ times : ℕ → List ℕ → List ℕ
 times zero row = []
 times (suc n) row = row ++ times n row
 
--- a row of the first tile, with the second tile's pixel behind it
+-- a row of the first tile, with the second tile's pixel after it
 row : ℕ → List ℕ
 row pixel = replicate 16 9 ++ pixel ∷ []
 

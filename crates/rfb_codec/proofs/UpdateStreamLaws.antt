@@ -22,7 +22,7 @@ use Rattle.rfb_codec.proofs.RectDataLaws.{rect_data_reads}
 abbrev messages_say : Says UpdateItem UpdateFault
 messages_say = renamed_says (λ message. Message message) (λ fault. InMessage fault) server_says
 
--- what bytes say where so many rectangles are left
+-- what bytes say where `left` rectangles are left
 abbrev next_says : UpdatePoint → ℕ → Says UpdateItem UpdateFault
 next_says p left = record { item = SpellsNext p left; fault = FaultsNext p left }
 
@@ -66,12 +66,12 @@ rectangle_same p left = record { item = item; fault = fault; item_back = item_ba
     item (Rectangle head body) bytes (h, front, back, whole, (k, same_head, (spelled, on)), (b, is, (back_is, contents))) =
         let heads : h ≡ head = cc in
         let bodies : b ≡ body = cc in
-        let behind : bytes ≡ front ++ body = whole ∙ ap (λ (ys : List ℕ). front ++ ys) (back_is ∙ bodies) in
+        let after : bytes ≡ front ++ body = whole ∙ ap (λ (ys : List ℕ). front ++ ys) (back_is ∙ bodies) in
         let named : k ≡ head = sym same_head ∙ heads in
         let head_is : SpellsRectHead head front = subst (λ (r : RectHead). SpellsRectHead r front) named spelled in
         let on_is : IsOnScreen p.width p.height head.rect = subst (λ (r : RectHead). IsOnScreen p.width p.height r.rect) named on in
         let body_is : IsBody p h body = subst (λ (ys : List ℕ). IsBody p h ys) bodies contents in
-        record { front = front; whole = behind; head_is = head_is; on_screen = on_is; body_is = subst (λ (r : RectHead). IsBody p r body) heads body_is }
+        record { front = front; whole = after; head_is = head_is; on_screen = on_is; body_is = subst (λ (r : RectHead). IsBody p r body) heads body_is }
 
     item_back : (i : UpdateItem) (bytes : List ℕ) → SpellsNext p (suc left) i bytes → (rectangle_parts p).item i bytes
     item_back (Message message) bytes none = absurd none

@@ -14,7 +14,7 @@ use Rattle.rfb_wire.proofs.RectStreamLaws.{rect_head_reads}
 use Rattle.rfb_codec.specs.declared.fault.PaintFault.{PaintFault}
 use Rattle.rfb_codec.specs.RectData.{RectData, FaultsData, rect_data, painted}
 use Rattle.rfb_codec.specs.Effect.{effect}
-use Rattle.rfb_codec.specs.UpdateStream.{UpdatePoint, UpdateItem, Message, Rectangle, InMessage, InHead, InData, SpellsNext, FaultsNext, rectangle, next_item, left_behind, update_stream}
+use Rattle.rfb_codec.specs.UpdateStream.{UpdatePoint, UpdateItem, Message, Rectangle, InMessage, InHead, InData, SpellsNext, FaultsNext, rectangle, next_item, left_after, update_stream}
 use Rattle.rfb_codec.specs.Painter.{data_of, painting_of, AwaitsData}
 use Rattle.rfb_codec.proofs.RectDataLaws.{rect_data_reads}
 use Rattle.rfb_codec.proofs.UpdateStreamLaws.{update_spelled}
@@ -31,7 +31,7 @@ unfolding update_stream
 past_rectangle p head body = refl
 
 -- no item changes the screen or the format
-pub past_left : (p : UpdatePoint) (item : UpdateItem) → update_stream.past p item ≡ record p { left = left_behind p.left item }
+pub past_left : (p : UpdatePoint) (item : UpdateItem) → update_stream.past p item ≡ record p { left = left_after p.left item }
 unfolding update_stream
 past_left p item = refl
 

@@ -11,7 +11,7 @@ use Rattle.rfb_wire.specs.declared.encoding.Encoding.{Encoding}
 use Rattle.rfb_wire.specs.declared.encoding.Encoding.TheVariants.{Raw, CopyRect, Rre, Hextile}
 use Rattle.rfb_wire.specs.Fields.{u32_at}
 use Rattle.rfb_wire.specs.stream.Reading.{More, Got, Listed, ListedAfter}
-use Rattle.rfb_wire.specs.stream.Parts.{behind, and_then, done, valued, many, named}
+use Rattle.rfb_wire.specs.stream.Parts.{continue_with, and_then, done, valued, many, named}
 use Rattle.rfb_wire.proofs.stream_laws.PartLaws.{piece_short}
 use Rattle.rfb_wire.proofs.stream_laws.ReadingLaws.{each_waits, many_waits}
 use Rattle.rfb_wire.proofs.stream_laws.RepeatLaws.{valued_reads}
@@ -48,7 +48,7 @@ use Rattle.rfb_codec.proofs.TileFaultLemmas.{raw_waits}
 
 -- ---- numbers
 
--- behind the last place all are painted
+-- after the last place all are painted
 all_painted : (w h x y : ℕ) → y * w + x ≤ h * w → (w == 0 || nat_le h y) ≡ true → y * w + x ≡ h * w
 all_painted zero h x y few e = omega arith
 all_painted (suc w) h x y few e =
@@ -172,8 +172,8 @@ rre_waits f w h count background subs head list pending head_is listed fewer sho
     let less : length subs < u32_at 0 head = let c = head_is.count_is in omega (arith, c, fewer) in
     let waits : subrect f w h pending ≡ More = rw (piece_short {F = PaintFault} (size_of f + 8) pending short) refl in
     let more : many (u32_at 0 head) (subrect f w h) (list ++ pending) ≡ More = many_waits (u32_at 0 head) (subrect f w h) (subrect_says f w h) (subrect_reads f w h) subs list pending listed less waits in
-    ap (behind (λ (k : RreHead). and_then (many k.count (subrect f w h)) (λ (all : List Subrect). done (drawn w h (pixel_at k.background all))))) opened
-    ∙ ap (behind (λ (all : List Subrect). done (drawn w h (pixel_at (rre_head_of f head).background all)))) more
+    ap (continue_with (λ (k : RreHead). and_then (many k.count (subrect f w h)) (λ (all : List Subrect). done (drawn w h (pixel_at k.background all))))) opened
+    ∙ ap (continue_with (λ (all : List Subrect). done (drawn w h (pixel_at (rre_head_of f head).background all)))) more
 
 tiles_wait : (f : PixelFormat) (w h : ℕ) (tiles : List Tile) (front pending : List ℕ) → ListedAfter (SpellsNextTile f w h) [] tiles front → length tiles < tile_count w h → next_tile f w h tiles pending ≡ More → hextile f w h (front ++ pending) ≡ More
 tiles_wait f w h tiles front pending spelled fewer waits =

@@ -57,7 +57,7 @@ update_back p sent bytes (mid, got, more) =
     let one = (update_spelled.reads p).found bytes (Message (FramebufferUpdate (length sent))) mid got in
     record { head = one.0; list = mid; whole = one.1; head_is = message_of p p.left (FramebufferUpdate (length sent)) one.0 one.2; sent_are = rectangles_spelled p sent mid more }
 
--- ---- the point behind
+-- ---- the point after
 
 rectangles_past : (p : UpdatePoint) (sent : List SentRect) → past_all update_stream (record p { left = length sent }) (map item_of sent) ≡ record p { left = 0 }
 unfolding update_stream
@@ -71,7 +71,7 @@ pub update_past : (p : UpdatePoint) (sent : List SentRect) → past_all update_s
 unfolding update_stream
 update_past p sent = rectangles_past p sent
 
--- ---- what is known behind it
+-- ---- what is known after it
 
 pub agrees_update : (p : UpdatePoint) (sent : List SentRect) (picture : Grid Colour) (known now : Grid (Option ℕ)) → IsGrid picture → IsGrid known → IsAlike picture known → known.width ≡ p.width → known.height ≡ p.height → Agrees p.form picture known → AreNoted p sent known now → Agrees p.form (effects p (map item_of sent) picture) now
 agrees_update p [] picture known now whole whole_known alike columns rows agrees noted_are = subst (λ (k : Grid (Option ℕ)). Agrees p.form picture k) (sym noted_are) agrees

@@ -55,7 +55,7 @@ abbrev pub IsFreeRun : ℕ → List ℕ → List Subrect → ℕ → ℕ → ℕ
 IsFreeRun width pixels subs pixel x end y =
     (i : ℕ) → x ≤ i → i < end → IsFree width pixels subs pixel i y
 
--- behind those subrectangles comes this one: it begins at the first place that is left, and has its
+-- after those subrectangles comes this one: it begins at the first place that is left, and has its
 -- pixel; its first row is the longest run of free places, and as many further rows belong to it as
 -- are free under the whole run
 pub record IsNextSub (width height : ℕ) (pixels : List ℕ) (background : ℕ) (before : List Subrect)
@@ -75,14 +75,14 @@ pub record IsNextSub (width height : ℕ) (pixels : List ℕ) (background : ℕ)
       IsFreeRun width pixels before s.pixel s.rect.x (s.rect.x + s.rect.w)
       (s.rect.y + s.rect.h) → ⊥
 
--- behind those come these, one after another
+-- after those come these, one after another
 abbrev pub AreNextSubs : ℕ → ℕ → List ℕ → ℕ → List Subrect → List Subrect → Type 0
 AreNextSubs width height pixels background before [] = Unit {0}
 AreNextSubs width height pixels background before (s ∷ subs) =
     IsNextSub width height pixels background before s ×
     AreNextSubs width height pixels background (before ++ s ∷ []) subs
 
--- they are the subrectangles of the rule: no place is left behind them
+-- they are the subrectangles of the rule: no place is left after them
 pub record AreRuleSubs (width height : ℕ) (pixels : List ℕ) (background : ℕ) (subs : List Subrect)
     : Type 0 where
   pub each : AreNextSubs width height pixels background [] subs

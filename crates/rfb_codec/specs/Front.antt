@@ -30,7 +30,7 @@ pub data Front : Type 0 where
   NoHead : Front
   SomeParts : (count background : ℕ) → (subs : List Subrect) → Front
   SomeTiles : (tiles : List Tile) → Front
-  -- and so many pixels of a raw tile after the tiles
+  -- and `count` pixels of a raw tile after the tiles
   SomeOfRaw : (tiles : List Tile) → (count : ℕ) → (pixels : List ℕ) → Front
 
 abbrev pub encoding_of : Front → Encoding
@@ -44,7 +44,7 @@ encoding_of (SomeOfRaw tiles count pixels) = Hextile
 
 -- ---- the bytes: the whole pieces, and the pending bytes after them, which are no whole piece
 
--- so many pixels of all
+-- `count` pixels of all
 pub record SpellsPixels (f : PixelFormat) (all count : ℕ) (pixels pending body : List ℕ) : Type 0
   where
     pub whole : body ≡ pixels ++ pending
@@ -80,7 +80,7 @@ pub record SpellsTiles (f : PixelFormat) (width height : ℕ) (tiles : List Tile
   pub spelled : ListedAfter (SpellsNextTile f width height) [] tiles front
   pub begins : BeginsTile f width height tiles pending
 
--- and so many pixels of a raw tile, which is not whole; its mask is not among the pending bytes
+-- and `count` pixels of a raw tile, which is not whole; its mask is not among the pending bytes
 pub record SpellsOfRaw (f : PixelFormat) (width height : ℕ) (tiles : List Tile) (count : ℕ)
     (pixels pending body : List ℕ) : Type 0 where
   pub front : List ℕ
@@ -112,7 +112,7 @@ SpellsFront f width height rect (SomeOfRaw tiles count pixels) pending body =
 
 -- ---- what is shown
 
--- the picture with the rectangle's first pixels, so many, row by row
+-- the picture with the first `count` pixels of the rectangle, row by row
 abbrev pub pixels_over : PixelFormat → Rect → ℕ → List ℕ → Grid Colour → Grid Colour
 pixels_over f rect count pixels picture =
     changed (λ x y old. if contains rect x y && nat_lt ((y - rect.y) * rect.w + (x - rect.x)) count

@@ -1,6 +1,6 @@
--- Hextile, RFC 6143 section 7.7.4: a rectangle cut into tiles, each with colours of its own or with
--- those of tiles before it. How colours are carried past raw and coloured tiles is this project's
--- choice.
+-- Hextile, RFC 6143 section 7.7.4: a rectangle split into tiles, each with colours of its own or
+-- with those of tiles before it. How colours are carried past raw and coloured tiles is this
+-- project's choice.
 use Rattle.std.specs.Prelude.{◌≡◌, ℕ, ◌+◌, ◌-◌, ◌*◌, ◌/◌, ◌%◌, ◌<◌, ◌⊎◌, Bool, true, false, List, [], ◌∷◌, ◌++◌, length, take, slice_index_or, Option, None, min, if◌then◌else◌}
 use Rattle.rfb_pixel.specs.Format.{PixelFormat}
 use Rattle.rfb_picture.specs.declared.rect.Rect.{Rect}
@@ -10,12 +10,12 @@ use Rattle.rfb_wire.specs.stream.Parts.{done, and_then, each}
 use Rattle.rfb_codec.specs.declared.fault.PaintFault.{PaintFault}
 use Rattle.rfb_codec.specs.declared.fault.PaintFault.TheVariants.{SubrectOutside}
 use Rattle.rfb_codec.specs.Pixels.{Shows, drawn}
-use Rattle.rfb_codec.specs.Tile.{Tile, RawTile, PlainTile, ColoredTile, background_of, foreground_of, is_missing, last_of, tile_pixel, FitsTile, SpellsTile, FaultsMask, LeavesTile, tile_behind}
+use Rattle.rfb_codec.specs.Tile.{Tile, RawTile, PlainTile, ColoredTile, background_of, foreground_of, is_missing, last_of, tile_pixel, FitsTile, SpellsTile, FaultsMask, LeavesTile, tile_after}
 
 -- ---- tiles of a rectangle: 16 by 16, rows of them from the top, each from the left; those at the
 -- right and at the lower edge may be smaller
 
--- how many lie along so many places
+-- how many lie along `places` places
 abbrev pub across : ℕ → ℕ
 across places = (places + 15) / 16
 
@@ -88,11 +88,11 @@ pub record FaultsHextile (f : PixelFormat) (width height : ℕ) (fault : PaintFa
 -- ---- this project's rule for senders
 
 -- the tiles after the last one that specifies a colour; all, where none does
-abbrev pub behind_last : (Tile → Option ℕ) → List Tile → List Tile
-behind_last colour [] = []
-behind_last colour (t ∷ tiles) =
+abbrev pub after_last : (Tile → Option ℕ) → List Tile → List Tile
+after_last colour [] = []
+after_last colour (t ∷ tiles) =
     if is_missing (last_of colour tiles) then (if is_missing (colour t) then t ∷ tiles else
-    tiles) else behind_last colour tiles
+    tiles) else after_last colour tiles
 
 abbrev pub is_raw_tile : Tile → Bool
 is_raw_tile (RawTile pixels) = true
@@ -120,9 +120,9 @@ NoneIs test (t ∷ tiles) = (test t ≡ false) × NoneIs test tiles
 -- tile that specified it; where it uses a foreground and names none, no raw or coloured one does
 pub record KeepsRule (before : List Tile) (t : Tile) : Type 0 where
   pub background : is_raw_tile t ≡ false → background_of t ≡ None →
-      NoneIs is_raw_tile (behind_last background_of before)
+      NoneIs is_raw_tile (after_last background_of before)
   pub foreground : uses_foreground t ≡ true → foreground_of t ≡ None →
-      NoneIs is_raw_or_colored (behind_last foreground_of before)
+      NoneIs is_raw_or_colored (after_last foreground_of before)
 
 -- each of the tiles keeps the rule after those before it
 abbrev pub CarriesColours : List Tile → List Tile → Type 0
@@ -135,12 +135,12 @@ CarriesColours before (t ∷ tiles) = KeepsRule before t × CarriesColours (befo
 unfoldable pub hextile : PixelFormat → ℕ → ℕ → Reading (Grid ℕ) PaintFault
 hextile f width height =
     and_then (each (tile_count width height)
-    (λ before. tile_behind f (tile_width width (length before))
+    (λ before. tile_after f (tile_width width (length before))
     (tile_height width height (length before)) before) [])
     (λ tiles. done (drawn width height (pixel_of_tiles f width tiles)))
 
 -- a tile after those before it in a rectangle of that size
 abbrev pub next_tile : PixelFormat → ℕ → ℕ → List Tile → Reading Tile PaintFault
 next_tile f width height before =
-    tile_behind f (tile_width width (length before))
+    tile_after f (tile_width width (length before))
     (tile_height width height (length before)) before

@@ -98,7 +98,7 @@ abbrev pub colour_length : PixelFormat → Option ℕ → ℕ
 colour_length f None = 0
 colour_length f (Some colour) = size_of f
 
--- how many the parts of a tile have, of so many bytes each, and the byte that counts them
+-- how many the parts of a tile have, of `size` bytes each, and the byte that counts them
 abbrev pub parts_length : {A : Type 0} → ℕ → List A → ℕ
 parts_length size [] = 0
 parts_length size (part ∷ parts) = 1 + length (part ∷ parts) * size

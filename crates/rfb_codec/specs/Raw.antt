@@ -7,7 +7,7 @@ use Rattle.rfb_wire.specs.stream.Parts.{valued}
 use Rattle.rfb_codec.specs.declared.fault.PaintFault.{PaintFault}
 use Rattle.rfb_codec.specs.Pixels.{Shows, drawn}
 
--- how many bytes the pixels of so many columns and rows have
+-- how many bytes the pixels of `width` columns and `height` rows have
 abbrev pub raw_length : PixelFormat → ℕ → ℕ → ℕ
 raw_length f width height = height * width * size_of f
 

@@ -146,7 +146,7 @@ pub record SpellsColored (f : PixelFormat) (s : Subrect) (bytes : List ℕ) : Ty
   pub place_is : SpellsPlace s.rect (drop (size_of f) bytes)
 
 module _ {A : Type 0} where
-  -- so many items after a byte that counts them
+  -- items after a byte that counts them
   pub record Counted (R : A → List ℕ → Type 0) (items : List A) (bytes : List ℕ) : Type 0 where
     pub head : List ℕ
     pub list : List ℕ
@@ -182,13 +182,13 @@ pub record SpellsColoredTile (f : PixelFormat) (mask : ℕ) (background : Option
   pub subs_are : CountedIf (any_subrects mask) (SpellsColored f) subs second
 
 -- the bytes after the mask of a tile of that size
-abbrev pub SpellsBehind : PixelFormat → ℕ → ℕ → ℕ → Tile → List ℕ → Type 0
-SpellsBehind f width height mask (RawTile pixels) bytes =
+abbrev pub SpellsAfter : PixelFormat → ℕ → ℕ → ℕ → Tile → List ℕ → Type 0
+SpellsAfter f width height mask (RawTile pixels) bytes =
     (is_raw mask ≡ true) × (bytes ≡ pixels) × (length bytes ≡ raw_length f width height)
-SpellsBehind f width height mask (PlainTile background foreground places) bytes =
+SpellsAfter f width height mask (PlainTile background foreground places) bytes =
     (is_raw mask ≡ false) × (subrects_colored mask ≡ false) ×
     SpellsPlain f mask background foreground places bytes
-SpellsBehind f width height mask (ColoredTile background subs) bytes =
+SpellsAfter f width height mask (ColoredTile background subs) bytes =
     (is_raw mask ≡ false) × (subrects_colored mask ≡ true) ×
     SpellsColoredTile f mask background subs bytes
 
@@ -200,7 +200,7 @@ pub record SpellsTile (f : PixelFormat) (width height : ℕ) (before : List Tile
   pub whole : bytes ≡ head ++ rest
   pub one : length head ≡ 1
   pub good : mask_fault before (u8_at 0 head) ≡ None
-  pub behind : SpellsBehind f width height (u8_at 0 head) tile rest
+  pub after : SpellsAfter f width height (u8_at 0 head) tile rest
 
 -- the bytes end in this fault: at a mask, or at the last byte of a tile that a subrectangle leaves
 pub record FaultsMask (before : List Tile) (fault : PaintFault) (bytes : List ℕ) : Type 0 where
@@ -234,21 +234,21 @@ abbrev pub colored_of : PixelFormat → List ℕ → Subrect
 colored_of f bytes =
     record { pixel = pixel_number f bytes; rect = place_of (drop (size_of f) bytes) }
 
--- so many parts after a byte that counts them, or none
+-- parts after a byte that counts them, or none
 abbrev pub counted : {A : Type 0} → Bool → Reading A PaintFault → Reading (List A) PaintFault
 counted false p = done []
 counted true p = and_then (valued 1 (u8_at 0)) (λ count. many count p)
 
 -- what follows the mask
-abbrev pub behind_mask : PixelFormat → ℕ → ℕ → ℕ → Bool → Bool → Reading Tile PaintFault
-behind_mask f width height mask true colored =
+abbrev pub after_mask : PixelFormat → ℕ → ℕ → ℕ → Bool → Bool → Reading Tile PaintFault
+after_mask f width height mask true colored =
     and_then (piece (raw_length f width height)) (λ pixels. done (RawTile pixels))
-behind_mask f width height mask false false =
+after_mask f width height mask false false =
     and_then (optional (background_specified mask) (tile_colour f))
     (λ background. and_then (optional (foreground_specified mask) (tile_colour f))
     (λ foreground. and_then (counted (any_subrects mask) (valued 2 place_of))
     (λ places. done (PlainTile background foreground places))))
-behind_mask f width height mask false true =
+after_mask f width height mask false true =
     and_then (optional (background_specified mask) (tile_colour f))
     (λ background. and_then (counted (any_subrects mask) (valued (size_of f + 2) (colored_of f)))
     (λ subs. done (ColoredTile background subs)))
@@ -257,7 +257,7 @@ behind_mask f width height mask false true =
 abbrev pub tile_layout : PixelFormat → ℕ → ℕ → List Tile → Reading Tile PaintFault
 tile_layout f width height before =
     and_then (checked 1 (λ bytes. mask_fault before (u8_at 0 bytes)) (u8_at 0))
-    (λ mask. behind_mask f width height mask (is_raw mask) (subrects_colored mask))
+    (λ mask. after_mask f width height mask (is_raw mask) (subrects_colored mask))
 
 -- all places lie in the tile
 abbrev pub are_inside : ℕ → ℕ → List Rect → Bool
@@ -271,7 +271,7 @@ tile_fault width height tile =
     if are_inside width height (places_of tile) then None else Some SubrectOutside
 
 -- a tile, whose subrectangles are judged at its last byte
-abbrev pub tile_behind : PixelFormat → ℕ → ℕ → List Tile → Reading Tile PaintFault
-tile_behind f width height before =
+abbrev pub tile_after : PixelFormat → ℕ → ℕ → List Tile → Reading Tile PaintFault
+tile_after f width height before =
     and_then (tile_layout f width height before)
     (λ tile. judged (tile_fault width height tile) tile)

@@ -57,8 +57,7 @@ pub record FaultsInData (p : UpdatePoint) (fault : PaintFault) (bytes : List ℕ
   pub on_screen : IsOnScreen p.width p.height head.rect
   pub back_is : FaultsData p.form p.width p.height head.rect head.encoding fault back
 
--- the bytes are this item where so many rectangles are left: inside an update rectangles alone
--- stand
+-- the bytes are this item, by how many rectangles are left: inside an update rectangles alone stand
 abbrev pub SpellsNext : UpdatePoint → ℕ → UpdateItem → List ℕ → Type 0
 SpellsNext p zero (Message message) bytes = SpellsServerMessage message bytes
 SpellsNext p zero (Rectangle head body) bytes = ⊥
@@ -88,18 +87,18 @@ rectangle p =
     (λ head. renamed (λ body. Rectangle head body) (λ fault. InData fault)
     (kept (rect_data p.form p.width p.height head.rect head.encoding)))
 
--- what stands next where so many rectangles are left
+-- what stands next, by how many rectangles are left
 abbrev pub next_item : UpdatePoint → ℕ → Reading UpdateItem UpdateFault
 next_item p zero = renamed (λ message. Message message) (λ fault. InMessage fault) server_message
 next_item p (suc left) = rectangle p
 
 -- how many rectangles are left after an item
-abbrev pub left_behind : ℕ → UpdateItem → ℕ
-left_behind left (Message (FramebufferUpdate rectangles)) = rectangles
-left_behind left (Message (SetColorMapEntries first colors)) = left
-left_behind left (Message Bell) = left
-left_behind left (Message (ServerCutText text)) = left
-left_behind left (Rectangle head body) = left - 1
+abbrev pub left_after : ℕ → UpdateItem → ℕ
+left_after left (Message (FramebufferUpdate rectangles)) = rectangles
+left_after left (Message (SetColorMapEntries first colors)) = left
+left_after left (Message Bell) = left
+left_after left (Message (ServerCutText text)) = left
+left_after left (Rectangle head body) = left - 1
 
 -- how many bytes an item has
 abbrev pub update_item_size : UpdateItem → ℕ
@@ -110,6 +109,6 @@ update_item_size (Rectangle head body) = 12 + length body
 unfoldable pub update_stream : Grammar UpdatePoint UpdateItem UpdateFault
 update_stream = record {
   next = λ p. next_item p p.left;
-  past = λ p item. record p { left = left_behind p.left item };
+  past = λ p item. record p { left = left_after p.left item };
   size = update_item_size;
 }

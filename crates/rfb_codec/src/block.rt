@@ -141,7 +141,7 @@ impl Block {
 }
 
 // Writes the pixels of the rectangle, row by row, over the first of these. The format that most
-// screens are sent in is told apart, so that its loop is compiled for its shifts.
+// screens are sent in is treated apart, so that its loop is compiled for its shifts.
 fn pack_rows(pixels: &mut [u32; PLACES], format: &Format, picture: &Picture<Colour>, rect: Rect)
     requires held { Holds picture.now rect }
     requires columns { rect.w ≤ SIDE }

@@ -20,8 +20,8 @@
 //!
 //! | Bytes | Go to |
 //! |---|---|
-//! | that `encode` appended, behind their head | the client |
-//! | of a rectangle, behind its head | `Painter::feed` |
+//! | that `encode` appended, after their head | the client |
+//! | of a rectangle, after its head | `Painter::feed` |
 #![tactic(auto)]
 
 mod block;

@@ -10,7 +10,7 @@ use Rattle.rfb_hello.specs.declared.version.Version.{Version}
 use Rattle.rfb_hello.specs.declared.version.Version.TheVariants.{V33, V37, V38}
 use Rattle.rfb_hello.specs.Version.{version_text}
 use Rattle.rfb_hello.specs.ClientHandshake.{AwaitsVersion as AwaitsClientVersion, AwaitsChoice, AwaitsInit as AwaitsClientInit, ProtocolVersion as ClientVersion, SecurityType, ClientInit}
-use Rattle.rfb_hello.specs.ServerHandshake.{AwaitsVersion, AwaitsSecurity, AwaitsResult, AwaitsInit, AwaitsName, ProtocolVersion, ServerInit, Name, SpellsServerInit, behind_init}
+use Rattle.rfb_hello.specs.ServerHandshake.{AwaitsVersion, AwaitsSecurity, AwaitsResult, AwaitsInit, AwaitsName, ProtocolVersion, ServerInit, Name, SpellsServerInit, after_init}
 use Rattle.rfb_hello.specs.ServerReading.{server_item, server_handshake}
 use Rattle.rfb_hello.specs.ServerEnd.{ServerSetup, server_tells, answer_bytes}
 use Rattle.rfb_hello.specs.ServerAnswers.{types_asked, result_asked, name_asked, init_asked, IsSetup}
@@ -47,7 +47,7 @@ init_spelled max setup is = record {
 }
 
 -- the name, at the point after ServerInit
-name_read : (limit : Version) (max : ℕ) (v : Version) (w h : ℕ) (name : List ℕ) → ReadsAll (server_handshake limit max) (behind_init v w h (length name)) name (name_asked name) []
+name_read : (limit : Version) (max : ℕ) (v : Version) (w h : ℕ) (name : List ℕ) → ReadsAll (server_handshake limit max) (after_init v w h (length name)) name (name_asked name) []
 name_read limit max v w h [] = refl
 name_read limit max v w h (byte ∷ name) =
     let read : server_item max (AwaitsName v w h (length (byte ∷ name))) ((byte ∷ name) ++ []) ≡ Got (Name (byte ∷ name)) [] = (server_item_reads max (AwaitsName v w h (length (byte ∷ name)))).only (Name (byte ∷ name)) (byte ∷ name) [] (refl, refl, omega arith) in

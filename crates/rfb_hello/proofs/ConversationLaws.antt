@@ -5,22 +5,22 @@ use Rattle.rfb_wire.specs.stream.End.{acts, told}
 use Rattle.rfb_hello.specs.declared.version.Version.{Version}
 use Rattle.rfb_hello.specs.declared.version.Version.TheVariants.{V33, V37, V38}
 use Rattle.rfb_hello.specs.Version.{version_text}
-use Rattle.rfb_hello.specs.ClientHandshake.{AwaitsVersion as AwaitsClientVersion, AwaitsChoice, AwaitsInit as AwaitsClientInit, Begun as ClientBegun, SecurityType, ClientInit, behind_version, client_handshake}
-use Rattle.rfb_hello.specs.ServerHandshake.{AwaitsVersion, AwaitsSecurity, AwaitsInit, Begun, behind_init}
+use Rattle.rfb_hello.specs.ClientHandshake.{AwaitsVersion as AwaitsClientVersion, AwaitsChoice, AwaitsInit as AwaitsClientInit, Begun as ClientBegun, SecurityType, ClientInit, after_version, client_handshake}
+use Rattle.rfb_hello.specs.ServerHandshake.{AwaitsVersion, AwaitsSecurity, AwaitsInit, Begun, after_init}
 use Rattle.rfb_hello.specs.ServerEnd.{ServerSetup, server_init_bytes, security_bytes}
 use Rattle.rfb_hello.specs.ServerAnswers.{IsSetup, name_asked}
 use Rattle.rfb_hello.specs.ViewerEnd.{ViewerSetup, viewer_end, told_of_init, shared_flag}
-use Rattle.rfb_hello.specs.Conversation.{conversation, turns_behind_versions, version_used, server_init_turn, viewer_replies, ByServer, ByViewer, Converse}
+use Rattle.rfb_hello.specs.Conversation.{conversation, turns_after_versions, version_used, server_init_turn, viewer_replies, ByServer, ByViewer, Converse}
 use Rattle.rfb_hello.proofs.AnswerLaws.{greeting_read, init_read}
 use Rattle.rfb_hello.proofs.ViewerAnswerLaws.{greeting_answered}
 
 -- after ServerInit and the name
-begun : (viewer : ViewerSetup) (v : Version) (w h : ℕ) (name : List ℕ) → acts (viewer_end viewer) (behind_init v w h (length name)) (name_asked name) ≡ Begun v w h
+begun : (viewer : ViewerSetup) (v : Version) (w h : ℕ) (name : List ℕ) → acts (viewer_end viewer) (after_init v w h (length name)) (name_asked name) ≡ Begun v w h
 begun viewer v w h [] = refl
 begun viewer v w h (byte ∷ name) = refl
 
 -- which are answered by nothing
-quiet : (viewer : ViewerSetup) (v : Version) (w h : ℕ) (name : List ℕ) → viewer_replies (told_of_init viewer.text_limit v w h (length name) ∷ told (viewer_end viewer) (behind_init v w h (length name)) (name_asked name)) ≡ []
+quiet : (viewer : ViewerSetup) (v : Version) (w h : ℕ) (name : List ℕ) → viewer_replies (told_of_init viewer.text_limit v w h (length name) ∷ told (viewer_end viewer) (after_init v w h (length name)) (name_asked name)) ≡ []
 quiet viewer v w h [] = refl
 quiet viewer v w h (byte ∷ name) = refl
 
@@ -39,12 +39,12 @@ choice_heard offer v true = (1 ∷ [], refl, ([], refl, refl))
 choice_heard offer v false = (0 ∷ [], refl, ([], refl, refl))
 
 -- what stands after the versions
-behind : (v : Version) (server : ServerSetup) (viewer : ViewerSetup) → IsSetup viewer.max_places server → Converse server viewer (behind_version v) (AwaitsSecurity v) (ByServer (security_bytes v ++ [])) (turns_behind_versions v viewer.shared server) (ClientBegun v viewer.shared) (Begun v server.width server.height)
-behind V33 server viewer is = (refl, ([], refl, refl), (refl, init_heard server.offer V33 viewer.shared, last server viewer V33 is))
-behind V37 server viewer is = (refl, ([], refl, refl), (refl, choice_heard server.offer V37 viewer.shared, last server viewer V37 is))
-behind V38 server viewer is =
+after : (v : Version) (server : ServerSetup) (viewer : ViewerSetup) → IsSetup viewer.max_places server → Converse server viewer (after_version v) (AwaitsSecurity v) (ByServer (security_bytes v ++ [])) (turns_after_versions v viewer.shared server) (ClientBegun v viewer.shared) (Begun v server.width server.height)
+after V33 server viewer is = (refl, ([], refl, refl), (refl, init_heard server.offer V33 viewer.shared, last server viewer V33 is))
+after V37 server viewer is = (refl, ([], refl, refl), (refl, choice_heard server.offer V37 viewer.shared, last server viewer V37 is))
+after V38 server viewer is =
     (refl, ([], refl, refl), (refl, ([], refl, refl), (refl, ([], refl, refl), (refl, init_heard server.offer V38 viewer.shared, last server viewer V38 is))))
 
 pub two_ends_speak : (server : ServerSetup) (viewer : ViewerSetup) → IsSetup viewer.max_places server → Converse server viewer AwaitsClientVersion AwaitsVersion (ByServer (version_text server.offer)) (conversation server viewer) (ClientBegun (version_used server viewer) viewer.shared) (Begun (version_used server viewer) server.width server.height)
 two_ends_speak server viewer is =
-    (refl, greeting_read server.offer viewer.limit viewer.max_places, (ap (λ (bytes : List ℕ). ByViewer bytes) (append-nil (version_text (version_used server viewer))), greeting_answered viewer server.offer, behind (version_used server viewer) server viewer is))
+    (refl, greeting_read server.offer viewer.limit viewer.max_places, (ap (λ (bytes : List ℕ). ByViewer bytes) (append-nil (version_text (version_used server viewer))), greeting_answered viewer server.offer, after (version_used server viewer) server viewer is))

@@ -10,7 +10,7 @@ use Rattle.rfb_hello.specs.declared.version.Version.TheVariants.{V33}
 use Rattle.rfb_hello.specs.declared.fault.HelloFault.{HelloFault}
 use Rattle.rfb_hello.specs.declared.fault.HelloFault.TheVariants.{NoneNotOffered, Refused, BadSecurityWord}
 use Rattle.rfb_hello.specs.ServerHandshake.{AwaitsSecurity, ServerItem, SecurityNone, SecurityTypes, has_none, IsTypes, IsWord, IsReason, IsWithoutNone, IsRefusal, SpellsServerItem, FaultsServerItem, server_item_says}
-use Rattle.rfb_hello.specs.ServerReading.{reason, behind_word, types_fault, behind_count}
+use Rattle.rfb_hello.specs.ServerReading.{reason, after_word, types_fault, after_count}
 
 -- ---- reasons
 
@@ -49,7 +49,7 @@ word_says (suc zero) = done_says SecurityNone
 word_says (suc (suc zero)) = refused_says NoneNotOffered
 word_says (suc (suc (suc word))) = refused_says BadSecurityWord
 
-pub word_reads : (word : ℕ) → Reads (behind_word word) (word_says word)
+pub word_reads : (word : ℕ) → Reads (after_word word) (word_says word)
 word_reads zero = reason_reads (λ n. Refused n)
 word_reads (suc zero) = done_reads SecurityNone
 word_reads (suc (suc zero)) = refused_reads NoneNotOffered
@@ -99,7 +99,7 @@ abbrev pub count_says : ℕ → Says ServerItem HelloFault
 count_says zero = reason_says (λ n. Refused n)
 count_says (suc n) = checked_says (suc n) types_fault (λ types. SecurityTypes types)
 
-pub count_reads : (n : ℕ) → Reads (behind_count n) (count_says n)
+pub count_reads : (n : ℕ) → Reads (after_count n) (count_says n)
 count_reads zero = reason_reads (λ n. Refused n)
 count_reads (suc n) = checked_reads (suc n) types_fault (λ types. SecurityTypes types)
 
@@ -151,17 +151,17 @@ counts_same = record { item = λ step bytes h. item h.0 step bytes h.1 h.2 h.3 h
     fault f bytes (inl none) = absurd none
     fault f bytes (inr (count, front, back, e, value, h)) = fault_of count f bytes front back e value h
 
-    behind_types : (n : ℕ) (types : List ℕ) → length types ≡ n → 0 < n → has_none types ≡ true → (count_says n).item (SecurityTypes types) types
-    behind_types zero types size some has = absurd (omega (arith, some))
-    behind_types (suc n) types size some has = (size, rw has refl, refl)
+    after_types : (n : ℕ) (types : List ℕ) → length types ≡ n → 0 < n → has_none types ≡ true → (count_says n).item (SecurityTypes types) types
+    after_types zero types size some has = absurd (omega (arith, some))
+    after_types (suc n) types size some has = (size, rw has refl, refl)
 
     item_back : (step : ServerItem) (bytes : List ℕ) → ItemOfTypes step bytes → counts_say.item step bytes
-    item_back step bytes (types, is, t, has) = (length types, length types ∷ [], types, t.whole, (refl, refl), subst (λ (s : ServerItem). (count_says (length types)).item s types) (sym is) (behind_types (length types) types refl t.some has))
+    item_back step bytes (types, is, t, has) = (length types, length types ∷ [], types, t.whole, (refl, refl), subst (λ (s : ServerItem). (count_says (length types)).item s types) (sym is) (after_types (length types) types refl t.some has))
 
-    behind_bad : (n : ℕ) (types : List ℕ) → length types ≡ n → 0 < n → has_none types ≡ false → (count_says n).fault NoneNotOffered types
-    behind_bad zero types size some has = absurd (omega (arith, some))
-    behind_bad (suc n) types size some has = (size, rw has refl)
+    after_bad : (n : ℕ) (types : List ℕ) → length types ≡ n → 0 < n → has_none types ≡ false → (count_says n).fault NoneNotOffered types
+    after_bad zero types size some has = absurd (omega (arith, some))
+    after_bad (suc n) types size some has = (size, rw has refl)
 
     fault_back : (f : HelloFault) (bytes : List ℕ) → FaultOfTypes f bytes → counts_say.fault f bytes
     fault_back f bytes (inl (n, is, (r, e, reason_is))) = inr (zero, zero ∷ [], r, e, (refl, refl), (n, is, reason_is))
-    fault_back f bytes (inr (is, (types, t, has))) = inr (length types, length types ∷ [], types, t.whole, (refl, refl), subst (λ (k : HelloFault). (count_says (length types)).fault k types) (sym is) (behind_bad (length types) types refl t.some has))
+    fault_back f bytes (inr (is, (types, t, has))) = inr (length types, length types ∷ [], types, t.whole, (refl, refl), subst (λ (k : HelloFault). (count_says (length types)).fault k types) (sym is) (after_bad (length types) types refl t.some has))

@@ -16,10 +16,10 @@ use Rattle.rfb_hello.specs.declared.server_hello.progress.Progress.{Progress}
 use Rattle.rfb_hello.specs.declared.server_hello.progress.Progress.TheVariants.{Version as VersionPart}
 use Rattle.arrayvec.specs.ArrayVec.{ArrayVec}
 use Rattle.rfb_hello.specs.Version.{is_version_text, minor_of, version_of}
-use Rattle.rfb_hello.specs.ClientHandshake.{AwaitsVersion, ProtocolVersion, behind_version, client_version_fault, client_item}
+use Rattle.rfb_hello.specs.ClientHandshake.{AwaitsVersion, ProtocolVersion, after_version, client_version_fault, client_item}
 use Rattle.rfb_hello.specs.ServerEnd.{ServerSetup, as_reply, security_bytes, server_end}
 use Rattle.rfb_hello.specs.ServerProgress.{ProgressStandsFor}
-use Rattle.rfb_hello.specs.inside.ServerPiece.{progress_behind}
+use Rattle.rfb_hello.specs.inside.ServerPiece.{progress_after}
 use Rattle.rfb_hello.specs.ServerStanding.{StandsFor, setup_of}
 use Rattle.rfb_hello.proofs.ClientHandshakeLaws.{client_handshake_laws}
 
@@ -51,10 +51,10 @@ one_refused setup old new bytes fault some steps =
     front_refuses (server_end setup) (server_machine setup) (StandsFor setup) old new 1 bytes fault (subst (λ (unit : List ℕ). StepsBy (server_end setup) (StandsFor setup) old unit (Err fault) new) (sym first) steps)
 
 -- what a client's version stands for once it is whole
-stands_behind : (v : Version) → ProgressStandsFor (progress_behind v) (behind_version v) []
-stands_behind V33 = (refl, refl)
-stands_behind V37 = (refl, refl)
-stands_behind V38 = (refl, refl)
+stands_after : (v : Version) → ProgressStandsFor (progress_after v) (after_version v) []
+stands_after V33 = (refl, refl)
+stands_after V37 = (refl, refl)
+stands_after V38 = (refl, refl)
 
 -- the version that a text was read as
 pub version_read : (size is_text : Bool) (v w : Version) → ◌≡◌ {A = Result Version HelloFault} (Ok w) (if size && is_text then Ok v else Err BadVersion) → (is_text ≡ true) × (w ≡ v)
@@ -76,7 +76,7 @@ pub version_within : (offer : Version) (text : List ℕ) → is_version_text tex
 version_within offer text is within = let yes_it_is : nat_le (minor_of (version_of text)) (minor_of offer) ≡ true = grind (arith, nat_tests) in rw (is, yes_it_is) refl
 
 -- the last bytes of a version
-pub version_told : (setup : ServerSetup) (old new : ServerHello) (text : ArrayVec ℕ) (unit all : List ℕ) → old.progress ≡ VersionPart text → all ≡ text.items ++ unit → length all ≡ 12 → client_version_fault old.offer all ≡ None → setup_of new ≡ setup_of old → new.progress ≡ progress_behind (version_of all) → StepsBy (server_end setup) (StandsFor setup) old unit (Ok (Some (Reply (as_reply (security_bytes (version_of all)))))) new
+pub version_told : (setup : ServerSetup) (old new : ServerHello) (text : ArrayVec ℕ) (unit all : List ℕ) → old.progress ≡ VersionPart text → all ≡ text.items ++ unit → length all ≡ 12 → client_version_fault old.offer all ≡ None → setup_of new ≡ setup_of old → new.progress ≡ progress_after (version_of all) → StepsBy (server_end setup) (StandsFor setup) old unit (Ok (Some (Reply (as_reply (security_bytes (version_of all)))))) new
 version_told setup old new text unit all was whole size good same is s prefix stands =
     let here : ProgressStandsFor (VersionPart text) s prefix = subst (λ (p : Progress). ProgressStandsFor p s prefix) was stands.progress_is in
     let bytes : prefix ++ unit ≡ all = ap (λ (ys : List ℕ). ys ++ unit) here.1 ∙ sym whole in
@@ -84,7 +84,7 @@ version_told setup old new text unit all was whole size good same is s prefix st
     let fault : client_version_fault setup.offer all ≡ None = subst (λ (o : Version). client_version_fault o all ≡ None) offer good in
     let read : client_item setup.offer AwaitsVersion (all ++ []) ≡ Got (ProtocolVersion (version_of all)) [] = (checked_reads 12 (client_version_fault setup.offer) (λ zs. ProtocolVersion (version_of zs))).only (ProtocolVersion (version_of all)) all [] (size, fault, refl) in
     let next : client_item setup.offer s (prefix ++ unit) ≡ Got (ProtocolVersion (version_of all)) [] = rw (here.0, bytes) (subst (λ (zs : List ℕ). client_item setup.offer AwaitsVersion zs ≡ Got (ProtocolVersion (version_of all)) []) (append-nil all) read) in
-    rw (next, here.0) (refl, refl, record { setup_is = same ∙ stands.setup_is; progress_is = rw is (stands_behind (version_of all)) })
+    rw (next, here.0) (refl, refl, record { setup_is = same ∙ stands.setup_is; progress_is = rw is (stands_after (version_of all)) })
 
 -- twelve bytes that are no version, or one above the offer
 pub version_refused : (setup : ServerSetup) (old new : ServerHello) (text : ArrayVec ℕ) (unit all : List ℕ) (fault : HelloFault) → old.progress ≡ VersionPart text → all ≡ text.items ++ unit → length all ≡ 12 → client_version_fault old.offer all ≡ Some fault → StepsBy (server_end setup) (StandsFor setup) old unit (Err fault) new

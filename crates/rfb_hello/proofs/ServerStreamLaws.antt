@@ -15,7 +15,7 @@ use Rattle.rfb_hello.specs.declared.fault.HelloFault.{HelloFault}
 use Rattle.rfb_hello.specs.declared.fault.HelloFault.TheVariants.{BadVersion, NoneNotOffered, Refused, BadSecurityWord, SecurityFailed, ScreenEmpty, ScreenTooLarge}
 use Rattle.rfb_hello.specs.Version.{IsVersionText, is_version_text, version_of}
 use Rattle.rfb_hello.specs.ServerHandshake.{ServerPoint, AwaitsVersion, AwaitsSecurity, AwaitsResult, AwaitsInit, AwaitsName, Begun, ServerItem, ProtocolVersion, SecurityNone, SecurityTypes, SecurityResult, ServerInit, Name, IsTypes, IsWordWithReason, SpellsServerInit, IsAdmitted, SpellsServerItem, FaultsServerItem, server_item_says, server_item_size}
-use Rattle.rfb_hello.specs.ServerReading.{behind_word, behind_count, behind_result, screen_fault, name, security, server_item, server_handshake}
+use Rattle.rfb_hello.specs.ServerReading.{after_word, after_count, after_result, screen_fault, name, security, server_item, server_handshake}
 use Rattle.rfb_hello.proofs.VersionLaws.{text_true, text_test}
 use Rattle.rfb_hello.proofs.ServerHandshakeLaws.{reason_says, reason_reads, word_alone, word_says, words_say, word_reads, words_same, ItemOfTypes, FaultOfTypes, types_say, count_says, counts_say, count_reads, counts_same}
 
@@ -84,11 +84,11 @@ types_38 max = record { item = λ step bytes h. subst (λ (s : ServerItem). Spel
     fault_back NoneNotOffered bytes h = inr (refl, h)
     fault_back f bytes h = absurd h
 
-counts_read : Reads (and_then (valued 1 (λ bytes. u8_at 0 bytes)) behind_count) types_say
-counts_read = same_reads (and_then (valued 1 (λ bytes. u8_at 0 bytes)) behind_count) counts_say types_say counts_same (then_reads (valued 1 (λ bytes. u8_at 0 bytes)) behind_count (valued_says 1 (λ bytes. u8_at 0 bytes)) count_says (valued_reads 1 (λ bytes. u8_at 0 bytes)) count_reads)
+counts_read : Reads (and_then (valued 1 (λ bytes. u8_at 0 bytes)) after_count) types_say
+counts_read = same_reads (and_then (valued 1 (λ bytes. u8_at 0 bytes)) after_count) counts_say types_say counts_same (then_reads (valued 1 (λ bytes. u8_at 0 bytes)) after_count (valued_says 1 (λ bytes. u8_at 0 bytes)) count_says (valued_reads 1 (λ bytes. u8_at 0 bytes)) count_reads)
 
 security_reads : (max : ℕ) (version : Version) → Reads (security version) (server_item_says max (AwaitsSecurity version))
-security_reads max V33 = same_reads (security V33) words_say (server_item_says max (AwaitsSecurity V33)) (words_same max) (then_reads (valued 4 (λ bytes. u32_at 0 bytes)) behind_word (valued_says 4 (λ bytes. u32_at 0 bytes)) word_says (valued_reads 4 (λ bytes. u32_at 0 bytes)) word_reads)
+security_reads max V33 = same_reads (security V33) words_say (server_item_says max (AwaitsSecurity V33)) (words_same max) (then_reads (valued 4 (λ bytes. u32_at 0 bytes)) after_word (valued_says 4 (λ bytes. u32_at 0 bytes)) word_says (valued_reads 4 (λ bytes. u32_at 0 bytes)) word_reads)
 security_reads max V37 = same_reads (security V37) types_say (server_item_says max (AwaitsSecurity V37)) (types_37 max) counts_read
 security_reads max V38 = same_reads (security V38) types_say (server_item_says max (AwaitsSecurity V38)) (types_38 max) counts_read
 
@@ -98,7 +98,7 @@ abbrev result_says : ℕ → Says ServerItem HelloFault
 result_says zero = done_says SecurityResult
 result_says (suc word) = reason_says (λ n. SecurityFailed n)
 
-result_reads : (word : ℕ) → Reads (behind_result word) (result_says word)
+result_reads : (word : ℕ) → Reads (after_result word) (result_says word)
 result_reads zero = done_reads SecurityResult
 result_reads (suc word) = reason_reads (λ n. SecurityFailed n)
 
@@ -225,7 +225,7 @@ begun_same max v w h = record { item = λ step bytes is. absurd is; fault = λ f
 pub server_item_reads : (max : ℕ) (point : ServerPoint) → Reads (server_item max point) (server_item_says max point)
 server_item_reads max AwaitsVersion = same_reads (server_item max AwaitsVersion) (checked_says 12 text_fault (λ bytes. ProtocolVersion (version_of bytes))) (server_item_says max AwaitsVersion) (version_same max) (checked_reads 12 text_fault (λ bytes. ProtocolVersion (version_of bytes)))
 server_item_reads max (AwaitsSecurity v) = security_reads max v
-server_item_reads max (AwaitsResult v) = same_reads (server_item max (AwaitsResult v)) results_say (server_item_says max (AwaitsResult v)) (results_same max v) (then_reads (valued 4 (λ bytes. u32_at 0 bytes)) behind_result (valued_says 4 (λ bytes. u32_at 0 bytes)) result_says (valued_reads 4 (λ bytes. u32_at 0 bytes)) result_reads)
+server_item_reads max (AwaitsResult v) = same_reads (server_item max (AwaitsResult v)) results_say (server_item_says max (AwaitsResult v)) (results_same max v) (then_reads (valued 4 (λ bytes. u32_at 0 bytes)) after_result (valued_says 4 (λ bytes. u32_at 0 bytes)) result_says (valued_reads 4 (λ bytes. u32_at 0 bytes)) result_reads)
 server_item_reads max (AwaitsInit v) = same_reads (server_item max (AwaitsInit v)) (checked_says 24 (screen_fault max) (λ bytes. ServerInit (u16_at 0 bytes) (u16_at 2 bytes) (u32_at 20 bytes))) (server_item_says max (AwaitsInit v)) (init_same max v) (checked_reads 24 (screen_fault max) (λ bytes. ServerInit (u16_at 0 bytes) (u16_at 2 bytes) (u32_at 20 bytes)))
 server_item_reads max (AwaitsName v w h n) = same_reads (server_item max (AwaitsName v w h n)) (name_says n) (server_item_says max (AwaitsName v w h n)) (name_same max v w h n) (name_reads n)
 server_item_reads max (Begun v w h) = same_reads (server_item max (Begun v w h)) waiting_says (server_item_says max (Begun v w h)) (begun_same max v w h) waiting_reads

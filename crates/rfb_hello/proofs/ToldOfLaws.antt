@@ -21,7 +21,7 @@ server_ready_at setup (AwaitsChoice V38) SecurityType reply version shared is = 
 server_ready_at setup (AwaitsClientInit v) (ClientInit s) reply version shared is =
     let one : v ≡ version = cc in
     let flag : s ≡ shared = cc in
-    record { at_point = ap (λ (k : Version). AwaitsClientInit k) one; item_is = ap (λ (b : Bool). ClientInit b) flag; reply_is = cc; behind = rw (one, flag) refl }
+    record { at_point = ap (λ (k : Version). AwaitsClientInit k) one; item_is = ap (λ (b : Bool). ClientInit b) flag; reply_is = cc; after = rw (one, flag) refl }
 server_ready_at setup point item reply version shared is = cc
 
 pub screen_at : (setup : ViewerSetup) (point : ServerPoint) (item : ServerItem) (width height : ℕ) → viewer_tells setup point item ≡ Some (Screen width height) → IsScreenAt setup point item width height
@@ -33,7 +33,7 @@ screen_at setup (AwaitsInit v) (ServerInit w h zero) width height is = cc
 screen_at setup (AwaitsInit v) (ServerInit w h (suc n)) width height is =
     let wide : w ≡ width = cc in
     let high : h ≡ height = cc in
-    record { version = v; name_length = suc n; at_point = refl; item_is = rw (wide, high) refl; named = omega arith; behind = rw (wide, high) refl }
+    record { version = v; name_length = suc n; at_point = refl; item_is = rw (wide, high) refl; named = omega arith; after = rw (wide, high) refl }
 screen_at setup (AwaitsName v w h n) (Name text) width height is = cc
 screen_at setup point item width height is = cc
 
@@ -48,12 +48,12 @@ viewer_ready_at setup (AwaitsInit v) (ServerInit w h zero) width height version 
     let one : v ≡ version = cc in
     let none : zero ≡ name_length = cc in
     let kept : name ≡ kept_of setup.text_limit zero [] = cc in
-    record { told_at = inl (record { at_point = rw one refl; item_is = rw (wide, high, none) refl; name_is = kept ∙ kept_none setup.text_limit; unnamed = sym none }); behind = rw (wide, high, one) refl }
+    record { told_at = inl (record { at_point = rw one refl; item_is = rw (wide, high, none) refl; name_is = kept ∙ kept_none setup.text_limit; unnamed = sym none }); after = rw (wide, high, one) refl }
 viewer_ready_at setup (AwaitsInit v) (ServerInit w h (suc n)) width height version name name_length is = cc
 viewer_ready_at setup (AwaitsName v w h n) (Name text) width height version name name_length is =
     let wide : w ≡ width = cc in
     let high : h ≡ height = cc in
     let one : v ≡ version = cc in
     let all : n ≡ name_length = cc in
-    record { told_at = inr (record { text = text; at_point = rw (one, wide, high, all) refl; item_is = refl; name_is = cc }); behind = rw (one, wide, high) refl }
+    record { told_at = inr (record { text = text; at_point = rw (one, wide, high, all) refl; item_is = refl; name_is = cc }); after = rw (one, wide, high) refl }
 viewer_ready_at setup point item width height version name name_length is = cc

@@ -20,18 +20,18 @@ use Rattle.rfb_hello.specs.declared.viewer_hello.progress.Progress.TheVariants.{
 use Rattle.arrayvec.specs.ArrayVec.{ArrayVec}
 use Rattle.rfb_hello.specs.Version.{is_version_text, version_of, version_text, lower}
 use Rattle.rfb_hello.specs.KeptText.{KeptText, no_text, kept_of}
-use Rattle.rfb_hello.specs.ServerHandshake.{ServerPoint, AwaitsVersion, AwaitsSecurity, AwaitsInit, ServerItem, ProtocolVersion, SecurityTypes, ServerInit, IsWord, has_none, behind_types, behind_init, past_server_item}
+use Rattle.rfb_hello.specs.ServerHandshake.{ServerPoint, AwaitsVersion, AwaitsSecurity, AwaitsInit, ServerItem, ProtocolVersion, SecurityTypes, ServerInit, IsWord, has_none, after_types, after_init, past_server_item}
 use Rattle.rfb_hello.specs.ServerReading.{name, security, screen_fault, server_item}
 use Rattle.rfb_hello.specs.ServerEnd.{as_reply}
 use Rattle.rfb_hello.specs.ViewerEnd.{ViewerSetup, viewer_end, viewer_tells, choice_bytes, told_of_init, OpensReason, AsksMemory, AsksForReason}
 use Rattle.rfb_hello.specs.inside.ViewerPiece.{fault_for}
 use Rattle.rfb_hello.specs.ViewerProgress.{ProgressStandsFor, fault_in, reason_in}
-use Rattle.rfb_hello.specs.inside.ViewerPiece.{progress_behind_version, progress_behind_types, progress_behind_init}
+use Rattle.rfb_hello.specs.inside.ViewerPiece.{progress_after_version, progress_after_types, progress_after_init}
 use Rattle.rfb_hello.specs.ViewerStanding.{StandsFor, setup_of, IsReasonKept, KeepsReason}
 use Rattle.rfb_hello.proofs.ServerStreamLaws.{server_handshake_laws, screen_admitted}
 use Rattle.rfb_hello.proofs.TextLemmas.{kept_none}
 use Rattle.rfb_hello.proofs.KeptTextLaws.{kept_on}
-use Rattle.rfb_hello.proofs.ViewerReadingLaws.{opened, reason_short, reason_more, reason_bad, types_next, types_more, types_good, types_bad, none_behind}
+use Rattle.rfb_hello.proofs.ViewerReadingLaws.{opened, reason_short, reason_more, reason_bad, types_next, types_more, types_good, types_bad, none_after}
 
 pub viewer_machine : (setup : ViewerSetup) → IsMachine (viewer_end setup)
 viewer_machine setup = record { laws = server_handshake_laws setup.limit setup.max_places; past = λ s i. refl }
@@ -123,22 +123,22 @@ types_part setup old version more left none now unit was count is =
     let n = length seen + (more + 1) in
     let few : length all < n = rw (length-append seen unit) (omega (arith, count)) in
     let size : n ≡ length all + (left + 1) = rw (length-append seen unit) (omega (arith, count)) in
-    let has : now ≡ has_none all = is ∙ ap (λ (b : Bool). b || has_none unit) h.4 ∙ sym (none_behind seen unit) in
+    let has : now ≡ has_none all = is ∙ ap (λ (b : Bool). b || has_none unit) h.4 ∙ sym (none_after seen unit) in
     rw (h.1, types_joined prefix seen unit n h.3) (types_next version n all h.2 ∙ types_more n all few, (all, refl, h.2, ap (λ (k : ℕ). k ∷ all) size, has)))
 
-pub types_told : (setup : ViewerSetup) (old : ViewerHello) (version : Version) (more : ℕ) (none : Bool) (unit : List ℕ) (reply : ArrayVec ℕ) → old.progress ≡ Types version more none → length unit ≡ more + 1 → (none || has_none unit) ≡ true → reply.items ≡ choice_bytes version old.shared → StepsBy (viewer_end setup) (StandsFor setup) old unit (Ok (Some (Reply reply))) (record old { progress = progress_behind_types version })
+pub types_told : (setup : ViewerSetup) (old : ViewerHello) (version : Version) (more : ℕ) (none : Bool) (unit : List ℕ) (reply : ArrayVec ℕ) → old.progress ≡ Types version more none → length unit ≡ more + 1 → (none || has_none unit) ≡ true → reply.items ≡ choice_bytes version old.shared → StepsBy (viewer_end setup) (StandsFor setup) old unit (Ok (Some (Reply reply))) (record old { progress = progress_after_types version })
 types_told setup old version more none unit reply was count is bytes =
-    got_step setup old (Types version more none) (progress_behind_types version) unit (Some (Reply reply)) was (λ s prefix same h.
+    got_step setup old (Types version more none) (progress_after_types version) unit (Some (Reply reply)) was (λ s prefix same h.
     let seen = h.0 in
     let all = seen ++ unit in
     let n = length seen + (more + 1) in
     let size : length all ≡ n = rw (length-append seen unit) (omega (arith, count)) in
-    let has : has_none all ≡ true = none_behind seen unit ∙ ap (λ (b : Bool). b || has_none unit) (sym h.4) ∙ is in
+    let has : has_none all ≡ true = none_after seen unit ∙ ap (λ (b : Bool). b || has_none unit) (sym h.4) ∙ is in
     let shared : old.shared ≡ setup.shared = ap (λ (x : ViewerSetup). x.shared) same in
     let told : as_reply (choice_bytes version setup.shared) ≡ reply = ap as_reply (ap (λ (b : Bool). choice_bytes version b) (sym shared) ∙ sym bytes) in
     rw (h.1, types_joined prefix seen unit n h.3) (SecurityTypes all, types_next version n all h.2 ∙ types_good n all size (omega arith) has, ap (λ (r : ArrayVec ℕ). Some (Reply r)) told, stands version))
   where
-    stands : (v : Version) → ProgressStandsFor setup.text_limit (progress_behind_types v) (behind_types v) []
+    stands : (v : Version) → ProgressStandsFor setup.text_limit (progress_after_types v) (after_types v) []
     stands V33 = (refl, refl, omega arith)
     stands V37 = (refl, refl, omega arith)
     stands V38 = (refl, refl, omega arith)
@@ -150,33 +150,33 @@ types_refused setup old new version more none unit was count is =
     let all = seen ++ unit in
     let n = length seen + (more + 1) in
     let size : length all ≡ n = rw (length-append seen unit) (omega (arith, count)) in
-    let has : has_none all ≡ false = none_behind seen unit ∙ ap (λ (b : Bool). b || has_none unit) (sym h.4) ∙ is in
+    let has : has_none all ≡ false = none_after seen unit ∙ ap (λ (b : Bool). b || has_none unit) (sym h.4) ∙ is in
     rw (h.1, types_joined prefix seen unit n h.3) (types_next version n all h.2 ∙ types_bad n all size (omega arith) has))
 
 -- ---- the version
 
-stands_behind_version : (limit : ℕ) (v : Version) → ProgressStandsFor limit (progress_behind_version v) (AwaitsSecurity v) []
-stands_behind_version limit V33 = (refl, refl, omega arith)
-stands_behind_version limit V37 = (refl, (λ (e : V37 ≡ V33). cc), refl)
-stands_behind_version limit V38 = (refl, (λ (e : V38 ≡ V33). cc), refl)
+stands_after_version : (limit : ℕ) (v : Version) → ProgressStandsFor limit (progress_after_version v) (AwaitsSecurity v) []
+stands_after_version limit V33 = (refl, refl, omega arith)
+stands_after_version limit V37 = (refl, (λ (e : V37 ≡ V33). cc), refl)
+stands_after_version limit V38 = (refl, (λ (e : V38 ≡ V33). cc), refl)
 
-pub version_told : (setup : ViewerSetup) (old : ViewerHello) (part reply : ArrayVec ℕ) (unit whole : List ℕ) → old.progress ≡ VersionPart part → whole ≡ part.items ++ unit → length whole ≡ 12 → is_version_text whole ≡ true → reply.items ≡ version_text (lower old.limit (version_of whole)) → StepsBy (viewer_end setup) (StandsFor setup) old unit (Ok (Some (Reply reply))) (record old { progress = progress_behind_version (lower old.limit (version_of whole)) })
+pub version_told : (setup : ViewerSetup) (old : ViewerHello) (part reply : ArrayVec ℕ) (unit whole : List ℕ) → old.progress ≡ VersionPart part → whole ≡ part.items ++ unit → length whole ≡ 12 → is_version_text whole ≡ true → reply.items ≡ version_text (lower old.limit (version_of whole)) → StepsBy (viewer_end setup) (StandsFor setup) old unit (Ok (Some (Reply reply))) (record old { progress = progress_after_version (lower old.limit (version_of whole)) })
 version_told setup old part reply unit whole was is size text bytes =
-    got_step setup old (VersionPart part) (progress_behind_version (lower old.limit (version_of whole))) unit (Some (Reply reply)) was (λ s prefix same h.
+    got_step setup old (VersionPart part) (progress_after_version (lower old.limit (version_of whole))) unit (Some (Reply reply)) was (λ s prefix same h.
     let limit : old.limit ≡ setup.limit = ap (λ (x : ViewerSetup). x.limit) same in
     let v = version_of whole in
     let fault : List ℕ → Option HelloFault = λ zs. if is_version_text zs then None else Some BadVersion in
     let read : server_item setup.max_places AwaitsVersion (whole ++ []) ≡ Got (ProtocolVersion v) [] = (checked_reads 12 fault (λ zs. ProtocolVersion (version_of zs))).only (ProtocolVersion v) whole [] (size, rw text refl, refl) in
     let told : as_reply (version_text (lower setup.limit v)) ≡ reply = ap as_reply (ap (λ (l : Version). version_text (lower l v)) (sym limit) ∙ sym bytes) in
-    let stands : ProgressStandsFor setup.text_limit (progress_behind_version (lower old.limit v)) (AwaitsSecurity (lower setup.limit v)) [] =
-    subst (λ (l : Version). ProgressStandsFor setup.text_limit (progress_behind_version (lower old.limit v)) (AwaitsSecurity (lower l v)) []) limit (stands_behind_version setup.text_limit (lower old.limit v)) in
+    let stands : ProgressStandsFor setup.text_limit (progress_after_version (lower old.limit v)) (AwaitsSecurity (lower setup.limit v)) [] =
+    subst (λ (l : Version). ProgressStandsFor setup.text_limit (progress_after_version (lower old.limit v)) (AwaitsSecurity (lower l v)) []) limit (stands_after_version setup.text_limit (lower old.limit v)) in
     rw (h.0, joined prefix part.items unit whole h.1 is) (ProtocolVersion v, subst (λ (zs : List ℕ). server_item setup.max_places AwaitsVersion zs ≡ Got (ProtocolVersion v) []) (append-nil whole) read, ap (λ (r : ArrayVec ℕ). Some (Reply r)) told, stands))
 
 -- ---- ServerInit
 
-pub init_told : (setup : ViewerSetup) (old : ViewerHello) (version : Version) (part : ArrayVec ℕ) (unit whole : List ℕ) → old.progress ≡ Init version part → whole ≡ part.items ++ unit → length whole ≡ 24 → screen_fault old.max_places whole ≡ None → StepsBy (viewer_end setup) (StandsFor setup) old unit (Ok (Some (told_of_init old.text_limit version (u16_at 0 whole) (u16_at 2 whole) (u32_at 20 whole)))) (record old { progress = progress_behind_init old.text_limit version (u16_at 0 whole) (u16_at 2 whole) (u32_at 20 whole) })
+pub init_told : (setup : ViewerSetup) (old : ViewerHello) (version : Version) (part : ArrayVec ℕ) (unit whole : List ℕ) → old.progress ≡ Init version part → whole ≡ part.items ++ unit → length whole ≡ 24 → screen_fault old.max_places whole ≡ None → StepsBy (viewer_end setup) (StandsFor setup) old unit (Ok (Some (told_of_init old.text_limit version (u16_at 0 whole) (u16_at 2 whole) (u32_at 20 whole)))) (record old { progress = progress_after_init old.text_limit version (u16_at 0 whole) (u16_at 2 whole) (u32_at 20 whole) })
 init_told setup old version part unit whole was is size good =
-    got_step setup old (Init version part) (progress_behind_init old.text_limit version (u16_at 0 whole) (u16_at 2 whole) (u32_at 20 whole)) unit (Some (told_of_init old.text_limit version (u16_at 0 whole) (u16_at 2 whole) (u32_at 20 whole))) was (λ s prefix same h.
+    got_step setup old (Init version part) (progress_after_init old.text_limit version (u16_at 0 whole) (u16_at 2 whole) (u32_at 20 whole)) unit (Some (told_of_init old.text_limit version (u16_at 0 whole) (u16_at 2 whole) (u32_at 20 whole))) was (λ s prefix same h.
     let width = u16_at 0 whole in
     let height = u16_at 2 whole in
     let n = u32_at 20 whole in
@@ -186,9 +186,9 @@ init_told setup old version part unit whole was is size good =
     let there : screen_fault setup.max_places whole ≡ None = subst (λ (k : ℕ). screen_fault k whole ≡ None) max good in
     let read : server_item setup.max_places (AwaitsInit version) (whole ++ []) ≡ Got i [] = (checked_reads 24 (screen_fault setup.max_places) (λ zs. ServerInit (u16_at 0 zs) (u16_at 2 zs) (u32_at 20 zs))).only i whole [] (size, there, refl) in
     let told : told_of_init setup.text_limit version width height n ≡ told_of_init old.text_limit version width height n = ap (λ (k : ℕ). told_of_init k version width height n) (sym limit) in
-    rw (h.0, joined prefix part.items unit whole h.1 is) (i, subst (λ (zs : List ℕ). server_item setup.max_places (AwaitsInit version) zs ≡ Got i []) (append-nil whole) read, ap (λ (e : ViewerStep). Some e) told, subst (λ (k : ℕ). ProgressStandsFor setup.text_limit (progress_behind_init k version width height n) (behind_init version width height n) []) (sym limit) (stands width height n)))
+    rw (h.0, joined prefix part.items unit whole h.1 is) (i, subst (λ (zs : List ℕ). server_item setup.max_places (AwaitsInit version) zs ≡ Got i []) (append-nil whole) read, ap (λ (e : ViewerStep). Some e) told, subst (λ (k : ℕ). ProgressStandsFor setup.text_limit (progress_after_init k version width height n) (after_init version width height n) []) (sym limit) (stands width height n)))
   where
-    stands : (width height n : ℕ) → ProgressStandsFor setup.text_limit (progress_behind_init setup.text_limit version width height n) (behind_init version width height n) []
+    stands : (width height n : ℕ) → ProgressStandsFor setup.text_limit (progress_after_init setup.text_limit version width height n) (after_init version width height n) []
     stands width height zero = (version, width, height, refl, refl)
     stands width height (suc n) = (refl, omega arith, refl)
 
@@ -202,25 +202,25 @@ init_asks setup old version part unit whole was is size good some s prefix stand
 -- ---- reasons
 
 -- bytes after the intro of a reason
-behind_intro : (prefix intro part unit : List ℕ) → prefix ≡ intro ++ part → prefix ++ unit ≡ intro ++ (part ++ unit)
-behind_intro prefix intro part unit is = ap (λ (ys : List ℕ). ys ++ unit) is ∙ append_assoc intro part unit
+after_intro : (prefix intro part unit : List ℕ) → prefix ≡ intro ++ part → prefix ++ unit ≡ intro ++ (part ++ unit)
+after_intro prefix intro part unit is = ap (λ (ys : List ℕ). ys ++ unit) is ∙ append_assoc intro part unit
 
 pub length_part : (setup : ViewerSetup) (old : ViewerHello) (cause : Cause) (part now : ArrayVec ℕ) (unit : List ℕ) → old.progress ≡ ReasonLength cause part → now.items ≡ part.items ++ unit → length now.items < 4 → StepsBy (viewer_end setup) (StandsFor setup) old unit (Ok None) (record old { progress = ReasonLength cause now })
 length_part setup old cause part now unit was is few =
     more_step setup old (ReasonLength cause part) (ReasonLength cause now) unit was (λ s prefix h.
-    let all : prefix ++ unit ≡ h.0 ++ now.items = behind_intro prefix h.0 part.items unit h.2 ∙ ap (λ (ys : List ℕ). h.0 ++ ys) (sym is) in
+    let all : prefix ++ unit ≡ h.0 ++ now.items = after_intro prefix h.0 part.items unit h.2 ∙ ap (λ (ys : List ℕ). h.0 ++ ys) (sym is) in
     rw all (opened setup.max_places cause s h.0 now.items h.1 ∙ reason_short (λ n. fault_for cause n) now.items few, (h.0, h.1, refl, few)))
 
 pub length_zero : (setup : ViewerSetup) (old new : ViewerHello) (cause : Cause) (part : ArrayVec ℕ) (unit whole : List ℕ) → old.progress ≡ ReasonLength cause part → whole ≡ part.items ++ unit → IsWord 0 whole → StepsBy (viewer_end setup) (StandsFor setup) old unit (Err (fault_for cause 0)) new
 length_zero setup old new cause part unit whole was is word =
     bad_step setup old new (ReasonLength cause part) unit (fault_for cause 0) was (λ s prefix h.
-    let all : prefix ++ unit ≡ h.0 ++ (whole ++ []) = behind_intro prefix h.0 part.items unit h.2 ∙ ap (λ (ys : List ℕ). h.0 ++ ys) (sym is ∙ sym (append-nil whole)) in
+    let all : prefix ++ unit ≡ h.0 ++ (whole ++ []) = after_intro prefix h.0 part.items unit h.2 ∙ ap (λ (ys : List ℕ). h.0 ++ ys) (sym is ∙ sym (append-nil whole)) in
     rw all (opened setup.max_places cause s h.0 (whole ++ []) h.1 ∙ reason_bad (λ n. fault_for cause n) 0 whole [] word refl))
 
 pub length_asks : (setup : ViewerSetup) (old : ViewerHello) (cause : Cause) (part : ArrayVec ℕ) (unit whole : List ℕ) (n : ℕ) → old.progress ≡ ReasonLength cause part → whole ≡ part.items ++ unit → IsWord n whole → 0 < n → RunsOutBy (viewer_end setup) (AsksMemory setup) (StandsFor setup) old unit
 length_asks setup old cause part unit whole n was is word some =
     asks_step (AsksMemory setup) setup old (ReasonLength cause part) unit was (λ s prefix h.
-    let all : prefix ++ unit ≡ h.0 ++ whole = behind_intro prefix h.0 part.items unit h.2 ∙ ap (λ (ys : List ℕ). h.0 ++ ys) (sym is) in
+    let all : prefix ++ unit ≡ h.0 ++ whole = after_intro prefix h.0 part.items unit h.2 ∙ ap (λ (ys : List ℕ). h.0 ++ ys) (sym is) in
     asks s (prefix ++ unit) h.0 h.1 (cause, h.0, whole, n, all, h.1, word, some))
   where
     asks : (s : ServerPoint) (bytes intro : List ℕ) → OpensReason cause s intro → AsksForReason s bytes → AsksMemory setup s bytes
@@ -236,7 +236,7 @@ length_told setup old cause part unit whole n more kept was is word count text s
     let limit : old.text_limit ≡ setup.text_limit = ap (λ (x : ViewerSetup). x.text_limit) stands.setup_is in
     let kept_is : kept ≡ kept_of setup.text_limit n [] = text ∙ ap (λ (k : ℕ). kept_of k n []) limit in
     more_step setup old (ReasonLength cause part) (Reason cause n more kept) unit was (λ s prefix h.
-    let all : prefix ++ unit ≡ h.0 ++ (whole ++ []) = behind_intro prefix h.0 part.items unit h.2 ∙ ap (λ (ys : List ℕ). h.0 ++ ys) (sym is ∙ sym (append-nil whole)) in
+    let all : prefix ++ unit ≡ h.0 ++ (whole ++ []) = after_intro prefix h.0 part.items unit h.2 ∙ ap (λ (ys : List ℕ). h.0 ++ ys) (sym is ∙ sym (append-nil whole)) in
     rw all (opened setup.max_places cause s h.0 (whole ++ []) h.1 ∙ reason_more (λ n. fault_for cause n) n whole [] word (omega (arith, count)), (h.0, whole, [], h.1, refl, word, omega (arith, count), kept_is))) s prefix stands
 
 pub reason_part : (setup : ViewerSetup) (old : ViewerHello) (cause : Cause) (n more left : ℕ) (kept now : KeptText) (unit : List ℕ) → old.progress ≡ Reason cause n more kept → length unit + left ≡ more → now ≡ record kept { bytes = take kept.room (kept.bytes ++ unit) } → StepsBy (viewer_end setup) (StandsFor setup) old unit (Ok None) (record old { progress = Reason cause n left now })
@@ -245,7 +245,7 @@ reason_part setup old cause n more left kept now unit was count is =
     let intro = h.0 in
     let word = h.1 in
     let text = h.2 in
-    let all : prefix ++ unit ≡ intro ++ (word ++ (text ++ unit)) = behind_intro prefix intro (word ++ text) unit h.4 ∙ ap (λ (ys : List ℕ). intro ++ ys) (append_assoc word text unit) in
+    let all : prefix ++ unit ≡ intro ++ (word ++ (text ++ unit)) = after_intro prefix intro (word ++ text) unit h.4 ∙ ap (λ (ys : List ℕ). intro ++ ys) (append_assoc word text unit) in
     let size : length (text ++ unit) + (left + 1) ≡ n = rw (length-append text unit) (omega (arith, count, h.6)) in
     let kept_is : now ≡ kept_of setup.text_limit n (text ++ unit) = is ∙ rw h.7 (ap (λ (ys : List ℕ). record { room = min n setup.text_limit; bytes = ys }) (kept_on setup.text_limit n text unit (omega (arith, size)))) in
     rw all (opened setup.max_places cause s intro (word ++ (text ++ unit)) h.3 ∙ reason_more (λ k. fault_for cause k) n word (text ++ unit) h.5 (omega (arith, size)), (intro, word, text ++ unit, h.3, refl, h.5, size, kept_is)))
@@ -256,7 +256,7 @@ reason_told setup old new cause n more kept unit was count =
     let intro = h.0 in
     let word = h.1 in
     let text = h.2 in
-    let all : prefix ++ unit ≡ intro ++ (word ++ (text ++ unit)) = behind_intro prefix intro (word ++ text) unit h.4 ∙ ap (λ (ys : List ℕ). intro ++ ys) (append_assoc word text unit) in
+    let all : prefix ++ unit ≡ intro ++ (word ++ (text ++ unit)) = after_intro prefix intro (word ++ text) unit h.4 ∙ ap (λ (ys : List ℕ). intro ++ ys) (append_assoc word text unit) in
     let size : length (text ++ unit) ≡ n = rw (length-append text unit) (omega (arith, count, h.6)) in
     rw all (opened setup.max_places cause s intro (word ++ (text ++ unit)) h.3 ∙ reason_bad (λ k. fault_for cause k) n word (text ++ unit) h.5 size))
 
@@ -318,7 +318,7 @@ reason_kept SecurityFailed n old new unit h = h
 pub none_kept : (old new : ViewerHello) (cause : Cause) (part : ArrayVec ℕ) (unit whole : List ℕ) → old.progress ≡ ReasonLength cause part → whole ≡ part.items ++ unit → IsWord 0 whole → reason_in new.progress ≡ no_text → KeepsReason (fault_for cause 0) old unit new
 none_kept old new cause part unit whole was is word none =
     reason_kept cause 0 old new unit (λ setup. asks_step (IsReasonKept setup.text_limit cause 0 (reason_in new.progress)) setup old (ReasonLength cause part) unit was (λ s prefix h.
-    let all : prefix ++ unit ≡ h.0 ++ (whole ++ []) = behind_intro prefix h.0 part.items unit h.2 ∙ ap (λ (ys : List ℕ). h.0 ++ ys) (sym is ∙ sym (append-nil whole)) in
+    let all : prefix ++ unit ≡ h.0 ++ (whole ++ []) = after_intro prefix h.0 part.items unit h.2 ∙ ap (λ (ys : List ℕ). h.0 ++ ys) (sym is ∙ sym (append-nil whole)) in
     (h.0, whole, [], all, h.1, word, refl, none ∙ sym (kept_none setup.text_limit))))
 
 -- the last bytes of a reason
@@ -328,7 +328,7 @@ text_kept old new cause n more kept unit was count is =
     let intro = h.0 in
     let word = h.1 in
     let text = h.2 in
-    let all : prefix ++ unit ≡ intro ++ (word ++ (text ++ unit)) = behind_intro prefix intro (word ++ text) unit h.4 ∙ ap (λ (ys : List ℕ). intro ++ ys) (append_assoc word text unit) in
+    let all : prefix ++ unit ≡ intro ++ (word ++ (text ++ unit)) = after_intro prefix intro (word ++ text) unit h.4 ∙ ap (λ (ys : List ℕ). intro ++ ys) (append_assoc word text unit) in
     let size : length (text ++ unit) ≡ n = rw (length-append text unit) (omega (arith, count, h.6)) in
     let kept_is : reason_in new.progress ≡ kept_of setup.text_limit n (text ++ unit) = is ∙ rw h.7 (ap (λ (ys : List ℕ). record { room = min n setup.text_limit; bytes = ys }) (kept_on setup.text_limit n text unit (omega (arith, size)))) in
     (intro, word, text ++ unit, all, h.3, h.5, size, kept_is)))

@@ -11,7 +11,7 @@ use Rattle.rfb_hello.specs.declared.fault.HelloFault.TheVariants.{NoneNotOffered
 use Rattle.rfb_hello.specs.declared.viewer_hello.progress.Cause.{Cause}
 use Rattle.rfb_hello.specs.declared.viewer_hello.progress.Cause.TheVariants.{Refused, SecurityFailed}
 use Rattle.rfb_hello.specs.ServerHandshake.{ServerPoint, AwaitsSecurity, AwaitsResult, ServerItem, SecurityTypes, IsWord, has_none}
-use Rattle.rfb_hello.specs.ServerReading.{reason, behind_word, behind_count, behind_result, security, server_item}
+use Rattle.rfb_hello.specs.ServerReading.{reason, after_word, after_count, after_result, security, server_item}
 use Rattle.rfb_hello.specs.ViewerEnd.{OpensReason}
 use Rattle.rfb_hello.specs.inside.ViewerPiece.{fault_for}
 
@@ -43,42 +43,42 @@ piece_whole n bytes size = subst (λ (ys : List ℕ). piece {F = HelloFault} n y
 pub reason_bad : (fault : ℕ → HelloFault) (n : ℕ) (word text : List ℕ) → IsWord n word → length text ≡ n → reason fault (word ++ text) ≡ Bad (fault n)
 reason_bad fault n word text is size = reason_at fault n word text is ∙ rw (piece_whole n text size) refl
 
-result_fails : (word : ℕ) (tail : List ℕ) → word ≢ 0 → behind_result word tail ≡ reason (λ n. fault_for SecurityFailed n) tail
+result_fails : (word : ℕ) (tail : List ℕ) → word ≢ 0 → after_result word tail ≡ reason (λ n. fault_for SecurityFailed n) tail
 result_fails zero tail not = absurd (not refl)
 result_fails (suc word) tail not = refl
 
 -- after the bytes that stand before a reason
 pub opened : (max : ℕ) (cause : Cause) (point : ServerPoint) (intro tail : List ℕ) → OpensReason cause point intro → server_item max point (intro ++ tail) ≡ reason (λ n. fault_for cause n) tail
-opened max Refused (AwaitsSecurity V33) intro tail h = valued_got 4 (λ bytes. u32_at 0 bytes) behind_word intro tail h.0 ∙ ap (λ (k : ℕ). behind_word k tail) h.1
-opened max Refused (AwaitsSecurity V37) intro tail h = valued_got 1 (λ bytes. u8_at 0 bytes) behind_count intro tail (ap length h) ∙ ap (λ (xs : List ℕ). behind_count (u8_at 0 xs) tail) h
-opened max Refused (AwaitsSecurity V38) intro tail h = valued_got 1 (λ bytes. u8_at 0 bytes) behind_count intro tail (ap length h) ∙ ap (λ (xs : List ℕ). behind_count (u8_at 0 xs) tail) h
+opened max Refused (AwaitsSecurity V33) intro tail h = valued_got 4 (λ bytes. u32_at 0 bytes) after_word intro tail h.0 ∙ ap (λ (k : ℕ). after_word k tail) h.1
+opened max Refused (AwaitsSecurity V37) intro tail h = valued_got 1 (λ bytes. u8_at 0 bytes) after_count intro tail (ap length h) ∙ ap (λ (xs : List ℕ). after_count (u8_at 0 xs) tail) h
+opened max Refused (AwaitsSecurity V38) intro tail h = valued_got 1 (λ bytes. u8_at 0 bytes) after_count intro tail (ap length h) ∙ ap (λ (xs : List ℕ). after_count (u8_at 0 xs) tail) h
 opened max SecurityFailed (AwaitsResult version) intro tail h =
-    valued_got 4 (λ bytes. u32_at 0 bytes) behind_result intro tail h.2.0 ∙ ap (λ (k : ℕ). behind_result k tail) h.2.1 ∙ result_fails h.0 tail h.1
+    valued_got 4 (λ bytes. u32_at 0 bytes) after_result intro tail h.2.0 ∙ ap (λ (k : ℕ). after_result k tail) h.2.1 ∙ result_fails h.0 tail h.1
 opened max cause point intro tail h = absurd h
 
 -- ---- security types
 
-pub types_next : (version : Version) (n : ℕ) (seen : List ℕ) → version ≢ V33 → security version (n ∷ seen) ≡ behind_count n seen
+pub types_next : (version : Version) (n : ℕ) (seen : List ℕ) → version ≢ V33 → security version (n ∷ seen) ≡ after_count n seen
 types_next V33 n seen not = absurd (not refl)
-types_next V37 n seen not = valued_got 1 (λ bytes. u8_at 0 bytes) behind_count (n ∷ []) seen refl
-types_next V38 n seen not = valued_got 1 (λ bytes. u8_at 0 bytes) behind_count (n ∷ []) seen refl
+types_next V37 n seen not = valued_got 1 (λ bytes. u8_at 0 bytes) after_count (n ∷ []) seen refl
+types_next V38 n seen not = valued_got 1 (λ bytes. u8_at 0 bytes) after_count (n ∷ []) seen refl
 
-pub types_more : (n : ℕ) (types : List ℕ) → length types < n → behind_count n types ≡ More
+pub types_more : (n : ℕ) (types : List ℕ) → length types < n → after_count n types ≡ More
 types_more zero types few = absurd (omega (arith, few))
 types_more (suc n) types few = rw (piece_short {F = HelloFault} (suc n) types few) refl
 
-pub types_good : (n : ℕ) (types : List ℕ) → length types ≡ n → 0 < n → has_none types ≡ true → behind_count n types ≡ Got (SecurityTypes types) []
+pub types_good : (n : ℕ) (types : List ℕ) → length types ≡ n → 0 < n → has_none types ≡ true → after_count n types ≡ Got (SecurityTypes types) []
 types_good zero types size some has = absurd (omega (arith, some))
 types_good (suc n) types size some has = rw (piece_whole (suc n) types size, has) refl
 
-pub types_bad : (n : ℕ) (types : List ℕ) → length types ≡ n → 0 < n → has_none types ≡ false → behind_count n types ≡ Bad NoneNotOffered
+pub types_bad : (n : ℕ) (types : List ℕ) → length types ≡ n → 0 < n → has_none types ≡ false → after_count n types ≡ Bad NoneNotOffered
 types_bad zero types size some has = absurd (omega (arith, some))
 types_bad (suc n) types size some has = rw (piece_whole (suc n) types size, has) refl
 
-either_behind : (b m n k : Bool) → k ≡ (m || n) → (b || k) ≡ ((b || m) || n)
-either_behind true m n k e = refl
-either_behind false m n k e = e
+either_after : (b m n k : Bool) → k ≡ (m || n) → (b || k) ≡ ((b || m) || n)
+either_after true m n k e = refl
+either_after false m n k e = e
 
-pub none_behind : (xs ys : List ℕ) → has_none (xs ++ ys) ≡ (has_none xs || has_none ys)
-none_behind [] ys = refl
-none_behind (x ∷ xs) ys = either_behind (x == 1) (has_none xs) (has_none ys) (has_none (xs ++ ys)) (none_behind xs ys)
+pub none_after : (xs ys : List ℕ) → has_none (xs ++ ys) ≡ (has_none xs || has_none ys)
+none_after [] ys = refl
+none_after (x ∷ xs) ys = either_after (x == 1) (has_none xs) (has_none ys) (has_none (xs ++ ys)) (none_after xs ys)

@@ -56,14 +56,14 @@ client_item_says offer point =
     record { item = SpellsClientItem offer point; fault = FaultsClientItem offer point }
 
 -- the point after a version: 3.3 leaves no choice
-abbrev pub behind_version : Version → ClientPoint
-behind_version V33 = AwaitsInit V33
-behind_version V37 = AwaitsChoice V37
-behind_version V38 = AwaitsChoice V38
+abbrev pub after_version : Version → ClientPoint
+after_version V33 = AwaitsInit V33
+after_version V37 = AwaitsChoice V37
+after_version V38 = AwaitsChoice V38
 
 -- the point after a step
 abbrev pub past_client_item : ClientPoint → ClientItem → ClientPoint
-past_client_item AwaitsVersion (ProtocolVersion version) = behind_version version
+past_client_item AwaitsVersion (ProtocolVersion version) = after_version version
 past_client_item (AwaitsChoice version) SecurityType = AwaitsInit version
 past_client_item (AwaitsInit version) (ClientInit shared) = Begun version shared
 past_client_item point step = point

@@ -42,16 +42,16 @@ result_turn = FromServer (SecurityResult ∷ []) (0 ∷ 0 ∷ 0 ∷ 0 ∷ [])
 -- after the versions. Under 3.3 the server decides the type, by a word, and ClientInit follows.
 -- Under 3.7 the viewer chooses, and sends ClientInit at once, since no SecurityResult comes for
 -- None. Under 3.8 it waits for that
-abbrev pub turns_behind_versions : Version → Bool → ServerSetup → List Turn
-turns_behind_versions V33 shared setup =
+abbrev pub turns_after_versions : Version → Bool → ServerSetup → List Turn
+turns_after_versions V33 shared setup =
     FromServer (SecurityNone ∷ []) (0 ∷ 0 ∷ 0 ∷ 1 ∷ [])
     ∷ client_init_turn shared
     ∷ server_init_turn setup ∷ []
-turns_behind_versions V37 shared setup =
+turns_after_versions V37 shared setup =
     types_turn
     ∷ FromViewer (SecurityType ∷ ClientInit shared ∷ []) (1 ∷ shared_flag shared ∷ [])
     ∷ server_init_turn setup ∷ []
-turns_behind_versions V38 shared setup =
+turns_after_versions V38 shared setup =
     types_turn
     ∷ FromViewer (SecurityType ∷ []) (1 ∷ [])
     ∷ result_turn
@@ -69,7 +69,7 @@ conversation server viewer =
     FromServer (ServerVersion server.offer ∷ []) (version_text server.offer)
     ∷ FromViewer (ClientVersion (version_used server viewer) ∷ [])
     (version_text (version_used server viewer))
-    ∷ turns_behind_versions (version_used server viewer) viewer.shared server
+    ∷ turns_after_versions (version_used server viewer) viewer.shared server
 
 -- ---- that two ends speak it
 

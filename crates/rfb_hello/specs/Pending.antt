@@ -3,7 +3,7 @@
 -- SecurityResult, the length of a reason and each byte of it, ServerInit up to the name and each
 -- byte of that; a client's are its version's text, its choice and ClientInit.
 use Rattle.std.specs.Prelude.{ℕ, zero, suc, List, [], ◌∷◌}
-use Rattle.rfb_wire.specs.stream.Pending.{in_pieces, behind_piece}
+use Rattle.rfb_wire.specs.stream.Pending.{in_pieces, after_piece}
 use Rattle.rfb_hello.specs.declared.version.Version.{Version}
 use Rattle.rfb_hello.specs.declared.version.Version.TheVariants.{V33, V37, V38}
 use Rattle.rfb_hello.specs.ClientHandshake.{ClientPoint, AwaitsVersion as AwaitsClientVersion, AwaitsChoice, AwaitsInit as AwaitsClientInit, Begun as ClientBegun}
@@ -18,7 +18,7 @@ client_handshake_pending (ClientBegun version shared) bytes = 0
 
 -- of a reason: its length, and each byte
 abbrev pub reason_pending : List ℕ → ℕ
-reason_pending bytes = behind_piece 4 (in_pieces 1) bytes
+reason_pending bytes = after_piece 4 (in_pieces 1) bytes
 
 -- of a list of security types: its count, and each type, or after a count of none a reason
 abbrev pub types_pending : List ℕ → ℕ
@@ -28,7 +28,7 @@ types_pending (suc n ∷ rest) = in_pieces 1 rest
 
 -- of the security types: under 3.3 a word, and after one that refuses a reason
 abbrev pub security_pending : Version → List ℕ → ℕ
-security_pending V33 bytes = behind_piece 4 reason_pending bytes
+security_pending V33 bytes = after_piece 4 reason_pending bytes
 security_pending V37 bytes = types_pending bytes
 security_pending V38 bytes = types_pending bytes
 
@@ -36,7 +36,7 @@ security_pending V38 bytes = types_pending bytes
 abbrev pub server_handshake_pending : ServerPoint → List ℕ → ℕ
 server_handshake_pending AwaitsVersion bytes = in_pieces 12 bytes
 server_handshake_pending (AwaitsSecurity version) bytes = security_pending version bytes
-server_handshake_pending (AwaitsResult version) bytes = behind_piece 4 reason_pending bytes
+server_handshake_pending (AwaitsResult version) bytes = after_piece 4 reason_pending bytes
 server_handshake_pending (AwaitsInit version) bytes = in_pieces 24 bytes
 server_handshake_pending (AwaitsName version width height name_length) bytes = in_pieces 1 bytes
 server_handshake_pending (Begun version width height) bytes = 0

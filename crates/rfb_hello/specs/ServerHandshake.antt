@@ -97,7 +97,7 @@ SpellsServerItem max_places (AwaitsName version width height name_length) (Name 
     (bytes ≡ text) × (length text ≡ name_length) × (0 < name_length)
 SpellsServerItem max_places point step bytes = ⊥
 
--- types without None, told at the last of them
+-- types without None, reported at the last of them
 abbrev pub IsWithoutNone : List ℕ → Type 0
 IsWithoutNone bytes = (types : List ℕ) × IsTypes types bytes × (has_none types ≡ false)
 
@@ -137,25 +137,25 @@ server_item_says max_places point =
     record { item = SpellsServerItem max_places point; fault = FaultsServerItem max_places point }
 
 -- the point after the security types
-abbrev pub behind_types : Version → ServerPoint
-behind_types V33 = AwaitsInit V33
-behind_types V37 = AwaitsInit V37
-behind_types V38 = AwaitsResult V38
+abbrev pub after_types : Version → ServerPoint
+after_types V33 = AwaitsInit V33
+after_types V37 = AwaitsInit V37
+after_types V38 = AwaitsResult V38
 
 -- the point after ServerInit: a name without bytes is not waited for
-abbrev pub behind_init : Version → ℕ → ℕ → ℕ → ServerPoint
-behind_init version width height zero = Begun version width height
-behind_init version width height (suc n) = AwaitsName version width height (suc n)
+abbrev pub after_init : Version → ℕ → ℕ → ℕ → ServerPoint
+after_init version width height zero = Begun version width height
+after_init version width height (suc n) = AwaitsName version width height (suc n)
 
 -- the point after a step, where the viewer goes up to a version
 abbrev pub past_server_item : Version → ServerPoint → ServerItem → ServerPoint
 past_server_item limit AwaitsVersion (ProtocolVersion version) =
     AwaitsSecurity (lower limit version)
-past_server_item limit (AwaitsSecurity version) SecurityNone = behind_types version
-past_server_item limit (AwaitsSecurity version) (SecurityTypes types) = behind_types version
+past_server_item limit (AwaitsSecurity version) SecurityNone = after_types version
+past_server_item limit (AwaitsSecurity version) (SecurityTypes types) = after_types version
 past_server_item limit (AwaitsResult version) SecurityResult = AwaitsInit version
 past_server_item limit (AwaitsInit version) (ServerInit width height name_length) =
-    behind_init version width height name_length
+    after_init version width height name_length
 past_server_item limit (AwaitsName version width height name_length) (Name text) =
     Begun version width height
 past_server_item limit point step = point

@@ -5,7 +5,7 @@ use Rattle.rfb_hello.specs.declared.server_hello.progress.Progress.{Progress}
 use Rattle.rfb_hello.specs.declared.server_hello.progress.Progress.TheVariants.{Version as VersionPart, Choice, Init, Done, Failed}
 use Rattle.rfb_hello.specs.ClientHandshake.{ClientPoint, AwaitsVersion, AwaitsChoice, AwaitsInit, Begun}
 
--- so much progress stands for that point and that prefix; one that has failed stands for none
+-- this progress stands for that point and that prefix; one that has failed stands for none
 abbrev pub ProgressStandsFor : Progress → ClientPoint → List ℕ → Type 0
 ProgressStandsFor (VersionPart text) point prefix =
     (point ≡ AwaitsVersion) × (prefix ≡ text.items) × (length text.items < 12)

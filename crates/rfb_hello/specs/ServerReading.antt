@@ -17,25 +17,25 @@ reason fault =
     and_then (valued 4 (λ bytes. u32_at 0 bytes)) (λ n. and_then (piece n) (λ _. refused (fault n)))
 
 -- after the word that 3.3 has for a security type
-abbrev pub behind_word : ℕ → Reading ServerItem HelloFault
-behind_word zero = reason (λ n. Refused n)
-behind_word (suc zero) = done SecurityNone
-behind_word (suc (suc zero)) = refused NoneNotOffered
-behind_word (suc (suc (suc word))) = refused BadSecurityWord
+abbrev pub after_word : ℕ → Reading ServerItem HelloFault
+after_word zero = reason (λ n. Refused n)
+after_word (suc zero) = done SecurityNone
+after_word (suc (suc zero)) = refused NoneNotOffered
+after_word (suc (suc (suc word))) = refused BadSecurityWord
 
 -- the fault of a list of types, if it has one
 abbrev pub types_fault : List ℕ → Option HelloFault
 types_fault types = if has_none types then None else Some NoneNotOffered
 
 -- after the count of the types
-abbrev pub behind_count : ℕ → Reading ServerItem HelloFault
-behind_count zero = reason (λ n. Refused n)
-behind_count (suc n) = checked (suc n) types_fault (λ types. SecurityTypes types)
+abbrev pub after_count : ℕ → Reading ServerItem HelloFault
+after_count zero = reason (λ n. Refused n)
+after_count (suc n) = checked (suc n) types_fault (λ types. SecurityTypes types)
 
 -- after the word of SecurityResult
-abbrev pub behind_result : ℕ → Reading ServerItem HelloFault
-behind_result zero = done SecurityResult
-behind_result (suc word) = reason (λ n. SecurityFailed n)
+abbrev pub after_result : ℕ → Reading ServerItem HelloFault
+after_result zero = done SecurityResult
+after_result (suc word) = reason (λ n. SecurityFailed n)
 
 -- the fault of a screen, where at most that many places are admitted, if it has one
 abbrev pub screen_fault : ℕ → List ℕ → Option HelloFault
@@ -50,9 +50,9 @@ name (suc n) = valued (suc n) (λ text. Name text)
 
 -- the security types of a version
 abbrev pub security : Version → Reading ServerItem HelloFault
-security V33 = and_then (valued 4 (λ bytes. u32_at 0 bytes)) behind_word
-security V37 = and_then (valued 1 (λ bytes. u8_at 0 bytes)) behind_count
-security V38 = and_then (valued 1 (λ bytes. u8_at 0 bytes)) behind_count
+security V33 = and_then (valued 4 (λ bytes. u32_at 0 bytes)) after_word
+security V37 = and_then (valued 1 (λ bytes. u8_at 0 bytes)) after_count
+security V38 = and_then (valued 1 (λ bytes. u8_at 0 bytes)) after_count
 
 -- what is read at a point; after the name nothing is
 abbrev pub server_item : ℕ → ServerPoint → Reading ServerItem HelloFault
@@ -61,7 +61,7 @@ server_item max_places AwaitsVersion =
     (λ bytes. ProtocolVersion (version_of bytes))
 server_item max_places (AwaitsSecurity version) = security version
 server_item max_places (AwaitsResult version) =
-    and_then (valued 4 (λ bytes. u32_at 0 bytes)) behind_result
+    and_then (valued 4 (λ bytes. u32_at 0 bytes)) after_result
 server_item max_places (AwaitsInit version) =
     checked 24 (screen_fault max_places)
     (λ bytes. ServerInit (u16_at 0 bytes) (u16_at 2 bytes) (u32_at 20 bytes))

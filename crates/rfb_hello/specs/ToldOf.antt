@@ -16,7 +16,7 @@ pub record IsReadyAt (setup : ServerSetup) (point : ClientPoint) (item : ClientI
   pub at_point : point ≡ AwaitsClientInit version
   pub item_is : item ≡ ClientInit shared
   pub reply_is : reply ≡ as_reply (server_init_bytes setup)
-  pub behind : past_client_item point item ≡ ClientBegun version shared
+  pub after : past_client_item point item ≡ ClientBegun version shared
 
 -- the viewer's end tells a screen at the ServerInit that has its size, before a name that has bytes
 pub record IsScreenAt (setup : ViewerSetup) (point : ServerPoint) (item : ServerItem)
@@ -26,7 +26,7 @@ pub record IsScreenAt (setup : ViewerSetup) (point : ServerPoint) (item : Server
   pub at_point : point ≡ AwaitsInit version
   pub item_is : item ≡ ServerInit width height name_length
   pub named : 0 < name_length
-  pub behind : past_server_item setup.limit point item ≡ AwaitsName version width height name_length
+  pub after : past_server_item setup.limit point item ≡ AwaitsName version width height name_length
 
 -- it is ready at a ServerInit before a name without bytes
 pub record IsReadyUnnamed (point : ServerPoint) (item : ServerItem) (width height : ℕ)
@@ -49,4 +49,4 @@ pub record IsViewerReadyAt (setup : ViewerSetup) (point : ServerPoint) (item : S
     (width height : ℕ) (version : Version) (name : KeptText) (name_length : ℕ) : Type 0 where
   pub told_at : IsReadyUnnamed point item width height version name name_length
       ⊎ IsReadyNamed setup point item width height version name name_length
-  pub behind : past_server_item setup.limit point item ≡ Begun version width height
+  pub after : past_server_item setup.limit point item ≡ Begun version width height

@@ -9,8 +9,8 @@ use Rattle.rfb_hello.specs.KeptText.{KeptText, no_text, kept_of}
 use Rattle.rfb_hello.specs.ServerHandshake.{ServerPoint, AwaitsVersion, AwaitsSecurity, AwaitsResult, AwaitsInit, AwaitsName, Begun, IsWord, has_none}
 use Rattle.rfb_hello.specs.ViewerEnd.{OpensReason}
 
--- under a limit of texts, so much progress stands for that point and that prefix; one that has
--- failed stands for none
+-- under a limit of texts, this progress stands for that point and that prefix; one that has failed
+-- stands for none
 abbrev pub ProgressStandsFor : ℕ → Progress → ServerPoint → List ℕ → Type 0
 ProgressStandsFor limit (VersionPart part) point prefix =
     (point ≡ AwaitsVersion) × (prefix ≡ part.items) × (length part.items < 12)

@@ -38,12 +38,12 @@ fault_of hello = fault_in hello.progress
 abbrev pub is_open : ViewerHello → Bool
 is_open hello = goes_on hello.progress
 
--- the handshake goes on after what was told: `Ready` is the last
-abbrev pub goes_on_behind : Option ViewerStep → Bool
-goes_on_behind None = true
-goes_on_behind (Some (Reply reply)) = true
-goes_on_behind (Some (Screen width height)) = true
-goes_on_behind (Some (Ready width height version name name_length)) = false
+-- the handshake goes on after this event: `Ready` is the last
+abbrev pub goes_on_after : Option ViewerStep → Bool
+goes_on_after None = true
+goes_on_after (Some (Reply reply)) = true
+goes_on_after (Some (Screen width height)) = true
+goes_on_after (Some (Ready width height version name name_length)) = false
 
 -- what is kept of the reason that it has failed for; without one nothing
 abbrev pub reason_of : ViewerHello → KeptText

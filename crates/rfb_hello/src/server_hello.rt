@@ -16,7 +16,7 @@ mod progress;
 use crate::fault::HelloFault;
 use crate::fed::Fed;
 use crate::pieces::{SECURITY_NONE, reply_of};
-use crate::server_hello::answers::{behind_version, offered, security};
+use crate::server_hello::answers::{after_version, offered, security};
 use crate::server_hello::progress::Progress;
 use crate::step::{MAX_REPLY, ServerStep};
 use crate::version::{VERSION_PART, VERSION_SIZE, Version};
@@ -170,7 +170,7 @@ impl ServerHello {
         };
         match offered(self.offer, whole.as_slice()) {
             Ok(version) => {
-                self.progress = behind_version(version);
+                self.progress = after_version(version);
                 Ok((used, Some(ServerStep::Reply(security(version)))))
             }
             Err(fault) => Err(self.fail(fault)),

@@ -6,7 +6,7 @@ ghost use Rattle.rfb_hello.specs.KeptText.{no_text};
 ghost use Rattle.rfb_hello.specs.ServerHandshake.{AwaitsVersion, ServerPoint};
 ghost use Rattle.rfb_hello.specs.Pending.{server_handshake_pending};
 ghost use Rattle.rfb_hello.specs.ViewerEnd.{ViewerSetup, viewer_end, AsksMemory};
-ghost use Rattle.rfb_hello.specs.ViewerStanding.{KeepsReason, StandsFor, fault_of, goes_on_behind, is_open, reason_of, setup_of};
+ghost use Rattle.rfb_hello.specs.ViewerStanding.{KeepsReason, StandsFor, fault_of, goes_on_after, is_open, reason_of, setup_of};
 ghost use Rattle.rfb_hello.specs.inside.ViewerPiece.{TakesPiece};
 ghost use Rattle.rfb_hello.specs.declared.fault.HelloFault.TheVariants.{NoMemory};
 ghost use Rattle.rfb_hello.specs.declared.viewer_hello.progress.Progress.{Progress};
@@ -82,7 +82,7 @@ impl ViewerHello {
             → FedBy (viewer_end setup) (StandsFor setup)
             self.old (take fed.used bytes.now) fed.event self.new) }
         ensures ready { IfOk result (λ fed. is_open self.old ≡ true
-            → is_open self.new ≡ goes_on_behind fed.event) }
+            → is_open self.new ≡ goes_on_after fed.event) }
         ensures setup { setup_of self.new ≡ setup_of self.old }
 
         // When a fault comes, when memory is wanting, and that it stays.

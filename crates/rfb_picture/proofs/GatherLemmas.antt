@@ -109,7 +109,7 @@ none_in_rows words across column mask from to bits each none = λ y i p l m.
     let gone : has_bit (bit_and bits mask) i ≡ false = rw (none, bit_at-zero i) refl in
     both_ways (has_bit (bit_and bits mask) i) gone there)
 
--- rows and the rows behind them that have none are rows that have none
+-- rows and the rows after them that have none are rows that have none
 pub no_marks_join : (q : ℕ → ℕ → Bool) (from middle to : ℕ) →
     NoMarks q from middle → NoMarks q middle to → NoMarks q from to
 no_marks_join q from middle to front rest = λ y i p l m.

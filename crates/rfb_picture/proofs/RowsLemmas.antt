@@ -6,7 +6,7 @@ use Rattle.rfb_picture.specs.Rect.{contains}
 use Rattle.rfb_picture.proofs.GridLemmas.{index_in_row, column_in_row, contains_true, contains_more, place_below, either, at_value}
 
 module _ {X : Type 0} where
-  -- what stands in the n-th of such rows is what stands so many rows on in the list
+  -- what stands in the n-th of such rows is what stands n rows on in the list
   row_read : (rows : List X) (n c i : ℕ) (d : X) → i < c →
       slice_index_or (take c (drop (n * c) rows)) i d ≡ slice_index_or rows (n * c + i) d
   row_read rows n c i d l =
@@ -37,7 +37,7 @@ module _ {X : Type 0} where
       let same : y - r.y ≡ n = omega arith in
       rw (h.0, cut, same) (row_read rows n r.w (x - r.x) d h.1))))
 
-  -- what is read lies in the list, so it does not matter what stands behind its end
+  -- what is read lies in the list, so it does not matter what stands after its end
   pub rows_read : (r : Rect) (rows : List X) (x y : ℕ) (now here d other : X) →
       length rows ≡ r.h * r.w →
       now ≡ (if contains r x y then slice_index_or rows ((y - r.y) * r.w + (x - r.x)) d else here) →

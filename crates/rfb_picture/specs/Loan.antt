@@ -5,7 +5,7 @@ use Rattle.rfb_picture.specs.Grid.{Grid, with_run}
 use Rattle.rfb_picture.specs.contracts.picture.Picture.{the_row}
 
 module _ (T : RattleType) (picture : MutBor (Grid T.Denot)) where
-  -- once the borrow ends, the picture has at (x, y) and on to the right what was last behind it;
+  -- once the borrow ends, the picture has at (x, y) and on to the right what the borrow had last;
   -- that is with_row where it still fits its row, as a slice, which keeps its length, does
   abbrev pub LendsRow : ℕ → ℕ → MutBor (List T.Denot) → Fml
   LendsRow x y lent =

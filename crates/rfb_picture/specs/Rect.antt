@@ -16,8 +16,8 @@ moved_by x y r = rect (x + r.x) (y + r.y) r.w r.h
 
 -- ---- a scroll: all that lies in a rectangle moves, and what leaves the rectangle is lost
 
--- of `len` places from `start` on that move by so many: where the first that stays inside comes to
--- lie
+-- of `len` places from `start` on that move by a signed number: where the first that stays inside
+-- comes to lie
 abbrev pub start_after : ℕ → ℕ → ℤ → ℕ
 start_after start len (pos n) = start + min n len
 start_after start len (negsuc n) = start

@@ -152,7 +152,7 @@ impl<T: Copy> Picture<T> {
         put_places(&mut self.places, start, row);
     }
 
-    /// Writes `rows` over the rectangle: its rows from the top, one behind the other, each from the
+    /// Writes `rows` over the rectangle: its rows from the top, one after the other, each from the
     /// left. `rows` stays the caller's.
     pub fn put_rows(&mut self, rect: Rect, rows: &[T])
         requires held { Holds self.old rect }
@@ -217,7 +217,7 @@ fn fill_row<T: Copy>(row: &mut [T], value: T)
     }
 }
 
-// Writes `rows`, one behind the other, over the rectangle's, in rows of `width` places.
+// Writes `rows`, one after the other, over the rectangle's, in rows of `width` places.
 fn put_rows<T: Copy>(places: &mut [T], width: usize, rect: Rect, rows: &[T])
     requires columns { rect.x + rect.w ≤ width }
     requires rows { (rect.y + rect.h) * width ≤ length places.old }

@@ -17,7 +17,7 @@ pub use rgb888::{pack_eight_rgb888, unpack_eight_rgb888};
 /// How many pixels are taken at once.
 pub const LANES: usize = 8;
 
-// Writes the eight colours whose components stand one behind another.
+// Writes the eight colours whose components stand one after another.
 #[inline(always)]
 fn write_eight(x: [u16; 8], y: [u16; 8], z: [u16; 8], colours: &mut [Colour])
     requires { length colours.old ≡ 8 }

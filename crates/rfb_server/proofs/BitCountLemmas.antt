@@ -82,8 +82,8 @@ ones_between p y from to word small some cell told =
     ∙ ap (λ x. count_row q left y (from - left) + count_row q x y (to - from + (left + 64 - to))) first in
     let back = row_split q from y (to - from) (left + 64 - to) in
     let before : count_row q left y (from - left) ≡ 0 = row_clear q left y (from - left) (λ i l. outside from to (left + i) (p (left + i) y) (inl (omega arith))) in
-    let behind : count_row q (from + (to - from)) y (left + 64 - to) ≡ 0 =
+    let after : count_row q (from + (to - from)) y (left + 64 - to) ≡ 0 =
     row_clear q (from + (to - from)) y (left + 64 - to) (λ i l. outside from to (from + (to - from) + i) (p (from + (to - from) + i) y) (inr (omega arith))) in
     let middle : count_row q from y (to - from) ≡ count_row p from y (to - from) =
     row_same q p from y (to - from) (λ i l. inside from to (from + i) (p (from + i) y) (omega arith) (omega arith)) in
-    omega (arith, word_is, front, back, before, behind, middle)
+    omega (arith, word_is, front, back, before, after, middle)

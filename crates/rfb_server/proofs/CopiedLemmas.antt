@@ -81,7 +81,7 @@ marked_on screen old new hint about keeps marked = λ on x y c.
     let high : y < old.marks.height = omega (arith, e, on.1, about.alike.rows, old.alike.marks_high) in
     keeps x y wide high (marked on x y c)
 
--- what it is told of itself is the same
+-- what it knows of itself is the same
 pub state_same : (screen : Grid Colour) (old new : Session) → IsSame old new → state_of screen new ≡ state_of screen old
 state_same screen old new same = rw (same.known, same.area, same.format, same.encodings) refl
 
@@ -124,7 +124,7 @@ alike_copied known session to sx sy e =
       rows = rw (height-changed _ session.known) session.alike.rows;
     })
 
--- ---- copies one behind another
+-- ---- copies one after another
 
 -- a session that may use hints has a viewer that listed CopyRect
 pub listed_usable : (session : Session) (n : ℕ) → n < usable_hints session → is_listed CopyRect session.encodings ≡ true
@@ -146,7 +146,7 @@ some_hint session n l = by (is_listed CopyRect session.encodings) l
         ]
     by false less = absurd (omega arith)
 
--- the state behind copies
+-- the state after copies
 pub state_copied : (screen : Grid Colour) (first old : Session) → IsKept first old →
     state_of screen old ≡ record (state_of screen first) { known = old.known }
 state_copied screen first old kept = rw (kept.area, kept.format, kept.encodings) refl
@@ -166,14 +166,14 @@ module _ (screen : Grid Colour) (first old new : Session) (start before after : 
     (about : Follows screen first) (kept : IsKept first old) (listed : is_listed CopyRect first.encodings ≡ true)
     (this : slice_get first.hints.items n ≡ Some hint) (marked : IsMarkedFor screen first hint)
     (copies : AppendsCopies screen n first old start before count) where
-  -- the state behind the copies so far
-  behind : all_moved copies.moves (state_of screen first) ≡ state_of screen old
-  behind = copies.taken.moved_is ∙ sym (state_copied screen first old kept)
+  -- the state after the copies so far
+  moved_here : all_moved copies.moves (state_of screen first) ≡ state_of screen old
+  moved_here = copies.taken.moved_is ∙ sym (state_copied screen first old kept)
 
   -- where the hint copies to is marked, so of use it is where it is useful
   of_no_use : (IsUseful screen old hint → ⊥) → IsOfUse (all_moved copies.moves (state_of screen first)) (move_of hint) → ⊥
   of_no_use never good =
-      let now : IsOfUse (state_of screen old) (move_of hint) = subst (λ (t : ServerState). IsOfUse t (move_of hint)) behind good in
+      let now : IsOfUse (state_of screen old) (move_of hint) = subst (λ (t : ServerState). IsOfUse t (move_of hint)) moved_here good in
       never (record {
         gain = now.gain;
         free = record { asked = now.asked; not_whole = now.not_whole; marked = λ x y c. rw (kept.marks) (marked now.gain.on_screen x y c) };
@@ -181,7 +181,7 @@ module _ (screen : Grid Colour) (first old new : Session) (start before after : 
 
   of_use : IsUseful screen old hint → IsOfUse (all_moved copies.moves (state_of screen first)) (move_of hint)
   of_use useful =
-      subst (λ (t : ServerState). IsOfUse t (move_of hint)) (sym behind)
+      subst (λ (t : ServerState). IsOfUse t (move_of hint)) (sym moved_here)
       (record { gain = useful.gain; asked = useful.free.asked; not_whole = useful.free.not_whole })
 
   pub copies_go_on : (did : Bool) → SendsHint did screen hint old new before after →

@@ -76,19 +76,19 @@ module _ (s : ServerState) (move : Move) (sound : IsGrid s.known) (target : Hold
       let row : move.to.y + (y - move.to.y) ≡ y = omega arith in
       rw (column, row) refl
 
-  right_behind : (x y : ℕ) → contains move.to x y ≡ true → is_right_from s.screen s.known s.form move.to move.sx move.sy x y ≡ is_right (moved move s) x y
-  right_behind x y c =
+  right_after : (x y : ℕ) → contains move.to x y ≡ true → is_right_from s.screen s.known s.form move.to move.sx move.sy x y ≡ is_right (moved move s) x y
+  right_after x y c =
       let (a, b, d, e) = contains_true move.to x y c in
       let there = at-copied move.to move.sx move.sy s.known x y None sound source (omega (arith, target)) (omega (arith, target)) in
       ap (λ (old : Option ℕ). not (differs (wanted s x y) old)) (sym (there ∙ (rw c refl)))
 
-  -- more places are right behind it if more would be
+  -- more places are right after it if more would be
   pub gain_is : count_in (is_right_from s.screen s.known s.form move.to move.to.x move.to.y) move.to < count_in (is_right_from s.screen s.known s.form move.to move.sx move.sy) move.to →
       count_in (is_right s) move.to < count_in (is_right (moved move s)) move.to
   gain_is more =
       rw (
         ← same_in (is_right_from s.screen s.known s.form move.to move.to.x move.to.y) (is_right s) move.to right_before,
-        ← same_in (is_right_from s.screen s.known s.form move.to move.sx move.sy) (is_right (moved move s)) move.to right_behind,
+        ← same_in (is_right_from s.screen s.known s.form move.to move.sx move.sy) (is_right (moved move s)) move.to right_after,
       ) more
 
   -- and only if
@@ -97,5 +97,5 @@ module _ (s : ServerState) (move : Move) (sound : IsGrid s.known) (target : Hold
   gain_only more =
       rw (
         same_in (is_right_from s.screen s.known s.form move.to move.to.x move.to.y) (is_right s) move.to right_before,
-        same_in (is_right_from s.screen s.known s.form move.to move.sx move.sy) (is_right (moved move s)) move.to right_behind,
+        same_in (is_right_from s.screen s.known s.form move.to move.sx move.sy) (is_right (moved move s)) move.to right_after,
       ) more

@@ -58,7 +58,7 @@ in_text : (serving : Serving) (screen : Grid Colour) (session : Session) (n left
 in_text serving screen session n left kept s prefix was now =
     at_text serving session.hello n left kept s.point prefix (here serving screen session (CutTextPart n left kept) s prefix was now)
 
--- what is kept of the text with the unit behind it
+-- what is kept of the text with the unit after it
 kept_now : (limit n : ℕ) (kept now : KeptText) (text unit : List ℕ) → kept.room ≡ min n limit → kept.bytes ≡ take limit text →
     length (text ++ unit) ≤ n → now ≡ record kept { bytes = take kept.room (kept.bytes ++ unit) } → now.bytes ≡ take limit (text ++ unit)
 kept_now limit n kept now text unit room bytes within is =

@@ -128,10 +128,10 @@ pub record IsActed (s : ServerState) (m : ClientMessage) (new : Session) : Type 
   pub form : (message_acts s m).form ≡ new.format
   pub encodings : (message_acts s m).encodings ≡ new.encodings
 
-stands_behind : (serving : Serving) (screen : Grid Colour) (old new : Session) (s : ServerState) (prefix : List ℕ) (m : ClientMessage) →
+stands_after : (serving : Serving) (screen : Grid Colour) (old new : Session) (s : ServerState) (prefix : List ℕ) (m : ClientMessage) →
     SessionStandsFor serving screen old s prefix → s.point ≡ Second tt → KeepsUp old new → new.progress ≡ Head (as_reply []) →
     IsActed s m new → SessionStandsFor serving screen new (serves serving s (Second m)) []
-stands_behind serving screen old new s prefix m now at up is acted = record {
+stands_after serving screen old new s prefix m now at up is acted = record {
   setup_is = up.setup ∙ now.setup_is;
   limit_is = up.text_limit ∙ now.limit_is;
   progress_is = rw (at, is) (refl, tt);
@@ -180,7 +180,7 @@ pub steps_told : (serving : Serving) (screen : Grid Colour) (old new : Session) 
 steps_told serving screen old new unit told up is step =
     steps_got serving screen old new unit told (λ s prefix now.
     let h = step s prefix now in
-    (h.0, h.1, h.2, h.3, stands_behind serving screen old new s prefix h.0 now h.1 up is h.4))
+    (h.0, h.1, h.2, h.3, stands_after serving screen old new s prefix h.0 now h.1 up is h.4))
 
 pub steps_bad : (serving : Serving) (screen : Grid Colour) (old new : Session) (unit : List ℕ) (fault : ClientFault) →
     ((s : ServerState) (prefix : List ℕ) → SessionStandsFor serving screen old s prefix → (s.point ≡ Second tt) × FaultsClientMessage fault (prefix ++ unit)) →

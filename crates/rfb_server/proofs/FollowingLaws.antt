@@ -1,4 +1,5 @@
--- A session that was told where its screen is drawn on follows the screen that a drawing leaves.
+-- A session that was notified where its screen is drawn on follows the screen that a drawing
+-- leaves.
 use Rattle.std.proofs.Common.{◌≡◌, ℕ, false, sym, subst, ◌∙◌}
 use Rattle.rfb_pixel.specs.declared.colour.Colour.{Colour}
 use Rattle.rfb_picture.specs.declared.rect.Rect.{Rect}
@@ -20,7 +21,7 @@ outside_changed rect f picture whole stays =
       same = λ x y p q e. at-changed f picture x y black whole p q ∙ stays x y (at_or picture x y black) e;
     }
 
--- what was told of every change inside the rectangle holds of this one
+-- what holds of every change inside the rectangle holds of this one
 pub follows_changed : (old new : Session) (screen after : Grid Colour) (rect : Rect) (f : ℕ → ℕ → Colour → Colour) →
     Follows screen old →
     ((before later : Grid Colour) → Follows before old → IsGrid later → IsSameOutside rect before later → Follows later new) →

@@ -27,21 +27,21 @@ use Rattle.rfb_server.specs.Fault.{fault_of_hello}
 use Rattle.rfb_server.specs.ClientBytes.{ClientAt, to_messages, client_two, client_bytes}
 use Rattle.rfb_server.specs.Told.{step_told}
 use Rattle.rfb_server.specs.Server.{Serving, ServerState, server, serves}
-use Rattle.rfb_server.specs.Progress.{ProgressStandsFor, is_partial, progress_behind}
+use Rattle.rfb_server.specs.Progress.{ProgressStandsFor, is_partial, progress_after}
 use Rattle.rfb_server.specs.Standing.{SessionStandsFor}
 use Rattle.rfb_server.specs.inside.Sessions.{IsGreeted}
 use Rattle.rfb_server.proofs.ServerLaws.{client_bytes_laws}
 
 -- ---- points of the handshake
 
--- the point lies behind the handshake
+-- the point lies after the handshake
 abbrev pub is_begun : ClientPoint → Bool
 is_begun AwaitsVersion = false
 is_begun (AwaitsChoice version) = false
 is_begun (AwaitsInit version) = false
 is_begun (Begun version shared) = true
 
--- an end whose bytes go on stands at a point of the handshake, and one whose bytes do not behind it
+-- an end whose bytes go on stands at a point of the handshake, and one whose bytes do not after it
 open_is : (progress : HelloProgress) (point : ClientPoint) (prefix : List ℕ) → HelloProgressStandsFor progress point prefix →
     (goes_on progress ≡ true → is_begun point ≡ false) × (goes_on progress ≡ false → (is_begun point ≡ true) × (prefix ≡ []))
 open_is (VersionPart text) point prefix h = ((λ e. ap is_begun h.0), (λ e. absurd cc))
@@ -50,7 +50,7 @@ open_is (Init version) point prefix h = ((λ e. ap is_begun h.0), (λ e. absurd 
 open_is (Done version shared) point prefix h = ((λ e. absurd cc), (λ e. (ap is_begun h.0, h.1)))
 open_is (Failed fault) point prefix h = absurd h
 
--- an item that is not told of does not lead over
+-- an item without an event does not lead over
 over_told : (setup : ServerSetup) (p : ClientPoint) (i : ClientItem) → handshake_tells setup p i ≡ None → to_messages p i ≡ None
 over_told setup AwaitsVersion (ProtocolVersion version) e = refl
 over_told setup AwaitsVersion SecurityType e = refl
@@ -65,7 +65,7 @@ over_told setup (Begun version flag) (ProtocolVersion other) e = refl
 over_told setup (Begun version flag) SecurityType e = refl
 over_told setup (Begun version flag) (ClientInit shared) e = refl
 
--- where a session stands behind items of the handshake
+-- where a session stands after items of the handshake
 abbrev Landed : ClientAt → ClientPoint → Type 0
 Landed at p = (is_begun p ≡ false → at ≡ First p) × (is_begun p ≡ true → at ≡ Second tt)
 
@@ -108,7 +108,7 @@ step_open (Begun version flag) i still e = absurd cc
 
 -- ---- items of the handshake, as a session's
 
--- behind an item that is not told of it stands at the next point of the handshake
+-- after an item without an event it stands at the next point of the handshake
 goes_first : (serving : Serving) (s : ServerState) (p : ClientPoint) (i : ClientItem) → s.point ≡ First p →
     handshake_tells serving.hello p i ≡ None → (serves serving s (First i)).point ≡ First (past_client_item p i)
 goes_first serving s p i e quiet = rw (e, over_told serving.hello p i quiet) refl
@@ -174,7 +174,7 @@ whole_told None rest h = tt
 whole_told (Some (Reply reply)) rest h = h
 whole_told (Some (Ready reply version shared)) rest h = h
 
--- what is told of the session's progress behind a call, by whether the handshake goes on
+-- the session's progress after a call, by whether the handshake goes on
 lands_open : (serving : Serving) (old new : Session) (at : ClientAt) (p : ClientPoint) (rest : List ℕ) (goes : Bool) →
     is_open new.hello ≡ goes → IsGreeted old new → Landed at p → HelloStandsFor serving.hello new.hello p rest →
     (client_handshake serving.hello.offer).next p rest ≡ More →
@@ -224,15 +224,15 @@ greets serving screen old new bytes told handshake greeted fed = λ s prefix now
       },
     )
 
--- what comes behind a call of the handshake's end is not all of an item
-pub partial_behind : (hello : ServerHello) (goes : Bool) → goes ≡ is_open hello → is_partial hello (progress_behind goes) ≡ true
-partial_behind hello true is = sym is
-partial_behind hello false is = refl
+-- what comes after a call of the handshake's end is not all of an item
+pub partial_after : (hello : ServerHello) (goes : Bool) → goes ≡ is_open hello → is_partial hello (progress_after goes) ≡ true
+partial_after hello true is = sym is
+partial_after hello false is = refl
 
-pub goes_behind : (goes : Bool) → goes ≡ true → progress_behind goes ≡ Handshake
-goes_behind true e = refl
-goes_behind false e = absurd cc
+pub goes_after : (goes : Bool) → goes ≡ true → progress_after goes ≡ Handshake
+goes_after true e = refl
+goes_after false e = absurd cc
 
-pub done_behind : (goes : Bool) → goes ≡ false → progress_behind goes ≡ Head (as_reply [])
-done_behind true e = absurd cc
-done_behind false e = refl
+pub done_after : (goes : Bool) → goes ≡ false → progress_after goes ≡ Head (as_reply [])
+done_after true e = absurd cc
+done_after false e = refl

@@ -74,7 +74,7 @@ head_longer (first ∷ rest) bytes (suc size) head e within s =
     let same : h.0 ≡ length (take (suc size) (first ∷ (rest ++ bytes))) = cc in
     omega (arith, h.2, same, count)
 
--- the first bytes of a part and of what stands behind it
+-- the first bytes of a part and of what stands after it
 pub head_taken : (part bytes : List ℕ) (k size : ℕ) → length part < size → size ≤ length part + k →
     part ++ take (size - length part) bytes ≡ take size (part ++ take k bytes)
 head_taken part bytes k size less within =
@@ -108,7 +108,7 @@ bad_type (UnknownMessage kind) [] (b ∷ bytes) (suc k) e h =
     first_is : (a c : ℕ) (xs ys : List ℕ) → a ∷ xs ≡ c ∷ ys → a ≡ c
     first_is a c xs ys e = cc
 
--- ---- a part with as many bytes behind it as the longest head has room for
+-- ---- a part with as many bytes after it as the longest head has room for
 
 gathered_long : (part bytes : List ℕ) (k : ℕ) → k ≤ length bytes → length (part ++ take k bytes) ≡ length part + k
 gathered_long part bytes k within = length-append part (take k bytes) ∙ ap (λ (n : ℕ). length part + n) (length-take-le k bytes within)

@@ -73,9 +73,9 @@ in_list : (serving : Serving) (screen : Grid Colour) (session : Session) (left :
 in_list serving screen session left number list s prefix was now =
     at_list serving session.hello left number list s.point prefix (here serving screen session (Encodings left number list) s prefix was now)
 
--- bytes behind those that came
-behind_numbers : (prefix head units number unit : List ℕ) → prefix ≡ head ++ (units ++ number) → prefix ++ unit ≡ head ++ (units ++ (number ++ unit))
-behind_numbers prefix head units number unit e =
+-- bytes after those that came
+after_numbers : (prefix head units number unit : List ℕ) → prefix ≡ head ++ (units ++ number) → prefix ++ unit ≡ head ++ (units ++ (number ++ unit))
+after_numbers prefix head units number unit e =
     ap (λ (ys : List ℕ). ys ++ unit) e ∙ append_assoc head (units ++ number) unit ∙ ap (λ (ys : List ℕ). head ++ ys) (append_assoc units number unit)
 
 -- some bytes of a number
@@ -88,7 +88,7 @@ number_part serving screen old new left number longer list unit was is still ite
     let in_it = in_list serving screen old left number list s prefix was now in
     let b = in_it.1 in
     let all : prefix ++ unit ≡ b.head ++ (b.units ++ longer.items) =
-    behind_numbers prefix b.head b.units number.items unit b.prefix_is ∙ ap (λ (ys : List ℕ). b.head ++ (b.units ++ ys)) (sym items) in
+    after_numbers prefix b.head b.units number.items unit b.prefix_is ∙ ap (λ (ys : List ℕ). b.head ++ (b.units ++ ys)) (sym items) in
     let long = numbers_long b.numbers b.units b.listed in
     let waits : client_message (b.head ++ (b.units ++ longer.items)) ≡ More =
     encodings_wait (length b.numbers + left) b.head (b.units ++ longer.items) b.head_is (omega (arith, length-append b.units longer.items, long, few, b.some)) in
@@ -118,7 +118,7 @@ number_more serving screen old new left more number none list now_list unit was 
     let number_count : length numbers ≡ length b.numbers + 1 = length-append b.numbers (value ∷ []) in
     let total : length b.numbers + left ≡ length numbers + more = omega (arith, number_count, count) in
     let all : prefix ++ unit ≡ b.head ++ (units ++ none.items) =
-    behind_numbers prefix b.head b.units number.items unit b.prefix_is ∙ ap (λ (ys : List ℕ). b.head ++ ys) (sym (append-nil units) ∙ ap (λ (ys : List ℕ). units ++ ys) (sym empty)) in
+    after_numbers prefix b.head b.units number.items unit b.prefix_is ∙ ap (λ (ys : List ℕ). b.head ++ ys) (sym (append-nil units) ∙ ap (λ (ys : List ℕ). units ++ ys) (sym empty)) in
     let rest : length (units ++ none.items) ≡ length units = length-append units none.items ∙ ap (λ (ys : List ℕ). length units + length ys) empty ∙ omega arith in
     let waits : client_message (b.head ++ (units ++ none.items)) ≡ More =
     encodings_wait (length b.numbers + left) b.head (units ++ none.items) b.head_is (omega (arith, rest, long, total, some)) in
@@ -159,7 +159,7 @@ number_last serving screen old new left number list unit was is up format known 
     let total : length b.numbers + left ≡ length numbers = omega (arith, number_count, count) in (
       SetEncodings numbers,
       in_it.0,
-      record { head = b.head; list = units; whole = behind_numbers prefix b.head b.units number.items unit b.prefix_is; head_is = rw (sym total) b.head_is; listed = units_are },
+      record { head = b.head; list = units; whole = after_numbers prefix b.head b.units number.items unit b.prefix_is; head_is = rw (sym total) b.head_is; listed = units_are },
       refl,
       record {
         screen = refl;

@@ -46,7 +46,7 @@ caught_unseen screen known area form marks all =
     true_false : true ≡ false → ⊥
     true_false e = cc
 
--- a place that is not marked behind a rectangle was not before, and lies outside
+-- a place that is not marked after a rectangle was not before, and lies outside
 pub unmarked : (marks : Grid Bool) (rect : Rect) (x y : ℕ) → IsGrid marks → x < marks.width → y < marks.height →
     is_in (filled rect true marks) x y ≡ false → (contains rect x y ≡ false) × (is_in marks x y ≡ false)
 unmarked marks rect x y whole p q e = split (contains rect x y) (is_in marks x y) (sym (at-filled rect true marks x y false whole p q) ∙ e)
@@ -90,7 +90,7 @@ in_all w h x y p q =
     at-filled (record { x = 0; y = 0; w = w; h = h }) true (uniform w h false) x y false (whole-uniform w h false) (rw width-uniform p) (rw height-uniform q)
     ∙ (rw (contained (record { x = 0; y = 0; w = w; h = h }) x y (omega arith) (omega arith) (omega arith) (omega arith)) refl)
 
--- a session that was told where the screen is drawn on follows it again
+-- a session that was notified where the screen is drawn on follows it again
 pub follows_drawn : (old new : Session) (before after : Grid Colour) (rect : Rect) →
     IsMarked rect old new → Follows before old → IsGrid after → IsSameOutside rect before after →
     Follows after new

@@ -120,7 +120,7 @@ pub format_refused : (serving : Serving) (screen : Grid Colour) (old new : Sessi
     StepsBy (server serving) (SessionStandsFor serving screen) old unit (Err (fault_of_format fault)) new
 format_refused serving screen old new part unit bytes fault was s bad = bad_head serving screen old new part unit (BadFormat fault) was (bytes, s, bad)
 
--- ---- a message that goes on behind the unit
+-- ---- a message that goes on after the unit
 
 -- what a session stands for that was in a head, where the message goes on
 pub head_goes_on : (serving : Serving) (screen : Grid Colour) (old new : Session) (part : ArrayVec ℕ) (unit : List ℕ) →

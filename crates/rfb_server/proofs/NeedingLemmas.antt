@@ -217,7 +217,7 @@ box_is p zone top bottom columns order above some last spans = record {
         elim (cases_lt j top) [
           | inl before ↦ absurd (both_ways (p x j) (above x j a b d (omega arith)) m)
           | inr from ↦ elim (cases_lt bottom j) [
-            | inl behind ↦ absurd (both_ways (p x j) (last.below x j a b (omega arith) e) m)
+            | inl after ↦ absurd (both_ways (p x j) (last.below x j a b (omega arith) e) m)
             | inr to ↦ elim (cases_lt x columns.first) [
               | inl left ↦ absurd (both_ways (p x j) (spans.left x j a left from (omega arith)) m)
               | inr more ↦ elim (cases_lt x columns.end) [

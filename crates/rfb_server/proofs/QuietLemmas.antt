@@ -18,7 +18,7 @@ use Rattle.rfb_server.specs.Composing.{count_row, count_rows, count_in}
 use Rattle.rfb_server.specs.inside.Needs.{AreQuiet, IsQuiet, needs_of, HasBox}
 use Rattle.rfb_server.specs.inside.Sends.{IsKept, AppendsPixels}
 use Rattle.rfb_server.specs.inside.Copies.{IsFree}
-use Rattle.rfb_server.specs.inside.Gains.{right_behind}
+use Rattle.rfb_server.specs.inside.Gains.{right_after}
 use Rattle.rfb_server.proofs.CountLemmas.{at_most}
 use Rattle.rfb_server.proofs.SendsLemmas.{noted_at}
 
@@ -122,7 +122,7 @@ idle_by false = refl
 -- so does a copy, of its own places, if it leaves them all right
 pub quiet_copied : (screen : Grid Colour) (old : Session) (now : Grid (Option ℕ)) (hint : Hint) → IsFree old hint.to →
     Holds old.known (record hint.to { x = hint.sx; y = hint.sy }) → now ≡ copied hint.to hint.sx hint.sy old.known →
-    count_in (right_behind screen old hint) hint.to ≡ hint.to.h * hint.to.w → AreQuiet screen now old.area old.format hint.to
+    count_in (right_after screen old hint) hint.to ≡ hint.to.h * hint.to.w → AreQuiet screen now old.area old.format hint.to
 quiet_copied screen old now hint free held known all =
     let wide : (copied hint.to hint.sx hint.sy old.known).width ≡ old.known.width = width-changed _ old.known in
     let high : (copied hint.to hint.sx hint.sy old.known).height ≡ old.known.height = height-changed _ old.known in
@@ -132,7 +132,7 @@ quiet_copied screen old now hint free held known all =
         (asked_at old.area x y && (whole_at old.area x y || differs (wanted_at screen old.format x y) (at_or (copied hint.to hint.sx hint.sy old.known) x y None))) ≡ false
     quiet x y p q c =
         let right : differs (wanted_at screen old.format x y) (at_or old.known (hint.sx + (x - hint.to.x)) (hint.sy + (y - hint.to.y)) None) ≡ false =
-        right_is (wanted_at screen old.format x y) (at_or old.known (hint.sx + (x - hint.to.x)) (hint.sy + (y - hint.to.y)) None) (each_counts (right_behind screen old hint) hint.to all x y c) in
+        right_is (wanted_at screen old.format x y) (at_or old.known (hint.sx + (x - hint.to.x)) (hint.sy + (y - hint.to.y)) None) (each_counts (right_after screen old hint) hint.to all x y c) in
         let read = at-copied hint.to hint.sx hint.sy old.known x y None old.alike.known_whole held p q in
         rw (free.not_whole x y c, read, c, right) (idle_by (asked_at old.area x y))
 

@@ -97,7 +97,7 @@ at_any g x y d e whole p q =
 
 -- ---- a block put over a rectangle, row by row
 
--- so many rows of the block were put over those of the rectangle
+-- `rows` rows of the block were put over those of the rectangle
 pub record IsPut (rect : Rect) (rows : ℕ) (block first now : Grid ℕ) : Type 0 where
   pub whole : IsGrid now
   pub width : now.width ≡ first.width

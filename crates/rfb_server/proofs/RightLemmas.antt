@@ -1,4 +1,4 @@
--- Places of a copy of one row that have the wanted pixel, told by bits and by rows of pixels.
+-- Places of a copy of one row that have the wanted pixel, given by bits and by rows of pixels.
 use Rattle.std.proofs.Common.{sym, ◌≡◌, ◌∙◌, ℕ, zero, suc, ◌+◌, ◌-◌, ◌*◌, ◌/◌, ◌%◌, ◌^◌, ◌<◌, ◌≤◌, ◌==◌, ◌&&◌, Bool, true, false, cond, not, nat_le, nat_lt, List, [], ◌∷◌, length, map, slice_index, bit_and, Option, Some, None, ap, refl, arith}
 use Rattle.std.specs.Int.{w64, bit_not}
 use Rattle.std.proofs.Math.Nat.{mod-lt}
@@ -22,7 +22,7 @@ use Rattle.rfb_server.specs.Request.{wanted_at, differs}
 use Rattle.rfb_server.specs.Server.{black}
 use Rattle.rfb_server.specs.Composing.{count_row}
 use Rattle.rfb_server.specs.Following.{Follows}
-use Rattle.rfb_server.specs.inside.Gains.{MayCopy, right_before, right_behind}
+use Rattle.rfb_server.specs.inside.Gains.{MayCopy, right_before, right_after}
 use Rattle.rfb_server.proofs.BitCountLemmas.{row_split}
 use Rattle.rfb_server.proofs.NeedingBits.{has_bit-up}
 
@@ -89,10 +89,10 @@ module _ (screen : Grid Colour) (session : Session) (part : Hint) (pixels : Grid
       (get_or-map (pixel_of session.format) row i black 0 (omega arith)
       ∙ ap (pixel_of session.format) (slice_index_or-row_of screen part.to.x part.to.y part.to.w i black l))
 
-  -- what is right behind the copy
-  pub behind_right : (i : ℕ) → i < part.to.w →
-      (slice_index wanted i == slice_index (row_of pixels part.sx part.sy part.to.w) i) ≡ right_behind screen session part (part.to.x + i) part.to.y
-  behind_right i l =
+  -- what is right after the copy
+  pub after_right : (i : ℕ) → i < part.to.w →
+      (slice_index wanted i == slice_index (row_of pixels part.sx part.sy part.to.w) i) ≡ right_after screen session part (part.to.x + i) part.to.y
+  after_right i l =
       let column : part.sx + (part.to.x + i - part.to.x) ≡ part.sx + i = omega arith in
       let row : part.sy + (part.to.y - part.to.y) ≡ part.sy = omega arith in
       let source = moved_to part.sx part.sy part.to in

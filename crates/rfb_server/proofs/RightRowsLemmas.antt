@@ -11,7 +11,7 @@ use Rattle.rfb_server.specs.declared.hint.Hint.{Hint}
 use Rattle.rfb_server.specs.declared.session.Session.{Session}
 use Rattle.rfb_server.specs.Composing.{count_row, count_rows}
 use Rattle.rfb_server.specs.inside.Copies.{is_right_from}
-use Rattle.rfb_server.specs.inside.Gains.{line, part, right_before, right_behind}
+use Rattle.rfb_server.specs.inside.Gains.{line, part, right_before, right_after}
 use Rattle.rfb_server.proofs.CountLemmas.{row_same, rows_more}
 use Rattle.rfb_server.proofs.BitCountLemmas.{row_split, row_le}
 
@@ -28,9 +28,9 @@ row_joined p q from y at to order rest same =
     let parts : to - from ≡ at - from + (to - at) = omega arith in
     let column : from + (at - from) ≡ at = omega arith in
     let split = row_split p from y (at - from) (to - at) in
-    let behind = rw column at split in
+    let after = rw column at split in
     let here = row_same q p at y (to - at) same in
-    ap (λ n. count_row p from y (at - from) + n) here ∙ sym behind ∙ sym (ap (count_row p from y) parts)
+    ap (λ n. count_row p from y (at - from) + n) here ∙ sym after ∙ sym (ap (count_row p from y) parts)
 
 -- one row more
 rows_joined : (p q : ℕ → ℕ → Bool) (x y w k : ℕ) → ((i : ℕ) → i < w → q (x + i) (y + k) ≡ p (x + i) (y + k)) →
@@ -46,12 +46,12 @@ module _ (screen : Grid Colour) (s : Session) (copy : Hint) (row n m : ℕ) wher
       (rows_joined (right_before screen s copy) (right_before screen s (line copy row)) copy.to.x copy.to.y copy.to.w row
       (λ i l. same_source screen s.known s.format copy.to (line copy row).to copy.to.x copy.to.y copy.to.x (copy.to.y + row) (copy.to.x + i) (copy.to.y + row) refl (omega arith)))
 
-  pub behind_row : n ≡ count_rows (right_behind screen s copy) copy.to.x copy.to.y copy.to.w row →
-      m ≡ count_row (right_behind screen s (line copy row)) copy.to.x (copy.to.y + row) copy.to.w →
-      n + m ≡ count_rows (right_behind screen s copy) copy.to.x copy.to.y copy.to.w (row + 1)
-  behind_row above here =
+  pub after_row : n ≡ count_rows (right_after screen s copy) copy.to.x copy.to.y copy.to.w row →
+      m ≡ count_row (right_after screen s (line copy row)) copy.to.x (copy.to.y + row) copy.to.w →
+      n + m ≡ count_rows (right_after screen s copy) copy.to.x copy.to.y copy.to.w (row + 1)
+  after_row above here =
       rw (above, here)
-      (rows_joined (right_behind screen s copy) (right_behind screen s (line copy row)) copy.to.x copy.to.y copy.to.w row
+      (rows_joined (right_after screen s copy) (right_after screen s (line copy row)) copy.to.x copy.to.y copy.to.w row
       (λ i l. same_source screen s.known s.format copy.to (line copy row).to copy.sx copy.sy copy.sx (copy.sy + row) (copy.to.x + i) (copy.to.y + row) refl (omega arith)))
 
 -- ---- parts of a row
@@ -65,12 +65,12 @@ module _ (screen : Grid Colour) (s : Session) (row : Hint) (x next n m : ℕ) (o
       (row_joined (right_before screen s row) (right_before screen s (part row x next)) row.to.x row.to.y x next order rest
       (λ i l. same_source screen s.known s.format row.to (part row x next).to row.to.x row.to.y x row.to.y (x + i) row.to.y (omega arith) (omega arith)))
 
-  pub behind_part : n ≡ count_row (right_behind screen s row) row.to.x row.to.y (x - row.to.x) →
-      m ≡ count_row (right_behind screen s (part row x next)) x row.to.y (next - x) →
-      n + m ≡ count_row (right_behind screen s row) row.to.x row.to.y (next - row.to.x)
-  behind_part above here =
+  pub after_part : n ≡ count_row (right_after screen s row) row.to.x row.to.y (x - row.to.x) →
+      m ≡ count_row (right_after screen s (part row x next)) x row.to.y (next - x) →
+      n + m ≡ count_row (right_after screen s row) row.to.x row.to.y (next - row.to.x)
+  after_part above here =
       rw (above, here)
-      (row_joined (right_behind screen s row) (right_behind screen s (part row x next)) row.to.x row.to.y x next order rest
+      (row_joined (right_after screen s row) (right_after screen s (part row x next)) row.to.x row.to.y x next order rest
       (λ i l. same_source screen s.known s.format row.to (part row x next).to row.sx row.sy (part row x next).sx row.sy (x + i) row.to.y (omega arith) (omega arith)))
 
 -- ---- the rows that are left

@@ -56,15 +56,15 @@ cut n cost i = if nat_lt i n then cost i else 0
 cut_before : (n : ℕ) (cost : ℕ → ℕ) (i : ℕ) → i < n → cut n cost i ≡ cost i
 cut_before n cost i l = grind (arith, nat_tests)
 
-cut_behind : (n : ℕ) (cost : ℕ → ℕ) (i : ℕ) → n ≤ i → cut n cost i ≡ 0
-cut_behind n cost i l = grind (arith, nat_tests)
+cut_after : (n : ℕ) (cost : ℕ → ℕ) (i : ℕ) → n ≤ i → cut n cost i ≡ 0
+cut_after n cost i l = grind (arith, nat_tests)
 
 pub sum_cut : (n m : ℕ) (cost : ℕ → ℕ) → n ≤ m → sum_below (cut n cost) m ≡ sum_below cost n
 sum_cut n zero cost l = let e : n ≡ 0 = omega arith in rw e refl
 sum_cut n (suc m) cost l =
     elim (cases_eq n (suc m)) [
       | inl e ↦ subst (λ (k : ℕ). sum_below (cut n cost) k ≡ sum_below cost n) e (sum_same (cut n cost) cost n (cut_before n cost))
-      | inr other ↦ let rest = sum_cut n m cost (omega arith) in let none = cut_behind n cost m (omega arith) in omega (arith, rest, none)
+      | inr other ↦ let rest = sum_cut n m cost (omega arith) in let none = cut_after n cost m (omega arith) in omega (arith, rest, none)
     ]
 
 module _ (width height across : ℕ) (p : ℕ → ℕ → Bool) (form : PixelFormat) where
@@ -93,7 +93,7 @@ module _ (width height across : ℕ) (p : ℕ → ℕ → Bool) (form : PixelFor
       elim (cases_lt i n) [
         | inl less ↦ rw (cut_before n cost i less) (before i cell less is)
         | inr more ↦
-            rw (cut_behind n cost i more)
+            rw (cut_after n cost i more)
             (λ r tight a b c d.
             let (j, inside, e) = tight.left in
             let (x0, x1, y0, y1) = contains_true r r.x j inside in
@@ -157,7 +157,7 @@ module _ (width height across : ℕ) (p : ℕ → ℕ → Bool) (form : PixelFor
       let cost_is = costs (cell_of across x y) cell below is (record { x = x; y = y; w = 1; h = 1 }) tight (omega arith) (omega arith) (omega arith) (omega arith) in
       omega (arith, cost_is, more, order, none)
 
--- so few columns and rows have so few places
+-- few columns and rows have few places
 pub few_places : (w h size : ℕ) → w ≤ 64 → h ≤ 64 → size ≤ 4 → h * w * size ≤ 16384
 few_places w h size a b c =
     let rows : h * w ≤ 64 * w = mul-le-mul_right w b in
@@ -165,7 +165,7 @@ few_places w h size a b c =
     let bytes : h * w * size ≤ 4096 * size = mul-le-mul_right size all in
     omega arith
 
--- and a screen so few cells
+-- and such a screen has few cells
 pub few_cells : (w h : ℕ) → w ≤ 4096 → h ≤ 4096 → div_ceil w 64 * div_ceil h 64 ≤ 4096
 few_cells w h a b =
     let across : div_ceil w 64 ≤ 64 = omega arith in

@@ -1,4 +1,4 @@
--- A rectangle's head and the data behind it are the rectangle.
+-- A rectangle's head and the data after it are the rectangle.
 use Rattle.std.proofs.Common.{◌≡◌, ℕ, Bool, true, false, inl, List, ◌++◌, refl, ◌∙◌, arith, append_assoc, length-append}
 use Rattle.std.specs.Bool.{OnTrue}
 use Rattle.rfb_pixel.specs.Format.{PixelFormat}

@@ -77,7 +77,7 @@ in_push (first ∷ parts) part x y = rw (in_push parts part x y) (or_swing (cont
 
 -- ---- a rectangle
 
--- what is recorded behind it
+-- what is recorded after it
 pub noted_at : (screen : Grid Colour) (form : PixelFormat) (rect : Rect) (block : Grid ℕ) (known now : Grid (Option ℕ)) (x y : ℕ) →
     PacksRect form screen rect block → IsRecorded rect block known now → x < now.width → y < now.height →
     at_or now x y None ≡ (if contains rect x y then Some (wanted_at screen form x y) else at_or known x y None)
@@ -233,7 +233,7 @@ module _ (across : ℕ) (s : ServerState) where
       in_now : (x y : ℕ) → IsPlace s x y → (x < now.width) × (y < now.height)
       in_now x y p = (rw (← sent.alike.columns, ← sends.alike.columns, ← size.columns) p.0, rw (← sent.alike.rows, ← sends.alike.rows, ← size.rows) p.1)
 
-      -- what is known behind it
+      -- what is known after it
       step : (x y : ℕ) → IsPlace s x y → at_or now x y None ≡ (if contains rect x y then Some (wanted s x y) else at_or known x y None)
       step x y p = let (a, b) = in_now x y p in noted_at s.screen s.form rect sent.block known now x y sent.packed sent.noted a b
 

@@ -122,5 +122,5 @@ limits_kept old new first end kept wide high limits = record {
   some = limits.some;
   within = rw (wide, high) limits.within;
   before = rw (wide, high, kept.marks, kept.area) limits.before;
-  behind = rw (wide, high, kept.marks, kept.area) limits.behind;
+  after = rw (wide, high, kept.marks, kept.area) limits.after;
 }

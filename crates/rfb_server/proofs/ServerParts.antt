@@ -9,10 +9,10 @@ use Rattle.rfb_hello.specs.declared.step.ServerStep.{ServerStep}
 use Rattle.rfb_hello.specs.ServerEnd.{ServerSetup, server_end, server_tells as handshake_tells}
 use Rattle.rfb_server.specs.ClientBytes.{ClientAt, client_two, to_messages}
 use Rattle.rfb_server.specs.Told.{ServerTold, step_told, message_told}
-use Rattle.rfb_server.specs.Server.{Serving, ServerState, serves, server, item_told, server_tells, messages_end, behind_handshake}
+use Rattle.rfb_server.specs.Server.{Serving, ServerState, serves, server, item_told, server_tells, messages_end, after_handshake}
 use Rattle.rfb_server.proofs.ServerLaws.{server_machine}
 
--- an item that is not told of does not lead over
+-- an item without an event does not lead over
 over : (setup : ServerSetup) (p : ClientPoint) (i : ClientItem) → handshake_tells setup p i ≡ None → to_messages p i ≡ None
 over setup (AwaitsInit version) (ClientInit shared) e = cc
 over setup (AwaitsInit version) SecurityType e = refl
@@ -32,7 +32,7 @@ serves_first serving = at_first (client_two serving.hello.offer) (server serving
     tells : (s : ServerState) (p : ClientPoint) (i : ClientItem) → s.point ≡ First p → server_tells serving s (First i) ≡ event_as (λ step. step_told (Some step)) (handshake_tells serving.hello p i)
     tells s p i at = ap (λ (r : ClientAt). item_told serving r (First i)) at ∙ as_told (handshake_tells serving.hello p i)
 
-shown_is : (r : ClientAt) (s u : ServerState) → behind_handshake r s ≡ Some u → (r ≡ Second tt) × (u ≡ s)
+shown_is : (r : ClientAt) (s u : ServerState) → after_handshake r s ≡ Some u → (r ≡ Second tt) × (u ≡ s)
 shown_is (First p) s u e = absurd cc
 shown_is (Second q) s u e = let same : s ≡ u = cc in (refl, sym same)
 
@@ -40,14 +40,14 @@ as_it : (o : Option ServerTold) → o ≡ event_as (λ told. Some told) o
 as_it None = refl
 as_it (Some told) = refl
 
--- and behind it the messages' end
-pub serves_second : (serving : Serving) → GoesAsSecond (client_two serving.hello.offer) (server serving) (messages_end serving) (λ s. behind_handshake s.point s) (λ told. Some told)
+-- and after it the messages' end
+pub serves_second : (serving : Serving) → GoesAsSecond (client_two serving.hello.offer) (server serving) (messages_end serving) (λ s. after_handshake s.point s) (λ told. Some told)
 serves_second serving = record { both = refl; grammar = refl; point = λ s u e. (shown_is s.point s u e).0; tells = tells; stays = stays }
   where
-    tells : (s u : ServerState) (m : ClientMessage) → behind_handshake s.point s ≡ Some u → server_tells serving s (Second m) ≡ event_as (λ told. Some told) (message_told serving.text_limit m)
+    tells : (s u : ServerState) (m : ClientMessage) → after_handshake s.point s ≡ Some u → server_tells serving s (Second m) ≡ event_as (λ told. Some told) (message_told serving.text_limit m)
     tells s u m e = ap (λ (r : ClientAt). item_told serving r (Second m)) (shown_is s.point s u e).0 ∙ as_it (message_told serving.text_limit m)
 
-    stays : (s u : ServerState) (m : ClientMessage) → behind_handshake s.point s ≡ Some u → behind_handshake (serves serving s (Second m)).point (serves serving s (Second m)) ≡ Some (serves serving u (Second m))
+    stays : (s u : ServerState) (m : ClientMessage) → after_handshake s.point s ≡ Some u → after_handshake (serves serving s (Second m)).point (serves serving s (Second m)) ≡ Some (serves serving u (Second m))
     stays s u m e =
         let at = shown_is s.point s u e in
         rw (at.1, at.0) refl

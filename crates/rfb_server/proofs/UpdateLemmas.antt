@@ -39,7 +39,7 @@ use Rattle.rfb_server.proofs.ComposesLemmas.{all_cells, composes}
 
 -- ---- the head
 
--- the last two of four bytes, written over those behind a front
+-- the last two of four bytes, written over those after a front
 pub counted : (before bytes head : List ℕ) (at : ℕ) → length before ≡ at → length head ≡ 4 → get_or head 0 0 ≡ 0 → get_or head 1 0 ≡ 0 →
     set (set (before ++ (0 ∷ 0 ∷ 0 ∷ 0 ∷ bytes)) (at + 2) (get_or head 2 0)) (at + 3) (get_or head 3 0) ≡ before ++ (head ++ bytes)
 counted before bytes [] at long size first second = absurd (omega arith)
@@ -131,7 +131,7 @@ alike_settled known area marks alike = record {
 
 -- ---- a session
 
--- its state behind an update
+-- its state after an update
 state_settled : (screen : Grid Colour) (old mid new : Session) → IsKept old mid → IsSettled mid new →
     state_of screen new ≡ record (state_of screen old) { known = mid.known; area = nothing old.area }
 state_settled screen old mid new kept settled =
@@ -145,19 +145,19 @@ sends_here screen old mid parts bytes about sends =
     subst (λ (h : ℕ). Sends (div_ceil screen.width 64) (div_ceil screen.width 64 * div_ceil h 64) (state_of screen old) mid.known parts bytes) (sym about.alike.rows)
     (subst (λ (w : ℕ). Sends (div_ceil w 64) (div_ceil w 64 * div_ceil old.known.height 64) (state_of screen old) mid.known parts bytes) (sym about.alike.columns) sends)
 
--- behind an update the session has caught up
+-- after an update the session has caught up
 pub about_updated : (screen : Grid Colour) (old mid new : Session) (before after : List ℕ) (count : ℕ) →
     Follows screen old → Follows screen mid → IsKept old mid →
     AppendsCells (div_ceil old.known.width 64) (div_ceil old.known.width 64 * div_ceil old.known.height 64) screen old mid before after count →
     IsSettled mid new → Follows screen new
-about_updated screen old mid new before after count about behind kept cells settled = record {
-  whole = behind.whole;
-  alike = rw (settled.known) behind.alike;
+about_updated screen old mid new before after count about later kept cells settled = record {
+  whole = later.whole;
+  alike = rw (settled.known) later.alike;
   caught_up = rw (settled.known, settled.area, settled.format, settled.marks)
-      (caught_settled screen mid.known mid.area mid.format mid.marks mid.alike behind.caught_up
+      (caught_settled screen mid.known mid.area mid.format mid.marks mid.alike later.caught_up
       (λ x y p q asked.
-      let p' : x < screen.width = rw (behind.alike.columns) p in
-      let q' : y < screen.height = rw (behind.alike.rows) q in
+      let p' : x < screen.width = rw (later.alike.columns) p in
+      let q' : y < screen.height = rw (later.alike.rows) q in
       let p'' : x < old.known.width = rw (← about.alike.columns) p' in
       let q'' : y < old.known.height = rw (← about.alike.rows) q' in
       let asked' : is_in old.area.asked x y ≡ true = rw (kept.area) at asked in

@@ -113,7 +113,7 @@ sends screen old new before after done = record {
       (done.composes, done.used) in
       record {
         due = subst (λ (t : ServerState). IsDue t) (sym is) done.due;
-        behind = state_of screen new;
+        resulting = state_of screen new;
         bytes = done.bytes;
         copies = done.copies;
         blocks = done.blocks;

@@ -27,7 +27,7 @@ abbrev pub to_messages : ClientPoint → ClientItem → Option ⊤
 to_messages (AwaitsInit version) (ClientInit shared) = Some tt
 to_messages point item = None
 
--- the handshake, where the server has offered a version, and the messages behind it
+-- the handshake, where the server has offered a version, and the messages after it
 abbrev pub client_two : Version →
     Two ClientPoint ClientItem HelloFault ⊤ ClientMessage ClientFault ServerFault
 client_two offer = record {
@@ -46,12 +46,12 @@ client_bytes offer = sequel (client_two offer)
 abbrev pub client_bytes_say : Version → ClientAt → Says FromClient ServerFault
 client_bytes_say offer = sequel_says (client_two offer) (client_item_says offer) (λ _. client_says)
 
--- how many of its bytes are pending: those of the item under way behind its last whole piece
+-- how many of its bytes are pending: those of the item under way after its last whole piece
 abbrev pub client_bytes_pending : ClientAt → List ℕ → ℕ
 client_bytes_pending at bytes =
     pending_in client_handshake_pending (λ _ others. client_pending others) at bytes
 
--- the bytes end between two messages, behind the handshake
+-- the bytes end between two messages, after the handshake
 abbrev pub is_between : ClientAt → List ℕ → Bool
 is_between (First point) bytes = false
 is_between (Second between) [] = true

@@ -180,7 +180,7 @@ abbrev pub HaveTheirData : ServerState → List Part → Type 0
 HaveTheirData s [] = Unit {0}
 HaveTheirData s (part ∷ parts) = HasItsData s part × HaveTheirData s parts
 
--- a composing: the state before it and behind it, the bytes that were appended, and the rectangles
+-- a composing: the state before it and after it, the bytes that were appended, and the rectangles
 -- that these are, first those that are copied
 pub record Composes (old new : ServerState) (bytes : List ℕ)
     (copies blocks : List Part) : Type 0 where

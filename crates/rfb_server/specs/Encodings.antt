@@ -22,7 +22,7 @@ abbrev pub with_encoding : List Encoding → Option Encoding → List Encoding
 with_encoding list None = list
 with_encoding list (Some encoding) = if is_listed encoding list then list else list ++ encoding ∷ []
 
--- a list, and behind it the encodings of these numbers that are known, in order, each once
+-- a list, and after it the encodings of these numbers that are known, in order, each once
 abbrev pub known_among : List ℤ → List Encoding → List Encoding
 known_among [] list = list
 known_among (number ∷ numbers) list = known_among numbers (with_encoding list (encoding_of number))

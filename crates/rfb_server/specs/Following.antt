@@ -1,4 +1,4 @@
--- When a session has been told of all that was drawn on the screen that it is lent.
+-- When a session has been notified of all that was drawn on the screen that it is lent.
 use Rattle.std.specs.Prelude.{◌≡◌, ℕ, ◌<◌, Bool, false, Option, Some, None}
 use Rattle.rfb_pixel.specs.declared.colour.Colour.{Colour}
 use Rattle.rfb_pixel.specs.Format.{PixelFormat}
@@ -21,7 +21,7 @@ pub record IsCaughtUp (screen : Grid Colour) (known : Grid (Option ℕ)) (area :
       whole_at area x y ≡ false
 
 -- a session follows a screen: it is about places of that size, and wherever the screen may differ
--- from what its viewer was last sent, it was told so
+-- from what its viewer was last sent, it was notified
 pub record Follows (screen : Grid Colour) (session : Session) : Type 0 where
   pub whole : IsGrid screen
   pub alike : IsAlike screen session.known

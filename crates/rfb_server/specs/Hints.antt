@@ -1,4 +1,4 @@
--- The hints that a session keeps: copies that its owner spoke of, and a viewer may be told to make.
+-- The hints that a session keeps: copies that its owner spoke of, and a viewer may be sent.
 use Rattle.std.specs.Prelude.{ℤ, List, [], ◌∷◌, ◌++◌}
 use Rattle.circular_buffer.specs.Buffer.{keep_last}
 use Rattle.rfb_picture.specs.declared.rect.Rect.{Rect}

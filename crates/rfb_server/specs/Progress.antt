@@ -67,12 +67,12 @@ is_partial hello (Encodings left number list) = nat_lt 0 left && nat_lt (length 
 is_partial hello (CutText text_length left kept) = nat_lt 0 left
 is_partial hello (Failed fault) = true
 
--- what comes behind a call of the handshake's end, by whether that goes on
-abbrev pub progress_behind : Bool → Progress
-progress_behind true = Handshake
-progress_behind false = Head (as_reply [])
+-- what comes after a call of the handshake's end, by whether that goes on
+abbrev pub progress_after : Bool → Progress
+progress_after true = Handshake
+progress_after false = Head (as_reply [])
 
--- so much progress stands for that point and that prefix; one that has failed stands for none
+-- this progress stands for that point and that prefix; one that has failed stands for none
 abbrev pub ProgressStandsFor : Serving → ServerHello → Progress → ClientAt → List ℕ → Type 0
 ProgressStandsFor serving hello Handshake (First point) prefix =
     HelloStandsFor serving.hello hello point prefix × (is_open hello ≡ true)

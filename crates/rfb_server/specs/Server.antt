@@ -81,7 +81,7 @@ server serving = record {
   tells = server_tells serving;
 }
 
--- the messages alone, as an end: a state is one behind the handshake
+-- the messages alone, as an end: a state is one after the handshake
 abbrev pub messages_end : Serving → Machine ServerState ⊤ ClientMessage ClientFault ServerTold
 messages_end serving = record {
   grammar = client_stream;
@@ -90,10 +90,10 @@ messages_end serving = record {
   tells = λ s message. message_told serving.text_limit message;
 }
 
--- the state, where the point lies behind the handshake
-abbrev pub behind_handshake : ClientAt → ServerState → Option ServerState
-behind_handshake (First point) s = None
-behind_handshake (Second between) s = Some s
+-- the state, where the point lies after the handshake
+abbrev pub after_handshake : ClientAt → ServerState → Option ServerState
+after_handshake (First point) s = None
+after_handshake (Second between) s = Some s
 
 -- memory is asked for once the length of a text is known that has bytes
 abbrev pub AsksMemory : ServerState → List ℕ → Type 0

@@ -17,14 +17,14 @@ use Rattle.rfb_server.specs.Using.{AreUsed, usable}
 pub record HasSent (serving : Serving) (s : ServerState) (prefix : List ℕ) (hints : List Hint)
     (screen : Grid Colour) (new : Session) (before after : List ℕ) : Type 0 where
   pub due : IsDue s
-  pub behind : ServerState
+  pub resulting : ServerState
   pub bytes : List ℕ
   pub copies : List Part
   pub blocks : List Part
   pub appended : after ≡ before ++ bytes
-  pub composes : Composes s behind bytes copies blocks
+  pub composes : Composes s resulting bytes copies blocks
   pub used : AreUsed s (usable s hints) composes.moves
-  pub stands : SessionStandsFor serving screen new behind prefix
+  pub stands : SessionStandsFor serving screen new resulting prefix
 
 -- ---- a session
 

@@ -80,7 +80,7 @@ impl EncodingList {
         Encoding::Raw
     }
 
-    /// Lists the encoding behind the others, unless it is listed.
+    /// Lists the encoding after the others, unless it is listed.
     pub(crate) fn add(&mut self, encoding: Encoding)
         ensures { self.new ≡ with_encoding self.old (Some encoding) }
     {

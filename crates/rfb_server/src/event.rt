@@ -10,7 +10,7 @@ use arrayvec::ArrayVec;
 pub const MAX_REPLY: usize = 279;
 
 /// What happened at the last byte that was used. SetPixelFormat, SetEncodings and
-/// FramebufferUpdateRequest change the server, and are not told.
+/// FramebufferUpdateRequest change the server, and have no event.
 #[derive(Debug, Drop)]
 pub enum ServerEvent {
     /// Bytes that are to be sent to the client.

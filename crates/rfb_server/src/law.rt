@@ -13,7 +13,7 @@ ghost use Rattle.rfb_server.specs.ClientBytes.{client_two, client_bytes, client_
 ghost use Rattle.rfb_codec.specs.Effect.{effects, IsAlike, Agrees};
 ghost use Rattle.rfb_codec.specs.WholeUpdate.{update_of};
 ghost use Rattle.rfb_server.specs.Server.{Serving, ServerState, server, black};
-ghost use Rattle.rfb_server.specs.Server.{messages_end, behind_handshake};
+ghost use Rattle.rfb_server.specs.Server.{messages_end, after_handshake};
 ghost use Rattle.rfb_server.specs.Told.{step_told};
 ghost use Rattle.rfb_server.specs.declared.server.Server.{Server};
 ghost use Rattle.rfb_server.specs.declared.session.Session.{Session};
@@ -31,7 +31,7 @@ pub fn client_bytes_are_spelled()
     ensures laws { (offer : Version) → IsGrammar (client_bytes offer) }
 {}
 
-/// A server is a machine over that stream: each item brings its state to the point behind the item.
+/// A server is a machine over that stream: each item brings its state to the point after the item.
 pub fn a_server_is_a_machine()
     ensures { (serving : Serving) → IsMachine (server serving) }
 {}
@@ -43,7 +43,7 @@ pub fn a_server_is_fed_as_the_ends_of_its_parts()
         (server serving) (server_end serving.hello) (λ s. first_point s.point)
         (λ step. step_told (Some step)) }
     ensures messages { (serving : Serving) → GoesAsSecond (client_two serving.hello.offer)
-        (server serving) (messages_end serving) (λ s. behind_handshake s.point s)
+        (server serving) (messages_end serving) (λ s. after_handshake s.point s)
         (λ told. Some told) }
 {}
 

@@ -13,7 +13,7 @@
 //! 4. `fill`, `put`, `put_rows`, `copy` and `scroll` draw, at any time. `hint` says that a
 //!    rectangle looks as another did, so a copy may be sent for it.
 //! 5. `compose`, once all that came was fed, appends an update where the client asked for places
-//!    that it lacks. It is sent behind the replies.
+//!    that it lacks. It is sent after the replies.
 //! 6. An error of `feed` is the last of the connection: nothing is sent any more, and every later
 //!    call gives it again.
 //!
@@ -23,7 +23,7 @@
 //! | of the client, in any slices | `feed` |
 //!
 //! `Session` is a server without its screen, which its calls are lent. Several of them show one
-//! screen: each is told where it is drawn on, `drawn`, before the screen changes.
+//! screen: `drawn` notifies each where it is drawn on, before the screen changes.
 #![tactic(auto)]
 
 mod cells;

@@ -148,7 +148,7 @@ impl Server {
         Ok(())
     }
 
-    /// Gives colours to a rectangle of the screen: `rows` has its rows from the top, one behind the
+    /// Gives colours to a rectangle of the screen: `rows` has its rows from the top, one after the
     /// other, each from the left. Where the rectangle leaves the screen, or `rows` has another
     /// number of colours than it has places, they are refused, and nothing changes; `rows` stays
     /// the caller's.
@@ -193,9 +193,9 @@ impl Server {
     }
 
     /// Says that the rectangle `dst` looks as the one of its size at (`sx`, `sy`) did when it was
-    /// last sent, so that the viewer may be told to copy it. Nothing rests on it, and nothing else
-    /// changes. The last sixteen are kept until an update is composed. One that leaves the screen
-    /// is refused.
+    /// last sent, so that the viewer may be sent a copy in place of its pixels. Nothing rests on
+    /// it, and nothing else changes. The last sixteen are kept until an update is composed. One
+    /// that leaves the screen is refused.
     pub fn hint(&mut self, dst: Rect, sx: u16, sy: u16) -> Result<(), Outside>
         ensures refused { IsErr result
             ↔ (HoldsBoth (screen_of self.old) dst sx sy → ⊥) }
@@ -232,8 +232,8 @@ impl Server {
     /// has not failed, and such a place is there. First in it is a CopyRect for each hint that is
     /// of use, the oldest first, where the viewer listed CopyRect: a copy over asked places, none
     /// of them to be sent whole, which leaves more of them right than there were. Then come pixels.
-    /// Behind an update nothing is asked any more. `out` stays the caller's; what was in it stays
-    /// in front. Room is asked for once, before anything changes: at most 260 bytes, and 12 and its
+    /// After an update nothing is asked any more. `out` stays the caller's; what was in it stays in
+    /// front. Room is asked for once, before anything changes: at most 260 bytes, and 12 and its
     /// pixels' bytes for each cell of 64 by 64 places that holds an asked place; or twice the room
     /// that there was, if that is more. Where there is none it gives the error, if an update is
     /// due, and nothing changes.
@@ -288,7 +288,7 @@ impl Server {
     }
 
     /// Whether the client's bytes end between two messages: the handshake is done, no message has
-    /// begun, and no fault was told.
+    /// begun, and no fault was returned.
     pub fn between(&self) -> bool
         ensures value { (serving : Serving) (s : ServerState) (prefix : List ℕ)
             → StandsFor serving self.now s prefix → result ≡ is_between s.point prefix }
@@ -297,7 +297,7 @@ impl Server {
         self.session.between()
     }
 
-    /// How many bytes are pending: those of the client's item under way that stand behind its last
+    /// How many bytes are pending: those of the client's item under way that stand after its last
     /// whole piece. It keeps no others, but the first bytes of a text.
     pub fn pending(&self) -> usize
         ensures value { (serving : Serving) (s : ServerState) (prefix : List ℕ)

@@ -25,8 +25,8 @@ use std::alloc::{AllocError, Global};
 
 /// One viewer's part of a server: its handshake, its format and its list of encodings, what it was
 /// sent, what it asked for, hints, and marks where the screen may differ from what it was sent. The
-/// screen is someone else's: a session is told where it is drawn on, and is lent it to compose. So
-/// several sessions, each of its own viewer, serve one screen.
+/// screen is someone else's: a session is notified where it is drawn on, and is lent it to compose.
+/// So several sessions, each of its own viewer, serve one screen.
 #[derive(Debug, Drop)]
 pub struct Session {
     alloc: Global,
@@ -99,9 +99,9 @@ impl Session {
         })
     }
 
-    /// Is told that the screen is to be drawn on inside the rectangle, which lies on it, or was
-    /// just drawn on there. Whatever is drawn inside it, the session follows the screen again;
-    /// while nothing is, it does too.
+    /// Notes that the screen is to be drawn on inside the rectangle, which lies on it, or was just
+    /// drawn on there. Whatever is drawn inside it, the session follows the screen again; while
+    /// nothing is, it does too.
     pub fn drawn(&mut self, rect: Rect)
         requires held { Holds (notes_in self.old).known rect }
         ensures follows { (before after : Grid Colour) → Follows before self.old → IsGrid after
@@ -121,9 +121,9 @@ impl Session {
     }
 
     /// Says that the rectangle `dst` of the screen looks as the one of its size at (`sx`, `sy`) did
-    /// when it was last sent, so that the viewer may be told to copy it. Nothing rests on it, and
-    /// nothing else changes. The last sixteen are kept until an update is composed. One that leaves
-    /// the screen is refused.
+    /// when it was last sent, so that the viewer may be sent a copy in place of its pixels. Nothing
+    /// rests on it, and nothing else changes. The last sixteen are kept until an update is
+    /// composed. One that leaves the screen is refused.
     pub fn hint(&mut self, dst: Rect, sx: u16, sy: u16) -> Result<(), Outside>
         ensures refused { (screen : Grid Colour) → IsAlike screen (notes_in self.old).known
             → (IsErr result ↔ (HoldsBoth screen dst sx sy → ⊥)) }

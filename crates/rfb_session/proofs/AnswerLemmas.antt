@@ -1,5 +1,5 @@
--- What each end answers, as bytes, is read by the other as the answers' items, behind all that is
--- in flight to it.
+-- What each end answers, as bytes, is read by the other as the answers' items, after all that is in
+-- flight to it.
 use Rattle.std.proofs.Common.{◌≡◌, ℕ, ◌==◌, Bool, true, false, List, [], ◌∷◌, map, length, refl, sym, ap, ◌∙◌, subst}
 use Rattle.rfb_wire.specs.stream.Sequel.{First, Second, StaysFirst}
 use Rattle.rfb_wire.specs.stream.Grammar.{Grammar, ReadsAll, past_all}
@@ -11,7 +11,7 @@ use Rattle.rfb_codec.specs.UpdateStream.{UpdatePoint, UpdateItem, Message, Recta
 use Rattle.rfb_hello.specs.declared.version.Version.{Version}
 use Rattle.rfb_hello.specs.declared.version.Version.TheVariants.{V33, V37, V38}
 use Rattle.rfb_hello.specs.Version.{lower}
-use Rattle.rfb_hello.specs.ClientHandshake.{AwaitsVersion as AwaitsClientVersion, AwaitsChoice, AwaitsInit as AwaitsClientInit, ClientItem, ProtocolVersion as ClientVersion, SecurityType, ClientInit, behind_version}
+use Rattle.rfb_hello.specs.ClientHandshake.{AwaitsVersion as AwaitsClientVersion, AwaitsChoice, AwaitsInit as AwaitsClientInit, ClientItem, ProtocolVersion as ClientVersion, SecurityType, ClientInit, after_version}
 use Rattle.rfb_hello.specs.ServerHandshake.{ServerPoint, AwaitsVersion, AwaitsSecurity, AwaitsResult, AwaitsInit, AwaitsName, ServerItem, ProtocolVersion, SecurityNone, SecurityTypes, SecurityResult, ServerInit, Name}
 use Rattle.rfb_hello.specs.ServerAnswers.{types_asked, init_asked, name_asked}
 use Rattle.rfb_hello.proofs.AnswerLaws.{types_read, result_read, init_read}
@@ -44,22 +44,22 @@ AnswersAt e at vp item =
     ReadsAll (to_server_stream e) at (viewer_reply (told_at e.viewing vp item))
     (viewer_answers e.viewing vp item) []
 
-abbrev pub AnswersBehind : Ends → Core → FromServer → Type 0
-AnswersBehind e c item =
+abbrev pub AnswersAfter : Ends → Core → FromServer → Type 0
+AnswersAfter e c item =
     AnswersAt e (past_all (to_server_stream e) c.session.point c.to_server) c.viewer.point item
 
 answers_as : (e : Ends) (c : Core) (item i : FromServer) (at : ClientAt) (vp : ServerAt) → item
     ≡ i → c.viewer.point ≡ vp → past_all (to_server_stream e) c.session.point c.to_server ≡ at →
-    AnswersAt e at vp i → AnswersBehind e c item
-answers_as e c item i at vp same point behind reads =
-    subst (λ (k : FromServer). AnswersBehind e c k) (sym same)
+    AnswersAt e at vp i → AnswersAfter e c item
+answers_as e c item i at vp same point after reads =
+    subst (λ (k : FromServer). AnswersAfter e c k) (sym same)
     (subst (λ (q : ServerAt). AnswersAt e
     (past_all (to_server_stream e) c.session.point c.to_server) q i) (sym point)
-    (subst (λ (p : ClientAt). AnswersAt e p vp i) (sym behind) reads))
+    (subst (λ (p : ClientAt). AnswersAt e p vp i) (sym after) reads))
 
 stands_answers : (e : Ends) (c : Core) (sp : ClientAt) (vp : ServerPoint) (i : ServerItem)
     (r rest : List FromServer) (item : FromServer) → Stands c sp vp [] (First i ∷ r) → c.to_viewer
-    ≡ item ∷ rest → AnswersAt e sp (First vp) (First i) → AnswersBehind e c item
+    ≡ item ∷ rest → AnswersAt e sp (First vp) (First i) → AnswersAfter e c item
 stands_answers e c sp vp i r rest item s queue reads =
     answers_as e c item (First i) sp (First vp)
     (first_is item (First i) rest r (sym queue ∙ s.to_viewer_is)).0 s.viewer_at
@@ -83,8 +83,8 @@ begun_answers e v [] made = ready_answers e made
 begun_answers e v (byte ∷ text) made = refl
 
 typed_answers : (e : Ends) (c : Core) (v : Version) (item : FromServer) (rest : List FromServer) →
-    Stands c (First (behind_version v)) (AwaitsSecurity v) [] (map (λ i. First i) (types_asked v)) →
-    c.to_viewer ≡ item ∷ rest → AnswersBehind e c item
+    Stands c (First (after_version v)) (AwaitsSecurity v) [] (map (λ i. First i) (types_asked v)) →
+    c.to_viewer ≡ item ∷ rest → AnswersAfter e c item
 typed_answers e c V33 item rest s queue =
     stands_answers e c (First (AwaitsClientInit V33))
     (AwaitsSecurity V33) SecurityNone [] rest item s queue
@@ -121,14 +121,14 @@ update_reply limit p (Message Bell) = refl
 update_reply limit p (Message (ServerCutText text)) = refl
 update_reply limit p (Rectangle head body) = done_reply (p.left == 1)
 
--- behind the handshake there is no answer
+-- after the handshake there is no answer
 update_answers : (e : Ends) (at : ClientAt) (p : UpdatePoint) (item : FromServer) →
     AnswersAt e at (Second p) item
 update_answers e at p (First step) = refl
 update_answers e at p (Second item) = update_reply e.viewing.hello.text_limit p item
 
 pub answers_read : (e : Ends) (c : Core) (item : FromServer) (rest : List FromServer) → AreMade e →
-    Phase e c → c.to_viewer ≡ item ∷ rest → AnswersBehind e c item
+    Phase e c → c.to_viewer ≡ item ∷ rest → AnswersAfter e c item
 answers_read e c item rest made (Greeting s) queue =
     stands_answers e c (First AwaitsClientVersion) AwaitsVersion
     (ProtocolVersion e.serving.hello.offer) [] rest item s queue
@@ -177,22 +177,22 @@ RepliesAt e at sp item =
     ReadsAll (to_viewer_stream e) at (server_reply (item_told e.serving sp item))
     (server_answers e.serving sp item) []
 
-abbrev pub RepliesBehind : Ends → Core → FromClient → Type 0
-RepliesBehind e c item =
+abbrev pub RepliesAfter : Ends → Core → FromClient → Type 0
+RepliesAfter e c item =
     RepliesAt e (past_all (to_viewer_stream e) c.viewer.point c.to_viewer) c.session.point item
 
 replies_as : (e : Ends) (c : Core) (item i : FromClient) (at : ServerAt) (sp : ClientAt) → item
     ≡ i → c.session.point ≡ sp → past_all (to_viewer_stream e) c.viewer.point c.to_viewer ≡ at →
-    RepliesAt e at sp i → RepliesBehind e c item
-replies_as e c item i at sp same point behind reads =
-    subst (λ (k : FromClient). RepliesBehind e c k) (sym same)
+    RepliesAt e at sp i → RepliesAfter e c item
+replies_as e c item i at sp same point after reads =
+    subst (λ (k : FromClient). RepliesAfter e c k) (sym same)
     (subst (λ (q : ClientAt). RepliesAt e
     (past_all (to_viewer_stream e) c.viewer.point c.to_viewer) q i) (sym point)
-    (subst (λ (p : ServerAt). RepliesAt e p sp i) (sym behind) reads))
+    (subst (λ (p : ServerAt). RepliesAt e p sp i) (sym after) reads))
 
 stands_replies : (e : Ends) (c : Core) (sp : ClientAt) (vp : ServerPoint) (i : ClientItem)
     (r rest : List FromClient) (item : FromClient) → Stands c sp vp (First i ∷ r) [] → c.to_server
-    ≡ item ∷ rest → RepliesAt e (First vp) sp (First i) → RepliesBehind e c item
+    ≡ item ∷ rest → RepliesAt e (First vp) sp (First i) → RepliesAfter e c item
 stands_replies e c sp vp i r rest item s queue reads =
     replies_as e c item (First i) (First vp) sp
     (first_is item (First i) rest r (sym queue ∙ s.to_server_is)).0 s.session_at
@@ -234,12 +234,12 @@ message_replies e at (Second (PointerEvent buttons x y)) = refl
 message_replies e at (Second (ClientCutText text)) = refl
 
 ready_replies : (e : Ends) (c : Core) (item : FromClient) → c.session.point ≡ Second tt →
-    RepliesBehind e c item
+    RepliesAfter e c item
 ready_replies e c item at =
     replies_as e c item item _ (Second tt) refl at refl (message_replies e _ item)
 
 pub replies_read : (e : Ends) (c : Core) (item : FromClient) (rest : List FromClient) → AreMade e →
-    Phase e c → c.to_server ≡ item ∷ rest → RepliesBehind e c item
+    Phase e c → c.to_server ≡ item ∷ rest → RepliesAfter e c item
 replies_read e c item rest made (Greeting s) queue =
     absurd (none_first item rest (sym s.to_server_is ∙ queue))
 replies_read e c item rest made (Versioned v s) queue =

@@ -18,7 +18,7 @@ use Rattle.rfb_server.specs.ClientBytes.{FromClient}
 use Rattle.rfb_session.specs.Link.{Ends, LinkState}
 use Rattle.rfb_session.specs.Headline.{ShowsKnown, ShowsLatest}
 use Rattle.rfb_session.specs.LinkSteps.{calls}
-use Rattle.rfb_session.proofs.QueueLemmas.{IsMere, form_behind, form_append, mere_form, mere_later, mere_more, later_more, ask_more, asks_now}
+use Rattle.rfb_session.proofs.QueueLemmas.{IsMere, form_after, form_append, mere_form, mere_later, mere_more, later_more, ask_more, asks_now}
 use Rattle.rfb_session.proofs.PhaseLemmas.{Core, core, Phase, Greeting, Versioned, Typed, Choosing37, Choosing38, Chosen, Sharing, Begun, Named, Idling, Asking, Held, Sent, meets_as}
 use Rattle.rfb_session.proofs.HoldsLemmas.{Holds, due}
 
@@ -37,11 +37,11 @@ not_ready : (c : Core) (vp : ServerPoint) → c.viewer.point ≡ First vp → ca
 not_ready c vp at e = some_none NotReady (sym (ap (λ (p : ServerAt). call_refused p) at) ∙ e)
 
 later_form : (form : PixelFormat) (items : List FromClient) (message : ClientMessage) →
-    IsMere (Second message) → form_behind form (items ++ Second message ∷ [])
-    ≡ form_behind form items
+    IsMere (Second message) → form_after form (items ++ Second message ∷ [])
+    ≡ form_after form items
 later_form form items message mere =
     form_append form items (Second message)
-    ∙ mere_form (form_behind form items) (Second message) mere
+    ∙ mere_form (form_after form items) (Second message) mere
 
 phase_mere : (e : Ends) (c : Core) (message : ClientMessage) → Phase e c → IsMere (Second message) →
     call_refusal c.viewer ≡ None → Phase e (sent c c.viewer message)

@@ -188,7 +188,7 @@ pub not_taken : (refusal : Option CallFault) (refused : Refused) → None ≡ re
 not_taken None refused none is = no_refusal refused is
 not_taken (Some fault) refused none is = absurd cc
 
--- what is told of a refusal is one
+-- what is answered to a refusal is one
 pub is_refusal : (fault : CallFault) (told : Option Refused) → told ≡ refused_as (Some fault) →
     told ≡ None → ⊥
 is_refusal NotReady told is none = cc

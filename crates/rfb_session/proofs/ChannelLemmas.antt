@@ -1,4 +1,4 @@
--- An update behind other bytes stands behind those of them that are still in flight.
+-- An update after other bytes stands after those of them that are still in flight.
 use Rattle.std.proofs.Common.{◌≡◌, ℕ, ◌≤◌, min, List, ◌++◌, length, drop, length-append, ap, ◌∙◌, arith}
 use Rattle.std.proofs.lemmas.List.{drop-append-le}
 use Rattle.rfb_pixel.specs.declared.colour.Colour.{Colour}
@@ -6,7 +6,7 @@ use Rattle.rfb_picture.specs.Grid.{Grid}
 use Rattle.rfb_server.specs.declared.session.Session.{Session}
 use Rattle.rfb_server.specs.Updating.{SendsUpdate}
 
--- bytes that joined others stand behind those that are left of these
+-- bytes that joined others stand after those that are left of these
 pub rest_of : (all more bytes : List ℕ) (k j : ℕ) → k ≤ length all → j ≡ min k (length more) →
     more ≡ all ++ bytes → drop j more ≡ drop k all ++ bytes
 rest_of all more bytes k j within least is =
@@ -25,7 +25,7 @@ updates_rest screen old new all more k j within least updates = record {
       let one = updates.sent serving s prefix stands in
       record {
         due = one.due;
-        behind = one.behind;
+        resulting = one.resulting;
         bytes = one.bytes;
         copies = one.copies;
         blocks = one.blocks;

@@ -45,11 +45,11 @@ composed_does screen old new told over none taken did = λ e n made reached here
     let one : HasSent e.serving s c.server_has (hints_in old.session) n.screen new.session old.to_viewer
     new.to_viewer =
     updates.sent e.serving s c.server_has c.server_is in
-    let behind_is : server_of n.screen (session_of one.behind) ≡ one.behind =
-    ap (λ (g : Grid Colour). server_of g (session_of one.behind))
+    let after_same : server_of n.screen (session_of one.resulting) ≡ one.resulting =
+    ap (λ (g : Grid Colour). server_of g (session_of one.resulting))
     (sym one.composes.same_screen) in
     let l : LinkState = record n.link {
-      session = session_of one.behind;
+      session = session_of one.resulting;
       to_viewer = n.link.to_viewer ++ update_items one.copies one.blocks;
       latest = Some (record {
         screen = n.screen;
@@ -59,19 +59,19 @@ composed_does screen old new told over none taken did = λ e n made reached here
     } in
     let composes : ComposesOn n.screen n.link l = record {
       due = one.due;
-      session = session_of one.behind;
+      session = session_of one.resulting;
       bytes = one.bytes;
       copies = one.copies;
       blocks = one.blocks;
       composed = subst (λ (t : ServerState). Composes s t one.bytes one.copies one.blocks)
-          (sym behind_is) one.composes;
+          (sym after_same) one.composes;
       result = refl;
     } in
     let flies = composed_flies e n.screen n.link l _ (reached_holds e n reached) c.flies composes in
     let areas : (notes_in old.session).area ≡ n.link.session.area =
     ap (λ (notes : Notes). notes.area) (session_noted e.serving n.screen old.session s c.server_has c.server_is) in
     let forms : (notes_in new.session).form ≡ n.link.session.form =
-    ap (λ (notes : Notes). notes.form) (session_noted e.serving n.screen new.session one.behind c.server_has one.stands)
+    ap (λ (notes : Notes). notes.form) (session_noted e.serving n.screen new.session one.resulting c.server_has one.stands)
     ∙ one.composes.same_format in (
       record n { link = l },
       (refl, inl composes),
@@ -86,7 +86,7 @@ composed_does screen old new told over none taken did = λ e n made reached here
           server_has = c.server_has;
           viewer_has = c.viewer_has;
           server_is = subst (λ (t : ServerState). SessionStandsFor e.serving n.screen new.session t c.server_has)
-              (sym behind_is) one.stands;
+              (sym after_same) one.stands;
           viewer_is = subst (λ (v : Viewer). ViewerStandsFor e.viewing v n.link.viewer c.viewer_has)
               (sym over.viewer) c.viewer_is;
           flies = rw (over.to_server, one.appended) flies;

@@ -147,7 +147,7 @@ viewer_never old new bytes count fault is refused = λ e n made reached stands.
     old.to_server bytes (drop count old.to_viewer) fault n.link c
     (refused e.viewing))
 
--- the lesser of what is asked for and what is in flight, and what is told of it
+-- the lesser of what is asked for and what is in flight, and what is answered
 pub viewer_moved : (old new : Link) (count moved : ℕ) (told : Told) →
     moved ≡ min (length old.to_viewer) count → DeliversToViewer old moved new →
     told.moved ≡ moved → told.refused ≡ None → told.composed ≡ false →
@@ -249,7 +249,7 @@ server_never old new bytes count fault is refused = λ e n made reached stands.
     bytes (drop count old.to_server) old.to_viewer fault n.link c
     (refused e.serving n.screen))
 
--- the lesser of what is asked for and what is in flight, and what is told of it
+-- the lesser of what is asked for and what is in flight, and what is answered
 pub server_moved : (old new : Link) (count moved : ℕ) (told : Told) →
     moved ≡ min (length old.to_server) count → DeliversToServer old moved new →
     told.moved ≡ moved → told.refused ≡ None → told.composed ≡ false →

@@ -42,7 +42,7 @@ both_held_or_not rect sx sy g =
     by (inl held) (inr not) = inr (λ both. not both.1)
     by (inl held) (inl source) = inl (held, source)
 
--- a link whose session was told, over another screen
+-- a link whose session was notified, over another screen
 pub link_drawn : (e : Ends) (before after : Grid Colour) (old new : Link) (l : LinkState) →
     LinkStandsFor e before old l → ChangesSession old new →
     KeepsSession old.session new.session → LinkStandsFor e after new l

@@ -6,7 +6,7 @@ use Rattle.rfb_picture.specs.Grid.{Grid}
 use Rattle.rfb_picture.specs.Area.{Places}
 use Rattle.rfb_wire.specs.stream.Sequel.{Second, past_in}
 use Rattle.rfb_wire.specs.stream.End.{acts}
-use Rattle.rfb_codec.specs.UpdateStream.{UpdatePoint, UpdateItem, left_behind, update_stream}
+use Rattle.rfb_codec.specs.UpdateStream.{UpdatePoint, UpdateItem, left_after, update_stream}
 use Rattle.rfb_codec.specs.Effect.{effect, effects, IsAlike, Agrees}
 use Rattle.rfb_codec.specs.WholeUpdate.{update_of}
 use Rattle.rfb_codec.proofs.EffectLaws.{effects_left}
@@ -14,7 +14,7 @@ use Rattle.rfb_server.specs.Request.{needs_sending}
 use Rattle.rfb_server.specs.Composing.{Part, sent_as, between, Composes, IsDue}
 use Rattle.rfb_server.proofs.ComposingLaws.{shows_screen}
 use Rattle.rfb_viewer.specs.ServerBytes.{ServerAt, FromServer, server_two}
-use Rattle.rfb_viewer.specs.Viewer.{ViewerState, viewer, shows, picture_behind, effect_on}
+use Rattle.rfb_viewer.specs.Viewer.{ViewerState, viewer, shows, picture_after, effect_on}
 use Rattle.rfb_session.specs.Link.{Ends, SessionState, server_of, LinkState}
 use Rattle.rfb_session.specs.Headline.{ShowsKnown, ShowsLatest}
 use Rattle.rfb_session.specs.LinkSteps.{ComposesOn}
@@ -26,9 +26,9 @@ past_effects : (p : UpdatePoint) (item : UpdateItem) (items : List UpdateItem)
     (picture : Grid Colour) → effects (update_stream.past p item) items picture
     ≡ effects p items picture
 unfolding update_stream
-past_effects p item items picture = effects_left p (left_behind p.left item) items picture
+past_effects p item items picture = effects_left p (left_after p.left item) items picture
 
--- items behind the handshake have their effects on the picture
+-- items after the handshake have their effects on the picture
 acts_effects : (e : Ends) (v : ViewerState) (p : UpdatePoint) (items : List UpdateItem)
     (picture : Grid Colour) → v.point ≡ Second p → v.picture ≡ Some picture →
     (acts (viewer e.viewing) v (map (λ item. Second item) items)).picture
@@ -39,7 +39,7 @@ acts_effects e v p (item ∷ items) picture at is =
     ap (λ (q : ServerAt). past_in (server_two e.viewing.form e.viewing.hello) q
     (Second item)) at in
     let now =
-    ap (λ (q : ServerAt). picture_behind q (Second item) v.picture) at
+    ap (λ (q : ServerAt). picture_after q (Second item) v.picture) at
     ∙ ap (λ (o : Option (Grid Colour)). effect_on p item o) is in
     acts_effects e (shows e.viewing v (Second item)) (update_stream.past p item) items
     (effect p item picture) point now
@@ -125,7 +125,7 @@ holds_composed_at e screen c to bytes copies blocks h held composed =
     } in
     let sized : IsAlike screen c.session.known =
     record { columns = h.wide ∙ sym h.known_wide; rows = h.high ∙ sym h.known_high } in
-    let behind : due e (composed_core screen c to (copies ++ blocks))
+    let after : due e (composed_core screen c to (copies ++ blocks))
     ≡ Some (effects (between (server_of screen c.session)) items picture.picture) =
     ap (λ (q : List FromServer). (acts (viewer e.viewing) c.viewer q).picture) queue
     ∙ acts_effects e c.viewer p items picture.picture m.viewer_at picture.picture_is
@@ -153,11 +153,11 @@ holds_composed_at e screen c to bytes copies blocks h held composed =
                 (update_rest p (map sent_as (copies ++ blocks)));
           });
       known = subst (λ (d : Option (Grid Colour)). ShowsKnown to.form to.known d)
-          (sym behind) known;
+          (sym after) known;
       latest = subst
           (λ (d : Option (Grid Colour)). ShowsLatest
           (Some (record { screen = screen; area = c.session.area; form = c.session.form })) d)
-          (sym behind)
+          (sym after)
           (λ x y d wide high asked. shows_screen (server_of screen c.session)
           (server_of screen to) bytes copies blocks picture.picture x y d
           composed sized picture.whole alike agrees (wide, high) asked);

@@ -56,7 +56,7 @@ module _ {V C S P I F E A : Type 0} where
     updates_are = refl;
   }
 
-  -- steps behind steps
+  -- steps after steps
   abbrev pub joined : (d : Driven V C S P I F E A) (made : C) (s : S) (prefix : List ℕ) (mid new : V)
       (fed sent more_fed more_sent all_fed all_sent : List ℕ) (n m k : ℕ) →
       all_fed ≡ fed ++ more_fed → all_sent ≡ sent ++ more_sent → k ≡ n + m →
@@ -79,7 +79,7 @@ module _ {V C S P I F E A : Type 0} where
             ∙ sym (updates_append d a.steps b.steps);
       }
 
-  -- a run behind a run
+  -- a run after a run
   pub ran_then : (d : Driven V C S P I F E A) (old mid new : V) (fed sent more_fed more_sent : List ℕ)
       (n m : ℕ) → RunsOn d old fed sent n mid → RunsOn d mid more_fed more_sent m new →
       RunsOn d old (fed ++ more_fed) (sent ++ more_sent) (n + m) new

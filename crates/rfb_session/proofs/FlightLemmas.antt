@@ -27,7 +27,7 @@ use Rattle.rfb_session.proofs.PhaseLemmas.{Core, core}
 use Rattle.rfb_session.proofs.ShowingLemmas.{shown}
 use Rattle.rfb_session.proofs.ServedLemmas.{served}
 use Rattle.rfb_session.proofs.HoldsLemmas.{Holds, holds_shown, holds_served, kept_screen}
-use Rattle.rfb_session.proofs.AnswerLemmas.{to_server_stream, to_viewer_stream, AnswersBehind, answers_read, RepliesBehind, replies_read}
+use Rattle.rfb_session.proofs.AnswerLemmas.{to_server_stream, to_viewer_stream, AnswersAfter, answers_read, RepliesAfter, replies_read}
 
 module _ {P I F : Type 0} where
   -- no bytes are no items
@@ -36,7 +36,7 @@ module _ {P I F : Type 0} where
   reads_none g laws p [] rest reads = refl
   reads_none g laws p (i ∷ items) rest reads = absurd (some_byte g laws p i reads.0 reads.1)
 
-  -- bytes that are read behind those in flight join them
+  -- bytes that are read after those in flight join them
   pub joins : (g : Grammar P I F) → IsGrammar g →
       (p : P) (has gets more : List ℕ) (xs ys : List I) →
       ReadsAll g p (has ++ gets) xs [] → ReadsAll g (past_all g p xs) more ys [] →
@@ -78,14 +78,14 @@ all_answers : (e : Ends) (screen : Grid Colour) (c : Core) (done left : List Fro
 all_answers e screen c [] left event made h queue ends =
     ap (λ (o : Option ViewerTold). viewer_reply o) ends
 all_answers e screen c (item ∷ []) left event made h queue ends =
-    let one : AnswersBehind e c item = answers_read e c item left made h.phase queue in
+    let one : AnswersAfter e c item = answers_read e c item left made h.phase queue in
     subst (λ (o : Option ViewerTold). ReadsAll (to_server_stream e) (p_server e c) (viewer_reply o)
     (viewer_replies e.viewing c.viewer (item ∷ [])) []) ends
     (subst (λ (q : List FromClient). ReadsAll (to_server_stream e) (p_server e c)
     (viewer_reply ((viewer e.viewing).tells c.viewer item)) q [])
     (sym (append-nil (viewer_answers e.viewing c.viewer.point item))) one)
 all_answers e screen c (item ∷ next ∷ done) left event made h queue (quiet, ends) =
-    let one : AnswersBehind e c item =
+    let one : AnswersAfter e c item =
     answers_read e c item ((next ∷ done) ++ left) made h.phase queue in
     let answers = viewer_answers e.viewing c.viewer.point item in
     let more = viewer_replies e.viewing (shows e.viewing c.viewer item) (next ∷ done) in
@@ -178,14 +178,14 @@ all_replies : (e : Ends) (screen : Grid Colour) (c : Core) (done left : List Fro
 all_replies e screen c [] left event made h queue ends =
     ap (λ (o : Option ServerTold). server_reply o) ends
 all_replies e screen c (item ∷ []) left event made h queue ends =
-    let one : RepliesBehind e c item = replies_read e c item left made h.phase queue in
+    let one : RepliesAfter e c item = replies_read e c item left made h.phase queue in
     subst (λ (o : Option ServerTold). ReadsAll (to_viewer_stream e) (p_viewer e c) (server_reply o)
     (server_replies e.serving (server_of screen c.session) (item ∷ [])) []) ends
     (subst (λ (q : List FromServer). ReadsAll (to_viewer_stream e) (p_viewer e c)
     (server_reply ((server e.serving).tells (server_of screen c.session) item)) q [])
     (sym (append-nil (server_answers e.serving c.session.point item))) one)
 all_replies e screen c (item ∷ next ∷ done) left event made h queue (quiet, ends) =
-    let one : RepliesBehind e c item =
+    let one : RepliesAfter e c item =
     replies_read e c item ((next ∷ done) ++ left) made h.phase queue in
     let replies = server_answers e.serving c.session.point item in
     let kept = kept_screen e.serving screen c.session item in

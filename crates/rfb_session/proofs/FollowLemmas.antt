@@ -36,7 +36,7 @@ module _ {X : Type 0} where
   all_about session screen slots rect follow held = λ k d within seat is.
       held_known screen (session seat) rect (follow k d within seat is) held
 
-  -- what each of them followed is drawn on in a rectangle, of which it was told
+  -- what each of them followed is drawn on in a rectangle, of which it was notified
   pub all_drawn : (session : X → Session) (R : X → X → Type 0) (screen after : Grid Colour)
       (old new : List (Option X)) (rect : Rect) (f : ℕ → ℕ → Colour → Colour) →
       ((a b : X) → R a b → (before later : Grid Colour) → Follows before (session a) →

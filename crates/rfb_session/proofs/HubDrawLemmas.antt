@@ -100,7 +100,7 @@ row_inside rect g refused = by (held_or_not rect g)
 abbrev pub Mark : Rect → Hub → Hub → Type 0
 Mark rect old new = (k : ℕ) → OnSlot (λ a b. IsDrawnOn rect a b) (seat_in old k) (seat_in new k)
 
--- a seat whose session was told stands for the network with the new screen
+-- a seat whose session was notified stands for the network with the new screen
 pub seat_drawn : (e : Ends) (before after : Grid Colour) (a b : Seat) (n : Network) → KeepsSeat a b →
     SeatStandsFor e before a n → SeatStandsFor e after b (record n { screen = after })
 seat_drawn e before after a b n keeps stands = record {

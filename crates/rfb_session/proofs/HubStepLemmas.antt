@@ -35,7 +35,7 @@ as_before old new k is = ap (λ (h : Hub). seat_in h k) is
 
 -- ---- slots that an event is not of
 
--- where none is told as emptied, a slot that is as it was stays
+-- where none is reported as emptied, a slot that is as it was stays
 pub stays_mere : (told : HubTold) (k : ℕ) (a b : Option Seat) → IsMere told → b ≡ a →
     StaysUnless (has_bit told.ended k) a b
 stays_mere told k a b mere same =

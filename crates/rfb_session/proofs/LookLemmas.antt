@@ -9,7 +9,7 @@ use Rattle.rfb_session.specs.ViewEngine.{RunsInTurn, HasViewed, HasMissed, Viewe
 use Rattle.rfb_session.specs.Looking.{due_until, Looks, HasLooked, StopsLooking}
 use Rattle.rfb_session.proofs.WrittenLemmas.{rest_is, whole_beginning}
 use Rattle.rfb_session.proofs.PlayLemmas.{none_left}
-use Rattle.rfb_session.proofs.ServeLemmas.{begun_behind}
+use Rattle.rfb_session.proofs.ServeLemmas.{begun_after}
 use Rattle.rfb_session.proofs.EngineRunLemmas.{only_one}
 use Rattle.rfb_session.proofs.ViewLemmas.{turn_none, turn_then, until_some, kept_as}
 
@@ -98,7 +98,7 @@ all_parts : (bytes fed rest more slice : List ℕ) → bytes ≡ fed ++ rest →
 all_parts bytes fed rest more slice is parts =
     is ∙ ap (λ (l : List ℕ). fed ++ l) parts ∙ sym (append_assoc fed more slice)
 
--- why it stops behind calls
+-- why it stops after calls
 pub looking_stops : (old : Viewer) (bytes rest : List ℕ) (left mid : ℕ)
     (before w after blank k copied : Option (List ℕ)) (last : Viewer)
     (failing failed_mid failed : ℕ) (fault : EngineFault) (new : Viewer) →
@@ -137,8 +137,8 @@ looking_stops old bytes rest left mid before w after blank k copied last fb fm f
             cut.updates cut.asks
             (open_turn old last was.fed was.looks.sent was.looks.updates mid some was.looks.runs)
             cut.runs;
-        wrote = begun_behind before w after was.looks.sent cut.sent was.looks.wrote cut.wrote;
-        kept = begun_behind blank k copied was.fed cut.fed was.looks.kept cut.kept;
+        wrote = begun_after before w after was.looks.sent cut.sent was.looks.wrote cut.wrote;
+        kept = begun_after blank k copied was.fed cut.fed was.looks.kept cut.kept;
       },
     )
 looking_stops old bytes rest left mid before w after blank k copied last fb fm failed (ServerEnded fault) new was some same stops = absurd stops
@@ -319,8 +319,8 @@ looking_fails unread mid left before w after blank k copied old reads asked stil
             cut.updates cut.asks
             (open_turn old last was.fed was.looks.sent was.looks.updates still was.going was.looks.runs)
             cut.runs;
-        wrote = begun_behind before w after was.looks.sent cut.sent was.looks.wrote cut.wrote;
-        kept = begun_behind blank k copied was.fed cut.fed was.looks.kept cut.kept;
+        wrote = begun_after before w after was.looks.sent cut.sent was.looks.wrote cut.wrote;
+        kept = begun_after blank k copied was.fed cut.fed was.looks.kept cut.kept;
       },
     )
 looking_fails unread mid left before w after blank k copied old reads asked still last bytes fb failed fa af (ServerEnded fault) new was more same counted stops = absurd stops

@@ -56,7 +56,7 @@ server_flight e l f flies =
     (sizes (to_server_stream e) l.to_server) l.at_server
     (omega (arith, all, both)) flies.at_server
 
--- ---- deliveries behind deliveries
+-- ---- deliveries after deliveries
 
 viewer_replies_append : (viewing : Viewing) (s : ViewerState) (xs ys : List FromServer) →
     viewer_replies viewing s (xs ++ ys)

@@ -1,4 +1,4 @@
--- Where a link stands at all times: in a step of the handshake, or behind it by who has the one
+-- Where a link stands at all times: in a step of the handshake, or after it by who has the one
 -- request that can be outstanding.
 use Rattle.std.proofs.Common.{◌≡◌, ℕ, true, false, List, [], ◌∷◌, map, Option, Some, None, ◌∙◌}
 use Rattle.rfb_pixel.specs.declared.colour.Colour.{Colour}
@@ -7,7 +7,7 @@ use Rattle.rfb_wire.specs.stream.Sequel.{First, Second}
 use Rattle.rfb_codec.specs.UpdateStream.{UpdatePoint}
 use Rattle.rfb_hello.specs.declared.version.Version.{Version}
 use Rattle.rfb_hello.specs.declared.version.Version.TheVariants.{V37, V38}
-use Rattle.rfb_hello.specs.ClientHandshake.{AwaitsVersion as AwaitsClientVersion, AwaitsChoice, AwaitsInit as AwaitsClientInit, ProtocolVersion as ClientVersion, SecurityType, ClientInit, behind_version}
+use Rattle.rfb_hello.specs.ClientHandshake.{AwaitsVersion as AwaitsClientVersion, AwaitsChoice, AwaitsInit as AwaitsClientInit, ProtocolVersion as ClientVersion, SecurityType, ClientInit, after_version}
 use Rattle.rfb_hello.specs.ServerHandshake.{ServerPoint, AwaitsVersion, AwaitsSecurity, AwaitsResult, AwaitsInit, AwaitsName, ProtocolVersion, SecurityResult, Name}
 use Rattle.rfb_hello.specs.ServerAnswers.{types_asked, init_asked}
 use Rattle.rfb_server.specs.ClientBytes.{ClientAt, FromClient}
@@ -15,7 +15,7 @@ use Rattle.rfb_viewer.specs.ServerBytes.{FromServer}
 use Rattle.rfb_viewer.specs.Viewer.{ViewerState}
 use Rattle.rfb_session.specs.Link.{Ends, SessionState, Composing, LinkState}
 use Rattle.rfb_session.specs.Headline.{IsUnknown}
-use Rattle.rfb_session.proofs.QueueLemmas.{AreMere, AreLater, AskOnce, form_behind, IsRest, IsUnasked}
+use Rattle.rfb_session.proofs.QueueLemmas.{AreMere, AreLater, AskOnce, form_after, IsRest, IsUnasked}
 
 -- a link but for the bytes of items that have been moved
 pub record Core : Type 0 where
@@ -55,7 +55,7 @@ pub record Stands (c : Core) (sp : ClientAt) (vp : ServerPoint) (ts : List FromC
   pub unknown : IsUnknown c.session.known
   pub none_yet : c.latest ≡ None
 
--- behind it: both between messages, or the viewer inside an update
+-- after it: both between messages, or the viewer inside an update
 pub record Meets (e : Ends) (c : Core) (p : UpdatePoint) : Type 0 where
   pub session_at : c.session.point ≡ Second tt
   pub viewer_at : c.viewer.point ≡ Second p
@@ -70,7 +70,7 @@ pub record Idles (c : Core) (p : UpdatePoint) : Type 0 where
   pub between : p.left ≡ 0
   pub unasked : IsUnasked c.session.area
   pub later : AreLater c.to_server
-  pub formed : form_behind c.session.form c.to_server ≡ p.form
+  pub formed : form_after c.session.form c.to_server ≡ p.form
 
 -- a request is in flight to the server
 pub record Asks (c : Core) (p : UpdatePoint) : Type 0 where
@@ -79,7 +79,7 @@ pub record Asks (c : Core) (p : UpdatePoint) : Type 0 where
   pub between : p.left ≡ 0
   pub unasked : IsUnasked c.session.area
   pub once : AskOnce c.to_server
-  pub formed : form_behind c.session.form c.to_server ≡ p.form
+  pub formed : form_after c.session.form c.to_server ≡ p.form
 
 -- the server has it
 pub record Awaits (c : Core) (p : UpdatePoint) : Type 0 where
@@ -105,7 +105,7 @@ pub data Phase (e : Ends) (c : Core) : Type 0 where
       (First (ProtocolVersion e.serving.hello.offer) ∷ []) → Phase e c
   Versioned : (v : Version) → Stands c (First AwaitsClientVersion) (AwaitsSecurity v)
       (First (ClientVersion v) ∷ []) [] → Phase e c
-  Typed : (v : Version) → Stands c (First (behind_version v)) (AwaitsSecurity v) []
+  Typed : (v : Version) → Stands c (First (after_version v)) (AwaitsSecurity v) []
       (map (λ i. First i) (types_asked v)) → Phase e c
   Choosing37 : Stands c (First (AwaitsChoice V37)) (AwaitsInit V37)
       (First SecurityType ∷ shared_init e) [] → Phase e c

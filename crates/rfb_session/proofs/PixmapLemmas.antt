@@ -127,7 +127,7 @@ components_eight (p ∷ q ∷ r ∷ s ∷ t ∷ u ∷ v ∷ w ∷ x ∷ xs) none
 pub no_components : (before : List ℕ) → before ++ components [] ≡ before
 no_components before = ap (λ (l : List ℕ). before ++ l) components_nil ∙ append-nil before
 
--- those of so many colours are the first of all
+-- those of the first `n` colours are the first of all
 pub components_split : (before : List ℕ) (colours : List Colour) (n : ℕ) →
     before ++ components colours ≡ (before ++ components (take n colours)) ++ components (drop n colours)
 components_split before colours n =
@@ -135,7 +135,7 @@ components_split before colours n =
     ∙ ap (λ (l : List ℕ). before ++ l) (components-append (take n colours) (drop n colours))
     ∙ sym (append_assoc before (components (take n colours)) (components (drop n colours)))
 
--- behind those of the colours before, so many colours' bytes are written over the others
+-- after those of the colours before, the bytes of `n` colours are written over the others
 pub put_more : (colours : List Colour) (bytes part : List ℕ) (start n k : ℕ) → start + n ≤ length colours →
     6 * start ≤ length bytes → take (6 * start) bytes ≡ components (take start colours) →
     part ≡ components (take n (drop start colours)) →
@@ -154,7 +154,7 @@ one_taken colours k none below =
     let next = drop-cons colours k none below in
     sym (ap (take 1) next)
 
--- they wait behind the others, once there is room
+-- they wait after the others, once there is room
 pub gathered_block : (old mid new : Option (List ℕ)) (before waiting roomy text : List ℕ)
     (colours block now : List Colour) → AppendsUpTo old mid (before ++ components colours) waiting →
     AppendsUpTo mid new waiting roomy → text ≡ roomy ++ components block → colours ++ block ≡ now →

@@ -187,7 +187,7 @@ none_left unread left fed bytes n read many is few =
     by None c = tt
     by (Some ys) c = absurd (over fed ys bytes n c many few)
 
--- after so many reads, where there were fewer bytes
+-- after `reads` reads, where there were fewer bytes
 pub reading_out : (unread left : Option (List ℕ)) (old : Viewer) (reads told : ℕ) (now : Viewer) →
     Reading unread left old reads told now → 2 ^ 64 - 1 ≤ reads → AllPlayed unread left old told now
 reading_out unread left old reads told now was out = record {

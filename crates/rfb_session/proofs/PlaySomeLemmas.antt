@@ -16,7 +16,7 @@ counts_on : (before n m told now : ℕ) → told ≡ min (before + n) (2 ^ 64 - 
     now ≡ min (told + m) (2 ^ 64 - 1) → now ≡ min (before + (n + m)) (2 ^ 64 - 1)
 counts_on before n m told now was is = omega (arith, was, is)
 
--- a call whose bytes are all behind
+-- a call whose bytes are all after
 pub some_more : (old : Viewer) (bytes : List ℕ) (before : ℕ) (rest : List ℕ) (told : ℕ)
     (mid : Viewer) (used : ℕ) (new : Viewer) (now : ℕ) → Watched old bytes before rest told mid →
     WasCounted mid (take used rest) told now new →
@@ -83,7 +83,7 @@ some_first old bytes before rest told mid used new now enough was call few many 
       enough_is = one.1;
     }
 
--- the viewer ended behind calls
+-- the viewer ended after calls
 pub some_until : (old : Viewer) (bytes : List ℕ) (before : ℕ) (rest : List ℕ) (told : ℕ)
     (last : Viewer) (fault : ViewerFault) (new : Viewer) → Watched old bytes before rest told last →
     EndsBy fault last rest new → EndsWithin old bytes fault new

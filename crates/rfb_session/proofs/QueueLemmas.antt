@@ -46,7 +46,7 @@ abbrev pub AreLater : List FromClient → Type 0
 AreLater [] = Unit {0}
 AreLater (item ∷ items) = IsLater item × AreLater items
 
--- one request is among them, and behind it no format
+-- one request is among them, and after it no format
 abbrev pub AskOnce : List FromClient → Type 0
 AskOnce [] = ⊥
 AskOnce (First step ∷ items) = ⊥
@@ -57,7 +57,7 @@ AskOnce (Second (KeyEvent down key) ∷ items) = AskOnce items
 AskOnce (Second (PointerEvent buttons x y) ∷ items) = AskOnce items
 AskOnce (Second (ClientCutText text) ∷ items) = AskOnce items
 
--- the format behind an item, and behind items
+-- the format after an item, and after items
 abbrev pub form_past : PixelFormat → FromClient → PixelFormat
 form_past form (First step) = form
 form_past form (Second (SetPixelFormat other)) = other
@@ -67,12 +67,12 @@ form_past form (Second (KeyEvent down key)) = form
 form_past form (Second (PointerEvent buttons x y)) = form
 form_past form (Second (ClientCutText text)) = form
 
-abbrev pub form_behind : PixelFormat → List FromClient → PixelFormat
-form_behind form [] = form
-form_behind form (item ∷ items) = form_behind (form_past form item) items
+abbrev pub form_after : PixelFormat → List FromClient → PixelFormat
+form_after form [] = form
+form_after form (item ∷ items) = form_after (form_past form item) items
 
 pub form_append : (form : PixelFormat) (items : List FromClient) (last : FromClient) →
-    form_behind form (items ++ last ∷ []) ≡ form_past (form_behind form items) last
+    form_after form (items ++ last ∷ []) ≡ form_past (form_after form items) last
 form_append form [] last = refl
 form_append form (item ∷ items) last = form_append (form_past form item) items last
 
@@ -86,10 +86,10 @@ mere_form form (Second (PointerEvent buttons x y)) mere = refl
 mere_form form (Second (ClientCutText text)) mere = refl
 
 pub mere_forms : (form : PixelFormat) (items : List FromClient) → AreMere items →
-    form_behind form items ≡ form
+    form_after form items ≡ form
 mere_forms form [] mere = refl
 mere_forms form (item ∷ items) mere =
-    ap (λ (f : PixelFormat). form_behind f items) (mere_form form item mere.0)
+    ap (λ (f : PixelFormat). form_after f items) (mere_form form item mere.0)
     ∙ mere_forms form items mere.1
 
 pub mere_later : (item : FromClient) → IsMere item → IsLater item
@@ -127,7 +127,7 @@ ask_more (Second (KeyEvent down key) ∷ items) last once one = ask_more items l
 ask_more (Second (PointerEvent buttons x y) ∷ items) last once one = ask_more items last once one
 ask_more (Second (ClientCutText text) ∷ items) last once one = ask_more items last once one
 
--- a request behind messages that are none
+-- a request after messages that are none
 pub asks_now : (items : List FromClient) (incremental : Bool) (rect : Rect) → AreLater items →
     AskOnce (items ++ Second (FramebufferUpdateRequest incremental rect) ∷ [])
 asks_now [] incremental rect later = tt
@@ -174,7 +174,7 @@ one_test n e = grind (arith, nat_tests)
 none_test : (n : ℕ) → (n == 0) ≡ true → n ≡ 0
 none_test n e = grind (arith, nat_tests)
 
--- behind the last item of an update no rectangle is left
+-- after the last item of an update no rectangle is left
 pub last_leaves_none : (p : UpdatePoint) (item : UpdateItem) → is_last p item ≡ true →
     (update_stream.past p item).left ≡ 0
 unfolding update_stream

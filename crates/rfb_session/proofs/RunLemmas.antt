@@ -1,4 +1,4 @@
--- Runs of a world: step after step, and what holds behind them.
+-- Runs of a world: step after step, and what holds after them.
 use Rattle.std.proofs.Common.{List, [], ◌∷◌, ◌++◌, refl, subst}
 use Rattle.rfb_server.proofs.ServerLaws.{session_going}
 use Rattle.rfb_viewer.proofs.ViewerLaws.{viewer_going}
@@ -46,7 +46,7 @@ neither_failed e w n stands = (
   viewer_going e.viewing w.link.viewer _ _ stands.link_is.carries.viewer_is,
 )
 
--- what holds of all that is reached holds behind a run
+-- what holds of all that is reached holds after a run
 pub run_holds : (old new : World) (events : List Event) (Holds : Ends → Network → Type 0) →
     ((e : Ends) (m : Network) → IsReached e m → StandsFor e new m → Holds e m) →
     Reaches old events new Any → Reaches old events new Holds

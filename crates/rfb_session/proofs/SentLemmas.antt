@@ -85,9 +85,9 @@ apart : (vp : ServerPoint) (p : UpdatePoint) (at : ServerAt) → at ≡ First vp
 apart vp p at one two = cc
 
 -- where the viewer is ready, all that is in flight to the server leads to its messages
-ready_behind : (e : Ends) (c : Core) (p : UpdatePoint) → Phase e c → c.viewer.point ≡ Second p →
+ready_after : (e : Ends) (c : Core) (p : UpdatePoint) → Phase e c → c.viewer.point ≡ Second p →
     p_server e c ≡ Second tt
-ready_behind e c p phase at = by phase
+ready_after e c p phase at = by phase
   where
     messages : c.session.point ≡ Second tt → p_server e c ≡ Second tt
     messages here =
@@ -116,7 +116,7 @@ pub called_flies : (e : Ends) (l : LinkState) (f : Flight) (p : UpdatePoint) (v 
     (f.viewer_has ++ f.viewer_gets) l.to_viewer [] → SpellsClientMessage message bytes →
     Flies e (calls None l v message) (record f { server_gets = f.server_gets ++ bytes })
 called_flies e l f p v message bytes phase ready flies reads spelled =
-    let at = ready_behind e (core l) p phase ready in
+    let at = ready_after e (core l) p phase ready in
     let read : ReadsAll (to_server_stream e) (p_server e (core l)) bytes (Second message ∷ []) [] =
     subst (λ (q : ClientAt). ReadsAll (to_server_stream e) q bytes (Second message ∷ []) [])
     (sym at) (all_second (client_two e.serving.hello.offer) tt bytes (message ∷ []) []

@@ -90,39 +90,39 @@ composed_runs old new out after updates none =
     ran_did server_driven old new (Composed after) (λ serving s prefix stands.
     let one = updates.sent serving s prefix stands in
     let bytes_are : one.bytes ≡ after = sym (one.appended ∙ ap (λ (l : List ℕ). l ++ one.bytes) none) in (
-      one.behind,
+      one.resulting,
       (
         one.due,
         one.copies,
         one.blocks,
-        subst (λ (b : List ℕ). Composes s one.behind b one.copies one.blocks) bytes_are one.composes,
+        subst (λ (b : List ℕ). Composes s one.resulting b one.copies one.blocks) bytes_are one.composes,
       ),
       one.stands,
     ))
 
--- and a screen that was drawn on behind it
+-- and a screen that was drawn on after it
 pub drawn_idle : (old mid new : Server) (out after : List ℕ) → Updates old mid out after → out ≡ [] →
     Draws (screen_of new) mid new → RunsToIdle old [] after 1 new
 drawn_idle old mid new out after updates none draws = λ serving s prefix stands.
     let one = updates.sent serving s prefix stands in
     let bytes_are : one.bytes ≡ after = sym (one.appended ∙ ap (λ (l : List ℕ). l ++ one.bytes) none) in
-    let composes = subst (λ (b : List ℕ). Composes s one.behind b one.copies one.blocks) bytes_are one.composes in (
+    let composes = subst (λ (b : List ℕ). Composes s one.resulting b one.copies one.blocks) bytes_are one.composes in (
       record {
         steps = Did (Drawn (screen_of new)) ∷ Did (Composed after) ∷ [];
-        state = with_screen (screen_of new) one.behind;
+        state = with_screen (screen_of new) one.resulting;
         rest = prefix;
         runs = (
-          one.behind,
+          one.resulting,
           prefix,
           (s, prefix, (refl, refl), ((one.due, one.copies, one.blocks, composes), refl)),
           (refl, refl),
         );
-        stands = draws.stands serving one.behind prefix one.stands;
+        stands = draws.stands serving one.resulting prefix one.stands;
         fed_is = refl;
         sent_is = sym (append-nil after);
         updates_are = refl;
       },
-      idle_empty (with_screen (screen_of new) one.behind) s.area one.composes.emptied,
+      idle_empty (with_screen (screen_of new) one.resulting) s.area one.composes.emptied,
     )
 
 -- a turn's end is an update or none
@@ -260,7 +260,7 @@ call_ended old new bytes before fault fails refused starved kept = record {
   ends = record { fails = fails; refused = refused; starved = starved; kept = kept };
 }
 
--- calls behind one another
+-- calls one after another
 pub heard_more : (old : Server) (bytes rest : List ℕ) (before mid after : Option (List ℕ)) (last : Server)
     (used : ℕ) (new : Server) → Heard old bytes rest before mid last →
     IsAnswered last (take used rest) mid after new →
@@ -285,10 +285,10 @@ heard_all old bytes rest before after now was none = record {
   wrote = was.wrote;
 }
 
--- a beginning of an answer was written behind the others
-pub begun_behind : (before mid after : Option (List ℕ)) (sent answer : List ℕ) → Appends before mid sent →
+-- a beginning of an answer was written after the others
+pub begun_after : (before mid after : Option (List ℕ)) (sent answer : List ℕ) → Appends before mid sent →
     AppendsBeginning mid after answer → AppendsBeginning before after (sent ++ answer)
-begun_behind before mid after sent answer wrote begun =
+begun_after before mid after sent answer wrote begun =
     then_stopped before mid after (sent ++ answer) answer
     (record { done = sent; parts = refl; appended = wrote }) begun
 
@@ -297,7 +297,7 @@ all_parts : (bytes fed rest more slice : List ℕ) → bytes ≡ fed ++ rest →
 all_parts bytes fed rest more slice is parts =
     is ∙ ap (λ (l : List ℕ). fed ++ l) parts ∙ sym (append_assoc fed more slice)
 
--- why it stops behind calls
+-- why it stops after calls
 pub hearing_stops : (old : Server) (bytes rest : List ℕ) (before mid after : Option (List ℕ)) (last : Server)
     (failed_before failed_mid failed : ℕ) (fault : EngineFault) (new : Server) →
     Heard old bytes rest before mid last → failed_mid ≡ failed_before →
@@ -322,7 +322,7 @@ hearing_stops old bytes rest before mid after last fb fm failed Device new was s
         sent = was.sent ++ cut.sent;
         bytes_are = all_parts bytes was.fed rest cut.fed cut.later was.bytes_are cut.bytes_are;
         hears = hears_then old last new was.fed was.sent cut.fed cut.sent was.hears cut.hears;
-        wrote = begun_behind before mid after was.sent cut.sent was.wrote cut.wrote;
+        wrote = begun_after before mid after was.sent cut.sent was.wrote cut.wrote;
       },
     )
 hearing_stops old bytes rest before mid after last fb fm failed (ViewerEnded fault) new was same stops = stops

@@ -15,7 +15,7 @@ use Rattle.rfb_server.specs.Server.{serves, message_acts}
 use Rattle.rfb_viewer.specs.ServerBytes.{FromServer}
 use Rattle.rfb_session.specs.Link.{Ends, SessionState, server_of, session_of}
 use Rattle.rfb_session.specs.Answers.{server_answers}
-use Rattle.rfb_session.proofs.QueueLemmas.{IsMere, AreMere, AreLater, AskOnce, form_behind, mere_forms, IsRest, IsUnasked}
+use Rattle.rfb_session.proofs.QueueLemmas.{IsMere, AreMere, AreLater, AskOnce, form_after, mere_forms, IsRest, IsUnasked}
 use Rattle.rfb_session.proofs.PhaseLemmas.{Core, Stands, Meets, Idles, Asks, Awaits, Sends, Phase, Greeting, Versioned, Typed, Choosing37, Choosing38, Chosen, Sharing, Begun, Named, Idling, Asking, Held, Sent, first_is, none_first}
 
 abbrev pub served : Ends → Grid Colour → Core → FromClient → List FromClient → Core
@@ -73,10 +73,10 @@ no_answer e c (Second message) at =
     ap (λ (p : ClientAt). c.to_viewer ++ server_answers e.serving p (Second message)) at
     ∙ append-nil c.to_viewer
 
-served_behind : (e : Ends) (screen : Grid Colour) (c : Core) (p : UpdatePoint)
+served_after : (e : Ends) (screen : Grid Colour) (c : Core) (p : UpdatePoint)
     (message : ClientMessage) (rest : List FromClient) → Meets e c p →
     Meets e (served e screen c (Second message) rest) p
-served_behind e screen c p message rest m = record {
+served_after e screen c p message rest m = record {
   session_at =
       ap (λ (at : ClientAt). past_in (client_two e.serving.hello.offer) at
       (Second message)) m.session_at;
@@ -95,7 +95,7 @@ served_behind e screen c p message rest m = record {
 
 idles_served : (e : Ends) (screen : Grid Colour) (c : Core) (p : UpdatePoint)
     (message : ClientMessage) (rest : List FromClient) → Idles c p →
-    AreLater (Second message ∷ rest) → form_behind c.session.form (Second message ∷ rest) ≡ p.form →
+    AreLater (Second message ∷ rest) → form_after c.session.form (Second message ∷ rest) ≡ p.form →
     c.session.point ≡ Second tt → Idles (served e screen c (Second message) rest) p
 idles_served e screen c p (SetPixelFormat form) rest i later formed at =
     record {
@@ -147,10 +147,10 @@ idles_served e screen c p (ClientCutText text) rest i later formed at =
 
 asks_served : (e : Ends) (screen : Grid Colour) (c : Core) (p : UpdatePoint)
     (message : ClientMessage) (rest : List FromClient) → Meets e c p → Asks c p →
-    AskOnce (Second message ∷ rest) → form_behind c.session.form (Second message ∷ rest) ≡ p.form →
+    AskOnce (Second message ∷ rest) → form_after c.session.form (Second message ∷ rest) ≡ p.form →
     Phase e (served e screen c (Second message) rest)
 asks_served e screen c p (SetPixelFormat form) rest m i once formed =
-    Asking p (served_behind e screen c p (SetPixelFormat form) rest m)
+    Asking p (served_after e screen c p (SetPixelFormat form) rest m)
     (record {
       busy = i.busy;
       none = no_answer e c (Second (SetPixelFormat form)) m.session_at
@@ -161,7 +161,7 @@ asks_served e screen c p (SetPixelFormat form) rest m i once formed =
       formed = formed;
     })
 asks_served e screen c p (SetEncodings numbers) rest m i once formed =
-    Asking p (served_behind e screen c p (SetEncodings numbers) rest m)
+    Asking p (served_after e screen c p (SetEncodings numbers) rest m)
     (record {
       busy = i.busy;
       none = no_answer e c (Second (SetEncodings numbers)) m.session_at
@@ -172,7 +172,7 @@ asks_served e screen c p (SetEncodings numbers) rest m i once formed =
       formed = formed;
     })
 asks_served e screen c p (FramebufferUpdateRequest incremental rect) rest m i once formed =
-    Held p (served_behind e screen c p (FramebufferUpdateRequest incremental rect) rest m)
+    Held p (served_after e screen c p (FramebufferUpdateRequest incremental rect) rest m)
     (record {
       busy = i.busy;
       none = no_answer e c
@@ -182,7 +182,7 @@ asks_served e screen c p (FramebufferUpdateRequest incremental rect) rest m i on
       formed = sym (mere_forms c.session.form rest once) ∙ formed;
     })
 asks_served e screen c p (KeyEvent down key) rest m i once formed =
-    Asking p (served_behind e screen c p (KeyEvent down key) rest m)
+    Asking p (served_after e screen c p (KeyEvent down key) rest m)
     (record {
       busy = i.busy;
       none = no_answer e c (Second (KeyEvent down key)) m.session_at
@@ -193,7 +193,7 @@ asks_served e screen c p (KeyEvent down key) rest m i once formed =
       formed = formed;
     })
 asks_served e screen c p (PointerEvent buttons x y) rest m i once formed =
-    Asking p (served_behind e screen c p (PointerEvent buttons x y) rest m)
+    Asking p (served_after e screen c p (PointerEvent buttons x y) rest m)
     (record {
       busy = i.busy;
       none = no_answer e c (Second (PointerEvent buttons x y)) m.session_at
@@ -204,7 +204,7 @@ asks_served e screen c p (PointerEvent buttons x y) rest m i once formed =
       formed = formed;
     })
 asks_served e screen c p (ClientCutText text) rest m i once formed =
-    Asking p (served_behind e screen c p (ClientCutText text) rest m)
+    Asking p (served_after e screen c p (ClientCutText text) rest m)
     (record {
       busy = i.busy;
       none = no_answer e c (Second (ClientCutText text)) m.session_at
@@ -231,7 +231,7 @@ held_served : (e : Ends) (screen : Grid Colour) (c : Core) (p : UpdatePoint)
     AreMere (Second message ∷ rest) → Phase e (served e screen c (Second message) rest)
 held_served e screen c p message rest m i mere =
     let kept = mere_served e screen c.session message mere.0 in
-    Held p (served_behind e screen c p message rest m)
+    Held p (served_after e screen c p message rest m)
     (record {
       busy =
           i.busy;
@@ -246,7 +246,7 @@ sent_served : (e : Ends) (screen : Grid Colour) (c : Core) (p : UpdatePoint)
     AreMere (Second message ∷ rest) → Phase e (served e screen c (Second message) rest)
 sent_served e screen c p message rest m i mere =
     let kept = mere_served e screen c.session message mere.0 in
-    Sent p (served_behind e screen c p message rest m)
+    Sent p (served_after e screen c p message rest m)
     (record {
       busy = i.busy;
       unasked = subst (λ (a : Places). IsUnasked a) (sym kept.1) i.unasked;
@@ -258,15 +258,15 @@ sent_served e screen c p message rest m i mere =
 
 idling_at : (e : Ends) (screen : Grid Colour) (c : Core) (p : UpdatePoint) (item : FromClient)
     (rest : List FromClient) → Meets e c p → Idles c p → AreLater (item ∷ rest) →
-    form_behind c.session.form (item ∷ rest) ≡ p.form → Phase e (served e screen c item rest)
+    form_after c.session.form (item ∷ rest) ≡ p.form → Phase e (served e screen c item rest)
 idling_at e screen c p (First step) rest m i later formed = absurd later.0
 idling_at e screen c p (Second message) rest m i later formed =
-    Idling p (served_behind e screen c p message rest m)
+    Idling p (served_after e screen c p message rest m)
     (idles_served e screen c p message rest i later formed m.session_at)
 
 asking_at : (e : Ends) (screen : Grid Colour) (c : Core) (p : UpdatePoint) (item : FromClient)
     (rest : List FromClient) → Meets e c p → Asks c p → AskOnce (item ∷ rest) →
-    form_behind c.session.form (item ∷ rest) ≡ p.form → Phase e (served e screen c item rest)
+    form_after c.session.form (item ∷ rest) ≡ p.form → Phase e (served e screen c item rest)
 asking_at e screen c p (First step) rest m i once formed = absurd once
 asking_at e screen c p (Second message) rest m i once formed =
     asks_served e screen c p message rest m i once formed
@@ -310,10 +310,10 @@ phase_served e screen c item rest (Named v n text s h) queue =
     absurd (none_first item rest (sym s.to_server_is ∙ queue))
 phase_served e screen c item rest (Idling p m i) queue =
     idling_at e screen c p item rest m i (subst (λ (q : List FromClient). AreLater q) queue i.later)
-    (subst (λ (q : List FromClient). form_behind c.session.form q ≡ p.form) queue i.formed)
+    (subst (λ (q : List FromClient). form_after c.session.form q ≡ p.form) queue i.formed)
 phase_served e screen c item rest (Asking p m i) queue =
     asking_at e screen c p item rest m i (subst (λ (q : List FromClient). AskOnce q) queue i.once)
-    (subst (λ (q : List FromClient). form_behind c.session.form q ≡ p.form) queue i.formed)
+    (subst (λ (q : List FromClient). form_after c.session.form q ≡ p.form) queue i.formed)
 phase_served e screen c item rest (Held p m i) queue =
     held_at e screen c p item rest m i (subst (λ (q : List FromClient). AreMere q) queue i.mere)
 phase_served e screen c item rest (Sent p m i) queue =

@@ -11,7 +11,7 @@ use Rattle.rfb_session.specs.ServeEngine.{server_driven, ServerRuns, RunsToIdle,
 use Rattle.rfb_session.proofs.WrittenLemmas.{whole_beginning}
 use Rattle.rfb_session.proofs.PlayLemmas.{none_left}
 use Rattle.rfb_session.proofs.EngineRunLemmas.{none_more, joined, ran_none}
-use Rattle.rfb_session.proofs.ServeLemmas.{begun_behind, hears_runs, composed_runs, kept_runs}
+use Rattle.rfb_session.proofs.ServeLemmas.{begun_after, hears_runs, composed_runs, kept_runs}
 
 -- ---- all reads
 
@@ -50,7 +50,7 @@ serving_none unread before old = record {
   some = omega arith;
 }
 
--- runs of a server behind one of which no update was due
+-- runs of a server after one of which no update was due
 idle_then : (old last new : Server) (fed sent more_fed more_sent : List ℕ) (n m : ℕ) → KeepsIdle old fed sent n last →
     ServerRuns last more_fed more_sent m new → RunsFromIdle old (fed ++ more_fed) (sent ++ more_sent) (n + m) new
 idle_then old last new fed sent more_fed more_sent n m one two = λ serving s prefix stands idle.
@@ -82,10 +82,10 @@ forget_idle : (old new : Server) (fed sent : List ℕ) (n : ℕ) → KeepsIdle o
 forget_idle old new fed sent n one = λ serving s prefix stands idle. (one serving s prefix stands idle).0
 
 -- a read whose bytes were heard
-heard_behind : (old last new : Server) (fed sent bytes : List ℕ) (n : ℕ) (before after : Option (List ℕ)) →
+heard_after : (old last new : Server) (fed sent bytes : List ℕ) (n : ℕ) (before after : Option (List ℕ)) →
     KeepsIdle old fed sent n last → (h : IsHeard last bytes before after new) →
     RunsFromIdle old (fed ++ bytes) (sent ++ h.sent) n new
-heard_behind old last new fed sent bytes n before after one h =
+heard_after old last new fed sent bytes n before after one h =
     subst (λ (k : ℕ). RunsFromIdle old (fed ++ bytes) (sent ++ h.sent) k new) (sym (none_more n))
     (idle_then old last new fed sent bytes h.sent n 0 one h.runs)
 
@@ -96,7 +96,7 @@ goes_on n m told now was is = omega (arith, was, is)
 one_more : (reads old new : ℕ) → reads ≤ old → 0 < new → reads + 1 ≤ old + new
 one_more reads old new few some = omega (arith, few, some)
 
--- a read, and an update or none behind it
+-- a read, and an update or none after it
 pub serving_more : (unread mid left before w x after : Option (List ℕ)) (old : Server) (reads told : ℕ)
     (last heard : Server) (bytes : List ℕ) (n now : ℕ) (new : Server) → ServedSoFar unread mid before w old reads told last →
     Consumes mid left bytes → 0 < length bytes → IsHeard last bytes w x heard → IsUpdated heard x after n new →
@@ -107,7 +107,7 @@ serving_more unread mid left before w x after old reads told last heard bytes n 
   updates = was.updates + n;
   read = Consumes-trans unread mid left was.fed bytes was.read more;
   runs = from_idle_to old heard new (was.fed ++ bytes) (was.sent ++ h.sent) u.sent was.updates n
-      (heard_behind old last heard was.fed was.sent bytes was.updates w x was.runs h) u.runs;
+      (heard_after old last heard was.fed was.sent bytes was.updates w x was.runs h) u.runs;
   wrote = Appends-trans before x after (was.sent ++ h.sent) u.sent
       (Appends-trans before w x was.sent h.sent was.wrote h.wrote) u.wrote;
   told_is = goes_on was.updates n told now was.told_is is;
@@ -161,8 +161,8 @@ serving_unread unread mid left before after old reads told now was kept = record
   wrote = whole_beginning before after was.sent was.wrote;
 }
 
-behind : (fed bytes more later : List ℕ) → bytes ≡ more ++ later → fed ++ bytes ≡ (fed ++ more) ++ later
-behind fed bytes more later is = ap (λ (l : List ℕ). fed ++ l) is ∙ sym (append_assoc fed more later)
+joined_after : (fed bytes more later : List ℕ) → bytes ≡ more ++ later → fed ++ bytes ≡ (fed ++ more) ++ later
+joined_after fed bytes more later is = ap (λ (l : List ℕ). fed ++ l) is ∙ sym (append_assoc fed more later)
 
 pub one_of_two : (r s w x v : ℕ) → s ≡ r → w ≡ v → x ≡ w + 1 → s + x ≡ r + v + 1
 one_of_two r s w x v a b c = omega (arith, a, b, c)
@@ -179,7 +179,7 @@ hearing_fails unread mid left before w after old reads told last bytes fr fs st 
   sent = was.sent ++ stops.sent;
   updates = was.updates + 0;
   last = stops.last;
-  read = subst (λ (l : List ℕ). Consumes unread left l) (behind was.fed bytes stops.fed stops.slice stops.bytes_are)
+  read = subst (λ (l : List ℕ). Consumes unread left l) (joined_after was.fed bytes stops.fed stops.slice stops.bytes_are)
       (Consumes-trans unread mid left was.fed bytes was.read more);
   runs = idle_then old last stops.last was.fed was.sent stops.fed stops.sent was.updates 0 was.runs
       (hears_runs last stops.last stops.fed stops.sent stops.hears);
@@ -194,18 +194,18 @@ hearing_fails unread mid left before w after old reads told last bytes fr fs st 
         later = cut.later;
         sent = was.sent ++ cut.sent;
         updates = was.updates + 0;
-        read = subst (λ (l : List ℕ). Consumes unread left l) (behind was.fed bytes cut.fed cut.later cut.bytes_are)
+        read = subst (λ (l : List ℕ). Consumes unread left l) (joined_after was.fed bytes cut.fed cut.later cut.bytes_are)
             (Consumes-trans unread mid left was.fed bytes was.read more);
         runs = idle_then old last new was.fed was.sent cut.fed cut.sent was.updates 0 was.runs
             (hears_runs last new cut.fed cut.sent cut.hears);
-        wrote = begun_behind before w after was.sent cut.sent was.wrote cut.wrote;
+        wrote = begun_after before w after was.sent cut.sent was.wrote cut.wrote;
       },
     )
 hearing_fails unread mid left before w after old reads told last bytes fr fs st fm failed (ViewerEnded fault) new was more same none stops = stops
 hearing_fails unread mid left before w after old reads told last bytes fr fs st fm failed Truncated new was more same none stops = absurd stops
 hearing_fails unread mid left before w after old reads told last bytes fr fs st fm failed EngineNoMemory new was more same none stops = absurd stops
 
--- or behind it
+-- or after it
 pub updating_fails : (unread mid left before w x after : Option (List ℕ)) (old : Server) (reads told : ℕ)
     (last heard : Server) (bytes : List ℕ) (failing failed_read stuck failed_mid failed : ℕ) (fault : EngineFault) (new : Server) →
     ServedSoFar unread mid before w old reads told last → Consumes mid left bytes → IsHeard last bytes w x heard →
@@ -221,9 +221,9 @@ updating_fails unread mid left before w x after old reads told last heard bytes 
     read = subst (λ (l : List ℕ). Consumes unread left l) (sym (append-nil (was.fed ++ bytes)))
         (Consumes-trans unread mid left was.fed bytes was.read more);
     runs = from_idle_then old heard new (was.fed ++ bytes) (was.sent ++ h.sent) stops.1 was.updates 1
-        (heard_behind old last heard was.fed was.sent bytes was.updates w x was.runs h)
+        (heard_after old last heard was.fed was.sent bytes was.updates w x was.runs h)
         (composed_runs heard new [] stops.1 stops.2 refl);
-    wrote = begun_behind before x after (was.sent ++ h.sent) stops.1
+    wrote = begun_after before x after (was.sent ++ h.sent) stops.1
         (Appends-trans before w x was.sent h.sent was.wrote h.wrote) stops.3;
   },
 )
@@ -235,7 +235,7 @@ updating_fails unread mid left before w x after old reads told last heard bytes 
   read = subst (λ (l : List ℕ). Consumes unread left l) (sym (append-nil (was.fed ++ bytes)))
       (Consumes-trans unread mid left was.fed bytes was.read more);
   runs = from_idle_then old heard new (was.fed ++ bytes) (was.sent ++ h.sent) [] was.updates 0
-      (heard_behind old last heard was.fed was.sent bytes was.updates w x was.runs h)
+      (heard_after old last heard was.fed was.sent bytes was.updates w x was.runs h)
       (kept_runs heard new stops.1);
   wrote = whole_beginning before after ((was.sent ++ h.sent) ++ [])
       (Appends-trans before x after (was.sent ++ h.sent) []
@@ -245,7 +245,7 @@ updating_fails unread mid left before w x after old reads told last heard bytes 
 updating_fails unread mid left before w x after old reads told last heard bytes fr fs st fm failed (ViewerEnded fault) new was more h same none stops = absurd stops
 updating_fails unread mid left before w x after old reads told last heard bytes fr fs st fm failed Truncated new was more h same none stops = absurd stops
 
--- ---- behind a greeting
+-- ---- after a greeting
 
 pub front_all : (unread left start before after : Option (List ℕ)) (front : List ℕ) (old : Server) (told : ℕ) (now : Server) →
     Appends start before front → AllServed unread left before after [] old told now →
@@ -271,7 +271,7 @@ front_some unread left start before after front old now wrote some = record {
   updates = some.updates;
   read = some.read;
   runs = some.runs;
-  wrote = begun_behind start before after front some.sent wrote some.wrote;
+  wrote = begun_after start before after front some.sent wrote some.wrote;
 }
 
 pub front_stops : (unread left : Option (List ℕ)) (failing failed : ℕ) (start before after : Option (List ℕ))

@@ -134,7 +134,7 @@ written_lives serving old new k count heard taken writes was =
           (lives_written serving (screen_of old) was.seat one.0 heard taken count one.2 was.lives));
     }
 
--- what a composing makes of the seat's life, whatever is told of it
+-- what a composing makes of the seat's life, whatever is answered
 composed_seat : (serving : Serving) (screen : Grid Colour) (told : Composing) (a b : ShareSeat)
     (heard taken : List ℕ) → ComposesAt screen told a b → Lives serving screen a heard taken →
     Lives serving screen b heard taken

@@ -67,7 +67,7 @@ lived_sent serving screen old new heard sent update was sends =
     record {
       first = was.first;
       steps = Did (Composed one.bytes) ∷ was.steps;
-      state = one.behind;
+      state = one.resulting;
       rest = was.rest;
       runs = (
         was.state,

@@ -90,7 +90,7 @@ few_waiting (Update update) kept n written is few none = absurd (apart none)
 
 -- ---- bytes of its viewer's
 
--- the answer fits behind those that are kept
+-- the answer fits after those that are kept
 pub answer_fits : (old new : Session) (answers : ArrayVec ℕ) (bytes : List ℕ)
     (event : Option ServerTold) → session_fault old ≡ None →
     ((serving : Serving) (screen : Grid Colour) → FedBy (server serving)
@@ -108,14 +108,14 @@ answer_fits old new answers bytes event going fed roomy = ∥∥₁_elim roomy l
         let room = one.fit in
         omega (arith, fewer, room)
 
--- behind an update there is none
-pub none_behind : (old new : Session) (waiting : Waiting) (bytes : List ℕ)
+-- after an update there is none
+pub none_after : (old new : Session) (waiting : Waiting) (bytes : List ℕ)
     (event : Option ServerTold) → session_fault old ≡ None →
     ((serving : Serving) (screen : Grid Colour) → FedBy (server serving)
     (SessionStandsFor serving screen) old bytes event new) →
     ((point : ClientAt) → AnswersFit waiting point → answers_left point ≡ 0) →
     ∥ HasRoomForAnswers old waiting ∥₁ → server_reply event ≡ []
-none_behind old new waiting bytes event going fed is_update roomy =
+none_after old new waiting bytes event going fed is_update roomy =
     nothing (server_reply event) (∥∥₁_elim roomy le_prop fits)
   where
     nothing : (xs : List ℕ) → length xs ≤ 0 → xs ≡ []
@@ -130,8 +130,8 @@ none_behind old new waiting bytes event going fed is_update roomy =
         let none = is_update one.state.point one.fit in
         omega (arith, fewer, none)
 
--- what is left fits behind what is kept then
-pub fits_behind : (old new : Session) (waiting later : Waiting) (bytes : List ℕ)
+-- what is left fits after what is kept then
+pub fits_after : (old new : Session) (waiting later : Waiting) (bytes : List ℕ)
     (event : Option ServerTold) → session_fault old ≡ None →
     ((serving : Serving) (screen : Grid Colour) → FedBy (server serving)
     (SessionStandsFor serving screen) old bytes event new) →
@@ -139,7 +139,7 @@ pub fits_behind : (old new : Session) (waiting later : Waiting) (bytes : List �
     length (server_reply event) + answers_left after ≤ answers_left before →
     AnswersFit later after) →
     ∥ HasRoomForAnswers old waiting ∥₁ → ∥ HasRoomForAnswers new later ∥₁
-fits_behind old new waiting later bytes event going fed moves roomy = ∥∥₁_map roomy goes_on
+fits_after old new waiting later bytes event going fed moves roomy = ∥∥₁_map roomy goes_on
   where
     goes_on : HasRoomForAnswers old waiting → HasRoomForAnswers new later
     goes_on has = λ still.
@@ -159,12 +159,12 @@ fits_behind old new waiting later bytes event going fed moves roomy = ∥∥₁_
         }
 
 -- of answers, and of an update
-pub answers_behind : (answers later : ArrayVec ℕ) (event : Option ServerTold) →
+pub answers_after : (answers later : ArrayVec ℕ) (event : Option ServerTold) →
     later.items ≡ answers.items ++ server_reply event → (before after : ClientAt) →
     AnswersFit (Answers answers) before →
     length (server_reply event) + answers_left after ≤ answers_left before →
     AnswersFit (Answers later) after
-answers_behind answers later event is before after fit fewer =
+answers_after answers later event is before after fit fewer =
     let sum = length-append answers.items (server_reply event) in
     let long = ap (λ (xs : List ℕ). length xs) is ∙ sum in
     omega (arith, long, fit, fewer)
@@ -179,7 +179,7 @@ failed_fits session waiting fault fails = λ going. absurd (apart (sym fails ∙
 
 -- ---- where a session is kept
 
--- at every point all that may come fits behind nothing
+-- at every point all that may come fits after nothing
 most_left : (point : ClientAt) → answers_left point ≤ 285
 most_left (First AwaitsVersion) = omega arith
 most_left (First (AwaitsChoice version)) = omega arith
@@ -228,7 +228,7 @@ fits_empty session waiting none is roomy = ∥∥₁_map roomy goes_on
 
 -- ---- an update
 
--- behind it no answer comes
+-- after it no answer comes
 pub fits_sent : (screen : Grid Colour) (old new : Session) (waiting later : Waiting)
     (before after : List ℕ) → SendsUpdate screen old new before after →
     ((point : ClientAt) → answers_left point ≡ 0 → AnswersFit later point) →
@@ -243,11 +243,11 @@ fits_sent screen old new waiting later before after sends none roomy = ∥∥₁
         record {
           serving = one.serving;
           screen = screen;
-          state = sent.behind;
+          state = sent.resulting;
           prefix = one.prefix;
           stands = sent.stands;
           name = one.name;
-          fit = none sent.behind.point (ap (λ (point : ClientAt). answers_left point)
+          fit = none sent.resulting.point (ap (λ (point : ClientAt). answers_left point)
               (sent.composes.same_point ∙ sent.due.ready));
         }
 
@@ -285,14 +285,14 @@ heard_answer old new answers later bytes told was is written more going fed made
     }
 
 -- it was fed, where an update waits
-pub heard_behind : (old new : ShareSeat) (bytes : List ℕ) (told : Option ServerTold) →
+pub heard_after : (old new : ShareSeat) (bytes : List ℕ) (told : Option ServerTold) →
     new.waiting ≡ old.waiting → new.written ≡ old.written → server_reply told ≡ [] →
     session_fault old.session ≡ None →
     ((serving : Serving) (screen : Grid Colour) → FedBy (server serving)
     (SessionStandsFor serving screen) old.session bytes told new.session) →
     session_serving new.session ≡ session_serving old.session →
     hints_in new.session ≡ hints_in old.session → Hears bytes told old new
-heard_behind old new bytes told is written none going fed made hints =
+heard_after old new bytes told is written none going fed made hints =
     let same : waiting_in new ≡ waiting_in old =
     ap (λ (w : Waiting). drop new.written (kept_in w)) is
     ∙ ap (λ (k : ℕ). drop k (kept_in old.waiting)) written in

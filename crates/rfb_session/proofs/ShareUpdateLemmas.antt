@@ -36,10 +36,10 @@ sent_watched : (e : Ends) (share : Share) (n : Network) (a b : ShareSeat) (k : �
 sent_watched e share n a b k viewer to_server on_way here there reached c sends =
     let s : ServerState = server_of n.screen n.link.session in
     let one = sends.update.sent e.serving s c.server_has c.server_is in
-    let behind_is : server_of n.screen (session_of one.behind) ≡ one.behind =
-    ap (λ (g : Grid Colour). server_of g (session_of one.behind)) (sym one.composes.same_screen) in
+    let after_same : server_of n.screen (session_of one.resulting) ≡ one.resulting =
+    ap (λ (g : Grid Colour). server_of g (session_of one.resulting)) (sym one.composes.same_screen) in
     let l : LinkState = record n.link {
-      session = session_of one.behind;
+      session = session_of one.resulting;
       to_viewer = n.link.to_viewer ++ update_items one.copies one.blocks;
       latest = Some (record {
         screen = n.screen;
@@ -49,12 +49,12 @@ sent_watched e share n a b k viewer to_server on_way here there reached c sends 
     } in
     let composes : ComposesOn n.screen n.link l = record {
       due = one.due;
-      session = session_of one.behind;
+      session = session_of one.resulting;
       bytes = one.bytes;
       copies = one.copies;
       blocks = one.blocks;
       composed = subst (λ (t : ServerState). Composes s t one.bytes one.copies one.blocks)
-          (sym behind_is) one.composes;
+          (sym after_same) one.composes;
       result = refl;
     } in
     let flies = composed_flies e n.screen n.link l _ (reached_holds e n reached) c.flies composes in
@@ -75,7 +75,7 @@ sent_watched e share n a b k viewer to_server on_way here there reached c sends 
               viewer_has = c.viewer_has;
               server_is = subst (λ (t : ServerState).
                   SessionStandsFor e.serving n.screen b.session t c.server_has)
-                  (sym behind_is) one.stands;
+                  (sym after_same) one.stands;
               viewer_is = c.viewer_is;
               flies = flies;
             });

@@ -9,16 +9,16 @@ use Rattle.rfb_codec.proofs.EffectLaws.{effect_picture}
 use Rattle.rfb_hello.specs.declared.version.Version.{Version}
 use Rattle.rfb_hello.specs.declared.version.Version.TheVariants.{V33, V37, V38}
 use Rattle.rfb_hello.specs.Version.{lower}
-use Rattle.rfb_hello.specs.ClientHandshake.{behind_version}
+use Rattle.rfb_hello.specs.ClientHandshake.{after_version}
 use Rattle.rfb_hello.specs.ServerHandshake.{ServerPoint, AwaitsSecurity, AwaitsResult, AwaitsInit, AwaitsName, ServerItem, ServerInit, Name}
 use Rattle.rfb_hello.specs.ServerAnswers.{types_asked, name_asked}
 use Rattle.rfb_server.specs.ClientBytes.{ClientAt, FromClient}
 use Rattle.rfb_viewer.specs.ServerBytes.{ServerAt, FromServer, server_two, first_between}
 use Rattle.rfb_viewer.specs.Told.{is_last}
-use Rattle.rfb_viewer.specs.Viewer.{shows, picture_behind, effect_on, ends_update, black}
+use Rattle.rfb_viewer.specs.Viewer.{shows, picture_after, effect_on, ends_update, black}
 use Rattle.rfb_session.specs.Link.{Ends}
 use Rattle.rfb_session.specs.Answers.{ready_messages, viewer_answers}
-use Rattle.rfb_session.proofs.QueueLemmas.{AreMere, AreLater, form_behind, mere_forms, all_later, IsRest, form_kept, width_kept, height_kept, last_leaves_none}
+use Rattle.rfb_session.proofs.QueueLemmas.{AreMere, AreLater, form_after, mere_forms, all_later, IsRest, form_kept, width_kept, height_kept, last_leaves_none}
 use Rattle.rfb_session.proofs.PhaseLemmas.{Core, HasPicture, Stands, Meets, Sends, Phase, Greeting, Versioned, Typed, Choosing37, Choosing38, Chosen, Sharing, Begun, Named, Idling, Asking, Held, Sent, first_is, none_first}
 use Rattle.rfb_session.proofs.SizeLemmas.{width-uniform, height-uniform, whole-uniform}
 
@@ -41,7 +41,7 @@ if_same : (b : Bool) (x y : Bool) → x ≡ y → (if b then y else x) ≡ y
 if_same true x y same = refl
 if_same false x y same = same
 
--- a step of the handshake behind which it goes on
+-- a step of the handshake after which it goes on
 shown_stands : (e : Ends) (c : Core) (sp : ClientAt) (vp to : ServerPoint)
     (ts more : List FromClient) (step : ServerItem) (rest : List FromServer) →
     Stands c sp vp ts (First step ∷ rest) →
@@ -94,7 +94,7 @@ shown_meets e c vp step rest s none past answered picture =
       between = refl;
       unasked = s.unasked;
       later = subst (λ (q : List FromClient). AreLater q) (sym queue) (tt, (tt, tt));
-      formed = ap (λ (q : List FromClient). form_behind c.session.form q) queue;
+      formed = ap (λ (q : List FromClient). form_after c.session.form q) queue;
     })
 
 -- ServerInit makes a picture of the size that it tells
@@ -105,7 +105,7 @@ made : (e : Ends) (c : Core) (v : Version) (n : ℕ) (rest : List FromServer) �
 made e c v n rest at = record {
   picture = uniform e.serving.hello.width e.serving.hello.height black;
   picture_is =
-      ap (λ (p : ServerAt). picture_behind p
+      ap (λ (p : ServerAt). picture_after p
       (First (ServerInit e.serving.hello.width e.serving.hello.height n)) c.viewer.picture) at;
   whole = whole-uniform e.serving.hello.width e.serving.hello.height black;
   wide = width-uniform e.serving.hello.width e.serving.hello.height black;
@@ -136,7 +136,7 @@ named_picture : (e : Ends) (c : Core) (vp : ServerPoint) (text : List ℕ) → c
 named_picture e c vp text at h = record {
   picture = h.picture;
   picture_is =
-      ap (λ (p : ServerAt). picture_behind p (First (Name text)) c.viewer.picture) at
+      ap (λ (p : ServerAt). picture_after p (First (Name text)) c.viewer.picture) at
       ∙ h.picture_is;
   whole = h.whole;
   wide = h.wide;
@@ -144,7 +144,7 @@ named_picture e c vp text at h = record {
 }
 
 typed_shown : (e : Ends) (c : Core) (v : Version) (item : FromServer) (rest : List FromServer) →
-    Stands c (First (behind_version v)) (AwaitsSecurity v) [] (map (λ i. First i) (types_asked v)) →
+    Stands c (First (after_version v)) (AwaitsSecurity v) [] (map (λ i. First i) (types_asked v)) →
     c.to_viewer ≡ item ∷ rest → Phase e (shown e c item rest)
 typed_shown e c V33 item rest s queue =
     shown_as e c item _ rest _ (sym queue ∙ s.to_viewer_is)
@@ -156,7 +156,7 @@ typed_shown e c V38 item rest s queue =
     shown_as e c item _ rest _ (sym queue ∙ s.to_viewer_is)
     (Choosing38 (shown_stands e c _ _ (AwaitsResult V38) [] _ _ [] s refl refl))
 
--- behind an item of an update the picture has its size
+-- after an item of an update the picture has its size
 effect_on_it : (p : UpdatePoint) (item : UpdateItem) (picture : Grid Colour)
     (o : Option (Grid Colour)) → o ≡ Some picture → effect_on p item o
     ≡ Some (effect p item picture)
@@ -170,17 +170,17 @@ shown_picture e c p item rest at h =
     record {
       picture = effect p item h.picture;
       picture_is =
-          ap (λ (q : ServerAt). picture_behind q (Second item) c.viewer.picture) at
+          ap (λ (q : ServerAt). picture_after q (Second item) c.viewer.picture) at
           ∙ effect_on_it p item h.picture c.viewer.picture h.picture_is;
       whole = kept.whole h.whole;
       wide = kept.columns ∙ h.wide;
       high = kept.rows ∙ h.high;
     }
 
-shown_behind : (e : Ends) (c : Core) (p : UpdatePoint) (item : UpdateItem)
+shown_then : (e : Ends) (c : Core) (p : UpdatePoint) (item : UpdateItem)
     (rest : List FromServer) → Meets e c p →
     Meets e (shown e c (Second item) rest) (update_stream.past p item)
-shown_behind e c p item rest m = record {
+shown_then e c p item rest m = record {
   session_at = m.session_at;
   viewer_at =
       ap (λ (at : ServerAt). past_in (server_two e.viewing.form e.viewing.hello) at
@@ -198,11 +198,11 @@ unanswered e c p item at =
     ∙ append-nil c.to_server
 
 -- whether a request is still outstanding
-outstanding_behind : (c : Core) (p : UpdatePoint) (item : UpdateItem) (last : Bool) → c.viewer.point
+outstanding_after : (c : Core) (p : UpdatePoint) (item : UpdateItem) (last : Bool) → c.viewer.point
     ≡ Second p → is_last p item ≡ last → c.viewer.outstanding ≡ true →
     (if ends_update c.viewer.point (Second item) then false else c.viewer.outstanding)
     ≡ (if last then false else true)
-outstanding_behind c p item last at is busy =
+outstanding_after c p item last at is busy =
     ap (λ (q : ServerAt). if ends_update q (Second item) then false else c.viewer.outstanding) at
     ∙ ap (λ (b : Bool). if b then false else c.viewer.outstanding) is
     ∙ ap (λ (b : Bool). if last then false else b) busy
@@ -214,9 +214,9 @@ sent_shown e c p (Second item) [] m s ends =
     let queue = unanswered e c p item m.viewer_at in
     let mere : AreMere (c.to_server ++ viewer_answers e.viewing c.viewer.point (Second item)) =
     subst (λ (q : List FromClient). AreMere q) (sym queue) s.mere in
-    Idling (update_stream.past p item) (shown_behind e c p item [] m)
+    Idling (update_stream.past p item) (shown_then e c p item [] m)
     (record {
-      quiet = outstanding_behind c p item true m.viewer_at ends s.busy;
+      quiet = outstanding_after c p item true m.viewer_at ends s.busy;
       none = refl;
       between = last_leaves_none p item ends;
       unasked = s.unasked;
@@ -225,9 +225,9 @@ sent_shown e c p (Second item) [] m s ends =
     })
 sent_shown e c p (Second item) (next ∷ rest) m s (more, ends) =
     let queue = unanswered e c p item m.viewer_at in
-    Sent (update_stream.past p item) (shown_behind e c p item (next ∷ rest) m)
+    Sent (update_stream.past p item) (shown_then e c p item (next ∷ rest) m)
     (record {
-      busy = outstanding_behind c p item false m.viewer_at more s.busy;
+      busy = outstanding_after c p item false m.viewer_at more s.busy;
       unasked = s.unasked;
       mere = subst (λ (q : List FromClient). AreMere q) (sym queue) s.mere;
       formed = s.formed ∙ sym (form_kept p item);

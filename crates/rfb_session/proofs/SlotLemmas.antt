@@ -237,7 +237,7 @@ module _ {X : Type 0} where
       slice_index_or slots k d ≡ seat_at k slots
   at_slot slots k d within = get_or_default slots k d None within
 
-  -- ---- the slots that are told as emptied
+  -- ---- the slots that are reported as emptied
 
   -- where the client asked for the screen alone
   pub ends_sole : (slots : List (Option X)) (i ended : ℕ) (x : Option X) (sole : Bool) →
@@ -265,7 +265,7 @@ module _ {X : Type 0} where
       set slots i x ≡ slots
   set_back slots i x same = ap (λ (o : Option X). set slots i o) same ∙ set-get_or slots i None
 
-  -- all others are told as emptied
+  -- all others are reported as emptied
   pub flag_others : (slots : List (Option X)) (i k ended told : ℕ) (sole : Bool) → told ≡ ended →
       sole ≡ true → ((j : ℕ) → has_bit ended j
       ≡ (sole && (not (nat_eq j i) && is_taken (seat_at j slots)))) → nat_eq k i ≡ false →
@@ -273,7 +273,7 @@ module _ {X : Type 0} where
   flag_others slots i k ended told sole same asked bits differ =
       ap (λ (n : ℕ). has_bit n k) same ∙ (bits k ∙ rw (asked, differ) refl)
 
-  -- where none is told as emptied, a slot that is as it was stays
+  -- where none is reported as emptied, a slot that is as it was stays
   pub stays_clear : (ended k : ℕ) (a b : Option X) → ended ≡ 0 → b ≡ a →
       StaysUnless (has_bit ended k) a b
   stays_clear ended k a b none same =

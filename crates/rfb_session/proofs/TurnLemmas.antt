@@ -114,7 +114,7 @@ module _ {X : Type 0} where
       (serving_ends unread mid left before w old reads told last was none.read none.ended))
 
 module _ {X : Type 0} where
-  -- behind a greeting, which no write failed at
+  -- after a greeting, which no write failed at
   pub greeted_stops : (shows : Showing X) (unread left : Option (List ℕ)) (failing failed : ℕ)
       (before after : Option (List ℕ)) (stuck stuck_mid stopped : ℕ) (old : Server) (scene : X)
       (fault : EngineFault) (new : Server) (last : X) → stuck_mid ≡ stuck →

@@ -13,7 +13,7 @@ use Rattle.rfb_viewer.specs.declared.fault.ViewerFault.TheVariants.{NoMemory as 
 use Rattle.rfb_viewer.specs.declared.viewer.Viewer.{Viewer}
 use Rattle.rfb_viewer.specs.ServerBytes.{ServerAt, FromServer, server_two, server_bytes, is_between}
 use Rattle.rfb_viewer.specs.Told.{ViewerTold}
-use Rattle.rfb_viewer.specs.Viewer.{Viewing, ViewerState, viewer, shows, picture_behind, told_at}
+use Rattle.rfb_viewer.specs.Viewer.{Viewing, ViewerState, viewer, shows, picture_after, told_at}
 use Rattle.rfb_wire.specs.stream.Sequel.{past_in}
 use Rattle.rfb_viewer.proofs.ViewerLaws.{viewer_machine, server_bytes_laws}
 use Rattle.rfb_session.specs.declared.engine.fault.EngineFault.{EngineFault}
@@ -26,10 +26,10 @@ use Rattle.rfb_session.specs.Verdict.{updates_told, answer_to, IsAnsweredAs, IsJ
 -- ---- states that differ by requests alone
 
 same_picture : (p q : ServerAt) (item : FromServer) (a b : Option (Grid Colour)) → p ≡ q → a ≡ b →
-    picture_behind p item a ≡ picture_behind q item b
+    picture_after p item a ≡ picture_after q item b
 same_picture p q item a b e f =
-    ap (λ (x : ServerAt). picture_behind x item a) e
-    ∙ ap (λ (x : Option (Grid Colour)). picture_behind q item x) f
+    ap (λ (x : ServerAt). picture_after x item a) e
+    ∙ ap (λ (x : Option (Grid Colour)). picture_after q item x) f
 
 same_point : (viewing : Viewing) (s t : ViewerState) (item : FromServer) → s.point ≡ t.point →
     (shows viewing s item).point ≡ (shows viewing t item).point
@@ -190,7 +190,7 @@ same_fault f h e = sym e
 
 -- ---- the verdict
 
--- the bytes have no fault, and so many updates
+-- the bytes have no fault, and `told` updates
 judged_end : (unread left : Option (List ℕ)) (old : Viewer) (told : ℕ) (new : Viewer) (all : AllPlayed unread left old told new)
     (between : Bool) → StandsBetween new between → (answer : Result ℕ EngineFault) →
     answer ≡ answer_to None between all.updates → (bytes : List ℕ) → unread ≡ Some bytes → length bytes < 2 ^ 64 - 1 →

@@ -17,12 +17,12 @@ use Rattle.rfb_session.specs.Devices.{AppendsBeginning}
 use Rattle.rfb_session.specs.InFlight.{viewer_reply}
 use Rattle.rfb_session.specs.EngineRun.{Step, Fed, Did}
 use Rattle.rfb_session.specs.Watching.{ViewerAct, Asked, PassedOver, whole_area, viewer_driven, ends_told, WasFed}
-use Rattle.rfb_session.specs.ViewEngine.{due_behind, due, AsksInTurn, RunsInTurn, KeepsLast}
+use Rattle.rfb_session.specs.ViewEngine.{due_after, due, AsksInTurn, RunsInTurn, KeepsLast}
 use Rattle.rfb_session.specs.Looking.{AsksForScreen, HasAsked, IsCutInAsking, due_until, IsAnswered, IsCutInAnswer, Looks, IsLookCutOff}
 use Rattle.rfb_session.proofs.WrittenLemmas.{whole_beginning, no_beginning}
 use Rattle.rfb_session.proofs.EngineRunLemmas.{joined, only_one}
 use Rattle.rfb_session.proofs.ShownLemmas.{shown_whole}
-use Rattle.rfb_session.proofs.ServeLemmas.{begun_behind}
+use Rattle.rfb_session.proofs.ServeLemmas.{begun_after}
 
 -- ---- runs with requests in turn
 
@@ -72,7 +72,7 @@ turn_then old mid new fed sent more_fed more_sent n m asks one two = λ viewing 
 -- a call
 pub fed_turn : (first old : Viewer) (bytes : List ℕ) (event : Option ViewerTold) →
     WasFed first bytes event old →
-    RunsInTurn first bytes (viewer_reply event) (ends_told event) (due_behind event) old
+    RunsInTurn first bytes (viewer_reply event) (ends_told event) (due_after event) old
 fed_turn first old bytes event fed = λ viewing s prefix stands.
     let one = fed viewing s prefix stands in (
       record {
@@ -90,16 +90,16 @@ fed_turn first old bytes event fed = λ viewing s prefix stands.
     )
 
 rest_none : (event : Option ViewerTold) (incremental : Bool) (rest : List ℕ) →
-    due_behind event ≡ Some incremental → IfSome event (λ _. rest ≡ []) → rest ≡ []
+    due_after event ≡ Some incremental → IfSome event (λ _. rest ≡ []) → rest ≡ []
 rest_none None incremental rest is whole = absurd cc
 rest_none (Some told) incremental rest is whole = whole
 
 and_none : (n : ℕ) → n ≡ 0 + n + 0
 and_none n = omega arith
 
--- a call, and the request that is due behind it
+-- a call, and the request that is due after it
 asked_turn : (first old new : Viewer) (bytes sent : List ℕ) (event : Option ViewerTold)
-    (incremental : Bool) → WasFed first bytes event old → due_behind event ≡ Some incremental →
+    (incremental : Bool) → WasFed first bytes event old → due_after event ≡ Some incremental →
     AsksForScreen incremental old sent new →
     RunsInTurn first bytes (viewer_reply event ++ sent) (ends_told event) None new
 asked_turn first old new bytes sent event incremental fed is asks = λ viewing s prefix stands.
@@ -123,7 +123,7 @@ asked_turn first old new bytes sent event incremental fed is asks = λ viewing s
 
 -- ---- what is due
 
-due_at_end : (event : Option ViewerTold) → 0 < ends_told event → due_behind event ≡ Some true
+due_at_end : (event : Option ViewerTold) → 0 < ends_told event → due_after event ≡ Some true
 due_at_end None some = absurd (omega (arith, some))
 due_at_end (Some (Reply bytes)) some = absurd (omega (arith, some))
 due_at_end (Some (Ready bytes name name_length)) some = absurd (omega (arith, some))
@@ -202,7 +202,7 @@ answer_ends old event left before after reply is wrote some counted = record {
   sent = viewer_reply event;
   counted = counted;
   runs = λ first bytes fed. turn_as first old bytes (viewer_reply event) (ends_told event)
-      (due_behind event) (Some true) (due_at_end event (omega (arith, some, counted)))
+      (due_after event) (Some true) (due_at_end event (omega (arith, some, counted)))
       (fed_turn first old bytes event fed);
   wrote = subst (λ (l : List ℕ). Appends before after l) is wrote;
 }
@@ -210,13 +210,13 @@ answer_ends old event left before after reply is wrote some counted = record {
 -- no request is due
 pub answer_rests : (old : Viewer) (event : Option ViewerTold) (left fewer : ℕ)
     (before after : Option (List ℕ)) (reply : List ℕ) → reply ≡ viewer_reply event →
-    Appends before after reply → due_behind event ≡ None → 0 < fewer →
+    Appends before after reply → due_after event ≡ None → 0 < fewer →
     left ≡ ends_told event + fewer → IsAnswered old event left fewer before after old
 answer_rests old event left fewer before after reply is wrote none some counted = record {
   sent = viewer_reply event;
   counted = counted;
   runs = λ first bytes fed. turn_as first old bytes (viewer_reply event) (ends_told event)
-      (due_behind event) (due_until fewer) (none ∙ sym (until_some fewer some))
+      (due_after event) (due_until fewer) (none ∙ sym (until_some fewer some))
       (fed_turn first old bytes event fed);
   wrote = subst (λ (l : List ℕ). Appends before after l) is wrote;
 }
@@ -224,7 +224,7 @@ answer_rests old event left fewer before after reply is wrote none some counted 
 -- one was due and made
 pub answer_asks : (old new : Viewer) (event : Option ViewerTold) (incremental : Bool)
     (left fewer : ℕ) (before mid after : Option (List ℕ)) (reply : List ℕ) →
-    reply ≡ viewer_reply event → Appends before mid reply → due_behind event ≡ Some incremental →
+    reply ≡ viewer_reply event → Appends before mid reply → due_after event ≡ Some incremental →
     HasAsked incremental old mid after new → 0 < fewer → left ≡ ends_told event + fewer →
     IsAnswered old event left fewer before after new
 answer_asks old new event incremental left fewer before mid after reply is wrote due_is asked some counted = record {
@@ -243,7 +243,7 @@ pub answer_cut : (old : Viewer) (event : Option ViewerTold) (before after : Opti
     IsCutInAnswer old event before after old
 answer_cut old event before after reply is begun = record {
   sent = viewer_reply event;
-  asks = due_behind event;
+  asks = due_after event;
   runs = λ first bytes fed. fed_turn first old bytes event fed;
   wrote = subst (λ (l : List ℕ). AppendsBeginning before after l) is begun;
 }
@@ -251,14 +251,14 @@ answer_cut old event before after reply is begun = record {
 -- or the request was not
 pub request_cut : (old new : Viewer) (event : Option ViewerTold) (incremental : Bool)
     (before mid after : Option (List ℕ)) (reply : List ℕ) → reply ≡ viewer_reply event →
-    Appends before mid reply → due_behind event ≡ Some incremental →
+    Appends before mid reply → due_after event ≡ Some incremental →
     IsCutInAsking incremental old mid after new → IsCutInAnswer old event before after new
 request_cut old new event incremental before mid after reply is wrote due_is asked = record {
   sent = viewer_reply event ++ asked.sent;
   asks = None;
   runs = λ first bytes fed.
       asked_turn first old new bytes asked.sent event incremental fed due_is asked.asks;
-  wrote = begun_behind before mid after (viewer_reply event) asked.sent
+  wrote = begun_after before mid after (viewer_reply event) asked.sent
       (subst (λ (l : List ℕ). Appends before mid l) is wrote) asked.wrote;
 }
 
@@ -302,7 +302,7 @@ call_unkept old mid bytes used event before blank copied fed kept = record {
   later = drop used bytes;
   sent = viewer_reply event;
   updates = ends_told event;
-  asks = due_behind event;
+  asks = due_after event;
   bytes_are = sym (take-append-drop used bytes);
   runs = fed_turn old mid (take used bytes) event fed;
   wrote = no_beginning before (viewer_reply event);

@@ -52,11 +52,11 @@ pub on_ok : {A E : Type 0} (r : Result A E) (P : Type 0) → P → OnOk r P
 on_ok (Ok a) P p = p
 on_ok (Err e) P p = tt
 
--- a slice up to the end is all that is behind its first byte
+-- a slice up to the end is all that is after its first byte
 pub rest_is : (xs : List ℕ) (n : ℕ) → take (length xs - n) (drop n xs) ≡ drop n xs
 rest_is xs n = take_all (length xs - n) (drop n xs) (omega (arith, length-drop n xs))
 
--- some bytes more wait behind the others
+-- some bytes more wait after the others
 pub more_waits : (old new : Option (List ℕ)) (text rest more : List ℕ) →
     AppendsUpTo old new text rest → AppendsUpTo old new (text ++ more) (rest ++ more)
 more_waits old new text rest more so_far = record {

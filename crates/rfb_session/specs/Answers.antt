@@ -1,5 +1,5 @@
 -- What each end answers to the other's items, as items of its own: in the handshake what RFC 6143
--- sections 7.1 and 7.3 and Appendix A ask next, and behind it nothing.
+-- sections 7.1 and 7.3 and Appendix A ask next, and after it nothing.
 use Rattle.std.specs.Prelude.{zero, suc, List, [], ◌∷◌, ◌++◌, map}
 use Rattle.rfb_wire.specs.Encoding.{number_of}
 use Rattle.rfb_wire.specs.ClientMessage.{SetPixelFormat, SetEncodings}
@@ -51,7 +51,7 @@ viewer_answers viewing (First point) (Second item) = []
 viewer_answers viewing (Second p) (First step) = []
 viewer_answers viewing (Second p) (Second item) = []
 
--- to items one behind another
+-- to items one after another
 abbrev pub viewer_replies : Viewing → ViewerState → List FromServer → List FromClient
 viewer_replies viewing s [] = []
 viewer_replies viewing s (item ∷ items) =
@@ -76,7 +76,7 @@ server_answers serving (First point) (Second message) = []
 server_answers serving (Second between) (First step) = []
 server_answers serving (Second between) (Second message) = []
 
--- to items one behind another
+-- to items one after another
 abbrev pub server_replies : Serving → ServerState → List FromClient → List FromServer
 server_replies serving s [] = []
 server_replies serving s (item ∷ items) =

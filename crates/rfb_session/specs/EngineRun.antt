@@ -51,7 +51,7 @@ module _ {V C S P I F E A : Type 0} where
   updates_in d (step ∷ before) = updates_in d before + d.updates step
 
   -- steps lead from a state and a prefix to one that the end then stands for: it was fed those
-  -- bytes, those are sent, and so many updates ended
+  -- bytes, those are sent, and `updates` updates ended
   pub record Ran (d : Driven V C S P I F E A) (made : C) (s : S) (prefix : List ℕ) (new : V)
       (fed sent : List ℕ) (updates : ℕ) : Type 0 where
     pub steps : List (Step E A)

@@ -67,7 +67,7 @@ pub record KeepsSeat (old new : Seat) : Type 0 where
   pub link : ChangesSession old.link new.link
   pub session : KeepsSession old.link.session new.link.session
 
--- its session was told that the screen is drawn on inside the rectangle
+-- its session was notified that the screen is drawn on inside the rectangle
 pub record IsDrawnOn (rect : Rect) (old new : Seat) : Type 0 where
   pub keeps : KeepsSeat old new
   pub hints : hints_in new.link.session ≡ hints_in old.link.session
@@ -79,7 +79,7 @@ pub record IsHintable (rect : Rect) (sx sy : ℕ) (seat : Seat) : Type 0 where
   pub target : Holds (notes_in seat.link.session).known rect
   pub source : Holds (notes_in seat.link.session).known (moved_to sx sy rect)
 
--- its session was told that the rectangle looks as the one of its size at (sx, sy) did
+-- its session got the hint that the rectangle looks as the one of its size at (sx, sy) did
 pub record IsHintedOn (rect : Rect) (sx sy : ℕ) (old new : Seat) : Type 0 where
   pub keeps : KeepsSeat old new
   pub hints : hints_in new.link.session

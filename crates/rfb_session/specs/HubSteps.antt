@@ -63,7 +63,7 @@ pub data ForeignAs (old : Hub) (k : ℕ) (bytes : List ℕ) (told : HubTold) (ne
   Fed : (a b : Seat) → seat_in old k ≡ Some a → told.refused ≡ None → seat_in new k ≡ Some b →
       TakesForeign bytes a b → ForeignAs old k bytes told new
 
--- the slots that are told as emptied: all others that are taken, where a client asked for the
+-- the slots that are reported as emptied: all others that are taken, where a client asked for the
 -- screen alone
 abbrev pub EndsAs : Bool → ℕ → Hub → HubTold → Type 0
 EndsAs sole k old told = (j : ℕ) →
@@ -106,8 +106,8 @@ IsOther (Foreign j bytes) k = nat_eq k j ≡ false
 IsOther event k = Unit {0}
 
 -- what an event makes of a slot that it is not of: a drawing marks its session, a hint reaches it;
--- else, where it is not told as emptied, its session, its viewer, the bytes in flight and the latest
--- composing are what they were
+-- else, where it is not reported as emptied, its session, its viewer, the bytes in flight and the
+-- latest composing are what they were
 abbrev pub StaysAs : HubEvent → HubTold → ℕ → Option Seat → Option Seat → Type 0
 StaysAs (Fill rect colour) told k old new =
     told.refused ≡ None → OnSlot (λ a b. IsDrawnOn rect a b) old new

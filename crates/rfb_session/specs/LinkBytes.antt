@@ -72,8 +72,8 @@ refusal_on link event = None
 
 -- ---- bytes that reach the session
 
--- how often a client that is told of so asks for the screen alone: once, by a ClientInit with
--- shared-flag 0, RFC 6143 section 7.3.1
+-- how often a client of which this is reported asks for the screen alone: once, by a ClientInit
+-- with shared-flag 0, RFC 6143 section 7.3.1
 abbrev pub sole_told : Option ServerTold → ℕ
 sole_told None = 0
 sole_told (Some (Reply bytes)) = 0

@@ -111,7 +111,7 @@ abbrev pub FollowsStill : Link → Link → Type 0
 FollowsStill old new = (screen : Grid Colour) →
     Follows screen old.session → Follows screen new.session
 
--- so many bytes leave the channel to an end that has failed, and nothing else changes
+-- `count` bytes leave the channel to an end that has failed, and nothing else changes
 pub record LosesToViewer (old : Link) (count : ℕ) (new : Link) : Type 0 where
   pub to_viewer : new.to_viewer ≡ drop count old.to_viewer
   pub to_server : new.to_server ≡ old.to_server

@@ -29,7 +29,8 @@ use Rattle.rfb_session.specs.Link.{Ends, server_stream, viewer_stream, SessionSt
 use Rattle.rfb_session.specs.Link.{session_of, LinkState}
 use Rattle.rfb_session.specs.Answers.{viewer_replies, server_replies}
 
--- what happens on a link: the viewer's calls, a composing, and deliveries of at most so many bytes
+-- what happens on a link: the viewer's calls, a composing, and deliveries of at most a number of
+-- bytes
 pub data LinkEvent : Type 0 where
   Request : (incremental : Bool) → (rect : Rect) → LinkEvent
   SetFormat : (form : PixelFormat) → LinkEvent
@@ -95,8 +96,8 @@ flight_to_viewer e l = sizes (viewer_stream e) l.to_viewer - l.at_viewer
 abbrev pub flight_to_server : Ends → LinkState → ℕ
 flight_to_server e l = sizes (server_stream e) l.to_server - l.at_server
 
--- so many bytes reach the viewer: the items that are whole act, one behind another, and their
--- answers join those in flight to the server; the rest is a part of the next item
+-- `n` bytes reach the viewer: the items that are whole act, one after another, and their answers
+-- join those in flight to the server; the rest is a part of the next item
 pub record MovesToViewer (e : Ends) (old : LinkState) (n : ℕ) (new : LinkState) : Type 0 where
   pub done : List FromServer
   pub left : List FromServer
@@ -111,7 +112,7 @@ pub record MovesToViewer (e : Ends) (old : LinkState) (n : ℕ) (new : LinkState
     to_server = old.to_server ++ viewer_replies e.viewing old.viewer done;
   }
 
--- so many bytes reach the server
+-- `n` bytes reach the server
 pub record MovesToServer (e : Ends) (screen : Grid Colour) (old : LinkState) (n : ℕ)
     (new : LinkState) : Type 0 where
   pub done : List FromClient

@@ -1,4 +1,4 @@
--- One read of an engine that asks its viewer for updates: calls, and requests behind them.
+-- One read of an engine that asks its viewer for updates: calls, and requests after them.
 use Rattle.std.specs.Prelude.{◌≡◌, ℕ, zero, suc, ◌<◌, ◌+◌, Bool, true, List, [], ◌++◌, Option, Some, None}
 use Rattle.std.specs.Io.KnownBytes.{Appends}
 use Rattle.rfb_viewer.specs.declared.fault.ViewerFault.{ViewerFault}
@@ -35,12 +35,12 @@ pub record IsCutInAsking (incremental : Bool) (old : Viewer) (before after : Opt
   pub asks : AsksForScreen incremental old sent new
   pub wrote : AppendsBeginning before after sent
 
--- what is due where so many updates are looked for: none is where the last has ended
+-- what is due, by how many updates are looked for: none is where the last has ended
 abbrev pub due_until : ℕ → Option Bool
 due_until zero = Some true
 due_until (suc left) = None
 
--- a call and what was done behind it: it was answered, and a request was made if one was due
+-- a call and what was done after it: it was answered, and a request was made if one was due
 pub record IsAnswered (old : Viewer) (event : Option ViewerTold) (left fewer : ℕ)
     (before after : Option (List ℕ)) (new : Viewer) : Type 0 where
   pub sent : List ℕ
@@ -58,7 +58,7 @@ pub record IsCutInAnswer (old : Viewer) (event : Option ViewerTold)
       RunsInTurn first bytes sent (ends_told event) asks new
   pub wrote : AppendsBeginning before after sent
 
--- all of the bytes were fed and kept, and so many updates are looked for then
+-- all of the bytes were fed and kept, and `fewer` updates are looked for then
 pub record Looks (old : Viewer) (bytes : List ℕ) (left fewer : ℕ)
     (before after blank copied : Option (List ℕ)) (new : Viewer) : Type 0 where
   pub sent : List ℕ

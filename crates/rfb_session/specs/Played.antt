@@ -1,4 +1,4 @@
--- A world that makes its ends itself, behind a list of events.
+-- A world that makes its ends itself, after a list of events.
 use Rattle.std.specs.Prelude.{ℕ, true, List, [], ◌∷◌}
 use Rattle.rfb_pixel.specs.Format.{rgb888}
 use Rattle.rfb_picture.specs.Grid.{uniform}

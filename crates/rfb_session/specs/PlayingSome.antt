@@ -8,7 +8,7 @@ use Rattle.rfb_session.specs.declared.engine.fault.EngineFault.TheVariants.{Serv
 use Rattle.rfb_session.specs.Watching.{ViewerRuns, WasFed, StandsBetween, ends_told}
 use Rattle.rfb_session.specs.Playing.{Played, AllPlayed, PlayedUntil}
 
--- it was fed these bytes, and the update that they end, if they do, was counted behind those before
+-- it was fed these bytes, and the update that they end, if they do, was counted after those before
 pub record WasCounted (old : Viewer) (bytes : List ℕ) (before told : ℕ) (new : Viewer)
     : Type 0 where
   pub event : Option ViewerTold

@@ -56,7 +56,7 @@ server_driven = record {
   updates = updates_composed;
 }
 
--- it was fed these bytes, these are sent, so many updates were composed, and it became that one
+-- it was fed these bytes, these are sent, `updates` updates were composed, and it became that one
 abbrev pub ServerRuns : Server → List ℕ → List ℕ → ℕ → Server → Type 0
 ServerRuns old fed sent updates new = RunsOn server_driven old fed sent updates new
 
@@ -151,7 +151,7 @@ StopsHearing old bytes before after failed_before failed (Viewer fault) new = �
 StopsHearing old bytes before after failed_before failed Truncated new = ⊥
 StopsHearing old bytes before after failed_before failed NoMemory new = ⊥
 
--- so many updates were composed, one or none, and written; and none is due then
+-- `updates` updates were composed, one or none, and written; and none is due then
 pub record IsUpdated (old : Server) (before after : Option (List ℕ)) (updates : ℕ)
     (new : Server) : Type 0 where
   pub sent : List ℕ
@@ -174,7 +174,7 @@ StopsUpdating old before after failed_before failed Truncated new = ⊥
 -- ---- all reads
 
 -- it was fed all that there was, if that is known and has fewer than 2 ^ 64 - 1 bytes; all answers
--- and updates were written behind the front; and no update is due then
+-- and updates were written after the front; and no update is due then
 pub record AllServed (unread left before after : Option (List ℕ)) (front : List ℕ)
     (old : Server) (told : ℕ) (new : Server) : Type 0 where
   pub fed : List ℕ
@@ -217,13 +217,13 @@ IsGreeting old greeting =
     (serving : Serving) (s : ServerState) (prefix : List ℕ) → StandsFor serving old s prefix →
     greeting ≡ version_text serving.hello.offer
 
--- behind its greeting
-pub record GoesOn (Behind : List ℕ → Type 0) (old : Server) : Type 0 where
+-- after its greeting
+pub record GoesOn (After : List ℕ → Type 0) (old : Server) : Type 0 where
   pub greeting : List ℕ
   pub greeting_is : IsGreeting old greeting
-  pub goes_on : Behind greeting
+  pub goes_on : After greeting
 
--- why serving stops, behind that front: the bytes ended where they must not; a read or a write
+-- why serving stops, after that front: the bytes ended where they must not; a read or a write
 -- failed, which was counted; the server ended; or there was no memory for an update
 abbrev pub StopsServing : Option (List ℕ) → Option (List ℕ) → ℕ → ℕ → Option (List ℕ) →
     Option (List ℕ) → ℕ → ℕ → List ℕ → Server → EngineFault → Server → Type 0

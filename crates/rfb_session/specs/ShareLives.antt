@@ -47,7 +47,7 @@ pub record HasEnded (serving : Serving) (session : Session) (heard sent : List �
   pub ends : EndsAs last slice fault session
   pub heard_is : heard ≡ fed ++ (slice ++ later)
 
--- so it stands; and what of its bytes was written, and behind it what waits, are its greeting, RFC
+-- so it stands; and what of its bytes was written, and after it what waits, are its greeting, RFC
 -- 6143 section 7.1.1, and then what it sent: none is lost, and none comes twice
 pub data Lives (serving : Serving) (screen : Grid Colour) (seat : ShareSeat)
     (heard taken : List ℕ) : Type 0 where

@@ -23,7 +23,7 @@ answers_in (Answers answers) = length answers.items
 answers_in (Update bytes) = 0
 
 -- how many bytes of answers a client may still be sent: at most 6 for its security type and the
--- result, and ServerInit with a name of at most 255 bytes; none behind the handshake
+-- result, and ServerInit with a name of at most 255 bytes; none after the handshake
 abbrev pub answers_left : ClientAt → ℕ
 answers_left (First AwaitsVersion) = 285
 answers_left (First (AwaitsChoice version)) = 283
@@ -31,7 +31,7 @@ answers_left (First (AwaitsInit version)) = 279
 answers_left (First (Begun version shared)) = 0
 answers_left (Second between) = 0
 
--- these fit behind what is kept; where that is an update, there are none
+-- these fit after what is kept; where that is an update, there are none
 abbrev pub AnswersFit : Waiting → ClientAt → Type 0
 AnswersFit (Answers answers) point = length answers.items + answers_left point ≤ 297
 AnswersFit (Update bytes) point = answers_left point ≡ 0

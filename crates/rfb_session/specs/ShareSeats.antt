@@ -59,7 +59,7 @@ pub record IsSeatOf (session : Session) (seat : ShareSeat) : Type 0 where
 -- ---- bytes of its viewer's
 
 -- its session, which has not failed, was fed them, whatever it stands for over whatever screen, and
--- told that of them; its answer, if that is one, waits behind what waited. Where an update waits
+-- told that of them; its answer, if that is one, waits after what waited. Where an update waits
 -- there is none
 pub record Hears (bytes : List ℕ) (told : Option ServerTold) (old new : ShareSeat) : Type 0 where
   pub going : session_fault (session_at old) ≡ None
@@ -82,7 +82,7 @@ pub record Ends (bytes : List ℕ) (fault : ServerFault) (old new : ShareSeat) :
 
 -- ---- bytes that are written
 
--- the first bytes that wait are written, so many or all; its session is as it was
+-- the first `count` bytes that wait are written, or all; its session is as it was
 pub record WritesAt (count : ℕ) (old new : ShareSeat) : Type 0 where
   pub waits : waiting_in new ≡ drop count (waiting_in old)
   pub session : session_at new ≡ session_at old
@@ -131,7 +131,7 @@ pub record KeepsShareSeat (old new : ShareSeat) : Type 0 where
   pub update : is_update new ≡ is_update old
   pub session : KeepsSession (session_at old) (session_at new)
 
--- its session was told that the screen is drawn on inside the rectangle
+-- its session was notified that the screen is drawn on inside the rectangle
 pub record IsMarkedIn (rect : Rect) (old new : ShareSeat) : Type 0 where
   pub keeps : KeepsShareSeat old new
   pub hints : hints_in (session_at new) ≡ hints_in (session_at old)
@@ -143,7 +143,7 @@ pub record CanBeTold (rect : Rect) (sx sy : ℕ) (seat : ShareSeat) : Type 0 whe
   pub target : Holds (notes_in (session_at seat)).known rect
   pub source : Holds (notes_in (session_at seat)).known (moved_to sx sy rect)
 
--- its session was told that the rectangle looks as the one of its size at (sx, sy) did
+-- its session got the hint that the rectangle looks as the one of its size at (sx, sy) did
 pub record IsTold (rect : Rect) (sx sy : ℕ) (old new : ShareSeat) : Type 0 where
   pub keeps : KeepsShareSeat old new
   pub hints : hints_in (session_at new)

@@ -58,14 +58,14 @@ drawn_by (Put x y row) screen = with_row x y row.items screen
 drawn_by (Copy rect sx sy) screen = copied rect sx sy screen
 drawn_by (Hint rect sx sy) screen = screen
 
--- the session of a seat was told of it
+-- the session of a seat was notified of it
 abbrev pub IsToldOf : Drawing → ShareSeat → ShareSeat → Type 0
 IsToldOf (Fill rect colour) old new = IsMarkedIn rect old new
 IsToldOf (Put x y row) old new = IsMarkedIn (row_from x y (length row.items)) old new
 IsToldOf (Copy rect sx sy) old new = IsMarkedIn rect old new
 IsToldOf (Hint rect sx sy) old new = IsTold rect sx sy old new
 
--- the screen is drawn on, and each session was told; nothing else has changed
+-- the screen is drawn on, and each session was notified; nothing else has changed
 pub record DrawsOn (old : Share) (drawing : Drawing) (new : Share) : Type 0 where
   pub screen : screen_of new ≡ drawn_by drawing (screen_of old)
   pub seats : (k : ℕ) → OnSlot (λ a b. IsToldOf drawing a b) (seat_in old k) (seat_in new k)
@@ -81,7 +81,7 @@ pub data JoinsAs (old : Share) (joined : Option ℕ) (new : Share) : Type 0 wher
       (seat : ShareSeat) → seat_in new k ≡ Some seat → IsFreshIn old seat →
       KeepsScreen old new → OthersKept old k new → JoinsAs old joined new
 
--- a seat is emptied, and it is told whether it was taken
+-- a seat is emptied, and the answer says whether it was taken
 pub record LeavesAs (old : Share) (k : ℕ) (taken : Bool) (new : Share) : Type 0 where
   pub taken_is : taken ≡ is_taken (seat_in old k)
   pub gone : seat_in new k ≡ None
@@ -105,7 +105,7 @@ event_seen (Some (KeyEvent down key)) = Some (OfKey down key)
 event_seen (Some (PointerEvent buttons x y)) = Some (OfPointer buttons x y)
 event_seen (Some (TextEvent kept text_length)) = Some (OfText kept.items text_length)
 
--- what is told of what a session tells: answers are not
+-- what is reported of a session's events: answers are not
 abbrev pub seat_told : Option ServerTold → Option SeatTold
 seat_told None = None
 seat_told (Some (Reply bytes)) = None
@@ -114,8 +114,8 @@ seat_told (Some (Key down key)) = Some (OfKey down key)
 seat_told (Some (Pointer buttons x y)) = Some (OfPointer buttons x y)
 seat_told (Some (CutText kept text_length)) = Some (OfText kept text_length)
 
--- a client that is told of so asks for the screen alone: its ClientInit has shared-flag 0, RFC 6143
--- section 7.3.1
+-- a client of which this is reported asks for the screen alone: its ClientInit has shared-flag 0,
+-- RFC 6143 section 7.3.1
 abbrev pub asks_alone : Option ServerTold → Bool
 asks_alone None = false
 asks_alone (Some (Reply bytes)) = false
@@ -125,8 +125,8 @@ asks_alone (Some (Pointer buttons x y)) = false
 asks_alone (Some (CutText kept text_length)) = false
 
 -- the session of the seat was fed those that were taken: up to its first item that is answered or
--- told, or all. What its viewer did is told with the seat. Where it asked for the screen alone, all
--- other seats that are taken are told as emptied
+-- reported, or all. What its viewer did is reported with the seat. Where it asked for the screen
+-- alone, all other seats that are taken are reported as emptied
 pub record ReceivesAs (old : Share) (k : ℕ) (bytes : List ℕ) (heard : Heard) (new : Share)
     : Type 0 where
   pub was : ShareSeat
@@ -155,7 +155,7 @@ pub data RefusesAs (old : Share) (k : ℕ) (bytes : List ℕ) (fault : ShareFaul
 
 -- ---- bytes that wait, and updates
 
--- the first that wait at the seat are written, so many or all
+-- the first `count` that wait at the seat are written, or all
 pub record WritesAs (old : Share) (k count : ℕ) (new : Share) : Type 0 where
   pub seat : OnSlot (λ a b. WritesAt count a b) (seat_in old k) (seat_in new k)
   pub keeps : KeepsScreen old new

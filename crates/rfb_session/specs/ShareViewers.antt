@@ -23,7 +23,7 @@ use Rattle.rfb_session.specs.Share.{seat_in, screen_of}
 use Rattle.rfb_session.specs.ShareSeats.{session_at, waiting_in}
 
 -- the viewer sent bytes of which those have not been received at the seat; and of the bytes that
--- were written for it, those have not reached it. Behind these come the ones that wait. So both
+-- were written for it, those have not reached it. After these come the ones that wait. So both
 -- stand for a network over the share's screen, to which events of a world led
 pub record IsWatchedBy (e : Ends) (share : Share) (k : ℕ) (viewer : Viewer)
     (to_server on_way : List ℕ) (n : Network) : Type 0 where

@@ -17,6 +17,6 @@ module _ {X : Type 0} where
   OnSlot Becomes (Some old) (Some new) = Becomes old new
   OnSlot Becomes old new = ⊥
 
-  -- a slot that is told as emptied is empty; any other has what it had
+  -- a slot that is reported as emptied is empty; any other has what it had
   abbrev pub StaysUnless : Bool → Option X → Option X → Type 0
   StaysUnless ended old new = (ended ≡ true → new ≡ None) × (ended ≡ false → new ≡ old)

@@ -1,4 +1,4 @@
--- A server's engine turn by turn: one read, whose bytes are heard and answered; and behind it one
+-- A server's engine turn by turn: one read, whose bytes are heard and answered; and after it one
 -- composing, and a drawing where an update was composed.
 use Rattle.std.specs.Prelude.{◌≡◌, ℕ, zero, suc, ◌<◌, ◌≤◌, ◌+◌, List, [], ◌∷◌, ◌++◌, length, Option}
 use Rattle.std.specs.Io.KnownBytes.{Appends, Consumes, Keeps, IsAtEnd}
@@ -105,7 +105,7 @@ read_in [] = []
 read_in (bytes ∷ reads) = read_in reads ++ bytes
 
 module _ {X : Type 0} where
-  -- a turn for each of these reads, each behind all that the turn before it wrote
+  -- a turn for each of these reads, each after all that the turn before it wrote
   abbrev pub AreTurns : Showing X → Server → X → Option (List ℕ) → List (List ℕ) → ℕ → Server → X →
       Option (List ℕ) → Type 0
   AreTurns shows old scene before [] updates now last after =

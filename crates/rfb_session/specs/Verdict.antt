@@ -29,7 +29,7 @@ answer_to None false updates = Err Truncated
 
 -- the viewer stands where these items lead from a state, shows their effect, and holds those bytes
 -- of the next one
-pub record StandsBehind (viewing : Viewing) (s : ViewerState) (items : List FromServer)
+pub record StandsAfter (viewing : Viewing) (s : ViewerState) (items : List FromServer)
     (rest : List ℕ) (new : Viewer) : Type 0 where
   pub state : ViewerState
   pub stands : StandsFor viewing new state rest
@@ -43,7 +43,7 @@ pub record IsAnsweredAs (viewing : Viewing) (s : ViewerState) (items : List From
   pub answer_is : answer ≡ answer_to fault
       (is_between (past_all (server_bytes viewing.form viewing.hello) s.point items) rest)
       (updates_told (told (viewer viewing) s items))
-  pub stands : fault ≡ None → StandsBehind viewing s items rest new
+  pub stands : fault ≡ None → StandsAfter viewing s items rest new
   pub fails : (f : ViewerFault) → fault ≡ Some f → fault_of new ≡ Some f
 
 -- whatever state between two items the viewer stood for, a fresh one its first: by the one verdict

@@ -15,21 +15,21 @@ use Rattle.rfb_session.specs.Watching.{ViewerAct, Asked, PassedOver, viewer_driv
 
 -- ---- requests in turn
 
--- what is due once this was told: all of the screen where the handshake is done, and behind an
--- update what has changed
-abbrev pub due_behind : Option ViewerTold → Option Bool
-due_behind None = None
-due_behind (Some (Reply bytes)) = None
-due_behind (Some (Ready bytes name name_length)) = Some false
-due_behind (Some UpdateDone) = Some true
-due_behind (Some Bell) = None
-due_behind (Some (CutText kept text_length)) = None
-due_behind (Some ColourMapSkipped) = None
+-- what is due after this event: all of the screen where the handshake is done, and after an update
+-- what has changed
+abbrev pub due_after : Option ViewerTold → Option Bool
+due_after None = None
+due_after (Some (Reply bytes)) = None
+due_after (Some (Ready bytes name name_length)) = Some false
+due_after (Some UpdateDone) = Some true
+due_after (Some Bell) = None
+due_after (Some (CutText kept text_length)) = None
+due_after (Some ColourMapSkipped) = None
 
--- the same behind steps the latest of which stands first
+-- the same after steps the latest of which stands first
 abbrev pub due : List (Step ViewerTold ViewerAct) → Option Bool
 due [] = None
-due (Fed bytes event ∷ before) = due_behind event
+due (Fed bytes event ∷ before) = due_after event
 due (Did act ∷ before) = None
 
 abbrev pub is_incremental : ViewerAct → Bool
@@ -42,7 +42,7 @@ AsksInTurn [] = ⊤
 AsksInTurn (Fed bytes event ∷ before) = AsksInTurn before × (due before ≡ None)
 AsksInTurn (Did act ∷ before) = AsksInTurn before × (due before ≡ Some (is_incremental act))
 
--- it was fed these bytes, these are sent, so many updates ended, and it became that one, whatever
+-- it was fed these bytes, these are sent, `updates` updates ended, and it became that one, whatever
 -- it stood for; requests came in turn, and this one is due then
 abbrev pub RunsInTurn : Viewer → List ℕ → List ℕ → ℕ → Option Bool → Viewer → Type 0
 RunsInTurn old fed sent updates asks new =
@@ -52,7 +52,7 @@ RunsInTurn old fed sent updates asks new =
 
 -- ---- why it stops
 
--- so many updates ended, and it was fed no byte behind the last; all that is sent was written, and
+-- `updates` updates ended, and it was fed no byte after the last; all that is sent was written, and
 -- all that it was fed was kept
 pub record HasViewed (unread left before after blank copied : Option (List ℕ)) (old : Viewer)
     (updates : ℕ) (new : Viewer) : Type 0 where
@@ -119,7 +119,7 @@ pub record ViewedUntil (unread left before after blank copied : Option (List ℕ
   pub kept : KeepsUntil blank copied fed slice failing failed
   pub ends : EndsBy fault last slice new
 
--- the bytes ended before so many updates had; a read or a write failed, which was counted; or the
+-- the bytes ended before `updates` updates had; a read or a write failed, which was counted; or the
 -- viewer ended
 abbrev pub StopsViewing : Option (List ℕ) → Option (List ℕ) → Option (List ℕ) → Option (List ℕ) →
     Option (List ℕ) → Option (List ℕ) → ℕ → ℕ → Viewer → ℕ → EngineFault → Viewer → Type 0

@@ -41,7 +41,7 @@ viewer_sends (Fed bytes event) = viewer_reply event
 viewer_sends (Did (Asked incremental area)) = request_message incremental area
 viewer_sends (Did (PassedOver incremental)) = []
 
--- an update ends where its end is told
+-- an update ends where its end is reported
 abbrev pub ends_told : Option ViewerTold → ℕ
 ends_told None = 0
 ends_told (Some (Reply bytes)) = 0
@@ -66,7 +66,7 @@ viewer_driven = record {
   updates = updates_ended;
 }
 
--- it was fed these bytes, these are sent, so many updates ended, and it became that one
+-- it was fed these bytes, these are sent, `updates` updates ended, and it became that one
 abbrev pub ViewerRuns : Viewer → List ℕ → List ℕ → ℕ → Viewer → Type 0
 ViewerRuns old fed sent updates new = RunsOn viewer_driven old fed sent updates new
 
@@ -87,7 +87,7 @@ pub record EndsBy (fault : ViewerFault) (old : Viewer) (slice : List ℕ)
   pub picture : fault_of old ≡ None → KeepsPicture fault old slice new
   pub reason : fault_of old ≡ None → KeepsReason fault old slice new
 
--- a run over the first of some bytes, and then the viewer ended at those behind them
+-- a run over the first of some bytes, and then the viewer ended at those after them
 pub record EndsWithin (old : Viewer) (bytes : List ℕ) (fault : ViewerFault)
     (new : Viewer) : Type 0 where
   pub fed : List ℕ
@@ -105,7 +105,7 @@ StandsBetween now between =
     (viewing : Viewing) (s : ViewerState) (prefix : List ℕ) →
     StandsFor viewing now s prefix → between ≡ is_between s.point prefix
 
--- it was fed all of these bytes, and the updates were counted behind those before
+-- it was fed all of these bytes, and the updates were counted after those before
 pub record IsWatched (old : Viewer) (bytes : List ℕ) (before told : ℕ) (new : Viewer) : Type 0 where
   pub sent : List ℕ
   pub updates : ℕ

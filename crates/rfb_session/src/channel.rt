@@ -16,7 +16,7 @@ use std::marker::Model;
 pub(crate) struct Channel {
     alloc: Global,
     bytes: Vec<u8>,
-    // So many of them have arrived.
+    // How many of them have arrived.
     arrived: usize,
 }
 
@@ -81,7 +81,7 @@ impl Channel {
         }
     }
 
-    /// These bytes are in flight too, behind the others. Where there is no memory nothing changes.
+    /// These bytes are in flight too, after the others. Where there is no memory nothing changes.
     pub(crate) fn send(&mut self, bytes: &[u8]) -> Result<(), AllocError>
         ensures sent { OnOk result (self.new ≡ self.old ++ bytes.now) }
         ensures kept { OnErr result (self.new ≡ self.old) }

@@ -14,7 +14,7 @@ pub enum Event {
     Put(u16, u16, Vec<Colour>),
     /// A rectangle of the screen gets what the one of its size at a column and a row had.
     Copy(Rect, u16, u16),
-    /// The server is told that a rectangle looks as the one of its size at a column and a row did.
+    /// A hint to the server: a rectangle looks as the one of its size at a column and a row did.
     Hint(Rect, u16, u16),
     /// The viewer asks for an area, incrementally or whole, RFC 6143 section 7.5.3.
     Request(bool, Rect),
@@ -30,8 +30,8 @@ pub enum Event {
     CutText(Vec<u8>),
     /// The server composes an update, if one is due.
     Compose,
-    /// So many bytes reach the server, or all that are in flight to it, if they are fewer.
+    /// This number of bytes reaches the server, or all that are in flight to it, if they are fewer.
     ToServer(u32),
-    /// So many bytes reach the viewer, or all that are in flight to it, if they are fewer.
+    /// This number of bytes reaches the viewer, or all that are in flight to it, if they are fewer.
     ToViewer(u32),
 }

@@ -104,7 +104,8 @@ impl Hub {
         requires few { HasFewHubBytes event.now }
         // What becomes of the screen and of the event's own slot, whatever stands there.
         ensures acts { IfOk result (λ told. HubActs self.old event.now told self.new) }
-        // Nothing becomes of the others, but for drawings, hints, and slots that are told as ended.
+        // Nothing becomes of the others, but for drawings, hints, and slots that are reported as
+        // ended.
         ensures others { IfOk result (λ told. OthersStay self.old event.now told self.new) }
         // Of the networks that its slots stood for, the event is a step, and the answer tells so.
         ensures does { IfOk result (λ told. SlotsDo self.old event.now told self.new) }

@@ -52,13 +52,13 @@ pub fn the_latest_update_answers_a_place()
         ComposesOn screen old new → AnswersSome new.latest }
 {}
 
-/// An event that is told as refused has changed nothing.
+/// An event that is reported as refused has changed nothing.
 pub fn a_refused_event_changes_nothing()
     ensures { (e : Ends) (old new : Network) (event : Event) (told : Told) (refused : Refused) →
         Steps e old event new → Tells e old event told → told.refused ≡ Some refused → new ≡ old }
 {}
 
-/// Neither end refuses what is in flight to it, however it is cut.
+/// Neither end refuses what is in flight to it, however it is split.
 pub fn neither_end_refuses()
     ensures viewer { (e : Ends) (l : LinkState) (f : Flight) (bytes later : List ℕ)
         (fault : ViewerFault) → Flies e l f → f.viewer_gets ≡ bytes ++ later →
@@ -115,7 +115,7 @@ pub fn what_is_sent_joins_the_bytes_in_flight()
 {}
 
 /// As many bytes are in flight as the items have, but for those that have been moved; and a
-/// delivery behind a delivery is one of all their bytes.
+/// delivery after a delivery is one of all their bytes.
 pub fn deliveries_are_counted_in_bytes()
     ensures viewer { (e : Ends) (l : LinkState) (f : Flight) →
         Flies e l f → length f.viewer_gets ≡ flight_to_viewer e l }

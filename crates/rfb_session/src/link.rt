@@ -21,7 +21,7 @@ use rfb_viewer::Viewer;
 use std::alloc::{AllocError, Global};
 
 /// A session and its viewer in one process, with the bytes in flight between them each way. The
-/// screen is someone else's: it is lent to compose, and the link is told where it is drawn on.
+/// screen is someone else's: it is lent to compose, and the link is notified where it is drawn on.
 /// Bytes arrive when a delivery says so, as many as it says. It keeps, beside that, of what its
 /// latest update was composed. Several links go on side by side over one screen.
 #[derive(Debug, Drop)]
@@ -74,8 +74,8 @@ impl Link {
         })
     }
 
-    /// Is told that the screen is to be drawn on inside the rectangle, which lies on it, or was
-    /// just drawn on there.
+    /// Notes that the screen is to be drawn on inside the rectangle, which lies on it, or was just
+    /// drawn on there.
     pub fn drawn(&mut self, rect: Rect)
         requires held { Holds (notes_in (session_of_link self.old)).known rect }
         ensures follows { (before after : Grid Colour)

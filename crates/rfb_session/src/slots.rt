@@ -13,30 +13,30 @@ use std::mem;
 /// How many slots there are.
 pub const SLOTS: usize = 8;
 
-/// Who sits in a slot: a session is told there of drawings and hints.
+/// Who sits in a slot: its session is notified of drawings and hints.
 pub(crate) trait Follower {
     // Whether its session is about the places of a rectangle; and of those of a hint, both.
     ghost Drawable: { Rect → Self → Type 0 };
 
     ghost Hintable: { Rect → ℕ → ℕ → Self → Type 0 };
 
-    // What becomes of it where its session is told.
+    // What becomes of it where its session is notified.
     ghost Drawn: { Rect → Self → Self → Type 0 };
 
     ghost Hinted: { Rect → ℕ → ℕ → Self → Self → Type 0 };
 
-    /// Its session is told that the screen is drawn on inside the rectangle.
+    /// Its session is notified that the screen is drawn on inside the rectangle.
     fn drawn(&mut self, rect: Rect)
         requires held { Drawable rect self.old }
         ensures drawn { Drawn rect self.old self.new };
 
-    /// Its session is told that a rectangle looks as the one of its size at (`sx`, `sy`) did.
+    /// Its session gets the hint that a rectangle looks as the one of its size at (`sx`, `sy`) did.
     fn hint(&mut self, rect: Rect, sx: u16, sy: u16)
         requires held { Hintable rect sx sy self.old }
         ensures hinted { Hinted rect sx sy self.old self.new };
 }
 
-// Every session is told that the screen is drawn on inside the rectangle.
+// Every session is notified that the screen is drawn on inside the rectangle.
 pub(crate) fn draw_all<F: Follower>(slots: &mut [Option<F>; SLOTS], rect: Rect)
     requires held { All (λ slot. ForSome slot (λ seat. F.Drawable rect seat)) slots.old }
     ensures size { length slots.new ≡ length slots.old }
@@ -59,7 +59,7 @@ fn draw<F: Follower>(slot: &mut Option<F>, rect: Rect)
     }
 }
 
-// Every session is told that a rectangle looks as another did.
+// Every session gets the hint that a rectangle looks as another did.
 pub(crate) fn hint_all<F: Follower>(slots: &mut [Option<F>; SLOTS], rect: Rect, sx: u16, sy: u16)
     requires held { All (λ slot. ForSome slot (λ seat. F.Hintable rect sx sy seat)) slots.old }
     ensures size { length slots.new ≡ length slots.old }

@@ -41,7 +41,7 @@ use Rattle.rfb_viewer.specs.declared.viewer.progress.Progress.TheVariants.{Hands
 use Rattle.rfb_viewer.specs.Fault.{fault_of_hello, fault_of_wire, fault_of_paint}
 use Rattle.rfb_viewer.specs.ServerBytes.{ServerAt, FromServer, server_bytes}
 use Rattle.rfb_viewer.specs.Viewer.{Viewing, ViewerState, viewer, AsksMemory}
-use Rattle.rfb_viewer.specs.inside.Steps.{AsksBehind}
+use Rattle.rfb_viewer.specs.inside.Steps.{AsksAfter}
 use Rattle.rfb_viewer.specs.Progress.{IsHeadBegun, IsScreenAt}
 use Rattle.rfb_viewer.specs.Standing.{StandsFor, picture_of}
 use Rattle.rfb_viewer.specs.Failing.{LeadsToReason, IsReasonAt, KeepsNone, KeepsReason, ShowsLast, EndsAt, KeepsPicture}
@@ -102,7 +102,7 @@ paint_other NoForeground e = cc
 paint_other BothColourBits e = cc
 paint_other SourceOutside e = cc
 
--- ---- faults behind the handshake
+-- ---- faults after the handshake
 
 module _ (viewing : Viewing) (old after : Viewer) where
   -- a step that is refused has met a fault
@@ -163,7 +163,7 @@ module _ (viewing : Viewing) (old after : Viewer) where
       subst (λ (a : ServerAt). ShowsLast a s.picture (prefix ++ bytes) (Some now)) (sym h.1)
       (inr (h.2.screen, now, h.2.picture_is, refl, record { head = p.head; front = p.front; body = p.body; unit = bytes; bytes_are = joined viewing old after prefix p.front p.body bytes p.prefix_is; awaits = p.awaits; fault = fault; refused = refused })))
 
--- ---- want of memory behind a head
+-- ---- want of memory after a head
 
 pub asked_ends : (viewing : Viewing) (old : Viewer) (part : ArrayVec ℕ) (bytes : List ℕ) → old.progress ≡ Head part → ((s : ViewerState) (prefix : List ℕ) → StandsFor viewing old s prefix → (front later : List ℕ) × (prefix ++ bytes ≡ front ++ later) × AsksMemory viewing s front) → RunsOutBy (viewer viewing) (λ s front. EndsAt viewing NoMemory old.picture s front) (StandsFor viewing) old bytes
 asked_ends viewing old part bytes was asks s prefix stands =
@@ -183,8 +183,8 @@ asked_ends viewing old part bytes was asks s prefix stands =
       };
     }
 
--- and behind the head of a text
-pub head_memory : (viewing : Viewing) (old : Viewer) (part : ArrayVec ℕ) (byte : ℕ) (bytes : List ℕ) (head : ServerHead) → old.progress ≡ Head part → take 1 bytes ≡ byte ∷ [] → ((begun : IsHeadBegun part.items) → SpellsServerHead head (part.items ++ byte ∷ [])) → AsksBehind head → RunsOutBy (viewer viewing) (λ s front. EndsAt viewing NoMemory old.picture s front) (StandsFor viewing) old bytes
+-- and after the head of a text
+pub head_memory : (viewing : Viewing) (old : Viewer) (part : ArrayVec ℕ) (byte : ℕ) (bytes : List ℕ) (head : ServerHead) → old.progress ≡ Head part → take 1 bytes ≡ byte ∷ [] → ((begun : IsHeadBegun part.items) → SpellsServerHead head (part.items ++ byte ∷ [])) → AsksAfter head → RunsOutBy (viewer viewing) (λ s front. EndsAt viewing NoMemory old.picture s front) (StandsFor viewing) old bytes
 head_memory viewing old part byte bytes (CutTextHead n) was one spelled asked =
     asked_ends viewing old part bytes was (λ s prefix stands.
     let r = head_asks viewing old old part byte bytes (CutTextHead n) was one spelled asked s prefix stands in

@@ -40,13 +40,13 @@ use Rattle.rfb_viewer.specs.Fault.{fault_of_hello}
 use Rattle.rfb_viewer.specs.ServerBytes.{ServerAt, FromServer, to_updates, first_between, server_two, server_bytes}
 use Rattle.rfb_viewer.specs.Messages.{ready_bytes}
 use Rattle.rfb_viewer.specs.Told.{ViewerTold, Reply as ReplyTold, Ready as ReadyTold, step_told}
-use Rattle.rfb_viewer.specs.Viewer.{Viewing, ViewerState, viewer, shows, told_at, picture_behind, screen_behind, ends_update, black, AsksInHandshake, AsksAt, AsksMemory}
+use Rattle.rfb_viewer.specs.Viewer.{Viewing, ViewerState, viewer, shows, told_at, picture_after, screen_after, ends_update, black, AsksInHandshake, AsksAt, AsksMemory}
 use Rattle.rfb_viewer.specs.Progress.{ProgressStandsFor, Stores, IsScreenAt}
 use Rattle.rfb_viewer.specs.Standing.{StandsFor, is_outstanding}
 use Rattle.rfb_viewer.specs.inside.Steps.{at_message, screen_or}
 use Rattle.rfb_viewer.proofs.MessageLemmas.{here}
 
--- ---- each step of a handshake is told of
+-- ---- each step of a handshake has an event
 
 told_always : (setup : ViewerSetup) (p : ServerPoint) (i : ServerItem) (bytes : List ℕ) → SpellsServerItem setup.max_places p i bytes → handshake_tells setup p i ≡ None → ⊥
 told_always setup AwaitsVersion (ProtocolVersion version) bytes s e = cc
@@ -95,7 +95,7 @@ none_quiet setup p bytes rest (i ∷ j ∷ items) reads ends = absurd (got_told 
 -- ---- points
 
 -- an answer leads on in the handshake, and makes no screen
-reply_keeps : (setup : ViewerSetup) (form : PixelFormat) (p : ServerPoint) (i : ServerItem) (g : Option (Grid Colour)) (r : ArrayVec ℕ) → handshake_tells setup p i ≡ Some (Reply r) → (to_updates form p i ≡ None) × (screen_behind i g ≡ g) × (IsScreenAt p g → IsScreenAt (past_server_item setup.limit p i) g)
+reply_keeps : (setup : ViewerSetup) (form : PixelFormat) (p : ServerPoint) (i : ServerItem) (g : Option (Grid Colour)) (r : ArrayVec ℕ) → handshake_tells setup p i ≡ Some (Reply r) → (to_updates form p i ≡ None) × (screen_after i g ≡ g) × (IsScreenAt p g → IsScreenAt (past_server_item setup.limit p i) g)
 reply_keeps setup form AwaitsVersion (ProtocolVersion version) g r e = (refl, refl, λ h. h)
 reply_keeps setup form (AwaitsSecurity V33) SecurityNone g r e = (refl, refl, λ h. h)
 reply_keeps setup form (AwaitsSecurity V37) SecurityNone g r e = (refl, refl, λ h. h)
@@ -177,12 +177,12 @@ module _ (viewing : Viewing) (old new : Viewer) (after : ViewerHello) where
       let told : told_at viewing s.point (First t.0) ≡ event = ap (λ (a : ServerAt). told_at viewing a (First t.0)) h.1 ∙ (ap (event_as (step_told (ready_bytes viewing.form viewing.encodings))) t.2 ∙ made.0) in
       subst (λ (n : Next FromServer ViewerFault). Steps (viewer viewing) (StandsFor viewing) new s (prefix ++ bytes) n (Ok event)) (sym (next_is s h.0 (prefix ++ bytes) (Got t.0 []) h.1 t.1)) (refl, told, made.1)
 
-  -- the state behind a step, by its parts
-  behind : (s : ViewerState) (prefix : List ℕ) (p : ServerPoint) (i : ServerItem) (to : ServerAt) (g : Option (Grid Colour)) (progress : Progress) (k : Option (Grid Colour)) → StandsFor viewing old s prefix → s.point ≡ First p → turn (to_updates viewing.form p i) (past_server_item viewing.hello.limit p i) ≡ to → screen_behind i s.picture ≡ g → IsGreeted old new after progress k → ProgressStandsFor viewing new progress to g [] → StandsFor viewing new (shows viewing s (First i)) []
-  behind s prefix p i to g progress k stands at point picture made now =
+  -- the state after a step, by its parts
+  stands_later : (s : ViewerState) (prefix : List ℕ) (p : ServerPoint) (i : ServerItem) (to : ServerAt) (g : Option (Grid Colour)) (progress : Progress) (k : Option (Grid Colour)) → StandsFor viewing old s prefix → s.point ≡ First p → turn (to_updates viewing.form p i) (past_server_item viewing.hello.limit p i) ≡ to → screen_after i s.picture ≡ g → IsGreeted old new after progress k → ProgressStandsFor viewing new progress to g [] → StandsFor viewing new (shows viewing s (First i)) []
+  stands_later s prefix p i to g progress k stands at point picture made now =
       let t = shows viewing s (First i) in
       let point' : t.point ≡ to = ap (λ (a : ServerAt). past_in (server_two viewing.form viewing.hello) a (First i)) at ∙ point in
-      let picture' : t.picture ≡ g = ap (λ (a : ServerAt). picture_behind a (First i) s.picture) at ∙ picture in
+      let picture' : t.picture ≡ g = ap (λ (a : ServerAt). picture_after a (First i) s.picture) at ∙ picture in
       let out : t.outstanding ≡ s.outstanding = ap (λ (a : ServerAt). if ends_update a (First i) then false else s.outstanding) at in
       greeted_stands progress k s t prefix [] made stands out
       (subst (λ (a : ServerAt). ProgressStandsFor viewing new progress a t.picture []) (sym point') (subst (λ (x : Option (Grid Colour)). ProgressStandsFor viewing new progress to x []) (sym picture') now))
@@ -193,7 +193,7 @@ module _ (viewing : Viewing) (old new : Viewer) (after : ViewerHello) where
       let keeps = reply_keeps viewing.hello viewing.form p i s.picture r told in
       let hello = subst (λ (v : ViewerHello). HelloStandsFor viewing.hello v (past_server_item viewing.hello.limit p i) []) (sym made.hello) after_is in (
         refl,
-        behind s prefix p i (First (past_server_item viewing.hello.limit p i)) s.picture Handshake old.picture stands at
+        stands_later s prefix p i (First (past_server_item viewing.hello.limit p i)) s.picture Handshake old.picture stands at
             (ap (λ (over : Option UpdatePoint). turn over (past_server_item viewing.hello.limit p i)) keeps.0) keeps.1 made
             (hello, ap is_open made.hello ∙ goes, made.form ∙ sym form, made.picture_is ∙ stores, keeps.2 screen),
       ))
@@ -204,11 +204,11 @@ module _ (viewing : Viewing) (old new : Viewer) (after : ViewerHello) where
       let is = screen_at viewing.hello p i width height told in
       let none : s.picture ≡ None = subst (λ (w : ServerPoint). IsScreenAt w s.picture) is.at_point screen in
       let shown : new.picture ≡ Some (uniform width height black) = made.picture_is ∙ ap (λ (g : Option (Grid Colour)). Some (screen_or width height g)) (stores ∙ none) in
-      let hello : HelloStandsFor viewing.hello new.hello (AwaitsName is.version width height is.name_length) [] = subst (λ (v : ViewerHello). HelloStandsFor viewing.hello v (AwaitsName is.version width height is.name_length) []) (sym made.hello) (subst (λ (w : ServerPoint). HelloStandsFor viewing.hello after w []) is.behind after_is) in
+      let hello : HelloStandsFor viewing.hello new.hello (AwaitsName is.version width height is.name_length) [] = subst (λ (v : ViewerHello). HelloStandsFor viewing.hello v (AwaitsName is.version width height is.name_length) []) (sym made.hello) (subst (λ (w : ServerPoint). HelloStandsFor viewing.hello after w []) is.after after_is) in
       let over : to_updates viewing.form p i ≡ None = ap (λ (w : ServerPoint). to_updates viewing.form w i) is.at_point ∙ (ap (λ (j : ServerItem). to_updates viewing.form (AwaitsInit is.version) j) is.item_is ∙ none_over is.version width height is.name_length is.named) in (
         refl,
-        behind s prefix p i (First (AwaitsName is.version width height is.name_length)) (Some (uniform width height black)) Handshake (Some (screen_or width height old.picture)) stands at
-            (ap (λ (o : Option UpdatePoint). turn o (past_server_item viewing.hello.limit p i)) over ∙ ap (λ (w : ServerPoint). First w) is.behind) (ap (λ (j : ServerItem). screen_behind j s.picture) is.item_is) made
+        stands_later s prefix p i (First (AwaitsName is.version width height is.name_length)) (Some (uniform width height black)) Handshake (Some (screen_or width height old.picture)) stands at
+            (ap (λ (o : Option UpdatePoint). turn o (past_server_item viewing.hello.limit p i)) over ∙ ap (λ (w : ServerPoint). First w) is.after) (ap (λ (j : ServerItem). screen_after j s.picture) is.item_is) made
             (hello, ap is_open made.hello ∙ goes, made.form ∙ sym form, shown, refl),
       ))
     where
@@ -238,7 +238,7 @@ module _ (viewing : Viewing) (old new : Viewer) (after : ViewerHello) where
   greet_ready bytes width height version name name_length was fed closed made =
       greet_got bytes (Ready width height version name name_length) (Some (ReadyTold (ready_bytes old.format old.encodings.items) name.bytes name_length)) was fed (λ s prefix p i stands at form stores screen told after_is.
       let is = viewer_ready_at viewing.hello p i width height version name name_length told in
-      let hello = subst (λ (w : ServerPoint). HelloStandsFor viewing.hello after w []) is.behind after_is in
+      let hello = subst (λ (w : ServerPoint). HelloStandsFor viewing.hello after w []) is.after after_is in
       let event : Some (ReadyTold (ready_bytes viewing.form viewing.encodings) name.bytes name_length) ≡ Some (ReadyTold (ready_bytes old.format old.encodings.items) name.bytes name_length) = ap (λ (f : PixelFormat). Some (ReadyTold (ready_bytes f viewing.encodings) name.bytes name_length)) form ∙ ap (λ (es : List Encoding). Some (ReadyTold (ready_bytes old.format es) name.bytes name_length)) (sym stands.encodings_are) in (
         event,
         elim is.told_at [
@@ -247,14 +247,14 @@ module _ (viewing : Viewing) (old new : Viewer) (after : ViewerHello) where
               let shown : Some (screen_or width height old.picture) ≡ Some (uniform width height black) = ap (λ (g : Option (Grid Colour)). Some (screen_or width height g)) (stores ∙ none) in
               let item : i ≡ ServerInit width height 0 = one.item_is ∙ ap (λ (k : ℕ). ServerInit width height k) one.unnamed in
               let over : to_updates viewing.form p i ≡ Some (first_between viewing.form width height) = ap (λ (w : ServerPoint). to_updates viewing.form w i) one.at_point ∙ ap (λ (j : ServerItem). to_updates viewing.form (AwaitsInit version) j) item in
-              behind s prefix p i (Second (first_between viewing.form width height)) (Some (uniform width height black)) at_message (Some (screen_or width height old.picture)) stands at
-              (ap (λ (o : Option UpdatePoint). turn o (past_server_item viewing.hello.limit p i)) over) (ap (λ (j : ServerItem). screen_behind j s.picture) item) made (ready_at width height version made form hello closed shown)
+              stands_later s prefix p i (Second (first_between viewing.form width height)) (Some (uniform width height black)) at_message (Some (screen_or width height old.picture)) stands at
+              (ap (λ (o : Option UpdatePoint). turn o (past_server_item viewing.hello.limit p i)) over) (ap (λ (j : ServerItem). screen_after j s.picture) item) made (ready_at width height version made form hello closed shown)
           | inr one ↦
               let some : s.picture ≡ Some (uniform width height black) = subst (λ (w : ServerPoint). IsScreenAt w s.picture) one.at_point screen in
               let shown : Some (screen_or width height old.picture) ≡ Some (uniform width height black) = ap (λ (g : Option (Grid Colour)). Some (screen_or width height g)) (stores ∙ some) in
               let over : to_updates viewing.form p i ≡ Some (first_between viewing.form width height) = ap (λ (w : ServerPoint). to_updates viewing.form w i) one.at_point ∙ ap (λ (j : ServerItem). to_updates viewing.form (AwaitsName version width height name_length) j) one.item_is in
-              behind s prefix p i (Second (first_between viewing.form width height)) (Some (uniform width height black)) at_message (Some (screen_or width height old.picture)) stands at
-              (ap (λ (o : Option UpdatePoint). turn o (past_server_item viewing.hello.limit p i)) over) (ap (λ (j : ServerItem). screen_behind j s.picture) one.item_is ∙ some) made (ready_at width height version made form hello closed shown)
+              stands_later s prefix p i (Second (first_between viewing.form width height)) (Some (uniform width height black)) at_message (Some (screen_or width height old.picture)) stands at
+              (ap (λ (o : Option UpdatePoint). turn o (past_server_item viewing.hello.limit p i)) over) (ap (λ (j : ServerItem). screen_after j s.picture) one.item_is ∙ some) made (ready_at width height version made form hello closed shown)
         ],
       ))
 

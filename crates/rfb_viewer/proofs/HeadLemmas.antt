@@ -48,7 +48,7 @@ begun_waits [] begun = server_head_waits 1 [] refl
 begun_waits (first ∷ rest) begun =
     server_head_waits (begun.0 - length (first ∷ rest)) (first ∷ rest) (misses_rest SpellsServerHead server_head_size server-sizes (first ∷ rest) begun.0 (omega arith) begun.2 begun.1)
 
--- a byte behind what is begun
+-- a byte after what is begun
 pub one_byte : (bytes : List ℕ) → 0 < length bytes → take 1 bytes ≡ slice_index bytes 0 ∷ []
 one_byte [] some = absurd (omega (arith, some))
 one_byte (byte ∷ bytes) some = refl
@@ -61,7 +61,7 @@ used_all head first (suc used) rest size e few within s =
     let same : size ≡ length (take (suc used) (first ∷ rest)) = cc in
     omega (arith, same, long, few, within)
 
--- a head that is told behind what was begun takes all that came
+-- a head that is whole after what was begun takes all that came
 pub head_whole : (head : ServerHead) (part : List ℕ) (byte used : ℕ) → IsHeadBegun part → used ≤ length part + 1 → SpellsServerHead head (take used (part ++ byte ∷ [])) → SpellsServerHead head (part ++ byte ∷ [])
 head_whole head [] byte used begun within s =
     let some = (server-spelled head (take used (byte ∷ [])) s).2 in

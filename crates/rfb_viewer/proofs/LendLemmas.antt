@@ -1,4 +1,4 @@
--- What is told of a viewer that stands for a state.
+-- What is known of a viewer that stands for a state.
 use Rattle.std.proofs.Common.{◌≡◌, ◌≢◌, ℕ, ◌+◌, ◌-◌, ◌*◌, ◌%◌, ◌<◌, ◌==◌, false, List, [], ◌∷◌, ◌++◌, Option, None, length, refl, sym, subst, ◌∙◌, ap, arith, inl, inr}
 use Rattle.std.proofs.lemmas.Bool.Decides.{nat_tests}
 use Rattle.arrayvec.specs.ArrayVec.{ArrayVec}
@@ -165,8 +165,8 @@ pub colours_pending : (viewing : Viewing) (v : Viewer) (more : ℕ) (at : Server
 colours_pending viewing v more (First p) g prefix h = absurd h
 colours_pending viewing v more (Second q) g prefix h =
     let b = h.2 in
-    let behind : server_pending (b.head ++ b.colours) ≡ in_pieces 6 b.colours = past_head server_head_size server_piece_size 1 6 b.head b.colours (omega arith) b.head_is.size b.head_is.message_type refl in
-    sym (ap (update_pending q) b.prefix_is ∙ (message_pending_next q (b.head ++ b.colours) h.0.left_is ∙ (behind ∙ sym (short_of (length b.colours) more b.count b.missing))))
+    let after : server_pending (b.head ++ b.colours) ≡ in_pieces 6 b.colours = past_head server_head_size server_piece_size 1 6 b.head b.colours (omega arith) b.head_is.size b.head_is.message_type refl in
+    sym (ap (update_pending q) b.prefix_is ∙ (message_pending_next q (b.head ++ b.colours) h.0.left_is ∙ (after ∙ sym (short_of (length b.colours) more b.count b.missing))))
 
 pub text_pending : (viewing : Viewing) (v : Viewer) (n more : ℕ) (kept : KeptText) (at : ServerAt) (g : Option (Grid Colour)) (prefix : List ℕ) → ProgressStandsFor viewing v (CutText n more kept) at g prefix → 0 ≡ server_bytes_pending at prefix
 text_pending viewing v n more kept (First p) g prefix h = absurd h

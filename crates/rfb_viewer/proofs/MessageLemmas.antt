@@ -31,7 +31,7 @@ use Rattle.rfb_viewer.specs.Told.{ViewerTold, ColourMapSkipped, CutText as CutTe
 use Rattle.rfb_viewer.specs.Viewer.{Viewing, ViewerState, viewer, shows, AsksAt, AsksMemory}
 use Rattle.rfb_viewer.specs.Progress.{ProgressStandsFor, IsReadyAt, Stores, IsHeadBegun, AreColoursBegun, IsTextBegun}
 use Rattle.rfb_viewer.specs.Standing.{StandsFor, is_outstanding}
-use Rattle.rfb_viewer.specs.inside.Steps.{at_message, progress_past, told_past, request_past, progress_behind, told_behind, request_behind, AsksBehind}
+use Rattle.rfb_viewer.specs.inside.Steps.{at_message, progress_past, told_past, request_past, progress_after, told_after, request_after, AsksAfter}
 use Rattle.rfb_viewer.proofs.StepLemmas.{IsMade, made_stands, ready_same, more_step, got_step, bad_step, past_stands, past_progress, past_request, past_told}
 use Rattle.rfb_viewer.proofs.HeadLemmas.{begun_waits}
 
@@ -41,7 +41,7 @@ got_message message bytes s = subst (λ (ys : List ℕ). server_message ys ≡ G
 
 -- ---- colours
 
--- so many bytes are so many colours
+-- six times `count` bytes are `count` colours
 are_colours : (count : ℕ) (bytes : List ℕ) → length bytes ≡ count * 6 → (colors : List MapColour) × (length colors ≡ count) × Listed SpellsMapColour colors bytes
 are_colours zero [] size = ([], refl, refl)
 are_colours zero (byte ∷ bytes) size = absurd (omega (arith, size))
@@ -75,10 +75,10 @@ at_text viewing v n more kept (Second q) g prefix h = (q, refl, h.0, h.1, h.2)
 pub here : (viewing : Viewing) (v : Viewer) (p : Progress) (s : ViewerState) (prefix : List ℕ) → v.progress ≡ p → StandsFor viewing v s prefix → ProgressStandsFor viewing v p s.point s.picture prefix
 here viewing v p s prefix was stands = subst (λ (q : Progress). ProgressStandsFor viewing v q s.point s.picture prefix) was stands.progress_is
 
--- ---- behind a message
+-- ---- after a message
 
 module _ (viewing : Viewing) (old new : Viewer) where
-  -- a viewer that goes on behind a message that is whole
+  -- a viewer that goes on after a message that is whole
   whole_stands : (s : ViewerState) (prefix : List ℕ) (q : UpdatePoint) (message : ServerMessage) (left : ℕ) (p : Progress) (r : Request) → StandsFor viewing old s prefix → s.point ≡ Second q → IsReadyAt old q s.picture 0 → Stores old s.picture → IsMade old new p r old.picture → update_stream.past q (Message message) ≡ record q { left = left } → (if is_last q (Message message) then false else s.outstanding) ≡ is_outstanding r → ((g : Grid Colour) → new.picture ≡ Some g → IsReadyAt new (record q { left = left }) (Some g) left → ProgressStandsFor viewing new p (Second (record q { left = left })) (Some g) []) → StandsFor viewing new (shows viewing s (Second (Message message))) []
   whole_stands s prefix q message left p r stands at ready stores made past out progress =
       let picture : old.picture ≡ Some ready.screen = stores ∙ ready.picture_is in
@@ -125,7 +125,7 @@ module _ (viewing : Viewing) (old new : Viewer) where
   got_whole s prefix unit front q message event all at none spelled told stands =
       (q, Message message, at, rw all (message_got q front [] message none (got_message message front spelled)), told, stands)
 
-  pub head_got : (part : ArrayVec ℕ) (unit : List ℕ) (head : ServerHead) → old.progress ≡ Head part → ((begun : IsHeadBegun part.items) → SpellsServerHead head (part.items ++ unit)) → IsMade old new (progress_behind old.text_limit head) (request_behind head old.request) old.picture → StepsBy (viewer viewing) (StandsFor viewing) old unit (Ok (told_behind head)) new
+  pub head_got : (part : ArrayVec ℕ) (unit : List ℕ) (head : ServerHead) → old.progress ≡ Head part → ((begun : IsHeadBegun part.items) → SpellsServerHead head (part.items ++ unit)) → IsMade old new (progress_after old.text_limit head) (request_after head old.request) old.picture → StepsBy (viewer viewing) (StandsFor viewing) old unit (Ok (told_after head)) new
   head_got part unit (Update count) was spelled made =
       got_step viewing old new unit (told_past count) (λ s prefix stands.
       let h = at_head viewing old part s.point s.picture prefix (here viewing old (Head part) s prefix was stands) in
@@ -151,16 +151,16 @@ module _ (viewing : Viewing) (old new : Viewer) where
         rw all (part_stands s prefix front h.0 (Colours (more * 6 + 5)) stands h.1 h.2 h.3 made (λ ready stored. (ready, stored, record { head = front; colours = []; first = first; count = suc more; prefix_is = sym (append-nil front); head_is = spelled h.5; missing = omega arith }))),
       ))
   head_got part unit BellHead was spelled made =
-      got_step viewing old new unit (told_behind BellHead) (λ s prefix stands.
+      got_step viewing old new unit (told_after BellHead) (λ s prefix stands.
       let h = at_head viewing old part s.point s.picture prefix (here viewing old (Head part) s prefix was stands) in
       let all : prefix ++ unit ≡ part.items ++ unit = ap (λ (ys : List ℕ). ys ++ unit) h.4 in
-      got_whole s prefix unit (part.items ++ unit) h.0 Bell (told_behind BellHead) all h.1 h.2.left_is (spelled h.5) refl
+      got_whole s prefix unit (part.items ++ unit) h.0 Bell (told_after BellHead) all h.1 h.2.left_is (spelled h.5) refl
       (next_stands s prefix h.0 Bell stands h.1 h.2 h.3 made (past_left h.0 (Message Bell)) refl))
   head_got part unit (CutTextHead zero) was spelled made =
-      got_step viewing old new unit (told_behind (CutTextHead zero)) (λ s prefix stands.
+      got_step viewing old new unit (told_after (CutTextHead zero)) (λ s prefix stands.
       let h = at_head viewing old part s.point s.picture prefix (here viewing old (Head part) s prefix was stands) in
       let all : prefix ++ unit ≡ part.items ++ unit = ap (λ (ys : List ℕ). ys ++ unit) h.4 in
-      got_whole s prefix unit (part.items ++ unit) h.0 (ServerCutText []) (told_behind (CutTextHead zero)) all h.1 h.2.left_is
+      got_whole s prefix unit (part.items ++ unit) h.0 (ServerCutText []) (told_after (CutTextHead zero)) all h.1 h.2.left_is
       (record { head = part.items ++ unit; whole = sym (append-nil (part.items ++ unit)); head_is = spelled h.5 }) (none_kept viewing.hello.text_limit)
       (next_stands s prefix h.0 (ServerCutText []) stands h.1 h.2 h.3 made (past_left h.0 (Message (ServerCutText []))) refl))
     where
@@ -180,7 +180,7 @@ module _ (viewing : Viewing) (old new : Viewer) where
       ))
 
   -- where memory is wanting for a text
-  abbrev pub head_asks : (part : ArrayVec ℕ) (byte : ℕ) (bytes : List ℕ) (head : ServerHead) → old.progress ≡ Head part → take 1 bytes ≡ byte ∷ [] → ((begun : IsHeadBegun part.items) → SpellsServerHead head (part.items ++ byte ∷ [])) → AsksBehind head → RunsOutBy (viewer viewing) (AsksMemory viewing) (StandsFor viewing) old bytes
+  abbrev pub head_asks : (part : ArrayVec ℕ) (byte : ℕ) (bytes : List ℕ) (head : ServerHead) → old.progress ≡ Head part → take 1 bytes ≡ byte ∷ [] → ((begun : IsHeadBegun part.items) → SpellsServerHead head (part.items ++ byte ∷ [])) → AsksAfter head → RunsOutBy (viewer viewing) (AsksMemory viewing) (StandsFor viewing) old bytes
   head_asks part byte bytes (CutTextHead n) was one spelled asked = λ s prefix stands.
       let h = at_head viewing old part s.point s.picture prefix (here viewing old (Head part) s prefix was stands) in
       let front = part.items ++ byte ∷ [] in

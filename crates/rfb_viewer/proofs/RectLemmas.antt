@@ -68,7 +68,7 @@ module _ (q : UpdatePoint) (head : HeadOfRect) (front : List ℕ) (before : Grid
   data_bad body bytes picture now fault stands refuses =
       body_bad q head front before awaits (body ++ bytes) fault (subst (λ (p : Painting). data_of p before (body ++ bytes) ≡ Bad fault) is (refuses before body stands).0)
 
--- ---- behind a rectangle
+-- ---- after a rectangle
 
 module _ (viewing : Viewing) (old new : Viewer) where
   rect_stands : (s : ViewerState) (prefix : List ℕ) (q : UpdatePoint) (more : ℕ) (head : HeadOfRect) (body : List ℕ) (now : Grid Colour) → StandsFor viewing old s prefix → s.point ≡ Second q → (ready : IsReadyAt old q s.picture (more + 1)) → effect q (Rectangle head body) ready.screen ≡ now → IsMade old new (progress_past more) (request_past more old.request) (Some now) → StandsFor viewing new (shows viewing s (Second (Rectangle head body))) []
@@ -118,7 +118,7 @@ module _ (viewing : Viewing) (old new : Viewer) where
       let high : picture.height ≡ q.height = ap (λ (k : Grid Colour). k.height) screen ∙ ready.rows in
       record { some_left = omega (arith, left); head_is = spelled; on_screen = rw (← wide, ← high) on; columns = ready.columns; rows = ready.rows }
 
-  -- what is known behind a head
+  -- what is known after a head
   pub record IsOpened (more : ℕ) (part : ArrayVec ℕ) (unit whole : List ℕ) (head : HeadOfRect) (picture : Grid Colour) (painter : UnderWay) : Type 0 where
     pub was : old.progress ≡ RectHead more part
     pub whole_is : whole ≡ part.items ++ unit
@@ -191,7 +191,7 @@ module _ (viewing : Viewing) (old new : Viewer) where
 
   -- ---- data
 
-  -- the bytes behind what came of the data
+  -- the bytes after what came of the data
   pub joined : (prefix front body unit : List ℕ) → prefix ≡ front ++ body → prefix ++ unit ≡ front ++ (body ++ unit)
   joined prefix front body unit is = ap (λ (ys : List ℕ). ys ++ unit) is ∙ append_assoc front body unit
 
@@ -251,7 +251,7 @@ head_all whole used head size within s =
     let twelve = s.size in
     subst (λ (ys : List ℕ). SpellsRectHead head ys) (take_all used whole (omega (arith, size, long, twelve))) s
 
--- data are told to be taken by one painter, and have one number of rectangles behind them
+-- data are taken by one painter, and have one number of rectangles after them
 pub same_painter : (m n : ℕ) (p q : UnderWay) → Data m p ≡ Data n q → p ≡ q
 same_painter m n p q e = cc
 

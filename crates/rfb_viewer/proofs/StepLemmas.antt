@@ -1,4 +1,4 @@
--- Steps of a viewer behind the handshake: each is by bytes of one item.
+-- Steps of a viewer after the handshake: each is by bytes of one item.
 use Rattle.std.proofs.Common.{◌≡◌, ℕ, zero, suc, ◌+◌, ◌==◌, Bool, false, List, [], ◌++◌, Option, Some, None, Ok, Err, if◌then◌else◌, refl, sym, subst, ◌∙◌, ap, arith}
 use Rattle.std.proofs.lemmas.Bool.Decides.{nat_tests}
 use Rattle.rfb_pixel.specs.declared.colour.Colour.{Colour}
@@ -17,7 +17,7 @@ use Rattle.rfb_viewer.specs.declared.viewer.progress.Request.{Request}
 use Rattle.rfb_viewer.specs.Fault.{fault_of_update}
 use Rattle.rfb_viewer.specs.ServerBytes.{ServerAt, FromServer, server_two, server_bytes}
 use Rattle.rfb_viewer.specs.Told.{ViewerTold, is_last, item_told, done_told}
-use Rattle.rfb_viewer.specs.Viewer.{Viewing, ViewerState, viewer, shows, told_at, picture_behind, effect_on, ends_update}
+use Rattle.rfb_viewer.specs.Viewer.{Viewing, ViewerState, viewer, shows, told_at, picture_after, effect_on, ends_update}
 use Rattle.rfb_viewer.specs.Progress.{ProgressStandsFor, IsReadyAt}
 use Rattle.rfb_viewer.specs.Standing.{StandsFor, is_outstanding}
 use Rattle.rfb_viewer.specs.inside.Steps.{progress_past, told_past, request_past}
@@ -57,7 +57,7 @@ module _ (viewing : Viewing) (old new : Viewer) where
     rows = ready.rows;
   }
 
-  -- behind an item with that effect
+  -- after an item with that effect
   pub ready_past : (p : Progress) (r : Request) (g : Option (Grid Colour)) (picture : Option (Grid Colour)) (q : UpdatePoint) (n left : ℕ) (now : Grid Colour) → IsMade old new p r g → (ready : IsReadyAt old q picture n) → now.width ≡ ready.screen.width → now.height ≡ ready.screen.height → IsReadyAt new (record q { left = left }) (Some now) left
   ready_past p r g picture q n left now made ready wide high = record {
     closed = ap is_open made.hello ∙ ready.closed;
@@ -91,20 +91,20 @@ module _ (viewing : Viewing) (old new : Viewer) where
       let h = step s prefix stands in
       subst (λ (n : Next FromServer ViewerFault). Steps (viewer viewing) (StandsFor viewing) new s (prefix ++ unit) n (Err (fault_of_update fault))) (sym (next_is s h.0 (prefix ++ unit) (Bad fault) h.1 h.2)) refl
 
-  -- ---- behind an item
+  -- ---- after an item
 
-  -- a viewer that is made so stands for the state behind the item
+  -- a viewer that is made so stands for the state after the item
   pub past_stands : (s : ViewerState) (prefix : List ℕ) (q : UpdatePoint) (i : UpdateItem) (n left : ℕ) (g : Grid Colour) (p : Progress) (r : Request) → StandsFor viewing old s prefix → s.point ≡ Second q → (ready : IsReadyAt old q s.picture n) → IsMade old new p r (Some g) → update_stream.past q i ≡ record q { left = left } → effect q i ready.screen ≡ g → g.width ≡ ready.screen.width → g.height ≡ ready.screen.height → (if is_last q i then false else s.outstanding) ≡ is_outstanding r → (IsReadyAt new (record q { left = left }) (Some g) left → ProgressStandsFor viewing new p (Second (record q { left = left })) (Some g) []) → StandsFor viewing new (shows viewing s (Second i)) []
   past_stands s prefix q i n left g p r stands at ready made past has wide high out progress =
       let t = shows viewing s (Second i) in
       let point : t.point ≡ Second (record q { left = left }) = ap (λ (a : ServerAt). past_in (server_two viewing.form viewing.hello) a (Second i)) at ∙ ap (λ (a : UpdatePoint). Second a) past in
-      let picture : t.picture ≡ Some g = ap (λ (a : ServerAt). picture_behind a (Second i) s.picture) at ∙ (ap (effect_on q i) ready.picture_is ∙ ap (λ (k : Grid Colour). Some k) has) in
+      let picture : t.picture ≡ Some g = ap (λ (a : ServerAt). picture_after a (Second i) s.picture) at ∙ (ap (effect_on q i) ready.picture_is ∙ ap (λ (k : Grid Colour). Some k) has) in
       let outstanding : t.outstanding ≡ is_outstanding r = ap (λ (a : ServerAt). if ends_update a (Second i) then false else s.outstanding) at ∙ out in
       let now = progress (ready_past p r (Some g) s.picture q n left g made ready wide high) in
       made_stands p r (Some g) s t prefix [] made stands outstanding
       (subst (λ (a : ServerAt). ProgressStandsFor viewing new p a t.picture []) (sym point) (subst (λ (k : Option (Grid Colour)). ProgressStandsFor viewing new p (Second (record q { left = left })) k []) (sym picture) now))
 
-  -- where so many rectangles are left
+  -- where `left` rectangles are left
   pub past_progress : (left : ℕ) (q : UpdatePoint) (g : Grid Colour) → new.picture ≡ Some g → IsReadyAt new q (Some g) left → ProgressStandsFor viewing new (progress_past left) (Second q) (Some g) []
   past_progress zero q g stores ready = (ready, stores, refl, tt)
   past_progress (suc more) q g stores ready =

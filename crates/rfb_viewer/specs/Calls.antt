@@ -23,8 +23,8 @@ refusal_if false fault more = more
 abbrev pub is_requestable : UpdatePoint → Rect → Bool
 is_requestable p rect = nat_lt 0 rect.w && nat_lt 0 rect.h && is_on_screen p.width p.height rect
 
--- so many rectangles are left, and these bytes came of the next item: the stream stands inside an
--- update, from its type byte on
+-- whether the stream stands inside an update, from its type byte on: by how many rectangles are
+-- left, and which bytes came of the next item
 abbrev pub is_inside : ℕ → List ℕ → Bool
 is_inside zero [] = false
 is_inside zero (first ∷ rest) = first == 0

@@ -22,15 +22,15 @@ use Rattle.rfb_viewer.specs.ServerBytes.{ServerAt, server_bytes}
 use Rattle.rfb_viewer.specs.Viewer.{Viewing, ViewerState, viewer, AsksMemory}
 use Rattle.rfb_viewer.specs.Standing.{StandsFor, picture_of, reason_of}
 
--- from each state and prefix that it stood for, the bytes lead through whole items, which it was
--- told nothing of, to such bytes of the next one
+-- from each state and prefix that it stood for, the bytes lead through whole items, which gave no
+-- event, to such bytes of the next one
 abbrev pub LeadsTo : (Viewing → ViewerState → List ℕ → Type 0) → Viewer → List ℕ → Type 0
 LeadsTo There old bytes =
     (viewing : Viewing) → RunsOutBy (viewer viewing) (There viewing) (StandsFor viewing) old bytes
 
 -- ---- reasons
 
--- a reason of so many bytes is whole at the last of these, and this is kept of its text
+-- a reason of `n` bytes is whole at the last of these, and this is kept of its text
 abbrev pub IsReasonAt : ℕ → Cause → ℕ → KeptText → ServerAt → List ℕ → Type 0
 IsReasonAt limit cause n kept (First point) bytes = IsReasonKept limit cause n kept point bytes
 IsReasonAt limit cause n kept (Second p) bytes = ⊥

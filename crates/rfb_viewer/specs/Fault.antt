@@ -40,7 +40,7 @@ fault_of_paint Foreground = NoForeground
 fault_of_paint Both = BothColourBits
 fault_of_paint Source = SourceOutside
 
--- of what a server sends behind the handshake
+-- of what a server sends after the handshake
 abbrev pub fault_of_update : UpdateFault → ViewerFault
 fault_of_update (InMessage (UnknownType message_type)) = UnknownMessage message_type
 fault_of_update (InHead fault) = fault_of_wire fault

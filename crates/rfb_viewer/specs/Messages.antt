@@ -20,7 +20,7 @@ format_message form = client_head_bytes (SetPixelFormat (format_bytes form))
 abbrev pub encoding_bytes : Encoding → List ℕ
 encoding_bytes encoding = big_bytes 4 (cast_unsigned w32 (number_of encoding))
 
--- the numbers of encodings, one behind another
+-- the numbers of encodings, one after another
 abbrev pub number_bytes : List Encoding → List ℕ
 number_bytes encodings = flat_map encoding_bytes encodings
 

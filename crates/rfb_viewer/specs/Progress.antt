@@ -37,7 +37,7 @@ IsHeadBegun [] = Unit {0}
 IsHeadBegun (first ∷ rest) =
     (size : ℕ) × (server_head_size first ≡ Some size) × (length (first ∷ rest) < size)
 
--- the bytes are a SetColorMapEntries of which so many bytes are missing behind the next one
+-- the bytes are a SetColorMapEntries of which `more` bytes are missing after the next one
 pub record AreColoursBegun (more : ℕ) (prefix : List ℕ) : Type 0 where
   pub head : List ℕ
   pub colours : List ℕ
@@ -47,8 +47,8 @@ pub record AreColoursBegun (more : ℕ) (prefix : List ℕ) : Type 0 where
   pub head_is : SpellsColourMap first count head
   pub missing : length colours + (more + 1) ≡ count * 6
 
--- the bytes are a ServerCutText of so many bytes of which so many are missing behind the next one,
--- and this is kept of it
+-- the bytes are a ServerCutText of `text_length` bytes of which `more` are missing after the next
+-- one, and `kept` is kept of it
 pub record IsTextBegun (text_limit text_length more : ℕ) (kept : KeptText)
     (prefix : List ℕ) : Type 0 where
   pub head : List ℕ
@@ -60,7 +60,7 @@ pub record IsTextBegun (text_limit text_length more : ℕ) (kept : KeptText)
 
 -- ---- points
 
--- before ServerInit there is no screen, and behind it a black one
+-- before ServerInit there is no screen, and after it a black one
 abbrev pub IsScreenAt : ServerPoint → Option (Grid Colour) → Type 0
 IsScreenAt AwaitsVersion picture = picture ≡ None
 IsScreenAt (AwaitsSecurity version) picture = picture ≡ None
@@ -71,7 +71,7 @@ IsScreenAt (AwaitsName version width height name_length) picture =
 IsScreenAt (Begun version width height) picture = picture ≡ Some (uniform width height black)
 
 -- the handshake is done, and no reason was given; updates are in the viewer's format, on a screen
--- of the picture's size; so many rectangles are left of the update that the point stands in
+-- of the picture's size; `left` rectangles are left of the update that the point stands in
 pub record IsReadyAt (viewer : Viewer) (p : UpdatePoint) (picture : Option (Grid Colour))
     (left : ℕ) : Type 0 where
   pub closed : is_open viewer.hello ≡ false
@@ -102,8 +102,8 @@ pub record IsPainting (viewer : Viewer) (p : UpdatePoint) (painter : UnderWay)
 abbrev pub Stores : Viewer → Option (Grid Colour) → Type 0
 Stores viewer picture = viewer.picture ≡ picture
 
--- so much progress stands for that point, that picture and that prefix; one that has failed stands
--- for none
+-- this progress stands for that point, that picture and that prefix; one that has failed stands for
+-- none
 abbrev pub ProgressStandsFor : Viewing → Viewer → Progress → ServerAt → Option (Grid Colour) →
     List ℕ → Type 0
 ProgressStandsFor viewing viewer Handshake (First point) picture prefix =

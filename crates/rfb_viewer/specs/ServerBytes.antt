@@ -16,7 +16,7 @@ use Rattle.rfb_hello.specs.ViewerEnd.{ViewerSetup}
 use Rattle.rfb_viewer.specs.declared.fault.ViewerFault.{ViewerFault}
 use Rattle.rfb_viewer.specs.Fault.{fault_of_hello, fault_of_update}
 
--- where a server's bytes stand: in the handshake, or behind it, perhaps inside an update
+-- where a server's bytes stand: in the handshake, or after it, perhaps inside an update
 abbrev pub ServerAt : Type 0
 ServerAt = Stage ServerPoint UpdatePoint
 
@@ -38,8 +38,8 @@ to_updates form (AwaitsName version width height name_length) (Name text) =
     Some (first_between form width height)
 to_updates form point item = None
 
--- the handshake, with a viewer of that setup, and the messages behind it, where the viewer sets
--- that format first
+-- the handshake, with a viewer of that setup, and the messages after it, where the viewer sets that
+-- format first
 abbrev pub server_two : PixelFormat → ViewerSetup →
     Two ServerPoint ServerItem HelloFault UpdatePoint UpdateItem UpdateFault ViewerFault
 server_two form setup = record {
@@ -59,7 +59,7 @@ abbrev pub server_bytes_say : PixelFormat → ViewerSetup → ServerAt → Says 
 server_bytes_say form setup =
     sequel_says (server_two form setup) (server_item_says setup.max_places) update_says
 
--- how many of its bytes are pending: those of the item under way behind its last whole piece
+-- how many of its bytes are pending: those of the item under way after its last whole piece
 abbrev pub server_bytes_pending : ServerAt → List ℕ → ℕ
 server_bytes_pending at bytes = pending_in server_handshake_pending update_pending at bytes
 

@@ -42,7 +42,7 @@ pub record StandsFor (viewing : Viewing) (viewer : Viewer) (s : ViewerState)
   pub outstanding_is : s.outstanding ≡ is_outstanding viewer.request
   pub progress_is : ProgressStandsFor viewing viewer viewer.progress s.point s.picture prefix
 
--- ---- what is told of a viewer, whether it has failed or not
+-- ---- what is known of a viewer, whether it has failed or not
 
 -- what it shows, once there is a screen
 abbrev pub picture_of : Viewer → Option (Grid Colour)

@@ -41,7 +41,7 @@ abbrev pub seen : Option ViewerEvent → Option ViewerTold
 seen None = None
 seen (Some event) = Some (event_told event)
 
--- what is told of a step of the handshake, where these bytes are sent at its end: of the screen
+-- what is reported of a step of the handshake, where these bytes are sent at its end: of the screen
 -- nothing, and the version is the handshake's own matter
 abbrev pub step_told : List ℕ → ViewerStep → Option ViewerTold
 step_told bytes (ReplyStep reply) = Some (Reply reply.items)
@@ -57,12 +57,12 @@ is_last p (Message BellMessage) = false
 is_last p (Message (ServerCutText text)) = false
 is_last p (Rectangle head body) = p.left == 1
 
--- the end of an update is told
+-- the end of an update is an event
 abbrev pub done_told : Bool → Option ViewerTold
 done_told true = Some UpdateDone
 done_told false = None
 
--- what is told of an item behind the handshake, where texts are kept up to so many bytes
+-- what is reported of an item after the handshake, where texts are kept up to `text_limit` bytes
 abbrev pub item_told : ℕ → UpdatePoint → UpdateItem → Option ViewerTold
 item_told text_limit p (Message (FramebufferUpdate rectangles)) = done_told (rectangles == 0)
 item_told text_limit p (Message (SetColorMapEntries first colors)) = Some ColourMapSkipped

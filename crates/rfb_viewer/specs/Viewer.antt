@@ -39,25 +39,25 @@ abbrev pub black : Colour
 black = record { r = 0; g = 0; b = 0 }
 
 -- ServerInit makes the screen
-abbrev pub screen_behind : ServerItem → Option (Grid Colour) → Option (Grid Colour)
-screen_behind (ProtocolVersion version) picture = picture
-screen_behind SecurityNone picture = picture
-screen_behind (SecurityTypes types) picture = picture
-screen_behind SecurityResult picture = picture
-screen_behind (ServerInit width height name_length) picture = Some (uniform width height black)
-screen_behind (Name text) picture = picture
+abbrev pub screen_after : ServerItem → Option (Grid Colour) → Option (Grid Colour)
+screen_after (ProtocolVersion version) picture = picture
+screen_after SecurityNone picture = picture
+screen_after (SecurityTypes types) picture = picture
+screen_after SecurityResult picture = picture
+screen_after (ServerInit width height name_length) picture = Some (uniform width height black)
+screen_after (Name text) picture = picture
 
--- an item behind the handshake has its effect on the picture, if there is one
+-- an item after the handshake has its effect on the picture, if there is one
 abbrev pub effect_on : UpdatePoint → UpdateItem → Option (Grid Colour) → Option (Grid Colour)
 effect_on p item None = None
 effect_on p item (Some picture) = Some (effect p item picture)
 
 -- an item of the part that the point belongs to changes the picture as that part has it
-abbrev pub picture_behind : ServerAt → FromServer → Option (Grid Colour) → Option (Grid Colour)
-picture_behind (First point) (First step) picture = screen_behind step picture
-picture_behind (First point) (Second item) picture = picture
-picture_behind (Second p) (First step) picture = picture
-picture_behind (Second p) (Second item) picture = effect_on p item picture
+abbrev pub picture_after : ServerAt → FromServer → Option (Grid Colour) → Option (Grid Colour)
+picture_after (First point) (First step) picture = screen_after step picture
+picture_after (First point) (Second item) picture = picture
+picture_after (Second p) (First step) picture = picture
+picture_after (Second p) (Second item) picture = effect_on p item picture
 
 -- the item ends an update
 abbrev pub ends_update : ServerAt → FromServer → Bool
@@ -70,13 +70,13 @@ ends_update (Second p) (Second item) = is_last p item
 abbrev pub shows : Viewing → ViewerState → FromServer → ViewerState
 shows viewing s item = record {
   point = past_in (server_two viewing.form viewing.hello) s.point item;
-  picture = picture_behind s.point item s.picture;
+  picture = picture_after s.point item s.picture;
   outstanding = if ends_update s.point item then false else s.outstanding;
 }
 
--- ---- what is told of it
+-- ---- what is reported of it
 
--- an item of the part that the point belongs to is told of as that part has it
+-- an item of the part that the point belongs to is reported as that part has it
 abbrev pub told_at : Viewing → ServerAt → FromServer → Option ViewerTold
 told_at viewing (First point) (First step) =
     event_as (step_told (ready_bytes viewing.form viewing.encodings))

@@ -9,8 +9,8 @@ use arrayvec::ArrayVec;
 use rfb_wire::pieces::append;
 use rfb_wire::{Read, ServerHead};
 
-/// Takes a byte of a message's head, which comes behind the part: the head, if it is whole now;
-/// else the byte is kept.
+/// Takes a byte of a message's head, which comes after the part: the head, if it is whole now; else
+/// the byte is kept.
 pub(crate) fn read_head(part: &mut ArrayVec<u8, 7>, byte: u8) -> Read<ServerHead>
     ensures kept { IfMore result (λ n. part.new.items ≡ part.old.items ++ byte ∷ []) }
     ensures more { IfMore result (λ n.

@@ -23,7 +23,7 @@ pub fn server_bytes_are_spelled()
         → IsGrammar (server_bytes form setup) }
 {}
 
-/// A viewer is a machine over that stream: each item brings its state to the point behind the item.
+/// A viewer is a machine over that stream: each item brings its state to the point after the item.
 pub fn a_viewer_is_a_machine()
     ensures { (viewing : Viewing) → IsMachine (viewer viewing) }
 {}

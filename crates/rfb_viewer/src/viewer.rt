@@ -3,7 +3,7 @@
 ghost use Rattle.std.specs.Prelude.{◌≡◌, ◌≢◌, ◌≤◌, ◌<◌, ℕ, List, [], length, take, true, IfOk, IfErr, None, Some};
 ghost use Rattle.rfb_viewer.specs.inside.Sound.{is_sound};
 
-mod behind;
+mod after;
 mod calls;
 mod greeting;
 mod lending;
@@ -93,9 +93,9 @@ impl Viewer {
         )
     }
 
-    /// Takes bytes of the server's, up to the last of its first item that is told of, or all. A
-    /// fault is told at its last byte, and by every later call, which take nothing. `NoMemory`
-    /// comes only where the screen is made, and at the length of a text.
+    /// Takes bytes of the server's, up to the last byte of its first item that gives an event, or
+    /// all. A fault is returned at its last byte, and by every later call, which takes nothing.
+    /// `NoMemory` comes only where the screen is made, and at the length of a text.
     pub fn feed(&mut self, bytes: &[u8]) -> Result<Fed<ViewerEvent>, ViewerFault>
         // What was taken, what it was, and what is left.
         ensures used { IfOk result (λ fed. fed.used ≤ length bytes.now) }

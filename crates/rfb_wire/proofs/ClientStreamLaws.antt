@@ -130,30 +130,30 @@ number_reads =
     }
 
 -- what the bytes after a head say
-abbrev behind_says : ClientHead → Says ClientMessage ClientFault
-behind_says (FormatHead bytes) =
+abbrev after_says : ClientHead → Says ClientMessage ClientFault
+after_says (FormatHead bytes) =
     judged_says (format_fault (first_fault bytes)) (SetPixelFormat (format_of bytes))
-behind_says (EncodingsHead count) =
+after_says (EncodingsHead count) =
     then_says (many_says count number_says) (λ numbers. done_says (SetEncodings numbers))
-behind_says (Request incremental rect) = done_says (FramebufferUpdateRequest incremental rect)
-behind_says (Key down key) = done_says (KeyEvent down key)
-behind_says (Pointer buttons x y) = done_says (PointerEvent buttons x y)
-behind_says (CutText text_length) =
+after_says (Request incremental rect) = done_says (FramebufferUpdateRequest incremental rect)
+after_says (Key down key) = done_says (KeyEvent down key)
+after_says (Pointer buttons x y) = done_says (PointerEvent buttons x y)
+after_says (CutText text_length) =
     then_says (piece_says text_length) (λ text. done_says (ClientCutText text))
 
-behind_reads : (head : ClientHead) → Reads (client_body head) (behind_says head)
-behind_reads (FormatHead bytes) =
+after_reads : (head : ClientHead) → Reads (client_body head) (after_says head)
+after_reads (FormatHead bytes) =
     judged_reads (format_fault (first_fault bytes)) (SetPixelFormat (format_of bytes))
-behind_reads (EncodingsHead count) =
+after_reads (EncodingsHead count) =
     then_reads (many count (valued 4 (λ bytes. s32_at 0 bytes)))
     (λ numbers. done (SetEncodings numbers)) (many_says count number_says)
     (λ numbers. done_says (SetEncodings numbers))
     (many_reads count (valued 4 (λ bytes. s32_at 0 bytes)) number_says number_reads)
     (λ numbers. done_reads (SetEncodings numbers))
-behind_reads (Request incremental rect) = done_reads (FramebufferUpdateRequest incremental rect)
-behind_reads (Key down key) = done_reads (KeyEvent down key)
-behind_reads (Pointer buttons x y) = done_reads (PointerEvent buttons x y)
-behind_reads (CutText text_length) =
+after_reads (Request incremental rect) = done_reads (FramebufferUpdateRequest incremental rect)
+after_reads (Key down key) = done_reads (KeyEvent down key)
+after_reads (Pointer buttons x y) = done_reads (PointerEvent buttons x y)
+after_reads (CutText text_length) =
     then_reads (piece text_length) (λ text. done (ClientCutText text)) (piece_says text_length)
     (λ text. done_says (ClientCutText text)) (piece_reads text_length)
     (λ text. done_reads (ClientCutText text))
@@ -161,10 +161,10 @@ behind_reads (CutText text_length) =
 -- ---- whole messages
 
 abbrev parts_say : Says ClientMessage ClientFault
-parts_say = then_says (headed_says SpellsClientHead (λ first. UnknownType first)) behind_says
+parts_say = then_says (headed_says SpellsClientHead (λ first. UnknownType first)) after_says
 
 spells_item : (head : ClientHead) (m : ClientMessage) (bytes front back : List ℕ) →
-    bytes ≡ front ++ back → SpellsClientHead head front → (behind_says head).item m back →
+    bytes ≡ front ++ back → SpellsClientHead head front → (after_says head).item m back →
     SpellsClientMessage m bytes
 spells_item (FormatHead pixel_format) m bytes front back e s h =
     let good = fault_none (first_fault pixel_format) h.0 in
@@ -209,7 +209,7 @@ spells_item (CutText text_length) m bytes front back e s (text, one, two, split,
     })
 
 spells_fault : (head : ClientHead) (f : ClientFault) (bytes front back : List ℕ) →
-    bytes ≡ front ++ back → SpellsClientHead head front → (behind_says head).fault f back →
+    bytes ≡ front ++ back → SpellsClientHead head front → (after_says head).fault f back →
     FaultsClientMessage f bytes
 spells_fault (FormatHead pixel_format) f bytes front back e s h =
     told (first_fault pixel_format) refl h.0
@@ -291,9 +291,9 @@ client_message_reads =
     same_reads (and_then (headed client_head_size (λ first. UnknownType first) client_head_of)
     client_body) parts_say client_says client_same
     (then_reads (headed client_head_size (λ first. UnknownType first) client_head_of) client_body
-    (headed_says SpellsClientHead (λ first. UnknownType first)) behind_says
+    (headed_says SpellsClientHead (λ first. UnknownType first)) after_says
     (headed_reads SpellsClientHead client_head_size (λ first. UnknownType first)
-    client_head_of client_headed) behind_reads)
+    client_head_of client_headed) after_reads)
 
 -- ---- the stream
 

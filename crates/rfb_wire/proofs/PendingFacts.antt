@@ -2,7 +2,7 @@
 -- pending until it is whole, then each number, colour or byte of a text.
 use Rattle.std.proofs.Common.{◌≡◌, ℕ, List, [], ◌∷◌, ◌++◌, refl}
 use Rattle.rfb_wire.specs.stream.Sequel.{First, Second}
-use Rattle.rfb_wire.specs.stream.Pending.{in_pieces, behind_pieces, pending_in}
+use Rattle.rfb_wire.specs.stream.Pending.{in_pieces, after_pieces, pending_in}
 use Rattle.rfb_wire.specs.Pending.{client_pending, server_pending, rect_pending}
 
 -- what is pending of each front, from the first bytes on, that lacks a byte at least
@@ -63,7 +63,7 @@ raw_rectangle : at_fronts (rect_pending (in_pieces 2)) []
 raw_rectangle = refl
 
 -- data of a head of five bytes and one subrectangle of nine: RRE of one-byte pixels
-rre_data : at_fronts (behind_pieces 5 9) []
+rre_data : at_fronts (after_pieces 5 9) []
     (0 ∷ 0 ∷ 0 ∷ 1 ∷ 16 ∷ 32 ∷ 0 ∷ 0 ∷ 0 ∷ 0 ∷ 0 ∷ 1 ∷ 0 ∷ 1 ∷ [])
     ≡ 0 ∷ 1 ∷ 2 ∷ 3 ∷ 4 ∷ 0 ∷ 1 ∷ 2 ∷ 3 ∷ 4 ∷ 5 ∷ 6 ∷ 7 ∷ 8 ∷ []
 rre_data = refl

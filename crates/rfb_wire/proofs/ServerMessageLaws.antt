@@ -63,25 +63,25 @@ colour_reads =
     }
 
 -- what the bytes after a head say
-abbrev behind_says : ServerHead → Says ServerMessage ServerFault
-behind_says (Update count) = done_says (FramebufferUpdate count)
-behind_says (ColourMap first count) =
+abbrev after_says : ServerHead → Says ServerMessage ServerFault
+after_says (Update count) = done_says (FramebufferUpdate count)
+after_says (ColourMap first count) =
     then_says (many_says count colour_says)
     (λ colours. done_says (SetColorMapEntries first colours))
-behind_says BellHead = done_says Bell
-behind_says (CutText text_length) =
+after_says BellHead = done_says Bell
+after_says (CutText text_length) =
     then_says (piece_says text_length) (λ text. done_says (ServerCutText text))
 
-behind_reads : (head : ServerHead) → Reads (server_body head) (behind_says head)
-behind_reads (Update count) = done_reads (FramebufferUpdate count)
-behind_reads (ColourMap first count) =
+after_reads : (head : ServerHead) → Reads (server_body head) (after_says head)
+after_reads (Update count) = done_reads (FramebufferUpdate count)
+after_reads (ColourMap first count) =
     then_reads (many count (valued 6 map_colour_of))
     (λ colours. done (SetColorMapEntries first colours))
     (many_says count colour_says) (λ colours. done_says (SetColorMapEntries first colours))
     (many_reads count (valued 6 map_colour_of) colour_says colour_reads)
     (λ colours. done_reads (SetColorMapEntries first colours))
-behind_reads BellHead = done_reads Bell
-behind_reads (CutText text_length) =
+after_reads BellHead = done_reads Bell
+after_reads (CutText text_length) =
     then_reads (piece text_length) (λ text. done (ServerCutText text)) (piece_says text_length)
     (λ text. done_says (ServerCutText text)) (piece_reads text_length)
     (λ text. done_reads (ServerCutText text))
@@ -89,10 +89,10 @@ behind_reads (CutText text_length) =
 -- ---- whole messages
 
 abbrev parts_say : Says ServerMessage ServerFault
-parts_say = then_says (headed_says SpellsServerHead (λ first. UnknownType first)) behind_says
+parts_say = then_says (headed_says SpellsServerHead (λ first. UnknownType first)) after_says
 
 spells_item : (head : ServerHead) (m : ServerMessage) (bytes front back : List ℕ) →
-    bytes ≡ front ++ back → SpellsServerHead head front → (behind_says head).item m back →
+    bytes ≡ front ++ back → SpellsServerHead head front → (after_says head).item m back →
     SpellsServerMessage m bytes
 spells_item (Update count) m bytes front back e s h = rw (h.0, alone bytes front back e h.1) s
 spells_item (ColourMap first count) m bytes front back e s (colours, one, two, split, many, is) =
@@ -124,7 +124,7 @@ spells_item (CutText text_length) m bytes front back e s (text, one, two, split,
     })
 
 spells_fault : (head : ServerHead) (f : ServerFault) (back : List ℕ) →
-    (behind_says head).fault f back → ⊥
+    (after_says head).fault f back → ⊥
 spells_fault (Update count) f back h = h
 spells_fault (ColourMap first count) f back (inl h) = h.6
 spells_fault (ColourMap first count) f back (inr h) = h.5
@@ -178,9 +178,9 @@ server_message_reads =
     same_reads (and_then (headed server_head_size (λ first. UnknownType first) server_head_of)
     server_body) parts_say server_says server_same
     (then_reads (headed server_head_size (λ first. UnknownType first) server_head_of) server_body
-    (headed_says SpellsServerHead (λ first. UnknownType first)) behind_says
+    (headed_says SpellsServerHead (λ first. UnknownType first)) after_says
     (headed_reads SpellsServerHead server_head_size (λ first. UnknownType first)
-    server_head_of server_headed) behind_reads)
+    server_head_of server_headed) after_reads)
 
 -- ---- sizes
 

@@ -1,5 +1,5 @@
--- Sessions of a client's bytes, computed: a key, and then a type that no
--- message has, cut in two ways.
+-- Sessions of a client's bytes, computed: a key, and then a type that no message has, split in two
+-- ways.
 use Rattle.std.proofs.Common.{◌≡◌, ℕ, List, [], ◌∷◌, ◌++◌, Some, None, true, refl, arith}
 use Rattle.std.specs.Prelude.{⊤}
 use Rattle.rfb_wire.specs.ClientMessage.{ClientMessage, KeyEvent, PointerEvent, ClientFault, UnknownType}

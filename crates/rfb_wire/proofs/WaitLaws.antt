@@ -15,7 +15,7 @@ use Rattle.rfb_wire.specs.ClientMessage.{SetEncodings, ClientCutText, UnknownTyp
 use Rattle.rfb_wire.specs.ClientStream.{client_head_of, client_body, client_message}
 use Rattle.rfb_wire.specs.ServerMessage.{ServerFault, UnknownType as UnknownServerType, server_head_of, map_colour_of, server_body, server_message}
 use Rattle.rfb_wire.specs.RectStream.{rect_head}
-use Rattle.rfb_wire.proofs.stream_laws.WaitLaws.{pieces_wait, headed_waits, behind_waits, first_waits}
+use Rattle.rfb_wire.proofs.stream_laws.WaitLaws.{pieces_wait, headed_waits, after_waits, first_waits}
 use Rattle.rfb_wire.proofs.stream_laws.PartLaws.{piece_short}
 use Rattle.rfb_wire.proofs.stream_laws.HeadedLaws.{headed_reads}
 use Rattle.rfb_wire.proofs.ClientStreamLaws.{client_headed, client_message_reads}
@@ -37,7 +37,7 @@ pub client_waits : (head : ClientHead) (front rest : List ℕ) → SpellsClientH
     client_body head rest ≡ More → client_message (front ++ rest) ≡ More
 unfolding client_message
 client_waits head front rest s more =
-    behind_waits (headed client_head_size (λ first. UnknownType first) client_head_of) client_body
+    after_waits (headed client_head_size (λ first. UnknownType first) client_head_of) client_body
     head (front ++ rest) rest
     ((headed_reads SpellsClientHead client_head_size (λ first. UnknownType first)
     client_head_of client_headed).only head front rest s) more
@@ -81,7 +81,7 @@ pub server_waits : (head : ServerHead) (front rest : List ℕ) → SpellsServerH
     server_body head rest ≡ More → server_message (front ++ rest) ≡ More
 unfolding server_message
 server_waits head front rest s more =
-    behind_waits (headed server_head_size (λ first. UnknownServerType first) server_head_of)
+    after_waits (headed server_head_size (λ first. UnknownServerType first) server_head_of)
     server_body head (front ++ rest) rest
     ((headed_reads SpellsServerHead server_head_size (λ first. UnknownServerType first)
     server_head_of server_headed).only head front rest s) more

@@ -2,7 +2,7 @@
 -- is there: the head with its type byte, and after it each number of SetEncodings, each colour of
 -- SetColorMapEntries and each byte of a text.
 use Rattle.std.specs.Prelude.{ℕ, ◌==◌, List, if◌then◌else◌}
-use Rattle.rfb_wire.specs.stream.Pending.{behind_piece, message_pending}
+use Rattle.rfb_wire.specs.stream.Pending.{after_piece, message_pending}
 use Rattle.rfb_wire.specs.ClientHead.{client_head_size}
 use Rattle.rfb_wire.specs.ServerHead.{server_head_size}
 
@@ -26,4 +26,4 @@ server_pending bytes = message_pending server_head_size server_piece_size bytes
 -- how many bytes of a rectangle are pending: its head is a piece, and its data
 -- have pieces of their own
 abbrev pub rect_pending : (List ℕ → ℕ) → List ℕ → ℕ
-rect_pending data_pending bytes = behind_piece 12 data_pending bytes
+rect_pending data_pending bytes = after_piece 12 data_pending bytes

@@ -25,7 +25,7 @@ pub fn client_messages_are_spelled()
         (m ≡ other) × (rest ≡ []) }
 {}
 
-/// The verdict of a client's bytes between two messages does not depend on how they are cut.
+/// The verdict of a client's bytes between two messages does not depend on how they are split.
 pub fn client_verdict_is_of_the_bytes()
     ensures { (one two : List (List ℕ)) (items others : List ClientMessage) →
         (fault other : Option ClientFault) → concat one ≡ concat two →

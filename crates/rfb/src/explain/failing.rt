@@ -15,7 +15,7 @@ pub fn tell_server<N: Write>(fault: EngineFault, reason: &[u8], heard: &Heard, n
         EngineFault::Viewer(fault) => tell_viewer_fault(fault, reason, heard, notes),
         EngineFault::Truncated => writeln!(
             notes,
-            "rfb: the server's bytes end too early, behind {} of them",
+            "rfb: the server's bytes end too early, after {} of them",
             heard.total()
         ),
         EngineFault::NoMemory => writeln!(notes, "rfb: there is no memory"),
@@ -48,10 +48,10 @@ fn tell_viewer_fault<N: Write>(
             "rfb: the server does not let the viewer in, and says `{}`",
             Escaped(reason)
         ),
-        ViewerFault::ScreenEmpty => writeln!(notes, "rfb: the server's screen has no place"),
+        ViewerFault::ScreenEmpty => writeln!(notes, "rfb: the server's screen has no pixel"),
         ViewerFault::ScreenTooLarge => writeln!(
             notes,
-            "rfb: the server's screen has more than 16777216 places"
+            "rfb: the server's screen has more than 16777216 pixels"
         ),
         ViewerFault::NoMemory => writeln!(notes, "rfb: there is no memory for the screen"),
         other => tell_message_fault(other, notes),

@@ -13,7 +13,7 @@ const VERSION_SIZE: usize = 12;
 // How many bytes stand before the name in ServerInit, section 7.3.2.
 const INIT_SIZE: usize = 24;
 
-// Behind each so many bytes a line tells that more come.
+// A line says that more bytes come, each time that this number of them came.
 const STRETCH: u64 = 16_777_216;
 
 // More bytes of a name are not printed.
@@ -25,7 +25,7 @@ pub struct Heard {
     bytes: Vec<u8>,
     room: usize,
     total: u64,
-    // What is said before the server's name, until that is told.
+    // What is said before the server's name, until that is printed.
     greeting: Option<&'static str>,
 }
 
@@ -40,8 +40,8 @@ impl Heard {
         }
     }
 
-    /// These bytes came. What they make known is told: the server's name and the size of its screen
-    /// as soon as they are there, and from time to time how much came.
+    /// These bytes came. What they make known is printed: the server's name and the size of its
+    /// screen as soon as they are there, and from time to time how much came.
     pub fn hear<N: Write>(&mut self, bytes: &[u8], notes: &mut N) {
         self.keep(bytes);
         let before = self.total;
@@ -126,7 +126,7 @@ fn screen_in(bytes: &[u8]) -> Option<Screen<'_>> {
     })
 }
 
-// Where ServerInit begins behind the handshake of the version that both ends speak.
+// Where ServerInit begins after the handshake of the version that both ends speak.
 fn init_start(bytes: &[u8]) -> Option<usize> {
     match version_in(bytes)? {
         Version::V33 => Some(VERSION_SIZE + 4),

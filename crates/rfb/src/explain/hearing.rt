@@ -6,7 +6,7 @@ use crate::explain::Heard;
 use std::io;
 use std::io::{ErrorKind, Read, Write};
 
-/// A reader of a server's bytes, whose first ones are kept. A read that fails is told.
+/// A reader of a server's bytes, whose first ones are kept. A read that fails is reported.
 #[derive(Drop)]
 pub struct Hearing<'a, R, N> {
     reader: R,

@@ -8,7 +8,7 @@ use rfb_viewer::{Viewer, ViewerEvent, ViewerFault};
 use std::alloc::Global;
 use std::io::Write;
 
-/// Says at which byte of a recording it went wrong, behind how many updates, and what may be the
+/// Says at which byte of a recording it went wrong, after how many updates, and what may be the
 /// reason. To find the byte, what is kept of the recording is played again, byte by byte.
 pub fn tell_place<N: Write>(
     alloc: Global,
@@ -19,7 +19,7 @@ pub fn tell_place<N: Write>(
 ) {
     if !heard.is_whole() {
         let count = heard.as_slice().len();
-        let _ = writeln!(notes, "rfb: that is behind byte {count}");
+        let _ = writeln!(notes, "rfb: that is after byte {count}");
         return;
     }
     let mut viewer = fresh_viewer(alloc, format, only_raw());

@@ -13,7 +13,7 @@ use rfb_viewer::{Viewer, ViewerFault};
 use std::collections::VecDeque;
 use std::io::{Read, Write};
 
-/// Takes some of the bytes in flight, at most so many and at most a part.
+/// Takes some of the bytes in flight, at most `most` and at most a part.
 pub fn take_some(
     in_flight: &mut VecDeque<u8>,
     most: usize,

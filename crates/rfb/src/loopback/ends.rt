@@ -102,7 +102,7 @@ impl Ends {
         }
     }
 
-    /// So many of the bytes in flight to the server arrive, or all.
+    /// `count` of the bytes in flight to the server arrive, or all.
     pub fn deliver_to_server<C: Read + Write>(
         &mut self,
         count: u32,
@@ -129,7 +129,7 @@ impl Ends {
         Ok(())
     }
 
-    /// So many of the bytes in flight to the viewer arrive, or all.
+    /// `count` of the bytes in flight to the viewer arrive, or all.
     pub fn deliver_to_viewer<C: Read + Write>(
         &mut self,
         count: u32,

@@ -110,13 +110,13 @@ fn address_named<'a>(word: &'a str) -> Result<Address<'a>, BadValue<'a>>
         (λ address. IsAddress word.now address.host.now address.port)
         (λ _. (host : List ℕ) (port : ℕ) → ¬ (IsAddress word.now host port)) }
 {
-    let Some((host, behind)) = word.split_once(':') else {
+    let Some((host, after)) = word.split_once(':') else {
         return Ok(Address {
             host: or_loopback(word),
             port: DISPLAYS,
         });
     };
-    match port_named(behind.as_bytes()) {
+    match port_named(after.as_bytes()) {
         Some(port) => Ok(Address {
             host: or_loopback(host),
             port,
@@ -132,7 +132,7 @@ fn or_loopback(host: &str) -> &str
     if host.is_empty() { LOOPBACK } else { host }
 }
 
-// What stands behind the first colon: a display, or a colon and a port.
+// What stands after the first colon: a display, or a colon and a port.
 fn port_named(text: &[u8]) -> Option<u16>
     ensures { MatchOption result ((port : ℕ) → ¬ (NamesPort text.now port))
         (λ port. NamesPort text.now port) }

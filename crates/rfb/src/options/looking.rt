@@ -75,7 +75,7 @@ fn timeout_word<'a>(alloc: Global) -> Arg<'a>
         .long("timeout")
         .value_name("S")
         .value_parser(clap::value_parser!(u32).range(1..))
-        .help("After so many seconds it ends, 1 to 4294967295; without it, it waits")
+        .help("The seconds after which it ends, 1 to 4294967295; without it, it waits")
 }
 
 // The word of how many updates are viewed.

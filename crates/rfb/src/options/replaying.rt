@@ -34,7 +34,7 @@ fn first_updates_word<'a>(alloc: Global) -> Arg<'a>
         .long("updates")
         .value_name("U")
         .value_parser(clap::value_parser!(u32).range(1..))
-        .help("After so many updates it ends, 1 to 4294967295; without it, all are played")
+        .help("The updates after which it ends, 1 to 4294967295; without it, all are played")
 }
 
 /// The format of a recording, and how much of it is to be played.

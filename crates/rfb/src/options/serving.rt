@@ -57,7 +57,7 @@ fn width_word<'a>(alloc: Global) -> Arg<'a>
     side_word(
         alloc,
         "width",
-        "The places of a row of the screen, 1 to 4096",
+        "The pixels of a row of the screen, 1 to 4096",
     )
 }
 
@@ -104,7 +104,7 @@ fn timeout_word<'a>(alloc: Global) -> Arg<'a>
         .long("timeout")
         .value_name("S")
         .value_parser(clap::value_parser!(u32).range(1..))
-        .help("A viewer that sends nothing for so many seconds is let go, 1 to 4294967295")
+        .help("The seconds without a byte after which a viewer is let go, 1 to 4294967295")
 }
 
 /// What `serve` is asked for.

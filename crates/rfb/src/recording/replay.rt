@@ -9,8 +9,8 @@ use rfb_pixel::Format;
 #[derive(Clone, Copy, Debug, PartialEq, Eq)]
 pub struct Replay {
     pub format: Format,
-    /// After so many updates it ends. Without a number, or where the recording has fewer, it ends
-    /// with the recording.
+    /// It ends after this number of updates. Without a number, or where the recording has fewer, it
+    /// ends with the recording.
     pub updates: Option<u32>,
     /// Where the recording ends too early, the picture of what it has is written all the same.
     pub is_partial: bool,

@@ -1,4 +1,4 @@
-//! The words of a line behind its first, for each kind of line that has some.
+//! The words of a line after its first, for each kind of line that has some.
 
 ghost use Rattle.std.specs.Prelude.{ℕ, Bool, MatchOption};
 ghost use Rattle.rfb_picture.specs.declared.rect.Rect.{Rect};

@@ -11,7 +11,7 @@ use std::io::Write;
 // The word that the first line of a hub's script begins with.
 const HUB: &[u8] = b"hub";
 
-// What a word behind the first one is to be.
+// What a word after the first one is to be.
 #[derive(Clone, Copy, Debug)]
 enum Kind {
     // A side of the screen.
@@ -27,7 +27,7 @@ enum Kind {
     Request,
 }
 
-// The words behind the first one, of each kind of line.
+// The words after the first one, of each kind of line.
 const SIZE: &[Kind] = &[Kind::Side, Kind::Side];
 
 const WANTS: &[Kind] = &[
@@ -145,7 +145,7 @@ fn tell_words<N: Write>(line: &[u8], is_first: bool, notes: &mut N) -> io::Resul
     tell_arguments(line, kinds, least, notes)
 }
 
-// What is to stand behind a keyword; or there is no such one.
+// What is to stand after a keyword; or there is no such one.
 fn kinds_of(keyword: &[u8]) -> Option<&'static [Kind]> {
     let kinds = match keyword {
         b"screen" => SIZE,
@@ -161,7 +161,7 @@ fn kinds_of(keyword: &[u8]) -> Option<&'static [Kind]> {
     Some(kinds)
 }
 
-// Says which word behind the first one is none, or that there are too few or too many.
+// Says which word after the first one is none, or that there are too few or too many.
 fn tell_arguments<N: Write>(
     line: &[u8],
     kinds: &[Kind],
@@ -175,7 +175,7 @@ fn tell_arguments<N: Write>(
         let Some((kind, later)) = rest.split_first() else {
             return writeln!(
                 notes,
-                " has more words than the {} behind its first",
+                " has more words than the {} after its first",
                 kinds.len()
             );
         };
@@ -188,7 +188,7 @@ fn tell_arguments<N: Write>(
     if count < least {
         return writeln!(
             notes,
-            " has {count} words behind its first, and {least} are due"
+            " has {count} words after its first, and {least} are due"
         );
     }
     writeln!(notes, ": `viewer F E..` stands second, and once")

@@ -1,7 +1,7 @@
 //! Scripts of a hub: what several viewers of one screen are to do, a line for each step.
 //!
 //! ```text
-//! hub W H                    first and once: the size of the screen, each side 1 to 4,096 places
+//! hub W H                    first and once: the size of the screen, each side 1 to 4,096 pixels
 //! join S shared F E..        a viewer takes slot S, and asks for a format and one to four
 //!                            encodings, the best first; others may go on
 //! join S sole F E..          the same, and it asks for the screen alone
@@ -9,7 +9,7 @@
 //! foreign S HEX              1 to 64 bytes that no viewer sent are in flight to its session
 //! at S LINE                  in that slot, a line of a script that is a request, a format, a
 //!                            composing, a delivery or a settle
-//! fill .., copy .., hint ..  as in a script; every session is told
+//! fill .., copy .., hint ..  as in a script; every session is notified
 //! show S                     last and once: the slot whose picture is wanted
 //! ```
 //!
@@ -64,10 +64,10 @@ pub fn read_hub_script(alloc: Global, text: &[u8]) -> Result<HubScript, Failure>
     let mut steps = Vec::new(alloc);
     let mut shown = None;
     let mut number = 0;
-    let mut behind = 0;
+    let mut after = 0;
     for line in text.split(|byte| *byte == b'\n') {
         number += 1;
-        behind = if line.is_empty() { number } else { number + 1 };
+        after = if line.is_empty() { number } else { number + 1 };
         if line.is_empty() {
             continue;
         }
@@ -97,8 +97,8 @@ pub fn read_hub_script(alloc: Global, text: &[u8]) -> Result<HubScript, Failure>
                 steps,
                 shown,
             }),
-            None => Err(Failure::BadLine(behind)),
+            None => Err(Failure::BadLine(after)),
         },
-        None => Err(Failure::BadLine(behind)),
+        None => Err(Failure::BadLine(after)),
     }
 }

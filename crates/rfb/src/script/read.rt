@@ -37,7 +37,7 @@ pub const TO_SERVER: &[u8] = b"toserver";
 
 pub const SETTLE: &[u8] = b"settle";
 
-// No line has more words; of a hub's script one has so many.
+// No line has more words. A line of a hub's script may have that many.
 const WORDS_MAX: usize = 8;
 
 /// The screen's size, as a line without its newline gives it. It is `None` where the line gives
@@ -116,7 +116,7 @@ fn line_of(words: &[&[u8]]) -> Option<Line>
     Some(Line::Step(Step::Event(event_of(keyword, rest)?)))
 }
 
-// The event that a keyword and the words behind it ask for.
+// The event that a keyword and the words after it ask for.
 fn event_of(keyword: &[u8], rest: &[&[u8]]) -> Option<Event>
     ensures { MatchOption result
         ((event : Event) → ¬ (SaysEvent (keyword.now ∷ texts rest.now) event))

@@ -58,7 +58,7 @@ fn finish<W: Write, E: Write>(
     Err(why_nothing(hub, script.shown))
 }
 
-// Takes all steps. What became of each is told on `errors`.
+// Takes all steps. What became of each is reported on `errors`.
 fn play_all<E: Write>(
     alloc: Global,
     hub: &mut Hub,

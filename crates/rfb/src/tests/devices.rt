@@ -65,7 +65,7 @@ pub fn call_on_failing_input(
     }
 }
 
-/// A call whose output has this room, and then fails. What was written there is not told.
+/// A call whose output has this room, and then fails. What was written there is not reported.
 pub fn call_to_failing_output(
     rt: &HostRuntime,
     words: &[&str],
@@ -141,7 +141,7 @@ const FAILING_OUTPUTS: [(usize, bool); 6] = [
 ];
 
 #[test]
-fn a_failing_output_is_told_after_the_refusals(rt: HostRuntime) {
+fn a_failing_output_is_reported_after_the_refusals(rt: HostRuntime) {
     let script = b"screen 64 64
 request full 0 0 1 1
 settle
@@ -167,7 +167,7 @@ fn help_that_cannot_be_written_is_a_fault(rt: HostRuntime) {
     }
 }
 
-// Inputs that fail behind these bytes, by their kind, and what is told.
+// Inputs that fail after these bytes, by their kind, and what is reported.
 const FAILING_INPUTS: [(&[u8], ErrorKind, &[u8]); 4] = [
     (b"", ErrorKind::Other, b"fault 29 Device\n"),
     (
@@ -175,7 +175,7 @@ const FAILING_INPUTS: [(&[u8], ErrorKind, &[u8]); 4] = [
         ErrorKind::Other,
         b"fault 29 Device\n",
     ),
-    // Not even a bad line is told.
+    // Not even a bad line is reported.
     (
         b"screen 2 1\nsettler\n",
         ErrorKind::TimedOut,
@@ -189,7 +189,7 @@ const FAILING_INPUTS: [(&[u8], ErrorKind, &[u8]); 4] = [
 ];
 
 #[test]
-fn a_failing_input_is_told_and_nothing_runs(rt: HostRuntime) {
+fn a_failing_input_is_reported_and_nothing_runs(rt: HostRuntime) {
     for (bytes, kind, told) in FAILING_INPUTS {
         let ended = call_on_failing_input(&rt, SCRIPT.as_slice(), bytes, kind);
         assert!(rt; ended.is(1, b"", told));

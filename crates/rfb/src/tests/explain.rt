@@ -6,7 +6,7 @@ use crate::explain::Escaped;
 use std::net::{Net, OpenListener, TcpListener};
 use std::test::Fail;
 
-// Bad lines behind a good one, and what is said of each.
+// Bad lines after a good one, and what is said of each.
 const BAD_LINES: &[(&str, &str)] = &[
     (
         "settle\r",
@@ -33,13 +33,13 @@ const BAD_LINES: &[(&str, &str)] = &[
     ),
     (
         "fill 0 0 1 1",
-        " has 4 words behind its first, and 5 are due",
+        " has 4 words after its first, and 5 are due",
     ),
     (
         "viewer rgb888",
-        " has 1 words behind its first, and 2 are due",
+        " has 1 words after its first, and 2 are due",
     ),
-    ("settle 1", " has more words than the 0 behind its first"),
+    ("settle 1", " has more words than the 0 after its first"),
     (
         "fill 0 65536 1 1 FF8001",
         ": `65536`, is no number from 0 to 65535",
@@ -79,7 +79,7 @@ fn a_bad_line_is_explained(rt: HostRuntime) -> Result<(), Fail> {
     Ok(())
 }
 
-// Whole scripts that are bad, and what is told of each.
+// Whole scripts that are bad, and what is reported of each.
 const BAD_SCRIPTS: &[(&str, &str)] = &[
     (
         "",
@@ -136,7 +136,7 @@ fn play(rt: &HostRuntime, bytes: &[u8]) -> Ended {
     call(rt, ["rfb", "play", "--explain"].as_slice(), bytes)
 }
 
-// Recordings that end a viewer, and what is told of each.
+// Recordings that end a viewer, and what is reported of each.
 const BAD_RECORDINGS: &[(&[u8], &[u8])] = &[
     (
         b"HTTP/1.1 200 OK\r\n",
@@ -168,7 +168,7 @@ fault 19 Refused
     ),
     (
         b"RFB 0",
-        b"rfb: the server's bytes end too early, behind 5 of them
+        b"rfb: the server's bytes end too early, after 5 of them
 rfb: that is at byte 5; whole updates before it: 0
 fault 28 Truncated
 ",
@@ -186,7 +186,7 @@ fn a_bad_recording_is_explained(rt: HostRuntime) {
 }
 
 #[test]
-fn an_unknown_encoding_is_told_by_its_number_and_its_place(rt: HostRuntime) -> Result<(), Fail> {
+fn an_unknown_encoding_is_named_by_its_number_and_its_place(rt: HostRuntime) -> Result<(), Fail> {
     let mut bytes = Vec::new(rt.alloc());
     bytes.extend_from_slice(SERVER)?;
     bytes.extend_from_slice(b"\0\0\0\x01\0\0\0\0\0\x02\0\x01\0\0\0\x10")?;
@@ -205,7 +205,7 @@ fault 8 UnknownEncoding
 }
 
 #[test]
-fn a_port_in_use_is_told_with_the_systems_words(rt: HostRuntime) -> Result<(), Fail> {
+fn a_port_in_use_is_reported_with_the_systems_words(rt: HostRuntime) -> Result<(), Fail> {
     let listener = TcpListener::bind(&rt, ("127.0.0.1", 0))?;
     let port = listener.local_addr()?.port();
     let number = format!(in rt.alloc(); "{port}")?;

@@ -30,7 +30,7 @@ impl Folder {
         Ok(format!(in alloc; "{}/{name}", self.path)?)
     }
 
-    // Whether a file in it has these bytes, and the folder has so many files.
+    // Whether a file in it has these bytes, and the folder has `count` files.
     fn has(&self, rt: &HostRuntime, name: &str, bytes: &[u8], count: usize) -> io::Result<bool> {
         let held = fs::read(rt, self.file(rt.alloc(), name)?.as_str())?;
         let files = fs::read_dir(rt, self.path.as_str())?.count();

@@ -23,7 +23,7 @@ const BAD_LINES: [&[u8]; 93] = [
     b"joins 0 shared rgb888 raw",
     b"At 0 settle",
     b"slot 0 settle",
-    // What is of one slot, and no such line behind it.
+    // What is of one slot, and no such line after it.
     b"at",
     b"at 0",
     b"at 0 fill 0 0 1 1 FF8001",
@@ -112,12 +112,12 @@ const BAD_LINES: [&[u8]; 93] = [
 
 const BEFORE_THE_LINE: &[u8] = b"hub 2 1\n\nfill 9 9 9 9 FF8001\n";
 
-const BEHIND_THE_LINE: &[u8] = b"\nat 0 settle\nat 0\nshow 0\n";
+const AFTER_THE_LINE: &[u8] = b"\nat 0 settle\nat 0\nshow 0\n";
 
 #[test]
-fn a_bad_line_of_a_hub_is_told_and_nothing_runs(rt: HostRuntime) -> Result<(), Fail> {
+fn a_bad_line_of_a_hub_is_reported_and_nothing_runs(rt: HostRuntime) -> Result<(), Fail> {
     for line in BAD_LINES {
-        let ended = run_all(&rt, [BEFORE_THE_LINE, line, BEHIND_THE_LINE].as_slice())?;
+        let ended = run_all(&rt, [BEFORE_THE_LINE, line, AFTER_THE_LINE].as_slice())?;
         let text = line.escape_ascii();
         assert!(rt; ended.is(1, b"", b"line 4: bad line\n"), "{text}");
     }
@@ -132,7 +132,7 @@ const FIRST_BAD_LINES: [(&[u8], u64); 19] = [
     (b"hub 2 1\n\n\n", 4),
     (b"\nhub 2 1\nat 0 settle", 4),
     (b"\nhub 2 1\nat 0 settle\n", 4),
-    // Something but empty lines behind it.
+    // Something but empty lines after it.
     (b"hub 2 1\nshow 0\nshow 0", 3),
     (b"hub 2 1\nshow 0\n\nat 0 settle\n", 4),
     (b"hub 2 1\nshow 0\n \n", 3),
@@ -150,7 +150,7 @@ const FIRST_BAD_LINES: [(&[u8], u64); 19] = [
 ];
 
 #[test]
-fn the_first_bad_line_of_a_hub_is_told_by_its_number(rt: HostRuntime) -> Result<(), Fail> {
+fn the_first_bad_line_of_a_hub_is_reported_by_its_number(rt: HostRuntime) -> Result<(), Fail> {
     for (script, line) in FIRST_BAD_LINES {
         let told = format!(in rt.alloc(); "line {line}: bad line\n")?;
         let ended = run(&rt, script);

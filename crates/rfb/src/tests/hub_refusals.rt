@@ -1,4 +1,4 @@
-//! Which events of a hub's script are refused, and how that is told.
+//! Which events of a hub's script are refused, and how that is reported.
 
 use super::calls::run_all;
 use std::test::Fail;
@@ -7,7 +7,7 @@ const BLACK: &[u8] = b"P6\n2 1\n65535\n\0\0\0\0\0\0\0\0\0\0\0\0";
 
 const BEFORE_THE_LINE: &[u8] = b"hub 2 1\njoin 0 shared rgb888 raw\n";
 
-const BEHIND_THE_LINE: &[u8] = b"\nat 0 settle\nshow 0\n";
+const AFTER_THE_LINE: &[u8] = b"\nat 0 settle\nshow 0\n";
 
 // Lines that are refused while the viewer of slot 0 has just joined.
 const REFUSED: [(&[u8], &str); 26] = [
@@ -41,10 +41,10 @@ const REFUSED: [(&[u8], &str); 26] = [
 ];
 
 #[test]
-fn a_refusal_is_told_and_changes_nothing(rt: HostRuntime) -> Result<(), Fail> {
+fn a_refusal_is_reported_and_changes_nothing(rt: HostRuntime) -> Result<(), Fail> {
     for (line, refusal) in REFUSED {
         let told = format!(in rt.alloc(); "line 3: refused {refusal}\n")?;
-        let ended = run_all(&rt, [BEFORE_THE_LINE, line, BEHIND_THE_LINE].as_slice())?;
+        let ended = run_all(&rt, [BEFORE_THE_LINE, line, AFTER_THE_LINE].as_slice())?;
         let text = line.escape_ascii();
         assert!(rt; ended.is(0, BLACK, told.as_bytes()), "{text}");
     }
@@ -65,7 +65,7 @@ const MADE: [&[u8]; 8] = [
 #[test]
 fn other_lines_are_not_refused(rt: HostRuntime) -> Result<(), Fail> {
     for line in MADE {
-        let ended = run_all(&rt, [BEFORE_THE_LINE, line, BEHIND_THE_LINE].as_slice())?;
+        let ended = run_all(&rt, [BEFORE_THE_LINE, line, AFTER_THE_LINE].as_slice())?;
         let text = line.escape_ascii();
         assert!(rt; ended.is(0, BLACK, b""), "{text}");
     }
@@ -86,7 +86,7 @@ const CALLS: [(&[u8], &str); 3] = [
 fn a_call_waits_for_the_update_that_was_requested(rt: HostRuntime) -> Result<(), Fail> {
     for (line, refusal) in CALLS {
         let told = format!(in rt.alloc(); "line 5: refused {refusal}\n")?;
-        let ended = run_all(&rt, [BEFORE_THE_CALL, line, BEHIND_THE_LINE].as_slice())?;
+        let ended = run_all(&rt, [BEFORE_THE_CALL, line, AFTER_THE_LINE].as_slice())?;
         let text = line.escape_ascii();
         assert!(rt; ended.is(0, BLACK, told.as_bytes()), "{text}");
     }
@@ -105,7 +105,7 @@ const REQUESTS: [&[u8]; 4] = [
 #[test]
 fn a_request_has_a_place_and_lies_on_the_screen(rt: HostRuntime) -> Result<(), Fail> {
     for line in REQUESTS {
-        let ended = run_all(&rt, [BEFORE_THE_REQUEST, line, BEHIND_THE_LINE].as_slice())?;
+        let ended = run_all(&rt, [BEFORE_THE_REQUEST, line, AFTER_THE_LINE].as_slice())?;
         let text = line.escape_ascii();
         assert!(rt;
             ended.is(0, BLACK, b"line 4: refused 27 AreaOutside\n"),

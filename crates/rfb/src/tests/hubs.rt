@@ -3,7 +3,7 @@
 use super::calls::{LEFT_PLACE_FILLED, run};
 use std::test::Fail;
 
-// Two viewers of one screen, each in its own format. Behind line 11 a byte that no client sends
+// Two viewers of one screen, each in its own format. After line 11 a byte that no client sends
 // first is in flight to the session of the first one.
 const ONE_IS_HOSTILE: &[u8] = b"hub 2 1
 join 0 shared rgb888 raw

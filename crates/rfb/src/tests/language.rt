@@ -110,12 +110,12 @@ const BAD_LINES: [&[u8]; 92] = [
 // The fill would be refused, and the last line is bad too.
 const BEFORE_THE_LINE: &[u8] = b"screen 2 1\n\nfill 9 9 9 9 FF8001\n";
 
-const BEHIND_THE_LINE: &[u8] = b"\nsettle\nsettle it\n";
+const AFTER_THE_LINE: &[u8] = b"\nsettle\nsettle it\n";
 
 #[test]
-fn a_bad_line_is_told_and_nothing_runs(rt: HostRuntime) -> Result<(), Fail> {
+fn a_bad_line_is_reported_and_nothing_runs(rt: HostRuntime) -> Result<(), Fail> {
     for line in BAD_LINES {
-        let ended = run_all(&rt, [BEFORE_THE_LINE, line, BEHIND_THE_LINE].as_slice())?;
+        let ended = run_all(&rt, [BEFORE_THE_LINE, line, AFTER_THE_LINE].as_slice())?;
         let text = line.escape_ascii();
         assert!(rt; ended.is(1, b"", b"line 4: bad line\n"), "{text}");
     }
@@ -163,7 +163,7 @@ const FIRST_BAD_LINES: [(&[u8], u64); 30] = [
 ];
 
 #[test]
-fn the_first_bad_line_is_told_by_its_number(rt: HostRuntime) -> Result<(), Fail> {
+fn the_first_bad_line_is_reported_by_its_number(rt: HostRuntime) -> Result<(), Fail> {
     for (script, line) in FIRST_BAD_LINES {
         let told = format!(in rt.alloc(); "line {line}: bad line\n")?;
         let ended = run(&rt, script);

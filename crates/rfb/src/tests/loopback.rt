@@ -18,7 +18,7 @@ fn one_update_goes_through_a_connection(rt: HostRuntime) {
 }
 
 #[test]
-fn a_refusal_is_told_and_the_script_goes_on(rt: HostRuntime) {
+fn a_refusal_is_reported_and_the_script_goes_on(rt: HostRuntime) {
     let ended = run(
         &rt,
         b"screen 2 1
@@ -45,7 +45,7 @@ toserver 1
 compose
 ";
 
-const BEHIND_THE_CUT: &[u8] = b"format rgb565
+const AFTER_THE_CUT: &[u8] = b"format rgb565
 toviewer 4294967295
 format rgb565
 request inc 0 0 2 1
@@ -64,7 +64,7 @@ fn an_update_cut_anywhere_goes_through_a_connection(rt: HostRuntime) -> Result<(
         let ended = call_all(
             &rt,
             LOOP.as_slice(),
-            [BEFORE_THE_CUT, part.as_bytes(), BEHIND_THE_CUT].as_slice(),
+            [BEFORE_THE_CUT, part.as_bytes(), AFTER_THE_CUT].as_slice(),
         )?;
         let told = if cut < 24 {
             b"line 10: refused 26 Busy\n".as_slice()

@@ -27,7 +27,7 @@ struct Asked<'a> {
     now: Cell<u64>,
 }
 
-// A listener with so many connections still to come.
+// A listener with `left` connections still to come.
 #[derive(Drop)]
 struct Ear {
     left: Cell<usize>,
@@ -198,7 +198,7 @@ fn ask<W: Write>(rt: &HostRuntime, words: &[&str], sent: &'static [u8], output: 
     ask_again(rt, words, sent, 0, output)
 }
 
-// The same over one that refuses so many connections first.
+// The same over one that refuses a number of connections first.
 fn ask_again<W: Write>(
     rt: &HostRuntime,
     words: &[&str],
@@ -326,7 +326,7 @@ fn a_recording_that_cannot_be_flushed_is_a_fault(rt: HostRuntime) {
     }
 }
 
-// What is told of three viewers that come, and of two that do not.
+// What is reported of three viewers that come, and of two that do not.
 const COMINGS: &[u8] = b"rfb: 127.0.0.1:9 has connected
 rfb: 127.0.0.1:9 has left; updates sent: 1
 rfb: 127.0.0.1:9 has connected

@@ -84,7 +84,7 @@ settle
 }
 
 #[test]
-fn each_refusal_is_told_at_its_line_and_the_script_goes_on(rt: HostRuntime) {
+fn each_refusal_is_reported_at_its_line_and_the_script_goes_on(rt: HostRuntime) {
     let script = b"screen 2 1
 request full 0 0 2 1
 fill 1 0 2 1 0000FF

@@ -25,10 +25,10 @@ fn a_recording_shows_its_last_picture(rt: HostRuntime) {
 }
 
 #[test]
-fn a_recording_is_played_up_to_so_many_updates(rt: HostRuntime) -> Result<(), AllocError> {
+fn a_recording_is_played_up_to_a_number_of_updates(rt: HostRuntime) -> Result<(), AllocError> {
     for (updates, more, picture) in [
         ("1", MORE, PICTURE),
-        // Behind the last update nothing is looked at, be it cut or no message.
+        // After the last update nothing is looked at, be it truncated or no message.
         ("1", &MORE[..9], PICTURE),
         ("1", b"\xFF".as_slice(), PICTURE),
         ("2", MORE, LATER_PICTURE),

@@ -14,7 +14,7 @@ toserver 1
 compose
 ";
 
-const BEHIND_THE_CUT: &[u8] = b"format rgb565
+const AFTER_THE_CUT: &[u8] = b"format rgb565
 toviewer 4294967295
 format rgb565
 request inc 0 0 2 1
@@ -32,7 +32,7 @@ fn a_format_waits_for_the_end_of_an_update(rt: HostRuntime) -> Result<(), Fail> 
         let part = format!(in rt.alloc(); "toviewer {cut}\n")?;
         let ended = run_all(
             &rt,
-            [BEFORE_THE_CUT, part.as_bytes(), BEHIND_THE_CUT].as_slice(),
+            [BEFORE_THE_CUT, part.as_bytes(), AFTER_THE_CUT].as_slice(),
         )?;
         let told = if cut < 24 {
             b"line 10: refused 26 Busy\n".as_slice()
@@ -138,7 +138,7 @@ settle
 copy 4 5 3 2 1 0
 ";
 
-const BEHIND_THE_HINT: &[u8] = b"request inc 0 0 9 8
+const AFTER_THE_HINT: &[u8] = b"request inc 0 0 9 8
 settle
 compose
 settle
@@ -157,9 +157,9 @@ fn a_copy_takes_its_source_to_its_rectangle(rt: HostRuntime) -> Result<(), Fail>
             shown.extend_from_slice(colour.as_slice())?;
         }
     }
-    // The viewer has the source already, and is told of the copy or not.
+    // The viewer has the source already, and is sent the copy or not.
     for hint in [b"".as_slice(), b"hint 4 5 3 2 1 0\n".as_slice()] {
-        let ended = run_all(&rt, [BEFORE_THE_HINT, hint, BEHIND_THE_HINT].as_slice())?;
+        let ended = run_all(&rt, [BEFORE_THE_HINT, hint, AFTER_THE_HINT].as_slice())?;
         let text = hint.escape_ascii();
         assert!(rt; ended.is(0, shown.as_slice(), b""), "{text}");
     }

@@ -27,7 +27,7 @@ pub const SERVER: &[u8] = b"RFB 003.008\n\
     \x00\x00\x00\x00\
     \x02\x00\x04\x00";
 
-/// The picture behind that.
+/// The picture after that.
 pub const PICTURE: &[u8] = b"P6\n2 1\n65535\n\0\0\0\0\0\0\x04\x04\0\0\x02\x02";
 
 /// One update more: the right place, Raw, of the bytes (255, 128, 1).
@@ -36,7 +36,7 @@ pub const MORE: &[u8] = b"\x00\x00\x00\x01\
     \x00\x00\x00\x00\
     \x01\x80\xFF\x00";
 
-/// The picture behind both.
+/// The picture after both.
 pub const LATER_PICTURE: &[u8] = b"P6\n2 1\n65535\n\0\0\0\0\0\0\xFF\xFF\x80\x80\x01\x01";
 
 /// What a viewer of that sends: its version, None, a shared screen, rgb888, Raw alone, and a

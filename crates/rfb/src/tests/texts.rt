@@ -96,7 +96,7 @@ line 18446744073709551615: bad line
 ";
 
 #[test]
-fn a_fault_is_told_by_its_number_and_its_name(rt: HostRuntime) -> Result<(), Fail> {
+fn a_fault_is_reported_by_its_number_and_its_name(rt: HostRuntime) -> Result<(), Fail> {
     let mut of_clients = Vec::new(rt.alloc());
     for fault in OF_CLIENTS {
         add_line(
@@ -127,7 +127,7 @@ fn add_line(failure: Failure, lines: &mut Vec<u8>) -> io::Result<()> {
 }
 
 #[test]
-fn a_refusal_is_told_by_its_line_its_number_and_its_name(rt: HostRuntime) {
+fn a_refusal_is_reported_by_its_line_its_number_and_its_name(rt: HostRuntime) {
     let mut lines = Vec::new(rt.alloc());
     for (line, refused) in [
         (1, Some(Refused::Outside)),

@@ -5,7 +5,7 @@ use std::alloc::Global;
 use std::test::Fail;
 
 // A screen of 17 places of one colour, asked for and composed. A line of the viewer stands second.
-const BEHIND_THE_VIEWER: &[u8] = b"fill 0 0 17 1 FF8001
+const AFTER_THE_VIEWER: &[u8] = b"fill 0 0 17 1 FF8001
 settle
 request full 0 0 17 1
 settle
@@ -25,13 +25,13 @@ const UPDATES: [(&[u8], u32); 9] = [
     (b"viewer bgr233 hextile raw\n", 19),
 ];
 
-// All lines behind such a line of the viewer. A format is refused until the last byte has come.
+// All lines after such a line of the viewer. A format is refused until the last byte has come.
 fn lines_of(alloc: Global, viewer: &[u8], bytes: u32) -> Result<Vec<u8>, Fail> {
     let before = bytes.saturating_sub(1);
     let parts = format!(in alloc; "toviewer {before}\nformat bgr233\ntoviewer 1\nformat rgb565\n")?;
     let mut script = b"screen 17 1\n".to_vec(alloc)?;
     script.extend_from_slice(viewer)?;
-    script.extend_from_slice(BEHIND_THE_VIEWER)?;
+    script.extend_from_slice(AFTER_THE_VIEWER)?;
     script.extend_from_slice(parts.as_bytes())?;
     Ok(script)
 }
@@ -47,7 +47,7 @@ fn an_update_has_the_bytes_of_the_first_encoding(rt: HostRuntime) -> Result<(), 
     Ok(())
 }
 
-// What is told where the update has not come whole.
+// What is reported where the update has not come whole.
 const BUSY: &[u8] = b"line 15: refused 26 Busy\n";
 
 // Two places that the viewer has are copied to two others, and what has changed is composed.

@@ -89,7 +89,7 @@ fn is_mistaken(ended: &Ended) -> bool {
 }
 
 #[test]
-fn bad_words_are_told_on_errors(rt: HostRuntime) {
+fn bad_words_are_reported_on_errors(rt: HostRuntime) {
     for words in BAD_WORDS {
         let ended = call(&rt, words, b"screen 2 1\nsettle\n");
         assert!(rt; is_mistaken(&ended), "{words:?}");
@@ -110,7 +110,7 @@ fn is_help(ended: &Ended) -> bool {
 }
 
 #[test]
-fn bad_encodings_are_told_on_errors(rt: HostRuntime) {
+fn bad_encodings_are_reported_on_errors(rt: HostRuntime) {
     for list in BAD_ENCODINGS {
         let words = ["rfb", "view", "--port", "9", "--encodings", list];
         let ended = call(&rt, words.as_slice(), b"");
@@ -125,7 +125,7 @@ fn bad_encodings_are_told_on_errors(rt: HostRuntime) {
 }
 
 #[test]
-fn help_is_told_on_output(rt: HostRuntime) {
+fn help_is_printed_on_output(rt: HostRuntime) {
     for words in HELP {
         let ended = call(&rt, words, b"");
         assert!(rt; is_help(&ended), "{words:?}");
@@ -133,7 +133,7 @@ fn help_is_told_on_output(rt: HostRuntime) {
 }
 
 #[test]
-fn the_version_is_told_on_output(rt: HostRuntime) {
+fn the_version_is_printed_on_output(rt: HostRuntime) {
     for word in ["--version", "-V"] {
         let ended = call(&rt, &["rfb", word], b"");
         assert!(rt; ended.is(0, b"rfb 0.1.0\n", b""), "{word}");
@@ -141,7 +141,7 @@ fn the_version_is_told_on_output(rt: HostRuntime) {
 }
 
 #[test]
-fn words_that_cannot_be_had_are_told_by_their_reason(rt: HostRuntime) {
+fn words_that_cannot_be_had_are_reported_by_their_reason(rt: HostRuntime) {
     for (kind, status, told) in [
         (
             ErrorKind::InvalidData,

@@ -10,7 +10,7 @@ pub struct Look<'a> {
     /// A name or an address.
     pub host: &'a str,
     pub port: u16,
-    /// After so many seconds waiting ends, if there is a number.
+    /// If there is a number, waiting ends after that many seconds.
     pub timeout: Option<u32>,
     pub sight: Sight,
 }
@@ -19,7 +19,7 @@ pub struct Look<'a> {
 #[derive(Debug, PartialEq, Eq, Drop)]
 pub struct Sight {
     pub wants: Wants,
-    /// After so many updates it ends.
+    /// It ends after this number of updates.
     pub updates: u32,
     /// The server's bytes are written as they come, in place of the picture.
     pub is_recorded: bool,

@@ -4,7 +4,7 @@ use std::fs::{File, Files, OpenFile};
 use std::io::ErrorKind;
 use std::{fs, io};
 
-// So many names are tried for a file beside another.
+// How many names are tried for a file beside another.
 const TRIES: u32 = 100;
 
 /// What is written in place of standard output.

@@ -17,7 +17,7 @@ pub record HasMore (most : ℕ) (pixels : List ℕ) : Type 0 where
   pub there : All (λ pixel. IsPixelOf pixels pixel) some
   pub differ : AllDiffer some
 
--- why a tally of the pixels has no result: so many pixels were allowed, and so many places aside
+-- why a tally of the pixels has no result: `most` pixels were allowed, and `room` places aside
 abbrev pub IsStopped : Stop → ℕ → ℕ → List ℕ → Type 0
 IsStopped Pixels most room pixels = HasMore most pixels
 IsStopped Room most room pixels = room < length pixels
@@ -31,11 +31,11 @@ IsRun pixels start end =
 abbrev pub EndsRun : List ℕ → ℕ → ℕ → Type 0
 EndsRun pixels start end = end < length pixels → slice_index pixels end ≢ slice_index pixels start
 
--- a pixel that so many places have comes before another that most have
+-- a pixel that `count` places have comes before another that `most` have
 abbrev pub Leads : ℕ → ℕ → ℕ → ℕ → Type 0
 Leads count pixel most better = (most < count) ⊎ ((most ≡ count) × (pixel < better))
 
--- of these places beside a pixel that so many places have: the pixel that the most have, the least
+-- of these places beside a pixel that `most` places have: the pixel that the most have, the least
 -- of those
 pub record IsLed (aside : List ℕ) (better most result : ℕ) : Type 0 where
   pub count : ℕ
@@ -46,13 +46,13 @@ pub record IsLed (aside : List ℕ) (better most result : ℕ) : Type 0 where
   pub tied : (other : ℕ) → 0 < places_of other aside → places_of other aside ≡ count →
       result ≤ other
 
--- how many of the first places have another pixel than the place behind them
+-- how many of the first places have another pixel than the place after them
 abbrev pub changes_in : List ℕ → ℕ → ℕ
 changes_in pixels zero = 0
 changes_in pixels (suc n) =
     changes_in pixels n + (if slice_index pixels (n + 1) == slice_index pixels n then 0 else 1)
 
--- three places of four, or more, have another pixel than the place behind them
+-- three places of four, or more, have another pixel than the place after them
 abbrev pub is_restless : List ℕ → Bool
 is_restless pixels = nat_le (length pixels * 3) (changes_in pixels (length pixels - 1) * 4)
 

@@ -8,7 +8,7 @@ use Rattle.rfb_codec.specs.declared.hextile.encode.carried.Carried.{Carried}
 use Rattle.rfb_codec.specs.Tile.{Tile, background_of, foreground_of, last_of, tile_pixel, FitsTile, SpellsTile}
 use Rattle.rfb_codec.specs.inside.TileSpelling.{tile_of, tile_bytes}
 use Rattle.rfb_codec.specs.HextileRule.{Held}
-use Rattle.rfb_codec.specs.Hextile.{behind_last, is_raw_tile, is_raw_or_colored, NoneIs, KeepsRule}
+use Rattle.rfb_codec.specs.Hextile.{after_last, is_raw_tile, is_raw_or_colored, NoneIs, KeepsRule}
 
 -- what is remembered, as the rule has it
 abbrev pub held_of : Carried → Held
@@ -20,7 +20,7 @@ held_of carried =
 pub record IsCarried (colour : Tile → Option ℕ) (stops : Tile → Bool) (before : List Tile)
     (value : ℕ) : Type 0 where
   pub in_force : last_of colour before ≡ Some value
-  pub unbroken : NoneIs stops (behind_last colour before)
+  pub unbroken : NoneIs stops (after_last colour before)
 
 -- the same, where a colour is remembered
 abbrev pub IsCarriedIf : (Tile → Option ℕ) → (Tile → Bool) → List Tile → Option ℕ → Type 0

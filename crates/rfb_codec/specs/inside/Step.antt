@@ -49,7 +49,7 @@ StandsPixels f rect at pending now before body =
 abbrev pub first_of_row : ℕ → ℕ → ℕ
 first_of_row width row = row * width + 0
 
--- the bytes are painted as the pixels after so many of the rectangle's
+-- the bytes are painted as the pixels after the first `from` of the rectangle's
 abbrev pub PaintsRun : PixelFormat → Rect → ℕ → ℕ → List ℕ → Grid Colour → Grid Colour → Type 0
 PaintsRun f rect from count bytes old new =
     (pixels : List ℕ) (before : Grid Colour) → length pixels ≡ from * size_of f →
@@ -63,7 +63,7 @@ pub record IsGoodTile (f : PixelFormat) (rect : Rect) (n : ℕ) (read : TileRead
   pub inside : AreInside (tile_width rect.w n) (tile_height rect.w rect.h n)
       (places_of (tile_of_read f (tile_width rect.w n) (tile_height rect.w rect.h n) read bytes))
 
--- what is told of the rectangle's next tile is what the reading gives
+-- the result for the rectangle's next tile is what the reading gives
 abbrev pub TellsNext : PixelFormat → Rect → ℕ → Seen → List ℕ → Result (Option TileRead)
     PaintFault → Type 0
 TellsNext f rect n seen bytes result =

@@ -15,7 +15,7 @@ use Rattle.rfb_codec.specs.Raw.{raw_length}
 use Rattle.rfb_codec.specs.Tile.{Tile, RawTile, PlainTile, ColoredTile, background_specified, foreground_specified, any_subrects, subrects_colored, in_pixel, AreInside, places_of, place_of, colored_of}
 use Rattle.rfb_codec.specs.Hextile.{tile_count, next_tile}
 
--- so many values, one behind another, of so many bytes each
+-- `n` values, one after another, of `unit` bytes each
 abbrev pub values_in : {A : Type 0} → (List ℕ → A) → ℕ → ℕ → List ℕ → List A
 values_in value unit zero bytes = []
 values_in value unit (suc n) bytes =
@@ -48,7 +48,7 @@ abbrev pub tile_of_read : PixelFormat → ℕ → ℕ → TileRead → List ℕ 
 tile_of_read f width height read bytes =
     tile_in f width height read.layout read.list read.count bytes
 
--- what is told of a tile is what the reading gives
+-- the result for a tile is what the reading gives
 abbrev pub TellsTile : PixelFormat → ℕ → ℕ → List ℕ → Result (Option TileRead) PaintFault →
     Next Tile PaintFault → Type 0
 TellsTile f width height bytes (Ok None) next = next ≡ More
@@ -80,10 +80,10 @@ abbrev pub sub_size : PixelFormat → Bool → ℕ
 sub_size f false = 2
 sub_size f true = size_of f + 2
 
--- the subrectangle behind so many others, where one without a pixel of its own has this foreground
-abbrev pub sub_behind : PixelFormat → ℕ → Bool → ℕ → List ℕ → Subrect
-sub_behind f foreground false n list = in_pixel foreground (place_of (take 2 (drop (n * 2) list)))
-sub_behind f foreground true n list =
+-- the subrectangle after `n` others, where one without a pixel of its own has this foreground
+abbrev pub sub_after : PixelFormat → ℕ → Bool → ℕ → List ℕ → Subrect
+sub_after f foreground false n list = in_pixel foreground (place_of (take 2 (drop (n * 2) list)))
+sub_after f foreground true n list =
     colored_of f (take (size_of f + 2) (drop (n * (size_of f + 2)) list))
 
 -- the subrectangles of a tile, where those without a pixel of their own have this foreground
@@ -91,21 +91,21 @@ abbrev pub subs_in : PixelFormat → ℕ → Bool → ℕ → List ℕ → List 
 subs_in f foreground false count list = map (in_pixel foreground) (values_in place_of 2 count list)
 subs_in f foreground true count list = values_in (colored_of f) (size_of f + 2) count list
 
--- so many are there, and none of them leaves the tile
+-- `count` are there, and none of them leaves the tile
 pub record AreSubsInside (f : PixelFormat) (width height foreground : ℕ) (colored : Bool)
     (count : ℕ) (list : List ℕ) : Type 0 where
   pub enough : count * sub_size f colored ≤ length list
   pub inside : (n : ℕ) → n < count →
-      IsOnScreen width height (sub_behind f foreground colored n list).rect
+      IsOnScreen width height (sub_after f foreground colored n list).rect
 
--- how many subrectangles there are, and where they begin: behind the byte at that place, if there
--- is one
+-- how many subrectangles there are, and where they begin: after the byte at that place, if there is
+-- one
 abbrev pub IsCount : Bool → ℕ → List ℕ → ℕ → ℕ → Type 0
 IsCount false at bytes count list = (count ≡ 0) × (list ≡ at)
 IsCount true at bytes count list =
     (count ≡ slice_index bytes at) × (list ≡ at + 1) × (at < length bytes)
 
--- so many places, each behind so many bytes of a pixel
+-- `n` places, each after `skip` bytes of a pixel
 abbrev pub places_from : ℕ → ℕ → List ℕ → List Rect
 places_from skip zero list = []
 places_from skip (suc n) list =

@@ -34,16 +34,16 @@ abbrev pub own_place : Subrect → List ℕ
 own_place s = place_bytes s.rect
 
 -- what follows the mask
-abbrev pub behind_bytes : PixelFormat → TileLayout → List ℕ → List Subrect → List ℕ
-behind_bytes f Raw pixels subs = flat_map (pixel_bytes f) pixels
-behind_bytes f (Plain background foreground) pixels subs =
+abbrev pub after_bytes : PixelFormat → TileLayout → List ℕ → List Subrect → List ℕ
+after_bytes f Raw pixels subs = flat_map (pixel_bytes f) pixels
+after_bytes f (Plain background foreground) pixels subs =
     colour_bytes f background ++ (colour_bytes f foreground ++ counted_bytes own_place subs)
-behind_bytes f (Colored background) pixels subs =
+after_bytes f (Colored background) pixels subs =
     colour_bytes f background ++ counted_bytes (colored_bytes f) subs
 
 -- the bytes of the tile
 abbrev pub tile_bytes : PixelFormat → TileLayout → List ℕ → List Subrect → List ℕ
-tile_bytes f layout pixels subs = mask_of layout subs ∷ behind_bytes f layout pixels subs
+tile_bytes f layout pixels subs = mask_of layout subs ∷ after_bytes f layout pixels subs
 
 -- ---- what the subrectangles of a tile have to be
 

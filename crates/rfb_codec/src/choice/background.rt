@@ -93,7 +93,7 @@ fn has_more<const SLOTS: usize>(pixels: &[u32], most: usize) -> bool
     false
 }
 
-// Whether three places of four, or more, have another pixel than the place behind them, as in noise,
+// Whether three places of four, or more, have another pixel than the place after them, as in noise,
 // or in a photograph.
 fn is_restless(pixels: &[u32]) -> bool
     requires some { 0 < length pixels.now }
@@ -103,7 +103,7 @@ fn is_restless(pixels: &[u32]) -> bool
     changes_in(pixels) * 4 >= pixels.len() * 3
 }
 
-// How many places have another pixel than the place behind them, if there is one. All are counted,
+// How many places have another pixel than the place after them, if there is one. All are counted,
 // which goes by vectors.
 fn changes_in(pixels: &[u32]) -> usize
     requires some { 0 < length pixels.now }

@@ -1,4 +1,4 @@
-//! The tiles that Hextile cuts a rectangle into, RFC 6143 section 7.7.4.
+//! The tiles that Hextile splits a rectangle into, RFC 6143 section 7.7.4.
 
 ghost use Rattle.std.specs.Prelude.{◌≡◌, ◌<◌, ◌≤◌, ◌*◌, ◌/◌, ◌%◌};
 ghost use Rattle.rfb_wire.specs.RectHead.{IsOnScreen};
@@ -9,7 +9,7 @@ use rfb_picture::Rect;
 /// How many columns and rows a tile has, but for those at the right and at the lower edge.
 pub const TILE: u16 = 16;
 
-// How many tiles lie along so many places.
+// How many tiles lie along `places` places.
 fn tiles_along(places: u16) -> usize
     ensures value { result ≡ across places }
     ensures few { result ≤ 4096 }

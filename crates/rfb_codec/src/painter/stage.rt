@@ -20,7 +20,7 @@ pub enum Stage {
     InPixels { at: Place },
     /// RRE: the number of subrectangles, and the background.
     BeforeHead,
-    /// RRE: one of so many subrectangles.
+    /// RRE: one of the subrectangles that are left.
     InSubrects { left: u32 },
     /// Hextile: the tile with this number, after tiles that specified the colours seen.
     InTiles { tile: usize, seen: Seen },

@@ -48,12 +48,12 @@ const LAST_WINS: [u8; 23] = [
     0x38, 0, 1, 0, 0, 0, 2, 0, 1, // green at x-position 1
 ];
 
-// The data are all there, and have so many bytes.
+// The data are all there, and have `used` bytes.
 const fn done(used: usize) -> Result<Painted, PaintFault> {
     Ok(Painted { used, done: true })
 }
 
-// They are not, and so many bytes came.
+// They are not, and `used` bytes came.
 const fn more(used: usize) -> Result<Painted, PaintFault> {
     Ok(Painted { used, done: false })
 }
@@ -161,7 +161,7 @@ fn paints_in(
     Ok(told == answer && has_last(&picture, last))
 }
 
-// The same of data that are cut at each place, or come in slices of one size.
+// The same of data that are split at each byte, or come in slices of one size.
 fn paints_last(
     alloc: Global,
     ground: Ground,

@@ -78,8 +78,8 @@ fn append_pixels(out: &mut Vec<u8>, format: &Format, pixels: &[u32])
     append_within(out, &bytes[..length]);
 }
 
-/// Writes the bytes of each pixel. The format that most screens are sent in is told apart, so that
-/// its loop is compiled for its size.
+/// Writes the bytes of each pixel. The format that most screens are sent in is treated apart, so
+/// that its loop is compiled for its size.
 pub fn put_pixels(format: &Format, pixels: &[u32], bytes: &mut [u8])
     requires { length bytes.old ≡ length pixels.now * size_of format.now }
     ensures { bytes.new ≡ flat_map (pixel_bytes format.now) pixels.now }

@@ -51,8 +51,8 @@ fn rows_in(format: Format, rect: Rect, bytes: &[u8], picture: &mut Picture<Colou
     }
 }
 
-/// Paints so many whole rows of the rectangle, from a row on, whose pixels stand after those of
-/// the rows above.
+/// Paints `count` whole rows of the rectangle, from the row `top` on, whose pixels stand after
+/// those of the rows above.
 pub fn paint_lines(
     format: Format,
     rect: Rect,
@@ -111,7 +111,7 @@ fn lines_in(
     }
 }
 
-/// Paints so many pixels of one row of the rectangle, from a place on, which stand after those of
+/// Paints `count` pixels of one row of the rectangle, from a place on, which stand after those of
 /// the places before it.
 #[inline(always)]
 pub fn paint_run(

@@ -107,7 +107,7 @@ pub fn take_run(
     }
 }
 
-// How many whole rows of so many pixels bytes begin with, at most so many.
+// How many whole rows of `width` pixels bytes begin with, at most `most`.
 fn whole_rows(width: u16, most: u16, size: usize, bytes: &[u8]) -> u16
     requires size { (0 < size) × (size ≤ 4) }
     requires some { 0 < width }
@@ -122,7 +122,7 @@ fn whole_rows(width: u16, most: u16, size: usize, bytes: &[u8]) -> u16
     }
 }
 
-// How many whole pixels of that size bytes begin with, at most so many.
+// How many whole pixels of that size bytes begin with, at most `most`.
 fn whole_pixels(most: u16, size: usize, bytes: &[u8]) -> u16
     requires size { (0 < size) × (size ≤ 4) }
     requires most { 0 < most }
@@ -138,7 +138,7 @@ fn whole_pixels(most: u16, size: usize, bytes: &[u8]) -> u16
     }
 }
 
-// The place after so many of a row.
+// The place that comes `count` places later in a row.
 fn place_after(width: u16, at: Place, count: u16) -> Place
     requires row { at.x + count ≤ width }
     requires some { 0 < width }

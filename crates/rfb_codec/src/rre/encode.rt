@@ -23,7 +23,7 @@ use rfb_picture::Rect;
 use rfb_pixel::Format;
 use rfb_wire::pieces::append_within;
 
-// Blocks of up to so many places are encoded with a small list of subrectangles.
+// Blocks of up to this number of places are encoded with a small list of subrectangles.
 const SMALL: usize = 256;
 
 // A third of the places, and so no fewer than can be shorter than Raw: a subrectangle is at least

@@ -114,7 +114,7 @@ pub fn take_subrect(
     })
 }
 
-// Takes the whole subrectangles that the bytes begin with, at most so many. `SubrectOutside` at the
+// Takes the whole subrectangles that the bytes begin with, at most `left`. `SubrectOutside` at the
 // first that leaves the rectangle.
 fn take_whole(
     format: Format,

@@ -15,7 +15,7 @@ part_in (Done version shared) = 0
 part_in (Failed fault) = 0
 
 -- what comes next of a client that goes by this version
-abbrev pub progress_behind : Version → Progress
-progress_behind V33 = Init V33
-progress_behind V37 = Choice V37
-progress_behind V38 = Choice V38
+abbrev pub progress_after : Version → Progress
+progress_after V33 = Init V33
+progress_after V37 = Choice V37
+progress_after V38 = Choice V38

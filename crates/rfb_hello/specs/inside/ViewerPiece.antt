@@ -14,7 +14,7 @@ use Rattle.rfb_hello.specs.declared.viewer_hello.progress.Progress.{Progress}
 use Rattle.rfb_hello.specs.declared.viewer_hello.progress.Progress.TheVariants.{Version as VersionPart, Word, Count, Types, Result as ResultPart, ReasonLength, Reason, Init, Name, Done, Failed}
 use Rattle.rfb_hello.specs.KeptText.{kept_of}
 use Rattle.rfb_hello.specs.ViewerEnd.{ViewerSetup, AsksMemory, viewer_end}
-use Rattle.rfb_hello.specs.ViewerStanding.{KeepsReason, StandsFor, fault_of, goes_on_behind, is_open, setup_of}
+use Rattle.rfb_hello.specs.ViewerStanding.{KeepsReason, StandsFor, fault_of, goes_on_after, is_open, setup_of}
 
 -- bytes of one item are a step of the machine, where memory is not wanting
 abbrev pub StepsAs : ViewerHello → List ℕ → Result (Option ViewerStep) HelloFault → ViewerHello →
@@ -37,13 +37,13 @@ pub record TakesPiece (old : ViewerHello) (bytes : List ℕ) (used : ℕ)
   pub within : used ≤ length bytes
   pub steps : StepsAs old (take used bytes) event new
   pub memory : RunsOutAs old (take used bytes) event
-  pub goes : IfOk event (λ e. is_open new ≡ goes_on_behind e)
+  pub goes : IfOk event (λ e. is_open new ≡ goes_on_after e)
   pub going : IfOk event (λ e. fault_of new ≡ None)
   pub fails : IfErr event (λ fault. fault_of new ≡ Some fault)
   pub reason : IfErr event (λ fault. KeepsReason fault old (take used bytes) new)
   pub setup : setup_of new ≡ setup_of old
 
--- ---- what a part leaves behind it
+-- ---- what a part leaves after it
 
 -- the fault that a reason of that length is given for
 abbrev pub fault_for : Cause → ℕ → HelloFault
@@ -65,19 +65,19 @@ part_in Done = 0
 part_in (Failed fault kept) = 0
 
 -- what comes next of a server with which a version is used
-abbrev pub progress_behind_version : Version → Progress
-progress_behind_version V33 = Word (record { items = [] })
-progress_behind_version V37 = Count V37
-progress_behind_version V38 = Count V38
+abbrev pub progress_after_version : Version → Progress
+progress_after_version V33 = Word (record { items = [] })
+progress_after_version V37 = Count V37
+progress_after_version V38 = Count V38
 
 -- of one that offered None in a list
-abbrev pub progress_behind_types : Version → Progress
-progress_behind_types V33 = Init V33 (record { items = [] })
-progress_behind_types V37 = Init V37 (record { items = [] })
-progress_behind_types V38 = ResultPart V38 (record { items = [] })
+abbrev pub progress_after_types : Version → Progress
+progress_after_types V33 = Init V33 (record { items = [] })
+progress_after_types V37 = Init V37 (record { items = [] })
+progress_after_types V38 = ResultPart V38 (record { items = [] })
 
 -- of one that told its screen, and how many bytes its name has
-abbrev pub progress_behind_init : ℕ → Version → ℕ → ℕ → ℕ → Progress
-progress_behind_init limit version width height zero = Done
-progress_behind_init limit version width height (suc n) =
+abbrev pub progress_after_init : ℕ → Version → ℕ → ℕ → ℕ → Progress
+progress_after_init limit version width height zero = Done
+progress_after_init limit version width height (suc n) =
     Name version width height (suc n) n (kept_of limit (suc n) [])

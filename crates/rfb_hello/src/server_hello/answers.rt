@@ -5,7 +5,7 @@ ghost use Rattle.std.specs.Result.{result_err};
 ghost use Rattle.rfb_hello.specs.Version.{version_of};
 ghost use Rattle.rfb_hello.specs.ClientHandshake.{client_version_fault};
 ghost use Rattle.rfb_hello.specs.ServerEnd.{as_reply, security_bytes};
-ghost use Rattle.rfb_hello.specs.inside.ServerPiece.{progress_behind};
+ghost use Rattle.rfb_hello.specs.inside.ServerPiece.{progress_after};
 
 use crate::fault::HelloFault;
 use crate::pieces::{SECURITY_NONE, reply_of};
@@ -28,8 +28,8 @@ pub fn offered(offer: Version, text: &[u8]) -> Result<Version, HelloFault>
 }
 
 /// What comes next of a client that goes by this version.
-pub fn behind_version(version: Version) -> Progress
-    ensures { result ≡ progress_behind version }
+pub fn after_version(version: Version) -> Progress
+    ensures { result ≡ progress_after version }
 {
     match version {
         Version::V33 => Progress::Init(version),

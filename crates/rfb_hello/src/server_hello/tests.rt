@@ -169,7 +169,7 @@ fn is_done_at(hello: &mut ServerHello, init: &[u8], shares: bool) -> bool {
     }
 }
 
-// Whether no byte is taken, and nothing is told.
+// Whether no byte is taken, with no event.
 fn is_passed(hello: &mut ServerHello, bytes: &[u8]) -> bool {
     match feed(hello, bytes) {
         Ok(Fed { used, event }) => used == 0 && event.is_none(),

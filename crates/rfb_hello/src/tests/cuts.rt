@@ -1,5 +1,5 @@
 //! Both ends are fed their streams whole, byte by byte, in two slices, and damaged: what they tell
-//! doesn't depend on the cut.
+//! doesn't depend on where they are split.
 
 use super::ends::{feed_server, feed_viewer, reason_of, server_of, viewer_of};
 use crate::{Fed, HelloFault, ServerHello, Version, ViewerHello};
@@ -98,7 +98,7 @@ impl End {
         Ok(Some(rest.len()))
     }
 
-    // The same of a stream that is cut after its first bytes and then at a fixed size.
+    // The same of a stream that is split after its first bytes and then at a fixed size.
     fn feed_slices(
         &mut self,
         alloc: Global,
@@ -148,7 +148,7 @@ impl End {
     }
 }
 
-// All that an end tells of a stream, cut after its first bytes and then at a fixed size.
+// All that an end tells of a stream, split after its first bytes and then at a fixed size.
 fn told(
     alloc: Global,
     server: bool,
@@ -178,13 +178,13 @@ fn tells(
 }
 
 // Whether it tells byte by byte what it tells of the whole.
-fn is_told_byte_by_byte(alloc: Global, server: bool, stream: &[u8]) -> Result<bool, AllocError> {
+fn is_same_byte_by_byte(alloc: Global, server: bool, stream: &[u8]) -> Result<bool, AllocError> {
     let whole = told(alloc, server, stream, stream.len(), 1)?;
     tells(alloc, server, stream, 1, 1, &whole)
 }
 
-// The same in two slices, cut at each place.
-fn is_told_in_two(alloc: Global, server: bool, stream: &[u8]) -> Result<bool, AllocError> {
+// The same in two slices, split at each byte.
+fn is_same_in_two(alloc: Global, server: bool, stream: &[u8]) -> Result<bool, AllocError> {
     let whole = told(alloc, server, stream, stream.len(), 1)?;
     let mut good = true;
     for cut in 0..stream.len() {
@@ -193,23 +193,23 @@ fn is_told_in_two(alloc: Global, server: bool, stream: &[u8]) -> Result<bool, Al
     Ok(good)
 }
 
-fn is_told_at_cuts(alloc: Global, server: bool, stream: &[u8]) -> Result<bool, AllocError> {
-    Ok(is_told_byte_by_byte(alloc, server, stream)? && is_told_in_two(alloc, server, stream)?)
+fn is_same_at_all_splits(alloc: Global, server: bool, stream: &[u8]) -> Result<bool, AllocError> {
+    Ok(is_same_byte_by_byte(alloc, server, stream)? && is_same_in_two(alloc, server, stream)?)
 }
 
 #[test]
-fn what_is_told_does_not_depend_on_the_cut(rt: HostRuntime) -> Result<(), AllocError> {
+fn events_do_not_depend_on_how_bytes_are_split(rt: HostRuntime) -> Result<(), AllocError> {
     for stream in CLIENTS {
-        assert!(rt; is_told_at_cuts(rt.alloc(), true, stream)?);
+        assert!(rt; is_same_at_all_splits(rt.alloc(), true, stream)?);
     }
     for stream in SERVERS {
-        assert!(rt; is_told_at_cuts(rt.alloc(), false, stream)?);
+        assert!(rt; is_same_at_all_splits(rt.alloc(), false, stream)?);
     }
     Ok(())
 }
 
-// Whether it is told byte by byte as whole where its byte at this place is another.
-fn is_told_with(
+// Whether the events are the same byte by byte and whole where its byte at this offset is another.
+fn is_same_with(
     alloc: Global,
     server: bool,
     stream: &[u8],
@@ -220,15 +220,15 @@ fn is_told_with(
     if let Some(byte) = damaged.get_mut(place) {
         *byte = damage;
     }
-    is_told_byte_by_byte(alloc, server, &damaged)
+    is_same_byte_by_byte(alloc, server, &damaged)
 }
 
 // The same where each byte in turn is 00, and FF.
-fn is_told_damaged(alloc: Global, server: bool, stream: &[u8]) -> Result<bool, AllocError> {
+fn is_same_damaged(alloc: Global, server: bool, stream: &[u8]) -> Result<bool, AllocError> {
     let mut good = true;
     for place in 0..stream.len() {
-        good &= is_told_with(alloc, server, stream, place, 0)?;
-        good &= is_told_with(alloc, server, stream, place, 0xFF)?;
+        good &= is_same_with(alloc, server, stream, place, 0)?;
+        good &= is_same_with(alloc, server, stream, place, 0xFF)?;
     }
     Ok(good)
 }
@@ -236,10 +236,10 @@ fn is_told_damaged(alloc: Global, server: bool, stream: &[u8]) -> Result<bool, A
 #[test]
 fn nor_does_it_where_a_byte_is_damaged(rt: HostRuntime) -> Result<(), AllocError> {
     for stream in CLIENTS {
-        assert!(rt; is_told_damaged(rt.alloc(), true, stream)?);
+        assert!(rt; is_same_damaged(rt.alloc(), true, stream)?);
     }
     for stream in SERVERS {
-        assert!(rt; is_told_damaged(rt.alloc(), false, stream)?);
+        assert!(rt; is_same_damaged(rt.alloc(), false, stream)?);
     }
     Ok(())
 }

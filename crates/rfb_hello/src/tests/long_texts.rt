@@ -10,7 +10,7 @@ const BEGUN: [&[u8]; 2] = [b"RFB 003.003\n", b"\0\0\0\x01"];
 // ServerInit of a screen of 1 by 1 whose name has 4,294,967,295 bytes.
 const LONGEST_NAME: &[u8] = b"\0\x01\0\x01................\xFF\xFF\xFF\xFF";
 
-// Whether something is told of bytes.
+// Whether bytes give an event.
 fn tells(hello: &mut ViewerHello, bytes: &[u8]) -> bool {
     match feed(hello, bytes) {
         Ok(Fed { event, .. }) => event.is_some(),
@@ -18,7 +18,7 @@ fn tells(hello: &mut ViewerHello, bytes: &[u8]) -> bool {
     }
 }
 
-// Whether so many of the bytes are taken, and nothing is told of them.
+// Whether `wanted` of the bytes are taken, with no event.
 fn takes(hello: &mut ViewerHello, bytes: &[u8], wanted: usize) -> bool {
     match feed(hello, bytes) {
         Ok(Fed { used, event }) => used == wanted && event.is_none(),
@@ -84,8 +84,8 @@ fn ends_as(hello: &mut ViewerHello, bytes: &[u8], wanted: Option<HelloFault>) ->
     }
 }
 
-// Whether a screen is judged at the last of the twenty bytes behind its size, which end in a name
-// of no bytes.
+// Whether a screen is judged at the last of the twenty bytes after its size, which end in a name of
+// no bytes.
 fn judges(hello: &mut ViewerHello, size: &[u8], wanted: Option<HelloFault>) -> bool {
     has_begun(hello)
         && takes(hello, size, 4)
@@ -124,7 +124,7 @@ fn is_refused(alloc: Global, size: &[u8], length: &[u8], wanted: HelloFault) -> 
 }
 
 #[test]
-fn a_refused_screen_is_told_of_whatever_name_it_has(rt: HostRuntime) {
+fn a_refused_screen_is_reported_of_whatever_name_it_has(rt: HostRuntime) {
     let screens = [
         (b"\0\0\0\x01", HelloFault::ScreenEmpty),
         (b"\0\x01\0\0", HelloFault::ScreenEmpty),

@@ -42,7 +42,7 @@ const CLIENT: (&[u8], &[usize]) = (
     &[1, 2, 3, 4, 5, 6, 7, 8, 9, 10, 11, 0, 0, 0],
 );
 
-// Whether each byte is taken where the end is open, and so many are pending behind it.
+// Whether each byte is taken where the end is open, and after it as many are pending as are wanted.
 fn viewer_keeps(hello: &mut ViewerHello, stream: &[u8], pending: &[usize]) -> bool {
     let mut good = stream.len() == pending.len();
     for (byte, wanted) in stream.chunks(1).zip(pending) {
@@ -68,8 +68,8 @@ fn a_viewer_keeps_what_stands_after_the_last_whole_piece(rt: HostRuntime) {
     }
 }
 
-// Whether each byte is taken where the end is open, and so many are pending behind it; and whether
-// it is not open behind the last.
+// Whether each byte is taken where the end is open, and after it as many are pending as are wanted;
+// and whether it is not open after the last.
 fn server_keeps(hello: &mut ServerHello, stream: &[u8], pending: &[usize]) -> bool {
     let mut good = stream.len() == pending.len();
     for (byte, wanted) in stream.chunks(1).zip(pending) {
@@ -99,8 +99,8 @@ const DONE: [&[u8]; 3] = [
     b"\0\x01\0\x01................\0\0\0\0",
 ];
 
-// Whether each slice is taken where the end is open, and it is not open behind the last.
-fn is_closed_behind(hello: &mut ViewerHello, slices: [&[u8]; 3]) -> bool {
+// Whether each slice is taken where the end is open, and it is not open after the last.
+fn is_closed_after(hello: &mut ViewerHello, slices: [&[u8]; 3]) -> bool {
     let mut good = true;
     for bytes in slices {
         good &= is_viewer_open(hello) && viewer_fault(hello, bytes).is_none();
@@ -110,7 +110,7 @@ fn is_closed_behind(hello: &mut ViewerHello, slices: [&[u8]; 3]) -> bool {
 
 fn is_done(alloc: Global) -> bool {
     let mut hello = viewer_of(alloc, Version::V38, 16, 1);
-    let good = is_closed_behind(&mut hello, DONE);
+    let good = is_closed_after(&mut hello, DONE);
     drop(hello);
     good
 }

@@ -8,7 +8,7 @@ ghost use Rattle.rfb_hello.specs.Version.{lower};
 ghost use Rattle.rfb_hello.specs.ViewerEnd.{ViewerSetup, viewer_end, choice_bytes, shared_flag};
 ghost use Rattle.rfb_hello.specs.ViewerStanding.{StandsFor, is_open, setup_of};
 ghost use Rattle.rfb_hello.specs.inside.ViewerPiece.{TakesPiece};
-ghost use Rattle.rfb_hello.specs.inside.ViewerPiece.{progress_behind_version, progress_behind_types};
+ghost use Rattle.rfb_hello.specs.inside.ViewerPiece.{progress_after_version, progress_after_types};
 ghost use Rattle.rfb_hello.specs.declared.viewer_hello.progress.Progress.{Progress};
 
 use crate::fault::HelloFault;
@@ -42,7 +42,7 @@ impl ViewerHello {
             return (used, Err(self.fail(HelloFault::BadVersion)));
         };
         let version = lower(self.limit, version);
-        self.progress = behind_version(version);
+        self.progress = after_version(version);
         (used, Ok(Some(ViewerStep::Reply(reply_of(&version.text())))))
     }
 
@@ -123,7 +123,7 @@ impl ViewerHello {
         if !(*none || has_none(&bytes[..missing])) {
             return (missing, Err(self.fail(HelloFault::NoneNotOffered)));
         }
-        self.progress = behind_types(version);
+        self.progress = after_types(version);
         let reply = choice(version, self.shared);
         (missing, Ok(Some(ViewerStep::Reply(reply))))
     }
@@ -162,8 +162,8 @@ fn lower(a: Version, b: Version) -> Version
 }
 
 // What comes next of a server with which this version is used.
-fn behind_version(version: Version) -> Progress
-    ensures { result ≡ progress_behind_version version }
+fn after_version(version: Version) -> Progress
+    ensures { result ≡ progress_after_version version }
 {
     match version {
         Version::V33 => Progress::Word(ArrayVec::new()),
@@ -172,8 +172,8 @@ fn behind_version(version: Version) -> Progress
 }
 
 // What comes next of a server that offered None in a list.
-fn behind_types(version: Version) -> Progress
-    ensures { result ≡ progress_behind_types version }
+fn after_types(version: Version) -> Progress
+    ensures { result ≡ progress_after_types version }
 {
     match version {
         Version::V33 | Version::V37 => Progress::Init(version, ArrayVec::new()),

@@ -5,10 +5,10 @@ ghost use Rattle.arrayvec.specs.ArrayVec.{ArrayVec as Items};
 ghost use Rattle.rfb_hello.specs.KeptText.{KeptText, kept_of};
 ghost use Rattle.rfb_hello.specs.ServerReading.{screen_fault};
 ghost use Rattle.rfb_hello.specs.ViewerEnd.{told_of_init};
-ghost use Rattle.rfb_hello.specs.ViewerStanding.{goes_on_behind};
+ghost use Rattle.rfb_hello.specs.ViewerStanding.{goes_on_after};
 ghost use Rattle.rfb_hello.specs.inside.ViewerPiece.{TakesPiece};
 ghost use Rattle.rfb_hello.specs.ViewerProgress.{is_open as goes_on};
-ghost use Rattle.rfb_hello.specs.inside.ViewerPiece.{progress_behind_init};
+ghost use Rattle.rfb_hello.specs.inside.ViewerPiece.{progress_after_init};
 ghost use Rattle.rfb_hello.specs.declared.viewer_hello.progress.Progress.{Progress};
 ghost use Rattle.rfb_hello.specs.declared.viewer_hello.progress.Cause.{Cause};
 
@@ -115,7 +115,7 @@ impl ViewerHello {
         let width = BigEndian::read_u16(init);
         let height = BigEndian::read_u16(&init[2..]);
         let length = BigEndian::read_u32(&init[20..]);
-        let Ok((progress, step)) = self.behind_init(version, width, height, length) else {
+        let Ok((progress, step)) = self.after_init(version, width, height, length) else {
             return (used, Err(self.fail(HelloFault::NoMemory)));
         };
         self.progress = progress;
@@ -124,19 +124,19 @@ impl ViewerHello {
 
     // What comes next of a server that sent its screen and the length of its name, and the step
     // that the viewer returns.
-    fn behind_init(
+    fn after_init(
         &self,
         version: Version,
         width: u16,
         height: u16,
         length: u32,
     ) -> Result<(Progress, ViewerStep), AllocError>
-        ensures progress { IfOk result (λ behind.
-            behind.0 ≡ progress_behind_init self.now.text_limit version width height length) }
-        ensures told { IfOk result (λ behind.
-            behind.1 ≡ told_of_init self.now.text_limit version width height length) }
-        ensures open { IfOk result (λ behind.
-            goes_on behind.0 ≡ goes_on_behind (Some behind.1)) }
+        ensures progress { IfOk result (λ after.
+            after.0 ≡ progress_after_init self.now.text_limit version width height length) }
+        ensures told { IfOk result (λ after.
+            after.1 ≡ told_of_init self.now.text_limit version width height length) }
+        ensures open { IfOk result (λ after.
+            goes_on after.0 ≡ goes_on_after (Some after.1)) }
         ensures asked { IfErr result (λ _. 0 < length) }
     {
         let Some(more) = length.checked_sub(1) else {

@@ -151,8 +151,8 @@ fn lends_its_sets(area: &mut Area) -> bool {
         && has_bits(area.whole(), 64, 1)
 }
 
-// Under cells that became whole, and under those of a set that was cleared, marks of
-// earlier additions stay behind.
+// Under cells that became whole, and under those of a set that was cleared, marks of earlier
+// additions are still there.
 #[test]
 fn marks_of_earlier_additions_never_show(rt: HostRuntime) -> Result<(), AllocError> {
     let mut numbers = Numbers { state: 11 };
@@ -268,7 +268,7 @@ fn has_no_place(area: &mut Area) -> bool {
 }
 
 #[test]
-fn the_last_place_of_the_largest_area_is_told(rt: HostRuntime) -> Result<(), AllocError> {
+fn the_last_place_of_the_largest_area_is_found(rt: HostRuntime) -> Result<(), AllocError> {
     let mut area = area_of(rt.alloc(), 65_535, 2)?;
     assert!(rt; tells_its_last_place(&mut area));
     drop(area);

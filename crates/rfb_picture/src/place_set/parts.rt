@@ -6,7 +6,7 @@ ghost use Rattle.rfb_picture.specs.inside.Cells.{IsOfCells, IsParts};
 
 use crate::rect::Rect;
 
-/// A rectangle, cut into the places of the cells that it has whole, and what lies about them.
+/// A rectangle, split into the places of the cells that it has whole, and what lies about them.
 #[derive(Clone, Copy, Drop)]
 pub(super) struct Parts {
     pub inner: Rect,
@@ -57,7 +57,7 @@ pub(super) fn parts_of(rect: Rect, width: u16, height: u16) -> Parts
     }
 }
 
-// So many places of a row or a column, from one on.
+// `count` places of a row or a column, from one on.
 #[derive(Clone, Copy, Drop)]
 struct Span {
     first: u16,

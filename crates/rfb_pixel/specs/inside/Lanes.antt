@@ -1,4 +1,4 @@
--- Eight colours in three vectors, whose components stand one behind another.
+-- Eight colours in three vectors, whose components stand one after another.
 use Rattle.std.specs.Prelude.{ℕ, List, [], ◌∷◌, slice_index}
 use Rattle.rfb_pixel.specs.declared.colour.Colour.{Colour}
 

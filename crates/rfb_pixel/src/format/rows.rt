@@ -28,7 +28,7 @@ impl Format {
         }
     }
 
-    /// Writes the colour of each pixel of a row, whose bytes stand one behind another.
+    /// Writes the colour of each pixel of a row, whose bytes stand one after another.
     #[inline(always)]
     pub fn unpack_row(&self, bytes: &[u8], colours: &mut [Colour])
         requires { length bytes.now ≡ length colours.old * size_of self.now }

@@ -33,7 +33,7 @@ pub fn pack_eight_rgb565(colours: &[Colour]) -> u32x8
     pixels_of(&x, &y, &z)
 }
 
-// The same of eight colours whose components stand one behind another.
+// The same of eight colours whose components stand one after another.
 #[inline(always)]
 fn pixels_of(x: &[u16], y: &[u16], z: &[u16]) -> u32x8
     requires x { length x.now ≡ 8 }

@@ -17,14 +17,14 @@ fn row() -> [u32; LONGEST] {
     row
 }
 
-// Whether two rows that differ at these two places and nowhere else, or at one, are told so.
+// Whether these two places, or the one, are found of two rows that differ there and nowhere else.
 fn tells(a: &[u32], b: &[u32], first: usize, last: usize) -> bool
     requires { length a.now ≡ length b.now }
 {
     first_diff(a, b) == Some(first) && last_diff(a, b) == Some(last)
 }
 
-// Whether the outermost differences of a part of two rows are told, wherever in it they stand.
+// Whether the outermost differences of a part of two rows are found, wherever in it they stand.
 fn tells_all(from: usize, to: usize) -> bool
     requires order { from ≤ to }
     requires end { to ≤ 200 }
@@ -58,7 +58,7 @@ fn differences_are_found_at_each_place_of_each_length(rt: HostRuntime) {
     }
 }
 
-// Whether so many places are counted as equal, where every third of a row differs.
+// Whether all places from `from` to `to` are counted as equal, where every third of a row differs.
 fn counts(from: usize, to: usize) -> bool
     requires order { from ≤ to }
     requires end { to ≤ 200 }
@@ -108,7 +108,7 @@ fn a_run_ends_at_the_first_other_place(rt: HostRuntime) {
     }
 }
 
-// Whether each difference of two rows of at most 64 places is told by its bit alone.
+// Whether each difference of two rows of at most 64 places sets its bit alone.
 fn tells_each(from: usize, to: usize) -> bool
     requires order { from ≤ to }
     requires end { to ≤ from + 64 }

@@ -1,4 +1,4 @@
--- Rectangles that are copied, one behind another, at the front of an update.
+-- Rectangles that are copied, one after another, at the front of an update.
 use Rattle.std.specs.Prelude.{◌≡◌, ◌≢◌, ℕ, ◌+◌, ◌-◌, ◌<◌, Bool, true, false, not, List, [], ◌++◌, length, take, map, slice_get, Option, Some, None, if◌then◌else◌}
 use Rattle.rfb_pixel.specs.declared.colour.Colour.{Colour}
 use Rattle.rfb_pixel.specs.Format.{PixelFormat}

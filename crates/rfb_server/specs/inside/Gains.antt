@@ -1,4 +1,4 @@
--- How many places of a rectangle have the wanted pixel, before it is copied and behind the copy.
+-- How many places of a rectangle have the wanted pixel, before it is copied and after the copy.
 use Rattle.std.specs.Prelude.{ℕ, ◌+◌, ◌-◌, ◌<◌, Bool, Option}
 use Rattle.rfb_pixel.specs.declared.colour.Colour.{Colour}
 use Rattle.rfb_picture.specs.Grid.{Grid, Holds}
@@ -20,16 +20,16 @@ abbrev pub right_before : Grid Colour → Session → Hint → ℕ → ℕ → B
 right_before screen session copy =
     is_right_from screen session.known session.format copy.to copy.to.x copy.to.y
 
--- it would have it behind the copy
-abbrev pub right_behind : Grid Colour → Session → Hint → ℕ → ℕ → Bool
-right_behind screen session copy =
+-- it would have it after the copy
+abbrev pub right_after : Grid Colour → Session → Hint → ℕ → ℕ → Bool
+right_after screen session copy =
     is_right_from screen session.known session.format copy.to copy.sx copy.sy
 
 -- more places of the rectangle would have it than have it
 abbrev pub HasMoreRight : Grid Colour → Session → Hint → Type 0
 HasMoreRight screen session copy =
     count_in (right_before screen session copy) copy.to
-    < count_in (right_behind screen session copy) copy.to
+    < count_in (right_after screen session copy) copy.to
 
 -- the copy of one of its rows
 abbrev pub line : Hint → ℕ → Hint

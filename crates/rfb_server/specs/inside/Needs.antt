@@ -33,8 +33,8 @@ pub record IsFirst (p : ℕ → ℕ → Bool) (y from to column : ℕ) : Type 0 
   pub none : NoneInRow p y from column
   pub here : column < to → p column y ≡ true
 
--- behind that column, and up to another, no place of row y is marked; it is the first column of
--- them, or behind a marked place
+-- after that column, and up to another, no place of row y is marked; it is the first column of
+-- them, or after a marked place
 pub record IsEnd (p : ℕ → ℕ → Bool) (y from to column : ℕ) : Type 0 where
   pub order : (from ≤ column) × (column ≤ to)
   pub none : NoneInRow p y column to

@@ -65,7 +65,7 @@ SendsCell true screen cell old new before after =
 SendsCell false screen cell old new before after =
     HasBox (needs_of screen old) cell None × (new.known ≡ old.known) × (after ≡ before)
 
--- ---- rectangles one behind another
+-- ---- rectangles one after another
 
 -- the state of a session that is about that screen, between two messages or in one
 abbrev pub state_of : Grid Colour → Session → ServerState
@@ -164,7 +164,7 @@ pub record AreLimits (session : Session) (first end : ℕ) : Type 0 where
   pub some : 0 < end → first < end
   pub within : end ≤ div_ceil session.known.width 64 * div_ceil session.known.height 64
   pub before : NoneMayNeed session 0 first
-  pub behind : NoneMayNeed session end (div_ceil session.known.width 64 * div_ceil session.known.height 64)
+  pub after : NoneMayNeed session end (div_ceil session.known.width 64 * div_ceil session.known.height 64)
 
 -- that cell comes next, or there is no such place any more
 abbrev pub HasNext : Session → ℕ → Option ℕ → Type 0

@@ -77,9 +77,9 @@ progress_of_list zero = Head (as_reply [])
 progress_of_list (suc n) = Encodings (suc n) (as_reply []) []
 
 -- the list of a session, where that many numbers of a new one come next
-abbrev pub encodings_behind : ℕ → List Encoding → List Encoding
-encodings_behind zero list = []
-encodings_behind (suc n) list = list
+abbrev pub encodings_after : ℕ → List Encoding → List Encoding
+encodings_after zero list = []
+encodings_after (suc n) list = list
 
 -- a list of `count` numbers begins
 pub record BeginsList (count : ℕ) (old new : Session) : Type 0 where
@@ -87,7 +87,7 @@ pub record BeginsList (count : ℕ) (old new : Session) : Type 0 where
   pub progress : new.progress ≡ progress_of_list count
   pub text_limit : new.text_limit ≡ old.text_limit
   pub format : new.format ≡ old.format
-  pub encodings : new.encodings ≡ encodings_behind count old.encodings
+  pub encodings : new.encodings ≡ encodings_after count old.encodings
   pub known : new.known ≡ old.known
   pub area : new.area ≡ old.area
   pub marks : new.marks ≡ old.marks

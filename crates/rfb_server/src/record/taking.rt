@@ -45,7 +45,7 @@ impl Record {
     }
 
     /// What is known of the rectangle of that size at (`sx`, `sy`), of which each place is known,
-    /// is known of `to` from here on: the viewer is told to copy it.
+    /// is known of `to` from here on: the viewer is sent the copy.
     pub(crate) fn copy(&mut self, to: Rect, sx: u16, sy: u16)
         requires target { Holds self.old to }
         requires source { Holds self.old (moved_to sx sy to) }

@@ -1,11 +1,11 @@
-//! Single messages of a client: what is told of each, and what it changes.
+//! Single messages of a client: the event of each, and what it changes.
 
 use super::scene::{Step, first_wrong, first_wrong_of, ready, tells};
 use crate::Server;
 use rfb_pixel::Format;
 use std::alloc::{AllocError, Global};
 
-// Texts above the limit and without bytes, keys, the pointer, and the pointer behind a list.
+// Texts above the limit and without bytes, keys, the pointer, and the pointer after a list.
 const MESSAGES: &[(&[u8], &str)] = &[
     (
         b"\x06\0\0\0\0\0\0\x05ABCDE",
@@ -33,7 +33,7 @@ const MESSAGES: &[(&[u8], &str)] = &[
     ),
 ];
 
-// Whether one is told of so, between messages before and behind it.
+// Whether one gives this event, between messages before and after it.
 fn tells_one(server: &mut Server, alloc: Global, bytes: &[u8], printed: &str) -> bool {
     let before = server.between();
     before && tells(server, alloc, bytes, printed) && server.between()
@@ -58,7 +58,7 @@ fn wrong_message(alloc: Global) -> Result<Option<usize>, AllocError> {
 }
 
 #[test]
-fn a_message_is_told_at_its_last_byte(rt: HostRuntime) -> Result<(), AllocError> {
+fn a_message_is_reported_at_its_last_byte(rt: HostRuntime) -> Result<(), AllocError> {
     assert_eq!(rt; wrong_message(rt.alloc())?, None);
     Ok(())
 }
@@ -77,7 +77,7 @@ const FAULTS: &[(&[u8], &str)] = &[
     ),
 ];
 
-// Behind a fault nothing is pending, and no message begins.
+// After a fault nothing is pending, and no message begins.
 const FAILED: &[Step<'static>] = &[Step::Between(false), Step::Pending(0)];
 
 // Whether it waits with all of the bytes but the last, and then fails for good.
@@ -96,7 +96,7 @@ fn is_fault(alloc: Global, bytes: &[u8], printed: &str) -> Result<bool, AllocErr
     Ok(failed)
 }
 
-// The number of the first fault that is not told so, if one is not.
+// The number of the first fault that is not returned so, if one is not.
 fn first_wrong_fault(alloc: Global) -> Result<Option<usize>, AllocError> {
     for at in 0..FAULTS.len() {
         let (bytes, printed) = FAULTS[at];
@@ -108,7 +108,7 @@ fn first_wrong_fault(alloc: Global) -> Result<Option<usize>, AllocError> {
 }
 
 #[test]
-fn a_fault_is_told_at_its_last_byte_and_stays(rt: HostRuntime) -> Result<(), AllocError> {
+fn a_fault_is_reported_at_its_last_byte_and_stays(rt: HostRuntime) -> Result<(), AllocError> {
     assert_eq!(rt; first_wrong_fault(rt.alloc())?, None);
     Ok(())
 }

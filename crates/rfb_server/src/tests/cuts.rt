@@ -1,12 +1,12 @@
 //! A server is fed its clients' bytes whole, byte by byte, in two slices, and damaged: what it
-//! tells and where it stands does not depend on the cut.
+//! tells and where it stands does not depend on where they are split.
 
 use crate::{Server, ServerEvent, ServerFault};
 use rfb_hello::{Fed, Version};
 use std::alloc::{AllocError, Global};
 use std::fmt::Debug;
 
-// Each message in turn, behind the handshakes of 3.8, 3.7 and 3.3: a format of 16 bits, a list with
+// Each message in turn, after the handshakes of 3.8, 3.7 and 3.3: a format of 16 bits, a list with
 // unknown encodings, a request, a key, the pointer, a text above its limit and one without bytes;
 // and a format whose green maximum is no power of two less one.
 const CLIENTS: &[&[u8]] = &[
@@ -23,7 +23,7 @@ fn note<T: Debug>(alloc: Global, seen: &T, log: &mut String) {
     }
 }
 
-// Writes what was told to the log: how many bytes were used, or none where it was a fault.
+// Writes the answer to the log: how many bytes were used, or none where it was a fault.
 fn note_told(
     alloc: Global,
     told: Result<Fed<ServerEvent>, ServerFault>,
@@ -66,7 +66,7 @@ fn note_state(server: &mut Server, alloc: Global, log: &mut String) {
     note(alloc, &out.as_slice(), log);
 }
 
-// Feeds it a stream that is cut behind its first bytes and then every so many.
+// Feeds it a stream in slices: its first bytes, and then slices of one length.
 fn feed_all(
     server: &mut Server,
     alloc: Global,
@@ -109,7 +109,7 @@ fn told(alloc: Global, stream: &[u8], first: usize, size: usize) -> Result<Strin
     Ok(log)
 }
 
-// Whether two cuts of the stream are told of alike.
+// Whether two ways to split the stream give the same.
 fn is_alike(
     alloc: Global,
     stream: &[u8],
@@ -121,8 +121,8 @@ fn is_alike(
     Ok(first.as_str() == second.as_str())
 }
 
-// Whether the stream is told of alike whole, byte by byte, and in two slices wherever it is cut.
-fn is_told_alike(alloc: Global, stream: &[u8]) -> Result<bool, AllocError> {
+// Whether the stream gives the same whole, byte by byte, and in two slices wherever it is split.
+fn is_answered_alike(alloc: Global, stream: &[u8]) -> Result<bool, AllocError> {
     let whole = (stream.len(), 1);
     let mut alike = is_alike(alloc, stream, whole, (1, 1))?;
     for cut in 0..stream.len() {
@@ -132,15 +132,15 @@ fn is_told_alike(alloc: Global, stream: &[u8]) -> Result<bool, AllocError> {
 }
 
 #[test]
-fn what_is_told_does_not_depend_on_the_cut(rt: HostRuntime) -> Result<(), AllocError> {
+fn events_do_not_depend_on_how_bytes_are_split(rt: HostRuntime) -> Result<(), AllocError> {
     for stream in CLIENTS {
-        assert!(rt; is_told_alike(rt.alloc(), stream)?);
+        assert!(rt; is_answered_alike(rt.alloc(), stream)?);
     }
     Ok(())
 }
 
-// The same where the byte at that place is another, whole, byte by byte, and cut in front of it.
-fn is_told_alike_with(
+// The same where the byte at that offset is another, whole, byte by byte, and split in front of it.
+fn is_answered_alike_with(
     alloc: Global,
     stream: &[u8],
     place: usize,
@@ -156,11 +156,11 @@ fn is_told_alike_with(
 }
 
 // The same at each place, by the least byte and by the greatest.
-fn is_told_alike_damaged(alloc: Global, stream: &[u8]) -> Result<bool, AllocError> {
+fn is_answered_alike_damaged(alloc: Global, stream: &[u8]) -> Result<bool, AllocError> {
     let mut alike = true;
     for place in 0..stream.len() {
-        alike = alike && is_told_alike_with(alloc, stream, place, 0)?;
-        alike = alike && is_told_alike_with(alloc, stream, place, 0xFF)?;
+        alike = alike && is_answered_alike_with(alloc, stream, place, 0)?;
+        alike = alike && is_answered_alike_with(alloc, stream, place, 0xFF)?;
     }
     Ok(alike)
 }
@@ -168,7 +168,7 @@ fn is_told_alike_damaged(alloc: Global, stream: &[u8]) -> Result<bool, AllocErro
 #[test]
 fn nor_does_it_where_a_byte_is_damaged(rt: HostRuntime) -> Result<(), AllocError> {
     for stream in CLIENTS {
-        assert!(rt; is_told_alike_damaged(rt.alloc(), stream)?);
+        assert!(rt; is_answered_alike_damaged(rt.alloc(), stream)?);
     }
     Ok(())
 }

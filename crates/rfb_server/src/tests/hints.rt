@@ -57,7 +57,7 @@ const ALL_KNOWN_BY_RAW: &[Step<'static>] = &[
     Step::Feed(CHANGED),
 ];
 
-// Whether the steps are right of a server of one row of four places, behind the first ones.
+// Whether the steps are right of a server of one row of four places, after the first ones.
 fn are_right(alloc: Global, first: &[Step], steps: &[Step]) -> bool {
     match ready(alloc, 4, 1) {
         Ok(server) => are_right_then_drop(server, alloc, first, steps),
@@ -101,7 +101,7 @@ const LEFT_WRONG: &[Step<'static>] = &[
 ];
 
 #[test]
-fn what_a_copy_leaves_wrong_is_sent_behind_it(rt: HostRuntime) {
+fn what_a_copy_leaves_wrong_is_sent_after_it(rt: HostRuntime) {
     assert!(rt; are_right(rt.alloc(), ALL_KNOWN, LEFT_WRONG));
 }
 

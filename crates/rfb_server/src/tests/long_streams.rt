@@ -5,7 +5,7 @@ use crate::{Server, ServerEvent};
 use rfb_hello::{Fed, Version};
 use std::alloc::{AllocError, Global};
 
-// A server behind the handshake of 3.3 that keeps up to so many bytes of a text.
+// A server after the handshake of 3.3 that keeps up to `text_limit` bytes of a text.
 fn ready(alloc: Global, text_limit: u32) -> Result<Server, AllocError> {
     let name = b"t".as_slice();
     let mut server = Server::new(alloc, 1, 1, name, Version::V38, text_limit.min(1_048_576))?;

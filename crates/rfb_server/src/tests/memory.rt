@@ -24,7 +24,7 @@ fn feed(server: &mut Server, bytes: &[u8]) {
     let _told = server.feed(bytes);
 }
 
-// Behind the handshake of 3.3, with one orange place that is asked for whole.
+// After the handshake of 3.3, with one orange place that is asked for whole.
 fn ask(server: &mut Server) {
     let orange = Colour {
         r: 65_535,

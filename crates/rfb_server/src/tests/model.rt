@@ -15,7 +15,8 @@ use lot::Lot;
 use play::plays;
 use std::alloc::{AllocError, Global};
 
-// Whether server and model answer alike over so many lists of events, on screens up to that size.
+// Whether server and model answer alike over `lists` lists of events, on screens of up to `most`
+// places a side.
 fn play_alike(alloc: Global, seed: u64, lists: u16, most: u16) -> Result<bool, AllocError> {
     let mut lot = Lot::new(seed);
     let mut alike = true;

@@ -11,9 +11,9 @@ use std::alloc::{AllocError, Global};
 /// What is done to a server, or what holds of it. One that is refused, or does not hold, is wrong.
 #[derive(Clone, Copy)]
 pub(super) enum Step<'a> {
-    /// The client sends bytes of which at most one event is told.
+    /// The client sends bytes that give at most one event.
     Feed(&'a [u8]),
-    /// The same, and what is told of them prints so.
+    /// The same, and their event prints so.
     Tells(&'a [u8], &'a str),
     Fill(Rect, Colour),
     /// The place of that column of the first row gets the colour whose red is that byte at rgb888,
@@ -22,9 +22,10 @@ pub(super) enum Step<'a> {
     /// Colours for a part of a row, from a column on.
     Put(u16, u16, &'a [Colour]),
     Copy(Rect, u16, u16),
-    /// The same hint so many times.
+    /// The same hint, that number of times.
     Hints(u16, Rect, u16, u16),
-    /// A hint that so many places of the first row, from a column on, look as those from another.
+    /// A hint that a number of places of the first row, from a column on, look as those from
+    /// another.
     Hint(u16, u16, u16),
     /// An update of exactly these bytes is composed.
     Sends(&'a [u8]),
@@ -43,7 +44,7 @@ pub(super) enum Step<'a> {
     Greets(&'a [u8]),
 }
 
-/// Whether what is told of the bytes prints so.
+/// Whether the event of the bytes prints so.
 pub(super) fn tells(server: &mut Server, alloc: Global, bytes: &[u8], printed: &str) -> bool {
     let told = server.feed(bytes);
     match format!(in alloc; "{told:?}") {
@@ -144,7 +145,7 @@ pub(super) fn first_wrong(server: &mut Server, alloc: Global, steps: &[Step]) ->
     None
 }
 
-/// A server of a screen of that size that keeps four bytes of a text, behind the handshake of 3.3,
+/// A server of a screen of that size that keeps four bytes of a text, after the handshake of 3.3,
 /// RFC 6143 sections 7.1.1 and 7.3.1.
 pub(super) fn ready(alloc: Global, width: u16, height: u16) -> Result<Server, AllocError>
     requires columns { (1 ≤ width) × (width ≤ 4096) }
@@ -157,7 +158,7 @@ pub(super) fn ready(alloc: Global, width: u16, height: u16) -> Result<Server, Al
     Ok(server)
 }
 
-/// Feeds it bytes of which at most one event is told.
+/// Feeds it bytes that give at most one event.
 pub(super) fn feed(server: &mut Server, bytes: &[u8]) {
     let _told = server.feed(bytes);
 }

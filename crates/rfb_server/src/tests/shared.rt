@@ -78,7 +78,7 @@ pub(super) enum Who {
 pub(super) enum Step<'a> {
     // The owner draws a rectangle of one colour.
     Draw(Rect, Colour),
-    // The viewer sends bytes of which at most one event is told.
+    // The viewer sends bytes that give at most one event.
     Feed(Who, &'a [u8]),
     // An update of exactly these bytes is composed for the viewer.
     Sends(Who, &'a [u8]),
@@ -138,7 +138,7 @@ impl Shared {
         })
     }
 
-    // Both sessions are told before it is drawn.
+    // Both sessions are notified before it is drawn.
     fn draw(&mut self, rect: Rect, colour: Colour) -> bool {
         if !self.screen.holds(rect) {
             return false;

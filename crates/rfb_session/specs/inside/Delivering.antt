@@ -11,19 +11,19 @@ use Rattle.rfb_session.specs.InFlight.{AreMade}
 use Rattle.rfb_session.specs.Network.{Network, IsReached}
 use Rattle.rfb_session.specs.Watching.{ViewerRuns}
 
--- so many bytes reach the viewer
+-- `count` bytes reach the viewer
 abbrev pub DeliversToViewer : Link → ℕ → Link → Type 0
 DeliversToViewer old count new =
     (e : Ends) (n : Network) → AreMade e → IsReached e n → LinkStandsFor e n.screen old n.link →
     (l : LinkState) × MovesToViewer e n.link count l × LinkStandsFor e n.screen new l
 
--- so many bytes reach the session
+-- `count` bytes reach the session
 abbrev pub DeliversToServer : Link → ℕ → Link → Type 0
 DeliversToServer old count new =
     (e : Ends) (n : Network) → AreMade e → IsReached e n → LinkStandsFor e n.screen old n.link →
     (l : LinkState) × MovesToServer e n.screen n.link count l × LinkStandsFor e n.screen new l
 
--- the session was fed so many bytes, and they are no more in flight
+-- the session was fed `count` bytes, and they are no more in flight
 pub record HasHeard (old : Link) (count : ℕ) (sole : Bool) (new : Link) : Type 0 where
   pub sent : List ℕ
   pub soles : ℕ

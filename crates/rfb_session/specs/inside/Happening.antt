@@ -20,7 +20,7 @@ pub record TakesNoMemory (world : World) (event : Event) : Type 0 where
   pub case : IsDrawing event
       ⊎ (IsRefused world event ⊎ (IsLost world event ⊎ ComposesNothing world event))
 
--- what is told of a drawing, or a hint, but for its refusal
+-- what is answered to a drawing, or a hint, but for its refusal
 pub record TellsDrawing (old : World) (told : Told) (new : World) : Type 0 where
   pub moved : told.moved ≡ 0
   pub composed : told.composed ≡ false

@@ -22,7 +22,7 @@ const COLOUR_BYTES: usize = 6;
 // How many colours are taken at once.
 const PIECE: usize = 8;
 
-// The bytes of so many.
+// The bytes of that many.
 const PIECE_BYTES: usize = 48;
 
 /// Writes a picture as PPM: the header `P6`, the width and the height, the largest component, then
@@ -61,7 +61,7 @@ fn header(width: u16, height: u16) -> Waiting
     text
 }
 
-// The components of each colour, red first, wait behind the bytes that do. Where there is no room
+// The components of each colour, red first, wait after the bytes that do. Where there is no room
 // for more, what waits is written.
 fn gather<W: Sink>(colours: &[Colour], waiting: &mut Waiting, sink: &mut W) -> Result<(), Device>
     requires countable { W.failed sink.old < 2 ^ 64 - 1 }
@@ -207,7 +207,7 @@ impl Waiting {
         ROOM - self.len
     }
 
-    // Puts these bytes behind the others.
+    // Puts these bytes after the others.
     fn append(&mut self, bytes: &[u8])
         requires { length self.old + length bytes.now ≤ ROOM }
         ensures { self.new ≡ self.old ++ bytes.now }
@@ -217,7 +217,7 @@ impl Waiting {
         self.len = end;
     }
 
-    // Puts the components of these colours behind them.
+    // Puts the components of these colours after them.
     fn append_components(&mut self, colours: &[Colour])
         requires { length self.old + 6 * length colours.now ≤ ROOM }
         ensures { self.new ≡ self.old ++ components colours.now }

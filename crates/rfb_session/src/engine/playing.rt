@@ -66,7 +66,7 @@ fn feed_all<R: Source>(source: &mut R, viewer: &mut Viewer) -> Result<u64, Engin
     Ok(updates)
 }
 
-// Feeds a viewer all of these bytes, and counts the updates that they end, behind those before.
+// Feeds a viewer all of these bytes, and counts the updates that they end, after those before.
 fn watch(bytes: &[u8], viewer: &mut Viewer, before: u64) -> Result<u64, ViewerFault>
     ensures watched { IfOk result (λ updates.
         IsWatched viewer.old bytes.now before updates viewer.new) }
@@ -86,7 +86,7 @@ fn watch(bytes: &[u8], viewer: &mut Viewer, before: u64) -> Result<u64, ViewerFa
     Ok(updates)
 }
 
-// So many updates, and one more where the end of one is told.
+// `updates`, and one more where the event is the end of one.
 pub(super) fn count(event: &Option<ViewerEvent>, updates: u64) -> u64
     ensures { result ≡ min (updates + ends_told (seen event.now)) (2 ^ 64 - 1) }
 {

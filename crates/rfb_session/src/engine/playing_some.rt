@@ -13,8 +13,8 @@ use crate::engine::fault::EngineFault;
 use crate::engine::playing::count;
 use rfb_viewer::{Viewer, ViewerFault};
 
-/// `play` that stops once so many updates ended, at least one, and tells their number then: it
-/// feeds no byte behind the last of them. Where fewer end it is as `play`.
+/// `play` that stops once `updates` updates ended, at least one, and returns their number then: it
+/// feeds no byte after the last of them. Where fewer end it is as `play`.
 pub fn play_some<R: Source>(
     source: &mut R,
     viewer: &mut Viewer,
@@ -44,7 +44,7 @@ pub fn play_some<R: Source>(
     }
 }
 
-// Feeds a viewer what `source` gives, until so many updates ended or it ends.
+// Feeds a viewer what `source` gives, until `enough` updates ended or it ends.
 fn feed_some<R: Source>(
     source: &mut R,
     viewer: &mut Viewer,
@@ -85,7 +85,7 @@ fn feed_some<R: Source>(
     Ok(updates)
 }
 
-// Feeds a viewer these bytes, until so many updates ended, and counts them behind those before.
+// Feeds a viewer these bytes, until `enough` updates ended, and adds their number to `before`.
 fn watch_some(
     bytes: &[u8],
     viewer: &mut Viewer,

@@ -66,7 +66,7 @@ pub fn serve<R: Source, W: Sink, S: Scene>(
     }
 }
 
-// Does so behind the greeting.
+// Does so after the greeting.
 fn serve_all<R: Source, W: Sink, S: Scene>(
     alloc: Global,
     source: &mut R,
@@ -108,7 +108,7 @@ fn serve_all<R: Source, W: Sink, S: Scene>(
 }
 
 // Reads once, has the server hear that, and updates; and tells how many updates there were, one or
-// none. All that this sends is written then. Where the source has ended, that is told.
+// none. All that this sends is written then. Where the source has ended, the answer says so.
 fn turn<R: Source, W: Sink, S: Scene>(
     part: &mut [u8; READ_SIZE],
     out: &mut Vec<u8>,

@@ -15,7 +15,7 @@ use crate::engine::whole_write::send;
 use asking::answer;
 use rfb_viewer::Viewer;
 
-/// Runs a fresh viewer until so many updates ended, at least one: reads, feeds it what comes and
+/// Runs a fresh viewer until `updates` updates ended, at least one: reads, feeds it what comes and
 /// writes its answers. Once it is ready it asks for the whole screen, and after each update but the
 /// last for what has changed. It stops at once after the last: later bytes of that read are not
 /// fed. It gives `Truncated` where the bytes end before that, `Device` where a read or a write
@@ -45,7 +45,7 @@ pub fn view<R: Source, W: Sink>(
 
 /// `view` that also writes to `kept` the server's bytes as they came, those that the viewer was fed
 /// and no others. So `play` of them ends as this does. Where the server does wrong, the bytes of
-/// that read behind the others are there too, unless writing them fails.
+/// that read after the others are there too, unless writing them fails.
 pub fn view_recording<R: Source, W: Sink, K: Sink>(
     source: &mut R,
     sink: &mut W,

@@ -15,7 +15,7 @@ use rfb_server::row_area;
 impl Hub {
     ghost use Rattle.rfb_session.specs.HubSteps.{HubSteps};
 
-    // A rectangle of the screen gets one colour. Every session is told before it is drawn.
+    // A rectangle of the screen gets one colour. Every session is notified before it is drawn.
     pub(super) fn fill(&mut self, rect: Rect, colour: Colour) -> HubTold
         ensures { HubSteps self.old (Fill rect colour) result self.new }
     {

@@ -20,7 +20,7 @@ pub enum HubEvent {
     Put(u16, u16, Vec<Colour>),
     /// A rectangle of the screen gets what the one of its size at a column and a row had.
     Copy(Rect, u16, u16),
-    /// Every session is told that a rectangle looks as the one of its size there did.
+    /// Every session gets the hint that a rectangle looks as the one of its size there did.
     Hint(Rect, u16, u16),
     /// A viewer takes an empty slot.
     Join(u8, Setup),
@@ -49,9 +49,10 @@ pub enum SlotEvent {
     CutText(Vec<u8>),
     /// The session composes an update, if one is due.
     Compose,
-    /// So many bytes reach the session, or all that are in flight to it, if they are fewer.
+    /// This number of bytes reaches the session, or all that are in flight to it, if they are
+    /// fewer.
     ToServer(u32),
-    /// So many bytes reach the viewer, or all that are in flight to it, if they are fewer.
+    /// This number of bytes reaches the viewer, or all that are in flight to it, if they are fewer.
     ToViewer(u32),
 }
 

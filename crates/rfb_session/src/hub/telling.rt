@@ -6,7 +6,7 @@ ghost use Rattle.rfb_session.specs.HubTelling.{IsMere, TellsFor};
 use crate::hub::event::{HubFault, HubTold};
 use crate::told::Told;
 
-// What is told of an event that is refused.
+// The answer to an event that is refused.
 pub(crate) fn told_refused(fault: HubFault) -> HubTold
     ensures mere { IsMere result }
     ensures refused { result.refused ≡ Some fault }
@@ -19,7 +19,7 @@ pub(crate) fn told_refused(fault: HubFault) -> HubTold
     }
 }
 
-// What is told of an event that was made, and of nothing beside.
+// The answer to an event that was made, and to nothing beside.
 pub(crate) fn told_made() -> HubTold
     ensures mere { IsMere result }
     ensures refused { result.refused ≡ None }
@@ -32,7 +32,7 @@ pub(crate) fn told_made() -> HubTold
     }
 }
 
-// What is told of an event of one slot, which emptied those.
+// The answer to an event of one slot, which emptied those.
 pub(crate) fn told_for(told: Told, ended: u8) -> HubTold
     ensures tells { TellsFor told result }
     ensures ended { result.ended ≡ ended }

@@ -153,7 +153,7 @@ pub(crate) fn copy_of(encodings: &ArrayVec<Encoding, 4>) -> ArrayVec<Encoding, 4
     }
 }
 
-// What is told of a call that is taken.
+// The answer to a call that is taken.
 fn told_taken() -> Told
     ensures moved { result.moved ≡ 0 }
     ensures refused { result.refused ≡ None }
@@ -166,7 +166,7 @@ fn told_taken() -> Told
     }
 }
 
-// What is told of a call that is refused.
+// The answer to a call that is refused.
 fn told_refused(fault: CallFault) -> Told
     ensures moved { result.moved ≡ 0 }
     ensures refused { result.refused ≡ refused_as (Some fault) }

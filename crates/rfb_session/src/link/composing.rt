@@ -39,7 +39,7 @@ impl Link {
     }
 }
 
-// What is told of a composing.
+// The answer to a composing.
 fn told_composed(composed: bool) -> Told
     ensures moved { result.moved ≡ 0 }
     ensures refused { result.refused ≡ None }

@@ -31,7 +31,7 @@ impl Link {
     ghost use Rattle.rfb_session.specs.inside.Delivering.{HasHeard, EndsHearing};
     ghost use Rattle.rfb_session.specs.inside.Delivering.{HasWatched, EndsWatching};
 
-    /// Bytes reach the session, at most so many, or all that are in flight to it. Its answers are
+    /// Bytes reach the session, at most `count`, or all that are in flight to it. Its answers are
     /// in flight then. One that has failed takes them to no effect. Memory can be wanting for
     /// answers, and for a text that the session keeps.
     pub fn move_to_server(&mut self, count: u32) -> Result<Told, NoMemory>
@@ -72,7 +72,7 @@ impl Link {
         })
     }
 
-    /// Bytes reach the viewer, at most so many, or all that are in flight to it. Its answers are in
+    /// Bytes reach the viewer, at most `count`, or all that are in flight to it. Its answers are in
     /// flight then. One that has failed takes them to no effect. Memory can be wanting for answers,
     /// for the viewer's screen, and for a text that it keeps.
     pub fn move_to_viewer(&mut self, count: u32) -> Result<Told, NoMemory>
@@ -89,7 +89,7 @@ impl Link {
         Ok(told_moved(moved as u32))
     }
 
-    // So many bytes reach the viewer, of those in flight to it.
+    // `count` bytes reach the viewer, of those in flight to it.
     fn deliver_to_viewer(&mut self, count: usize) -> Result<(), NoMemory>
         requires { count ≤ length self.old.to_viewer }
         ensures reached { OnOk result
@@ -108,7 +108,7 @@ impl Link {
         Ok(())
     }
 
-    // Feeds the viewer of so many bytes what it takes at once, and sends what it answers. One that
+    // Feeds the viewer what it takes at once of `count` bytes, and sends what it answers. One that
     // has failed takes them all, to no effect.
     fn feed_viewer(&mut self, count: usize) -> Result<usize, NoMemory>
         requires some { 0 < count }
@@ -140,7 +140,7 @@ impl Link {
         }
     }
 
-    // So many bytes reach the session, of those in flight to it. It tells whether the client asked
+    // `count` bytes reach the session, of those in flight to it. It tells whether the client asked
     // for the screen alone among them.
     fn deliver_to_server(&mut self, count: usize) -> Result<bool, NoMemory>
         requires { count ≤ length self.old.to_server }
@@ -164,7 +164,7 @@ impl Link {
         Ok(sole)
     }
 
-    // Feeds the session of so many bytes what it takes at once, and sends what it answers. One that
+    // Feeds the session what it takes at once of `count` bytes, and sends what it answers. One that
     // has failed takes them all, to no effect.
     fn feed_server(&mut self, count: usize) -> Result<(usize, bool), NoMemory>
         requires some { 0 < count }
@@ -198,7 +198,7 @@ impl Link {
     }
 }
 
-// What is told where so many bytes were moved, and else nothing happened.
+// What is reported where `moved` bytes were moved, and else nothing happened.
 fn told_moved(moved: u32) -> Told
     ensures moved { result.moved ≡ moved }
     ensures refused { result.refused ≡ None }
@@ -218,7 +218,8 @@ fn either(one: bool, other: bool) -> bool
     one || other
 }
 
-/// Whether a client that is told of so asks for the screen alone: its ClientInit has shared-flag 0.
+/// Whether a client of which this is reported asks for the screen alone: its ClientInit has
+/// shared-flag 0.
 pub(crate) fn asks_sole(event: &Option<ServerEvent>) -> bool
     ensures { IsSole result (sole_told (seen event.now)) }
 {

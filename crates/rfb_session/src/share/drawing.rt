@@ -31,7 +31,7 @@ impl Share {
         }
     }
 
-    // A rectangle of the screen gets one colour. Every session is told before it is drawn.
+    // A rectangle of the screen gets one colour. Every session is notified before it is drawn.
     fn fill(&mut self, rect: Rect, colour: Colour) -> Result<(), Outside>
         ensures refused { IsErr result ↔ (IsInside (screen_of self.old) (Fill rect colour) → ⊥) }
         ensures kept { OnErr result (self.new ≡ self.old) }

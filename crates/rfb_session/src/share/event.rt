@@ -14,7 +14,7 @@ pub enum Drawing {
     Put(u16, u16, Vec<Colour>),
     /// A rectangle gets what the one of its size at a column and a row had.
     Copy(Rect, u16, u16),
-    /// Every session is told that a rectangle looks as the one of its size there did.
+    /// Every session gets the hint that a rectangle looks as the one of its size there did.
     Hint(Rect, u16, u16),
 }
 
@@ -41,7 +41,7 @@ pub struct Heard {
     pub seat: u8,
     /// How many of them were taken.
     pub used: usize,
-    /// What the viewer did at the last of these, if it did something that is told.
+    /// What the viewer did at the last of these, if it did something that is reported.
     pub event: Option<SeatEvent>,
     /// Bit s is set for each seat s that was emptied: this viewer asked for the screen alone.
     pub ended: u8,

@@ -22,9 +22,9 @@ impl Share {
     ghost use Rattle.rfb_session.specs.ShareSteps.{ReceivesAs, RefusesAs};
 
     /// Takes bytes that the viewer of a seat sent, up to the last of its first item that is
-    /// answered or told, or all. An answer waits behind what waits there. What the viewer did is
-    /// told with its seat. A viewer that asks for the screen alone, by its ClientInit (RFC 6143
-    /// section 7.3.1), empties the other seats at that byte, which is told too.
+    /// answered or reported, or all. An answer waits after what waits there. What the viewer did is
+    /// reported with its seat. A viewer that asks for the screen alone, by its ClientInit (RFC 6143
+    /// section 7.3.1), empties the other seats at that byte, which is reported too.
     ///
     /// What a client did wrong comes as a fault of its seat, and want of memory for a text; so does
     /// it again at each later call, which takes nothing. What waits there goes on to wait, and no
@@ -52,7 +52,7 @@ impl Share {
     }
 }
 
-// What is told of bytes that were taken there, which emptied those seats.
+// The answer to bytes that were taken there, which emptied those seats.
 fn told_of(seat: u8, fed: Fed<ServerEvent>, ended: u8) -> Heard
     ensures seat { result.seat ≡ seat }
     ensures used { result.used ≡ fed.used }
@@ -88,7 +88,7 @@ fn hear_in(slot: &mut Option<ShareSeat>, bytes: &[u8]) -> Result<Fed<ServerEvent
     }
 }
 
-// What a viewer did, if that is told: answers are not.
+// What a viewer did, if that is reported: answers are not.
 fn event_of(event: Option<ServerEvent>) -> Option<SeatEvent>
     ensures { event_seen result ≡ seat_told (seen event) }
 {

@@ -18,14 +18,14 @@ use rfb_server::{Outside, ServerEvent, ServerFault, Session};
 use rfb_wire::pieces::append;
 use std::alloc::Global;
 
-/// A viewer's seat. Its session is told of drawings and is fed what the viewer sends; what it sends
-/// waits in order, until the caller says that it is written.
+/// A viewer's seat. Its session is notified of drawings and is fed what the viewer sends; what it
+/// sends waits in order, until the caller says that it is written.
 #[derive(Debug, Drop)]
 pub struct ShareSeat {
     alloc: Global,
     session: Session,
     waiting: Waiting,
-    // So many of the bytes kept are written.
+    // How many of the bytes kept are written.
     written: usize,
     ghost within: { written ≤ length (kept_in waiting) },
     ghost few: { answers_in waiting ≤ 297 },
@@ -57,7 +57,7 @@ impl ShareSeat {
         }
     }
 
-    /// Takes bytes of the viewer's, as `Session::feed` does. The answer waits behind what waited.
+    /// Takes bytes of the viewer's, as `Session::feed` does. The answer waits after what waited.
     pub(crate) fn hear(&mut self, bytes: &[u8]) -> Result<Fed<ServerEvent>, ServerFault>
         ensures used { IfOk result (λ fed. fed.used ≤ length bytes.now) }
         ensures all { IfOk result (λ fed. fed.event ≡ None → fed.used ≡ length bytes.now) }
@@ -84,7 +84,7 @@ impl ShareSeat {
         &self.waiting.kept()[self.written..]
     }
 
-    /// The first bytes that wait are written, so many or all. Behind the last of them their memory
+    /// The first `count` bytes that wait are written, or all. After the last of them their memory
     /// is given back.
     pub(crate) fn write(&mut self, count: usize)
         ensures { WritesAt count self.old self.new }

@@ -31,7 +31,7 @@ impl Share {
         }
     }
 
-    /// The first bytes that wait there are written, so many, or all if they are fewer. Behind the
+    /// The first `count` bytes that wait there are written, or all if they are fewer. After the
     /// last of them their memory is given back.
     pub fn written(&mut self, seat: u8, count: usize)
         ensures { WritesAs self.old seat count self.new }
@@ -44,8 +44,8 @@ impl Share {
     }
 
     /// Composes an update for the viewer of a seat, if all earlier bytes there are written and one
-    /// is due: of what the viewer asked for and does not have of the screen. So many requests are
-    /// answered by one update, and a viewer that does not read costs no more than what waits for
+    /// is due: of what the viewer asked for and does not have of the screen. Any number of requests
+    /// is answered by one update, and a viewer that does not read costs no more than what waits for
     /// it. Room is asked for once, as `Session::compose` does; where there is none nothing waits,
     /// and the update may be composed later.
     pub fn compose(&mut self, seat: u8) -> Result<Composing, NoMemory>

@@ -86,7 +86,7 @@ impl World {
     }
 }
 
-// What is told of a drawing that leaves the screen.
+// The answer to a drawing that leaves the screen.
 fn told_outside() -> Told
     ensures moved { result.moved ≡ 0 }
     ensures refused { result.refused ≡ Some Outside }
@@ -99,7 +99,7 @@ fn told_outside() -> Told
     }
 }
 
-// What is told of a drawing that was made.
+// The answer to a drawing that was made.
 fn told_drawn() -> Told
     ensures moved { result.moved ≡ 0 }
     ensures refused { result.refused ≡ None }

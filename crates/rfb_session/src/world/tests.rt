@@ -123,7 +123,7 @@ fn composes(world: &mut World) -> bool {
     }
 }
 
-// How many of so many bytes reach the server.
+// How many of `count` bytes reach the server.
 fn to_server(world: &mut World, count: u32) -> u32 {
     match step(world, &Event::ToServer(count)) {
         Some(told) => told.moved,
@@ -131,7 +131,7 @@ fn to_server(world: &mut World, count: u32) -> u32 {
     }
 }
 
-// How many of so many bytes reach the viewer.
+// How many of `count` bytes reach the viewer.
 fn to_viewer(world: &mut World, count: u32) -> u32 {
     match step(world, &Event::ToViewer(count)) {
         Some(told) => told.moved,

@@ -22,7 +22,7 @@ holds_data painter (Some picture) =
     is_on_screen picture.width picture.height painter.rect
     && not (is_ended painter.rect painter.stage)
 
--- the handshake goes on in its end, and behind it there is a screen
+-- the handshake goes on in its end, and after it there is a screen
 abbrev pub is_sound : ViewerHello → Progress → Option (Grid Colour) → Bool
 is_sound hello Handshake picture = is_open hello
 is_sound hello (Head bytes) picture = has_screen picture
@@ -32,7 +32,7 @@ is_sound hello (Colours more) picture = has_screen picture
 is_sound hello (CutText text_length more kept) picture = has_screen picture
 is_sound hello (Failed fault) picture = true
 
--- ---- what is told of it
+-- ---- what is reported of it
 
 -- the bytes end between two messages
 abbrev pub is_idle : Progress → Bool

@@ -50,8 +50,8 @@ fn calls_wait_for_the_end_of_the_handshake(rt: HostRuntime) {
     assert!(rt; calls_wait(rt.alloc()));
 }
 
-// Whether the viewer fails at these bytes behind a request, and then refuses all calls and shows
-// its picture still.
+// Whether the viewer fails at these bytes after a request, and then refuses all calls and shows its
+// picture still.
 fn is_failed_by(viewer: &mut Viewer, alloc: Global, bytes: &[u8]) -> bool {
     request_fault(viewer, ONE).is_none()
         && fault_at(viewer, bytes).is_some()
@@ -102,14 +102,14 @@ fn calls_are_their_messages(rt: HostRuntime) {
     assert!(rt; plays_at_rgb888(rt.alloc(), HELLO_2_BY_1, MESSAGES));
 }
 
-// Whether a text is appended behind what the buffer has.
+// Whether a text is appended after what the buffer has.
 fn appends(viewer: &Viewer, alloc: Global) -> bool {
     let mut out = Vec::new(alloc);
     let first = viewer.cut_text(b"ABCDE", &mut out).is_ok();
     let alone = out.as_slice() == b"\x06\0\0\0\0\0\0\x05ABCDE".as_slice();
     let second = viewer.cut_text(b"", &mut out).is_ok();
-    let behind = out.as_slice() == b"\x06\0\0\0\0\0\0\x05ABCDE\x06\0\0\0\0\0\0\0".as_slice();
-    first && alone && second && behind
+    let after = out.as_slice() == b"\x06\0\0\0\0\0\0\x05ABCDE\x06\0\0\0\0\0\0\0".as_slice();
+    first && alone && second && after
 }
 
 fn appends_texts(alloc: Global) -> bool {
@@ -122,8 +122,8 @@ fn a_text_is_appended_to_what_is_to_be_sent(rt: HostRuntime) {
     assert!(rt; appends_texts(rt.alloc()));
 }
 
-// Where the buffer cannot grow, that is told, and it stays as it was. Where memory was wanting in
-// the handshake, no text is taken.
+// Where the buffer cannot grow, the call says so, and it stays as it was. Where memory was wanting
+// in the handshake, no text is taken.
 fn keeps_or_appends(viewer: &Viewer, out: &mut Vec<u8>) -> bool {
     match viewer.cut_text(b"ABCDE", out) {
         Ok(()) => out.as_slice() == b"Z\x06\0\0\0\0\0\0\x05ABCDE".as_slice(),
@@ -166,7 +166,7 @@ fn refuses_each(viewer: &mut Viewer, wanted: CallFault) -> bool {
     good
 }
 
-// Whether that is so before a request and behind it.
+// Whether that is so before a request and after it.
 fn refuses_areas(viewer: &mut Viewer) -> bool {
     refuses_each(viewer, CallFault::AreaOutside)
         && are_right(viewer, &[Step::Ask(TWO, None)])

@@ -1,12 +1,12 @@
-//! Servers' streams whole, byte by byte, in two slices, and damaged: what is told and shown doesn't
-//! depend on the cut.
+//! Servers' streams whole, byte by byte, in two slices, and damaged: events and pictures don't
+//! depend on where they are split.
 
 use super::hostile::FAULTS;
 use super::*;
 use crate::ViewerFault;
 use std::fmt::Debug;
 
-// Handshakes of each version and messages behind them, of a viewer that is at bgr233: updates of
+// Handshakes of each version and messages after them, of a viewer that is at bgr233: updates of
 // each encoding, a text above its limit and one of no bytes, colours, bells; refusals; faults in an
 // update.
 const SERVERS: &[&[u8]] = &[
@@ -35,12 +35,12 @@ const WIDE_SERVERS: &[&[u8]] = &[
     b"RFB 003.003\n\0\0\0\x01\0\x04\0\x01................\0\0\0\0\0\0\0\x02\0\0\0\0\0\x04\0\x01\0\0\0\0\x01\x02\x03\0\x04\x05\x06\0\x07\x08\x09\0\x0A\x0B\x0C\0\0\x01\0\0\0\x03\0\x01\0\0\0\x01\0\0\0\0",
 ];
 
-// Writes a line to the log: a number of bytes, and what came behind them.
+// Writes a line to the log: a number of bytes, and what came after them.
 fn note<T: Debug>(at: usize, seen: &T, log: &mut String) -> Result<(), AllocError> {
     writeln!(log, "{at} {seen:?}")
 }
 
-// Feeds bytes, of which an event may be told. Behind an update the format is bgr233.
+// Feeds bytes, which may give an event. After an update the format is bgr233.
 fn feed(viewer: &mut Viewer, bytes: &[u8]) -> Result<Fed<ViewerEvent>, ViewerFault> {
     let told = viewer.feed(bytes);
     if let Ok(
@@ -55,7 +55,7 @@ fn feed(viewer: &mut Viewer, bytes: &[u8]) -> Result<Fed<ViewerEvent>, ViewerFau
     told
 }
 
-// Writes an event, or a fault, and how many bytes are used then. None goes on behind a fault.
+// Writes an event, or a fault, and how many bytes are used then. None goes on after a fault.
 fn note_told(
     before: usize,
     told: &Result<Fed<ViewerEvent>, ViewerFault>,
@@ -75,7 +75,7 @@ fn note_told(
     }
 }
 
-// Feeds a rest that stands behind so many bytes, up to what is told next.
+// Feeds a rest that stands after a number of bytes, up to the next event.
 fn feed_next(
     viewer: &mut Viewer,
     rest: &[u8],
@@ -86,8 +86,8 @@ fn feed_next(
     note_told(before, &told, log)
 }
 
-// Feeds a slice that stands behind so many bytes: writes each event with the number of bytes up to
-// it, and a fault. Whether no fault came.
+// Feeds a slice that stands after a number of bytes: writes each event with the number of bytes up
+// to it, and a fault. Whether no fault came.
 fn feed_all(
     viewer: &mut Viewer,
     slice: &[u8],
@@ -105,7 +105,7 @@ fn feed_all(
     Ok(true)
 }
 
-// All that is told of a stream that is cut behind its first bytes and then every so many.
+// All events of a stream that is split into slices: its first bytes, and then slices of one length.
 fn feed_slices(
     viewer: &mut Viewer,
     stream: &[u8],
@@ -163,8 +163,8 @@ fn told(
     Ok(log)
 }
 
-// Whether a stream that is cut so is told as it is told whole.
-fn is_told_cut(
+// Whether a stream that is split so gives what it gives whole.
+fn is_same_when_split(
     alloc: Global,
     format: Format,
     stream: &[u8],
@@ -175,17 +175,17 @@ fn is_told_cut(
     Ok(slices.as_str() == whole.as_str())
 }
 
-// Whether it is told byte by byte and in two slices, cut at each place, as it is told whole.
-fn is_told_at_cuts(alloc: Global, format: Format, stream: &[u8]) -> Result<bool, AllocError> {
-    let mut good = is_told_cut(alloc, format, stream, (1, 1))?;
+// Whether it gives byte by byte and in two slices, split at each byte, what it gives whole.
+fn is_same_at_all_splits(alloc: Global, format: Format, stream: &[u8]) -> Result<bool, AllocError> {
+    let mut good = is_same_when_split(alloc, format, stream, (1, 1))?;
     for first in 0..stream.len() {
-        good = good && is_told_cut(alloc, format, stream, (first, stream.len()))?;
+        good = good && is_same_when_split(alloc, format, stream, (first, stream.len()))?;
     }
     Ok(good)
 }
 
-// Whether it is told byte by byte as whole where its byte at this place is another.
-fn is_told_with(
+// Whether the events are the same byte by byte and whole where its byte at this offset is another.
+fn is_same_with(
     alloc: Global,
     format: Format,
     stream: &[u8],
@@ -196,23 +196,23 @@ fn is_told_with(
     if let Some(byte) = damaged.get_mut(place) {
         *byte = damage;
     }
-    is_told_cut(alloc, format, &damaged, (1, 1))
+    is_same_when_split(alloc, format, &damaged, (1, 1))
 }
 
 // The same where each byte in turn is 00, and FF.
-fn is_told_damaged(alloc: Global, format: Format, stream: &[u8]) -> Result<bool, AllocError> {
+fn is_same_damaged(alloc: Global, format: Format, stream: &[u8]) -> Result<bool, AllocError> {
     let mut good = true;
     for place in 0..stream.len() {
-        good = good && is_told_with(alloc, format, stream, place, 0)?;
-        good = good && is_told_with(alloc, format, stream, place, 0xFF)?;
+        good = good && is_same_with(alloc, format, stream, place, 0)?;
+        good = good && is_same_with(alloc, format, stream, place, 0xFF)?;
     }
     Ok(good)
 }
 
-// Whether a stream is told so at all cuts, and damaged.
-fn is_told(alloc: Global, format: Format, stream: &[u8]) -> Result<bool, AllocError> {
-    let good = is_told_at_cuts(alloc, format, stream)?;
-    Ok(good && is_told_damaged(alloc, format, stream)?)
+// Whether a stream gives the same wherever it is split, and damaged.
+fn is_same_however_fed(alloc: Global, format: Format, stream: &[u8]) -> Result<bool, AllocError> {
+    let good = is_same_at_all_splits(alloc, format, stream)?;
+    Ok(good && is_same_damaged(alloc, format, stream)?)
 }
 
 // The number of the first stream that is not, if one is not.
@@ -222,7 +222,7 @@ fn first_wrong(
     streams: &[&[u8]],
 ) -> Result<Option<usize>, AllocError> {
     for at in 0..streams.len() {
-        if !is_told(alloc, format, streams[at])? {
+        if !is_same_however_fed(alloc, format, streams[at])? {
             return Ok(Some(at));
         }
     }
@@ -230,7 +230,7 @@ fn first_wrong(
 }
 
 #[test]
-fn what_is_told_does_not_depend_on_the_cut(rt: HostRuntime) -> Result<(), AllocError> {
+fn events_do_not_depend_on_how_bytes_are_split(rt: HostRuntime) -> Result<(), AllocError> {
     let wrong = first_wrong(rt.alloc(), Format::bgr233(), SERVERS)?;
     assert_eq!(rt; wrong, None);
     let wrong = first_wrong(rt.alloc(), Format::rgb888(), WIDE_SERVERS)?;
@@ -238,7 +238,7 @@ fn what_is_told_does_not_depend_on_the_cut(rt: HostRuntime) -> Result<(), AllocE
     Ok(())
 }
 
-// A handshake of a screen of 2 by 1, and behind it an update that ends in a fault.
+// A handshake of a screen of 2 by 1, and after it an update that ends in a fault.
 fn faulty(alloc: Global, slices: &[&[u8]]) -> Result<Vec<u8>, AllocError> {
     let mut stream = HELLO_2_BY_1.to_vec(alloc)?;
     for slice in slices {
@@ -249,10 +249,10 @@ fn faulty(alloc: Global, slices: &[&[u8]]) -> Result<Vec<u8>, AllocError> {
 
 fn is_fault_told(alloc: Global, slices: &[&[u8]]) -> Result<bool, AllocError> {
     let stream = faulty(alloc, slices)?;
-    is_told(alloc, Format::bgr233(), &stream)
+    is_same_however_fed(alloc, Format::bgr233(), &stream)
 }
 
-// The number of the first row of the table that is not told so, if one is not.
+// The number of the first row of the table that does not give its event, if one does not.
 fn first_wrong_fault(alloc: Global) -> Result<Option<usize>, AllocError> {
     for at in 0..FAULTS.len() {
         let (slices, _, _) = FAULTS[at];

@@ -1,11 +1,11 @@
-//! An update of all four encodings in each of three formats, cut at every byte: what is shown is
+//! An update of all four encodings in each of three formats, split at every byte: what is shown is
 //! what a plain decoder makes of the bytes so far.
 
 use super::plain::{Pixels, SIDE, shown_after};
 use super::play::{Told, tells};
 use super::*;
 
-// Six rectangles on 18 by 18 places: bytes, and behind them so many pixels.
+// Six rectangles on 18 by 18 places: bytes, and the number of pixels after them.
 const UPDATE: &[(&[u8], usize)] = &[
     // Raw of 3 by 2 at (1, 0).
     (b"\0\0\0\x06\0\x01\0\0\0\x03\0\x02\0\0\0\0", 6),
@@ -32,7 +32,7 @@ const UPDATE: &[(&[u8], usize)] = &[
     (b"\0", 0),
 ];
 
-// Appends so many bytes, each another than the one before it.
+// Appends `count` bytes, each another than the one before it.
 fn append_fresh(bytes: &mut Vec<u8>, count: usize) -> Result<(), AllocError> {
     for _ in 0..count {
         let byte = bytes.len().wrapping_mul(37) % 251;
@@ -41,14 +41,14 @@ fn append_fresh(bytes: &mut Vec<u8>, count: usize) -> Result<(), AllocError> {
     Ok(())
 }
 
-// Appends a row of the table, with pixels of so many bytes.
+// Appends a row of the table, with pixels of `size` bytes.
 fn append_row(bytes: &mut Vec<u8>, at: usize, size: usize) -> Result<(), AllocError> {
     let (given, count) = UPDATE.get(at).copied().unwrap_or_default();
     bytes.extend_from_slice(given)?;
     append_fresh(bytes, count.saturating_mul(size))
 }
 
-// The update with pixels of so many bytes, each of other bytes than the one before it.
+// The update with pixels of `size` bytes, each of other bytes than the one before it.
 fn update(alloc: Global, size: usize) -> Result<Vec<u8>, AllocError> {
     let mut bytes = Vec::new(alloc);
     for at in 0..UPDATE.len() {
@@ -138,7 +138,7 @@ fn is_shown_by_sizes(alloc: Global, case: &Case<'_>) -> Result<bool, AllocError>
     Ok(good)
 }
 
-// Whether it is shown in two slices, cut at each place.
+// Whether it is shown in two slices, split at each byte.
 fn is_shown_by_halves(alloc: Global, case: &Case<'_>) -> Result<bool, AllocError> {
     let mut good = true;
     for first in 0..case.bytes.len() {

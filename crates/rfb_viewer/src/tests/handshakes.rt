@@ -1,4 +1,4 @@
-//! The handshake of each version: what is answered, and what is told at its end.
+//! The handshake of each version: what is answered, and the event at its end.
 
 use super::play::{Step, Told, are_right, first_wrong_greeting, greets};
 use super::*;
@@ -7,13 +7,13 @@ use crate::ViewerFault;
 // What a server of a screen of 2 by 1 with the name `t` sends in ServerInit, its format rgb888.
 const INIT: &[u8] = b"\0\x02\0\x01\x20\x18\0\x01\0\xFF\0\xFF\0\xFF\x10\x08\0\0\0\0\0\0\0\x01t";
 
-// All of that up to the last byte but two, up to the length of the name, and behind the size of the
+// All of that up to the last byte but two, up to the length of the name, and after the size of the
 // screen up to the last byte but two.
 const INIT_FRONT: &[u8] = b"\0\x02\0\x01\x20\x18\0\x01\0\xFF\0\xFF\0\xFF\x10\x08\0\0\0\0\0\0\0";
 
 const INIT_SCREEN: &[u8] = b"\0\x02\0\x01\x20\x18\0\x01\0\xFF\0\xFF\0\xFF\x10\x08\0\0\0\0";
 
-const INIT_BEHIND_SIZE: &[u8] = b"\x20\x18\0\x01\0\xFF\0\xFF\0\xFF\x10\x08\0\0\0\0\0\0\0";
+const INIT_AFTER_SIZE: &[u8] = b"\x20\x18\0\x01\0\xFF\0\xFF\0\xFF\x10\x08\0\0\0\0\0\0\0";
 
 // A server's version, and what is answered: the same.
 const V33: Step<'static> = Step::Feed(b"RFB 003.003\n", 12, Told::Reply(b"RFB 003.003\n"));
@@ -106,8 +106,8 @@ fn a_name_of_no_bytes_and_one_past_the_limit(rt: HostRuntime) {
     assert_eq!(rt; first_wrong_greeting(rt.alloc(), NAMES), None);
 }
 
-// ServerInit behind the size of the screen: taken up to its last byte but one, and refused there.
-const TAKEN: Step<'static> = Step::Feed(INIT_BEHIND_SIZE, 19, Told::Nothing);
+// ServerInit after the size of the screen: taken up to its last byte but one, and refused there.
+const TAKEN: Step<'static> = Step::Feed(INIT_AFTER_SIZE, 19, Told::Nothing);
 
 const TOO_LARGE: Step<'static> = Step::Fail(b"\x01", ViewerFault::ScreenTooLarge);
 
@@ -115,7 +115,7 @@ const EMPTY: Step<'static> = Step::Fail(b"\x01", ViewerFault::ScreenEmpty);
 
 const BLANK: Step<'static> = Step::Blank(true);
 
-// Behind a width and a height, all of a row.
+// After a width and a height, all of a row.
 const SCREENS: &[&[Step<'static>]] = &[
     &[
         V33,

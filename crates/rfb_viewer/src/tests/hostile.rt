@@ -1,11 +1,11 @@
-//! What a hostile server sends behind the handshake: the fault, its byte, and the pieces shown
+//! What a hostile server sends after the handshake: the fault, its byte, and the pieces shown
 //! before it.
 
 use super::play::{Step, Told, plays_at_bgr233};
 use super::*;
 use crate::ViewerFault;
 
-// The head of an update with so many rectangles, behind which their heads and data come.
+// The head of an update, after which the heads and data of its rectangles come.
 const ONE: &[u8] = b"\0\0\0\x01";
 
 const TWO: &[u8] = b"\0\0\0\x02";
@@ -93,7 +93,7 @@ pub const FAULTS: &[([&[u8]; 3], ViewerFault, Colour)] = &[
 ];
 
 // Whether slices are taken one after another but for the last byte, and that one ends in this fault
-// for good, behind which both places have this colour.
+// for good, after which both places have this colour.
 fn fails(alloc: Global, slices: [&[u8]; 3], wanted: ViewerFault, shown: Colour) -> bool {
     let [first, second, last] = slices;
     let row = [shown, shown];
@@ -118,7 +118,7 @@ fn first_wrong_fault(alloc: Global) -> Option<usize> {
 }
 
 #[test]
-fn a_fault_is_told_at_the_last_byte_of_its_piece(rt: HostRuntime) {
+fn a_fault_is_reported_at_the_last_byte_of_its_piece(rt: HostRuntime) {
     assert_eq!(rt; first_wrong_fault(rt.alloc()), None);
 }
 
@@ -158,7 +158,7 @@ const FIRST_TILE: &[Colour] = &[
     TEN, TEN, TEN, TEN, TEN, TEN, TEN, TEN, TEN, TEN, TEN, TEN, TEN, TEN, TEN, TEN, BLACK,
 ];
 
-// Masks of the second of two tiles, behind a background of 10.
+// Masks of the second of two tiles, after a background of 10.
 const MASKS: &[(&[u8], ViewerFault)] = &[
     (b"\x02\x10\x1C", ViewerFault::BothColourBits),
     (b"\x02\x10\x14", ViewerFault::BothColourBits),

@@ -67,13 +67,13 @@ const TEXT_AT_THE_LIMIT: &[Step<'static>] = &[
     Step::Feed(b"\x03\0\0\0\0\x10\0\0", 8, Told::Nothing),
 ];
 
-// Whether these steps go as they should, and behind them 3 MiB of a text are taken.
+// Whether these steps go as they should, and after them 3 MiB of a text are taken.
 fn takes_longest(alloc: Global, steps: &[Step<'_>], slice: &[u8]) -> bool {
     let mut viewer = with_long_texts(alloc);
     are_right(&mut viewer, steps) && takes_three_mib(&mut viewer, slice)
 }
 
-// So many bytes of a text.
+// `count` bytes of a text.
 fn letters(alloc: Global, count: usize) -> Result<Vec<u8>, AllocError> {
     let mut letters = Vec::new(alloc);
     letters.resize(count, b'n')?;
@@ -94,7 +94,7 @@ fn the_longest_text_is_taken_slice_by_slice(rt: HostRuntime) -> Result<(), Alloc
     Ok(())
 }
 
-// Whether a text of 1 MiB is told whole.
+// Whether a text of 1 MiB comes whole in its event.
 fn tells_whole(alloc: Global, text: &[u8]) -> bool {
     let mut viewer = with_long_texts(alloc);
     are_right(&mut viewer, TEXT_AT_THE_LIMIT)
@@ -108,7 +108,7 @@ fn a_text_at_the_limit_is_kept_whole(rt: HostRuntime) -> Result<(), AllocError> 
     Ok(())
 }
 
-// Whether all of a stream is taken, or want of memory is told, and then told once more.
+// Whether all of a stream is taken, or want of memory is reported, and then reported once more.
 fn is_taken_or_wants_memory(viewer: &mut Viewer, stream: &[u8]) -> bool {
     for byte in stream.chunks(1) {
         if let Some(fault) = fault_at(viewer, byte) {
@@ -125,9 +125,9 @@ fn tells_want_of_memory(alloc: Global) -> bool {
     is_taken_or_wants_memory(&mut viewer, stream)
 }
 
-// The screen, the name and a text take memory. Where it is refused, that is told once more, and
+// The screen, the name and a text take memory. Where it is refused, that is reported once more, and
 // else all is taken.
 #[test]
-fn want_of_memory_is_told_for_good(rt: HostRuntime) {
+fn want_of_memory_is_reported_for_good(rt: HostRuntime) {
     assert!(rt; tells_want_of_memory(rt.alloc()));
 }

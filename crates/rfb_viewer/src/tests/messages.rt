@@ -1,4 +1,4 @@
-//! Messages behind the handshake: what is told of each, and at which byte.
+//! Messages after the handshake: the event of each, and at which byte.
 
 use super::play::{Step, Told, plays_at_rgb888, tells};
 use super::*;
@@ -9,7 +9,7 @@ fn plays_2_by_1(alloc: Global, steps: &[Step<'_>]) -> bool {
     plays_at_rgb888(alloc, HELLO_2_BY_1, steps)
 }
 
-// A bell behind a text of five bytes, of which four are kept; and the text but its last byte.
+// A bell after a text of five bytes, of which four are kept; and the text but its last byte.
 const TEXT: &[u8] = b"\x03\0\0\0\0\0\0\x05ABCDE\x02";
 
 const TEXT_FRONT: &[u8] = b"\x03\0\0\0\0\0\0\x05ABCD";
@@ -47,7 +47,8 @@ fn colours_are_skipped_to_the_last_one(rt: HostRuntime) {
     assert!(rt; plays_2_by_1(rt.alloc(), COLOURS));
 }
 
-// Whether so many colours, which are six bytes each, are skipped in slices of 4,096 bytes.
+// Whether as many colours as a message can have, of six bytes each, are skipped in slices of 4,096
+// bytes.
 fn skips_slices(viewer: &mut Viewer) -> bool {
     let slice = [7; 4_096];
     let mut good = true;
@@ -95,7 +96,7 @@ fn a_rectangle_of_no_place_is_done_with_its_head(rt: HostRuntime) {
     assert!(rt; plays_2_by_1(rt.alloc(), OF_NO_PLACE));
 }
 
-// Whether this type of a message is refused behind a bell, whatever follows.
+// Whether this type of a message is refused after a bell, whatever follows.
 fn is_unknown(alloc: Global, kind: u8) -> bool {
     let fault = ViewerFault::UnknownMessage(kind);
     let steps = [

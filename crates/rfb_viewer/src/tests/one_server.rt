@@ -29,7 +29,7 @@ const SENT: &[u8] =
     b"RFB 003.008\n\x01\x01\0\0\0\0\x20\x18\0\x01\0\xFF\0\xFF\0\xFF\x10\x08\0\0\0\0\x02\0\0\x04\0\0\0\x01\0\0\0\x05\0\0\0\x02\0\0\0\0\x03\0\0\0\0\0\0\x02\0\x01\x03\x01\0\0\0\0\0\x02\0\x01";
 
 // What a viewer of one server does with bytes that came: it takes them all and answers; it asks for
-// all once it is ready, and for what changed behind each update.
+// all once it is ready, and for what changed after each update.
 fn view(viewer: &mut Viewer, came: &[u8], sent: &mut Vec<u8>) -> Result<(), Fail> {
     let mut rest = came;
     while !rest.is_empty() {

@@ -89,7 +89,8 @@ fn subrects(alloc: Global, count: usize) -> Result<Vec<u8>, AllocError> {
     Ok(parts)
 }
 
-// Whether such a slice of 4,000 bytes is taken, and so many of its last are pending.
+// Whether such a slice of 4,000 bytes is taken, and the bytes after its last whole subrectangle are
+// pending.
 fn takes_slice(viewer: &mut Viewer, parts: &[u8], before: usize) -> bool {
     let come = before % 9;
     let slice = parts.get(come..come + 4_000).unwrap_or_default();
@@ -104,7 +105,7 @@ fn takes_a_million(viewer: &mut Viewer, parts: &[u8]) -> bool {
     good
 }
 
-// A background, which is shown at once, and what is shown behind the subrectangles.
+// A background, which is shown at once, and what is shown after the subrectangles.
 const BACKGROUND: &[Step<'static>] = &[
     Step::Feed(SUBRECTS, 16, Told::Nothing),
     Step::Feed(b"\xFF\xFF\xFF\xFF\x10", 5, Told::Nothing),
@@ -116,7 +117,7 @@ const PAINTED: &[Colour] = &[
     TEN, TEN, TEN, TWENTY, TEN, TEN, TEN, TEN, TEN, TEN, TEN, TEN, TEN, TEN, TEN, TEN, TEN,
 ];
 
-// Whether they are painted, behind that background.
+// Whether they are painted, after that background.
 fn paints_a_million(alloc: Global, parts: &[u8]) -> bool {
     let mut viewer = ready(alloc, Format::bgr233(), HELLO_17_BY_1);
     are_right(&mut viewer, BACKGROUND)
@@ -124,7 +125,7 @@ fn paints_a_million(alloc: Global, parts: &[u8]) -> bool {
         && are_right(&mut viewer, &[Step::Shows(PAINTED)])
 }
 
-// Of the most subrectangles that a count can tell, the first million. Slices of 4,000 bytes cut
+// Of the most subrectangles that a count can tell, the first million. Slices of 4,000 bytes split
 // them at each of their nine bytes.
 #[test]
 fn a_million_subrectangles_are_taken_as_they_come(rt: HostRuntime) -> Result<(), AllocError> {

@@ -1,4 +1,4 @@
-//! How many bytes are pending behind each byte, and where no message has begun.
+//! How many bytes are pending after each byte, and where no message has begun.
 
 use super::play::{Step, are_right, plays_at_bgr233};
 use super::*;
@@ -23,7 +23,7 @@ fn keeps_a_handshake(alloc: Global) -> bool {
 }
 
 #[test]
-fn a_handshake_keeps_what_stands_behind_its_last_whole_piece(rt: HostRuntime) {
+fn a_handshake_keeps_what_stands_after_its_last_whole_piece(rt: HostRuntime) {
     assert!(rt; keeps_a_handshake(rt.alloc()));
 }
 

@@ -27,8 +27,8 @@ struct Zone {
     h: usize,
 }
 
-// The bytes, of which so many are read, and the picture's pixels so far. Once a piece was cut off,
-// zeros are read, and nothing is drawn.
+// The bytes, how many of them are read, and the picture's pixels so far. Once a piece was
+// truncated, zeros are read, and nothing is drawn.
 #[derive(Drop)]
 struct Plain<'a> {
     bytes: &'a [u8],
@@ -39,7 +39,7 @@ struct Plain<'a> {
 }
 
 impl Plain<'_> {
-    // Whether so many bytes are there; if not, the piece that they are in is cut off.
+    // Whether `count` bytes are there; if not, the piece that they are in is truncated.
     fn has(&mut self, count: usize) -> bool {
         let left = self.bytes.len().saturating_sub(self.read);
         self.cut_off = self.cut_off || left < count;
@@ -55,7 +55,7 @@ impl Plain<'_> {
         usize::from(byte)
     }
 
-    // A number of so many bytes, the highest first.
+    // A number of `count` bytes, the highest first.
     fn number(&mut self, count: usize) -> usize {
         let mut number = 0usize;
         for _ in 0..count {
@@ -165,7 +165,7 @@ impl Plain<'_> {
         }
     }
 
-    // A tile: the background and the foreground before it, and then those behind it.
+    // A tile: the background and the foreground before it, and then those after it.
     fn take_tile(&mut self, tile: Zone, (before, ink): (usize, usize)) -> (usize, usize) {
         let mask = self.number(1);
         if mask & 1 != 0 {
@@ -179,7 +179,7 @@ impl Plain<'_> {
         (background, foreground)
     }
 
-    // So many subrectangles, with colours of their own or not: shown when all of them came.
+    // `count` subrectangles, with colours of their own or not: shown when all of them came.
     fn take_parts(
         &mut self,
         tile: Zone,
@@ -275,7 +275,7 @@ fn place_in(zone: Zone, x: usize, y: usize) -> Zone {
     within(zone, Zone { x, y, w: 1, h: 1 })
 }
 
-// A place of so many, or, where they are turned, that place from the end.
+// A place of `count`, or, where they are turned, that place from the end.
 fn turned(place: usize, count: usize, is_turned: bool) -> usize {
     if is_turned {
         count.wrapping_sub(place).wrapping_sub(1)

@@ -10,7 +10,7 @@ const AT_READY: [u8; 28] = [
     0x02, 0, 0, 1, 0, 0, 0, 0,
 ];
 
-/// What is told of bytes.
+/// The event that bytes give.
 #[derive(Clone, Copy)]
 pub enum Told<'a> {
     Nothing,
@@ -28,18 +28,18 @@ pub enum Told<'a> {
 /// What a viewer is fed or asked, or what holds of it. A step that goes another way is wrong.
 #[derive(Clone, Copy)]
 pub enum Step<'a> {
-    /// It takes so many of these bytes, and then tells that.
+    /// It takes that number of these bytes, and then tells that.
     Feed(&'a [u8], usize, Told<'a>),
     /// These bytes end in that fault.
     Fail(&'a [u8], ViewerFault),
     /// It takes all of these bytes but the last, and tells nothing. That one ends in that fault,
     /// and so does all that comes then, also when it is fed nothing.
     Break(&'a [u8], ViewerFault),
-    /// It takes each byte by itself, and behind it so many bytes are pending.
+    /// It takes each byte by itself, and after each that number of bytes is pending.
     Keep(&'a [u8], &'a [usize]),
-    /// It takes each byte by itself, tells nothing, and shows one row of these colours behind it.
+    /// It takes each byte by itself, tells nothing, and shows one row of these colours after it.
     Still(&'a [u8], &'a [Colour]),
-    /// It takes each byte by itself, tells nothing, and behind it stands inside a message, where
+    /// It takes each byte by itself, tells nothing, and after it stands inside a message, where
     /// another format is refused so, or set.
     Inside(&'a [u8], Option<CallFault>),
     /// The same, where a format and a request for that area are refused as busy.
@@ -102,7 +102,7 @@ fn is_ready(event: &ViewerEvent, wanted: &[u8], length: u32) -> bool {
     }
 }
 
-/// Whether it takes so many of the bytes, and then tells that.
+/// Whether it takes `wanted` of the bytes, and then tells that.
 pub fn tells(viewer: &mut Viewer, bytes: &[u8], wanted: usize, told: Told<'_>) -> bool {
     match viewer.feed(bytes) {
         Ok(Fed { used, event }) => used == wanted && is_event(&event, told),
@@ -129,7 +129,7 @@ fn breaks(viewer: &mut Viewer, bytes: &[u8], wanted: ViewerFault) -> bool {
         && fails(viewer, b"", wanted)
 }
 
-// Whether each byte of a stream is taken, and so many are pending behind it.
+// Whether each byte of a stream is taken, and after it as many are pending as are wanted.
 fn keeps(viewer: &mut Viewer, stream: &[u8], wanted: &[usize]) -> bool {
     let mut good = stream.len() == wanted.len();
     for (byte, pending) in stream.chunks(1).zip(wanted) {
@@ -138,7 +138,7 @@ fn keeps(viewer: &mut Viewer, stream: &[u8], wanted: &[usize]) -> bool {
     good
 }
 
-// Whether each byte of a stream is taken, and behind it such a row is shown.
+// Whether each byte of a stream is taken, and after it such a row is shown.
 fn stays(viewer: &mut Viewer, stream: &[u8], row: &[Colour]) -> bool {
     let mut good = true;
     for byte in stream.chunks(1) {
@@ -147,7 +147,7 @@ fn stays(viewer: &mut Viewer, stream: &[u8], row: &[Colour]) -> bool {
     good
 }
 
-// Whether each byte of a stream is taken, and behind it a format is refused so, or set.
+// Whether each byte of a stream is taken, and after it a format is refused so, or set.
 fn is_inside(viewer: &mut Viewer, stream: &[u8], wanted: Option<CallFault>) -> bool {
     let mut good = true;
     for byte in stream.chunks(1) {
@@ -158,7 +158,7 @@ fn is_inside(viewer: &mut Viewer, stream: &[u8], wanted: Option<CallFault>) -> b
     good
 }
 
-// Whether each byte of a stream is taken, and behind it a request and a format are refused.
+// Whether each byte of a stream is taken, and after it a request and a format are refused.
 fn is_busy(viewer: &mut Viewer, stream: &[u8], rect: Rect) -> bool {
     let mut good = true;
     for byte in stream.chunks(1) {
@@ -277,7 +277,7 @@ pub fn first_wrong_greeting(alloc: Global, lists: &[&[Step<'_>]]) -> Option<usiz
     None
 }
 
-// Whether all steps go as they should of a viewer behind such a handshake.
+// Whether all steps go as they should of a viewer after such a handshake.
 fn plays(alloc: Global, format: Format, hello: &[u8], steps: &[Step<'_>]) -> bool {
     let mut viewer = ready(alloc, format, hello);
     are_right(&mut viewer, steps)

@@ -215,7 +215,7 @@ impl Viewer {
     }
 }
 
-// A message of so many bytes.
+// A message of `SIZE` bytes.
 fn bytes_of<const SIZE: usize>(message: &ArrayVec<u8, 20>) -> [u8; SIZE]
     requires { length message.now.items ≡ SIZE }
     ensures { result ≡ message.now.items }

@@ -39,7 +39,7 @@ impl Viewer {
     }
 
     /// Whether the server's bytes end between two messages: the handshake is done, no message has
-    /// begun, no rectangle is left of an update, and no fault was told.
+    /// begun, no rectangle is left of an update, and no fault was returned.
     pub fn between(&self) -> bool
         ensures value { (viewing : Viewing) (s : ViewerState) (prefix : List ℕ)
             → StandsFor viewing self.now s prefix → result ≡ is_between s.point prefix }
@@ -48,7 +48,7 @@ impl Viewer {
         self.is_idle()
     }
 
-    /// How many bytes are pending: those of the server's item under way that stand behind its last
+    /// How many bytes are pending: those of the server's item under way that stand after its last
     /// whole piece. It holds no others, but the first bytes of a text.
     pub fn pending(&self) -> usize
         ensures value { (viewing : Viewing) (s : ViewerState) (prefix : List ℕ)

@@ -8,7 +8,7 @@ use crate::event::ViewerEvent;
 use crate::fault::ViewerFault;
 use crate::gather::read_head;
 use crate::viewer::Viewer;
-use crate::viewer::behind::go_on_behind;
+use crate::viewer::after::go_on_after;
 use crate::viewer::progress::Progress;
 use arrayvec::ArrayVec;
 use rfb_hello::Fed;
@@ -49,7 +49,7 @@ impl Viewer {
             Read::Got(head, _) => head,
             Read::Bad(fault) => return Err(self.progress.fail(ViewerFault::of_wire(fault))),
         };
-        let Ok(event) = go_on_behind(
+        let Ok(event) = go_on_after(
             head,
             self.alloc,
             self.text_limit,

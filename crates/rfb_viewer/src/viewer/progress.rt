@@ -77,7 +77,7 @@ impl Progress {
         *self = Progress::Head(ArrayVec::new());
     }
 
-    /// Comes to a rectangle's head, behind which so many rectangles follow.
+    /// Comes to a rectangle's head, after which `more` rectangles follow.
     #[inline(never)]
     pub(crate) fn begin_rectangle(&mut self, more: u16)
         ensures { self.new ≡ at_rectangle more }

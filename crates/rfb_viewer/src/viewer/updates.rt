@@ -7,7 +7,7 @@ ghost use Rattle.rfb_codec.specs.UnderWay.{UnderWay};
 use crate::event::ViewerEvent;
 use crate::fault::ViewerFault;
 use crate::viewer::Viewer;
-use crate::viewer::behind::{end_of, go_on};
+use crate::viewer::after::{end_of, go_on};
 use crate::viewer::progress::{Progress, RECT_HEAD_PART};
 use rfb_codec::Painter;
 use rfb_hello::Fed;
@@ -32,7 +32,7 @@ impl Viewer {
     ghost use Rattle.rfb_viewer.specs.inside.Feeding.{StepsOn, RefusesBy, StarvesBy, end_event};
     ghost use Rattle.rfb_viewer.specs.Failing.{KeepsPicture, KeepsReason};
 
-    // Takes bytes of a rectangle's head, and behind it those of its data.
+    // Takes bytes of a rectangle's head, and after it those of its data.
     pub(super) fn take_rect_head(&mut self, bytes: &[u8]) -> Result<Fed<ViewerEvent>, ViewerFault>
         requires some { 0 < length bytes.now }
         requires head { (more : ℕ) × (part : Items ℕ)

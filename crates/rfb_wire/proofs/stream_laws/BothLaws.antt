@@ -41,11 +41,11 @@ module _ {S R K H E A P I F D : Type 0} where
       )
   items_read m a shows item fault event is other does s u bytes (i ∷ j ∷ items) rest told shown ends
       reads =
-      let behind : ReadsAll a.grammar (a.point (a.act u i)) reads.0 (j ∷ items) rest =
+      let after : ReadsAll a.grammar (a.point (a.act u i)) reads.0 (j ∷ items) rest =
       subst (λ (p : P). ReadsAll a.grammar p reads.0 (j ∷ items) rest) (sym (other.past u i))
       reads.2 in
       let more = items_read m a shows item fault event is other does (m.act s (item i)) (a.act u i)
-      reads.0 (j ∷ items) rest told (does.goes_on s u i shown ends.0) ends.1 behind in (
+      reads.0 (j ∷ items) rest told (does.goes_on s u i shown ends.0) ends.1 after in (
         reads.0,
         does.reads s u bytes shown ∙ ap (λ (n : Next I F). named item fault n) reads.1,
         subst (λ (p : R). ReadsAll m.grammar p reads.0 (map item (j ∷ items)) rest)
@@ -281,11 +281,11 @@ module _ {S A P I F Q J G H D E : Type 0} where
   }
 
   -- after an item of the first the end shows what that comes to, or stands at the second
-  lands_behind : (two : Two P I F Q J G H) (m : Machine S (Stage P Q) (Stage I J) H E)
+  lands_after : (two : Two P I F Q J G H) (m : Machine S (Stage P Q) (Stage I J) H E)
       (a : Machine A P I F D) (shows : S → Option A) (event : D → Option E) → IsMachine m →
       GoesAsFirst two m a shows event → (s t : S) (u v : A) (i : I) → shows s ≡ Some u →
       t ≡ m.act s (First i) → v ≡ a.act u i → LandsAs two m a shows t v
-  lands_behind two m a shows event is goes s t u v i shown state left =
+  lands_after two m a shows event is goes s t u v i shown state left =
       by (two.leads (a.point u) i) refl
     where
       by : (over : Option Q) → two.leads (a.point u) i ≡ over → LandsAs two m a shows t v
@@ -311,7 +311,7 @@ module _ {S A P I F Q J G H D E : Type 0} where
       ComesTo m a shows (λ i. First i) told t v → LandsAs two m a shows t v
   lands two m a shows event is goes None t v comes = inl comes
   lands two m a shows event is goes (Some d) t v comes =
-      lands_behind two m a shows event is goes comes.0 t comes.1 v comes.2 comes.3 comes.5 comes.6
+      lands_after two m a shows event is goes comes.0 t comes.1 v comes.2 comes.3 comes.5 comes.6
 
 module _ {S B P I F Q J G H C E : Type 0} where
   -- an end of both does as the second's, after each item of it
@@ -357,10 +357,10 @@ module _ {S P I F Q J G H D E : Type 0} where
     point = λ s u shown. first_is (m.point s) u shown;
     tells = λ s u i shown. told s u i (first_is (m.point s) u shown);
     stays = λ s u i shown stays.
-        let behind : m.point (m.act s (First i)) ≡ First (two.first.past u i) =
+        let after : m.point (m.act s (First i)) ≡ First (two.first.past u i) =
         is.past s (First i)
         ∙ past_item two m.grammar (m.point s) u i both (first_is (m.point s) u shown)
         ∙ ap (λ (over : Option Q). turn over (two.first.past u i)) stays in
-        ap (λ (r : Stage P Q). first_point r) behind;
+        ap (λ (r : Stage P Q). first_point r) after;
     told_over = told_over;
   }

@@ -329,7 +329,8 @@ module _ {S P I F E : Type 0} where
       in_front None events = refl
       in_front (Some e) events = refl
 
-  -- calls over the same bytes, however these are cut, tell the same events and leave the same state
+  -- calls over the same bytes, however these are split, tell the same events and leave the same
+  -- state
   pub calls_agree : (m : Machine S P I F E) → IsMachine m →
       (s t u : S) (prefix mid rest : List ℕ) (one two : List (Call E)) →
       m.grammar.next (m.point s) prefix ≡ More → bytes_of one ≡ bytes_of two →

@@ -112,10 +112,10 @@ module _ {P I F : Type 0} where
       let there : g.next p (bytes ++ later) ≡ Got j h.0 = h.1 in
       let item : j ≡ i = cc in
       let mid : h.0 ≡ w.0 ++ later = cc in
-      let behind : ReadsAll g (g.past p i) (w.0 ++ later) queue [] =
+      let after : ReadsAll g (g.past p i) (w.0 ++ later) queue [] =
       subst (λ (zs : List ℕ). ReadsAll g (g.past p i) zs queue []) mid
       (subst (λ (k : I). ReadsAll g (g.past p k) h.0 queue []) item h.2) in
-      let left = all_rest g laws (g.past p i) w.0 later items queue rest w.2 behind in
+      let left = all_rest g laws (g.past p i) w.0 later items queue rest w.2 after in
       (left.0, (λ k. item k ∷ left.1 k), left.2)
 
   -- bytes in flight that are whole items show no fault
@@ -189,12 +189,12 @@ module _ {P I F : Type 0} where
       (subst (λ (zs : List ℕ). g.next p zs ≡ Got i a.0) b a.1))
   all_one g p bytes (i ∷ xs) (j ∷ ys) one two v w a e b h =
       let first = got_one g p bytes j i b.0 a.0 b.1 a.1 in
-      let behind : ReadsAll g (g.past p i) a.0 ys two =
+      let after : ReadsAll g (g.past p i) a.0 ys two =
       subst (λ (zs : List ℕ). ReadsAll g (g.past p i) zs ys two) first.1
       (subst (λ (k : I). ReadsAll g (g.past p k) b.0 ys two) first.0 b.2) in
       let end : EndsIn w (g.next (past_all g (g.past p i) ys) two) =
       subst (λ (k : I). EndsIn w (g.next (past_all g (g.past p k) ys) two)) first.0 h in
-      let rest = all_one g (g.past p i) a.0 xs ys one two v w a.2 e behind end in
+      let rest = all_one g (g.past p i) a.0 xs ys one two v w a.2 e after end in
       ((λ k. sym first.0 k ∷ rest.0 k), rest.1, rest.2)
 
   -- items that bytes begin with are the first of those that they were read as as far as they go
@@ -207,10 +207,10 @@ module _ {P I F : Type 0} where
       (subst (λ (zs : List ℕ). g.next p zs ≡ Got j b.0) a b.1))
   all_front g p bytes (i ∷ xs) (j ∷ ys) one two v a e b =
       let first = got_one g p bytes j i b.0 a.0 b.1 a.1 in
-      let behind : ReadsAll g (g.past p i) a.0 ys two =
+      let after : ReadsAll g (g.past p i) a.0 ys two =
       subst (λ (zs : List ℕ). ReadsAll g (g.past p i) zs ys two) first.1
       (subst (λ (k : I). ReadsAll g (g.past p k) b.0 ys two) first.0 b.2) in
-      let rest = all_front g (g.past p i) a.0 xs ys one two v a.2 e behind in
+      let rest = all_front g (g.past p i) a.0 xs ys one two v a.2 e after in
       (rest.0, λ k. sym first.0 k ∷ rest.1 k)
 
   -- bytes have one verdict
@@ -289,11 +289,11 @@ module _ {P I F : Type 0} where
   verdict_some g laws p bytes = verdict_within g laws (length bytes) p bytes (omega arith)
 
   -- what was read before belongs to the verdict
-  pub verdict_behind : (g : Grammar P I F) → IsGrammar g →
+  pub verdict_after : (g : Grammar P I F) → IsGrammar g →
       (p : P) (bytes tail : List ℕ) (here later : List I) (rest : List ℕ) (v : Option F) →
       ReadsAll g p bytes here rest → HasVerdict g (past_all g p here) (rest ++ tail) later v →
       HasVerdict g p (bytes ++ tail) (here ++ later) v
-  verdict_behind g laws p bytes tail here later rest v reads others = record {
+  verdict_after g laws p bytes tail here later rest v reads others = record {
     rest = others.rest;
     reads = all_append g p (bytes ++ tail) here later (rest ++ tail) others.rest
         (all_more g laws p bytes tail here rest reads) others.reads;
@@ -322,7 +322,7 @@ module _ {P I F : Type 0} where
       let others : HasVerdict g (past_all g p here) (rest ++ concat slices) later v =
       cut_verdict g laws (past_all g p here) rest slices later v goes in
       rw (all, ← append_assoc front slice (concat slices))
-      (verdict_behind g laws p (front ++ slice) (concat slices) here later rest v reads others)
+      (verdict_after g laws p (front ++ slice) (concat slices) here later rest v reads others)
   cut_verdict g laws p front (slice ∷ slices) items v
       (here, later, rest, Some f, all, reads, ends, goes) =
       rw (all, goes.0, goes.1, append-nil here, ← append_assoc front slice (concat slices))
@@ -353,7 +353,7 @@ module _ {P I F : Type 0} where
       by here rest (Some f) reads ends goes_on =
           (here ++ [], Some f, (here, [], rest, Some f, refl, reads, ends, (refl, refl)))
 
-  -- the verdict of bytes does not depend on how they are cut
+  -- the verdict of bytes does not depend on how they are split
   pub cuts_agree : (g : Grammar P I F) → IsGrammar g →
       (p : P) (one two : List (List ℕ)) (xs ys : List I) (v w : Option F) →
       concat one ≡ concat two → CutVerdict g p [] one xs v → CutVerdict g p [] two ys w →

@@ -3,7 +3,7 @@ use Rattle.std.proofs.Common.{◌≡◌, ℕ, ◌≤◌, ◌<◌, ◌⊎◌, inl
 use Rattle.std.proofs.lemmas.List.{take_at, drop_at, length-take-le}
 use Rattle.std.proofs.lemmas.Bool.Decides.{nat_tests}
 use Rattle.rfb_wire.specs.stream.Reading.{Next, More, Got, Bad, Reading, Says, Reads, Same}
-use Rattle.rfb_wire.specs.stream.Parts.{piece, done, judged, behind, and_then}
+use Rattle.rfb_wire.specs.stream.Parts.{piece, done, judged, continue_with, and_then}
 
 -- ---- what each part says
 
@@ -133,12 +133,12 @@ module _ {A F : Type 0} where
 module _ {A B F : Type 0} where
   -- what a sequence gives: what its first part gave, and then what the second gives after it
   then_found : (n : Next A F) (k : A → Reading B F) (b : B) (rest : List ℕ) →
-      behind k n ≡ Got b rest → (a : A) × (mid : List ℕ) × (n ≡ Got a mid) × (k a mid ≡ Got b rest)
+      continue_with k n ≡ Got b rest → (a : A) × (mid : List ℕ) × (n ≡ Got a mid) × (k a mid ≡ Got b rest)
   then_found More k b rest e = cc
   then_found (Got a mid) k b rest e = (a, mid, refl, e)
   then_found (Bad f) k b rest e = cc
 
-  then_blamed : (n : Next A F) (k : A → Reading B F) (f : F) → behind k n ≡ Bad f →
+  then_blamed : (n : Next A F) (k : A → Reading B F) (f : F) → continue_with k n ≡ Bad f →
       (n ≡ Bad f) ⊎ ((a : A) × (mid : List ℕ) × (n ≡ Got a mid) × (k a mid ≡ Bad f))
   then_blamed More k f e = cc
   then_blamed (Got a mid) k f e = inr (a, mid, refl, e)

@@ -5,7 +5,7 @@ use Rattle.std.proofs.lemmas.Nat.{mod-mul-add}
 use Rattle.std.proofs.Math.Nat.{mod-le, mod-lt, mod-one}
 use Rattle.std.proofs.lemmas.Bool.Decides.{nat_tests}
 use Rattle.rfb_wire.specs.stream.Reading.{Listed}
-use Rattle.rfb_wire.specs.stream.Pending.{in_pieces, behind_piece, behind_head, message_pending}
+use Rattle.rfb_wire.specs.stream.Pending.{in_pieces, after_piece, after_head, message_pending}
 
 -- ---- pieces
 
@@ -40,13 +40,13 @@ bytes_pending bytes = mod-one (length bytes)
 
 -- a piece that is not whole is pending
 pub piece_pending : (size : ℕ) (pending : List ℕ → ℕ) (bytes : List ℕ) → length bytes < size →
-    behind_piece size pending bytes ≡ length bytes
+    after_piece size pending bytes ≡ length bytes
 piece_pending size pending bytes less = let short : nat_lt (length bytes) size ≡ true =
     grind (arith, nat_tests) in rw short refl
 
 -- after a whole piece it is what follows that may be pending
 pub past_piece : (size : ℕ) (pending : List ℕ → ℕ) (front rest : List ℕ) → length front ≡ size →
-    behind_piece size pending (front ++ rest) ≡ pending rest
+    after_piece size pending (front ++ rest) ≡ pending rest
 past_piece size pending front rest whole =
     let all = length-append front rest in
     let enough : nat_lt (length (front ++ rest)) size ≡ false = grind (arith, nat_tests) in
@@ -58,11 +58,11 @@ pieces_within size bytes = mod-le (length bytes) size
 
 pub piece_within : (size : ℕ) (pending : List ℕ → ℕ) →
     ((rest : List ℕ) → pending rest ≤ length rest) → (bytes : List ℕ) →
-    behind_piece size pending bytes ≤ length bytes
+    after_piece size pending bytes ≤ length bytes
 piece_within size pending within bytes = by (nat_lt (length bytes) size) refl
   where
     by : (b : Bool) → nat_lt (length bytes) size ≡ b →
-        behind_piece size pending bytes ≤ length bytes
+        after_piece size pending bytes ≤ length bytes
     by true e = rw e (omega arith)
     by false e = let less = within (drop size bytes) in let rest =
         length-drop size bytes in rw e (omega (arith, less, rest))
@@ -70,10 +70,10 @@ piece_within size pending within bytes = by (nat_lt (length bytes) size) refl
 -- fewer are pending than a piece has
 pub piece_below : (most size : ℕ) (pending : List ℕ → ℕ) → size ≤ suc most →
     ((rest : List ℕ) → pending rest ≤ most) → (bytes : List ℕ) →
-    behind_piece size pending bytes ≤ most
+    after_piece size pending bytes ≤ most
 piece_below most size pending small below bytes = by (nat_lt (length bytes) size) refl
   where
-    by : (b : Bool) → nat_lt (length bytes) size ≡ b → behind_piece size pending bytes ≤ most
+    by : (b : Bool) → nat_lt (length bytes) size ≡ b → after_piece size pending bytes ≤ most
     by true e = rw e (grind (arith, nat_tests))
     by false e = rw e (below (drop size bytes))
 
@@ -99,7 +99,7 @@ module _ (head : ℕ → Option ℕ) (size : ℕ → ℕ) where
   message_within [] = omega arith
   message_within (first ∷ rest) = by (head first)
     where
-      by : (told : Option ℕ) → behind_head told (size first) (first ∷ rest) ≤ length (first ∷ rest)
+      by : (told : Option ℕ) → after_head told (size first) (first ∷ rest) ≤ length (first ∷ rest)
       by None = omega arith
       by (Some n) =
           piece_within n (in_pieces (size first)) (λ bytes. pieces_within (size first) bytes)
@@ -117,7 +117,7 @@ module _ (head : ℕ → Option ℕ) (size : ℕ → ℕ) where
           mod-lt (length bytes) piece.0 in omega (arith, less, piece.1)
 
       by : (told : Option ℕ) → head first ≡ told →
-          behind_head told (size first) (first ∷ rest) ≤ most
+          after_head told (size first) (first ∷ rest) ≤ most
       by None e = omega arith
       by (Some n) e =
           piece_below most n (in_pieces (size first)) (heads first n e) below (first ∷ rest)

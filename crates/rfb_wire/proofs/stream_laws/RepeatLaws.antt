@@ -3,7 +3,7 @@
 use Rattle.std.proofs.Common.{◌≡◌, ℕ, zero, suc, ◌-◌, ◌<◌, inl, inr, List, [], ◌∷◌, ◌++◌, Bool, true, false, Option, Some, None, length, take, refl, sym, subst, ◌∙◌, ap, append_assoc, append-nil, arith, length-append}
 use Rattle.std.proofs.lemmas.List.{take_at}
 use Rattle.rfb_wire.specs.stream.Reading.{Next, More, Got, Bad, Reading, Says, Reads, Same, Listed, ListedAfter, Optionally}
-use Rattle.rfb_wire.specs.stream.Parts.{named, renamed, checked, judged, piece, done, taken, kept, behind, and_then, valued, optional, many, each}
+use Rattle.rfb_wire.specs.stream.Parts.{named, renamed, checked, judged, piece, done, taken, kept, continue_with, and_then, valued, optional, many, each}
 use Rattle.rfb_wire.proofs.stream_laws.PartLaws.{alone, judged_says, judged_reads, kept_says, piece_says, done_says, then_says, piece_reads, done_reads, then_reads, same_reads}
 
 -- a fault of a part that is there
@@ -273,14 +273,14 @@ module _ {A F : Type 0} where
       taken bytes n ≡ Got body rest →
       (a : A) × (n ≡ Got a rest) × (body ≡ take (length bytes - length rest) bytes)
   taken_found bytes More body rest e = cc
-  taken_found bytes (Got a behind) body rest e =
-      let same : behind ≡ rest = cc in
+  taken_found bytes (Got a after) body rest e =
+      let same : after ≡ rest = cc in
       (a, ap (λ (ys : List ℕ). Got a ys) same, rw (sym same) cc)
   taken_found bytes (Bad f) body rest e = cc
 
   taken_blamed : (bytes : List ℕ) (n : Next A F) (f : F) → taken bytes n ≡ Bad f → n ≡ Bad f
   taken_blamed bytes More f e = cc
-  taken_blamed bytes (Got a behind) f e = cc
+  taken_blamed bytes (Got a after) f e = cc
   taken_blamed bytes (Bad g) f e = let same : g ≡ f = cc in ap (λ (k : F). Bad k) same
 
   pub kept_reads : (p : Reading A F) (s : Says A F) → Reads p s → Reads (kept p) (kept_says s)

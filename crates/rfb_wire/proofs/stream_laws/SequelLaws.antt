@@ -105,11 +105,11 @@ module _ {P I F Q J G H : Type 0} where
   )
 
   -- after an item that does not lead over the first goes on
-  behind_one : {to : Stage P Q} (two : Two P I F Q J G H) (p : P) (i : I) (items : List I) →
+  after_one : {to : Stage P Q} (two : Two P I F Q J G H) (p : P) (i : I) (items : List I) →
       two.leads p i ≡ None →
       past_all (sequel two) (First (two.first.past p i)) (map (λ k. First k) items) ≡ to →
       past_all (sequel two) (First p) (map (λ k. First k) (i ∷ items)) ≡ to
-  behind_one {to = to} two p i items stays h =
+  after_one {to = to} two p i items stays h =
       subst (λ (at : Stage P Q). past_all (sequel two) at (map (λ k. First k) items) ≡ to)
       (sym (ap (λ (over : Option Q). turn over (two.first.past p i)) stays)) h
 
@@ -121,9 +121,9 @@ module _ {P I F Q J G H : Type 0} where
       (two.first.past (past_all two.first p items) last)
   past_first two p [] last stays = refl
   past_first two p (i ∷ []) last stays =
-      behind_one two p i (last ∷ []) stays.0 (past_first two (two.first.past p i) [] last tt)
+      after_one two p i (last ∷ []) stays.0 (past_first two (two.first.past p i) [] last tt)
   past_first two p (i ∷ j ∷ items) last stays =
-      behind_one two p i ((j ∷ items) ++ last ∷ []) stays.0
+      after_one two p i ((j ∷ items) ++ last ∷ []) stays.0
       (past_first two (two.first.past p i) (j ∷ items) last stays.1)
 
   -- the point after items of the second

@@ -1,5 +1,5 @@
--- Sessions over the same bytes agree, however calls cut these; and calls of a
--- delivery are one delivery.
+-- Sessions over the same bytes agree, however calls split these; and calls of a delivery are one
+-- delivery.
 use Rattle.std.proofs.Common.{◌≡◌, ℕ, List, [], ◌++◌, Option, Some, None, sym, subst, ◌∙◌, ap, append_assoc, append-nil, length-append, arith}
 use Rattle.std.specs.Prelude.{⊤}
 use Rattle.rfb_wire.specs.stream.Reading.{More, Bad}
@@ -113,8 +113,8 @@ module _ {S P I F E : Type 0} where
             ∙ ap (λ (es : List E). es ++ later) (sym told_is),
       )
 
-  -- sessions over the same bytes, however these are cut, tell the same
-  -- events and then the same fault
+  -- sessions over the same bytes, however these are split, tell the same events and then the same
+  -- fault
   pub sessions_agree : (m : Machine S P I F E) → IsMachine m →
       (s : S) (prefix xs ys : List ℕ) (one two : List (Call E)) (v w : Option F) →
       Waits m s prefix → bytes_of one ++ xs ≡ bytes_of two ++ ys →

@@ -58,9 +58,9 @@ module _ {A F : Type 0} where
 
 module _ {A B F : Type 0} where
   -- after an item, bytes that are too few for what it asks
-  pub behind_waits : (p : Reading A F) (k : A → Reading B F) (a : A) (bytes rest : List ℕ) →
+  pub after_waits : (p : Reading A F) (k : A → Reading B F) (a : A) (bytes rest : List ℕ) →
       p bytes ≡ Got a rest → k a rest ≡ More → and_then p k bytes ≡ More
-  behind_waits p k a bytes rest got more = rw got more
+  after_waits p k a bytes rest got more = rw got more
 
   pub first_waits : (p : Reading A F) (k : A → Reading B F) (bytes : List ℕ) → p bytes ≡ More →
       and_then p k bytes ≡ More

@@ -33,8 +33,8 @@ module _ {S R K H E A P I F D : Type 0} where
     pub goes_on : (s : S) (u : A) (i : I) → shows s ≡ Some u → a.tells u i ≡ None →
         shows (m.act s (item i)) ≡ Some (a.act u i)
 
-  -- where a call of the other leaves the end: it shows the state that the other is left in, if no
-  -- event was told; else it showed the state before the last item, of which that was told
+  -- where a call of the other leaves the end: it shows the state that the other is left in, if
+  -- there was no event; else it showed the state before the last item, which gave the event
   abbrev pub ComesTo : Machine S R K H E → Machine A P I F D → (S → Option A) → (I → K) → Option D →
       S → A → Type 0
   ComesTo m a shows item None t v = shows t ≡ Some v

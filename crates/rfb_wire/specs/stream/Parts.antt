@@ -36,14 +36,14 @@ module _ {A F : Type 0} where
 
 module _ {A B F : Type 0} where
   -- what is read after an item
-  abbrev pub behind : (A → Reading B F) → Next A F → Next B F
-  behind k More = More
-  behind k (Got a rest) = k a rest
-  behind k (Bad f) = Bad f
+  abbrev pub continue_with : (A → Reading B F) → Next A F → Next B F
+  continue_with k More = More
+  continue_with k (Got a rest) = k a rest
+  continue_with k (Bad f) = Bad f
 
   -- one part, and after it another that the item names
   abbrev pub and_then : Reading A F → (A → Reading B F) → Reading B F
-  and_then p k bytes = behind k (p bytes)
+  and_then p k bytes = continue_with k (p bytes)
 
 module _ {A F : Type 0} where
   -- n bytes, and what they say

@@ -23,7 +23,7 @@ pub fn bytes_have_one_verdict<P, I, F>()
         HasVerdict g p bytes others other → (items ≡ others) × (fault ≡ other) }
 {}
 
-/// The verdict of bytes does not depend on how they are cut into slices: read one after another,
+/// The verdict of bytes does not depend on how they are split into slices: read one after another,
 /// each after what was left of those before it, the slices have a verdict, and it is that of the
 /// bytes.
 pub fn verdict_is_of_the_bytes<P, I, F>()
@@ -46,7 +46,7 @@ pub fn items_are_apart<P, I, F>()
         g.next p front ≡ Got i [] → g.next p (front ++ rest) ≡ Got j [] → (i ≡ j) × (rest ≡ []) }
 {}
 
-/// An end makes the same of the same bytes however calls cut them: its events and the state and
+/// An end makes the same of the same bytes however calls split them: its events and the state and
 /// the prefix that it comes to.
 pub fn calls_agree<S, P, I, F, E>()
     ensures { (m : Machine S P I F E) (s t u : S) (prefix mid rest : List ℕ) →

@@ -1,4 +1,4 @@
--- So many turns led to this world.
+-- The turns so far led to this world.
 use Rattle.rfb.specs.Playing.{deliveries}
 use Rattle.rfb_session.specs.World.{Reaches}
 use Rattle.rfb_session.proofs.RunLaws.{Any}

@@ -16,7 +16,7 @@ use Rattle.rfb.proofs.HubScriptingLemmas.{fails_any, hub_left, hub_plays, stops_
 use Rattle.rfb.proofs.MadeLemmas.{made}
 use Rattle.rfb.proofs.scripting.script.Goals as goal
 
--- what was read behind nothing is what there was to read
+-- what was read after nothing is what there was to read
 script_played : (read : Option (List ℕ)) (empty all : List ℕ) (size : Screen) (wants : Option Wants) (steps : List Numbered) (world : World) (picture : Grid Colour) →
     empty ≡ [] →
     IfSome read (λ text. all ≡ empty ++ text) →

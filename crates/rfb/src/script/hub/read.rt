@@ -90,7 +90,7 @@ fn hub_step_of(alloc: Global, words: &[&[u8]]) -> Result<Option<HubStep>, AllocE
     }
 }
 
-// The step that a keyword other than of foreign bytes and the words behind it ask for.
+// The step that a keyword other than of foreign bytes and the words after it ask for.
 fn spare_step_of(keyword: &[u8], rest: &[&[u8]]) -> Option<HubStep>
     requires foreign { keyword.now ≢ codes "foreign" }
     ensures { MatchOption result
@@ -110,7 +110,7 @@ fn spare_step_of(keyword: &[u8], rest: &[&[u8]]) -> Option<HubStep>
     Some(HubStep::Event(drawing_of(keyword, rest)?))
 }
 
-// The drawing or the hint that a keyword and the words behind it ask for.
+// The drawing or the hint that a keyword and the words after it ask for.
 fn drawing_of(keyword: &[u8], rest: &[&[u8]]) -> Option<HubEvent>
     requires foreign { keyword.now ≢ codes "foreign" }
     requires join { keyword.now ≢ codes "join" }
@@ -135,7 +135,7 @@ fn drawing_of(keyword: &[u8], rest: &[&[u8]]) -> Option<HubEvent>
     None
 }
 
-// The step that the words behind `at` ask for.
+// The step that the words after `at` ask for.
 fn step_at(words: &[&[u8]]) -> Option<HubStep>
     ensures { MatchOption result ((step : HubStep) → ¬ (SaysAt (texts words.now) step))
         (SaysAt (texts words.now)) }
@@ -149,7 +149,7 @@ fn step_at(words: &[&[u8]]) -> Option<HubStep>
     Some(HubStep::Event(HubEvent::Of(slot, slot_event_of(keyword, rest)?)))
 }
 
-// The event of a slot that a keyword and the words behind it ask for.
+// The event of a slot that a keyword and the words after it ask for.
 fn slot_event_of(keyword: &[u8], rest: &[&[u8]]) -> Option<SlotEvent>
     ensures { MatchOption result
         ((event : SlotEvent) → ¬ (SaysEvent (keyword.now ∷ texts rest.now) (event_of event)))

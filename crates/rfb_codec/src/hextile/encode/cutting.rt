@@ -1,4 +1,4 @@
-//! The pixels of a tile, cut out of a block.
+//! The pixels of a tile, copied out of a block.
 
 ghost use Rattle.std.specs.Prelude.{◌≡◌, ℕ, ◌+◌, ◌<◌, ◌≤◌, ◌*◌, ◌++◌, length, slice_index};
 ghost use Rattle.arrayvec.specs.ArrayVec.{array_vec_len};

@@ -56,7 +56,7 @@ fn colour_length(format: &Format, colour: Option<u32>) -> usize
     }
 }
 
-// How many bytes the subrectangles have, of so many each, and the byte that counts them.
+// How many bytes the subrectangles have, of `size` each, and the byte that counts them.
 fn list_length(subs: &TileSubrects, size: usize) -> usize
     requires { size ≤ 6 }
     ensures value { result ≡

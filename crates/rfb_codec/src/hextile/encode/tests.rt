@@ -15,7 +15,7 @@ const A: u32 = 0x10;
 
 const B: u32 = 0x20;
 
-// Gives so many places that pixel, from one on.
+// Gives `count` places that pixel, from one on.
 fn give(pixels: &mut [u32], from: usize, count: usize, pixel: u32) {
     for place in pixels.iter_mut().skip(from).take(count) {
         *place = pixel;

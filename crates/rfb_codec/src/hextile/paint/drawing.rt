@@ -4,7 +4,7 @@ ghost use Rattle.std.specs.Prelude.{◌≡◌, ℕ, ◌+◌, ◌*◌, ◌≤◌,
 ghost use Rattle.rfb_pixel.specs.Format.{size_of, colour_of};
 ghost use Rattle.rfb_codec.specs.Rre.{pixel_at};
 ghost use Rattle.rfb_codec.specs.Tile.{Tile, AreInside, places_of, tile_pixel, colored_of};
-ghost use Rattle.rfb_codec.specs.inside.TileRead.{LiesIn, tile_of_read, AreSubsInside, subs_in, sub_behind, sub_size};
+ghost use Rattle.rfb_codec.specs.inside.TileRead.{LiesIn, tile_of_read, AreSubsInside, subs_in, sub_after, sub_size};
 ghost use Rattle.rfb_codec.specs.Stage.{Sees};
 ghost use Rattle.rfb_codec.specs.inside.Step.{IsPaintable};
 ghost use Rattle.rfb_codec.specs.Painter.{over};
@@ -63,7 +63,7 @@ struct TilePixels {
     foreground: u32,
 }
 
-// Paints the background over the rectangle, and then so many subrectangles, which lie inside it.
+// Paints the background over the rectangle, and then `count` subrectangles, which lie inside it.
 // Those without a pixel of their own have the foreground. Inlined, so that its loop is made anew
 // for each of the two calls, which know whether there are such pixels; and for the format that this
 // project announces, which is known before it runs.
@@ -154,11 +154,11 @@ fn unpacked(format: Format, pixel: u32) -> Colour
     }
 }
 
-// The subrectangle after so many others.
+// The subrectangle after `n` others.
 #[inline(always)]
 fn sub_at(format: Format, foreground: u32, colored: bool, n: usize, list: &[u8]) -> Subrect
     requires { (n + 1) * sub_size format colored ≤ length list.now }
-    ensures { result ≡ sub_behind format foreground colored n list.now }
+    ensures { result ≡ sub_after format foreground colored n list.now }
 {
     if colored {
         let size = format.size();

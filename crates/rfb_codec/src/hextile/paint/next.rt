@@ -9,7 +9,7 @@ ghost use Rattle.rfb_codec.specs.inside.Step.{IsGoodTile, TellsNext, DrawsTile};
 
 use super::drawing::draw_tile;
 use super::reading::read_tile;
-use super::tile_read::{Seen, TileRead, seen_behind};
+use super::tile_read::{Seen, TileRead, seen_after};
 use crate::fault::PaintFault;
 use crate::hextile::tiles::{tile_count, tile_rect};
 use rfb_picture::{Picture, Rect};
@@ -55,7 +55,7 @@ pub fn draw_next(
     ensures width { picture.new.width ≡ picture.old.width }
     ensures height { picture.new.height ≡ picture.old.height }
 {
-    let seen = seen_behind(seen, read.layout);
+    let seen = seen_after(seen, read.layout);
     draw_tile(
         format,
         places_of_tile(rect, tile),

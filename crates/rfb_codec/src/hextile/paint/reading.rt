@@ -4,7 +4,7 @@ ghost use Rattle.std.specs.Prelude.{◌≡◌, ℕ, ◌+◌, ◌*◌, ◌≤◌,
 ghost use Rattle.rfb_pixel.specs.Format.{size_of};
 ghost use Rattle.rfb_wire.specs.stream.Reading.{More, Got};
 ghost use Rattle.rfb_wire.specs.stream.Parts.{optional};
-ghost use Rattle.rfb_codec.specs.Tile.{Tile, is_raw, subrects_colored, mask_fault, tile_colour, behind_mask, are_inside, places_of, place_of, tile_behind};
+ghost use Rattle.rfb_codec.specs.Tile.{Tile, is_raw, subrects_colored, mask_fault, tile_colour, after_mask, are_inside, places_of, place_of, tile_after};
 ghost use Rattle.rfb_codec.specs.inside.TileRead.{LiesIn, tile_of_read, TellsTile, IsShort, IsCount, places_from};
 ghost use Rattle.rfb_codec.specs.Stage.{Sees};
 
@@ -30,7 +30,7 @@ pub fn read_tile(
     requires { (width ≤ 16) × (height ≤ 16) }
     ensures told { (before : List Tile) → Sees before seen →
         TellsTile format width height bytes.now result
-        (tile_behind format width height before bytes.now) }
+        (tile_after format width height before bytes.now) }
     ensures short { IsShort bytes.now result }
 {
     if bytes.is_empty() {
@@ -79,9 +79,9 @@ fn find(format: Format, width: u16, height: u16, mask: u8, bytes: &[u8]) -> Opti
     requires size { (width ≤ 16) × (height ≤ 16) }
     requires mask { 1 ≤ length bytes.now }
     ensures short { result ≡ None → length bytes.now < 1536 }
-    ensures told { MatchOption result (behind_mask format width height mask (is_raw mask)
+    ensures told { MatchOption result (after_mask format width height mask (is_raw mask)
         (subrects_colored mask) (drop 1 bytes.now) ≡ More)
-        (λ read. (behind_mask format width height mask (is_raw mask) (subrects_colored mask)
+        (λ read. (after_mask format width height mask (is_raw mask) (subrects_colored mask)
         (drop 1 bytes.now) ≡ Got (tile_of_read format width height read bytes.now)
         (drop read.used bytes.now)) × LiesIn format width height read bytes.now) }
 {
@@ -193,7 +193,7 @@ fn fits(format: Format, width: u16, height: u16, read: TileRead, bytes: &[u8]) -
     }
 }
 
-// Whether so many places lie in a tile, each after so many bytes of a pixel.
+// Whether `count` places lie in a tile, each after `skip` bytes of a pixel.
 fn are_places_inside(width: u16, height: u16, skip: usize, count: usize, list: &[u8]) -> bool
     requires all { count * (skip + 2) ≤ length list.now }
     requires pixel { skip ≤ 4 }

@@ -24,7 +24,7 @@ pub struct Seen {
 }
 
 /// The colours seen after a tile of that layout too.
-pub fn seen_behind(seen: Seen, layout: TileLayout) -> Seen
+pub fn seen_after(seen: Seen, layout: TileLayout) -> Seen
     ensures background { result.background ≡ later (background_named layout) seen.background }
     ensures foreground { result.foreground ≡ later (foreground_named layout) seen.foreground }
 {

@@ -86,12 +86,12 @@ fn row_scene<'a>(encoding: Encoding, width: u16, data: &'a [u8], pieces: &'a [Pi
 // Whether a piece gives a place its colour.
 fn covers(piece: Piece, place: u32) -> bool {
     match place.checked_sub(u32::from(piece.from)) {
-        Some(behind) => behind < u32::from(piece.places),
+        Some(after) => after < u32::from(piece.places),
         None => false,
     }
 }
 
-// The colour of a place after so many bytes: each piece that is whole is laid over those before.
+// The colour of a place after `bytes` bytes: each piece that is whole is laid over those before.
 fn colour_after(pieces: &[Piece], place: u32, bytes: usize) -> Colour {
     let mut shown = GREY;
     for piece in pieces.iter() {
@@ -102,7 +102,7 @@ fn colour_after(pieces: &[Piece], place: u32, bytes: usize) -> Colour {
     shown
 }
 
-// Whether a picture shows what so many bytes of a scene give it.
+// Whether a picture shows what the first `bytes` bytes of a scene give it.
 fn shows_after(picture: &Picture<Colour>, pieces: &[Piece], bytes: usize) -> bool {
     let width = picture.width();
     for y in 0..picture.height() {
@@ -153,7 +153,7 @@ pub fn answers(
     painter.feed(bytes, picture) == wanted
 }
 
-/// Whether so many bytes are pending.
+/// Whether `wanted` bytes are pending.
 pub fn has_pending(painter: &Painter, wanted: usize) -> bool {
     painter.pending() == wanted
 }
@@ -219,7 +219,7 @@ fn in_slices(alloc: Global, scene: Scene<'_>, first: usize, size: usize) -> Resu
     Ok(good)
 }
 
-// The same of two slices, cut at each place.
+// The same of two slices, split at each byte.
 fn in_two(alloc: Global, scene: Scene<'_>) -> Result<bool, Fail> {
     let length = scene.data.len();
     for cut in 0..length {

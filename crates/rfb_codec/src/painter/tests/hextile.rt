@@ -30,7 +30,7 @@ pub const THREE: [u8; 18] = [
     0x08, 1, 0xF0, 0x00,
 ];
 
-// So many places of each colour in turn.
+// A number of places of each colour in turn.
 fn places_of(alloc: Global, runs: &[(u16, Colour)]) -> Result<Vec<Colour>, Fail> {
     let mut row = Vec::new(alloc);
     for (places, colour) in runs {
@@ -55,7 +55,7 @@ fn shows_all(
     Ok(())
 }
 
-// The same of so many places of each colour in turn.
+// The same of a number of places of each colour in turn.
 fn shows(
     rt: &impl Abort,
     alloc: Global,
@@ -120,7 +120,7 @@ fn shown_around_raw(alloc: Global) -> Result<Vec<Colour>, Fail> {
     Ok(want)
 }
 
-// Behind the raw tile stands this one, of the background.
+// After the raw tile stands this one, of the background.
 fn shows_around_raw(rt: &impl Abort, alloc: Global, last: &[u8]) -> Result<(), Fail> {
     let data = around_raw(alloc, last)?;
     let want = shown_around_raw(alloc)?;

@@ -66,7 +66,7 @@ fn are_refused_at_the_end(alloc: Global) -> Result<bool, Fail> {
 }
 
 #[test]
-fn a_subrectangle_outside_is_told_at_its_last_byte(rt: HostRuntime) -> Result<(), Fail> {
+fn a_subrectangle_outside_is_reported_at_its_last_byte(rt: HostRuntime) -> Result<(), Fail> {
     assert!(rt; are_refused_at_the_end(rt.alloc())?);
     Ok(())
 }

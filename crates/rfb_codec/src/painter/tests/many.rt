@@ -22,7 +22,7 @@ const HEAD: [u8; 5] = [0xFF, 0xFF, 0xFF, 0xFF, 0x10];
 // One place of 0x20 at x-position 3.
 const PART: [u8; 9] = [0x20, 0, 3, 0, 0, 0, 1, 0, 1];
 
-// Whether bytes are taken, and so many are pending then.
+// Whether bytes are taken, and as many as are wanted are pending then.
 fn takes(
     painter: &mut Painter,
     picture: &mut Picture<Colour>,
@@ -32,7 +32,7 @@ fn takes(
     answers(painter, picture, bytes, more(bytes.len())) && has_pending(painter, pending)
 }
 
-// Whether a million of them are taken, each cut at another place.
+// Whether a million of them are taken, each split at another byte.
 fn are_taken(painter: &mut Painter, picture: &mut Picture<Colour>) -> bool {
     let mut taken = true;
     for n in 0..1_000_000usize {

@@ -207,7 +207,7 @@ fn is_taken(alloc: Global, width: u16, begun: &[u8], mask: u8) -> Result<bool, F
     let data = joined(tile.as_slice(), &[0xFF]);
     let (tile, data) = (tile.as_slice(), data.as_slice());
     let answer = done(tile.len());
-    Ok(waits(alloc, width, tile)? && answers(alloc, width, data, answer, &colours_behind(mask))?)
+    Ok(waits(alloc, width, tile)? && answers(alloc, width, data, answer, &colours_after(mask))?)
 }
 
 fn judged(
@@ -223,14 +223,14 @@ fn judged(
 }
 
 // The colours of the two places.
-fn colours_behind(mask: u8) -> [Colour; 2] {
+fn colours_after(mask: u8) -> [Colour; 2] {
     let format = Format::bgr233();
-    let [first, second] = pixels_behind(mask);
+    let [first, second] = pixels_after(mask);
     [format.unpack(first), format.unpack(second)]
 }
 
 // The pixels of the two places.
-fn pixels_behind(mask: u8) -> [u32; 2] {
+fn pixels_after(mask: u8) -> [u32; 2] {
     if has(mask, 1) {
         return [0x10, 0x20];
     }

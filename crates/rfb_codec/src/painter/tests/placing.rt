@@ -83,8 +83,8 @@ fn subrectangles_are_placed_in_their_rectangle(rt: HostRuntime) -> Result<(), Fa
     Ok(())
 }
 
-// Whether data at bgr233 of a rectangle without places, at the edge of two by one, end after so
-// many of the bytes and paint nothing.
+// Whether data at bgr233 of a rectangle without places, at the edge of two by one, end after the
+// wanted number of the bytes and paint nothing.
 fn paints_nothing(
     alloc: Global,
     x: u16,

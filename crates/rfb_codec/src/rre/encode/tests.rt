@@ -166,7 +166,7 @@ fn agrees_at_size(
     Ok(())
 }
 
-// The same at every block of up to so many places.
+// The same at every block of up to `most` places.
 fn agrees_at_all(rt: &impl Abort, alloc: Global, most: u16, values: u32) -> Result<(), Fail> {
     for width in 1..=most {
         for height in 1..=most.checked_div(width).unwrap_or(0) {
@@ -212,7 +212,7 @@ fn it_keeps_the_rule_at_larger_blocks(rt: HostRuntime) -> Result<(), Fail> {
     Ok(())
 }
 
-// Agreement at a block of pixels without order, of which so many in 24 are others than 9.
+// Agreement at a block of pixels without order, of which a number in 24 are others than 9.
 fn agrees_where_mixed(
     rt: &impl Abort,
     alloc: Global,

@@ -2,7 +2,7 @@ use Rattle.std.proofs.Common.{◌≡◌, ℕ, ◌-◌, ◌<◌, ◌≤◌, ◌==
 use Rattle.std.specs.Int.{bit_at}
 use Rattle.rfb_pixel.proofs.rows.differing.Given as goal
 
--- the bits of the places so far are told, and no other is set
+-- the bits of the places so far are right, and no other is set
 abbrev pub invariant-loop-at : goal.invariant-loop-at
 invariant-loop-at l = record {
   within : l.at ≤ length l.a;

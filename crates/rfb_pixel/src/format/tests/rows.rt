@@ -34,7 +34,7 @@ fn packs_each(format: Format, colours: &[Colour]) -> bool
     true
 }
 
-// Whether each pixel of a row of so many shows its own colour.
+// Whether each pixel of a row of `len` shows its own colour.
 fn unpacks_each(format: Format, bytes: &[u8; 4 * LONGEST], len: usize) -> bool
     requires { len ≤ 200 }
 {

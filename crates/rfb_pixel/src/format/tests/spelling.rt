@@ -43,7 +43,7 @@ fn the_formats_with_a_name_have_their_bytes(rt: HostRuntime) {
 }
 
 #[test]
-fn the_check_that_fails_is_told(rt: HostRuntime) {
+fn the_check_that_fails_is_reported(rt: HostRuntime) {
     for (place, byte, fault) in [
         (0, 0x18, FormatFault::BadBits),
         (1, 0x11, FormatFault::DepthTooLarge),

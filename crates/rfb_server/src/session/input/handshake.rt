@@ -2,7 +2,7 @@
 
 ghost use Rattle.std.specs.Prelude.{◌≡◌, ◌≤◌, ◌<◌, length, take, true, IfOk, IfErr};
 ghost use Rattle.std.specs.Result.{result_err};
-ghost use Rattle.rfb_server.specs.Progress.{progress_behind};
+ghost use Rattle.rfb_server.specs.Progress.{progress_after};
 ghost use Rattle.rfb_server.specs.Told.{seen, step_told};
 
 use crate::event::ServerEvent;
@@ -21,7 +21,7 @@ impl Session {
     ghost use Rattle.rfb_server.specs.Failing.{EndsAs};
 
     // Takes bytes of the client's handshake, up to the last of its first step that makes an
-    // event, or all. Bytes behind the handshake are the messages'.
+    // event, or all. Bytes after the handshake are the messages'.
     pub(crate) fn greet(&mut self, bytes: &[u8]) -> Result<Fed<ServerEvent>, ServerFault>
         requires handshake { self.old.progress ≡ Progress.Handshake }
         requires open { is_open self.old.hello ≡ true }
@@ -35,7 +35,7 @@ impl Session {
     {
         match self.hello.feed(bytes) {
             Ok(fed) => {
-                self.progress = progress_behind(self.hello.is_open());
+                self.progress = progress_after(self.hello.is_open());
                 Ok(Fed {
                     used: fed.used,
                     event: event_of(fed.event),
@@ -50,9 +50,9 @@ impl Session {
     }
 }
 
-// What comes behind a call of the handshake's end, by whether that goes on.
-fn progress_behind(goes_on: bool) -> Progress
-    ensures { result ≡ progress_behind goes_on }
+// What comes after a call of the handshake's end, by whether that goes on.
+fn progress_after(goes_on: bool) -> Progress
+    ensures { result ≡ progress_after goes_on }
 {
     if goes_on {
         Progress::Handshake

@@ -137,7 +137,7 @@ impl Session {
     }
 
     /// Whether the client's bytes end between two messages: the handshake is done, no message has
-    /// begun, and no fault was told.
+    /// begun, and no fault was returned.
     pub fn between(&self) -> bool
         ensures value { (serving : Serving) (screen : Grid Colour) (s : ServerState)
             (prefix : List ℕ) → SessionStandsFor serving screen self.now s prefix
@@ -157,7 +157,7 @@ impl Session {
         }
     }
 
-    /// How many bytes are pending: those of the client's item under way that stand behind its last
+    /// How many bytes are pending: those of the client's item under way that stand after its last
     /// whole piece. It keeps no others, but the first bytes of a text.
     pub fn pending(&self) -> usize
         ensures value { (serving : Serving) (screen : Grid Colour) (s : ServerState)

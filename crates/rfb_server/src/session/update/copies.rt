@@ -1,4 +1,4 @@
-//! Rectangles that the viewer is told to copy, by the hints of the screen's owner.
+//! Rectangles that the viewer is sent as copies, by the hints of the screen's owner.
 
 ghost use Rattle.std.specs.Prelude.{◌≡◌, ◌+◌, ◌*◌, ◌≤◌, slice_get, Some, vec_len};
 ghost use Rattle.std.specs.Vec.{vec_capacity};
@@ -13,7 +13,7 @@ ghost use Rattle.rfb_server.specs.declared.hint.Hint.{Hint};
 use crate::hint::Hint;
 use crate::rectangle::append_copy;
 use crate::session::Session;
-use crate::session::update::quiet::quiet_behind;
+use crate::session::update::quiet::quiet_after;
 use rfb_picture::{Picture, Rect};
 use rfb_pixel::Colour;
 use rfb_wire::Encoding;
@@ -30,8 +30,8 @@ impl Session {
         self.hints.len()
     }
 
-    /// Marks where the viewer may be told to copy to, since its picture changes there. That may
-    /// mark a place that the viewer has already, and costs a look at it.
+    /// Marks where the viewer may be sent a copy, since its picture changes there. That may mark a
+    /// place that the viewer has already, and costs a look at it.
     pub(crate) fn mark_hints(&mut self, screen: &Picture<Colour>)
         requires { Follows screen.now self.old }
         ensures about { Follows screen.now self.new }
@@ -144,7 +144,7 @@ impl Session {
         };
         append_copy(hint.to, hint.sx, hint.sy, out);
         self.known.copy(hint.to, hint.sx, hint.sy);
-        *quiet = quiet_behind(hint.to, all);
+        *quiet = quiet_after(hint.to, all);
         true
     }
 }

@@ -7,7 +7,7 @@ ghost use Rattle.rfb_server.specs.Following.{Follows};
 ghost use Rattle.rfb_server.specs.inside.Copies.{IsFree, IsUseful};
 ghost use Rattle.rfb_server.specs.Composing.{count_row, count_rows, count_in};
 ghost use Rattle.rfb_server.specs.inside.Gains.{MayCopy, HasMoreRight, line};
-ghost use Rattle.rfb_server.specs.inside.Gains.{right_before, right_behind};
+ghost use Rattle.rfb_server.specs.inside.Gains.{right_before, right_after};
 
 mod rows;
 
@@ -18,15 +18,15 @@ use rfb_pixel::Colour;
 
 impl Session {
     /// Whether the viewer is to copy: all of the rectangle is asked and none of it whole, all of
-    /// the source is known, and more of its places have the wanted pixel behind the copy than
-    /// before. Then it tells whether all of them have it behind the copy.
+    /// the source is known, and more of its places have the wanted pixel after the copy than
+    /// before. Then it tells whether all of them have it after the copy.
     pub(crate) fn gains(&self, screen: &Picture<Colour>, hint: Hint) -> Option<bool>
         requires { Follows screen.now self.now }
         ensures useful { IfSome result (λ all. IsUseful screen.now self.now hint) }
         ensures right { IfSome result (λ all. OnTrue all
-            (count_in (right_behind screen.now self.now hint) hint.to ≡ hint.to.h * hint.to.w)) }
+            (count_in (right_after screen.now self.now hint) hint.to ≡ hint.to.h * hint.to.w)) }
         ensures wrong { IfSome result (λ all. OnFalse all
-            (count_in (right_behind screen.now self.now hint) hint.to < hint.to.h * hint.to.w)) }
+            (count_in (right_after screen.now self.now hint) hint.to < hint.to.h * hint.to.w)) }
         ensures useless { IfNone result (IsUseful screen.now self.now hint → ⊥) }
     {
         let to = hint.to;
@@ -64,19 +64,19 @@ impl Session {
         false
     }
 
-    // How many rows of the rectangle, from the first on, have the wanted pixel at each place behind
+    // How many rows of the rectangle, from the first on, have the wanted pixel at each place after
     // the copy. Mostly all have it, and then nothing else has to be counted.
     fn rows_right(&self, screen: &Picture<Colour>, hint: Hint) -> u16
         requires about { Follows screen.now self.now }
         requires copy { MayCopy self.now.known hint }
         ensures within { result ≤ hint.to.h }
-        ensures right { count_rows (right_behind screen.now self.now hint)
+        ensures right { count_rows (right_after screen.now self.now hint)
             hint.to.x hint.to.y hint.to.w result ≡ result * hint.to.w }
-        ensures other { result < hint.to.h → count_rows (right_behind screen.now self.now hint)
+        ensures other { result < hint.to.h → count_rows (right_after screen.now self.now hint)
             hint.to.x hint.to.y hint.to.w (result + 1) < (result + 1) * hint.to.w }
     {
         for row in 0..hint.to.h {
-            let right = self.behind_in_row(screen, row_of(hint, row));
+            let right = self.after_in_row(screen, row_of(hint, row));
             if right < u32::from(hint.to.w) {
                 return row;
             }
@@ -84,52 +84,52 @@ impl Session {
         hint.to.h
     }
 
-    // Whether more places of the rectangle have the wanted pixel behind the copy than before, where
-    // its first `top` rows have it at each place behind it. Both are counted from row `top` on,
+    // Whether more places of the rectangle have the wanted pixel after the copy than before, where
+    // its first `top` rows have it at each place after it. Both are counted from row `top` on,
     // until the rows that are left cannot change the answer.
     fn has_more_right(&self, screen: &Picture<Colour>, hint: Hint, top: u16) -> bool
         requires about { Follows screen.now self.now }
         requires copy { MayCopy self.now.known hint }
         requires top { top ≤ hint.to.h }
-        requires right { count_rows (right_behind screen.now self.now hint)
+        requires right { count_rows (right_after screen.now self.now hint)
             hint.to.x hint.to.y hint.to.w top ≡ top * hint.to.w }
         ensures more { OnTrue result (HasMoreRight screen.now self.now hint) }
         ensures no_more { OnFalse result (HasMoreRight screen.now self.now hint → ⊥) }
     {
         let to = hint.to;
         let above = u32::from(top) * u32::from(to.w);
-        let mut behind = above;
+        let mut after = above;
         let mut before = 0;
         for row in top..to.h {
             let right = self.right_in_row(screen, row_of(hint, row));
-            behind += right.behind;
+            after += right.after;
             before += right.before;
-            // So many places are left, in the rows below.
+            // `left` places are left, in the rows below.
             let left = u32::from(to.h - row - 1) * u32::from(to.w);
-            if behind > before + above + left {
+            if after > before + above + left {
                 return true;
             }
-            if before >= behind + left {
+            if before >= after + left {
                 return false;
             }
         }
-        self.has_more_above(screen, hint, top, behind, before)
+        self.has_more_above(screen, hint, top, after, before)
     }
 
-    // The same where those behind the copy are counted, and of those before it the ones from row
+    // The same where those after the copy are counted, and of those before it the ones from row
     // `top` on.
     fn has_more_above(
         &self,
         screen: &Picture<Colour>,
         hint: Hint,
         top: u16,
-        behind: u32,
+        after: u32,
         below: u32,
     ) -> bool
         requires about { Follows screen.now self.now }
         requires copy { MayCopy self.now.known hint }
         requires top { top ≤ hint.to.h }
-        requires behind { behind ≡ count_in (right_behind screen.now self.now hint) hint.to }
+        requires after { after ≡ count_in (right_after screen.now self.now hint) hint.to }
         requires below { below + count_rows (right_before screen.now self.now hint)
             hint.to.x hint.to.y hint.to.w top
             ≡ count_in (right_before screen.now self.now hint) hint.to }
@@ -139,16 +139,16 @@ impl Session {
         let mut before = below;
         for row in 0..top {
             before += self.before_in_row(screen, row_of(hint, row));
-            // So many places are left, in the rows up to that one.
+            // `left` places are left, in the rows up to that one.
             let left = u32::from(top - row - 1) * u32::from(hint.to.w);
-            if behind > before + left {
+            if after > before + left {
                 return true;
             }
-            if before >= behind {
+            if before >= after {
                 return false;
             }
         }
-        behind > before
+        after > before
     }
 }
 

@@ -171,7 +171,7 @@ impl Session {
         to
     }
 
-    // The column behind the last one from `from` on, up to `to`, whose place in row `y` needs
+    // The column after the last one from `from` on, up to `to`, whose place in row `y` needs
     // sending; `from` where there is none.
     fn needed_end(&self, screen: &Picture<Colour>, y: u16, from: u16, to: u16) -> u16
         requires about { Follows screen.now self.now }

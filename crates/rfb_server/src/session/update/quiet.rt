@@ -51,8 +51,8 @@ fn lies_in(rect: Rect, outer: Rect) -> bool
         && u32::from(rect.y) + u32::from(rect.h) <= u32::from(outer.y) + u32::from(outer.h)
 }
 
-/// The rectangle of a copy that leaves all of it right, as is told; else one without a place.
-pub(super) fn quiet_behind(to: Rect, all: bool) -> Rect
+/// The rectangle of a copy that leaves all of it right, if `all` says so; else one without a place.
+pub(super) fn quiet_after(to: Rect, all: bool) -> Rect
     ensures right { OnTrue all (result ≡ to) }
     ensures wrong { OnFalse all (result ≡ NOWHERE) }
 {

@@ -18,7 +18,7 @@ pub(super) struct Room {
     pub bytes: usize,
     /// The number of the first of these cells.
     pub first: usize,
-    /// The number of the cell behind the last of them; 0 where there is none.
+    /// The number of the cell after the last of them; 0 where there is none.
     pub end: usize,
 }
 
@@ -51,7 +51,7 @@ impl Session {
     }
 
     /// The same as `next_cell`, where the first of these cells and the end of them are known: one
-    /// that is the first or lies behind them is not searched for.
+    /// that is the first or lies after them is not searched for.
     pub(super) fn next_within(&self, from: usize, room: Room) -> Option<usize>
         requires { AreLimits self.now room.first room.end }
         ensures { HasNext self.now from result }

@@ -32,7 +32,7 @@ pub(super) fn box_in(plain: &Plain, screen: &Picture<Colour>, cell: Rect) -> Opt
     found
 }
 
-/// The cell of 64 by 64 at (`x`, `y`), cut to the screen.
+/// The cell of 64 by 64 at (`x`, `y`), as far as it lies on the screen.
 pub(super) fn cell_from(plain: &Plain, x: u16, y: u16) -> Rect {
     Rect {
         x,

@@ -61,7 +61,7 @@ fn is_of_use(plain: &Plain, screen: &Picture<Colour>, hint: Hint) -> bool {
             < right_from(plain, screen, to, hint.sx, hint.sy)
 }
 
-// What the viewer has behind a CopyRect, as if all of the source were read first.
+// What the viewer has after a CopyRect, as if all of the source were read first.
 fn copy(plain: &mut Plain, alloc: Global, hint: Hint) -> Result<(), AllocError> {
     let mut before = Vec::new(alloc);
     for y in 0..hint.to.h {

@@ -24,7 +24,7 @@ impl Lot {
         ((self.state >> 33) % (u64::from(most) + 1)) as u16
     }
 
-    /// One time in so many.
+    /// One time in `times`.
     pub(super) fn once_in(&mut self, times: u16) -> bool {
         self.up_to(times.saturating_sub(1)) == 0
     }

@@ -78,7 +78,7 @@ impl Plain {
         }
     }
 
-    /// Behind an update nothing is asked for.
+    /// After an update nothing is asked for.
     pub(super) fn ask_nothing(&mut self) {
         for place in self.places.iter_mut() {
             place.asked = false;

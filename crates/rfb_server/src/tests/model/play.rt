@@ -16,7 +16,7 @@ fn feed(server: &mut Server, bytes: &[u8]) {
     let _told = server.feed(bytes);
 }
 
-// A server behind the handshake of 3.3.
+// A server after the handshake of 3.3.
 fn ready(alloc: Global, width: u16, height: u16) -> Result<Server, AllocError>
     requires columns { (1 ≤ width) × (width ≤ 4096) }
     requires rows { (1 ≤ height) × (height ≤ 4096) }

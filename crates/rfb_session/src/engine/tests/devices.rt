@@ -11,7 +11,7 @@ use std::alloc::Global;
 use std::io;
 use std::io::{ErrorKind, Read, Write};
 
-// Gives at most so many bytes a call.
+// Gives at most `most` bytes a call.
 #[derive(Drop)]
 pub struct Reader<'a> {
     pub bytes: &'a [u8],
@@ -25,7 +25,7 @@ impl Read for Reader<'_> {
     }
 }
 
-// Takes at most so many bytes a call.
+// Takes at most `most` bytes a call.
 #[derive(Drop)]
 pub struct Writer {
     pub bytes: Vec<u8>,
@@ -44,7 +44,7 @@ impl Write for Writer {
     }
 }
 
-// Gives one byte a call, and fails behind so many calls. It tells its bytes.
+// Gives one byte a call, and fails after a number of calls. It tells its bytes.
 #[derive(Drop)]
 pub struct FailingReader<'a> {
     pub unread: &'a [u8],
@@ -76,7 +76,7 @@ impl Source for FailingReader<'_> {
     }
 }
 
-// Takes one byte a call, and fails behind so many calls. It tells its bytes.
+// Takes one byte a call, and fails after a number of calls. It tells its bytes.
 #[derive(Drop)]
 pub struct FailingWriter {
     pub written: Vec<u8>,
@@ -108,7 +108,7 @@ impl Sink for FailingWriter {
     }
 }
 
-// Takes one byte a call, and none behind so many calls. It tells its bytes.
+// Takes one byte a call, and none after a number of calls. It tells its bytes.
 #[derive(Drop)]
 pub struct FullWriter {
     pub written: Vec<u8>,

@@ -46,7 +46,7 @@ fn expected(alloc: Global) -> Result<Vec<u8>, AllocError> {
     Ok(bytes)
 }
 
-// Whether all of a pixmap is written, by writes of at most so many bytes.
+// Whether all of a pixmap is written, by writes of at most `most` bytes.
 fn is_whole(alloc: Global, picture: &Picture<Colour>, pixmap: &[u8], most: usize) -> bool {
     let mut sink = Tally::new(Writer {
         bytes: Vec::new(alloc),
@@ -67,7 +67,7 @@ fn a_pixmap_is_whole_whatever_writes_take(rt: HostRuntime) -> Result<(), AllocEr
     Ok(())
 }
 
-// Whether a beginning of a pixmap is written where so many writes of one byte do not fail, and the
+// Whether a beginning of a pixmap is written where `calls` writes of one byte do not fail, and the
 // next one does.
 fn has_beginning(alloc: Global, picture: &Picture<Colour>, pixmap: &[u8], calls: usize) -> bool {
     let mut sink = FailingWriter {
@@ -87,7 +87,7 @@ fn a_pixmap_that_cannot_be_written_has_its_beginning(rt: HostRuntime) -> Result<
     let pixmap = expected(rt.alloc())?;
     for calls in [0, 1, 17, 8191, 8192, 60_016] {
         let beginning = has_beginning(rt.alloc(), &picture, &pixmap, calls);
-        assert!(rt; beginning, "behind {calls} writes");
+        assert!(rt; beginning, "after {calls} writes");
     }
     Ok(())
 }

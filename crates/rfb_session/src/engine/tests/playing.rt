@@ -7,15 +7,15 @@ use crate::engine::{EngineFault, Tally, play, ppm};
 use rfb_pixel::Format;
 use std::alloc::{AllocError, Global};
 
-// The front of so many bytes of a recording: a handshake, and then these bytes.
-fn recording(alloc: Global, behind: &[u8], count: usize) -> Result<Vec<u8>, AllocError> {
+// The first `count` bytes of a recording: a handshake, and then these bytes.
+fn recording(alloc: Global, after: &[u8], count: usize) -> Result<Vec<u8>, AllocError> {
     let mut bytes = HANDSHAKE.to_vec(alloc)?;
-    bytes.extend_from_slice(behind)?;
+    bytes.extend_from_slice(after)?;
     bytes.truncate(count);
     Ok(bytes)
 }
 
-// What is answered to a recording in rgb888, by reads of at most so many bytes.
+// What is answered to a recording in rgb888, by reads of at most `most` bytes.
 pub(super) fn answer_to(alloc: Global, bytes: &[u8], most: usize) -> Result<u64, EngineFault> {
     let mut viewer = viewer_in(alloc, Format::rgb888());
     let mut source = Tally::new(Reader { bytes, most });
@@ -24,7 +24,7 @@ pub(super) fn answer_to(alloc: Global, bytes: &[u8], most: usize) -> Result<u64,
     answer
 }
 
-// The pixmap of what the viewer shows behind a recording.
+// The pixmap of what the viewer shows after a recording.
 fn picture_of(alloc: Global, bytes: &[u8], most: usize) -> Vec<u8> {
     let mut viewer = viewer_in(alloc, Format::rgb888());
     let mut source = Tally::new(Reader { bytes, most });
@@ -37,7 +37,7 @@ fn picture_of(alloc: Global, bytes: &[u8], most: usize) -> Vec<u8> {
     sink.into_inner()
 }
 
-// Whether the viewer shows black and (1028, 0, 514) behind a recording.
+// Whether the viewer shows black and (1028, 0, 514) after a recording.
 fn shows_both(alloc: Global, bytes: &[u8], most: usize) -> bool {
     let picture = picture_of(alloc, bytes, most);
     picture.as_slice() == b"P6\n2 1\n65535\n\0\0\0\0\0\0\x04\x04\0\0\x02\x02".as_slice()
@@ -52,7 +52,7 @@ fn a_recording_shows_its_picture_whatever_reads_give(rt: HostRuntime) -> Result<
     Ok(())
 }
 
-// What is answered to the front of so many bytes of a handshake and an update.
+// What is answered to the first `count` bytes of a handshake and an update.
 fn answer_to_front(count: usize) -> Result<u64, EngineFault> {
     match count {
         45 => Ok(0),
@@ -108,7 +108,7 @@ fn a_recording_in_a_smaller_format_goes_on_in_mid_message(
     Ok(())
 }
 
-// A handshake, and so many updates.
+// A handshake, and `updates` updates.
 fn long_recording(alloc: Global, updates: u32) -> Result<Vec<u8>, AllocError> {
     let mut bytes = HANDSHAKE.to_vec(alloc)?;
     for _ in 0..updates {
@@ -127,7 +127,7 @@ fn each_update_is_counted_once_across_reads(rt: HostRuntime) -> Result<(), Alloc
     Ok(())
 }
 
-// Whether the read behind so many of one byte is told to fail, and is not tried again.
+// Whether the read after `calls` reads of one byte fails, is reported, and is not tried again.
 fn fails_once(alloc: Global, bytes: &[u8], calls: usize) -> bool {
     let mut viewer = viewer_in(alloc, Format::rgb888());
     let mut source = FailingReader {
@@ -143,12 +143,12 @@ fn fails_once(alloc: Global, bytes: &[u8], calls: usize) -> bool {
 }
 
 #[test]
-fn a_failing_read_is_told_and_not_tried_again(rt: HostRuntime) -> Result<(), AllocError> {
+fn a_failing_read_is_reported_and_not_tried_again(rt: HostRuntime) -> Result<(), AllocError> {
     let bytes = recording(rt.alloc(), UPDATE, 69)?;
     for calls in 0..70_usize {
         assert!(rt;
             fails_once(rt.alloc(), &bytes, calls),
-            "behind {calls} reads"
+            "after {calls} reads"
         );
     }
     Ok(())

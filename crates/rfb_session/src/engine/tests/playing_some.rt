@@ -8,7 +8,7 @@ use rfb_pixel::Format;
 use rfb_viewer::ViewerFault;
 use std::alloc::{AllocError, Global};
 
-// A handshake, and so many updates.
+// A handshake, and `updates` updates.
 fn recording(alloc: Global, updates: u32) -> Result<Vec<u8>, AllocError> {
     let mut bytes = HANDSHAKE.to_vec(alloc)?;
     for _ in 0..updates {
@@ -18,15 +18,15 @@ fn recording(alloc: Global, updates: u32) -> Result<Vec<u8>, AllocError> {
 }
 
 // A handshake, and then these bytes.
-fn behind_a_handshake(alloc: Global, bytes: &[u8], more: &[u8]) -> Result<Vec<u8>, AllocError> {
+fn after_a_handshake(alloc: Global, bytes: &[u8], more: &[u8]) -> Result<Vec<u8>, AllocError> {
     let mut all = HANDSHAKE.to_vec(alloc)?;
     all.extend_from_slice(bytes)?;
     all.extend_from_slice(more)?;
     Ok(all)
 }
 
-// Whether that is answered where so many updates of a recording are played, by reads of at most so
-// many bytes that never fail.
+// Whether that is answered where `updates` updates of a recording are played, by reads of at most
+// `most` bytes that never fail.
 fn is_answered(
     alloc: Global,
     bytes: &[u8],
@@ -41,8 +41,8 @@ fn is_answered(
     answered == answer && source.failures() == 0
 }
 
-// What is answered where the read behind so many of one byte fails, and how many have failed.
-fn answer_behind(
+// What is answered where the read after `calls` reads of one byte fails, and how many have failed.
+fn answer_after(
     alloc: Global,
     bytes: &[u8],
     calls: usize,
@@ -60,7 +60,7 @@ fn answer_behind(
 }
 
 #[test]
-fn it_stops_once_so_many_updates_ended(rt: HostRuntime) -> Result<(), AllocError> {
+fn it_stops_once_that_many_updates_ended(rt: HostRuntime) -> Result<(), AllocError> {
     let bytes = recording(rt.alloc(), 500)?;
     for updates in [1_u64, 7, 499, 500] {
         for most in [1_usize, 13, 4096] {
@@ -82,9 +82,9 @@ fn fewer_updates_are_all_played(rt: HostRuntime) -> Result<(), AllocError> {
 }
 
 #[test]
-fn a_fault_behind_the_last_update_is_not_met(rt: HostRuntime) -> Result<(), AllocError> {
+fn a_fault_after_the_last_update_is_not_met(rt: HostRuntime) -> Result<(), AllocError> {
     // No server's message has the type 255.
-    let bytes = behind_a_handshake(rt.alloc(), UPDATE, b"\xFF")?;
+    let bytes = after_a_handshake(rt.alloc(), UPDATE, b"\xFF")?;
     let fault = EngineFault::Viewer(ViewerFault::UnknownMessage(255));
     for most in [1_usize, 4096] {
         let stopped = is_answered(rt.alloc(), &bytes, most, 1, Ok(1));
@@ -94,7 +94,7 @@ fn a_fault_behind_the_last_update_is_not_met(rt: HostRuntime) -> Result<(), Allo
     Ok(())
 }
 
-// What is answered to the front of so many bytes of a handshake and an update.
+// What is answered to the first `count` bytes of a handshake and an update.
 fn answer_to_front(count: usize) -> Result<u64, EngineFault> {
     match count {
         45 => Ok(0),
@@ -115,16 +115,16 @@ fn an_early_end_is_as_that_of_play(rt: HostRuntime) -> Result<(), AllocError> {
 }
 
 #[test]
-fn a_read_that_fails_is_told_where_it_is_needed(rt: HostRuntime) -> Result<(), AllocError> {
+fn a_read_that_fails_is_reported_where_it_is_needed(rt: HostRuntime) -> Result<(), AllocError> {
     let bytes = recording(rt.alloc(), 2)?;
     let failed = (Err(EngineFault::Device), 1);
-    assert!(rt; answer_behind(rt.alloc(), &bytes, 68, 1) == failed);
-    assert!(rt; answer_behind(rt.alloc(), &bytes, 69, 1) == (Ok(1), 0));
-    assert!(rt; answer_behind(rt.alloc(), &bytes, 69, 2) == failed);
+    assert!(rt; answer_after(rt.alloc(), &bytes, 68, 1) == failed);
+    assert!(rt; answer_after(rt.alloc(), &bytes, 69, 1) == (Ok(1), 0));
+    assert!(rt; answer_after(rt.alloc(), &bytes, 69, 2) == failed);
     Ok(())
 }
 
-// The pixmap of what the viewer shows behind so many updates.
+// The pixmap of what the viewer shows after `updates` updates.
 fn picture_of(alloc: Global, bytes: &[u8], updates: u64) -> Vec<u8> {
     let mut viewer = viewer_in(alloc, Format::rgb888());
     let mut sink = Tally::new(Vec::new(alloc));
@@ -137,8 +137,8 @@ fn picture_of(alloc: Global, bytes: &[u8], updates: u64) -> Vec<u8> {
 }
 
 #[test]
-fn the_picture_is_that_behind_the_last_update(rt: HostRuntime) -> Result<(), AllocError> {
-    let bytes = behind_a_handshake(rt.alloc(), UPDATE, RED_UPDATE)?;
+fn the_picture_is_that_after_the_last_update(rt: HostRuntime) -> Result<(), AllocError> {
+    let bytes = after_a_handshake(rt.alloc(), UPDATE, RED_UPDATE)?;
     let first = picture_of(rt.alloc(), &bytes, 1);
     let second = picture_of(rt.alloc(), &bytes, 2);
     assert!(rt; first.as_slice() == b"P6\n2 1\n65535\n\0\0\0\0\0\0\x04\x04\0\0\x02\x02".as_slice());

@@ -25,7 +25,7 @@ fn serving<R: Source, W: Sink>(
     Ok(answer)
 }
 
-// Whether that is answered to a client, and this written, by reads and writes of at most so many
+// Whether that is answered to a client, and this written, by reads and writes of at most `most`
 // bytes.
 fn is_served(
     alloc: Global,
@@ -67,8 +67,8 @@ fn a_short_write_is_gone_on_with(rt: HostRuntime) -> Result<(), AllocError> {
     Ok(())
 }
 
-// Whether serving of one client stops at the write behind so many, which fails: exactly the bytes
-// of these are written.
+// Whether serving of one client stops at the write after `calls` others, which fails: exactly the
+// bytes of these are written.
 fn stops_at_a_failure(alloc: Global, sent: &[u8], calls: usize) -> Result<bool, AllocError> {
     let mut source = Tally::new(CLIENT);
     let mut sink = FailingWriter {
@@ -107,7 +107,7 @@ fn a_failing_write_leaves_a_beginning_written(rt: HostRuntime) -> Result<(), All
     let sent = joined(rt.alloc(), &[HANDSHAKE, UPDATE])?;
     for calls in 0..69_usize {
         let stops = stops_at_a_failure(rt.alloc(), &sent, calls)?;
-        assert!(rt; stops, "behind {calls} writes");
+        assert!(rt; stops, "after {calls} writes");
     }
     Ok(())
 }
@@ -117,12 +117,12 @@ fn a_write_that_takes_none_leaves_a_beginning_written(rt: HostRuntime) -> Result
     let sent = joined(rt.alloc(), &[HANDSHAKE, UPDATE])?;
     for calls in 0..69_usize {
         let stops = stops_where_none_is_taken(rt.alloc(), &sent, calls)?;
-        assert!(rt; stops, "behind {calls} writes");
+        assert!(rt; stops, "after {calls} writes");
     }
     Ok(())
 }
 
-// How many bytes are written before the read behind so many of one byte.
+// How many bytes are written before the read after `calls` reads of one byte.
 fn length_before_read(calls: usize) -> usize {
     match calls {
         0..=11 => 12,
@@ -133,7 +133,7 @@ fn length_before_read(calls: usize) -> usize {
     }
 }
 
-// Whether so much is written where the read behind so many of one byte fails.
+// Whether that much is written where the read after `calls` reads of one byte fails.
 fn has_answered(alloc: Global, sent: &[u8], calls: usize) -> Result<bool, AllocError> {
     let mut source = FailingReader {
         unread: CLIENT,
@@ -153,12 +153,12 @@ fn answers_are_written_before_the_next_read(rt: HostRuntime) -> Result<(), Alloc
     let sent = joined(rt.alloc(), &[HANDSHAKE, UPDATE])?;
     for calls in 0..25_usize {
         let answered = has_answered(rt.alloc(), &sent, calls)?;
-        assert!(rt; answered, "behind {calls} reads");
+        assert!(rt; answered, "after {calls} reads");
     }
     Ok(())
 }
 
-// What is answered to a client that ends behind so many bytes.
+// What is answered to a client that ends after `count` bytes.
 fn answer_to_front(count: usize) -> Result<u64, EngineFault> {
     match count {
         14 => Ok(0),
@@ -184,7 +184,7 @@ fn a_client_may_end_between_two_messages_alone(rt: HostRuntime) -> Result<(), Al
 }
 
 #[test]
-fn the_scene_draws_once_behind_each_update(rt: HostRuntime) -> Result<(), AllocError> {
+fn the_scene_draws_once_after_each_update(rt: HostRuntime) -> Result<(), AllocError> {
     let client = joined(rt.alloc(), &[CLIENT, NEXT_REQUEST, NEXT_REQUEST])?;
     let sent = joined(rt.alloc(), &[HANDSHAKE, UPDATE, RED_UPDATE, GREEN_UPDATE])?;
     let served = is_served(rt.alloc(), &client, (12, 4096), Ok(3), &sent)?;

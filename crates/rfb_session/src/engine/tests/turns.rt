@@ -19,7 +19,7 @@ const OWED_BY_SERVER: &Owed = &[(0, 12), (12, 14), (13, 18), (14, 45), (24, 69)]
 // What the viewer owes a server.
 const OWED_BY_VIEWER: &Owed = &[(0, 0), (12, 12), (14, 13), (18, 14), (45, 52)];
 
-// Gives one byte a call, and fails where not so much was written before as is owed then.
+// Gives one byte a call, and fails where less was written before than is owed then.
 #[derive(Drop)]
 struct Expecting<'a> {
     bytes: &'a [u8],

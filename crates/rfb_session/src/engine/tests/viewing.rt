@@ -11,7 +11,8 @@ use rfb_pixel::Format;
 use rfb_viewer::ViewerFault;
 use std::alloc::{AllocError, Global};
 
-// What is answered where so many updates are viewed in rgb888, through this reader and this writer.
+// What is answered where a number of updates is viewed in rgb888, through this reader and this
+// writer.
 fn viewing<R: Source, W: Sink>(
     alloc: Global,
     source: &mut R,
@@ -27,7 +28,7 @@ fn viewing<R: Source, W: Sink>(
     answer
 }
 
-// Whether so many updates are viewed, and this is written, by reads of at most so many bytes.
+// Whether `updates` updates are viewed, and this is written, by reads of at most `most` bytes.
 fn is_viewed(alloc: Global, bytes: &[u8], most: usize, updates: u32, written: &[u8]) -> bool {
     let mut sink = Tally::new(Vec::new(alloc));
     let answer = viewing(
@@ -52,7 +53,7 @@ fn a_server_is_answered_and_asked_once_whatever_reads_give(
 }
 
 #[test]
-fn behind_an_update_it_asks_for_what_has_changed(rt: HostRuntime) -> Result<(), AllocError> {
+fn after_an_update_it_asks_for_what_has_changed(rt: HostRuntime) -> Result<(), AllocError> {
     let bytes = joined(rt.alloc(), &[HANDSHAKE, UPDATE, RED_UPDATE, b"\x02\xFF"])?;
     let sent = joined(rt.alloc(), &[VIEWER, NEXT_REQUEST])?;
     for most in [1, 24, 4096] {
@@ -62,8 +63,8 @@ fn behind_an_update_it_asks_for_what_has_changed(rt: HostRuntime) -> Result<(), 
     Ok(())
 }
 
-// Whether viewing stops at the write behind so many, which fails: exactly the bytes of these are
-// written.
+// Whether viewing stops at the write after `calls` others, which fails: exactly the bytes of these
+// are written.
 fn stops_at_a_failure(alloc: Global, bytes: &[u8], calls: usize) -> bool {
     let mut source = Tally::new(bytes);
     let mut sink = FailingWriter {
@@ -97,13 +98,13 @@ fn a_failing_write_leaves_a_beginning_of_what_is_sent(rt: HostRuntime) -> Result
     for calls in 0..52_usize {
         let fails = stops_at_a_failure(rt.alloc(), &bytes, calls);
         let takes_none = stops_where_none_is_taken(rt.alloc(), &bytes, calls);
-        assert_eq!(rt; (fails, takes_none), (true, true), "behind {calls} writes");
+        assert_eq!(rt; (fails, takes_none), (true, true), "after {calls} writes");
     }
     Ok(())
 }
 
-// How many bytes are written once so many were read.
-fn length_behind(count: usize) -> usize {
+// How many bytes are written once `count` were read.
+fn length_after(count: usize) -> usize {
     match count {
         0..=11 => 0,
         12..=13 => 12,
@@ -113,13 +114,13 @@ fn length_behind(count: usize) -> usize {
     }
 }
 
-// What of the viewer's bytes is written once so many were read.
-fn front_behind(count: usize) -> &'static [u8] {
-    &VIEWER[..length_behind(count).min(VIEWER.len())]
+// What of the viewer's bytes is written once `count` were read.
+fn front_after(count: usize) -> &'static [u8] {
+    &VIEWER[..length_after(count).min(VIEWER.len())]
 }
 
-// Whether viewing stops so where the reader fails behind so many bytes.
-fn fails_behind(alloc: Global, bytes: &[u8], count: usize) -> bool {
+// Whether viewing stops so where the reader fails after `count` bytes.
+fn fails_after(alloc: Global, bytes: &[u8], count: usize) -> bool {
     let mut source = FailingReader {
         unread: bytes,
         calls: count,
@@ -129,24 +130,24 @@ fn fails_behind(alloc: Global, bytes: &[u8], count: usize) -> bool {
     let answer = viewing(alloc, &mut source, &mut sink, 1);
     answer == Err(EngineFault::Device)
         && (source.failures, sink.failures()) == (1, 0)
-        && sink.into_inner().as_slice() == front_behind(count)
+        && sink.into_inner().as_slice() == front_after(count)
 }
 
 // Whether it stops so where the bytes end there.
-fn ends_behind(alloc: Global, bytes: &[u8], count: usize) -> bool {
+fn ends_after(alloc: Global, bytes: &[u8], count: usize) -> bool {
     let mut sink = Tally::new(Vec::new(alloc));
     let mut source = Tally::new(&bytes[..count.min(bytes.len())]);
     let answer = viewing(alloc, &mut source, &mut sink, 1);
-    answer == Err(EngineFault::Truncated) && sink.into_inner().as_slice() == front_behind(count)
+    answer == Err(EngineFault::Truncated) && sink.into_inner().as_slice() == front_after(count)
 }
 
 #[test]
 fn bytes_that_fail_or_end_early_are_answered_so_far(rt: HostRuntime) -> Result<(), AllocError> {
     let bytes = joined(rt.alloc(), &[HANDSHAKE, UPDATE])?;
     for count in 0..69_usize {
-        let fails = fails_behind(rt.alloc(), &bytes, count);
-        let ends = ends_behind(rt.alloc(), &bytes, count);
-        assert_eq!(rt; (fails, ends), (true, true), "behind {count} bytes");
+        let fails = fails_after(rt.alloc(), &bytes, count);
+        let ends = ends_after(rt.alloc(), &bytes, count);
+        assert_eq!(rt; (fails, ends), (true, true), "after {count} bytes");
     }
     Ok(())
 }

@@ -5,7 +5,7 @@ ghost use Rattle.rfb_viewer.specs.Standing.{StandsFor};
 ghost use Rattle.rfb_viewer.specs.Told.{seen};
 ghost use Rattle.rfb_viewer.specs.Viewer.{Viewing, ViewerState};
 ghost use Rattle.rfb_session.specs.Looking.{HasAsked, IsAnswered, IsCutInAnswer, IsCutInAsking};
-ghost use Rattle.rfb_session.specs.ViewEngine.{due_behind};
+ghost use Rattle.rfb_session.specs.ViewEngine.{due_after};
 ghost use Rattle.rfb_session.specs.Watching.{ends_told, whole_area};
 
 use crate::engine::device::Sink;
@@ -96,7 +96,7 @@ fn ended(event: &Option<ViewerEvent>) -> u32
 
 // Whether a request is due then, and whether it is one for what has changed.
 fn due(event: &Option<ViewerEvent>) -> Option<bool>
-    ensures { result ≡ due_behind (seen event.now) }
+    ensures { result ≡ due_after (seen event.now) }
 {
     match event {
         Some(ViewerEvent::Ready { .. }) => Some(false),

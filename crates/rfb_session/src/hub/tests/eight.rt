@@ -1,4 +1,4 @@
-//! Eight viewers of one screen: three formats, copies, cut deliveries, one that asked for the
+//! Eight viewers of one screen: three formats, copies, deliveries in parts, one that asked for the
 //! screen alone before the others came, and one whose session is sent what no client sends.
 
 use super::*;
@@ -100,7 +100,7 @@ fn draw(hub: &mut Hub, rect: Rect, colour: Colour) -> bool {
     refusal(hub, HubEvent::Fill(rect, colour)).is_none()
 }
 
-// The left half moves to the right one, and each session is told.
+// The left half moves to the right one, and each session is notified.
 fn scroll(hub: &mut Hub) -> bool {
     let right = Rect { x: 2, w: 2, ..ROW };
     refusal(hub, HubEvent::Copy(right, 0, 0)).is_none()

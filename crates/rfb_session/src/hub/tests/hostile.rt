@@ -53,7 +53,7 @@ fn event_of(line: u32) -> HubEvent
     }
 }
 
-// The events of a line, one at each turn, if it has so many.
+// The event of a line at this turn, if it has that many.
 fn event_at(alloc: Global, line: u32, turn: u32) -> Result<Option<HubEvent>, AllocError>
     ensures { IfOk result (λ event. ForSome event HasFewHubBytes) }
 {

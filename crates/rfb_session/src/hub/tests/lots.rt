@@ -83,7 +83,7 @@ fn is_alike(hub: &Hub, guest: &mut Guest) -> bool {
         && guest.plain.shows(hub.picture(guest.slot))
 }
 
-// Whether a hub answers as it is due, and is as the table behind it.
+// Whether a hub answers as it is due, and is as the table after it.
 fn is_as(hub: &Hub, table: &mut Table, told: HubTold, due: Due) -> bool {
     let mut alike = told.moved == due.moved
         && number_of(told.refused) == due.refused
@@ -94,7 +94,7 @@ fn is_as(hub: &Hub, table: &mut Table, told: HubTold, due: Due) -> bool {
     alike
 }
 
-// Whether both answer an event of a slot alike, and are alike behind it.
+// Whether both answer an event of a slot alike, and are alike after it.
 fn both_take(
     hub: &mut Hub,
     table: &mut Table,
@@ -185,7 +185,7 @@ fn turn(hub: &mut Hub, table: &mut Table, lot: &mut Lot, first: u8) -> Result<bo
     }
 }
 
-// Whether the two agree at so many turns.
+// Whether the two agree at a number of turns.
 fn agree(hub: &mut Hub, table: &mut Table, lot: &mut Lot) -> Result<bool, AllocError> {
     // The last slots are 6, 7, and 8, which is none.
     let first = lot.up_to(6) as u8;

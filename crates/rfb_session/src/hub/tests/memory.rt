@@ -37,8 +37,8 @@ fn version_at_last(alloc: Global) -> Result<HubEvent, AllocError>
     }
 }
 
-// Behind the handshake an update is composed; then another viewer joins, and foreign bytes reach
-// its session.
+// After the handshake an update is composed; then another viewer joins, and foreign bytes reach its
+// session.
 fn event_at(turn: u32) -> HubEvent
     ensures { HasFewHubBytes result }
 {

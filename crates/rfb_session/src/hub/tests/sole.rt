@@ -56,7 +56,7 @@ fn refusals(alloc: Global) -> Result<[Option<HubFault>; 6], AllocError> {
 }
 
 #[test]
-fn a_slot_that_is_not_there_is_told_before_one_that_is_taken(
+fn a_slot_that_is_not_there_is_reported_before_one_that_is_taken(
     rt: HostRuntime,
 ) -> Result<(), AllocError> {
     let told = refusals(rt.alloc())?;

@@ -1,4 +1,4 @@
-//! A ninth viewer, one that asks for the screen alone, and what is told with a seat.
+//! A ninth viewer, one that asks for the screen alone, and what is reported with a seat.
 
 use super::*;
 use crate::share::event::{Heard, SeatEvent};

@@ -126,7 +126,7 @@ fn each_call_is_a_message_of_its_size(rt: HostRuntime) -> Result<(), AllocError>
     Ok(())
 }
 
-// A text of so many letters.
+// A text of `count` letters.
 fn text_of(alloc: Global, count: usize) -> Result<Event, AllocError> {
     let mut text = Vec::new(alloc);
     text.resize(count, b'A')?;
@@ -140,7 +140,7 @@ fn row_from(alloc: Global, x: u16) -> Result<Event, AllocError> {
 }
 
 // What both places show once all was asked for and sent.
-fn shown_behind_an_update(world: &mut World) -> [Option<Colour>; 2] {
+fn shown_after_an_update(world: &mut World) -> [Option<Colour>; 2] {
     settle(world);
     if takes(world, Event::Request(false, BOTH)) && settle(world) == (10, 0) && composes(world) {
         settle(world);
@@ -151,7 +151,7 @@ fn shown_behind_an_update(world: &mut World) -> [Option<Colour>; 2] {
 // What both places show of a row, where one that leaves the screen was refused before.
 fn shown_of_a_row(world: &mut World, outside: Event, row: Event) -> Option<[Option<Colour>; 2]> {
     if refuses(world, outside, Refused::Outside) && takes(world, row) {
-        Some(shown_behind_an_update(world))
+        Some(shown_after_an_update(world))
     } else {
         None
     }
@@ -191,7 +191,7 @@ fn refresh(world: &mut World, incremental: bool) -> u32 {
     }
 }
 
-// How many bytes an update of four places has, and behind a copy that is hinted at, and what the
+// How many bytes an update of four places has, and after a copy that is hinted at, and what the
 // last place shows then.
 fn copies(world: &mut World) -> (u32, u32, Option<Colour>) {
     takes(world, Event::Fill(BOTH, ORANGE));
@@ -215,7 +215,7 @@ fn copies_on_a_row(alloc: Global) -> Result<(u32, u32, Option<Colour>), AllocErr
 #[test]
 fn a_hinted_copy_arrives_as_its_source(rt: HostRuntime) -> Result<(), AllocError> {
     let copied = copies_on_a_row(rt.alloc())?;
-    // Behind two heads of 4 and 12 bytes: four pixels of four bytes; then a column and a row, where
+    // After two heads of 4 and 12 bytes: four pixels of four bytes; then a column and a row, where
     // two pixels would be 8 bytes.
     assert_eq!(rt; copied, (32, 20, Some(ORANGE_OF_888)));
     Ok(())

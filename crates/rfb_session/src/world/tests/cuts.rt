@@ -1,4 +1,4 @@
-//! Items that arrive in pieces: byte by byte, and an update that is cut at each of its bytes.
+//! Items that arrive in pieces: byte by byte, and an update that is split at each of its bytes.
 
 use super::*;
 
@@ -44,7 +44,7 @@ fn rgb565() -> Event {
     Event::SetFormat(Format::rgb565())
 }
 
-// A request is composed once its last byte has arrived, and so many bytes of its update arrive.
+// A request is composed once its last byte has arrived, and `count` bytes of its update arrive.
 fn is_cut_at(world: &mut World, count: u32) -> bool {
     takes(world, Event::Fill(FIRST, ORANGE))
         && settle(world) == (42, 45)
@@ -56,7 +56,7 @@ fn is_cut_at(world: &mut World, count: u32) -> bool {
         && to_viewer(world, count) == count
 }
 
-// The format is taken, and the next update is of it. So many bytes were in flight to the server.
+// The format is taken, and the next update is of it. `before` bytes were in flight to the server.
 fn changes_format(world: &mut World, before: u32) -> bool {
     takes(world, rgb565())
         && takes(world, Event::Request(true, BOTH))
@@ -103,7 +103,7 @@ fn takes_a_format_twice(alloc: Global) -> Result<bool, AllocError> {
 }
 
 #[test]
-fn a_format_is_taken_behind_a_whole_update_and_again(rt: HostRuntime) -> Result<(), AllocError> {
+fn a_format_is_taken_after_a_whole_update_and_again(rt: HostRuntime) -> Result<(), AllocError> {
     let taken = takes_a_format_twice(rt.alloc())?;
     assert!(rt; taken);
     Ok(())

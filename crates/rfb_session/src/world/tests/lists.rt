@@ -9,7 +9,7 @@ use super::*;
 enum List {
     // The first place is orange, is asked for, and is sent; each delivery is of one byte.
     SingleBytes,
-    // Both places are sent, in an update that is cut inside a pixel; then the format is another
+    // Both places are sent, in an update that is split inside a pixel; then the format is another
     // one, and the second place a copy of the first.
     AnotherFormat,
 }
@@ -73,7 +73,7 @@ fn events_of(alloc: Global, list: List) -> Result<Vec<Event>, AllocError>
     Ok(events)
 }
 
-fn shown_behind_single_bytes(alloc: Global) -> Result<Option<Colour>, AllocError> {
+fn shown_after_single_bytes(alloc: Global) -> Result<Option<Colour>, AllocError> {
     let events = events_of(alloc, List::SingleBytes)?;
     let mut world = row_of(alloc, 1)?;
     let shown = match world.run(&events) {
@@ -86,12 +86,12 @@ fn shown_behind_single_bytes(alloc: Global) -> Result<Option<Colour>, AllocError
 
 #[test]
 fn a_session_in_single_bytes_is_one_list(rt: HostRuntime) -> Result<(), AllocError> {
-    let shown = shown_behind_single_bytes(rt.alloc())?;
+    let shown = shown_after_single_bytes(rt.alloc())?;
     assert_eq!(rt; shown, Some(ORANGE_OF_888));
     Ok(())
 }
 
-// Both places, behind the list.
+// Both places, after the list.
 fn shown_after_another_format(alloc: Global) -> Result<[Option<Colour>; 2], AllocError> {
     let events = events_of(alloc, List::AnotherFormat)?;
     let Ok(world) = World::played(alloc, 2, 1, &events) else {

@@ -33,7 +33,7 @@ pub(crate) fn format_of(number: u16) -> Format {
     }
 }
 
-// All encodings in one of their 24 orders, or behind these one of the four alone.
+// All encodings in one of their 24 orders, or after these one of the four alone.
 pub(crate) fn encodings_of(number: u16) -> ArrayVec<Encoding, 4> {
     let mut order = [
         Encoding::Raw,
@@ -88,7 +88,7 @@ fn plain_of(alloc: Global, number: u16, width: u16, height: u16) -> Result<Plain
     Plain::new(alloc, &making)
 }
 
-// How many updates arrive whole in a run of so many events; `None` where a world and the machine
+// How many updates arrive whole in a run of `count` events; `None` where a world and the machine
 // differ.
 fn updates_of(alloc: Global, number: u16, count: u32) -> Result<Option<u32>, AllocError> {
     let mut lot = Lot::new(u64::from(number));

@@ -22,8 +22,7 @@ fn text_at_last(alloc: Global) -> Result<Event, AllocError> {
     }
 }
 
-// Behind the handshake an update is composed; then each other call is made, and its message
-// arrives.
+// After the handshake an update is composed; then each other call is made, and its message arrives.
 fn event_at(turn: u32) -> Event {
     match turn {
         0 => Event::Fill(FIRST, ORANGE),

@@ -21,7 +21,7 @@ const SEEN: Colour = Colour {
     b: 0,
 };
 
-// A request and a format are refused behind each byte of the update, up to its last. Then a format
+// A request and a format are refused after each byte of the update, up to its last. Then a format
 // is set, the next request sent, and its update read in that format.
 const BETWEEN: &[Step<'static>] = &[
     Step::Send(Call::Request(false, ONE), b"\x03\0\0\0\0\0\0\x01\0\x01"),
@@ -45,7 +45,7 @@ fn a_format_is_set_between_an_update_and_the_next_request(rt: HostRuntime) {
 }
 
 // Inside an update that nobody asked for no format is set. A request is sent, and answered by its
-// end: none is sent behind it, and the next one behind the last byte.
+// end: none is sent after it, and the next one after the last byte.
 const ANSWERED: &[Step<'static>] = &[
     Step::Inside(FRONT, Some(CallFault::Busy)),
     Step::Send(Call::Key(true, 1), b"\x04\x01\0\0\0\0\0\x01"),

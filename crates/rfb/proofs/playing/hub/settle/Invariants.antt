@@ -1,4 +1,4 @@
--- So many turns led to this hub, and were told so.
+-- The turns so far led to this hub, and their answers are these.
 use Rattle.rfb.specs.HubPlaying.{LeadsHub, TellsLine, deliveries_in}
 use Rattle.rfb.proofs.playing.hub.settle.Given as goal
 

@@ -1,13 +1,13 @@
 -- The lines so far are empty, or a hub's script.
 use Rattle.std.proofs.Common.{◌≡◌, length}
 use Rattle.rfb.proofs.HubLineLemmas.{ReadHub}
-use Rattle.rfb.specs.HubScript.{line_behind}
+use Rattle.rfb.specs.HubScript.{line_after}
 use Rattle.rfb.specs.Words.{texts}
 use Rattle.rfb.proofs.script.hub.read_hub_script.Given as goal
 
 abbrev pub invariant-loop-line : goal.invariant-loop-line
 invariant-loop-line l = record {
   count : l.number ≡ length l.yielded;
-  behind : l.behind ≡ line_behind (texts l.yielded);
+  after : l.after ≡ line_after (texts l.yielded);
   so_far : ReadHub (texts l.yielded) l.screen l.steps.items l.shown;
 }

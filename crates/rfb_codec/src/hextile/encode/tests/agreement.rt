@@ -46,7 +46,7 @@ fn is_read_as(
 // Bytes that stand before those of a block.
 const BEFORE: [u8; 2] = [9, 8];
 
-fn behind_those_before(alloc: Global, tiles: &[u8]) -> Result<Vec<u8>, AllocError> {
+fn after_those_before(alloc: Global, tiles: &[u8]) -> Result<Vec<u8>, AllocError> {
     let mut bytes = Vec::new(alloc);
     bytes.extend_from_slice(&BEFORE)?;
     bytes.extend_from_slice(tiles)?;
@@ -61,7 +61,7 @@ fn is_sent(
     pixels: &[u32],
     tiles: &[u8],
 ) -> Result<bool, AllocError> {
-    let wanted = behind_those_before(alloc, tiles)?;
+    let wanted = after_those_before(alloc, tiles)?;
     is_sent_as::<Hextile>(alloc, format, size, pixels, &BEFORE, &wanted)
 }
 
@@ -207,7 +207,7 @@ fn it_keeps_the_rule_at_every_row_of_few_places(rt: HostRuntime) -> Result<(), F
     Ok(())
 }
 
-// Agreement at each row of so many places over pixels below `values`.
+// Agreement at each row of `width` places over pixels below `values`.
 fn agrees_at_row(rt: &impl Abort, alloc: Global, width: u16, values: u32) -> Result<(), Fail> {
     let mut pixels = Vec::new(alloc);
     pixels.resize(usize::from(width), 0)?;

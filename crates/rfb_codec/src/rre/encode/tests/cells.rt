@@ -63,7 +63,7 @@ fn six_hundred_single_places_are_taken_or_given_up(rt: HostRuntime) -> Result<()
     agrees_in_each_size(&rt, rt.alloc(), &pixels)
 }
 
-// Rows that have so many places of one pixel, and then another of its hash.
+// Rows that have `zeros` places of one pixel, and then another of its hash.
 fn two_of_one_hash(zeros: usize) -> [u32; 4096] {
     let mut pixels = [0x0E8B_2F51; 4096];
     for row in pixels.chunks_mut(64) {
@@ -98,13 +98,13 @@ fn square(number: u32) -> u32 {
     number.wrapping_mul(number)
 }
 
-// One of so many pixels without order, each times `apart`.
+// One of `kinds` pixels without order, each times `apart`.
 fn kind_of(state: &mut u32, kinds: u32, apart: u32) -> u32 {
     let kind = next(state).checked_rem(kinds).unwrap_or(0);
     kind.wrapping_mul(apart)
 }
 
-// A cell in which of every so many places one has one of so many other pixels, and one in three of
+// A cell in which of every `apart` places one has one of `others` other pixels, and one in three of
 // these goes on to the right.
 fn sprinkled(state: &mut u32, apart: u32, others: u32) -> [u32; 4096] {
     let mut pixels = [0x55_5555; 4096];
@@ -122,7 +122,7 @@ fn sprinkled(state: &mut u32, apart: u32, others: u32) -> [u32; 4096] {
     pixels
 }
 
-// Gives each place one of so many pixels without order.
+// Gives each place one of `kinds` pixels without order.
 fn give_kinds(pixels: &mut [u32; 4096], state: &mut u32, kinds: u32) {
     for pixel in pixels.iter_mut() {
         *pixel = kind_of(state, kinds, 0x0001_0000);

@@ -73,7 +73,7 @@ impl Plain {
         Ok(Plain { count })
     }
 
-    /// How many bytes it has, with so many for a pixel.
+    /// How many bytes it has, with `size` for a pixel.
     pub fn length(&self, size: usize) -> usize {
         size.wrapping_add(8)
             .wrapping_mul(self.count)

@@ -4,7 +4,7 @@ use Rattle.rfb_hello.specs.declared.step.ServerStep.TheVariants.{Reply}
 use Rattle.rfb_hello.specs.Version.{version_of}
 use Rattle.rfb_hello.specs.ClientHandshake.{client_version_fault}
 use Rattle.rfb_hello.specs.ServerEnd.{as_reply, security_bytes, server_end}
-use Rattle.rfb_hello.specs.inside.ServerPiece.{progress_behind}
+use Rattle.rfb_hello.specs.inside.ServerPiece.{progress_after}
 use Rattle.rfb_hello.specs.ServerStanding.{StandsFor}
 use Rattle.rfb_hello.proofs.ServerHelloLemmas.{server_machine, version_told, version_refused}
 use Rattle.rfb_hello.proofs.server_hello.ServerHello.take_version.Goals as goal
@@ -18,8 +18,8 @@ returns-in-Ok-clause-fed c = λ setup.
     let same : c.as_slice.result.now ≡ whole = c.as_slice.ensures.value in
     let good : client_version_fault old.offer whole ≡ None = ap (client_version_fault old.offer) (sym same) ∙ sym (rw c.in-Ok.is at c.offered.ensures.fault) in
     let version : c.in-Ok.version ≡ version_of whole = c.in-Ok.ensures.ok ∙ ap version_of same in
-    let is : c.behind_version-self.result ≡ progress_behind (version_of whole) = c.behind_version-self.ensures ∙ ap progress_behind version in
-    let new = record old { progress = c.behind_version-self.result } in
+    let is : c.after_version-self.result ≡ progress_after (version_of whole) = c.after_version-self.ensures ∙ ap progress_after version in
+    let new = record old { progress = c.after_version-self.result } in
     let fed = step_feeds (server_end setup) (server_machine setup) (StandsFor setup) old new unit (Some (Reply (as_reply (security_bytes (version_of whole))))) (version_told setup old new c.in-Version.text unit whole c.in-Version.is gathered.0 gathered.1 good refl is) in
     rw (c.security.ensures, version) fed
 

@@ -5,7 +5,7 @@ use Rattle.rfb_wire.proofs.stream_laws.FeedLaws.{fed_step, fault_step, memory_st
 use Rattle.rfb_hello.specs.declared.fault.HelloFault.TheVariants.{NoMemory}
 use Rattle.rfb_hello.specs.declared.step.ViewerStep.{ViewerStep}
 use Rattle.rfb_hello.specs.ViewerEnd.{viewer_end, AsksMemory}
-use Rattle.rfb_hello.specs.ViewerStanding.{StandsFor, KeepsReason, goes_on_behind}
+use Rattle.rfb_hello.specs.ViewerStanding.{StandsFor, KeepsReason, goes_on_after}
 use Rattle.rfb_hello.proofs.ServerHelloLemmas.{none_told, some_told}
 use Rattle.rfb_hello.proofs.ViewerHelloLemmas.{viewer_machine, viewer_starts, not_failed, step_there, kept_later}
 use Rattle.rfb_hello.proofs.viewer_hello.ViewerHello.feed.Goals as goal
@@ -75,7 +75,7 @@ loop-used-preserved c =
       within = omega (arith, length-drop c.loop-used.used c.args.bytes.now, within, c.loop-used.invariant.within);
       began = c.loop-used.invariant.began;
       going = rw was at c.take-n.ensures.going;
-      stays_open = λ _. goes ∙ ap goes_on_behind none;
+      stays_open = λ _. goes ∙ ap goes_on_after none;
       setup = c.take-n.ensures.setup ∙ c.loop-used.invariant.setup;
       fed = λ setup.
           let steps = c.take-n.ensures.steps (λ e. cc) setup in

@@ -7,12 +7,12 @@ use Rattle.rfb_hello.specs.ServerReading.{screen_fault}
 use Rattle.rfb_hello.specs.ViewerEnd.{told_of_init, viewer_end}
 use Rattle.rfb_wire.specs.stream.End.{StepsBy}
 use Rattle.rfb_hello.specs.ViewerStanding.{StandsFor}
-use Rattle.rfb_hello.specs.inside.ViewerPiece.{progress_behind_init}
+use Rattle.rfb_hello.specs.inside.ViewerPiece.{progress_after_init}
 use Rattle.rfb_hello.proofs.ViewerHelloLemmas.{becomes, init_told, init_asks}
 use Rattle.rfb_hello.proofs.viewer_hello.ViewerHello.take_init.Goals as goal
 
-pub returns-in_default-behind_init : goal.returns-in_default-behind_init
-returns-in_default-behind_init c = record {
+pub returns-in_default-after_init : goal.returns-in_default-after_init
+returns-in_default-after_init c = record {
   some = search rules;
   within = search rules;
   steps = search rules;
@@ -21,7 +21,7 @@ returns-in_default-behind_init c = record {
       let whole = c.in-Some.whole.items in
       let gathered = rw c.in-Some.is at c.gather-used.ensures.whole in
       let length_is : c.read_u32-length.result ≡ u32_at 20 whole = c.read_u32-length.ensures ∙ ap (big_number 4) (take_rest c.as_slice-init.result.now 20) ∙ ap (u32_at 20) c.as_slice-init.ensures.value in
-      let some : 0 < u32_at 20 whole = subst (λ (k : ℕ). 0 < k) length_is c.in_default-behind_init.ensures.asked in
+      let some : 0 < u32_at 20 whole = subst (λ (k : ℕ). 0 < k) length_is c.in_default-after_init.ensures.asked in
       let good : screen_fault c.args.self.now.max_places whole ≡ None = ap (screen_fault c.args.self.now.max_places) (sym c.as_slice-init.ensures.value) ∙ sym c.screen_fault.ensures ∙ c.in_default-screen_fault.is in
       init_asks setup c.args.self.now c.in-Init.version c.in-Init.part unit whole c.in-Init.is gathered.0 gathered.1 good some;
   goes = search rules;
@@ -46,7 +46,7 @@ returns c = record {
       let height : c.read_u16-height.result ≡ u16_at 2 whole = c.read_u16-height.ensures ∙ ap (big_number 2) (take_rest c.as_slice-init.result.now 2) ∙ ap (u16_at 2) same in
       let n : c.read_u32-length.result ≡ u32_at 20 whole = c.read_u32-length.ensures ∙ ap (big_number 4) (take_rest c.as_slice-init.result.now 20) ∙ ap (u32_at 20) same in
       let step : c.in-Ok.step ≡ told_of_init old.text_limit c.in-Init.version (u16_at 0 whole) (u16_at 2 whole) (u32_at 20 whole) = rw (width, height, n) at c.in-Ok.ensures.told in
-      let progress : c.in-Ok.progress ≡ progress_behind_init old.text_limit c.in-Init.version (u16_at 0 whole) (u16_at 2 whole) (u32_at 20 whole) = rw (width, height, n) at c.in-Ok.ensures.progress in
+      let progress : c.in-Ok.progress ≡ progress_after_init old.text_limit c.in-Init.version (u16_at 0 whole) (u16_at 2 whole) (u32_at 20 whole) = rw (width, height, n) at c.in-Ok.ensures.progress in
       let told = init_told setup old c.in-Init.version c.in-Init.part unit whole c.in-Init.is gathered.0 gathered.1 good in
       subst (λ (e : ViewerStep). StepsBy (viewer_end setup) (StandsFor setup) old unit (Ok (Some e)) (record old { progress = c.in-Ok.progress })) (sym step)
       (becomes setup old unit unit _ _ _ refl progress told);

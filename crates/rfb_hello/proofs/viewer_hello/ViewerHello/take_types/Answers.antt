@@ -52,7 +52,7 @@ returns c = record {
       let unit = take missing c.args.bytes.now in
       let size : length unit ≡ c.in-Types.more + 1 = length-take-le missing c.args.bytes.now (omega (arith, c.if-bytes-missing.false)) ∙ ap (λ (k : ℕ). k + 1) c.from-missing.ensures in
       let has : (c.in-Types.none || has_none unit) ≡ true = search rules in
-      becomes setup old unit unit _ _ _ refl c.behind_types.ensures (types_told setup old c.in-Types.version c.in-Types.more c.in-Types.none unit c.choice-reply.result c.in-Types.is size has c.choice-reply.ensures);
+      becomes setup old unit unit _ _ _ refl c.after_types.ensures (types_told setup old c.in-Types.version c.in-Types.more c.in-Types.none unit c.choice-reply.result c.in-Types.is size has c.choice-reply.ensures);
   memory = search rules;
   goes = search rules;
   going = search rules;

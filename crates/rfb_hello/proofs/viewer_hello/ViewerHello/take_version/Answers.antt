@@ -2,7 +2,7 @@ use Rattle.std.proofs.Common.{rules, ◌≡◌, ◌∙◌, ◌==◌, ℕ, ap, le
 use Rattle.arrayvec.specs.ArrayVec.{ArrayVec}
 use Rattle.rfb_hello.specs.declared.version.Version.{Version}
 use Rattle.rfb_hello.specs.Version.{is_version_text, version_of, version_text, lower}
-use Rattle.rfb_hello.specs.inside.ViewerPiece.{progress_behind_version}
+use Rattle.rfb_hello.specs.inside.ViewerPiece.{progress_after_version}
 use Rattle.rfb_hello.proofs.ServerHelloLemmas.{version_read}
 use Rattle.rfb_hello.proofs.ViewerHelloLemmas.{becomes, version_told}
 use Rattle.rfb_hello.proofs.viewer_hello.ViewerHello.take_version.Goals as goal
@@ -20,7 +20,7 @@ returns c = record {
       let told = version_read (length whole == 12) (is_version_text whole) (version_of whole) c.in-Ok.version (rw (c.in-Ok.is, same) at c.try_from.ensures) in
       let version : c.lower-version.result ≡ lower old.limit (version_of whole) = c.lower-version.ensures ∙ ap (λ (v : Version). lower old.limit v) told.1 in
       let bytes : c.reply_of.result.items ≡ version_text (lower old.limit (version_of whole)) = ap (λ (r : ArrayVec ℕ). r.items) c.reply_of.ensures ∙ c.text.ensures ∙ ap version_text version in
-      becomes setup old unit unit _ _ _ refl (c.behind_version.ensures ∙ ap progress_behind_version version) (version_told setup old c.in-Version.part c.reply_of.result unit whole c.in-Version.is gathered.0 gathered.1 told.0 bytes);
+      becomes setup old unit unit _ _ _ refl (c.after_version.ensures ∙ ap progress_after_version version) (version_told setup old c.in-Version.part c.reply_of.result unit whole c.in-Version.is gathered.0 gathered.1 told.0 bytes);
   memory = search rules;
   goes = search rules;
   going = search rules;

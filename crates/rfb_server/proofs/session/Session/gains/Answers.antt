@@ -2,7 +2,7 @@ use Rattle.rfb_picture.specs.Grid.{Holds}
 use Rattle.rfb_codec.specs.RectData.{moved_to}
 use Rattle.rfb_server.specs.inside.Sends.{state_of}
 use Rattle.rfb_server.specs.Using.{move_of}
-use Rattle.rfb_server.specs.inside.Gains.{right_behind}
+use Rattle.rfb_server.specs.inside.Gains.{right_after}
 use Rattle.rfb_server.proofs.CountLemmas.{gain_is, gain_only}
 use Rattle.rfb_server.proofs.RightRowsLemmas.{not_all}
 use Rattle.rfb_server.proofs.session.Session.gains.Goals as goal
@@ -39,4 +39,4 @@ pub returns-clause-wrong : goal.returns-clause-wrong
 returns-clause-wrong c =
     let hint = c.args.hint in
     let to = hint.to in
-    not_all (right_behind c.args.screen.now c.args.self.now hint) to.x to.y to.w c.rows_right-top.result to.h c.rows_right-top.ensures.within c.rows_right-top.ensures.other
+    not_all (right_after c.args.screen.now c.args.self.now hint) to.x to.y to.w c.rows_right-top.result to.h c.rows_right-top.ensures.within c.rows_right-top.ensures.other

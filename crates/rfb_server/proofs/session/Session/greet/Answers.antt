@@ -1,5 +1,5 @@
 use Rattle.std.proofs.Common.{refl, ◌∙◌}
-use Rattle.rfb_server.proofs.GreetLemmas.{partial_behind, goes_behind, done_behind, greets}
+use Rattle.rfb_server.proofs.GreetLemmas.{partial_after, goes_after, done_after, greets}
 use Rattle.rfb_server.proofs.EndingLemmas.{greets_end}
 use Rattle.rfb_server.proofs.session.Session.greet.Goals as goal
 
@@ -8,7 +8,7 @@ invariant_of-self c =
     let s = c.args.self.now in
     record {
       alike = s.alike;
-      partial = rw c.progress_behind.ensures (partial_behind c.feed.new.self c.is_open.result c.is_open.ensures);
+      partial = rw c.progress_after.ensures (partial_after c.feed.new.self c.is_open.result c.is_open.ensures);
       sixteen = s.sixteen;
     }
 
@@ -22,8 +22,8 @@ returns-in-Ok-clause-fed c = λ serving screen.
     (greets serving screen c.args.self.now _ _ c.in-Ok.fed.event c.requires.handshake
     (record {
       setup = c.in-Ok.ensures.setup;
-      goes = λ e. c.progress_behind.ensures ∙ goes_behind c.is_open.result (opens ∙ e);
-      done = λ e. c.progress_behind.ensures ∙ done_behind c.is_open.result (opens ∙ e);
+      goes = λ e. c.progress_after.ensures ∙ goes_after c.is_open.result (opens ∙ e);
+      done = λ e. c.progress_after.ensures ∙ done_after c.is_open.result (opens ∙ e);
       text_limit = refl;
       format = refl;
       encodings = refl;

@@ -15,8 +15,8 @@ loop-row-preserved c =
     let before = before_row screen s hint l.row _ c.before_in_row-before.result refl here in
     omega (arith, before, l.invariant)
 
-pub returns-then-behind-before-clause-more : goal.returns-then-behind-before-clause-more
-returns-then-behind-before-clause-more c =
+pub returns-then-after-before-clause-more : goal.returns-then-after-before-clause-more
+returns-then-after-before-clause-more c =
     let screen = c.args.screen.now in
     let s = c.args.self.now in
     let hint = c.args.hint in
@@ -28,10 +28,10 @@ returns-then-behind-before-clause-more c =
     rw c.row_of.ensures at c.before_in_row-before.ensures.value in
     let before = before_row screen s hint l.row _ c.before_in_row-before.result refl here in
     let most = rows_left (right_before screen s hint) to.x to.y to.w (l.row + 1) c.args.top (omega arith) in
-    omega (arith, c.if-behind-before.true, left, before, l.invariant, c.requires.behind, c.requires.below, most)
+    omega (arith, c.if-after-before.true, left, before, l.invariant, c.requires.after, c.requires.below, most)
 
-pub returns-then-before-behind-clause-no_more : goal.returns-then-before-behind-clause-no_more
-returns-then-before-behind-clause-no_more c = λ more.
+pub returns-then-before-after-clause-no_more : goal.returns-then-before-after-clause-no_more
+returns-then-before-after-clause-no_more c = λ more.
     let screen = c.args.screen.now in
     let s = c.args.self.now in
     let hint = c.args.hint in
@@ -41,7 +41,7 @@ returns-then-before-behind-clause-no_more c = λ more.
     rw c.row_of.ensures at c.before_in_row-before.ensures.value in
     let before = before_row screen s hint l.row _ c.before_in_row-before.result refl here in
     let least = rows_left (right_before screen s hint) to.x to.y to.w (l.row + 1) c.args.top (omega arith) in
-    omega (arith, more, c.if-before-behind.true, before, l.invariant, c.requires.behind, c.requires.below, least)
+    omega (arith, more, c.if-before-after.true, before, l.invariant, c.requires.after, c.requires.below, least)
 
 pub overflow_add-before : goal.overflow_add-before
 overflow_add-before c =

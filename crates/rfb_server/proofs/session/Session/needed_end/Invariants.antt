@@ -3,7 +3,7 @@ use Rattle.rfb_picture.specs.Places.{NoneInRow}
 use Rattle.rfb_server.specs.inside.Needs.{needs_of}
 use Rattle.rfb_server.proofs.session.Session.needed_end.Given as goal
 
--- none was found behind the column
+-- none was found after the column
 abbrev pub invariant-loop-end : goal.invariant-loop-end
 invariant-loop-end l = record {
   order : (l.from ≤ l.end) × (l.end ≤ l.to);

@@ -9,8 +9,8 @@ before_by-requires-clause-wanted c = c.pack_row.ensures.value ∙ ap (map (pixel
 pub before_by-requires-clause-len : goal.before_by-requires-clause-len
 before_by-requires-clause-len c = ap length c.pack_row.ensures.value ∙ length-map c.row-colours.result.now (pixel_of c.args.self.now.format) ∙ c.row-colours.ensures.len
 
-pub behind_by-requires-clause-wanted : goal.behind_by-requires-clause-wanted
-behind_by-requires-clause-wanted c = c.pack_row.ensures.value ∙ ap (map (pixel_of c.args.self.now.format)) c.row-colours.ensures.value
+pub after_by-requires-clause-wanted : goal.after_by-requires-clause-wanted
+after_by-requires-clause-wanted c = c.pack_row.ensures.value ∙ ap (map (pixel_of c.args.self.now.format)) c.row-colours.ensures.value
 
-pub behind_by-requires-clause-len : goal.behind_by-requires-clause-len
-behind_by-requires-clause-len c = ap length c.pack_row.ensures.value ∙ length-map c.row-colours.result.now (pixel_of c.args.self.now.format) ∙ c.row-colours.ensures.len
+pub after_by-requires-clause-len : goal.after_by-requires-clause-len
+after_by-requires-clause-len c = ap length c.pack_row.ensures.value ∙ length-map c.row-colours.result.now (pixel_of c.args.self.now.format) ∙ c.row-colours.ensures.len

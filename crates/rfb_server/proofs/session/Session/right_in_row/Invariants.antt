@@ -1,6 +1,6 @@
 use Rattle.std.proofs.Common.{◌≡◌, ◌+◌, ◌-◌, ◌≤◌}
 use Rattle.rfb_server.specs.Composing.{count_row}
-use Rattle.rfb_server.specs.inside.Gains.{right_before, right_behind}
+use Rattle.rfb_server.specs.inside.Gains.{right_before, right_after}
 use Rattle.rfb_server.proofs.session.Session.right_in_row.Given as goal
 
 -- the places so far are counted
@@ -8,8 +8,8 @@ abbrev pub invariant-loop-x : goal.invariant-loop-x
 invariant-loop-x l = record {
   order : (l.row.to.x ≤ l.x) × (l.x ≤ l.row.to.x + l.row.to.w);
   before : l.before ≡ count_row (right_before l.screen l.self l.row) l.row.to.x l.row.to.y (l.x - l.row.to.x);
-  behind : l.behind ≡ count_row (right_behind l.screen l.self l.row) l.row.to.x l.row.to.y (l.x - l.row.to.x);
-  few : (l.before ≤ l.x - l.row.to.x) × (l.behind ≤ l.x - l.row.to.x);
+  after : l.after ≡ count_row (right_after l.screen l.self l.row) l.row.to.x l.row.to.y (l.x - l.row.to.x);
+  few : (l.before ≤ l.x - l.row.to.x) × (l.after ≤ l.x - l.row.to.x);
 }
 
 abbrev pub decreases-loop-x : goal.decreases-loop-x

@@ -16,7 +16,7 @@ enough_none s = record {
   sum_is = omega arith;
 }
 
--- one more, behind others that need no room
+-- one more, after others that need no room
 enough_more : (s : Session) (at index room cost : ℕ) → at ≤ index → NoneMayNeed s at index →
     ((cell : Rect) → IsCell s.known.width s.known.height (div_ceil s.known.width 64) index cell → IsCost (may_need s.marks s.area) s.format cell cost) →
     IsEnough s (div_ceil s.known.width 64) at room → IsEnough s (div_ceil s.known.width 64) (index + 1) (room + cost)
@@ -85,7 +85,7 @@ returns-clause-limits c = record {
   some = λ _. c.loop-index.invariant.order;
   within = c.loop-index.invariant.within;
   before = c.loop-index.invariant.before;
-  behind = rw c.in_default-next_cell.is at c.next_cell-in-loop-index.ensures;
+  after = rw c.in_default-next_cell.is at c.next_cell-in-loop-index.ensures;
 }
 
 pub returns-clause-most : goal.returns-clause-most

@@ -24,6 +24,6 @@ returns-clause-quiet c =
     let hint = c.args.hint in
     let size = c.requires.about.alike in
     let from = c.in-Some.ensures.useful.gain.source_on_screen in
-    quiet_either c.args.screen.now c.copy.new.self s.area s.format hint.to c.quiet_behind.result c.in-Some.all _ c.quiet_behind.ensures.right c.quiet_behind.ensures.wrong c.in-Some.ensures.right
+    quiet_either c.args.screen.now c.copy.new.self s.area s.format hint.to c.quiet_after.result c.in-Some.all _ c.quiet_after.ensures.right c.quiet_after.ensures.wrong c.in-Some.ensures.right
     (quiet_copied c.args.screen.now s c.copy.new.self hint c.in-Some.ensures.useful.free
     (rw (← size.columns) from.0, rw (← size.rows) from.1) c.copy.ensures.value)

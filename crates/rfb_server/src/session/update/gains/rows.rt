@@ -1,32 +1,32 @@
-//! How many places of a row have the wanted pixel, before a copy and behind it.
+//! How many places of a row have the wanted pixel, before a copy and after it.
 
 ghost use Rattle.std.specs.Prelude.{◌≡◌, ◌+◌, ◌-◌, ◌*◌, ◌/◌, ◌≤◌, ◌<◌, length, map};
 ghost use Rattle.rfb_pixel.specs.Format.{pixel_of};
 ghost use Rattle.rfb_picture.specs.Grid.{row_of};
 ghost use Rattle.rfb_server.specs.Following.{Follows};
 ghost use Rattle.rfb_server.specs.Composing.{count_row};
-ghost use Rattle.rfb_server.specs.inside.Gains.{MayCopy, part, right_before, right_behind};
+ghost use Rattle.rfb_server.specs.inside.Gains.{MayCopy, part, right_before, right_after};
 
 use crate::hint::Hint;
 use crate::session::Session;
 use rfb_picture::{Picture, Rect};
 use rfb_pixel::{Colour, count_equal, differing, first_diff};
 
-/// So many places have the wanted pixel: as they are, and behind a copy.
+/// How many places have the wanted pixel: as they are, and after a copy.
 #[derive(Clone, Copy, Drop)]
 pub(super) struct Right {
     pub before: u32,
-    pub behind: u32,
+    pub after: u32,
 }
 
 impl Session {
-    /// How many places of one row have it behind the copy, in parts of 64 places.
-    pub(super) fn behind_in_row(&self, screen: &Picture<Colour>, row: Hint) -> u32
+    /// How many places of one row have it after the copy, in parts of 64 places.
+    pub(super) fn after_in_row(&self, screen: &Picture<Colour>, row: Hint) -> u32
         requires about { Follows screen.now self.now }
         requires copy { MayCopy self.now.known row }
         requires single { row.to.h ≡ 1 }
         ensures value { result
-            ≡ count_row (right_behind screen.now self.now row) row.to.x row.to.y row.to.w }
+            ≡ count_row (right_after screen.now self.now row) row.to.x row.to.y row.to.w }
         ensures few { result ≤ row.to.w }
     {
         let end = row.to.x + row.to.w;
@@ -34,31 +34,31 @@ impl Session {
         let mut x = row.to.x;
         while x < end {
             let next = end.min(x + 64);
-            count += self.behind_in_part(screen, part_of(row, x, next));
+            count += self.after_in_part(screen, part_of(row, x, next));
             x = next;
         }
         count
     }
 
     // The same of at most 64 places of a row.
-    fn behind_in_part(&self, screen: &Picture<Colour>, part: Hint) -> u32
+    fn after_in_part(&self, screen: &Picture<Colour>, part: Hint) -> u32
         requires about { Follows screen.now self.now }
         requires copy { MayCopy self.now.known part }
         requires single { part.to.h ≡ 1 }
         requires few { part.to.w ≤ 64 }
         ensures value { result
-            ≡ count_row (right_behind screen.now self.now part) part.to.x part.to.y part.to.w }
+            ≡ count_row (right_after screen.now self.now part) part.to.x part.to.y part.to.w }
         ensures few { result ≤ part.to.w }
     {
         let mut row = [0; 64];
         let wanted = &mut row[..usize::from(part.to.w)];
         let colours = screen.row(part.to.x, part.to.y, part.to.w);
         self.format.pack_row(colours, wanted);
-        self.behind_by(screen, part, wanted)
+        self.after_by(screen, part, wanted)
     }
 
     // The same where the wanted pixels are given. All of the source is known.
-    fn behind_by(&self, screen: &Picture<Colour>, part: Hint, wanted: &[u32]) -> u32
+    fn after_by(&self, screen: &Picture<Colour>, part: Hint, wanted: &[u32]) -> u32
         requires about { Follows screen.now self.now }
         requires copy { MayCopy self.now.known part }
         requires single { part.to.h ≡ 1 }
@@ -66,7 +66,7 @@ impl Session {
             (row_of screen.now part.to.x part.to.y part.to.w) }
         requires len { length wanted.now ≡ part.to.w }
         ensures value { result
-            ≡ count_row (right_behind screen.now self.now part) part.to.x part.to.y part.to.w }
+            ≡ count_row (right_after screen.now self.now part) part.to.x part.to.y part.to.w }
         ensures few { result ≤ part.to.w }
     {
         let to = part.to;
@@ -145,21 +145,21 @@ impl Session {
         requires single { row.to.h ≡ 1 }
         ensures before { result.before
             ≡ count_row (right_before screen.now self.now row) row.to.x row.to.y row.to.w }
-        ensures behind { result.behind
-            ≡ count_row (right_behind screen.now self.now row) row.to.x row.to.y row.to.w }
-        ensures few { (result.before ≤ row.to.w) × (result.behind ≤ row.to.w) }
+        ensures after { result.after
+            ≡ count_row (right_after screen.now self.now row) row.to.x row.to.y row.to.w }
+        ensures few { (result.before ≤ row.to.w) × (result.after ≤ row.to.w) }
     {
         let end = row.to.x + row.to.w;
-        let (mut before, mut behind) = (0, 0);
+        let (mut before, mut after) = (0, 0);
         let mut x = row.to.x;
         while x < end {
             let next = end.min(x / 64 * 64 + 64);
             let right = self.right_in_part(screen, part_of(row, x, next));
             before += right.before;
-            behind += right.behind;
+            after += right.after;
             x = next;
         }
-        Right { before, behind }
+        Right { before, after }
     }
 
     // The same of places of one cell.
@@ -171,9 +171,9 @@ impl Session {
         requires cell { part.to.x + part.to.w ≤ part.to.x / 64 * 64 + 64 }
         ensures before { result.before
             ≡ count_row (right_before screen.now self.now part) part.to.x part.to.y part.to.w }
-        ensures behind { result.behind
-            ≡ count_row (right_behind screen.now self.now part) part.to.x part.to.y part.to.w }
-        ensures few { (result.before ≤ part.to.w) × (result.behind ≤ part.to.w) }
+        ensures after { result.after
+            ≡ count_row (right_after screen.now self.now part) part.to.x part.to.y part.to.w }
+        ensures few { (result.before ≤ part.to.w) × (result.after ≤ part.to.w) }
     {
         let mut row = [0; 64];
         let wanted = &mut row[..usize::from(part.to.w)];
@@ -181,7 +181,7 @@ impl Session {
         self.format.pack_row(colours, wanted);
         Right {
             before: self.before_by(screen, part, wanted),
-            behind: self.behind_by(screen, part, wanted),
+            after: self.after_by(screen, part, wanted),
         }
     }
 }

@@ -16,7 +16,7 @@ pub(super) struct Guest {
     pub(super) plain: Plain,
 }
 
-/// What an event is to be answered. A refusal is told by its number, 0 is none.
+/// What an event is to be answered. A refusal is given by its number, 0 is none.
 #[derive(Clone, Copy)]
 pub(super) struct Due {
     pub(super) moved: u32,
@@ -191,7 +191,7 @@ impl Table {
         ended
     }
 
-    /// Whether an update of so many bytes may be composed, or not composed, as it is told.
+    /// Whether an update of that length may be composed, or not composed, as was reported.
     pub(super) fn compose(
         &mut self,
         slot: u8,

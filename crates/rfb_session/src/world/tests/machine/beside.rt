@@ -7,7 +7,7 @@ use crate::world::World;
 use crate::world::tests::step;
 use std::alloc::{AllocError, Global};
 
-// Whether both answer an event alike, and are alike behind it.
+// Whether both answer an event alike, and are alike after it.
 fn is_alike(world: &mut World, plain: &mut Plain, event: &Event) -> Result<bool, AllocError> {
     let before = world.link.in_flight_to_viewer();
     let Some(told) = step(world, event) else {
@@ -30,7 +30,7 @@ fn is_alike(world: &mut World, plain: &mut Plain, event: &Event) -> Result<bool,
     )
 }
 
-/// How many updates arrive whole in so many events; `None` where the two differ.
+/// How many updates arrive whole in a number of events; `None` where the two differ.
 pub(super) fn updates_of(
     world: &mut World,
     plain: &mut Plain,

@@ -87,7 +87,7 @@ impl Place {
         self.whole = false;
     }
 
-    // Whether it may show that behind a whole update.
+    // Whether it may show that after a whole update.
     fn may_show(&self, colour: Colour) -> bool {
         if self.answered {
             return colour == self.due;
@@ -193,7 +193,7 @@ impl Places {
         }
     }
 
-    /// Whether a picture shows what it may behind a whole update. That is noted.
+    /// Whether a picture shows what it may after a whole update. That is noted.
     pub(super) fn end_update(&mut self, picture: &Picture<Colour>) -> bool {
         let mut right = true;
         for place in &mut self.list {

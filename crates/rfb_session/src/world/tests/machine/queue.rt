@@ -68,7 +68,7 @@ impl Queue {
         sum.saturating_sub(self.moved)
     }
 
-    /// So many more bytes are moved, or all; how many they are.
+    /// `count` more bytes are moved, or all; how many they are.
     pub(super) fn advance(&mut self, count: u32) -> u32 {
         let moved = (count as usize).min(self.len());
         self.moved = self.moved.saturating_add(moved);

@@ -8,7 +8,7 @@ use crate::told::Refused;
 use rfb_hello::Version;
 use std::alloc::AllocError;
 
-// How many bytes a message with so many encodings has.
+// How many bytes a message with `count` encodings has.
 fn list_size(count: usize) -> usize {
     count.saturating_mul(4).saturating_add(4)
 }
@@ -48,7 +48,7 @@ impl Plain {
         }
     }
 
-    /// Whether an update may be composed, or not composed, as it is told. It has so many bytes.
+    /// Whether an update may be composed, or not composed, as was reported. It has `size` bytes.
     pub(crate) fn compose(
         &mut self,
         event: &Event,

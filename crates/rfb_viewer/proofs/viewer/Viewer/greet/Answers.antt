@@ -2,7 +2,7 @@ use Rattle.std.proofs.Common.{◌≡◌, ◌∙◌, ℕ, List, Option, Some, Non
 use Rattle.rfb_wire.specs.stream.End.{FedBy}
 use Rattle.rfb_hello.specs.declared.step.ViewerStep.{ViewerStep}
 use Rattle.rfb_hello.specs.ViewerEnd.{viewer_end}
-use Rattle.rfb_hello.specs.ViewerStanding.{StandsFor as HelloStandsFor, goes_on_behind}
+use Rattle.rfb_hello.specs.ViewerStanding.{StandsFor as HelloStandsFor, goes_on_after}
 use Rattle.rfb_viewer.specs.declared.viewer.progress.Progress.TheVariants.{Head}
 use Rattle.rfb_viewer.specs.Fault.{fault_of_hello}
 use Rattle.rfb_viewer.specs.Messages.{ready_bytes}
@@ -38,7 +38,7 @@ pub returns-in-None-clause-steps : goal.returns-in-None-clause-steps
 returns-in-None-clause-steps c = λ viewing.
     let opened = still_open c.args.self.now.hello c.args.self.now.progress c.args.self.now.picture c.requires.handshake c.args.self.now.sound in
     let event : c.in-Ok.fed.event ≡ None = c.in-None.is in
-    greet_more viewing c.args.self.now _ c.feed.new.self (take c.in-Ok.fed.used c.args.bytes.now) c.requires.handshake (subst (λ (e : Option ViewerStep). FedBy (viewer_end viewing.hello) (HelloStandsFor viewing.hello) c.args.self.now.hello (take c.in-Ok.fed.used c.args.bytes.now) e c.feed.new.self) event (c.in-Ok.ensures.fed viewing.hello)) (c.in-Ok.ensures.ready opened ∙ ap goes_on_behind event)
+    greet_more viewing c.args.self.now _ c.feed.new.self (take c.in-Ok.fed.used c.args.bytes.now) c.requires.handshake (subst (λ (e : Option ViewerStep). FedBy (viewer_end viewing.hello) (HelloStandsFor viewing.hello) c.args.self.now.hello (take c.in-Ok.fed.used c.args.bytes.now) e c.feed.new.self) event (c.in-Ok.ensures.fed viewing.hello)) (c.in-Ok.ensures.ready opened ∙ ap goes_on_after event)
     (record { hello = refl; setup = c.in-Ok.ensures.setup; form = refl; encodings = refl; limit = refl; request = refl; progress_is = c.requires.handshake; picture_is = refl })
 
 pub returns-in-Reply-clause-steps : goal.returns-in-Reply-clause-steps
@@ -46,7 +46,7 @@ returns-in-Reply-clause-steps c = λ viewing.
     let opened = still_open c.args.self.now.hello c.args.self.now.progress c.args.self.now.picture c.requires.handshake c.args.self.now.sound in
     let inner = rw (c.in-Some.is) at c.in-Reply.is in
     let event = c.in-Some.is ∙ ap (λ (x : ViewerStep). Some x) inner in
-    greet_reply viewing c.args.self.now _ c.feed.new.self (take c.in-Ok.fed.used c.args.bytes.now) c.in-Reply.reply c.requires.handshake (subst (λ (e : Option ViewerStep). FedBy (viewer_end viewing.hello) (HelloStandsFor viewing.hello) c.args.self.now.hello (take c.in-Ok.fed.used c.args.bytes.now) e c.feed.new.self) event (c.in-Ok.ensures.fed viewing.hello)) (c.in-Ok.ensures.ready opened ∙ ap goes_on_behind event)
+    greet_reply viewing c.args.self.now _ c.feed.new.self (take c.in-Ok.fed.used c.args.bytes.now) c.in-Reply.reply c.requires.handshake (subst (λ (e : Option ViewerStep). FedBy (viewer_end viewing.hello) (HelloStandsFor viewing.hello) c.args.self.now.hello (take c.in-Ok.fed.used c.args.bytes.now) e c.feed.new.self) event (c.in-Ok.ensures.fed viewing.hello)) (c.in-Ok.ensures.ready opened ∙ ap goes_on_after event)
     (record { hello = refl; setup = c.in-Ok.ensures.setup; form = refl; encodings = refl; limit = refl; request = refl; progress_is = c.requires.handshake; picture_is = refl })
 
 pub returns-in-Ok-make_screen-clause-steps : goal.returns-in-Ok-make_screen-clause-steps
@@ -54,7 +54,7 @@ returns-in-Ok-make_screen-clause-steps c = λ viewing.
     let opened = still_open c.args.self.now.hello c.args.self.now.progress c.args.self.now.picture c.requires.handshake c.args.self.now.sound in
     let inner = rw (c.in-Some.is) at c.in-Screen.is in
     let event = c.in-Some.is ∙ ap (λ (x : ViewerStep). Some x) inner in
-    greet_screen viewing c.args.self.now _ c.feed.new.self (take c.in-Ok.fed.used c.args.bytes.now) c.in-Screen.width c.in-Screen.height c.requires.handshake (subst (λ (e : Option ViewerStep). FedBy (viewer_end viewing.hello) (HelloStandsFor viewing.hello) c.args.self.now.hello (take c.in-Ok.fed.used c.args.bytes.now) e c.feed.new.self) event (c.in-Ok.ensures.fed viewing.hello)) (c.in-Ok.ensures.ready opened ∙ ap goes_on_behind event)
+    greet_screen viewing c.args.self.now _ c.feed.new.self (take c.in-Ok.fed.used c.args.bytes.now) c.in-Screen.width c.in-Screen.height c.requires.handshake (subst (λ (e : Option ViewerStep). FedBy (viewer_end viewing.hello) (HelloStandsFor viewing.hello) c.args.self.now.hello (take c.in-Ok.fed.used c.args.bytes.now) e c.feed.new.self) event (c.in-Ok.ensures.fed viewing.hello)) (c.in-Ok.ensures.ready opened ∙ ap goes_on_after event)
     (record { hello = refl; setup = c.in-Ok.ensures.setup; form = refl; encodings = refl; limit = refl; request = refl; progress_is = c.requires.handshake; picture_is = c.in-Ok-make_screen.ensures.made })
 
 pub returns-in-Ok-make_screen-2-clause-steps : goal.returns-in-Ok-make_screen-2-clause-steps
@@ -66,7 +66,7 @@ returns-in-Ok-make_screen-2-clause-steps c = λ viewing.
     let bytes : c.ready_answer.result.items ≡ ready_bytes old.format old.encodings.items = c.ready_answer.ensures ∙ ap (ready_bytes old.format) c.as_slice.ensures.value in
     let name : c.into_vec.result.items ≡ c.in-Ready.name.bytes = c.into_vec.ensures.bytes in
     rw (bytes, name)
-    (greet_ready viewing old _ c.feed.new.self (take c.in-Ok.fed.used c.args.bytes.now) c.in-Ready.width c.in-Ready.height _ c.in-Ready.name c.in-Ready.name_length c.requires.handshake (subst (λ (e : Option ViewerStep). FedBy (viewer_end viewing.hello) (HelloStandsFor viewing.hello) c.args.self.now.hello (take c.in-Ok.fed.used c.args.bytes.now) e c.feed.new.self) event (c.in-Ok.ensures.fed viewing.hello)) (c.in-Ok.ensures.ready opened ∙ ap goes_on_behind event)
+    (greet_ready viewing old _ c.feed.new.self (take c.in-Ok.fed.used c.args.bytes.now) c.in-Ready.width c.in-Ready.height _ c.in-Ready.name c.in-Ready.name_length c.requires.handshake (subst (λ (e : Option ViewerStep). FedBy (viewer_end viewing.hello) (HelloStandsFor viewing.hello) c.args.self.now.hello (take c.in-Ok.fed.used c.args.bytes.now) e c.feed.new.self) event (c.in-Ok.ensures.fed viewing.hello)) (c.in-Ok.ensures.ready opened ∙ ap goes_on_after event)
     (record { hello = refl; setup = c.in-Ok.ensures.setup; form = refl; encodings = refl; limit = refl; request = refl; progress_is = ap (λ (ys : List ℕ). Head (record { items = ys })) c.new.ensures; picture_is = c.in-Ok-make_screen-2.ensures.made }))
 
 pub returns-in-Err-clause-picture : goal.returns-in-Err-clause-picture

@@ -31,12 +31,12 @@ returns-in-Bad-clause-fault c = λ _ viewing.
     (head_bad viewing old old part (take 1 c.args.bytes.now) c.in-Bad.fault c.in-Head.is
     (subst (λ (ys : List ℕ). IsUnknown SpellsServerHead c.in-Bad.fault (part.items ++ ys)) (sym one) c.in-Bad.ensures.bad)))
 
-pub returns-in_default-go_on_behind-clause-memory : goal.returns-in_default-go_on_behind-clause-memory
-returns-in_default-go_on_behind-clause-memory c = λ _ viewing.
+pub returns-in_default-go_on_after-clause-memory : goal.returns-in_default-go_on_after-clause-memory
+returns-in_default-go_on_after-clause-memory c = λ _ viewing.
     let one = one_byte c.args.bytes.now c.requires.some in
     let got = c.in-Got.ensures.got in
     head_asks viewing c.args.self.now c.args.self.now c.in-Head.part (slice_index c.args.bytes.now 0) c.args.bytes.now c.in-Got.head c.in-Head.is one
-    (λ begun. head_whole c.in-Got.head c.in-Head.part.items (slice_index c.args.bytes.now 0) _ begun got.0 got.1) c.in_default-go_on_behind.ensures.asked
+    (λ begun. head_whole c.in-Got.head c.in-Head.part.items (slice_index c.args.bytes.now 0) _ begun got.0 got.1) c.in_default-go_on_after.ensures.asked
 
 pub returns-clause-steps : goal.returns-clause-steps
 returns-clause-steps c = λ viewing.
@@ -61,13 +61,13 @@ returns-in-Bad-clause-picture c =
 pub returns-in-Bad-clause-reason : goal.returns-in-Bad-clause-reason
 returns-in-Bad-clause-reason c = rw (c.fail.ensures.value, c.of_wire.ensures) (wire_keeps c.in-Bad.fault c.args.self.now _ c.args.bytes.now refl)
 
-pub returns-in_default-go_on_behind-clause-picture : goal.returns-in_default-go_on_behind-clause-picture
-returns-in_default-go_on_behind-clause-picture c =
+pub returns-in_default-go_on_after-clause-picture : goal.returns-in_default-go_on_after-clause-picture
+returns-in_default-go_on_after-clause-picture c =
     let one = one_byte c.args.bytes.now c.requires.some in
     let got = c.in-Got.ensures.got in
-    rw (c.fail-in_default-go_on_behind.ensures.value) (λ viewing.
+    rw (c.fail-in_default-go_on_after.ensures.value) (λ viewing.
     head_memory viewing c.args.self.now c.in-Head.part (slice_index c.args.bytes.now 0) c.args.bytes.now c.in-Got.head c.in-Head.is one
-    (λ begun. head_whole c.in-Got.head c.in-Head.part.items (slice_index c.args.bytes.now 0) _ begun got.0 got.1) c.in_default-go_on_behind.ensures.asked)
+    (λ begun. head_whole c.in-Got.head c.in-Head.part.items (slice_index c.args.bytes.now 0) _ begun got.0 got.1) c.in_default-go_on_after.ensures.asked)
 
-pub returns-in_default-go_on_behind-clause-reason : goal.returns-in_default-go_on_behind-clause-reason
-returns-in_default-go_on_behind-clause-reason c = rw (c.fail-in_default-go_on_behind.ensures.value) (none_at c.args.self.now c.args.self.now.hello refl)
+pub returns-in_default-go_on_after-clause-reason : goal.returns-in_default-go_on_after-clause-reason
+returns-in_default-go_on_after-clause-reason c = rw (c.fail-in_default-go_on_after.ensures.value) (none_at c.args.self.now c.args.self.now.hello refl)

@@ -1,4 +1,5 @@
--- So many bytes are left to arrive; those before them have, and the other end has not changed.
+-- This number of bytes is left to arrive; those before them have, and the other end has not
+-- changed.
 use Rattle.std.proofs.Common.{◌≡◌, ◌≤◌, ◌-◌, take, drop}
 use Rattle.rfb.specs.Delivery.{ReachesViewer, server_end, viewer_end}
 use Rattle.rfb.proofs.loopback.ends.Ends.deliver_to_viewer.Given as goal

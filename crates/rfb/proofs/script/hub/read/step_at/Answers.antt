@@ -1,16 +1,16 @@
 use Rattle.std.proofs.Common.{◌≡◌, ◌∷◌, [], ◌∙◌, sym, subst, ℕ, List, codes}
 use Rattle.rfb_session.specs.HubSeats.{event_of}
 use Rattle.rfb.specs.Script.{SaysEvent}
-use Rattle.rfb.proofs.HubWordLemmas.{is_behind, split_texts}
+use Rattle.rfb.proofs.HubWordLemmas.{is_after, split_texts}
 use Rattle.rfb.proofs.ScriptLemmas.{empty_of, says_settle}
 use Rattle.rfb.proofs.script.hub.read.step_at.Goals as goal
 
 pub returns-then-is_empty : goal.returns-then-is_empty
 returns-then-is_empty c =
-    is_behind c.args.words.now c.in_ok-slot.slot.now c.in_ok-slot.line.now (λ (l : List (List ℕ)). l ≡ codes "settle" ∷ []) c.in_ok-slot-2.slot c.in_ok-slot.ensures.cases.0 c.in_ok-slot-2.ensures
+    is_after c.args.words.now c.in_ok-slot.slot.now c.in_ok-slot.line.now (λ (l : List (List ℕ)). l ≡ codes "settle" ∷ []) c.in_ok-slot-2.slot c.in_ok-slot.ensures.cases.0 c.in_ok-slot-2.ensures
     (says_settle c.in_ok-slot.line.now c.in_ok-keyword.keyword.now c.in_ok-keyword.rest.now c.in_ok-keyword.ensures.cases.0 (sym c.eq.ensures ∙ c.if-eq.true) (empty_of _ _ c.is_empty.ensures c.if-is_empty.true))
 
 pub returns : goal.returns
 returns c =
-    is_behind c.args.words.now c.in_ok-slot.slot.now c.in_ok-slot.line.now (λ (l : List (List ℕ)). SaysEvent l (event_of c.in_ok-slot_event_of.field-0)) c.in_ok-slot-2.slot c.in_ok-slot.ensures.cases.0 c.in_ok-slot-2.ensures
+    is_after c.args.words.now c.in_ok-slot.slot.now c.in_ok-slot.line.now (λ (l : List (List ℕ)). SaysEvent l (event_of c.in_ok-slot_event_of.field-0)) c.in_ok-slot-2.slot c.in_ok-slot.ensures.cases.0 c.in_ok-slot-2.ensures
     (subst (λ (l : List (List ℕ)). SaysEvent l (event_of c.in_ok-slot_event_of.field-0)) (sym (split_texts c.in_ok-slot.line.now c.in_ok-keyword.keyword.now c.in_ok-keyword.rest.now c.in_ok-keyword.ensures.cases.0)) c.in_ok-slot_event_of.ensures)

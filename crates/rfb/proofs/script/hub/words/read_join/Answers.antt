@@ -1,16 +1,16 @@
 use Rattle.std.proofs.Common.{refl, ℕ, List}
 use Rattle.rfb.specs.HubScript.{AreSetup}
-use Rattle.rfb.proofs.HubWordLemmas.{is_behind, is_setup, no_setup_wants, none_behind}
+use Rattle.rfb.proofs.HubWordLemmas.{is_after, is_setup, no_setup_wants, none_after}
 use Rattle.rfb.proofs.script.hub.words.read_join.Goals as goal
 
 pub returns-in_err-wants : goal.returns-in_err-wants
 returns-in_err-wants c =
-    rw c.from_residual-in_err-wants.ensures (λ slot setup. none_behind c.args.words.now c.in_ok-slot.slot.now c.in_ok-slot.words.now (λ (l : List (List ℕ)). AreSetup l setup) c.in_ok-slot.ensures.cases.0
+    rw c.from_residual-in_err-wants.ensures (λ slot setup. none_after c.args.words.now c.in_ok-slot.slot.now c.in_ok-slot.words.now (λ (l : List (List ℕ)). AreSetup l setup) c.in_ok-slot.ensures.cases.0
     (no_setup_wants c.in_ok-slot.words.now c.in_ok-kind.kind.now c.in_ok-kind.words.now c.in_ok-kind.ensures.cases.0 c.in_err-wants.ensures setup) slot)
 
 pub returns : goal.returns
 returns c =
     let wants = c.in_ok-wants.wants in
-    is_behind c.args.words.now c.in_ok-slot.slot.now c.in_ok-slot.words.now (λ (l : List (List ℕ)). AreSetup l _) c.in_ok-slot-2.slot c.in_ok-slot.ensures.cases.0 c.in_ok-slot-2.ensures
+    is_after c.args.words.now c.in_ok-slot.slot.now c.in_ok-slot.words.now (λ (l : List (List ℕ)). AreSetup l _) c.in_ok-slot-2.slot c.in_ok-slot.ensures.cases.0 c.in_ok-slot-2.ensures
     (is_setup c.in_ok-slot.words.now c.in_ok-kind.kind.now c.in_ok-kind.words.now _ wants c.in_ok-kind.ensures.cases.0 c.in_ok-shared.ensures c.in_ok-wants.ensures
     (record { format = refl; encodings = refl; limit = refl; max_places = refl; text_limit = refl }))

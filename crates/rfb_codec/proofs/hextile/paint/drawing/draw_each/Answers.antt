@@ -6,7 +6,7 @@ use Rattle.rfb_picture.proofs.GridLaws.{whole-changed}
 use Rattle.rfb_wire.specs.RectHead.{IsOnScreen}
 use Rattle.rfb_codec.specs.declared.subrect.Subrect.{Subrect}
 use Rattle.rfb_codec.specs.Rre.{pixel_at}
-use Rattle.rfb_codec.specs.inside.TileRead.{sub_behind, subs_in}
+use Rattle.rfb_codec.specs.inside.TileRead.{sub_after, subs_in}
 use Rattle.rfb_codec.specs.Painter.{over}
 use Rattle.rfb_codec.proofs.PaintRreLemmas.{moved, moved_inside, over_filled}
 use Rattle.rfb_codec.proofs.TileReadLemmas.{subs_in-none, subs_in-more}
@@ -43,7 +43,7 @@ pub colour_at-colour-requires : goal.colour_at-colour-requires
 colour_at-colour-requires c =
     let f = c.args.format in
     λ plain.
-    let is : c.sub_at-part.result ≡ sub_behind f c.args.pixels.foreground false c.loop-n.n c.args.list.now = rw plain at c.sub_at-part.ensures in
+    let is : c.sub_at-part.result ≡ sub_after f c.args.pixels.foreground false c.loop-n.n c.args.list.now = rw plain at c.sub_at-part.ensures in
     c.unpacked-own.ensures ∙ ap (colour_of f) (sym (ap (λ (s : Subrect). s.pixel) is))
 
 pub loop-n-preserved : goal.loop-n-preserved

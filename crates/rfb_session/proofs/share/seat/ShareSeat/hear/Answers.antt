@@ -5,8 +5,8 @@ use Rattle.rfb_session.specs.declared.share.waiting.Waiting.{Waiting}
 use Rattle.rfb_session.specs.declared.share.waiting.Waiting.TheVariants.{Answers}
 use Rattle.rfb_session.specs.ShareRoom.{kept_in, HasRoomForAnswers}
 use Rattle.rfb_session.specs.ShareSeats.{Hears, holds_update}
-use Rattle.rfb_session.proofs.ShareSeatLemmas.{not_failed, answer_fits, none_behind, fits_behind}
-use Rattle.rfb_session.proofs.ShareSeatLemmas.{answers_behind, heard_answer, heard_behind}
+use Rattle.rfb_session.proofs.ShareSeatLemmas.{not_failed, answer_fits, none_after, fits_after}
+use Rattle.rfb_session.proofs.ShareSeatLemmas.{answers_after, heard_answer, heard_after}
 use Rattle.rfb_session.proofs.ShareSeatLemmas.{update_has_none, update_stays}
 use Rattle.rfb_session.proofs.share.seat.ShareSeat.hear.Goals as goal
 use Rattle.rfb_session.proofs.share.seat.ShareSeat.hear.Goals.{in-Answers, in-Update}
@@ -41,10 +41,10 @@ invariant_of-self-in-Answers c =
     record {
       within = omega (arith, within, long, sum);
       few = omega (arith, room, long, sum, reply);
-      roomy = fits_behind s.session c.feed.new.self (Answers c.in-Answers.kept)
+      roomy = fits_after s.session c.feed.new.self (Answers c.in-Answers.kept)
           (Answers c.append.new.kept) (take c.in_ok-fed.fed.used c.args.bytes.now)
           (seen c.in_ok-fed.fed.event) going c.in_ok-fed.ensures.fed
-          (answers_behind c.in-Answers.kept c.append.new.kept (seen c.in_ok-fed.fed.event) more)
+          (answers_after c.in-Answers.kept c.append.new.kept (seen c.in_ok-fed.fed.event) more)
           (subst (λ (w : Waiting). ∥ HasRoomForAnswers s.session w ∥₁) c.in-Answers.is s.roomy);
     }
 
@@ -56,7 +56,7 @@ invariant_of-self-in-Update c =
     record {
       within = s.within;
       few = s.few;
-      roomy = fits_behind s.session c.feed.new.self s.waiting s.waiting
+      roomy = fits_after s.session c.feed.new.self s.waiting s.waiting
           (take c.in_ok-fed.fed.used c.args.bytes.now) (seen c.in_ok-fed.fed.event) going
           c.in_ok-fed.ensures.fed (update_stays s.waiting (seen c.in_ok-fed.fed.event)
           (ap (λ (w : Waiting). holds_update w) c.in-Update.is)) s.roomy;
@@ -77,7 +77,7 @@ returns-clause-heard c =
           c.feed.ensures.made c.feed.ensures.hints)
       | in-Update w ↦
           subst (λ (seat : ShareSeat). Hears bytes told s seat) (sym w.self-is)
-          (heard_behind s _ bytes told refl refl (none_behind s.session c.feed.new.self s.waiting
+          (heard_after s _ bytes told refl refl (none_after s.session c.feed.new.self s.waiting
           bytes told going c.in_ok-fed.ensures.fed (λ point. update_has_none point s.waiting
           (ap (λ (v : Waiting). holds_update v) w.in-Update.is)) s.roomy) going
           c.in_ok-fed.ensures.fed c.feed.ensures.made c.feed.ensures.hints)

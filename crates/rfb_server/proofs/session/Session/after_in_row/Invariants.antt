@@ -1,13 +1,13 @@
 use Rattle.std.proofs.Common.{◌≡◌, ◌+◌, ◌-◌, ◌≤◌}
 use Rattle.rfb_server.specs.Composing.{count_row}
-use Rattle.rfb_server.specs.inside.Gains.{right_behind}
-use Rattle.rfb_server.proofs.session.Session.behind_in_row.Given as goal
+use Rattle.rfb_server.specs.inside.Gains.{right_after}
+use Rattle.rfb_server.proofs.session.Session.after_in_row.Given as goal
 
 -- the places so far are counted
 abbrev pub invariant-loop-x : goal.invariant-loop-x
 invariant-loop-x l = record {
   order : (l.row.to.x ≤ l.x) × (l.x ≤ l.row.to.x + l.row.to.w);
-  value : l.count ≡ count_row (right_behind l.screen l.self l.row) l.row.to.x l.row.to.y (l.x - l.row.to.x);
+  value : l.count ≡ count_row (right_after l.screen l.self l.row) l.row.to.x l.row.to.y (l.x - l.row.to.x);
   few : l.count ≤ l.x - l.row.to.x;
 }
 

@@ -1,4 +1,4 @@
-use Rattle.rfb_viewer.proofs.viewer.behind.go_on_behind.Goals as goal
+use Rattle.rfb_viewer.proofs.viewer.after.go_on_after.Goals as goal
 
 pub returns-in-ColourMap-clause-progress : goal.returns-in-ColourMap-clause-progress
 returns-in-ColourMap-clause-progress c = rw (c.in-ColourMap.is) (c.go_on_to_colours.ensures.progress c.args.text_limit c.in-ColourMap.first)

@@ -1,12 +1,12 @@
-//! What a viewer goes on with behind a message's head, and behind a rectangle. How far the bytes
-//! have come is changed where it stands: it has room for a painter, which a move would copy.
+//! What a viewer goes on with after a message's head, and after a rectangle. How far the bytes have
+//! come is changed where it stands: it has room for a painter, which a move would copy.
 
 ghost use Rattle.std.specs.Prelude.{◌≡◌, ◌<◌, ℕ, IfOk, IfErr};
 ghost use Rattle.rfb_wire.specs.declared.server_head.ServerHead.TheVariants.{ColourMap, CutText};
 ghost use Rattle.rfb_viewer.specs.Told.{seen};
 ghost use Rattle.rfb_viewer.specs.inside.Feeding.{end_event};
-ghost use Rattle.rfb_viewer.specs.inside.Steps.{progress_behind, told_behind, request_behind};
-ghost use Rattle.rfb_viewer.specs.inside.Steps.{AsksBehind, progress_past, told_past, request_past};
+ghost use Rattle.rfb_viewer.specs.inside.Steps.{progress_after, told_after, request_after};
+ghost use Rattle.rfb_viewer.specs.inside.Steps.{AsksAfter, progress_past, told_past, request_past};
 
 use crate::event::ViewerEvent;
 use crate::viewer::progress::{Progress, Request};
@@ -17,19 +17,19 @@ use std::alloc::{AllocError, Global};
 // How many bytes a colour of SetColorMapEntries has, RFC 6143 section 7.6.2.
 const COLOUR_SIZE: u32 = 6;
 
-/// Goes on behind a message's head: what is told of it. A text takes memory for as much of it as is
-/// kept.
-pub(crate) fn go_on_behind(
+/// Goes on after a message's head: the event that it gives. A text takes memory for as much of it
+/// as is kept.
+pub(crate) fn go_on_after(
     head: ServerHead,
     alloc: Global,
     text_limit: u32,
     progress: &mut Progress,
     request: &mut Request,
 ) -> Result<Option<ViewerEvent>, AllocError>
-    ensures progress { IfOk result (λ event. progress.new ≡ progress_behind text_limit head) }
-    ensures request { IfOk result (λ event. request.new ≡ request_behind head request.old) }
-    ensures told { IfOk result (λ event. seen event ≡ told_behind head) }
-    ensures asked { IfErr result (λ _. AsksBehind head) }
+    ensures progress { IfOk result (λ event. progress.new ≡ progress_after text_limit head) }
+    ensures request { IfOk result (λ event. request.new ≡ request_after head request.old) }
+    ensures told { IfOk result (λ event. seen event ≡ told_after head) }
+    ensures asked { IfErr result (λ _. AsksAfter head) }
 {
     match head {
         ServerHead::Update(count) => Ok(end_of(go_on(progress, request, count))),
@@ -42,7 +42,7 @@ pub(crate) fn go_on_behind(
     }
 }
 
-/// Goes on where so many rectangles are left of an update: whether it has ended. It is not inlined,
+/// Goes on where `left` rectangles are left of an update: whether it has ended. It is not inlined,
 /// since data that come byte by byte need none of it.
 #[inline(never)]
 pub(crate) fn go_on(progress: &mut Progress, request: &mut Request, left: u16) -> bool
@@ -63,7 +63,7 @@ pub(crate) fn go_on(progress: &mut Progress, request: &mut Request, left: u16) -
     }
 }
 
-/// What is told where an update ends, or does not.
+/// The event where an update ends, or does not.
 pub(crate) fn end_of(ends_update: bool) -> Option<ViewerEvent>
     ensures { result ≡ end_event ends_update }
 {
@@ -74,11 +74,11 @@ pub(crate) fn end_of(ends_update: bool) -> Option<ViewerEvent>
     }
 }
 
-// Goes on behind the head of SetColorMapEntries with so many colours.
+// Goes on after the head of a SetColorMapEntries with `count` colours.
 fn go_on_to_colours(progress: &mut Progress, count: u16) -> Option<ViewerEvent>
     ensures progress { (text_limit first : ℕ) →
-        progress.new ≡ progress_behind text_limit (ColourMap first count) }
-    ensures told { (first : ℕ) → seen result ≡ told_behind (ColourMap first count) }
+        progress.new ≡ progress_after text_limit (ColourMap first count) }
+    ensures told { (first : ℕ) → seen result ≡ told_after (ColourMap first count) }
 {
     match count.checked_sub(1) {
         None => {
@@ -94,7 +94,7 @@ fn go_on_to_colours(progress: &mut Progress, count: u16) -> Option<ViewerEvent>
     }
 }
 
-// Goes on behind the head of ServerCutText with so many bytes.
+// Goes on after the head of a ServerCutText with `length` bytes.
 fn go_on_to_text(
     alloc: Global,
     text_limit: u32,
@@ -102,8 +102,8 @@ fn go_on_to_text(
     length: u32,
 ) -> Result<Option<ViewerEvent>, AllocError>
     ensures progress { IfOk result (λ event.
-        progress.new ≡ progress_behind text_limit (CutText length)) }
-    ensures told { IfOk result (λ event. seen event ≡ told_behind (CutText length)) }
+        progress.new ≡ progress_after text_limit (CutText length)) }
+    ensures told { IfOk result (λ event. seen event ≡ told_after (CutText length)) }
     ensures asked { IfErr result (λ _. 0 < length) }
 {
     let Some(more) = length.checked_sub(1) else {
