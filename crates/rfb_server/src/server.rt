@@ -1,17 +1,19 @@
 //! A server: a screen and a session.
 
-ghost use Rattle.std.specs.Prelude.{◌≡◌, ◌≢◌, ◌≤◌, ◌<◌, ◌↔◌, ℕ, List, [], ◌++◌, ◌+◌, length, vec_len, take};
-ghost use Rattle.std.specs.Prelude.{true, false, Some, None, Ok, IfOk, IfErr, OnOk, OnErr, IsErr};
+ghost use Rattle.std.specs.Prelude.{◌≡◌, ◌≢◌, ◌≤◌, ◌<◌, ℕ, List, [], ◌++◌, ◌+◌, length, vec_len};
+ghost use Rattle.std.specs.Prelude.{take, true, false, Some, None, Ok, IfOk, IfErr, OnErr};
 ghost use Rattle.rfb_server.specs.Following.{Follows};
 
-use crate::drawing::row_area;
+mod drawing;
+mod lending;
+
 use crate::event::ServerEvent;
-use crate::fault::{Outside, ServerFault};
+use crate::fault::ServerFault;
 use crate::session::Session;
 use crate::setup::ServerSetup;
 use rfb_hello::{Fed, Version};
-use rfb_picture::{Area, Picture, Rect};
-use rfb_pixel::{Colour, Format};
+use rfb_picture::Picture;
+use rfb_pixel::Colour;
 use std::alloc::{AllocError, Global};
 
 /// A screen and the session of its one viewer. The owner draws on the screen, feeds it what the
@@ -27,23 +29,18 @@ pub struct Server {
 const BLACK: Colour = Colour { r: 0, g: 0, b: 0 };
 
 impl Server {
-    ghost use Rattle.rfb_picture.specs.Grid.{Holds, filled, copied, scrolled};
-    ghost use Rattle.rfb_picture.specs.Grid.{with_row, with_rows};
     ghost use Rattle.rfb_wire.specs.stream.End.{FedBy, RefusedBy, RunsOutBy, StaysFailed};
     ghost use Rattle.rfb_server.specs.declared.fault.ServerFault.TheVariants.{NoMemory};
     ghost use Rattle.rfb_server.specs.ClientBytes.{client_bytes_pending, is_between};
     ghost use Rattle.rfb_server.specs.Told.{seen};
-    ghost use Rattle.rfb_server.specs.Server.{Serving, ServerState, first_server};
-    ghost use Rattle.rfb_server.specs.Server.{server, AsksMemory};
+    ghost use Rattle.rfb_server.specs.Server.{Serving, ServerState, first_server, server};
+    ghost use Rattle.rfb_server.specs.Server.{AsksMemory};
     ghost use Rattle.rfb_hello.specs.Version.{version_text};
     ghost use Rattle.rfb_server.specs.Standing.{StandsFor, serving_with, serving_of, fault_of};
-    ghost use Rattle.rfb_server.specs.Standing.{screen_of, row_from, AreOf, HoldsBoth, Draws, Keeps};
-    ghost use Rattle.rfb_server.specs.Standing.{notes_of};
+    ghost use Rattle.rfb_server.specs.Standing.{screen_of, Keeps, notes_of, session_of};
     ghost use Rattle.rfb_server.specs.Failing.{KeepsNotes};
-    ghost use Rattle.rfb_server.specs.Standing.{session_of};
     ghost use Rattle.rfb_server.specs.Updating.{Updates, WasDue, StaysUnsent};
-    ghost use Rattle.rfb_server.specs.Record.{ShowsKnown, TellsKnown};
-    ghost use Rattle.rfb_server.specs.Hints.{hints_of, with_hint, scroll_hint};
+    ghost use Rattle.rfb_server.specs.Hints.{hints_of};
     ghost use Rattle.rfb_server.specs.Room.{GrowsWithin, room_for};
     ghost use Rattle.std.specs.Vec.{vec_capacity};
 
@@ -96,164 +93,12 @@ impl Server {
         )
     }
 
-    /// A server of a screen and a session that follows it, which are its own from here on.
-    pub fn from_parts(screen: Picture<Colour>, session: Session) -> Server
-        requires follows { Follows screen session }
-        ensures screen { screen_of result ≡ screen }
-        ensures session { session_of result ≡ session }
+    /// The ProtocolVersion that is sent before all else, RFC 6143 section 7.1.1.
+    pub fn greeting(&self) -> [u8; 12]
+        ensures { (serving : Serving) (s : ServerState) (prefix : List ℕ)
+            → StandsFor serving self.now s prefix → result ≡ version_text serving.hello.offer }
     {
-        Server { screen, session }
-    }
-
-    /// Its screen and its session, which are the caller's from here on.
-    pub fn into_parts(self) -> (Picture<Colour>, Session)
-        ensures screen { result.0 ≡ screen_of self }
-        ensures session { result.1 ≡ session_of self }
-        ensures follows { Follows result.0 result.1 }
-    {
-        (self.screen, self.session)
-    }
-
-    /// Gives one colour to a rectangle of the screen. Where the rectangle leaves the screen it is
-    /// refused, and nothing changes; an empty one inside changes nothing either.
-    pub fn fill(&mut self, rect: Rect, colour: Colour) -> Result<(), Outside>
-        ensures refused { IsErr result ↔ (Holds (screen_of self.old) rect → ⊥) }
-        ensures kept { OnErr result (self.new ≡ self.old) }
-        ensures drawn { OnOk result
-            (Draws (filled rect colour (screen_of self.old)) self.old self.new) }
-        ensures hints { hints_of self.new ≡ hints_of self.old }
-    {
-        if !self.screen.holds(rect) {
-            return Err(Outside);
-        }
-        self.session.drawn(rect);
-        self.screen.fill(rect, colour);
-        Ok(())
-    }
-
-    /// Gives colours to a part of row `y` of the screen, from column `x` on. Where they leave the
-    /// screen they are refused, however many they are, and nothing changes; `row` stays the
-    /// caller's.
-    pub fn put(&mut self, x: u16, y: u16, row: &[Colour]) -> Result<(), Outside>
-        ensures refused { IsErr result
-            ↔ (Holds (screen_of self.old) (row_from x y (length row.now)) → ⊥) }
-        ensures kept { OnErr result (self.new ≡ self.old) }
-        ensures drawn { OnOk result
-            (Draws (with_row x y row.now (screen_of self.old)) self.old self.new) }
-        ensures hints { hints_of self.new ≡ hints_of self.old }
-    {
-        let rect = row_area(&self.screen, x, y, row)?;
-        self.session.drawn(rect);
-        self.screen.put_row(x, y, row);
-        Ok(())
-    }
-
-    /// Gives colours to a rectangle of the screen: `rows` has its rows from the top, one after the
-    /// other, each from the left. Where the rectangle leaves the screen, or `rows` has another
-    /// number of colours than it has places, they are refused, and nothing changes; `rows` stays
-    /// the caller's.
-    pub fn put_rows(&mut self, rect: Rect, rows: &[Colour]) -> Result<(), Outside>
-        ensures refused { IsErr result ↔ (AreOf (screen_of self.old) rect rows.now → ⊥) }
-        ensures kept { OnErr result (self.new ≡ self.old) }
-        ensures drawn { OnOk result
-            (Draws (with_rows rect rows.now (screen_of self.old)) self.old self.new) }
-        ensures hints { hints_of self.new ≡ hints_of self.old }
-    {
-        let places = usize::from(rect.h) * usize::from(rect.w);
-        if rows.len() != places || !self.screen.holds(rect) {
-            return Err(Outside);
-        }
-        self.session.drawn(rect);
-        self.screen.put_rows(rect, rows);
-        Ok(())
-    }
-
-    /// Gives each place of `dst` what its place of the rectangle of that size at (`sx`, `sy`) had,
-    /// as CopyRect does (RFC 6143 section 7.7.2). Where one of them leaves the screen it is
-    /// refused, and nothing changes.
-    pub fn copy(&mut self, dst: Rect, sx: u16, sy: u16) -> Result<(), Outside>
-        ensures refused { IsErr result
-            ↔ (HoldsBoth (screen_of self.old) dst sx sy → ⊥) }
-        ensures kept { OnErr result (self.new ≡ self.old) }
-        ensures drawn { OnOk result
-            (Draws (copied dst sx sy (screen_of self.old)) self.old self.new) }
-        ensures hints { hints_of self.new ≡ hints_of self.old }
-    {
-        let source = Rect {
-            x: sx,
-            y: sy,
-            ..dst
-        };
-        if !self.screen.holds(dst) || !self.screen.holds(source) {
-            return Err(Outside);
-        }
-        self.session.drawn(dst);
-        self.screen.copy(dst, sx, sy);
-        Ok(())
-    }
-
-    /// Says that the rectangle `dst` looks as the one of its size at (`sx`, `sy`) did when it was
-    /// last sent, so that the viewer may be sent a copy in place of its pixels. Nothing rests on
-    /// it, and nothing else changes. The last sixteen are kept until an update is composed. One
-    /// that leaves the screen is refused.
-    pub fn hint(&mut self, dst: Rect, sx: u16, sy: u16) -> Result<(), Outside>
-        ensures refused { IsErr result
-            ↔ (HoldsBoth (screen_of self.old) dst sx sy → ⊥) }
-        ensures kept { OnErr result (self.new ≡ self.old) }
-        ensures hinted { OnOk result (Keeps self.old self.new) }
-        ensures hints { OnOk result (hints_of self.new
-            ≡ with_hint (record { to = dst; sx = sx; sy = sy }) (hints_of self.old)) }
-    {
-        self.session.hint(dst, sx, sy)
-    }
-
-    /// Moves all that lies in the rectangle `dx` columns to the right and `dy` rows down, or to the
-    /// left and up where they are negative, and gives the hint for it. What leaves the rectangle is
-    /// lost, and the places that nothing came to keep what they had. Where the rectangle leaves the
-    /// screen it is refused, and nothing changes.
-    pub fn scroll(&mut self, rect: Rect, dx: i16, dy: i16) -> Result<(), Outside>
-        ensures refused { IsErr result ↔ (Holds (screen_of self.old) rect → ⊥) }
-        ensures kept { OnErr result (self.new ≡ self.old) }
-        ensures drawn { OnOk result
-            (Draws (scrolled rect dx dy (screen_of self.old)) self.old self.new) }
-        ensures hints { OnOk result (hints_of self.new
-            ≡ with_hint (scroll_hint rect dx dy) (hints_of self.old)) }
-    {
-        if !self.screen.holds(rect) {
-            return Err(Outside);
-        }
-        let (to, from) = rect.scrolled(dx, dy);
-        self.copy(to, from.x, from.y)?;
-        self.hint(to, from.x, from.y)
-    }
-
-    /// Appends to `out` one FramebufferUpdate, RFC 6143 section 7.6.1, of what the viewer asked for
-    /// and does not have, and tells whether it did: exactly where the handshake is done, the server
-    /// has not failed, and such a place is there. First in it is a CopyRect for each hint that is
-    /// of use, the oldest first, where the viewer listed CopyRect: a copy over asked places, none
-    /// of them to be sent whole, which leaves more of them right than there were. Then come pixels.
-    /// After an update nothing is asked any more. `out` stays the caller's; what was in it stays in
-    /// front. Room is asked for once, before anything changes: at most 260 bytes, and 12 and its
-    /// pixels' bytes for each cell of 64 by 64 places that holds an asked place; or twice the room
-    /// that there was, if that is more. Where there is none it gives the error, if an update is
-    /// due, and nothing changes.
-    pub fn compose(&mut self, out: &mut Vec<u8>) -> Result<bool, AllocError>
-        ensures appended { (bytes : List ℕ) × (out.new.items ≡ out.old.items ++ bytes) }
-        ensures composed { IfOk result (λ did. did ≡ true →
-            Updates self.old self.new out.old.items out.new.items) }
-        ensures idle { IfOk result (λ did. did ≡ false →
-            StaysUnsent self.old self.new out.old.items out.new.items) }
-        ensures kept { OnErr result (out.new.items ≡ out.old.items) }
-        ensures due { OnErr result (WasDue self.old) }
-        ensures same { OnErr result (Keeps self.old self.new) }
-        ensures failed { fault_of self.old ≢ None → result ≡ Ok false }
-        ensures spent { IfOk result (λ did. did ≡ true → hints_of self.new ≡ []) }
-        ensures hints { IfOk result (λ did. did ≡ false → hints_of self.new ≡ hints_of self.old) }
-        ensures unspent { OnErr result (hints_of self.new ≡ hints_of self.old) }
-        ensures room { GrowsWithin (vec_capacity out.old)
-            (vec_len out.old + room_for (notes_of self.old)) (vec_capacity out.new) }
-    {
-        self.session.compose(&self.screen, out)
+        self.session.greeting()
     }
 
     /// Takes bytes of the client's, up to the last of its first item that makes an event, or all.
@@ -309,61 +154,50 @@ impl Server {
         self.session.pending()
     }
 
-    /// The ProtocolVersion that is sent before all else, RFC 6143 section 7.1.1.
-    pub fn greeting(&self) -> [u8; 12]
-        ensures { (serving : Serving) (s : ServerState) (prefix : List ℕ)
-            → StandsFor serving self.now s prefix → result ≡ version_text serving.hello.offer }
+    /// Appends to `out` one FramebufferUpdate, RFC 6143 section 7.6.1, of what the viewer asked for
+    /// and does not have, and tells whether it did: exactly where the handshake is done, the server
+    /// has not failed, and such a place is there. First in it is a CopyRect for each hint that is
+    /// of use, the oldest first, where the viewer listed CopyRect: a copy over asked places, none
+    /// of them to be sent whole, which leaves more of them right than there were. Then come pixels.
+    /// After an update nothing is asked any more. `out` stays the caller's; what was in it stays in
+    /// front. Room is asked for once, before anything changes: at most 260 bytes, and 12 and its
+    /// pixels' bytes for each cell of 64 by 64 places that holds an asked place; or twice the room
+    /// that there was, if that is more. Where there is none it gives the error, if an update is
+    /// due, and nothing changes.
+    pub fn compose(&mut self, out: &mut Vec<u8>) -> Result<bool, AllocError>
+        ensures appended { (bytes : List ℕ) × (out.new.items ≡ out.old.items ++ bytes) }
+        ensures composed { IfOk result (λ did. did ≡ true →
+            Updates self.old self.new out.old.items out.new.items) }
+        ensures idle { IfOk result (λ did. did ≡ false →
+            StaysUnsent self.old self.new out.old.items out.new.items) }
+        ensures kept { OnErr result (out.new.items ≡ out.old.items) }
+        ensures due { OnErr result (WasDue self.old) }
+        ensures same { OnErr result (Keeps self.old self.new) }
+        ensures failed { fault_of self.old ≢ None → result ≡ Ok false }
+        ensures spent { IfOk result (λ did. did ≡ true → hints_of self.new ≡ []) }
+        ensures hints { IfOk result (λ did. did ≡ false → hints_of self.new ≡ hints_of self.old) }
+        ensures unspent { OnErr result (hints_of self.new ≡ hints_of self.old) }
+        ensures room { GrowsWithin (vec_capacity out.old)
+            (vec_len out.old + room_for (notes_of self.old)) (vec_capacity out.new) }
     {
-        self.session.greeting()
+        self.session.compose(&self.screen, out)
     }
 
-    /// Lends the screen.
-    pub fn screen(&self) -> &Picture<Colour>
-        ensures { result.now ≡ screen_of self.now }
+    /// A server of a screen and a session that follows it, which are its own from here on.
+    pub fn from_parts(screen: Picture<Colour>, session: Session) -> Server
+        requires follows { Follows screen session }
+        ensures screen { screen_of result ≡ screen }
+        ensures session { session_of result ≡ session }
     {
-        &self.screen
+        Server { screen, session }
     }
 
-    /// Lends what the viewer asked for since the latest update.
-    pub fn asked(&self) -> &Area
-        ensures value { (serving : Serving) (s : ServerState) (prefix : List ℕ)
-            → StandsFor serving self.now s prefix → result.now ≡ s.area }
-        ensures noted { result.now ≡ (notes_of self.now).area }
-        ensures columns { result.now.asked.width ≡ (screen_of self.now).width }
-        ensures rows { result.now.asked.height ≡ (screen_of self.now).height }
+    /// Its screen and its session, which are the caller's from here on.
+    pub fn into_parts(self) -> (Picture<Colour>, Session)
+        ensures screen { result.0 ≡ screen_of self }
+        ensures session { result.1 ≡ session_of self }
+        ensures follows { Follows result.0 result.1 }
     {
-        self.session.asked()
-    }
-
-    /// Lends what is recorded of the viewer: at each place that `known` has as asked the pixel that
-    /// the viewer has or will have, in the format of the session. Elsewhere it says nothing.
-    pub fn recorded(&self) -> &Picture<u32>
-        ensures value { (serving : Serving) (s : ServerState) (prefix : List ℕ)
-            → StandsFor serving self.now s prefix → ShowsKnown s.known result.now }
-        ensures noted { ShowsKnown (notes_of self.now).known result.now }
-        ensures columns { result.now.width ≡ (screen_of self.now).width }
-        ensures rows { result.now.height ≡ (screen_of self.now).height }
-    {
-        self.session.recorded()
-    }
-
-    /// Lends the places of which it is known what the viewer has, as asked ones.
-    pub fn known(&self) -> &Area
-        ensures value { (serving : Serving) (s : ServerState) (prefix : List ℕ)
-            → StandsFor serving self.now s prefix → TellsKnown s.known result.now }
-        ensures noted { TellsKnown (notes_of self.now).known result.now }
-        ensures columns { result.now.asked.width ≡ (screen_of self.now).width }
-        ensures rows { result.now.asked.height ≡ (screen_of self.now).height }
-    {
-        self.session.known()
-    }
-
-    /// The format that updates are sent in.
-    pub fn format(&self) -> Format
-        ensures value { (serving : Serving) (s : ServerState) (prefix : List ℕ)
-            → StandsFor serving self.now s prefix → result ≡ s.form }
-        ensures noted { result ≡ (notes_of self.now).form }
-    {
-        self.session.format()
+        (self.screen, self.session)
     }
 }
