@@ -1,11 +1,12 @@
 -- Eight colours as pixels, in any format.
-use Rattle.std.proofs.Common.{◌≡◌, ℕ, ◌<◌, zero, suc, List, [], ◌∷◌, length, map, slice_index, slice_index_or, ap, refl, arith}
-use Rattle.std.proofs.lemmas.List.{get_or_default}
+use Rattle.std.proofs.Common.{◌≡◌, ◌∙◌, ℕ, ◌<◌, zero, suc, List, [], ◌∷◌, length, map, slice_index, slice_index_or, ap, sym, refl, arith}
+use Rattle.std.proofs.lemmas.Grind.{same_number_lists}
+use Rattle.std.proofs.lemmas.List.{get_or-map, get_or_default, length-map}
 use mir.Syntax.{w16}
 use mir.Val.{Fits}
 use Rattle.rfb_pixel.specs.declared.colour.Colour.{Colour}
-use Rattle.rfb_pixel.specs.Format.{IsColour}
-use Rattle.rfb_pixel.specs.inside.Lanes.{of_three}
+use Rattle.rfb_pixel.specs.Format.{IsColour, pixel_of, rgb888}
+use Rattle.rfb_pixel.specs.inside.Lanes.{ArePacked, of_three}
 
 -- each of eight places by itself
 pub eight_below : (P : ℕ → Type 0) → P 0 → P 1 → P 2 → P 3 → P 4 → P 5 → P 6 → P 7 → (k : ℕ) → k < 8 → P k
@@ -41,3 +42,11 @@ eight_same lane pixel a b c d e f g h is_a is_b is_c is_d is_e is_f is_g is_h =
 -- colours of components that fit sixteen bits
 pub three_fit : (r g b : ℕ) → Fits w16 r → Fits w16 g → Fits w16 b → IsColour (of_three r g b)
 three_fit r g b red green blue = (omega (arith, red.fits), omega (arith, green.fits), omega (arith, blue.fits))
+
+-- a row whose pixels are all packed
+pub packed_whole : (colours : List Colour) (pixels : List ℕ) (n : ℕ) → n ≡ length colours → length pixels ≡ length colours →
+    ArePacked rgb888 n colours pixels → pixels ≡ map (pixel_of rgb888) colours
+packed_whole colours pixels n all long packed =
+    let none : Colour = record { r = 0; g = 0; b = 0 } in
+    same_number_lists pixels (map (pixel_of rgb888) colours) (omega (arith, long, length-map colours (pixel_of rgb888)))
+    (λ k below. (packed k none (omega (arith, all, long, below))).0 ∙ sym (get_or-map (pixel_of rgb888) colours k none 0 (omega (arith, long, below))))

@@ -1,5 +1,5 @@
 -- Eight pixels of rgb565 as colours.
-use Rattle.std.proofs.Common.{◌≡◌, ◌∙◌, ℕ, ◌+◌, ◌-◌, ◌^◌, ◌*◌, ◌/◌, ◌%◌, ◌<◌, ◌≤◌, zero, suc, List, [], ◌∷◌, drop, take, length, ap, refl, arith, length-drop}
+use Rattle.std.proofs.Common.{◌≡◌, ◌∙◌, ℕ, ◌+◌, ◌-◌, ◌^◌, ◌*◌, ◌/◌, ◌%◌, ◌<◌, zero, suc, List, drop, take, length, ap, refl, arith, length-drop}
 use Rattle.std.specs.Prelude.{bit_and}
 use Rattle.std.proofs.lemmas.Nat.{and_mask}
 use Rattle.std.proofs.lemmas.Simd.{below_from_Fits, chunk-fits, get_or_wider}
@@ -13,12 +13,7 @@ use Rattle.rfb_pixel.specs.Channel.{rescaled}
 use Rattle.rfb_pixel.specs.Format.{colour_of, rgb565}
 use Rattle.rfb_pixel.specs.inside.Lanes.{of_three}
 use Rattle.rfb_pixel.proofs.FormatLemmas.{same_colour}
-
--- two bytes as a number
-two : (bytes : List ℕ) → 2 ≤ length bytes → number_l 256 (take 2 bytes) ≡ little_number 2 bytes
-two [] long = absurd (omega arith)
-two (a ∷ []) long = absurd (omega arith)
-two (a ∷ b ∷ bytes) long = omega arith
+use Rattle.rfb_pixel.proofs.UnpackLemmas.{two}
 
 pub numbers : (bytes : List ℕ) → length bytes ≡ 16 → ((i : ℕ) → Fits w8 (get_or bytes i 0)) → (k : ℕ) → k < 8 →
     get_or (digits_l 65536 8 (number_l 256 (take 16 bytes))) k 0 ≡ little_number 2 (drop (2 * k) bytes)

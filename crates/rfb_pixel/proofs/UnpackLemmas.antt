@@ -1,15 +1,19 @@
 -- Eight pixels' bytes as colours.
-use Rattle.std.proofs.Common.{◌≡◌, ◌∙◌, ℕ, ◌+◌, ◌-◌, ◌*◌, ◌/◌, ◌%◌, ◌<◌, ◌≤◌, zero, suc, List, [], ◌∷◌, ◌++◌, drop, take, length, slice_index_or, slice_set, sym, ap, refl, arith}
+use Rattle.std.proofs.Common.{◌≡◌, ◌∙◌, ℕ, ◌+◌, ◌-◌, ◌*◌, ◌/◌, ◌%◌, ◌<◌, ◌≤◌, zero, suc, List, [], ◌∷◌, ◌++◌, drop, take, length, slice_index_or, slice_set, sym, ap, refl, arith, length-drop}
 use Rattle.std.specs.Prelude.{bit_and}
 use Rattle.std.proofs.lemmas.List.{get_or-drop, get_or-take, get_or_append_left, get_or-append-add, length-take-le}
 use Rattle.std.proofs.lemmas.Slice.{take-put_mid, take-put_mid_below}
 use borrow.Rule.Slice.PartMut.{put_mid}
+use Rattle.std.proofs.lemmas.Simd.{below_from_Fits, get_or_wider}
+use Rattle.byteorder.specs.Endian.{little_number}
+use lib.Lanes.{Each1, digits_l, number_l}
 use lib.ListN.{get_or}
 use mir.Syntax.{w8}
 use mir.Val.{Fits}
 use Rattle.rfb_pixel.specs.declared.colour.Colour.{Colour}
 use Rattle.rfb_pixel.specs.Channel.{rescaled}
 use Rattle.rfb_pixel.specs.Format.{colour_of, pixel_number, rgb888}
+use Rattle.rfb_pixel.specs.inside.Lanes.{of_three}
 use Rattle.rfb_pixel.proofs.FormatLemmas.{same_colour}
 
 -- eight places of a row are written one by one
@@ -55,30 +59,44 @@ green_in b g r x small_b small_g small_r small_x = omega (arith, small_b, small_
 blue_in : (b g r x : ℕ) → b < 256 → g < 256 → r < 256 → x < 256 → rescaled 255 65535 ((b + 256 * (g + 256 * (r + 256 * (x + 0)))) / 1 % 256) ≡ 257 * b
 blue_in b g r x small_b small_g small_r small_x = omega (arith, small_b, small_g, small_r, small_x)
 
--- a lane of the eight pixels' bytes
-lane : (bytes : List ℕ) (i : ℕ) → length bytes ≡ 32 → i < 32 → get_or (take 32 bytes ++ take 32 bytes) i 0 ≡ get_or bytes i 0
-lane bytes i long low =
-    let front : length (take 32 bytes) ≡ 32 = length-take-le 32 bytes (omega (arith, long)) in
-    get_or_append_left (take 32 bytes) (take 32 bytes) 0 i (omega (arith, front, low)) ∙ get_or-take 32 bytes i 0 low
+-- two bytes as a number
+pub two : (bytes : List ℕ) → 2 ≤ length bytes → number_l 256 (take 2 bytes) ≡ little_number 2 bytes
+two [] long = absurd (omega arith)
+two (a ∷ []) long = absurd (omega arith)
+two (a ∷ b ∷ bytes) long = omega arith
 
-component_is : (byte lane : ℕ) → lane ≡ byte → byte < 256 → lane * 257 % 65536 ≡ 257 * byte
-component_is byte lane is small = omega (arith, is, small)
+pub numbers_in : (bytes : List ℕ) → length bytes ≡ 16 → Each1 (Fits w8) bytes → (k : ℕ) → k < 8 →
+    get_or (digits_l 65536 8 (number_l 256 bytes)) k 0 ≡ little_number 2 (drop (2 * k) bytes)
+numbers_in bytes long fit k below =
+    get_or_wider 256 2 65536 8 bytes k refl (below_from_Fits w8 bytes fit) below
+    ∙ two (drop (2 * k) bytes) (omega (arith, length-drop (2 * k) bytes))
 
--- three lanes are the colour of the pixel whose bytes they are of
-pub shown : (bytes : List ℕ) (at : ℕ) → length bytes ≡ 32 → ((i : ℕ) → Fits w8 (get_or bytes i 0)) → at + 4 ≤ 32 →
-    record {
-      r = get_or (take 32 bytes ++ take 32 bytes) (at + 2) 0 * 257 % 65536;
-      g = get_or (take 32 bytes ++ take 32 bytes) (at + 1) 0 * 257 % 65536;
-      b = get_or (take 32 bytes ++ take 32 bytes) (at + 0) 0 * 257 % 65536;
-    } ≡ colour_of rgb888 (pixel_number rgb888 (drop at bytes))
-shown bytes at long fit within =
+-- a lane of sixteen of the eight pixels' bytes
+lane : (from : ℕ) (bytes : List ℕ) (i : ℕ) → length bytes ≡ 32 → from + 16 ≤ 32 → i < 16 →
+    get_or (take 16 (drop from bytes) ++ take 16 (drop from bytes)) i 0 ≡ get_or bytes (from + i) 0
+lane from bytes i long within low =
+    let sixteen = take 16 (drop from bytes) in
+    let front : length sixteen ≡ 16 = length-take-le 16 (drop from bytes) (omega (arith, long, length-drop from bytes)) in
+    get_or_append_left sixteen sixteen 0 i (omega (arith, front, low)) ∙ get_or-take 16 (drop from bytes) i 0 low ∙ get_or-drop from bytes i 0
+
+-- a component that has a byte twice
+pub twice : (from : ℕ) (bytes : List ℕ) (i n : ℕ) → length bytes ≡ 32 → from + 16 ≤ 32 → i < 16 →
+    n ≡ little_number 2 (get_or (take 16 (drop from bytes) ++ take 16 (drop from bytes)) i 0 ∷ get_or (take 16 (drop from bytes) ++ take 16 (drop from bytes)) i 0 ∷ []) →
+    n ≡ 257 * get_or bytes (from + i) 0
+twice from bytes i n long within low is = omega (arith, is, lane from bytes i long within low)
+
+-- three components are the colour of the pixel whose bytes they have
+pub shown : (bytes : List ℕ) (at r g b : ℕ) → ((i : ℕ) → Fits w8 (get_or bytes i 0)) →
+    r ≡ 257 * get_or bytes (at + 2) 0 → g ≡ 257 * get_or bytes (at + 1) 0 → b ≡ 257 * get_or bytes (at + 0) 0 →
+    of_three r g b ≡ colour_of rgb888 (pixel_number rgb888 (drop at bytes))
+shown bytes at r g b fit red green blue =
     let byte = λ (i : ℕ). get_or bytes (at + i) 0 in
     let small = λ (i : ℕ). (fit (at + i)).fits in
     let is = λ (i : ℕ). get_or-drop at bytes i 0 in
     same_colour _ (colour_of rgb888 (pixel_number rgb888 (drop at bytes)))
-    (component_is (byte 2) _ (lane bytes (at + 2) long (omega arith)) (small 2) ∙ sym (rw (is 0, is 1, is 2, is 3) (red_in (byte 0) (byte 1) (byte 2) (byte 3) (small 0) (small 1) (small 2) (small 3))))
-    (component_is (byte 1) _ (lane bytes (at + 1) long (omega arith)) (small 1) ∙ sym (rw (is 0, is 1, is 2, is 3) (green_in (byte 0) (byte 1) (byte 2) (byte 3) (small 0) (small 1) (small 2) (small 3))))
-    (component_is (byte 0) _ (lane bytes (at + 0) long (omega arith)) (small 0) ∙ sym (rw (is 0, is 1, is 2, is 3) (blue_in (byte 0) (byte 1) (byte 2) (byte 3) (small 0) (small 1) (small 2) (small 3))))
+    (red ∙ sym (rw (is 0, is 1, is 2, is 3) (red_in (byte 0) (byte 1) (byte 2) (byte 3) (small 0) (small 1) (small 2) (small 3))))
+    (green ∙ sym (rw (is 0, is 1, is 2, is 3) (green_in (byte 0) (byte 1) (byte 2) (byte 3) (small 0) (small 1) (small 2) (small 3))))
+    (blue ∙ sym (rw (is 0, is 1, is 2, is 3) (blue_in (byte 0) (byte 1) (byte 2) (byte 3) (small 0) (small 1) (small 2) (small 3))))
 
 -- a place of a list whose end from a place on is written anew
 pub below_end : {X : Type 0} (a k : ℕ) (xs ys : List X) (i : ℕ) (d : X) → a ≤ length xs → i < a → slice_index_or (put_mid a k xs ys) i d ≡ slice_index_or xs i d

@@ -1,6 +1,7 @@
 -- Eight colours in three vectors, whose components stand one after another.
-use Rattle.std.specs.Prelude.{ℕ, List, [], ◌∷◌, slice_index}
+use Rattle.std.specs.Prelude.{ℕ, ◌≡◌, ◌<◌, ◌*◌, ◌^◌, drop, List, [], ◌∷◌, slice_index, slice_index_or}
 use Rattle.rfb_pixel.specs.declared.colour.Colour.{Colour}
+use Rattle.rfb_pixel.specs.Format.{PixelFormat, pixel_of, pixel_number, colour_of, size_of}
 
 abbrev pub of_three : ℕ → ℕ → ℕ → Colour
 of_three red green blue = record { r = red; g = green; b = blue }
@@ -17,3 +18,15 @@ colours_in x y z =
     ∷ of_three (slice_index z 2) (slice_index z 3) (slice_index z 4)
     ∷ of_three (slice_index z 5) (slice_index z 6) (slice_index z 7)
     ∷ []
+
+-- the first pixels of a row are those of its colours, and fit four bytes
+abbrev pub ArePacked : PixelFormat → ℕ → List Colour → List ℕ → Type 0
+ArePacked f n colours pixels =
+    (k : ℕ) (d : Colour) → k < n →
+    (slice_index pixels k ≡ pixel_of f (slice_index_or colours k d)) × (slice_index pixels k < 2 ^ 32)
+
+-- the first colours of a row are those of its pixels' bytes
+abbrev pub AreUnpacked : PixelFormat → ℕ → List ℕ → List Colour → Type 0
+AreUnpacked f n bytes colours =
+    (k : ℕ) (d : Colour) → k < n →
+    slice_index_or colours k d ≡ colour_of f (pixel_number f (drop (k * size_of f) bytes))

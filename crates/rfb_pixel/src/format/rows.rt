@@ -1,8 +1,9 @@
 //! Rows of pixels: their values of colours, and colours of their bytes.
 
-ghost use Rattle.std.specs.Prelude.{◌≡◌, ◌*◌, length, map};
+ghost use Rattle.std.specs.Prelude.{◌≡◌, ◌+◌, ◌*◌, ◌≤◌, length, map};
 ghost use Rattle.rfb_pixel.specs.Format.{bgr233, rgb565, rgb888, size_of, pixel_of};
 ghost use Rattle.rfb_pixel.specs.Format.{ArePixels, AreColours};
+ghost use Rattle.rfb_pixel.specs.inside.Lanes.{ArePacked, AreUnpacked};
 
 use crate::colour::Colour;
 use crate::format::Format;
@@ -24,7 +25,7 @@ impl Format {
         } else if *self == Format::rgb565() {
             pack_rgb565(colours, pixels);
         } else {
-            pack_each(*self, colours, pixels);
+            pack_other(*self, colours, pixels);
         }
     }
 
@@ -47,9 +48,10 @@ impl Format {
     }
 }
 
-// Writes the pixel value of each colour, by one loop for every format.
-#[inline(always)]
-fn pack_each(format: Format, colours: &[Colour], pixels: &mut [u32])
+// Writes the pixel value of each colour, by one loop for every format. It stands by itself, so that
+// the loops for the formats that most viewers ask for have all registers to themselves.
+#[inline(never)]
+fn pack_other(format: Format, colours: &[Colour], pixels: &mut [u32])
     requires { length colours.now ≡ length pixels.old }
     ensures value { pixels.new ≡ map (pixel_of format) colours.now }
     ensures bound { ArePixels format pixels.new }
@@ -59,23 +61,53 @@ fn pack_each(format: Format, colours: &[Colour], pixels: &mut [u32])
     }
 }
 
-// The same in rgb888, by eight colours at once.
+// The same in rgb888, by sixteen colours at once.
 fn pack_rgb888(colours: &[Colour], pixels: &mut [u32])
     requires { length colours.now ≡ length pixels.old }
     ensures value { pixels.new ≡ map (pixel_of rgb888) colours.now }
     ensures bound { ArePixels rgb888 pixels.new }
 {
     if colours.len() < LANES {
-        pack_each(Format::rgb888(), colours, pixels);
+        pack_other(Format::rgb888(), colours, pixels);
         return;
     }
-    let last = colours.len() - LANES;
+    if colours.len() < 2 * LANES {
+        pack_eight_at(colours, 0, pixels);
+        pack_eight_at(colours, colours.len() - LANES, pixels);
+        return;
+    }
+    let last = colours.len() - 2 * LANES;
     let mut at = 0;
     while at < last {
-        pack_eight_rgb888(&colours[at..at + LANES]).copy_to_slice(&mut pixels[at..]);
-        at += LANES;
+        pack_sixteen_at(colours, at, pixels);
+        at += 2 * LANES;
     }
-    pack_eight_rgb888(&colours[last..]).copy_to_slice(&mut pixels[last..]);
+    pack_sixteen_at(colours, last, pixels);
+}
+
+// Writes the pixel values of sixteen colours, where those before them are written.
+#[inline(always)]
+fn pack_sixteen_at(colours: &[Colour], at: usize, pixels: &mut [u32])
+    requires within { at + 16 ≤ length colours.now }
+    requires len { length colours.now ≡ length pixels.old }
+    requires front { ArePacked rgb888 at colours.now pixels.old }
+    ensures packed { ArePacked rgb888 (at + 16) colours.now pixels.new }
+    ensures len { length pixels.new ≡ length pixels.old }
+{
+    pack_eight_at(colours, at, pixels);
+    pack_eight_at(colours, at + LANES, pixels);
+}
+
+// The same of eight.
+#[inline(always)]
+fn pack_eight_at(colours: &[Colour], at: usize, pixels: &mut [u32])
+    requires within { at + 8 ≤ length colours.now }
+    requires len { length colours.now ≡ length pixels.old }
+    requires front { ArePacked rgb888 at colours.now pixels.old }
+    ensures packed { ArePacked rgb888 (at + 8) colours.now pixels.new }
+    ensures len { length pixels.new ≡ length pixels.old }
+{
+    pack_eight_rgb888(&colours[at..at + LANES]).copy_to_slice(&mut pixels[at..]);
 }
 
 // The same in rgb565.
@@ -85,7 +117,7 @@ fn pack_rgb565(colours: &[Colour], pixels: &mut [u32])
     ensures bound { ArePixels rgb565 pixels.new }
 {
     if colours.len() < LANES {
-        pack_each(Format::rgb565(), colours, pixels);
+        pack_other(Format::rgb565(), colours, pixels);
         return;
     }
     let last = colours.len() - LANES;
@@ -123,7 +155,7 @@ fn unpack_few(format: Format, bytes: &[u8], colours: &mut [Colour])
     }
 }
 
-// The same of rgb888, by eight pixels at once.
+// The same of rgb888, by sixteen pixels at once.
 #[inline(always)]
 fn unpack_rgb888(bytes: &[u8], colours: &mut [Colour])
     requires { length bytes.now ≡ length colours.old * 4 }
@@ -133,16 +165,43 @@ fn unpack_rgb888(bytes: &[u8], colours: &mut [Colour])
         unpack_few(Format::rgb888(), bytes, colours);
         return;
     }
+    if colours.len() < 2 * LANES {
+        unpack_eight_at(bytes, 0, colours);
+        unpack_eight_at(bytes, colours.len() - LANES, colours);
+        return;
+    }
+    let last = colours.len() - 2 * LANES;
     let mut at = 0;
-    while colours.len() - at >= LANES {
-        unpack_eight_rgb888(&bytes[at * 4..at * 4 + 32], &mut colours[at..at + LANES]);
-        at += LANES;
+    while at < last {
+        unpack_sixteen_at(bytes, at, colours);
+        at += 2 * LANES;
     }
-    if at < colours.len() {
-        // The last eight, of which some are written already.
-        let last = colours.len() - LANES;
-        unpack_eight_rgb888(&bytes[last * 4..], &mut colours[last..]);
-    }
+    unpack_sixteen_at(bytes, last, colours);
+}
+
+// Writes the colours of sixteen pixels of rgb888, where those before them are written.
+#[inline(always)]
+fn unpack_sixteen_at(bytes: &[u8], at: usize, colours: &mut [Colour])
+    requires within { at + 16 ≤ length colours.old }
+    requires bytes { length bytes.now ≡ length colours.old * 4 }
+    requires front { AreUnpacked rgb888 at bytes.now colours.old }
+    ensures unpacked { AreUnpacked rgb888 (at + 16) bytes.now colours.new }
+    ensures len { length colours.new ≡ length colours.old }
+{
+    unpack_eight_at(bytes, at, colours);
+    unpack_eight_at(bytes, at + LANES, colours);
+}
+
+// The same of eight.
+#[inline(always)]
+fn unpack_eight_at(bytes: &[u8], at: usize, colours: &mut [Colour])
+    requires within { at + 8 ≤ length colours.old }
+    requires bytes { length bytes.now ≡ length colours.old * 4 }
+    requires front { AreUnpacked rgb888 at bytes.now colours.old }
+    ensures unpacked { AreUnpacked rgb888 (at + 8) bytes.now colours.new }
+    ensures len { length colours.new ≡ length colours.old }
+{
+    unpack_eight_rgb888(&bytes[at * 4..at * 4 + 32], &mut colours[at..at + LANES]);
 }
 
 // The same of rgb565.
@@ -155,16 +214,13 @@ fn unpack_rgb565(bytes: &[u8], colours: &mut [Colour])
         unpack_few(Format::rgb565(), bytes, colours);
         return;
     }
+    let last = colours.len() - LANES;
     let mut at = 0;
-    while colours.len() - at >= LANES {
+    while at < last {
         unpack_eight_rgb565(&bytes[at * 2..at * 2 + 16], &mut colours[at..at + LANES]);
         at += LANES;
     }
-    if at < colours.len() {
-        // The last eight, of which some are written already.
-        let last = colours.len() - LANES;
-        unpack_eight_rgb565(&bytes[last * 2..], &mut colours[last..]);
-    }
+    unpack_eight_rgb565(&bytes[last * 2..], &mut colours[last..]);
 }
 
 // The same of bgr233.
@@ -177,14 +233,11 @@ fn unpack_bgr233(bytes: &[u8], colours: &mut [Colour])
         unpack_few(Format::bgr233(), bytes, colours);
         return;
     }
+    let last = colours.len() - LANES;
     let mut at = 0;
-    while colours.len() - at >= LANES {
+    while at < last {
         unpack_eight_bgr233(&bytes[at..at + LANES], &mut colours[at..at + LANES]);
         at += LANES;
     }
-    if at < colours.len() {
-        // The last eight, of which some are written already.
-        let last = colours.len() - LANES;
-        unpack_eight_bgr233(&bytes[last..], &mut colours[last..]);
-    }
+    unpack_eight_bgr233(&bytes[last..], &mut colours[last..]);
 }

@@ -10,7 +10,7 @@ use crate::colour::Colour;
 use crate::lanes::write_eight;
 use std::simd::{u8x16, u8x32, u16x8, u32x8};
 
-/// Writes the colours of eight pixels of rgb888. A component is its byte times 257.
+/// Writes the colours of eight pixels of rgb888. A component has its byte twice.
 #[inline(always)]
 pub fn unpack_eight_rgb888(bytes: &[u8], colours: &mut [Colour])
     requires bytes { length bytes.now ≡ 32 }
@@ -18,20 +18,21 @@ pub fn unpack_eight_rgb888(bytes: &[u8], colours: &mut [Colour])
     ensures value { AreColours rgb888 bytes.now colours.new }
     ensures len { length colours.new ≡ 8 }
 {
-    let pixels = u8x32::from_slice(bytes);
-    let times = u16x8::splat(257);
-    let x = (pixels.swizzle([2, 1, 0, 6, 5, 4, 10, 9]).cast::<u16>() * times).to_array();
-    let y = (pixels
-        .swizzle([8, 14, 13, 12, 18, 17, 16, 22])
-        .cast::<u16>()
-        * times)
-        .to_array();
-    let z = (pixels
-        .swizzle([21, 20, 26, 25, 24, 30, 29, 28])
-        .cast::<u16>()
-        * times)
-        .to_array();
+    let front = u8x16::from_slice(bytes);
+    let middle = u8x16::from_slice(&bytes[8..]);
+    let back = u8x16::from_slice(&bytes[16..]);
+    let x = components_of(front.swizzle([2, 2, 1, 1, 0, 0, 6, 6, 5, 5, 4, 4, 10, 10, 9, 9]));
+    let y = components_of(middle.swizzle([0, 0, 6, 6, 5, 5, 4, 4, 10, 10, 9, 9, 8, 8, 14, 14]));
+    let z = components_of(back.swizzle([5, 5, 4, 4, 10, 10, 9, 9, 8, 8, 14, 14, 13, 13, 12, 12]));
     write_eight(x, y, z, colours);
+}
+
+// Eight components of two bytes each, the lower byte first.
+#[inline(always)]
+fn components_of(bytes: u8x16) -> [u16; 8]
+    ensures { (k : ℕ) → k < 8 → slice_index result k ≡ little_number 2 (drop (2 * k) bytes) }
+{
+    u16x8::from_le_bytes(bytes).to_array()
 }
 
 /// The pixel values of eight colours in rgb888.

@@ -1,15 +1,14 @@
-use Rattle.std.proofs.Common.{◌≡◌, ◌+◌, ℕ, ◌-◌, ◌^◌, ◌<◌, ◌≤◌, length, slice_index, slice_index_or}
-use Rattle.rfb_pixel.specs.declared.colour.Colour.{Colour}
-use Rattle.rfb_pixel.specs.Format.{pixel_of, rgb888}
+use Rattle.std.proofs.Common.{◌≡◌, ◌+◌, ◌-◌, ◌≤◌, length}
+use Rattle.rfb_pixel.specs.Format.{rgb888}
+use Rattle.rfb_pixel.specs.inside.Lanes.{ArePacked}
 use Rattle.rfb_pixel.proofs.format.rows.pack_rgb888.Given as goal
 
 abbrev pub invariant-loop-at : goal.invariant-loop-at
 invariant-loop-at l = record {
-  last : l.last + 8 ≡ length l.colours;
+  last : l.last + 16 ≡ length l.colours;
   within : l.at ≤ length l.colours;
   len : length l.pixels ≡ length l.colours;
-  packed : (k : ℕ) (d : Colour) → k < l.at → slice_index l.pixels k ≡ pixel_of rgb888 (slice_index_or l.colours k d);
-  bound : (k : ℕ) → k < l.at → slice_index l.pixels k < 2 ^ 32;
+  packed : ArePacked rgb888 l.at l.colours l.pixels;
 }
 
 abbrev pub decreases-loop-at : goal.decreases-loop-at

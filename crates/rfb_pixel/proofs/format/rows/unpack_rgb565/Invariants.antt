@@ -1,14 +1,15 @@
-use Rattle.std.proofs.Common.{◌≡◌, ℕ, ◌-◌, ◌*◌, ◌<◌, ◌≤◌, drop, length, slice_index_or}
+use Rattle.std.proofs.Common.{◌≡◌, ℕ, ◌+◌, ◌-◌, ◌*◌, ◌<◌, ◌≤◌, drop, length, slice_index_or}
 use Rattle.rfb_pixel.specs.declared.colour.Colour.{Colour}
 use Rattle.rfb_pixel.specs.Format.{colour_of, pixel_number, rgb565}
 use Rattle.rfb_pixel.proofs.format.rows.unpack_rgb565.Given as goal
 
-abbrev pub invariant-loop-colours : goal.invariant-loop-colours
-invariant-loop-colours l = record {
+abbrev pub invariant-loop-at : goal.invariant-loop-at
+invariant-loop-at l = record {
   within : l.at ≤ length l.colours;
+  last : l.last + 8 ≡ length l.colours;
   len : length l.colours ≡ length l.fn.colours;
   shown : (k : ℕ) (d : Colour) → k < l.at → slice_index_or l.colours k d ≡ colour_of rgb565 (pixel_number rgb565 (drop (k * 2) l.bytes));
 }
 
-abbrev pub decreases-loop-colours : goal.decreases-loop-colours
-decreases-loop-colours l = length l.colours - l.at
+abbrev pub decreases-loop-at : goal.decreases-loop-at
+decreases-loop-at l = l.last - l.at

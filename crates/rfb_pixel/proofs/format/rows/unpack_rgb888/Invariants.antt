@@ -1,14 +1,15 @@
-use Rattle.std.proofs.Common.{◌≡◌, ℕ, ◌-◌, ◌*◌, ◌<◌, ◌≤◌, drop, length, slice_index_or}
-use Rattle.rfb_pixel.specs.declared.colour.Colour.{Colour}
-use Rattle.rfb_pixel.specs.Format.{colour_of, pixel_number, rgb888}
+use Rattle.std.proofs.Common.{◌≡◌, ◌+◌, ◌-◌, ◌≤◌, length}
+use Rattle.rfb_pixel.specs.Format.{rgb888}
+use Rattle.rfb_pixel.specs.inside.Lanes.{AreUnpacked}
 use Rattle.rfb_pixel.proofs.format.rows.unpack_rgb888.Given as goal
 
-abbrev pub invariant-loop-colours : goal.invariant-loop-colours
-invariant-loop-colours l = record {
+abbrev pub invariant-loop-at : goal.invariant-loop-at
+invariant-loop-at l = record {
+  last : l.last + 16 ≡ length l.colours;
   within : l.at ≤ length l.colours;
   len : length l.colours ≡ length l.fn.colours;
-  shown : (k : ℕ) (d : Colour) → k < l.at → slice_index_or l.colours k d ≡ colour_of rgb888 (pixel_number rgb888 (drop (k * 4) l.bytes));
+  unpacked : AreUnpacked rgb888 l.at l.bytes l.colours;
 }
 
-abbrev pub decreases-loop-colours : goal.decreases-loop-colours
-decreases-loop-colours l = length l.colours - l.at
+abbrev pub decreases-loop-at : goal.decreases-loop-at
+decreases-loop-at l = l.last - l.at

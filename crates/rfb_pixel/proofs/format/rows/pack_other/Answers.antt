@@ -2,7 +2,7 @@ use Rattle.std.proofs.Common.{◌≡◌, ◌∙◌, ◌*◌, ◌^◌, ◌<◌, �
 use Rattle.std.proofs.lemmas.Grind.{same_number_lists}
 use Rattle.std.proofs.lemmas.List.{get_or-map, length-map}
 use Rattle.rfb_pixel.specs.Format.{pixel_of, size_of}
-use Rattle.rfb_pixel.proofs.format.rows.pack_each.Goals as goal
+use Rattle.rfb_pixel.proofs.format.rows.pack_other.Goals as goal
 
 pub loop-i-preserved : goal.loop-i-preserved
 loop-i-preserved c =

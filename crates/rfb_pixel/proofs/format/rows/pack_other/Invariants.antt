@@ -1,6 +1,6 @@
 use Rattle.std.proofs.Common.{◌≡◌, ℕ, ◌*◌, ◌^◌, ◌<◌, map, slice_index}
 use Rattle.rfb_pixel.specs.Format.{pixel_of, size_of}
-use Rattle.rfb_pixel.proofs.format.rows.pack_each.Given as goal
+use Rattle.rfb_pixel.proofs.format.rows.pack_other.Given as goal
 
 abbrev pub invariant-loop-i : goal.invariant-loop-i
 invariant-loop-i l = record {
