@@ -8,6 +8,7 @@ ghost use Rattle.rfb_codec.specs.Painter.{over};
 ghost use Rattle.rfb_codec.specs.Stage.{places_before};
 ghost use Rattle.rfb_codec.specs.inside.Step.{PaintsRun, first_of_row};
 
+use crate::hextile::tiles::TILE;
 use crate::painter::stage::Place;
 use rfb_picture::{Picture, Rect};
 use rfb_pixel::{Colour, Format};
@@ -21,9 +22,14 @@ pub fn paint_rows(format: Format, rect: Rect, bytes: &[u8], picture: &mut Pictur
     ensures width { picture.new.width ≡ picture.old.width }
     ensures height { picture.new.height ≡ picture.old.height }
 {
-    // As for `paint_lines`, a loop each.
+    // As for `paint_lines`, a loop each. That of rgb888, which this project announces, is made once
+    // more for the rows of a whole tile, whose length is known before it runs.
     if format == Format::rgb888() {
-        rows_in(Format::rgb888(), rect, bytes, picture);
+        if rect.w == TILE {
+            rows_in(Format::rgb888(), rect, bytes, picture);
+        } else {
+            rows_in(Format::rgb888(), rect, bytes, picture);
+        }
     } else if format == Format::rgb565() {
         rows_in(Format::rgb565(), rect, bytes, picture);
     } else if format == Format::bgr233() {
