@@ -28,5 +28,9 @@ pub use tally::Tally;
 pub use viewing::{view, view_recording};
 pub use whole_write::send;
 
-// How many bytes one read asks for.
+// How many bytes one read of a client asks for.
 const READ_SIZE: usize = 4096;
+
+// How many bytes one read of a server asks for. Its updates are long, and a piece that two reads cut
+// costs more than a whole one.
+const UPDATE_READ_SIZE: usize = 32_768;

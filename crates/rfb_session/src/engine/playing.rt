@@ -6,7 +6,7 @@ ghost use Rattle.rfb_session.specs.Verdict.{JudgesAll};
 ghost use Rattle.rfb_session.specs.Watching.{EndsWithin, IsWatched, StandsBetween, ends_told};
 ghost use Rattle.rfb_viewer.specs.Told.{seen};
 
-use crate::engine::READ_SIZE;
+use crate::engine::UPDATE_READ_SIZE;
 use crate::engine::device::Source;
 use crate::engine::fault::EngineFault;
 use rfb_viewer::{Viewer, ViewerEvent, ViewerFault};
@@ -48,7 +48,7 @@ fn feed_all<R: Source>(source: &mut R, viewer: &mut Viewer) -> Result<u64, Engin
         (R.unread source.old) (R.unread source.new) (R.failed source.old) (R.failed source.new)
         viewer.old fault viewer.new) }
 {
-    let mut part = [0; READ_SIZE];
+    let mut part = [0; UPDATE_READ_SIZE];
     let mut updates = 0;
     // Each turn reads a byte or is the last, so these are never all of them.
     for _turn in 0..u64::MAX {

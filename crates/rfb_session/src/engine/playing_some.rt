@@ -7,7 +7,7 @@ ghost use Rattle.rfb_session.specs.PlayingSome.{IsWatchedFirst, PlayedFirst, Sto
 ghost use Rattle.rfb_session.specs.PlayingSome.{WasCounted};
 ghost use Rattle.rfb_session.specs.Watching.{EndsBy, EndsWithin, IsWatched, StandsBetween};
 
-use crate::engine::READ_SIZE;
+use crate::engine::UPDATE_READ_SIZE;
 use crate::engine::device::Source;
 use crate::engine::fault::EngineFault;
 use crate::engine::playing::count;
@@ -62,7 +62,7 @@ fn feed_some<R: Source>(
         (R.unread source.old) (R.unread source.new) (R.failed source.old) (R.failed source.new)
         viewer.old enough fault viewer.new) }
 {
-    let mut part = [0; READ_SIZE];
+    let mut part = [0; UPDATE_READ_SIZE];
     let mut updates = 0;
     // Each turn reads a byte or is the last, so these are never all of them.
     for _turn in 0..u64::MAX {

@@ -7,7 +7,7 @@ ghost use Rattle.rfb_session.specs.ViewEngine.{HasViewed, StopsViewing};
 
 mod asking;
 
-use crate::engine::READ_SIZE;
+use crate::engine::UPDATE_READ_SIZE;
 use crate::engine::device::{Sink, Source};
 use crate::engine::fault::EngineFault;
 use crate::engine::nowhere::Nowhere;
@@ -71,7 +71,7 @@ pub fn view_recording<R: Source, W: Sink, K: Sink>(
         viewer.old updates fault viewer.new) }
     ensures same_reference { K.reference kept.new ≡ K.reference kept.old }
 {
-    let mut part = [0; READ_SIZE];
+    let mut part = [0; UPDATE_READ_SIZE];
     let mut left = updates;
     // Each turn reads a byte or is the last, so these are never all of them.
     for _turn in 0..u64::MAX {

@@ -26,7 +26,7 @@ returns-then-count-eq0-clause-played g c =
     let mid = g.R.Source.unread l.source in
     let new = g.R.Source.unread c.read.new.self in
     let none : c.in-Ok.count ≡ 0 = search rules in
-    let size : length c.read.new.buf ≡ 4096 = search rules in
+    let size : length c.read.new.buf ≡ 32768 = search rules in
     reading_ends (g.R.Source.unread c.args.source.now) mid new c.args.viewer.now l._turn l.updates
     l.viewer l.invariant.reading
     (subst (λ (n : ℕ). Consumes mid new (take n c.read.new.buf)) none c.in-Ok.ensures.bytes.0)
@@ -43,7 +43,7 @@ returns-in-Err-clause-stopped g c =
 pub loop-turn-preserved : goal.loop-turn-preserved
 loop-turn-preserved g c =
     let l = c.loop-turn in
-    let size : length c.read.new.buf ≡ 4096 = search rules in
+    let size : length c.read.new.buf ≡ 32768 = search rules in
     let some : 0 < c.in-Ok.count = search rules in
     record {
       reading = reading_more (g.R.Source.unread c.args.source.now) (g.R.Source.unread l.source)

@@ -8,5 +8,5 @@ invariant-loop-turn g l = record {
   reading : Reading (g.R.Source.unread l.initial.source) (g.R.Source.unread l.source) l.fn.viewer
       l._turn l.updates l.viewer;
   none_failed : g.R.Source.failed l.source ≡ g.R.Source.failed l.initial.source;
-  size : length l.part ≡ 4096;
+  size : length l.part ≡ 32768;
 }

@@ -9,5 +9,5 @@ invariant-loop-turn g l = record {
       l._turn l.updates l.viewer;
   few : l.updates < l.enough;
   none_failed : g.R.Source.failed l.source ≡ g.R.Source.failed l.initial.source;
-  size : length l.part ≡ 4096;
+  size : length l.part ≡ 32768;
 }

@@ -40,7 +40,7 @@ returns-then-count-eq0-clause-stopped g c =
     let mid = g.R.Source.unread l.source in
     let new = g.R.Source.unread c.read.new.self in
     let none : c.in-Ok.count ≡ 0 = search rules in
-    let size : length c.read.new.buf ≡ 4096 = search rules in
+    let size : length c.read.new.buf ≡ 32768 = search rules in
     viewing_misses (g.R.Source.unread c.args.source.now) mid new
     (g.W.Sink.written c.args.sink.now) (g.W.Sink.written l.sink)
     (g.K.Sink.written c.args.kept.now) (g.K.Sink.written l.kept) c.args.viewer.now l._turn
@@ -100,7 +100,7 @@ returns-in-Err-clause-stopped g c =
 pub loop-turn-preserved : goal.loop-turn-preserved
 loop-turn-preserved g c =
     let l = c.loop-turn in
-    let size : length c.read.new.buf ≡ 4096 = search rules in
+    let size : length c.read.new.buf ≡ 32768 = search rules in
     let some : 0 < c.in-Ok.count = search rules in
     let going : 0 < c.in-Ok-look.fewer = search rules in
     record {

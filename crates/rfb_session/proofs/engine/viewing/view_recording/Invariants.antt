@@ -13,5 +13,5 @@ invariant-loop-turn g l = record {
   none_unwritten : g.W.Sink.failed l.sink ≡ g.W.Sink.failed l.initial.sink;
   none_unkept : g.K.Sink.failed l.kept ≡ g.K.Sink.failed l.initial.kept;
   same_reference : g.K.Sink.reference l.kept ≡ g.K.Sink.reference l.initial.kept;
-  size : length l.part ≡ 4096;
+  size : length l.part ≡ 32768;
 }
