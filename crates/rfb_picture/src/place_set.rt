@@ -214,6 +214,22 @@ impl PlaceSet {
         ensures width { self.new.width ≡ self.old.width }
         ensures height { self.new.height ≡ self.old.height }
     {
+        // Most requests are for all places, which are cells without a border.
+        if rect == Rect::whole(self.width(), self.height()) {
+            self.add_cells(rect);
+        } else {
+            self.add_by_parts(rect);
+        }
+    }
+
+    // The same of a rectangle that may cut cells.
+    #[inline(never)]
+    fn add_by_parts(&mut self, rect: Rect)
+        requires { Holds self.old rect }
+        ensures value { self.new ≡ filled rect true self.old }
+        ensures width { self.new.width ≡ self.old.width }
+        ensures height { self.new.height ≡ self.old.height }
+    {
         let parts = parts_of(rect, self.width(), self.height());
         self.add_cells(parts.inner);
         self.add_part(parts.above);

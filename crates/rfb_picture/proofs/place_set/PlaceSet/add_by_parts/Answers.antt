@@ -1,5 +1,5 @@
 use Rattle.rfb_picture.proofs.PartLemmas.{filled-parts}
-use Rattle.rfb_picture.proofs.place_set.PlaceSet.add.Goals as goal
+use Rattle.rfb_picture.proofs.place_set.PlaceSet.add_by_parts.Goals as goal
 
 pub returns-clause-value : goal.returns-clause-value
 returns-clause-value c =
