@@ -1,14 +1,15 @@
 -- Heads of a client's messages that are gathered: which bytes are the beginning of one, and which a whole one.
-use Rattle.std.proofs.Common.{◌≡◌, ℕ, zero, suc, ◌+◌, ◌-◌, ◌<◌, ◌≤◌, true, List, [], ◌∷◌, ◌++◌, Option, Some, None, length, take, replicate, min, refl, sym, ap, subst, ◌∙◌, length-append, arith}
+use Rattle.std.proofs.Common.{◌≡◌, ℕ, zero, suc, ◌+◌, ◌-◌, ◌<◌, ◌≤◌, Bool, true, List, [], ◌∷◌, ◌++◌, Option, Some, None, length, take, replicate, min, refl, sym, ap, subst, ◌∙◌, length-append, arith}
 use Rattle.std.proofs.lemmas.Bool.Decides.{nat_tests}
-use Rattle.std.proofs.lemmas.List.{length-replicate, length-take-le, take-take}
+use Rattle.std.proofs.lemmas.List.{length-replicate, length-take-le, take-take, take_all}
 use Rattle.std.proofs.Math.Seq.{take-append-add}
+use Rattle.rfb_picture.specs.declared.rect.Rect.{Rect}
 use Rattle.rfb_wire.specs.declared.fault.WireFault.{WireFault}
 use Rattle.rfb_wire.specs.declared.fault.WireFault.TheVariants.{UnknownMessage, UnknownEncoding, RectOutside}
 use Rattle.rfb_wire.specs.declared.client_head.ClientHead.{ClientHead}
 use Rattle.rfb_wire.specs.stream.Heads.{Misses}
 use Rattle.rfb_wire.specs.Heads.{IsUnknown}
-use Rattle.rfb_wire.specs.ClientHead.{SpellsClientHead, client_head_size}
+use Rattle.rfb_wire.specs.ClientHead.{SpellsClientHead, SpellsRequest, client_head_size}
 use Rattle.rfb_wire.specs.ClientMessage.{FaultsClientMessage, UnknownType}
 use Rattle.rfb_wire.specs.ClientStream.{client_head_of}
 use Rattle.rfb_wire.proofs.ClientStreamLaws.{client_headed}
@@ -73,6 +74,12 @@ head_longer (first ∷ rest) bytes (suc size) head e within s =
     let h = less_is (length (first ∷ rest)) (client_head_size first) e in
     let same : h.0 ≡ length (take (suc size) (first ∷ (rest ++ bytes))) = cc in
     omega (arith, h.2, same, count)
+
+-- a request that is all of the bytes after a part of none
+pub request_after : (part bytes : List ℕ) (size : ℕ) (incremental : Bool) (rect : Rect) → length part ≡ 0 → size ≡ length bytes →
+    SpellsRequest incremental rect (take size bytes) → SpellsRequest incremental rect (part ++ bytes)
+request_after [] bytes size incremental rect none all s = subst (SpellsRequest incremental rect) (take_all size bytes (omega (arith, all))) s
+request_after (first ∷ rest) bytes size incremental rect none all s = absurd (omega (arith, none))
 
 -- the first bytes of a part and of what stands after it
 pub head_taken : (part bytes : List ℕ) (k size : ℕ) → length part < size → size ≤ length part + k →

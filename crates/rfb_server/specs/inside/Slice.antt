@@ -1,12 +1,16 @@
 -- What a session makes of bytes that it is fed: of a unit of one item, and of a slice.
-use Rattle.std.specs.Prelude.{◌≡◌, ◌≢◌, ℕ, List, ◌++◌, Option, Result, Err}
+use Rattle.std.specs.Prelude.{◌≡◌, ◌≢◌, ℕ, Bool, List, ◌++◌, Option, Result, Err}
+use Rattle.arrayvec.specs.ArrayVec.{ArrayVec}
 use Rattle.rfb_pixel.specs.declared.colour.Colour.{Colour}
+use Rattle.rfb_picture.specs.declared.rect.Rect.{Rect}
 use Rattle.rfb_picture.specs.Grid.{Grid}
 use Rattle.rfb_wire.specs.stream.End.{FedBy, StepsBy}
+use Rattle.rfb_wire.specs.ClientHead.{SpellsRequest}
 use Rattle.rfb_server.specs.declared.event.ServerEvent.{ServerEvent}
 use Rattle.rfb_server.specs.declared.fault.ServerFault.{ServerFault}
 use Rattle.rfb_server.specs.declared.fault.ServerFault.TheVariants.{NoMemory}
 use Rattle.rfb_server.specs.declared.session.Session.{Session}
+use Rattle.rfb_server.specs.declared.session.input.progress.Progress.TheVariants.{Head}
 use Rattle.rfb_server.specs.Told.{seen, answer_told}
 use Rattle.rfb_server.specs.Server.{Serving, ServerState, server, AsksMemory}
 use Rattle.rfb_server.specs.Standing.{SessionStandsFor}
@@ -29,3 +33,9 @@ abbrev pub FeedsAs : Session → List ℕ → Option ServerEvent → Session →
 FeedsAs old bytes event new =
     (serving : Serving) (screen : Grid Colour)
     → FedBy (server serving) (SessionStandsFor serving screen) old bytes (seen event) new
+
+-- the bytes are one request, and no more, where no other message has begun
+abbrev pub IsRequestAlone : Session → List ℕ → Bool → Rect → Type 0
+IsRequestAlone session bytes incremental rect =
+    (part : ArrayVec ℕ) × (session.progress ≡ Head part)
+    × SpellsRequest incremental rect (part.items ++ bytes)

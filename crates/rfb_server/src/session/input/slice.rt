@@ -1,7 +1,7 @@
 //! What a session takes of a slice of its client's bytes.
 
 ghost use Rattle.std.specs.Prelude.{◌≡◌, ◌≢◌, ◌≤◌, ◌<◌, ℕ, List, length, take};
-ghost use Rattle.std.specs.Prelude.{None, Some, IfOk, IfErr, false};
+ghost use Rattle.std.specs.Prelude.{None, Some, IfOk, IfErr, IfSome, false};
 ghost use Rattle.rfb_pixel.specs.declared.colour.Colour.{Colour};
 ghost use Rattle.rfb_picture.specs.Grid.{Grid};
 ghost use Rattle.std.specs.Result.{result_err};
@@ -10,7 +10,7 @@ ghost use Rattle.rfb_server.specs.Server.{Serving, ServerState};
 ghost use Rattle.rfb_server.specs.Progress.{fault_in, is_idle};
 ghost use Rattle.rfb_server.specs.Standing.{SessionStandsFor};
 ghost use Rattle.rfb_server.specs.inside.Sessions.{KeepsUp};
-ghost use Rattle.rfb_server.specs.inside.Slice.{FeedsAs};
+ghost use Rattle.rfb_server.specs.inside.Slice.{FeedsAs, IsRequestAlone};
 ghost use Rattle.rfb_server.specs.Failing.{EndsAs};
 
 use crate::event::ServerEvent;
@@ -18,6 +18,8 @@ use crate::fault::ServerFault;
 use crate::session::Session;
 use crate::session::input::progress::Progress;
 use rfb_hello::Fed;
+use rfb_picture::Rect;
+use rfb_wire::{ClientHead, Read};
 
 impl Session {
     ghost use Rattle.rfb_wire.specs.stream.End.{FedBy, RefusedBy, RunsOutBy, StaysFailed};
@@ -70,8 +72,58 @@ impl Session {
         self.take_items(bytes)
     }
 
-    // The same of a session that has not failed.
+    // The same of a session that has not failed. Most slices are one request. It tells nothing, so
+    // it is taken where no room for an event is cleared or moved.
     fn take_items(&mut self, bytes: &[u8]) -> Result<Fed<ServerEvent>, ServerFault>
+        requires going { fault_in self.old.progress ≡ None }
+        ensures used { IfOk result (λ fed. fed.used ≤ length bytes.now) }
+        ensures all { IfOk result (λ fed. fed.event ≡ None → fed.used ≡ length bytes.now) }
+        ensures some { IfOk result (λ fed. 0 < length bytes.now → 0 < fed.used) }
+        ensures fed { IfOk result (λ fed.
+            FeedsAs self.old (take fed.used bytes.now) fed.event self.new) }
+        ensures up { KeepsUp self.old self.new }
+        ensures ends { IfErr result (λ fault. EndsAs self.old bytes.now fault self.new) }
+        ensures fails { IfErr result (λ fault. fault_in self.new.progress ≡ Some fault) }
+    {
+        match self.request_alone(bytes) {
+            Some((incremental, rect)) => {
+                self.request(incremental, rect);
+                self.begin_message();
+                Ok(Fed {
+                    used: bytes.len(),
+                    event: None,
+                })
+            }
+            None => self.take_each(bytes),
+        }
+    }
+
+    // The request that the bytes are, where they are that and no more, and no message has begun.
+    fn request_alone(&self, bytes: &[u8]) -> Option<(bool, Rect)>
+        ensures { IfSome result (λ asked.
+            IsRequestAlone self.now bytes.now asked.0 asked.1) }
+    {
+        let Progress::Head(part) = &self.progress else {
+            return None;
+        };
+        if part.len() != 0 {
+            return None;
+        }
+        let Read::Got(head, size) = ClientHead::read(bytes) else {
+            return None;
+        };
+        if size != bytes.len() {
+            return None;
+        }
+        match head {
+            ClientHead::Request { incremental, rect } => Some((incremental, rect)),
+            _ => None,
+        }
+    }
+
+    // The same item by item.
+    #[inline(never)]
+    fn take_each(&mut self, bytes: &[u8]) -> Result<Fed<ServerEvent>, ServerFault>
         requires going { fault_in self.old.progress ≡ None }
         ensures used { IfOk result (λ fed. fed.used ≤ length bytes.now) }
         ensures all { IfOk result (λ fed. fed.event ≡ None → fed.used ≡ length bytes.now) }
