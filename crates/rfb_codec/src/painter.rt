@@ -138,6 +138,13 @@ impl Painter {
         })
     }
 
+    /// The rectangle that it paints.
+    pub fn rect(&self) -> Rect
+        ensures { result ≡ self.now.rect }
+    {
+        self.rect
+    }
+
     /// How many bytes of the piece under way are kept. The mask of a raw tile is not among them.
     pub fn pending(&self) -> usize
         ensures value { result ≡ length self.now.pending }
