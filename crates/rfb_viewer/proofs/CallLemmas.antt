@@ -29,7 +29,7 @@ use Rattle.rfb_viewer.proofs.StepLemmas.{IsMade, made_stands, ready_same}
 -- ---- the screen that an area is judged by
 
 -- pieces of a rectangle leave a picture its size
-shown_columns : (f : PixelFormat) (rect : Rect) (front : Front) (g : Grid Colour) → (shown f rect front g).width ≡ g.width
+pub shown_columns : (f : PixelFormat) (rect : Rect) (front : Front) (g : Grid Colour) → (shown f rect front g).width ≡ g.width
 unfolding changed
 shown_columns f rect NoSource g = refl
 shown_columns f rect (TheSource x y) g = refl
@@ -39,7 +39,7 @@ shown_columns f rect (SomeParts count background subs) g = refl
 shown_columns f rect (SomeTiles tiles) g = refl
 shown_columns f rect (SomeOfRaw tiles count pixels) g = refl
 
-shown_rows : (f : PixelFormat) (rect : Rect) (front : Front) (g : Grid Colour) → (shown f rect front g).height ≡ g.height
+pub shown_rows : (f : PixelFormat) (rect : Rect) (front : Front) (g : Grid Colour) → (shown f rect front g).height ≡ g.height
 unfolding changed
 shown_rows f rect NoSource g = refl
 shown_rows f rect (TheSource x y) g = refl
@@ -124,3 +124,8 @@ module _ (viewing : Viewing) (old new : Viewer) where
   pub requested_stands : (s : ViewerState) (prefix : List ℕ) → IsMade old new old.progress Outstanding old.picture → StandsFor viewing old s prefix → StandsFor viewing new (requested s) prefix
   requested_stands s prefix made stands =
       made_stands viewing old new old.progress Outstanding old.picture s (requested s) prefix prefix made stands refl (kept_at old.progress Outstanding s.point s.picture prefix made stands.progress_is)
+
+  -- it goes on as it is
+  pub same_stands : (s : ViewerState) (prefix : List ℕ) → IsMade old new old.progress old.request old.picture → StandsFor viewing old s prefix → StandsFor viewing new s prefix
+  same_stands s prefix made stands =
+      made_stands viewing old new old.progress old.request old.picture s s prefix prefix made stands stands.outstanding_is (kept_at old.progress old.request s.point s.picture prefix made stands.progress_is)

@@ -41,6 +41,7 @@ use Rattle.rfb_viewer.specs.declared.viewer.progress.Progress.TheVariants.{Hands
 use Rattle.rfb_viewer.specs.Fault.{fault_of_hello, fault_of_wire, fault_of_paint}
 use Rattle.rfb_viewer.specs.ServerBytes.{ServerAt, FromServer, server_bytes}
 use Rattle.rfb_viewer.specs.Viewer.{Viewing, ViewerState, viewer, AsksMemory}
+use Rattle.rfb_viewer.specs.inside.Damaging.{EndsHere, EndsIn}
 use Rattle.rfb_viewer.specs.inside.Steps.{AsksAfter}
 use Rattle.rfb_viewer.specs.Progress.{IsHeadBegun, IsScreenAt}
 use Rattle.rfb_viewer.specs.Standing.{StandsFor, picture_of}
@@ -53,9 +54,12 @@ use Rattle.rfb_viewer.proofs.LendLemmas.{unreasoned_at, hello_unreasoned}
 
 -- ---- a slice of which a part was taken before
 
-pub ends_later : (fault : ViewerFault) (old mid new : Viewer) (i : ℕ) (bytes : List ℕ) → ((viewing : Viewing) → FedBy (viewer viewing) (StandsFor viewing) old (take i bytes) None mid) → KeepsPicture fault mid (drop i bytes) new → KeepsPicture fault old bytes new
+pub ends_later : (fault : ViewerFault) (old mid new : Viewer) (i : ℕ) (bytes : List ℕ) → ((viewing : Viewing) → FedBy (viewer viewing) (StandsFor viewing) old (take i bytes) None mid) → EndsIn fault mid (drop i bytes) new → KeepsPicture fault old bytes new
 ends_later fault old mid new i bytes fed ends = λ viewing.
-    runs_out_later (viewer viewing) (viewer_machine viewing) (λ s front. EndsAt viewing fault (picture_of new) s front) (StandsFor viewing) old mid i bytes (fed viewing) (ends viewing)
+    runs_out_later (viewer viewing) (viewer_machine viewing) (λ s front. EndsAt viewing fault (picture_of new) s front) (StandsFor viewing) old mid i bytes (fed viewing)
+    (λ s prefix stands.
+    let r = ends viewing s prefix stands in
+    record { items = []; front = r.0; later = r.1; reads = r.2; quiet = refl; asked = r.3 })
 
 none_later : (old mid new : Viewer) (i : ℕ) (bytes : List ℕ) → ((viewing : Viewing) → FedBy (viewer viewing) (StandsFor viewing) old (take i bytes) None mid) → KeepsNone mid new → KeepsNone old new
 none_later old mid new i bytes fed kept = λ viewing s prefix stands. let f = fed viewing s prefix stands in kept viewing f.0 f.1 f.2
@@ -112,28 +116,26 @@ module _ (viewing : Viewing) (old after : Viewer) where
   step_bad s bytes (Bad other) fault h = ap (λ f. Bad f) (sym h)
 
   -- it ends at the bytes of a step
-  step_ends : (unit later bytes : List ℕ) (fault : ViewerFault) (stored : Option (Grid Colour)) → bytes ≡ unit ++ later → (fault ≡ NoMemory → ⊥) → StepsBy (viewer viewing) (StandsFor viewing) old unit (Err fault) after → ((s : ViewerState) (prefix : List ℕ) → StandsFor viewing old s prefix → ShowsLast s.point s.picture (prefix ++ unit) stored) → RunsOutBy (viewer viewing) (λ s front. EndsAt viewing fault stored s front) (StandsFor viewing) old bytes
-  step_ends unit later bytes fault stored cut other steps shows s prefix stands = record {
-    items = [];
-    front = prefix ++ unit;
-    later = later;
-    reads = ap (λ (ys : List ℕ). prefix ++ ys) cut ∙ sym (append_assoc prefix unit later);
-    quiet = refl;
-    asked = record {
+  step_ends : (unit later bytes : List ℕ) (fault : ViewerFault) (stored : Option (Grid Colour)) → bytes ≡ unit ++ later → (fault ≡ NoMemory → ⊥) → StepsBy (viewer viewing) (StandsFor viewing) old unit (Err fault) after → ((s : ViewerState) (prefix : List ℕ) → StandsFor viewing old s prefix → ShowsLast s.point s.picture (prefix ++ unit) stored) → EndsHere viewing fault stored old bytes
+  step_ends unit later bytes fault stored cut other steps shows s prefix stands = (
+    prefix ++ unit,
+    later,
+    ap (λ (ys : List ℕ). prefix ++ ys) cut ∙ sym (append_assoc prefix unit later),
+    record {
       bad = λ _. step_bad s (prefix ++ unit) _ fault (steps s prefix stands);
       asks = λ is. absurd (other is);
       shows = shows s prefix stands;
-    };
-  }
+    },
+  )
 
-  pub head_ends : (part : ArrayVec ℕ) (n : ℕ) (bytes : List ℕ) (fault : WireFault) → old.progress ≡ Head part → StepsBy (viewer viewing) (StandsFor viewing) old (take n bytes) (Err (fault_of_wire fault)) after → RunsOutBy (viewer viewing) (λ s front. EndsAt viewing (fault_of_wire fault) old.picture s front) (StandsFor viewing) old bytes
+  pub head_ends : (part : ArrayVec ℕ) (n : ℕ) (bytes : List ℕ) (fault : WireFault) → old.progress ≡ Head part → StepsBy (viewer viewing) (StandsFor viewing) old (take n bytes) (Err (fault_of_wire fault)) after → EndsHere viewing (fault_of_wire fault) old.picture old bytes
   head_ends part n bytes fault was steps =
       step_ends (take n bytes) (drop n bytes) bytes (fault_of_wire fault) old.picture (sym (take-append-drop n bytes)) (wire_other fault) steps (λ s prefix stands.
       let h = at_head viewing old part s.point s.picture prefix (here viewing old (Head part) s prefix was stands) in
       let left = h.2.left_is in
       subst (λ (a : ServerAt). ShowsLast a s.picture (prefix ++ take n bytes) old.picture) (sym h.1) (inl (λ some. absurd (omega (arith, some, left)), h.3)))
 
-  pub rect_head_ends : (more : ℕ) (part : ArrayVec ℕ) (n : ℕ) (bytes whole : List ℕ) (fault : WireFault) (stored : Option (Grid Colour)) → stored ≡ old.picture → old.progress ≡ RectHead more part → whole ≡ part.items ++ take n bytes → length whole ≡ 12 → StepsBy (viewer viewing) (StandsFor viewing) old (take n bytes) (Err (fault_of_wire fault)) after → RunsOutBy (viewer viewing) (λ s front. EndsAt viewing (fault_of_wire fault) stored s front) (StandsFor viewing) old bytes
+  pub rect_head_ends : (more : ℕ) (part : ArrayVec ℕ) (n : ℕ) (bytes whole : List ℕ) (fault : WireFault) (stored : Option (Grid Colour)) → stored ≡ old.picture → old.progress ≡ RectHead more part → whole ≡ part.items ++ take n bytes → length whole ≡ 12 → StepsBy (viewer viewing) (StandsFor viewing) old (take n bytes) (Err (fault_of_wire fault)) after → EndsHere viewing (fault_of_wire fault) stored old bytes
   rect_head_ends more part n bytes whole fault stored same was is size steps =
       step_ends (take n bytes) (drop n bytes) bytes (fault_of_wire fault) stored (sym (take-append-drop n bytes)) (wire_other fault) steps (λ s prefix stands.
       let h = at_rect_head viewing old more part s.point s.picture prefix (here viewing old (RectHead more part) s prefix was stands) in
@@ -145,7 +147,7 @@ module _ (viewing : Viewing) (old after : Viewer) where
   refused_as : (painter : UnderWay) (k : Painting) (before : Grid Colour) (body unit : List ℕ) (fault : PaintFault) (now : Grid Colour) → painting painter ≡ k → IsRefused painter.form painter.rect (painting painter).encoding before body unit fault now → IsRefused k.form k.rect k.encoding before body unit fault now
   refused_as painter k before body unit fault now is refused = subst (λ (j : Painting). IsRefused j.form j.rect j.encoding before body unit fault now) is refused
 
-  pub opened_ends : (more : ℕ) (part : ArrayVec ℕ) (unit whole rest : List ℕ) (head : HeadOfRect) (picture now : Grid Colour) (painter : UnderWay) (fault : PaintFault) (bytes : List ℕ) → bytes ≡ unit ++ rest → IsOpened viewing old after more part unit whole head picture painter → Refuses painter picture rest now fault → StepsBy (viewer viewing) (StandsFor viewing) old (unit ++ rest) (Err (fault_of_paint fault)) after → RunsOutBy (viewer viewing) (λ s front. EndsAt viewing (fault_of_paint fault) (Some now) s front) (StandsFor viewing) old bytes
+  pub opened_ends : (more : ℕ) (part : ArrayVec ℕ) (unit whole rest : List ℕ) (head : HeadOfRect) (picture now : Grid Colour) (painter : UnderWay) (fault : PaintFault) (bytes : List ℕ) → bytes ≡ unit ++ rest → IsOpened viewing old after more part unit whole head picture painter → Refuses painter picture rest now fault → StepsBy (viewer viewing) (StandsFor viewing) old (unit ++ rest) (Err (fault_of_paint fault)) after → EndsHere viewing (fault_of_paint fault) (Some now) old bytes
   opened_ends more part unit whole rest head picture now painter fault bytes cut opened refuses steps =
       step_ends (unit ++ rest) [] bytes (fault_of_paint fault) (Some now) (cut ∙ sym (append-nil (unit ++ rest))) (paint_other fault) steps (λ s prefix stands.
       let o = opened_at viewing old after s prefix more part unit whole head picture painter opened stands in
@@ -153,7 +155,7 @@ module _ (viewing : Viewing) (old after : Viewer) where
       subst (λ (a : ServerAt). ShowsLast a s.picture (prefix ++ (unit ++ rest)) (Some now)) (sym o.at)
       (inr (o.ready.screen, now, o.ready.picture_is, refl, record { head = head; front = whole; body = []; unit = rest; bytes_are = o.all rest; awaits = o.awaits; fault = fault; refused = refused })))
 
-  pub paint_ends : (more : ℕ) (painter : UnderWay) (picture now : Grid Colour) (bytes : List ℕ) (fault : PaintFault) → old.progress ≡ Data more painter → old.picture ≡ Some picture → Refuses painter picture bytes now fault → StepsBy (viewer viewing) (StandsFor viewing) old bytes (Err (fault_of_paint fault)) after → RunsOutBy (viewer viewing) (λ s front. EndsAt viewing (fault_of_paint fault) (Some now) s front) (StandsFor viewing) old bytes
+  pub paint_ends : (more : ℕ) (painter : UnderWay) (picture now : Grid Colour) (bytes : List ℕ) (fault : PaintFault) → old.progress ≡ Data more painter → old.picture ≡ Some picture → Refuses painter picture bytes now fault → StepsBy (viewer viewing) (StandsFor viewing) old bytes (Err (fault_of_paint fault)) after → EndsHere viewing (fault_of_paint fault) (Some now) old bytes
   paint_ends more painter picture now bytes fault was shown refuses steps =
       step_ends bytes [] bytes (fault_of_paint fault) (Some now) (sym (append-nil bytes)) (paint_other fault) steps (λ s prefix stands.
       let h = at_data viewing old more painter s.point s.picture prefix (here viewing old (Data more painter) s prefix was stands) in
@@ -165,26 +167,23 @@ module _ (viewing : Viewing) (old after : Viewer) where
 
 -- ---- want of memory after a head
 
-pub asked_ends : (viewing : Viewing) (old : Viewer) (part : ArrayVec ℕ) (bytes : List ℕ) → old.progress ≡ Head part → ((s : ViewerState) (prefix : List ℕ) → StandsFor viewing old s prefix → (front later : List ℕ) × (prefix ++ bytes ≡ front ++ later) × AsksMemory viewing s front) → RunsOutBy (viewer viewing) (λ s front. EndsAt viewing NoMemory old.picture s front) (StandsFor viewing) old bytes
+pub asked_ends : (viewing : Viewing) (old : Viewer) (part : ArrayVec ℕ) (bytes : List ℕ) → old.progress ≡ Head part → ((s : ViewerState) (prefix : List ℕ) → StandsFor viewing old s prefix → (front later : List ℕ) × (prefix ++ bytes ≡ front ++ later) × AsksMemory viewing s front) → EndsHere viewing NoMemory old.picture old bytes
 asked_ends viewing old part bytes was asks s prefix stands =
     let r = asks s prefix stands in
     let h = at_head viewing old part s.point s.picture prefix (here viewing old (Head part) s prefix was stands) in
-    let left = h.2.left_is in
-    record {
-      items = [];
-      front = r.0;
-      later = r.1;
-      reads = r.2;
-      quiet = refl;
-      asked = record {
+    let left = h.2.left_is in (
+      r.0,
+      r.1,
+      r.2,
+      record {
         bad = λ other. absurd (other refl);
         asks = λ _. r.3;
         shows = subst (λ (a : ServerAt). ShowsLast a s.picture r.0 old.picture) (sym h.1) (inl (λ some. absurd (omega (arith, some, left)), h.3));
-      };
-    }
+      },
+    )
 
 -- and after the head of a text
-pub head_memory : (viewing : Viewing) (old : Viewer) (part : ArrayVec ℕ) (byte : ℕ) (bytes : List ℕ) (head : ServerHead) → old.progress ≡ Head part → take 1 bytes ≡ byte ∷ [] → ((begun : IsHeadBegun part.items) → SpellsServerHead head (part.items ++ byte ∷ [])) → AsksAfter head → RunsOutBy (viewer viewing) (λ s front. EndsAt viewing NoMemory old.picture s front) (StandsFor viewing) old bytes
+pub head_memory : (viewing : Viewing) (old : Viewer) (part : ArrayVec ℕ) (byte : ℕ) (bytes : List ℕ) (head : ServerHead) → old.progress ≡ Head part → take 1 bytes ≡ byte ∷ [] → ((begun : IsHeadBegun part.items) → SpellsServerHead head (part.items ++ byte ∷ [])) → AsksAfter head → EndsHere viewing NoMemory old.picture old bytes
 head_memory viewing old part byte bytes (CutTextHead n) was one spelled asked =
     asked_ends viewing old part bytes was (λ s prefix stands.
     let r = head_asks viewing old old part byte bytes (CutTextHead n) was one spelled asked s prefix stands in
@@ -212,28 +211,25 @@ module _ (viewing : Viewing) (old : Viewer) where
       let h = at_hello viewing old s.point s.picture prefix (here viewing old Handshake s prefix was stands) in
       subst (λ (a : ServerAt). ShowsLast a s.picture bytes old.picture) (sym h.1) h.5
 
-  bad_ends : (bytes : List ℕ) (fault : HelloFault) → (fault_of_hello fault ≡ NoMemory → ⊥) → old.progress ≡ Handshake → RefusedBy (viewer_end viewing.hello) (HelloStandsFor viewing.hello) old.hello bytes fault → RunsOutBy (viewer viewing) (λ s front. EndsAt viewing (fault_of_hello fault) old.picture s front) (StandsFor viewing) old bytes
+  bad_ends : (bytes : List ℕ) (fault : HelloFault) → (fault_of_hello fault ≡ NoMemory → ⊥) → old.progress ≡ Handshake → RefusedBy (viewer_end viewing.hello) (HelloStandsFor viewing.hello) old.hello bytes fault → EndsHere viewing (fault_of_hello fault) old.picture old bytes
   bad_ends bytes fault other was refused s prefix stands =
-      let r = greet_bad viewing old bytes fault was refused s prefix stands in
-      record {
-        items = [];
-        front = prefix ++ bytes;
-        later = [];
-        reads = sym (append-nil (prefix ++ bytes));
-        quiet = refl;
-        asked = record {
+      let r = greet_bad viewing old bytes fault was refused s prefix stands in (
+        prefix ++ bytes,
+        [],
+        sym (append-nil (prefix ++ bytes)),
+        record {
           bad = λ _. ap (λ (ys : List ℕ). (server_bytes viewing.form viewing.hello).next s.point ys) r.reads ∙ r.bad;
           asks = λ is. absurd (other is);
           shows = first_shown s prefix (prefix ++ bytes) was stands;
-        };
-      }
+        },
+      )
 
-  memory_ends : (bytes : List ℕ) → old.progress ≡ Handshake → ((s : ViewerState) (prefix : List ℕ) → StandsFor viewing old s prefix → (front later : List ℕ) × (prefix ++ bytes ≡ front ++ later) × AsksMemory viewing s front) → RunsOutBy (viewer viewing) (λ s front. EndsAt viewing NoMemory old.picture s front) (StandsFor viewing) old bytes
+  memory_ends : (bytes : List ℕ) → old.progress ≡ Handshake → ((s : ViewerState) (prefix : List ℕ) → StandsFor viewing old s prefix → (front later : List ℕ) × (prefix ++ bytes ≡ front ++ later) × AsksMemory viewing s front) → EndsHere viewing NoMemory old.picture old bytes
   memory_ends bytes was asks s prefix stands =
       let r = asks s prefix stands in
-      record { items = []; front = r.0; later = r.1; reads = r.2; quiet = refl; asked = record { bad = λ other. absurd (other refl); asks = λ _. r.3; shows = first_shown s prefix r.0 was stands } }
+      (r.0, r.1, r.2, record { bad = λ other. absurd (other refl); asks = λ _. r.3; shows = first_shown s prefix r.0 was stands })
 
-  pub greet_ends : (bytes : List ℕ) (fault : HelloFault) → old.progress ≡ Handshake → (fault ≢ HelloMemory → RefusedBy (viewer_end viewing.hello) (HelloStandsFor viewing.hello) old.hello bytes fault) → (fault ≡ HelloMemory → RunsOutBy (viewer_end viewing.hello) (HelloAsks viewing.hello) (HelloStandsFor viewing.hello) old.hello bytes) → RunsOutBy (viewer viewing) (λ s front. EndsAt viewing (fault_of_hello fault) old.picture s front) (StandsFor viewing) old bytes
+  pub greet_ends : (bytes : List ℕ) (fault : HelloFault) → old.progress ≡ Handshake → (fault ≢ HelloMemory → RefusedBy (viewer_end viewing.hello) (HelloStandsFor viewing.hello) old.hello bytes fault) → (fault ≡ HelloMemory → RunsOutBy (viewer_end viewing.hello) (HelloAsks viewing.hello) (HelloStandsFor viewing.hello) old.hello bytes) → EndsHere viewing (fault_of_hello fault) old.picture old bytes
   greet_ends bytes BadVersion was bad out = bad_ends bytes BadVersion (λ e. cc) was (bad (λ e. cc))
   greet_ends bytes VersionTooHigh was bad out = bad_ends bytes VersionTooHigh (λ e. cc) was (bad (λ e. cc))
   greet_ends bytes BadSecurityChoice was bad out = bad_ends bytes BadSecurityChoice (λ e. cc) was (bad (λ e. cc))
@@ -247,7 +243,7 @@ module _ (viewing : Viewing) (old : Viewer) where
       memory_ends bytes was (λ s prefix stands. let r = greet_starves viewing old bytes was (out refl) s prefix stands in (r.front, r.later, r.reads, r.asked))
 
   -- no memory for a screen, where there was none
-  pub screen_ends : (bytes : List ℕ) (n : ℕ) (after : ViewerHello) (d : ViewerStep) → old.progress ≡ Handshake → old.picture ≡ None → FedBy (viewer_end viewing.hello) (HelloStandsFor viewing.hello) old.hello (take n bytes) (Some d) after → ((p : ServerPoint) (i : ServerItem) → handshake_tells viewing.hello p i ≡ Some d → IsScreenAt p None → (version : Version) × (width height name_length : ℕ) × (p ≡ AwaitsInit version) × (i ≡ ServerInit width height name_length)) → RunsOutBy (viewer viewing) (λ s front. EndsAt viewing NoMemory old.picture s front) (StandsFor viewing) old bytes
+  pub screen_ends : (bytes : List ℕ) (n : ℕ) (after : ViewerHello) (d : ViewerStep) → old.progress ≡ Handshake → old.picture ≡ None → FedBy (viewer_end viewing.hello) (HelloStandsFor viewing.hello) old.hello (take n bytes) (Some d) after → ((p : ServerPoint) (i : ServerItem) → handshake_tells viewing.hello p i ≡ Some d → IsScreenAt p None → (version : Version) × (width height name_length : ℕ) × (p ≡ AwaitsInit version) × (i ≡ ServerInit width height name_length)) → EndsHere viewing NoMemory old.picture old bytes
   screen_ends bytes n after d was missing fed is =
       memory_ends bytes was (λ s prefix stands. let r = screen_asks viewing old bytes n after d was missing fed is s prefix stands in (r.front, r.later, r.reads, r.asked))
 

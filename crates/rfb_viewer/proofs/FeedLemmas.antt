@@ -20,7 +20,7 @@ use Rattle.rfb_viewer.specs.declared.viewer.progress.Progress.{Progress}
 use Rattle.rfb_viewer.specs.declared.viewer.progress.Progress.TheVariants.{Handshake, Head, RectHead, Data, Colours, CutText, Failed}
 use Rattle.rfb_viewer.specs.Fault.{fault_of_hello, fault_of_update}
 use Rattle.rfb_viewer.specs.ServerBytes.{ServerAt, server_bytes}
-use Rattle.rfb_viewer.specs.Viewer.{Viewing, viewer}
+use Rattle.rfb_viewer.specs.Viewer.{Viewing, ViewerState, viewer}
 use Rattle.rfb_viewer.specs.Progress.{ProgressStandsFor, fault_in}
 use Rattle.rfb_viewer.specs.Standing.{StandsFor}
 use Rattle.rfb_viewer.proofs.HeadLemmas.{begun_waits}
@@ -56,9 +56,12 @@ waits_at viewing v (CutText n more kept) (Second q) g prefix h =
     rw b.prefix_is (second_waits viewing q (b.head ++ b.text) (message_waits q (b.head ++ b.text) h.0.left_is (server_text_waits n b.head b.text b.head_is (omega (arith, missing)))))
 waits_at viewing v (Failed fault) at g prefix h = absurd h
 
+pub stands_waits : (viewing : Viewing) (v : Viewer) (s : ViewerState) (prefix : List ℕ) → StandsFor viewing v s prefix → (server_bytes viewing.form viewing.hello).next s.point prefix ≡ More
+stands_waits viewing v s prefix stands = waits_at viewing v v.progress s.point s.picture prefix stands.progress_is
+
 -- a call that is fed no bytes
 pub starts : (viewing : Viewing) (v : Viewer) → FedBy (viewer viewing) (StandsFor viewing) v [] None v
-starts viewing v = fed_start (viewer viewing) (StandsFor viewing) v (λ s prefix stands. waits_at viewing v v.progress s.point s.picture prefix stands.progress_is)
+starts viewing v = fed_start (viewer viewing) (StandsFor viewing) v (stands_waits viewing v)
 
 pub not_failed : (p : Progress) → ((fault : ViewerFault) → p ≡ Failed fault → ⊥) → fault_in p ≡ None
 not_failed Handshake not = refl

@@ -9,3 +9,9 @@ pub mod SendingLaws
 pub mod CallLemmas
 pub mod LendLemmas
 pub mod FailLemmas
+pub mod OutsideLemmas
+pub mod DamageLemmas
+pub mod LeastLemmas
+pub mod DamageHeadLemmas
+pub mod DamageStepLemmas
+pub mod DamageFeedLemmas

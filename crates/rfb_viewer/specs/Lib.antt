@@ -9,4 +9,5 @@ pub mod Standing
 pub mod Refusing
 pub mod Showing
 pub mod Failing
+pub mod Damage
 pub mod inside

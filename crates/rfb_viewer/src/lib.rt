@@ -16,7 +16,9 @@
 //!    a message that is to be sent.
 //! 4. `request` asks for an update. One at a time may be outstanding; `UpdateDone` tells its end.
 //!    The first is for all places, later ones for what changed.
-//! 5. An error of `feed` is the last of the connection. The picture stays, with what came before
+//! 5. `damage` is the least rectangle that holds what changed of the picture since it was asked
+//!    last. A window repaints that, whenever it likes.
+//! 6. An error of `feed` is the last of the connection. The picture stays, with what came before
 //!    it; `reason` has what the server said where it refused the handshake.
 //!
 //! | Bytes | Go to |

@@ -4,6 +4,7 @@
 
 mod calls;
 mod cuts;
+mod damage;
 mod encodings;
 mod faults;
 mod handshakes;
@@ -51,6 +52,8 @@ const HELLO_1_BY_1: &[u8] = b"RFB 003.003\n\0\0\0\x01\0\x01\0\x01...............
 const HELLO_2_BY_1: &[u8] = b"RFB 003.003\n\0\0\0\x01\0\x02\0\x01................\0\0\0\0";
 
 const HELLO_17_BY_1: &[u8] = b"RFB 003.003\n\0\0\0\x01\0\x11\0\x01................\0\0\0\0";
+
+const HELLO_8_BY_6: &[u8] = b"RFB 003.003\n\0\0\0\x01\0\x08\0\x06................\0\0\0\0";
 
 // A viewer that took such a handshake.
 fn ready(alloc: Global, format: Format, hello: &[u8]) -> Viewer {

@@ -5,6 +5,7 @@ ghost use Rattle.rfb_viewer.specs.inside.Sound.{is_sound};
 
 mod after;
 mod calls;
+mod damage;
 mod greeting;
 mod lending;
 mod messages;
@@ -15,6 +16,7 @@ use crate::event::ViewerEvent;
 use crate::fault::ViewerFault;
 use crate::setup::ViewerSetup;
 use arrayvec::ArrayVec;
+use damage::Edges;
 use progress::{Progress, Request};
 use rfb_hello::{Fed, Version, ViewerHello};
 use rfb_picture::Picture;
@@ -32,6 +34,7 @@ pub struct Viewer {
     encodings: ArrayVec<Encoding, 4>,
     text_limit: u32,
     picture: Option<Picture<Colour>>,
+    damage: Option<Edges>,
     request: Request,
     progress: Progress,
     ghost sound: { is_sound hello progress picture ≡ true },
@@ -41,8 +44,13 @@ impl Viewer {
     ghost use Rattle.rfb_wire.specs.stream.End.{FedBy, RefusedBy, RunsOutBy, StaysFailed};
     ghost use Rattle.rfb_viewer.specs.declared.fault.ViewerFault.TheVariants.{NoMemory};
     ghost use Rattle.rfb_viewer.specs.Told.{seen};
-    ghost use Rattle.rfb_viewer.specs.Viewer.{Viewing, viewer, first_viewer, AsksMemory};
+    ghost use Rattle.rfb_viewer.specs.Viewer.{Viewing, ViewerState, viewer, first_viewer};
+    ghost use Rattle.rfb_viewer.specs.Viewer.{AsksMemory};
     ghost use Rattle.rfb_viewer.specs.Standing.{StandsFor, viewing_with, fault_of, making_of};
+    ghost use Rattle.rfb_viewer.specs.Standing.{picture_of};
+    ghost use Rattle.rfb_viewer.specs.Damage.{damage_of, ended_of, damaging, IsDamaged};
+    ghost use Rattle.rfb_viewer.specs.Damage.{IsSameOutside, KeepsDamage};
+    ghost use Rattle.rfb_viewer.specs.inside.Damaging.{Damages, EndsIn};
     ghost use Rattle.rfb_viewer.specs.inside.Feeding.{StepsOn, RefusesBy, StarvesBy};
     ghost use Rattle.rfb_viewer.specs.inside.Sound.{IsElsewhere};
     ghost use Rattle.rfb_viewer.specs.Failing.{KeepsPicture, KeepsReason};
@@ -60,9 +68,10 @@ impl Viewer {
         max_places: u32,
         text_limit: u32,
     ) -> Viewer
-        ensures { let viewing =
+        ensures stands { let viewing =
             viewing_with format encodings.items limit shared max_places text_limit in
             StandsFor viewing result first_viewer [] }
+        ensures damage { ended_of result ≡ None }
     {
         Viewer {
             alloc,
@@ -71,6 +80,7 @@ impl Viewer {
             encodings,
             text_limit,
             picture: None,
+            damage: None,
             request: Request::Answered,
             progress: Progress::Handshake,
         }
@@ -78,9 +88,10 @@ impl Viewer {
 
     /// A viewer as `new` makes it, of these.
     pub fn of(alloc: Global, setup: ViewerSetup) -> Viewer
-        ensures { let viewing = viewing_with setup.format setup.encodings.items setup.limit
+        ensures stands { let viewing = viewing_with setup.format setup.encodings.items setup.limit
             setup.shared setup.max_places setup.text_limit in
             StandsFor viewing result first_viewer [] }
+        ensures damage { ended_of result ≡ None }
     {
         Viewer::new(
             alloc,
@@ -105,6 +116,16 @@ impl Viewer {
             → FedBy (viewer viewing) (StandsFor viewing)
             self.old (take fed.used bytes.now) (seen fed.event) self.new) }
         ensures made { making_of self.new ≡ making_of self.old }
+
+        // What of the picture it changes, and the damage that it makes.
+        ensures outside { (viewing : Viewing) (s : ViewerState) (prefix : List ℕ)
+            → StandsFor viewing self.old s prefix
+            → IsSameOutside (damage_of self.new) (picture_of self.old) (picture_of self.new) }
+        ensures damage { IfOk result (λ fed. (viewing : Viewing)
+            → FedBy (damaging viewing) (IsDamaged viewing)
+            self.old (take fed.used bytes.now) (seen fed.event) self.new) }
+        ensures damaged { IfErr result (λ fault. fault_of self.old ≡ None
+            → KeepsDamage fault self.old bytes.now self.new) }
 
         // When a fault comes, when memory is wanting, what is kept, and that it stays.
         ensures fault { IfErr result (λ fault. fault ≢ NoMemory → (viewing : Viewing)
@@ -158,9 +179,12 @@ impl Viewer {
         ensures going { IfOk result (λ fed. fault_of self.new ≡ None) }
         ensures steps { IfOk result (λ fed.
             StepsOn self.old (take fed.used bytes.now) fed.event self.new) }
+        ensures damage { IfOk result (λ fed.
+            Damages self.old (take fed.used bytes.now) self.new) }
+        ensures damaged { IfErr result (λ fault. Damages self.old bytes.now self.new) }
         ensures fault { IfErr result (RefusesBy self.old bytes.now) }
         ensures memory { IfErr result (StarvesBy self.old bytes.now) }
-        ensures picture { IfErr result (λ fault. KeepsPicture fault self.old bytes.now self.new) }
+        ensures picture { IfErr result (λ fault. EndsIn fault self.old bytes.now self.new) }
         ensures reason { IfErr result (λ fault. KeepsReason fault self.old bytes.now self.new) }
         ensures made { making_of self.new ≡ making_of self.old }
         ensures fails { IfErr result (λ fault. fault_of self.new ≡ Some fault) }

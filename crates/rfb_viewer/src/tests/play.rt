@@ -59,6 +59,8 @@ pub enum Step<'a> {
     Between(bool),
     /// What is kept of the reason for a refusal.
     Reason(&'a [u8]),
+    /// What changed since this was asked last.
+    Changed(Option<Rect>),
 }
 
 /// A call that is a message.
@@ -234,6 +236,7 @@ fn is_answered(viewer: &mut Viewer, step: &Step<'_>) -> bool {
         Step::Ask(rect, fault) => request_fault(viewer, rect) == fault,
         Step::SetFormat(fault) => format_fault(viewer) == fault,
         Step::Send(call, bytes) => sends(viewer, call, bytes),
+        Step::Changed(wanted) => viewer.damage() == wanted,
         _ => holds(viewer, step),
     }
 }

@@ -30,6 +30,7 @@ impl Viewer {
     ghost use Rattle.rfb_viewer.specs.Refusing.{call_refused_by, request_refused_by};
     ghost use Rattle.rfb_viewer.specs.Refusing.{format_refused_by};
     ghost use Rattle.rfb_viewer.specs.Standing.{StandsFor, KeepsRest, fault_of, picture_of};
+    ghost use Rattle.rfb_viewer.specs.Damage.{damage_of, ended_of};
 
     /// FramebufferUpdateRequest, section 7.5.3: asks for the area, what has changed of it or all of
     /// it. The request is outstanding until the next `UpdateDone`. `NotReady` before the handshake
@@ -54,6 +55,8 @@ impl Viewer {
         ensures refused { IfErr result (λ fault. self.new ≡ self.old) }
         ensures picture { picture_of self.new ≡ picture_of self.old }
         ensures keeps { KeepsRest self.old self.new }
+        ensures damage { damage_of self.new ≡ damage_of self.old }
+        ensures ended { ended_of self.new ≡ ended_of self.old }
     {
         if !self.is_ready() {
             return Err(CallFault::NotReady);
@@ -91,6 +94,8 @@ impl Viewer {
         ensures refused { IfErr result (λ fault. self.new ≡ self.old) }
         ensures picture { picture_of self.new ≡ picture_of self.old }
         ensures keeps { KeepsRest self.old self.new }
+        ensures damage { damage_of self.new ≡ damage_of self.old }
+        ensures ended { ended_of self.new ≡ ended_of self.old }
     {
         if !self.is_ready() {
             return Err(CallFault::NotReady);

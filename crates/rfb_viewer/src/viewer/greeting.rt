@@ -1,16 +1,18 @@
 //! The handshake of a viewer.
 
 ghost use Rattle.std.specs.Prelude.{◌≡◌, ◌≤◌, ◌<◌, length, take, IfOk, IfErr, OnOk, OnErr, None, Some};
+ghost use Rattle.rfb_viewer.specs.inside.Damaging.{screen_made};
 ghost use Rattle.rfb_viewer.specs.inside.Steps.{screen_or};
 
 use crate::client_messages::ready_answer;
 use crate::event::ViewerEvent;
 use crate::fault::ViewerFault;
 use crate::viewer::Viewer;
+use crate::viewer::damage::{Edges, join};
 use crate::viewer::progress::Progress;
 use arrayvec::ArrayVec;
 use rfb_hello::{Fed, ViewerStep};
-use rfb_picture::Picture;
+use rfb_picture::{Picture, Rect};
 use rfb_pixel::Colour;
 use std::alloc::{AllocError, Global};
 
@@ -21,7 +23,8 @@ impl Viewer {
     ghost use Rattle.rfb_viewer.specs.declared.viewer.progress.Progress.{Progress};
     ghost use Rattle.rfb_viewer.specs.Standing.{fault_of, making_of};
     ghost use Rattle.rfb_viewer.specs.inside.Feeding.{StepsOn, RefusesBy, StarvesBy};
-    ghost use Rattle.rfb_viewer.specs.Failing.{KeepsPicture, KeepsReason};
+    ghost use Rattle.rfb_viewer.specs.Failing.{KeepsReason};
+    ghost use Rattle.rfb_viewer.specs.inside.Damaging.{Damages, EndsIn};
 
     // Takes bytes of the server's handshake, up to the last of its next step, and makes the screen
     // where that tells its size.
@@ -32,9 +35,12 @@ impl Viewer {
         ensures going { IfOk result (λ fed. fault_of self.new ≡ None) }
         ensures steps { IfOk result (λ fed.
             StepsOn self.old (take fed.used bytes.now) fed.event self.new) }
+        ensures damage { IfOk result (λ fed.
+            Damages self.old (take fed.used bytes.now) self.new) }
+        ensures damaged { IfErr result (λ fault. Damages self.old bytes.now self.new) }
         ensures fault { IfErr result (RefusesBy self.old bytes.now) }
         ensures memory { IfErr result (StarvesBy self.old bytes.now) }
-        ensures picture { IfErr result (λ fault. KeepsPicture fault self.old bytes.now self.new) }
+        ensures picture { IfErr result (λ fault. EndsIn fault self.old bytes.now self.new) }
         ensures reason { IfErr result (λ fault. KeepsReason fault self.old bytes.now self.new) }
         ensures made { making_of self.new ≡ making_of self.old }
         ensures fails { IfErr result (λ fault. fault_of self.new ≡ Some fault) }
@@ -54,7 +60,13 @@ impl Viewer {
                 event: Some(ViewerEvent::Reply(reply)),
             }),
             ViewerStep::Screen { width, height } => {
-                let Ok(()) = make_screen(self.alloc, &mut self.picture, width, height) else {
+                let Ok(()) = make_screen(
+                    self.alloc,
+                    &mut self.picture,
+                    &mut self.damage,
+                    width,
+                    height,
+                ) else {
                     return Err(self.progress.fail(ViewerFault::NoMemory));
                 };
                 Ok(Fed { used, event: None })
@@ -66,7 +78,13 @@ impl Viewer {
                 name,
                 name_length,
             } => {
-                let Ok(()) = make_screen(self.alloc, &mut self.picture, width, height) else {
+                let Ok(()) = make_screen(
+                    self.alloc,
+                    &mut self.picture,
+                    &mut self.damage,
+                    width,
+                    height,
+                ) else {
                     return Err(self.progress.fail(ViewerFault::NoMemory));
                 };
                 self.progress = Progress::Head(ArrayVec::new());
@@ -83,19 +101,29 @@ impl Viewer {
     }
 }
 
-// Makes the screen, black, unless there is one.
+// Makes the screen, black, unless there is one. All of it is damage, since all of it is new.
 fn make_screen(
     alloc: Global,
     picture: &mut Option<Picture<Colour>>,
+    damage: &mut Option<Edges>,
     width: u16,
     height: u16,
 ) -> Result<(), AllocError>
     ensures made { OnOk result (picture.new ≡ Some (screen_or width height picture.old)) }
     ensures none { OnErr result (picture.old ≡ None) }
     ensures kept { OnErr result (picture.new ≡ picture.old) }
+    ensures damage { OnOk result (damage.new ≡
+        screen_made picture.old picture.new damage.old) }
+    ensures undamaged { OnErr result (damage.new ≡ damage.old) }
 {
     if picture.is_none() {
-        *picture = Some(Picture::new(alloc, width, height, BLACK)?);
+        let screen = Picture::new(alloc, width, height, BLACK)?;
+        join(
+            damage,
+            Rect::whole(screen.width(), screen.height()),
+            &screen,
+        );
+        *picture = Some(screen);
     }
     Ok(())
 }

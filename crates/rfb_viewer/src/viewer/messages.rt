@@ -19,7 +19,8 @@ impl Viewer {
     ghost use Rattle.rfb_viewer.specs.declared.viewer.progress.Progress.{Progress};
     ghost use Rattle.rfb_viewer.specs.Standing.{fault_of, making_of};
     ghost use Rattle.rfb_viewer.specs.inside.Feeding.{StepsOn, RefusesBy, StarvesBy};
-    ghost use Rattle.rfb_viewer.specs.Failing.{KeepsPicture, KeepsReason};
+    ghost use Rattle.rfb_viewer.specs.Failing.{KeepsReason};
+    ghost use Rattle.rfb_viewer.specs.inside.Damaging.{Damages, EndsIn};
 
     // Takes a byte of a message's head.
     pub(super) fn take_head(&mut self, bytes: &[u8]) -> Result<Fed<ViewerEvent>, ViewerFault>
@@ -29,9 +30,12 @@ impl Viewer {
         ensures going { IfOk result (λ fed. fault_of self.new ≡ None) }
         ensures steps { IfOk result (λ fed.
             StepsOn self.old (take fed.used bytes.now) fed.event self.new) }
+        ensures damage { IfOk result (λ fed.
+            Damages self.old (take fed.used bytes.now) self.new) }
+        ensures damaged { IfErr result (λ fault. Damages self.old bytes.now self.new) }
         ensures fault { IfErr result (RefusesBy self.old bytes.now) }
         ensures memory { IfErr result (StarvesBy self.old bytes.now) }
-        ensures picture { IfErr result (λ fault. KeepsPicture fault self.old bytes.now self.new) }
+        ensures picture { IfErr result (λ fault. EndsIn fault self.old bytes.now self.new) }
         ensures reason { IfErr result (λ fault. KeepsReason fault self.old bytes.now self.new) }
         ensures made { making_of self.new ≡ making_of self.old }
         ensures fails { IfErr result (λ fault. fault_of self.new ≡ Some fault) }
@@ -68,6 +72,7 @@ impl Viewer {
         ensures used { (0 < result.used) × (result.used ≤ length bytes.now) }
         ensures going { fault_of self.new ≡ None }
         ensures steps { StepsOn self.old (take result.used bytes.now) result.event self.new }
+        ensures damage { Damages self.old (take result.used bytes.now) self.new }
         ensures made { making_of self.new ≡ making_of self.old }
     {
         let Progress::Colours { more } = &mut self.progress else {
@@ -96,6 +101,7 @@ impl Viewer {
         ensures used { (0 < result.used) × (result.used ≤ length bytes.now) }
         ensures going { fault_of self.new ≡ None }
         ensures steps { StepsOn self.old (take result.used bytes.now) result.event self.new }
+        ensures damage { Damages self.old (take result.used bytes.now) self.new }
         ensures made { making_of self.new ≡ making_of self.old }
     {
         let Progress::CutText { more, kept, .. } = &mut self.progress else {

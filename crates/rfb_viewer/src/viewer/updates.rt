@@ -8,6 +8,7 @@ use crate::event::ViewerEvent;
 use crate::fault::ViewerFault;
 use crate::viewer::Viewer;
 use crate::viewer::after::{end_of, go_on};
+use crate::viewer::damage::join;
 use crate::viewer::progress::{Progress, RECT_HEAD_PART};
 use rfb_codec::Painter;
 use rfb_hello::Fed;
@@ -30,7 +31,8 @@ impl Viewer {
     ghost use Rattle.rfb_viewer.specs.declared.viewer.progress.Progress.{Progress};
     ghost use Rattle.rfb_viewer.specs.Standing.{fault_of, making_of};
     ghost use Rattle.rfb_viewer.specs.inside.Feeding.{StepsOn, RefusesBy, StarvesBy, end_event};
-    ghost use Rattle.rfb_viewer.specs.Failing.{KeepsPicture, KeepsReason};
+    ghost use Rattle.rfb_viewer.specs.Failing.{KeepsReason};
+    ghost use Rattle.rfb_viewer.specs.inside.Damaging.{Damages, EndsIn};
 
     // Takes bytes of a rectangle's head, and after it those of its data.
     pub(super) fn take_rect_head(&mut self, bytes: &[u8]) -> Result<Fed<ViewerEvent>, ViewerFault>
@@ -41,9 +43,12 @@ impl Viewer {
         ensures going { IfOk result (λ fed. fault_of self.new ≡ None) }
         ensures steps { IfOk result (λ fed.
             StepsOn self.old (take fed.used bytes.now) fed.event self.new) }
+        ensures damage { IfOk result (λ fed.
+            Damages self.old (take fed.used bytes.now) self.new) }
+        ensures damaged { IfErr result (λ fault. Damages self.old bytes.now self.new) }
         ensures fault { IfErr result (RefusesBy self.old bytes.now) }
         ensures memory { IfErr result (StarvesBy self.old bytes.now) }
-        ensures picture { IfErr result (λ fault. KeepsPicture fault self.old bytes.now self.new) }
+        ensures picture { IfErr result (λ fault. EndsIn fault self.old bytes.now self.new) }
         ensures reason { IfErr result (λ fault. KeepsReason fault self.old bytes.now self.new) }
         ensures made { making_of self.new ≡ making_of self.old }
         ensures fails { IfErr result (λ fault. fault_of self.new ≡ Some fault) }
@@ -78,12 +83,16 @@ impl Viewer {
         // A rectangle may have no data, and is then whole with its head.
         let painted = match painter.feed(&bytes[front..], picture) {
             Ok(painted) => painted,
-            Err(fault) => return Err(self.progress.fail(ViewerFault::of_paint(fault))),
+            Err(fault) => {
+                join(&mut self.damage, painter.rect(), picture);
+                return Err(self.progress.fail(ViewerFault::of_paint(fault)));
+            }
         };
         let used = front + painted.used;
         if !painted.done {
             return Ok(Fed { used, event: None });
         }
+        join(&mut self.damage, painter.rect(), picture);
         let ends_update = go_on(&mut self.progress, &mut self.request, more);
         Ok(Fed {
             used,
@@ -101,9 +110,12 @@ impl Viewer {
         ensures going { IfOk result (λ taken. fault_of self.new ≡ None) }
         ensures steps { IfOk result (λ taken.
             StepsOn self.old (take taken.used bytes.now) (end_event taken.ends_update) self.new) }
+        ensures damage { IfOk result (λ taken.
+            Damages self.old (take taken.used bytes.now) self.new) }
+        ensures damaged { IfErr result (λ fault. Damages self.old bytes.now self.new) }
         ensures fault { IfErr result (RefusesBy self.old bytes.now) }
         ensures memory { IfErr result (StarvesBy self.old bytes.now) }
-        ensures picture { IfErr result (λ fault. KeepsPicture fault self.old bytes.now self.new) }
+        ensures picture { IfErr result (λ fault. EndsIn fault self.old bytes.now self.new) }
         ensures reason { IfErr result (λ fault. KeepsReason fault self.old bytes.now self.new) }
         ensures made { making_of self.new ≡ making_of self.old }
         ensures fails { IfErr result (λ fault. fault_of self.new ≡ Some fault) }
@@ -117,7 +129,10 @@ impl Viewer {
         let more = *more;
         let painted = match painter.feed(bytes, picture) {
             Ok(painted) => painted,
-            Err(fault) => return Err(self.progress.fail(ViewerFault::of_paint(fault))),
+            Err(fault) => {
+                join(&mut self.damage, painter.rect(), picture);
+                return Err(self.progress.fail(ViewerFault::of_paint(fault)));
+            }
         };
         let used = painted.used;
         if !painted.done {
@@ -126,6 +141,7 @@ impl Viewer {
                 ends_update: false,
             });
         }
+        join(&mut self.damage, painter.rect(), picture);
         let ends_update = go_on(&mut self.progress, &mut self.request, more);
         Ok(Taken { used, ends_update })
     }

@@ -8,5 +8,5 @@ returns c =
     c.in_ok-link.link c.new-3.result c.width.result c.height.result c.as_slice.result.now _
     c.width.ensures.value c.height.ensures c.as_slice.ensures.value c.copy_of.ensures
     c.width.ensures.whole c.in_ok-session.ensures.stands c.in_ok-session.ensures.follows
-    c.new-viewer.ensures c.in_ok-link.ensures.stands c.in_ok-link.ensures.session
+    c.new-viewer.ensures.stands c.in_ok-link.ensures.stands c.in_ok-link.ensures.session
     (c.new-3.ensures.setup_is ∙ c.setup_of.ensures) c.new-3.ensures.link_is c.new-3.ensures.ours

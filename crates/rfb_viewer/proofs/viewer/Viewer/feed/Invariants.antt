@@ -1,6 +1,8 @@
-use Rattle.std.proofs.Common.{◌≡◌, ◌-◌, ◌≤◌, length, take, None}
+use Rattle.std.proofs.Common.{◌≡◌, ◌-◌, ◌≤◌, ℕ, List, length, take, None}
 use Rattle.rfb_wire.specs.stream.End.{FedBy}
-use Rattle.rfb_viewer.specs.Viewer.{Viewing, viewer}
+use Rattle.rfb_viewer.specs.Damage.{damaging, IsDamaged}
+use Rattle.rfb_viewer.specs.Viewer.{Viewing, ViewerState, viewer}
+use Rattle.rfb_viewer.specs.inside.Damaging.{KeepsOutside}
 use Rattle.rfb_viewer.specs.Standing.{StandsFor, fault_of, making_of}
 use Rattle.rfb_viewer.proofs.viewer.Viewer.feed.Given as goal
 
@@ -11,6 +13,8 @@ invariant-loop-used l = record {
   going : fault_of l.self ≡ None;
   made : making_of l.self ≡ making_of l.fn.self;
   fed : (viewing : Viewing) → FedBy (viewer viewing) (StandsFor viewing) l.fn.self (take l.used l.bytes) None l.self;
+  damage : (viewing : Viewing) → FedBy (damaging viewing) (IsDamaged viewing) l.fn.self (take l.used l.bytes) None l.self;
+  outside : (viewing : Viewing) (s : ViewerState) (prefix : List ℕ) → StandsFor viewing l.fn.self s prefix → KeepsOutside l.fn.self l.self;
 }
 
 abbrev pub decreases-loop-used : goal.decreases-loop-used

@@ -11,6 +11,8 @@ use Rattle.rfb_viewer.specs.Standing.{StandsFor}
 use Rattle.rfb_viewer.proofs.ViewerLaws.{viewer_machine}
 use Rattle.rfb_viewer.proofs.RectLemmas.{IsOpened, rect_part, rect_bad, rect_more, rect_done, rect_fault, step_by, same_painter, same_count, painting_same, head_all, not_false, not_true, past_going}
 use Rattle.rfb_viewer.proofs.FailLemmas.{rect_head_ends, opened_ends, wire_keeps, paint_keeps}
+use Rattle.rfb_viewer.specs.Damage.{joined, under_way}
+use Rattle.rfb_viewer.proofs.DamageHeadLemmas.{past_none, past_sound, part_damages, bad_damages, head_damages}
 use Rattle.rfb_viewer.proofs.viewer.Viewer.take_rect_head.Goals as goal
 
 pub returns-in_default-whole-clause-steps : goal.returns-in_default-whole-clause-steps
@@ -164,3 +166,47 @@ returns-in-Err-clause-reason c = rw (c.fail-in-Err.ensures.value, c.of_paint.ens
 
 pub invariant_of-self-then-not-painted : goal.invariant_of-self-then-not-painted
 invariant_of-self-then-not-painted c = grind (arith, common_steps)
+
+pub invariant_of-self-2 : goal.invariant_of-self-2
+invariant_of-self-2 c = record { sound = past_sound c.args.self.now.hello c.in-RectHead.more c.go_on-ends_update.new.progress c.feed.new.picture c.go_on-ends_update.ensures.progress }
+
+pub returns-in_default-whole-clause-damage : goal.returns-in_default-whole-clause-damage
+returns-in_default-whole-clause-damage c =
+    let part = c.gather-front.ensures.more c.in_default-whole.is in
+    part_damages c.args.self.now _ c.in-RectHead.more c.in-RectHead.head c.in-RectHead.is c.gather-front.new.part (take c.gather-front.result.0 c.args.bytes.now) part.0 part.1 refl
+
+pub returns-in-Bad-clause-damaged : goal.returns-in-Bad-clause-damaged
+returns-in-Bad-clause-damaged c =
+    let gathered = rw c.in-Some.is at c.gather-front.ensures.whole in
+    let whole = c.in-Some.whole.items in
+    let slice : c.as_slice.result.now ≡ whole = c.as_slice.ensures.value in
+    let told = rw (c.width-width.ensures.value, c.height-height.ensures, slice) at c.in-Bad.ensures.bad in
+    bad_damages c.args.self.now _ c.in-RectHead.more c.in-RectHead.head c.in-RectHead.is c.gather-front.result.0 c.args.bytes.now whole c.in-Bad.fault c.in-Some-picture.picture gathered.0 gathered.1 c.in-Some-picture.is told refl
+
+pub returns-in-Err-clause-damaged : goal.returns-in-Err-clause-damaged
+returns-in-Err-clause-damaged c =
+    let gathered = rw c.in-Some.is at c.gather-front.ensures.whole in
+    let whole = c.in-Some.whole.items in
+    let slice : c.as_slice.result.now ≡ whole = c.as_slice.ensures.value in
+    let got = rw (c.width-width.ensures.value, c.height-height.ensures, slice) at c.in-Got.ensures.got in
+    let same : c.new.result ≡ c.in-Data.painter = same_painter _ _ c.new.result c.in-Data.painter c.in-Data.is in
+    let rect = c.rect.ensures ∙ c.feed.ensures.rect ∙ ap (λ p. p.rect) (sym same) ∙ ap (λ p. p.rect) c.new.ensures.value in
+    let front = c.gather-front.result.0 in
+    head_damages c.args.self.now _ c.in-RectHead.more c.in-RectHead.head c.in-RectHead.is (take front c.args.bytes.now) (drop front c.args.bytes.now) c.args.bytes.now whole c.in-Got.head c.in-Some-picture.picture
+    (sym (take-append-drop front c.args.bytes.now)) gathered.0 c.in-Some-picture.is (head_all whole _ c.in-Got.head gathered.1 got.0 got.1) got.2 (ap under_way c.fail-in-Err.ensures.after)
+    (c.join.ensures ∙ ap (joined c.args.self.now.damage) rect)
+
+pub returns-clause-damage : goal.returns-clause-damage
+returns-clause-damage c =
+    let gathered = rw c.in-Some.is at c.gather-front.ensures.whole in
+    let whole = c.in-Some.whole.items in
+    let slice : c.as_slice.result.now ≡ whole = c.as_slice.ensures.value in
+    let got = rw (c.width-width.ensures.value, c.height-height.ensures, slice) at c.in-Got.ensures.got in
+    let same : c.new.result ≡ c.in-Data.painter = same_painter _ _ c.new.result c.in-Data.painter c.in-Data.is in
+    let rect = c.rect-2.ensures ∙ c.feed.ensures.rect ∙ ap (λ p. p.rect) (sym same) ∙ ap (λ p. p.rect) c.new.ensures.value in
+    let front = c.gather-front.result.0 in
+    let used = c.in-Ok.painted.used in
+    head_damages c.args.self.now _ c.in-RectHead.more c.in-RectHead.head c.in-RectHead.is (take front c.args.bytes.now) (take used (drop front c.args.bytes.now)) (take (front + used) c.args.bytes.now) whole c.in-Got.head c.in-Some-picture.picture
+    (take_add front used c.args.bytes.now) gathered.0 c.in-Some-picture.is (head_all whole _ c.in-Got.head gathered.1 got.0 got.1) got.2
+    (ap under_way c.go_on-ends_update.ensures.progress ∙ past_none c.in-RectHead.more)
+    (c.join-2.ensures ∙ ap (joined c.args.self.now.damage) rect)
