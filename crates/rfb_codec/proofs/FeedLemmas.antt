@@ -19,7 +19,8 @@ use Rattle.rfb_codec.specs.RectData.{data_says, rect_data}
 use Rattle.rfb_codec.specs.Front.{ShowsFront}
 use Rattle.rfb_codec.specs.Hextile.{tile_count, tile_width, tile_height}
 use Rattle.rfb_codec.specs.Stage.{encoding_at, is_ended, is_sound, StandsAt, IsRefused}
-use Rattle.rfb_codec.specs.inside.Step.{stage_of, GoesOn, Stops}
+use Rattle.rfb_codec.specs.declared.painter.rectangle.Rectangle.{Rectangle}
+use Rattle.rfb_codec.specs.inside.Step.{stage_of, GoesOn, Stops, Reaches, Breaks}
 use Rattle.rfb_codec.specs.UnderWay.{Paints, Waits, Refuses}
 use Rattle.rfb_codec.proofs.RectDataLaws.{rect_data_reads}
 use Rattle.rfb_codec.proofs.VerdictLemmas.{whole_under, stage_ended, stage_waits}
@@ -101,6 +102,29 @@ stopped f rect first stage none pending old picture new i bytes slice fault is s
     let bad = subst (λ (ys : List ℕ). rect_data f before.width before.height rect (encoding_at stage) ys ≡ Bad fault) (slices i (r.n + 1) body bytes slice is ∙ ap (λ (n : ℕ). body ++ take n bytes) last) r.bad in
     let shows = subst (λ (ys : List ℕ). ShowsFront f rect (encoding_at stage) before ys r.pending new) (slices i r.n body bytes slice is) r.shows in
     record { n = i + r.n; pending = r.pending; within = omega (arith, left, below); bad = rw same at bad; shows = rw same at shows }
+
+-- ---- the same of steps
+
+module _ (r : Rectangle) (first : Stage) (none : List ℕ) (old : Grid Colour) where
+  pub reaches_none : (bytes : List ℕ) → is_sound r.format r.rect first (length none) ≡ true → Reaches r first none old (take 0 bytes) first none old
+  reaches_none bytes sound = record { sound = sound; same = refl; goes_on = fed_none r.format r.rect first none old bytes; width = refl; height = refl }
+
+  pub reaches_more : (stage next : Stage) (pending rest : List ℕ) (picture new : Grid Colour) (i n : ℕ) (bytes slice : List ℕ) → slice ≡ drop i bytes → Reaches r first none old (take i bytes) stage pending picture → Reaches r stage pending picture (take n slice) next rest new → Reaches r first none old (take (i + n) bytes) next rest new
+  reaches_more stage next pending rest picture new i n bytes slice is one two = record {
+    sound = two.sound;
+    same = two.same ∙ one.same;
+    goes_on = fed_more r.format r.rect first stage next none pending rest old picture new i n bytes slice is one.goes_on two.goes_on;
+    width = two.width ∙ one.width;
+    height = two.height ∙ one.height;
+  }
+
+  pub breaks_later : (stage : Stage) (pending rest : List ℕ) (picture new : Grid Colour) (i : ℕ) (bytes slice : List ℕ) (fault : PaintFault) → slice ≡ drop i bytes → Reaches r first none old (take i bytes) stage pending picture → Breaks r stage pending picture slice fault rest new → Breaks r first none old bytes fault rest new
+  breaks_later stage pending rest picture new i bytes slice fault is one two = record {
+    stops = stopped r.format r.rect first stage none pending old picture new i bytes slice fault is one.same one.goes_on two.stops;
+    emptied = two.emptied;
+    width = two.width ∙ one.width;
+    height = two.height ∙ one.height;
+  }
 
 -- ---- a slice
 

@@ -56,6 +56,7 @@ pub mod FrontLemmas
 pub mod ByteLemmas
 pub mod TakeTileLemmas
 pub mod RawTileLemmas
+pub mod RectangleLemmas
 pub mod TileFaultLemmas
 pub mod TakePartLemmas
 pub mod LeastLemmas

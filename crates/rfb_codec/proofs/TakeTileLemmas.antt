@@ -11,6 +11,7 @@ use Rattle.rfb_picture.specs.Grid.{Grid, IsGrid, at_or}
 use Rattle.rfb_picture.proofs.GridLaws.{same_changes, same_grid, at-changed, whole-changed, whole_before, width-changed, height-changed}
 use Rattle.rfb_wire.specs.stream.Reading.{Next, More, Got}
 use Rattle.rfb_wire.specs.RectHead.{IsOnScreen}
+use Rattle.rfb_wire.specs.declared.encoding.Encoding.TheVariants.{Hextile}
 use Rattle.rfb_codec.specs.declared.fault.PaintFault.{PaintFault}
 use Rattle.rfb_codec.specs.declared.hextile.paint.tile_read.TileRead.{TileRead}
 use Rattle.rfb_codec.specs.declared.hextile.paint.tile_read.Seen.{Seen}
@@ -24,7 +25,7 @@ use Rattle.rfb_codec.specs.Stage.{Sees}
 use Rattle.rfb_codec.specs.Hextile.{next_tile}
 use Rattle.rfb_codec.specs.Painter.{over}
 use Rattle.rfb_codec.specs.Front.{SpellsTiles, BeginsTile, pixels_over, tiles_over, tile_places}
-use Rattle.rfb_codec.specs.Stage.{StandsAt, is_sound}
+use Rattle.rfb_codec.specs.Stage.{StandsAt, encoding_at, is_sound}
 use Rattle.rfb_codec.specs.inside.Step.{DrawsTile, TellsNext, IsGoodTile}
 use Rattle.rfb_codec.proofs.HextileEncodeLemmas.{listed_more, shown_before}
 use Rattle.rfb_codec.proofs.TileLaws.{tile_says, tile_reads}
@@ -220,3 +221,10 @@ front_sound f rect n seen pending rest bytes step below wide high size none shor
         let all : rest ≡ [] = told.1 ∙ none in
         rw (told.0, all) (all_four n 0 0 0 (tile_count rect.w rect.h) (tile_width rect.w n) (tile_height rect.w rect.h n) (size_of f) below wide high size)
     by false e = let told = other e in rw (told.0, told.1) (below_it (length bytes) 1536 short)
+
+pub front_some : (n : ℕ) (seen : Seen) (pending rest bytes : List ℕ) (step : Step) → 0 < length bytes → (is_raw (slice_index bytes 0) ≡ true → (step ≡ record { used = 1; stage = InRawTile n seen (record { x = 0; y = 0 }) }) × (rest ≡ pending)) → (is_raw (slice_index bytes 0) ≡ false → (step ≡ record { used = length bytes; stage = InTiles n seen }) × (rest ≡ bytes)) → (0 < step.used) × (step.used ≤ length bytes) × (encoding_at step.stage ≡ Hextile)
+front_some n seen pending rest bytes step some raw other = by (is_raw (slice_index bytes 0)) refl
+  where
+    by : (b : Bool) → is_raw (slice_index bytes 0) ≡ b → (0 < step.used) × (step.used ≤ length bytes) × (encoding_at step.stage ≡ Hextile)
+    by true e = rw (raw e).0 (omega arith, omega arith, refl)
+    by false e = rw (other e).0 (omega arith, omega arith, refl)

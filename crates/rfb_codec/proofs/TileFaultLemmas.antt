@@ -1,5 +1,5 @@
 -- Faults of tiles, each at its byte, and raw tiles, which have none.
-use Rattle.std.proofs.Common.{◌≡◌, ℕ, zero, suc, ◌+◌, ◌<◌, ◌≤◌, nat_le, List, [], ◌∷◌, ◌++◌, Bool, true, false, None, Err, length, take, drop, inl, inr, refl, sym, subst, ◌∙◌, ap, append-nil, append_assoc, arith}
+use Rattle.std.proofs.Common.{◌≡◌, ℕ, zero, suc, ◌+◌, ◌<◌, ◌≤◌, nat_le, List, [], ◌∷◌, ◌++◌, Bool, true, false, None, Result, Ok, Err, length, take, drop, inl, inr, refl, sym, subst, ◌∙◌, ap, append-nil, append_assoc, arith}
 use Rattle.std.specs.Prelude.{slice_index}
 use Rattle.std.proofs.lemmas.List.{get_or-take}
 use Rattle.std.proofs.lemmas.Bool.{cases_lt}
@@ -15,6 +15,8 @@ use Rattle.rfb_wire.specs.stream.Parts.{named}
 use Rattle.rfb_wire.proofs.stream_laws.PartLaws.{piece_short}
 use Rattle.rfb_codec.specs.declared.fault.PaintFault.{PaintFault}
 use Rattle.rfb_codec.specs.declared.hextile.paint.tile_read.Seen.{Seen}
+use Rattle.rfb_codec.specs.declared.painter.rectangle.Rectangle.{Rectangle}
+use Rattle.rfb_codec.specs.declared.painter.stage.Step.{Step}
 use Rattle.rfb_codec.specs.declared.painter.stage.Stage.TheVariants.{InTiles}
 use Rattle.rfb_codec.specs.Raw.{raw_length}
 use Rattle.rfb_codec.specs.Tile.{Tile, RawTile, is_raw, subrects_colored, after_mask, mask_fault}
@@ -24,7 +26,7 @@ use Rattle.rfb_codec.specs.Hextile.{next_tile}
 use Rattle.rfb_codec.specs.RectData.{Pixels, rect_data}
 use Rattle.rfb_codec.specs.Front.{SomeTiles, BeginsTile, ShowsFront}
 use Rattle.rfb_codec.specs.Stage.{StandsAt, IsRefused}
-use Rattle.rfb_codec.specs.inside.Step.{TellsNext}
+use Rattle.rfb_codec.specs.inside.Step.{TellsNext, Reaches, Steps}
 use Rattle.rfb_codec.proofs.HextileLaws.{hextile_reads}
 use Rattle.rfb_codec.proofs.TileLaws.{tile_says, tile_reads}
 use Rattle.rfb_codec.proofs.PaintTileLemmas.{tile_got}
@@ -132,3 +134,23 @@ first_refused f rect before body (byte ∷ rest) fault now some r =
     let bad : rect_data f before.width before.height rect Hextile (body ++ take (0 + 1) (byte ∷ [])) ≡ Bad fault = rw none at r.bad in
     let shows : ShowsFront f rect Hextile before (body ++ take 0 (byte ∷ [])) r.pending now = rw none at r.shows in
     record { n = 0; pending = r.pending; within = omega arith; bad = bad; shows = shows }
+
+-- a step of the first of them is one of all
+pub first_steps : (r : Rectangle) (n : ℕ) (seen : Seen) (pending rest bytes : List ℕ) (old new : Grid Colour) (result : Result Step PaintFault) → 0 < length bytes → Steps r (InTiles n seen) pending old (slice_index bytes 0 ∷ []) result rest new → Steps r (InTiles n seen) pending old bytes result rest new
+first_steps r n seen pending rest [] old new result some steps = absurd (omega arith)
+first_steps r n seen pending rest (byte ∷ bytes) old new (Ok step) some steps =
+    let few : step.used ≤ 1 = steps.used in
+    let begun : 0 < step.used = steps.some in
+    let one : step.used ≡ 1 = omega arith in
+    let same : take step.used (byte ∷ []) ≡ take step.used (byte ∷ bytes) = rw one refl in
+    record {
+      some = begun;
+      used = omega arith;
+      reaches = subst (λ (ys : List ℕ). Reaches r (InTiles n seen) pending old ys step.stage rest new) same steps.reaches;
+    }
+first_steps r n seen pending rest (byte ∷ bytes) old new (Err fault) some steps = record {
+  stops = λ before body stands. first_refused r.format r.rect before body (byte ∷ bytes) fault new some (steps.stops before body stands);
+  emptied = steps.emptied;
+  width = steps.width;
+  height = steps.height;
+}

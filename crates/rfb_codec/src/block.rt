@@ -167,8 +167,7 @@ fn pack_each_row(pixels: &mut [u32; PLACES], format: Format, picture: &Picture<C
         (take (rect.h * rect.w) pixels.new) }
     ensures fits { ArePixels format (take (rect.h * rect.w) pixels.new) }
 {
-    // It tells that the rectangle's lower edge fits 16 bits.
-    let _rows = picture.height();
+    prove!(rect.h <= picture.height());
     let columns = usize::from(rect.w);
     for y in 0..rect.h {
         let row = picture.row(rect.x, rect.y + y, rect.w);

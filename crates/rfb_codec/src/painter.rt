@@ -11,6 +11,7 @@ pub mod fill;
 pub mod gather;
 mod joining;
 mod pieces;
+pub mod rectangle;
 pub mod stage;
 
 use crate::fault::PaintFault;
@@ -18,6 +19,7 @@ use crate::hextile::NOTHING;
 use arrayvec::ArrayVec;
 use gather::Pending;
 use joining::joins;
+use rectangle::Rectangle;
 use rfb_picture::{Picture, Rect};
 use rfb_pixel::{Colour, Format};
 use rfb_wire::Encoding;
@@ -42,8 +44,7 @@ pub struct Painted {
 /// byte, keeps the bytes of the piece under way, at most 1,535, and takes no memory.
 #[derive(Debug, Drop)]
 pub struct Painter {
-    rect: Rect,
-    format: Format,
+    rectangle: Rectangle,
     stage: Stage,
     pending: Pending,
 }
@@ -57,9 +58,15 @@ impl Model for Painter {
     ghost Value = { UnderWay };
 
     ghost view = { λ p.
-        record { rect = p.rect; form = p.format; stage = p.stage; pending = p.pending.items } };
+        record {
+          rect = p.rectangle.rect;
+          form = p.rectangle.format;
+          stage = p.stage;
+          pending = p.pending.items;
+        } };
 
-    ghost invariant = { λ p. is_sound p.format p.rect p.stage (array_vec_len p.pending) ≡ true };
+    ghost invariant = { λ p.
+        is_sound p.rectangle.format p.rectangle.rect p.stage (array_vec_len p.pending) ≡ true };
 }
 
 impl Painter {
@@ -71,11 +78,9 @@ impl Painter {
         ensures fresh { result.pending ≡ [] }
         ensures stands { (picture : Grid Colour) → StandsFor result picture picture [] }
     {
-        // It tells that a pixel has bytes.
-        let _size = format.size();
+        let rectangle = Rectangle::new(format, rect);
         Painter {
-            rect,
-            format,
+            rectangle,
             stage: first_stage(encoding),
             pending: ArrayVec::new(),
         }
@@ -114,9 +119,8 @@ impl Painter {
         ensures width { picture.new.width ≡ picture.old.width }
         ensures height { picture.new.height ≡ picture.old.height }
     {
-        // It tells that the picture has a colour at each place.
-        let _width = picture.width();
-        if bytes.len() == 1 && joins(self.format, self.rect, self.stage, &self.pending) {
+        prove!(self.rectangle.lies_in(picture));
+        if bytes.len() == 1 && joins(&self.rectangle, self.stage, &self.pending) {
             self.pending.push(bytes[0]);
             return Ok(Painted {
                 used: 1,
@@ -124,8 +128,7 @@ impl Painter {
             });
         }
         let step = pieces::feed(
-            self.format,
-            self.rect,
+            &self.rectangle,
             self.stage,
             &mut self.pending,
             bytes,
@@ -134,7 +137,7 @@ impl Painter {
         self.stage = step.stage;
         Ok(Painted {
             used: step.used,
-            done: pieces::is_ended(self.rect, step.stage),
+            done: pieces::is_ended(self.rectangle.rect, step.stage),
         })
     }
 
@@ -142,7 +145,7 @@ impl Painter {
     pub fn rect(&self) -> Rect
         ensures { result ≡ self.now.rect }
     {
-        self.rect
+        self.rectangle.rect
     }
 
     /// How many bytes of the piece under way are kept. The mask of a raw tile is not among them.
@@ -150,8 +153,6 @@ impl Painter {
         ensures value { result ≡ length self.now.pending }
         ensures few { result < 1536 }
     {
-        // It tells how few they are.
-        let _size = self.format.size();
         self.pending.len()
     }
 }

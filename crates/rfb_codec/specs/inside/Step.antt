@@ -1,23 +1,28 @@
 -- What the parts of a painter promise: a step of it, from one stage to the next. No public clause
 -- reads these words.
-use Rattle.std.specs.Prelude.{◌≡◌, ℕ, ◌+◌, ◌*◌, ◌^◌, ◌<◌, ◌==◌, if◌then◌else◌, List, [], ◌∷◌, ◌++◌, length, Option, None, Result}
+use Rattle.std.specs.Prelude.{◌≡◌, ℕ, ◌+◌, ◌*◌, ◌^◌, ◌<◌, ◌≤◌, ◌==◌, if◌then◌else◌, true, false, List, [], ◌∷◌, ◌++◌, length, take, Option, None, Result, Ok, Err}
 use Rattle.rfb_pixel.specs.declared.colour.Colour.{Colour}
-use Rattle.rfb_pixel.specs.Format.{PixelFormat, size_of}
+use Rattle.rfb_pixel.specs.Format.{PixelFormat, size_of, colour_of}
 use Rattle.rfb_picture.specs.declared.rect.Rect.{Rect}
-use Rattle.rfb_picture.specs.Grid.{Grid, IsGrid, Holds}
+use Rattle.rfb_picture.specs.Grid.{Grid, IsGrid, Holds, filled}
 use Rattle.rfb_wire.specs.declared.encoding.Encoding.{Encoding}
 use Rattle.rfb_wire.specs.declared.encoding.Encoding.TheVariants.{Raw, CopyRect, Rre, Hextile}
+use Rattle.rfb_wire.specs.RectHead.{IsOnScreen}
+use Rattle.rfb_codec.specs.declared.subrect.Subrect.{Subrect}
 use Rattle.rfb_codec.specs.declared.fault.PaintFault.{PaintFault}
+use Rattle.rfb_codec.specs.declared.fault.PaintFault.TheVariants.{SubrectOutside}
 use Rattle.rfb_codec.specs.declared.hextile.paint.tile_read.Seen.{Seen}
 use Rattle.rfb_codec.specs.declared.hextile.paint.tile_read.TileRead.{TileRead}
 use Rattle.rfb_codec.specs.declared.painter.stage.Place.{Place}
 use Rattle.rfb_codec.specs.declared.painter.stage.Stage.{Stage}
+use Rattle.rfb_codec.specs.declared.painter.stage.Step.{Step}
+use Rattle.rfb_codec.specs.declared.painter.rectangle.Rectangle.{Rectangle}
 use Rattle.rfb_codec.specs.declared.painter.stage.Stage.TheVariants.{BeforeSource, Copied, InPixels, BeforeHead, InSubrects, InTiles, InRawTile}
 use Rattle.rfb_codec.specs.Tile.{Tile, AreInside, places_of}
 use Rattle.rfb_codec.specs.Hextile.{tile_width, tile_height, next_tile}
 use Rattle.rfb_codec.specs.inside.TileRead.{LiesIn, TellsTile, tile_of_read, least_size}
 use Rattle.rfb_codec.specs.Front.{SpellsPixels, pixels_over, tiles_over}
-use Rattle.rfb_codec.specs.Stage.{Sees, StandsAt, IsRefused, encoding_at, places_before}
+use Rattle.rfb_codec.specs.Stage.{Sees, StandsAt, IsRefused, encoding_at, is_ended, is_sound, places_before}
 
 -- the rectangle lies in a picture, whose places are numbered in 16 bits
 pub record IsPaintable (picture : Grid Colour) (rect : Rect) : Type 0 where
@@ -79,6 +84,24 @@ DrawsTile f rect n seen tile old next new =
     old ≡ tiles_over f rect n tiles before
     → Sees (tiles ++ tile ∷ []) next × (new ≡ tiles_over f rect (n + 1) (tiles ++ tile ∷ []) before)
 
+-- the subrectangle is painted where it lies, if it lies in the rectangle
+pub record PaintsSubrect (r : Rectangle) (part : Subrect) (old new : Grid Colour) : Type 0 where
+  pub inside : IsOnScreen r.rect.w r.rect.h part.rect
+  pub value : new ≡ filled (moved_into r.rect part.rect) (colour_of r.format part.pixel) old
+  pub width : new.width ≡ old.width
+  pub height : new.height ≡ old.height
+
+pub record RefusesSubrect (r : Rectangle) (part : Subrect) (old : Grid Colour)
+    (fault : PaintFault) (new : Grid Colour) : Type 0 where
+  pub outside : IsOnScreen r.rect.w r.rect.h part.rect → ⊥
+  pub fault_is : fault ≡ SubrectOutside
+  pub kept : new ≡ old
+
+abbrev pub DrawsSubrect : Rectangle → Subrect → Grid Colour → Result (Unit {0}) PaintFault →
+    Grid Colour → Type 0
+DrawsSubrect r part old (Ok done) new = PaintsSubrect r part old new
+DrawsSubrect r part old (Err fault) new = RefusesSubrect r part old fault new
+
 -- what stood for data stands for them with these bytes
 abbrev pub GoesOn : PixelFormat → Rect → Stage → List ℕ → Grid Colour → List ℕ → Stage → List ℕ →
     Grid Colour → Type 0
@@ -91,6 +114,57 @@ abbrev pub Stops : PixelFormat → Rect → Stage → List ℕ → Grid Colour �
 Stops f rect stage pending picture bytes now fault =
     (before : Grid Colour) (body : List ℕ) → StandsAt f rect stage pending picture before body →
     IsRefused f rect (encoding_at stage) before body bytes fault now
+
+-- ---- a step
+
+-- what stood for data at a stage stands for them with these bytes at the next one, of the same
+-- encoding, and the picture keeps its size
+pub record Reaches (r : Rectangle) (stage : Stage) (pending : List ℕ) (picture : Grid Colour)
+    (bytes : List ℕ) (next : Stage) (rest : List ℕ) (now : Grid Colour) : Type 0 where
+  pub sound : is_sound r.format r.rect next (length rest) ≡ true
+  pub same : encoding_at next ≡ encoding_at stage
+  pub goes_on : GoesOn r.format r.rect stage pending picture bytes next rest now
+  pub width : now.width ≡ picture.width
+  pub height : now.height ≡ picture.height
+
+-- some of the bytes are taken
+pub record Takes (r : Rectangle) (stage : Stage) (pending : List ℕ) (picture : Grid Colour)
+    (bytes : List ℕ) (step : Step) (rest : List ℕ) (now : Grid Colour) : Type 0 where
+  pub some : 0 < step.used
+  pub used : step.used ≤ length bytes
+  pub reaches : Reaches r stage pending picture (take step.used bytes) step.stage rest now
+
+-- they are taken up to the last one of the data
+pub record TakesAll (r : Rectangle) (stage : Stage) (pending : List ℕ) (picture : Grid Colour)
+    (bytes : List ℕ) (step : Step) (rest : List ℕ) (now : Grid Colour) : Type 0 where
+  pub some : is_ended r.rect stage ≡ false → 0 < length bytes → 0 < step.used
+  pub used : step.used ≤ length bytes
+  pub all : is_ended r.rect step.stage ≡ false → step.used ≡ length bytes
+  pub reaches : Reaches r stage pending picture (take step.used bytes) step.stage rest now
+
+-- they show a fault, and nothing is pending
+pub record Breaks (r : Rectangle) (stage : Stage) (pending : List ℕ) (picture : Grid Colour)
+    (bytes : List ℕ) (fault : PaintFault) (rest : List ℕ) (now : Grid Colour) : Type 0 where
+  pub stops : Stops r.format r.rect stage pending picture bytes now fault
+  pub emptied : length rest ≡ 0
+  pub width : now.width ≡ picture.width
+  pub height : now.height ≡ picture.height
+
+-- a step takes some of the bytes, or these show a fault
+abbrev pub Steps : Rectangle → Stage → List ℕ → Grid Colour → List ℕ → Result Step PaintFault →
+    List ℕ → Grid Colour → Type 0
+Steps r stage pending picture bytes (Ok step) rest now =
+    Takes r stage pending picture bytes step rest now
+Steps r stage pending picture bytes (Err fault) rest now =
+    Breaks r stage pending picture bytes fault rest now
+
+-- steps take all of the bytes, or these show a fault
+abbrev pub StepsAll : Rectangle → Stage → List ℕ → Grid Colour → List ℕ → Result Step PaintFault →
+    List ℕ → Grid Colour → Type 0
+StepsAll r stage pending picture bytes (Ok step) rest now =
+    TakesAll r stage pending picture bytes step rest now
+StepsAll r stage pending picture bytes (Err fault) rest now =
+    Breaks r stage pending picture bytes fault rest now
 
 -- ---- a byte that only joins those pending
 

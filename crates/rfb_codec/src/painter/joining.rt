@@ -7,23 +7,26 @@ ghost use Rattle.rfb_codec.specs.inside.Step.{piece_size, Joins};
 
 use super::gather::Pending;
 use super::pieces::is_ended;
+use super::rectangle::Rectangle;
 use super::stage::Stage;
 use crate::hextile::least_size;
-use rfb_picture::Rect;
 use rfb_pixel::Format;
 
 /// Whether the piece under way has more bytes than those pending and the next one, so that this one
 /// is pending too, whatever it is, and nothing else changes.
 #[inline(always)]
-pub fn joins(format: Format, rect: Rect, stage: Stage, pending: &Pending) -> bool
-    requires { is_sound format rect stage (array_vec_len pending.now) ≡ true }
-    ensures left { result ≡ true → is_ended rect stage ≡ false }
-    ensures joins { result ≡ true → Joins format rect stage pending.now.items }
-    ensures sound { result ≡ true →
-        is_sound format rect stage (array_vec_len pending.now + 1) ≡ true }
+pub fn joins(rectangle: &Rectangle, stage: Stage, pending: &Pending) -> bool
+    requires { is_sound rectangle.now.format rectangle.now.rect stage
+        (array_vec_len pending.now) ≡ true }
+    ensures left { result ≡ true → is_ended rectangle.now.rect stage ≡ false }
+    ensures joins { result ≡ true →
+        Joins rectangle.now.format rectangle.now.rect stage pending.now.items }
+    ensures sound { result ≡ true → is_sound rectangle.now.format rectangle.now.rect stage
+        (array_vec_len pending.now + 1) ≡ true }
     ensures room { result ≡ true → array_vec_len pending.now + 2 ≤ 1536 }
 {
-    pending.len() + 1 < piece_size(format, stage, pending) && !is_ended(rect, stage)
+    pending.len() + 1 < piece_size(rectangle.format, stage, pending)
+        && !is_ended(rectangle.rect, stage)
 }
 
 // The fewest bytes that the piece under way has.

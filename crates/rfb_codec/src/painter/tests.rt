@@ -154,7 +154,7 @@ fn paints_in(
     last: &[Colour],
 ) -> Result<bool, Fail> {
     let mut picture = Picture::new(alloc, ground.width, ground.height, ground.colour)?;
-    if !picture.holds(painter.rect) {
+    if !picture.holds(painter.rect()) {
         return Ok(false);
     }
     let told = fed_in(&mut painter, &mut picture, data, slices);

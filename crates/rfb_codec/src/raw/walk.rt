@@ -1,17 +1,18 @@
 //! Pixels row by row, in runs of whole ones and across the slices that they come in.
 
-ghost use Rattle.std.specs.Prelude.{◌≡◌, ℕ, List, ◌+◌, ◌*◌, ◌<◌, ◌≤◌, ◌++◌, length, take, true, min};
+ghost use Rattle.std.specs.Prelude.{◌≡◌, ℕ, List, ◌+◌, ◌*◌, ◌<◌, ◌≤◌, ◌++◌, length, take, min};
 ghost use Rattle.arrayvec.specs.ArrayVec.{array_vec_len};
 ghost use Rattle.rfb_pixel.specs.declared.colour.Colour.{Colour};
 ghost use Rattle.rfb_pixel.specs.Format.{size_of};
 ghost use Rattle.rfb_picture.specs.Grid.{Grid};
 ghost use Rattle.rfb_codec.specs.declared.painter.stage.Stage.TheVariants.{InPixels};
 ghost use Rattle.rfb_codec.specs.inside.Step.{IsPaintable};
-ghost use Rattle.rfb_codec.specs.Stage.{places_before, encoding_at, is_sound};
-ghost use Rattle.rfb_codec.specs.inside.Step.{StandsPixels, GoesOn};
+ghost use Rattle.rfb_codec.specs.Stage.{places_before};
+ghost use Rattle.rfb_codec.specs.inside.Step.{StandsPixels, Takes};
 
 use super::paint::{paint_lines, paint_run};
 use crate::painter::gather::{Pending, gather};
+use crate::painter::rectangle::Rectangle;
 use crate::painter::stage::{Place, Stage, Step};
 use rfb_picture::{Picture, Rect};
 use rfb_pixel::{Colour, Format};
@@ -79,27 +80,21 @@ pub fn take_pixels(
 /// Takes pixels of Raw, from a place of the rectangle on.
 #[inline(never)]
 pub fn take_run(
-    format: Format,
-    rect: Rect,
+    rectangle: &Rectangle,
     at: Place,
     pending: &mut Pending,
     bytes: &[u8],
     picture: &mut Picture<Colour>,
 ) -> Step
-    requires place { IsPaintable picture.old rect }
-    requires column { at.x < rect.w }
-    requires row { at.y < rect.h }
-    requires short { array_vec_len pending.old < size_of format }
+    requires place { IsPaintable picture.old rectangle.now.rect }
+    requires column { at.x < rectangle.now.rect.w }
+    requires row { at.y < rectangle.now.rect.h }
+    requires short { array_vec_len pending.old < size_of rectangle.now.format }
     requires some { 0 < length bytes.now }
-    ensures some { 0 < result.used }
-    ensures used { result.used ≤ length bytes.now }
-    ensures sound { is_sound format rect result.stage (array_vec_len pending.new) ≡ true }
-    ensures same { encoding_at result.stage ≡ encoding_at (InPixels at) }
-    ensures goes_on { GoesOn format rect (InPixels at) pending.old.items picture.old
-        (take result.used bytes.now) result.stage pending.new.items picture.new }
-    ensures width { picture.new.width ≡ picture.old.width }
-    ensures height { picture.new.height ≡ picture.old.height }
+    ensures { Takes rectangle.now (InPixels at) pending.old.items picture.old bytes.now result
+        pending.new.items picture.new }
 {
+    let Rectangle { format, rect } = *rectangle;
     let (used, at) = take_pixels(format, rect, at, pending, bytes, picture);
     Step {
         used,

@@ -1,14 +1,12 @@
 //! Tiles from the slices that they come in: one that is not raw at its last byte, and the mask of
 //! one that is.
 
-ghost use Rattle.std.specs.Prelude.{◌≡◌, ◌+◌, ◌<◌, ◌≤◌, [], ◌∷◌, length, take, slice_index, true, false, IfOk, IfErr, OnErr};
+ghost use Rattle.std.specs.Prelude.{◌≡◌, ◌<◌, [], ◌∷◌, length, slice_index, true, false};
 ghost use Rattle.arrayvec.specs.ArrayVec.{array_vec_len};
 ghost use Rattle.rfb_codec.specs.declared.painter.stage.Stage.TheVariants.{InTiles, InRawTile};
 ghost use Rattle.rfb_codec.specs.Tile.{is_raw};
 ghost use Rattle.rfb_codec.specs.Hextile.{tile_count};
-ghost use Rattle.rfb_codec.specs.inside.Step.{IsPaintable};
-ghost use Rattle.rfb_codec.specs.inside.Step.{GoesOn, Stops};
-ghost use Rattle.rfb_codec.specs.Stage.{encoding_at, is_sound};
+ghost use Rattle.rfb_codec.specs.inside.Step.{IsPaintable, Steps};
 
 use super::least::least_size;
 use super::next::{draw_next, read_next};
@@ -16,46 +14,33 @@ use super::tile_read::Seen;
 use crate::fault::PaintFault;
 use crate::hextile::mask::RAW;
 use crate::painter::gather::{Pending, gather};
+use crate::painter::rectangle::Rectangle;
 use crate::painter::stage::{Place, Stage, Step};
-use rfb_picture::{Picture, Rect};
-use rfb_pixel::{Colour, Format};
+use rfb_picture::Picture;
+use rfb_pixel::Colour;
 
 /// Takes the tile that the bytes begin with, the mask of a raw one, or bytes of another, which is
 /// painted at its last byte. A mask is judged at its byte, and subrectangles that leave the tile at
 /// the tile's last byte.
 pub fn take_tile(
-    format: Format,
-    rect: Rect,
+    rectangle: &Rectangle,
     tile: usize,
     seen: Seen,
     pending: &mut Pending,
     bytes: &[u8],
     picture: &mut Picture<Colour>,
 ) -> Result<Step, PaintFault>
-    requires place { IsPaintable picture.old rect }
-    requires below { tile < tile_count rect.w rect.h }
+    requires place { IsPaintable picture.old rectangle.now.rect }
+    requires below { tile < tile_count rectangle.now.rect.w rectangle.now.rect.h }
     requires short { array_vec_len pending.old < 1536 }
     requires some { 0 < length bytes.now }
-    ensures some { IfOk result (λ step. 0 < step.used) }
-    ensures used { IfOk result (λ step. step.used ≤ length bytes.now) }
-    ensures sound { IfOk result (λ step.
-        is_sound format rect step.stage (array_vec_len pending.new) ≡ true) }
-    ensures same { IfOk result (λ step. encoding_at step.stage ≡ encoding_at (InTiles tile seen)) }
-    ensures goes_on { IfOk result (λ step.
-        GoesOn format rect (InTiles tile seen) pending.old.items picture.old
-        (take step.used bytes.now) step.stage pending.new.items picture.new) }
-    ensures fault { IfErr result
-        (Stops format rect (InTiles tile seen) pending.old.items picture.old
-        bytes.now picture.new) }
-    ensures emptied { OnErr result (array_vec_len pending.new ≡ 0) }
-    ensures width { picture.new.width ≡ picture.old.width }
-    ensures height { picture.new.height ≡ picture.old.height }
+    ensures { Steps rectangle.now (InTiles tile seen) pending.old.items picture.old bytes.now result
+        pending.new.items picture.new }
 {
     if !pending.is_empty() {
-        return take_more(format, rect, tile, seen, pending, bytes, picture);
+        return take_more(rectangle, tile, seen, pending, bytes, picture);
     }
-    // It tells that a pixel has bytes.
-    let _size = format.size();
+    let Rectangle { format, rect } = *rectangle;
     match read_next(format, rect, tile, seen, bytes) {
         Err(fault) => Err(fault),
         Ok(Some(read)) => {
@@ -107,35 +92,22 @@ fn take_front(tile: usize, seen: Seen, pending: &mut Pending, bytes: &[u8]) -> S
 // Takes bytes more of a tile that is not raw: all but the last of those that it has at least, or
 // that one.
 fn take_more(
-    format: Format,
-    rect: Rect,
+    rectangle: &Rectangle,
     tile: usize,
     seen: Seen,
     pending: &mut Pending,
     bytes: &[u8],
     picture: &mut Picture<Colour>,
 ) -> Result<Step, PaintFault>
-    requires place { IsPaintable picture.old rect }
-    requires below { tile < tile_count rect.w rect.h }
+    requires place { IsPaintable picture.old rectangle.now.rect }
+    requires below { tile < tile_count rectangle.now.rect.w rectangle.now.rect.h }
     requires pending { 0 < array_vec_len pending.old }
     requires short { array_vec_len pending.old < 1536 }
     requires some { 0 < length bytes.now }
-    ensures some { IfOk result (λ step. 0 < step.used) }
-    ensures used { IfOk result (λ step. step.used ≤ length bytes.now) }
-    ensures sound { IfOk result (λ step.
-        is_sound format rect step.stage (array_vec_len pending.new) ≡ true) }
-    ensures same { IfOk result (λ step. encoding_at step.stage ≡ encoding_at (InTiles tile seen)) }
-    ensures goes_on { IfOk result (λ step.
-        GoesOn format rect (InTiles tile seen) pending.old.items picture.old
-        (take step.used bytes.now) step.stage pending.new.items picture.new) }
-    ensures fault { IfErr result
-        (Stops format rect (InTiles tile seen) pending.old.items picture.old
-        bytes.now picture.new) }
-    ensures emptied { OnErr result (array_vec_len pending.new ≡ 0) }
-    ensures width { picture.new.width ≡ picture.old.width }
-    ensures height { picture.new.height ≡ picture.old.height }
+    ensures { Steps rectangle.now (InTiles tile seen) pending.old.items picture.old bytes.now result
+        pending.new.items picture.new }
 {
-    let least = least_size(format, pending.as_slice());
+    let least = least_size(rectangle.format, pending.as_slice());
     if pending.len() + 1 < least {
         let used = gather(pending, least - 1, bytes);
         return Ok(Step {
@@ -143,37 +115,26 @@ fn take_more(
             stage: Stage::InTiles { tile, seen },
         });
     }
-    take_byte(format, rect, tile, seen, pending, bytes[0], picture)
+    take_byte(rectangle, tile, seen, pending, bytes[0], picture)
 }
 
 // Takes a byte more of a tile that is not raw.
 fn take_byte(
-    format: Format,
-    rect: Rect,
+    rectangle: &Rectangle,
     tile: usize,
     seen: Seen,
     pending: &mut Pending,
     byte: u8,
     picture: &mut Picture<Colour>,
 ) -> Result<Step, PaintFault>
-    requires place { IsPaintable picture.old rect }
-    requires below { tile < tile_count rect.w rect.h }
+    requires place { IsPaintable picture.old rectangle.now.rect }
+    requires below { tile < tile_count rectangle.now.rect.w rectangle.now.rect.h }
     requires some { 0 < array_vec_len pending.old }
     requires short { array_vec_len pending.old < 1536 }
-    ensures one { IfOk result (λ step. step.used ≡ 1) }
-    ensures sound { IfOk result (λ step.
-        is_sound format rect step.stage (array_vec_len pending.new) ≡ true) }
-    ensures same { IfOk result (λ step. encoding_at step.stage ≡ encoding_at (InTiles tile seen)) }
-    ensures goes_on { IfOk result (λ step.
-        GoesOn format rect (InTiles tile seen) pending.old.items picture.old (byte ∷ [])
-        step.stage pending.new.items picture.new) }
-    ensures fault { IfErr result
-        (Stops format rect (InTiles tile seen) pending.old.items picture.old
-        (byte ∷ []) picture.new) }
-    ensures emptied { OnErr result (array_vec_len pending.new ≡ 0) }
-    ensures width { picture.new.width ≡ picture.old.width }
-    ensures height { picture.new.height ≡ picture.old.height }
+    ensures { Steps rectangle.now (InTiles tile seen) pending.old.items picture.old (byte ∷ [])
+        result pending.new.items picture.new }
 {
+    let Rectangle { format, rect } = *rectangle;
     pending.push(byte);
     let bytes = pending.as_slice();
     match read_next(format, rect, tile, seen, bytes) {

@@ -147,7 +147,7 @@ pub fn answers(
     bytes: &[u8],
     wanted: Result<Painted, PaintFault>,
 ) -> bool {
-    if !picture.holds(painter.rect) {
+    if !picture.holds(painter.rect()) {
         return false;
     }
     painter.feed(bytes, picture) == wanted

@@ -1,6 +1,7 @@
-use Rattle.std.proofs.Common.{◌≡◌, ◌∙◌, ◌+◌, take, length, true, false, refl, sym, subst, arith}
+use Rattle.std.proofs.Common.{◌≡◌, ◌∙◌, ◌+◌, take, length, true, false, refl, sym, subst, arith, rules}
 use Rattle.std.proofs.lemmas.Result.{err_from_is_err_and}
 use Rattle.rfb_codec.specs.Stage.{is_ended}
+use Rattle.rfb_codec.specs.inside.Step.{IsPaintable}
 use Rattle.rfb_codec.specs.UnderWay.{UnderWay, Paints, Waits, Refuses}
 use Rattle.rfb_codec.proofs.FeedLemmas.{feed_paints, feed_waits, feed_refuses}
 use Rattle.rfb_codec.proofs.JoinLemmas.{byte_joined}
@@ -10,7 +11,7 @@ pub returns-in_err-step-clause-fault : goal.returns-in_err-step-clause-fault
 returns-in_err-step-clause-fault c =
     let old = c.self.inside in
     let fault = c.in_err-step.field-0.0 in
-    let refuses = feed_refuses old.format old.rect old.stage old.pending.items c.args.picture.now c.feed.new.picture c.args.bytes.now fault c.in_err-step.ensures.fault in
+    let refuses = feed_refuses old.rectangle.format old.rectangle.rect old.stage old.pending.items c.args.picture.now c.feed.new.picture c.args.bytes.now fault c.in_err-step.ensures.stops in
     let here = subst (λ (p : UnderWay). Refuses p c.args.picture.now c.args.bytes.now c.feed.new.picture fault) c.self.view_is refuses in
     let p = err_from_is_err_and c.from_residual.result c.from_residual.ensures.1 in
     rw (p.1, p.2) here
@@ -19,19 +20,20 @@ pub returns-clause-done : goal.returns-clause-done
 returns-clause-done c = λ ended.
     let old = c.self.inside in
     let step = c.in_ok-step.step in
-    let ended' : is_ended old.rect step.stage ≡ true = sym c.is_ended.ensures ∙ ended in
-    let paints = feed_paints old.format old.rect old.stage step.stage old.pending.items c.feed.new.pending.items c.args.picture.now c.feed.new.picture (take step.used c.args.bytes.now) c.width-width.ensures.whole ended' c.in_ok-step.ensures.same c.in_ok-step.ensures.goes_on in
-    let next : UnderWay = record { rect = old.rect; form = old.format; stage = step.stage; pending = c.feed.new.pending.items } in
+    let ended' : is_ended old.rectangle.rect step.stage ≡ true = sym c.is_ended.ensures ∙ ended in
+    let place : IsPaintable c.args.picture.now old.rectangle.rect = search rules in
+    let paints = feed_paints old.rectangle.format old.rectangle.rect old.stage step.stage old.pending.items c.feed.new.pending.items c.args.picture.now c.feed.new.picture (take step.used c.args.bytes.now) place.whole ended' c.in_ok-step.ensures.reaches.same c.in_ok-step.ensures.reaches.goes_on in
+    let next : UnderWay = record { rect = old.rectangle.rect; form = old.rectangle.format; stage = step.stage; pending = c.feed.new.pending.items } in
     subst (λ (p : UnderWay). Paints p c.args.picture.now (take step.used c.args.bytes.now) next c.feed.new.picture) c.self.view_is paints
 
 pub returns-clause-more : goal.returns-clause-more
 returns-clause-more c = λ ended.
     let old = c.self.inside in
     let step = c.in_ok-step.step in
-    let ended' : is_ended old.rect step.stage ≡ false = sym c.is_ended.ensures ∙ ended in
+    let ended' : is_ended old.rectangle.rect step.stage ≡ false = sym c.is_ended.ensures ∙ ended in
     let all : step.used ≡ length c.args.bytes.now = c.in_ok-step.ensures.all ended' in
-    let waits = feed_waits old.format old.rect old.stage step.stage old.pending.items c.feed.new.pending.items c.args.picture.now c.feed.new.picture step.used c.args.bytes.now all ended' c.in_ok-step.ensures.sound c.in_ok-step.ensures.same c.in_ok-step.ensures.goes_on in
-    let next : UnderWay = record { rect = old.rect; form = old.format; stage = step.stage; pending = c.feed.new.pending.items } in
+    let waits = feed_waits old.rectangle.format old.rectangle.rect old.stage step.stage old.pending.items c.feed.new.pending.items c.args.picture.now c.feed.new.picture step.used c.args.bytes.now all ended' c.in_ok-step.ensures.reaches.sound c.in_ok-step.ensures.reaches.same c.in_ok-step.ensures.reaches.goes_on in
+    let next : UnderWay = record { rect = old.rectangle.rect; form = old.rectangle.format; stage = step.stage; pending = c.feed.new.pending.items } in
     subst (λ (p : UnderWay). Waits p c.args.picture.now c.args.bytes.now next c.feed.new.picture) c.self.view_is waits
 
 pub returns-then-joins-clause-more : goal.returns-then-joins-clause-more
@@ -40,6 +42,6 @@ returns-then-joins-clause-more c = λ ended.
     let rest = c.push.new.self.items in
     let one : length c.args.bytes.now ≡ 1 = omega (arith, c.if-bytes-eq1.true) in
     let long : length rest ≡ length old.pending.items + 1 = c.push.ensures.len in
-    let waits = byte_joined old.format old.rect old.stage old.pending.items rest c.args.picture.now c.args.bytes.now one (c.if-joins.ensures.left refl) (rw long (c.if-joins.ensures.sound refl)) c.push.ensures.items (c.if-joins.ensures.joins refl) in
-    let next : UnderWay = record { rect = old.rect; form = old.format; stage = old.stage; pending = rest } in
+    let waits = byte_joined old.rectangle.format old.rectangle.rect old.stage old.pending.items rest c.args.picture.now c.args.bytes.now one (c.if-joins.ensures.left refl) (rw long (c.if-joins.ensures.sound refl)) c.push.ensures.items (c.if-joins.ensures.joins refl) in
+    let next : UnderWay = record { rect = old.rectangle.rect; form = old.rectangle.format; stage = old.stage; pending = rest } in
     subst (λ (p : UnderWay). Waits p c.args.picture.now c.args.bytes.now next c.args.picture.now) c.self.view_is waits

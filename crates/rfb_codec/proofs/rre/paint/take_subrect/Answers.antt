@@ -1,35 +1,40 @@
-use Rattle.std.proofs.Common.{◌≡◌, ◌∙◌, ◌+◌, ◌-◌, ◌++◌, [], ℕ, length, take, refl, ap, arith}
-use Rattle.std.proofs.lemmas.Grind.{common_steps}
+use Rattle.std.proofs.Common.{◌≡◌, ◌∙◌, ◌+◌, ◌-◌, ◌<◌, ◌++◌, [], ℕ, length, take, refl, ap, arith}
 use Rattle.std.proofs.lemmas.Bool.Decides.{nat_tests}
 use Rattle.std.proofs.lemmas.Result.{err_from_is_err_and}
-use Rattle.arrayvec.specs.ArrayVec.{array_vec_len}
 use Rattle.rfb_pixel.specs.Format.{size_of}
 use Rattle.rfb_codec.specs.declared.fault.PaintFault.TheVariants.{SubrectOutside}
 use Rattle.rfb_codec.specs.declared.painter.stage.Stage.TheVariants.{InSubrects}
-use Rattle.rfb_codec.specs.inside.Step.{Stops}
+use Rattle.rfb_codec.specs.inside.Step.{Breaks}
 use Rattle.rfb_codec.proofs.FrontLemmas.{no_items}
-use Rattle.rfb_codec.proofs.TakePartLemmas.{subrect_taken, subrect_refused}
+use Rattle.rfb_codec.proofs.TakePartLemmas.{subrect_taken, subrect_refused, subrect_waits}
 use Rattle.rfb_codec.proofs.rre.paint.take_subrect.Goals as goal
 
-pub returns-then-bytes-size-clause-sound : goal.returns-then-bytes-size-clause-sound
-returns-then-bytes-size-clause-sound c =
-    let none : array_vec_len c.args.pending.now ≡ 0 = grind (arith, nat_tests) in
-    rw none c.take_whole.ensures.sound
-
-pub returns-then-bytes-size-clause-goes_on : goal.returns-then-bytes-size-clause-goes_on
-returns-then-bytes-size-clause-goes_on c =
+pub returns-then-bytes-size : goal.returns-then-bytes-size
+returns-then-bytes-size c =
     let none : c.args.pending.now.items ≡ [] = no_items c.args.pending.now.items (grind (arith, nat_tests)) in
-    rw none c.take_whole.ensures.goes_on
+    rw none c.take_whole.ensures
 
-pub returns-then-bytes-size-clause-fault : goal.returns-then-bytes-size-clause-fault
-returns-then-bytes-size-clause-fault c =
-    let none : c.args.pending.now.items ≡ [] = no_items c.args.pending.now.items (grind (arith, nat_tests)) in
-    rw none c.take_whole.ensures.fault
+pub returns-then-len-size : goal.returns-then-len-size
+returns-then-len-size c =
+    let r = c.args.rectangle.now in
+    let rest = c.gather-used.new.pending.items in
+    let short : length rest < size_of r.format + 8 = omega (arith, c.size-size.ensures.value) in
+    record {
+      some = omega (arith, c.size-size.ensures.value);
+      used = c.gather-used.ensures.used;
+      reaches = record {
+        sound = grind (arith, nat_tests);
+        same = refl;
+        goes_on = λ before body stands.
+            subrect_waits r.format r.rect c.args.left c.args.pending.now.items (take c.gather-used.result c.args.bytes.now) rest c.args.picture.now before body c.requires.left c.gather-used.ensures.items short stands;
+        width = refl;
+        height = refl;
+      };
+    }
 
-pub returns-in_err-drawn-clause-fault : goal.returns-in_err-drawn-clause-fault
-returns-in_err-drawn-clause-fault c =
-    let f = c.args.format in
-    let rect = c.args.rect in
+pub returns-in_err-drawn : goal.returns-in_err-drawn
+returns-in_err-drawn c =
+    let r = c.args.rectangle.now in
     let bytes = c.args.bytes.now in
     let pending = c.args.pending.now.items in
     let xs = c.as_slice.result.now in
@@ -37,19 +42,35 @@ returns-in_err-drawn-clause-fault c =
     let k = used - 1 in
     let last : used ≡ k + 1 = omega (arith, c.size-size.ensures.value) in
     let is : xs ≡ pending ++ take (k + 1) bytes = c.as_slice.ensures.value ∙ c.gather-used.ensures.items ∙ ap (λ (n : ℕ). pending ++ take n bytes) last in
-    let whole : length xs ≡ size_of f + 8 = ap length c.as_slice.ensures.value ∙ omega (arith, c.size-size.ensures.value) in
-    let stops : Stops f rect (InSubrects c.args.left) pending c.args.picture.now bytes c.draw_subrect-drawn.new.picture SubrectOutside = λ before body stands.
-    rw c.in_err-drawn.ensures.kept (subrect_refused f rect c.args.left k pending bytes xs c.args.picture.now before body c.requires.left (omega (arith, c.size-size.ensures.value)) is whole c.in_err-drawn.ensures.outside stands) in
+    let whole : length xs ≡ size_of r.format + 8 = ap length c.as_slice.ensures.value ∙ omega (arith, c.size-size.ensures.value) in
+    let refuses = c.in_err-drawn.ensures in
+    let breaks : Breaks r (InSubrects c.args.left) pending c.args.picture.now bytes SubrectOutside c.clear.new.self.items c.draw_subrect-drawn.new.picture = rw refuses.kept (record {
+      stops = λ before body stands.
+          subrect_refused r.format r.rect c.args.left k pending bytes xs c.args.picture.now before body c.requires.left (omega (arith, c.size-size.ensures.value)) is whole refuses.outside stands;
+      emptied = ap length c.clear.ensures;
+      width = refl;
+      height = refl;
+    }) in
     let p = err_from_is_err_and c.from_residual.result c.from_residual.ensures.1 in
-    rw (p.1, p.2, c.in_err-drawn.ensures.fault) stops
+    rw (p.1, p.2, refuses.fault_is) breaks
 
-pub returns-clause-goes_on : goal.returns-clause-goes_on
-returns-clause-goes_on c = λ before body stands.
-    let f = c.args.format in
+pub returns : goal.returns
+returns c =
+    let r = c.args.rectangle.now in
     let used = c.gather-used.result in
     let xs = c.as_slice.result.now in
-    let whole : length xs ≡ size_of f + 8 = ap length c.as_slice.ensures.value ∙ omega (arith, c.size-size.ensures.value) in
-    subrect_taken f c.args.rect c.args.left (c.args.left - 1) c.args.pending.now.items (take used c.args.bytes.now) xs c.clear.new.self.items c.args.picture.now c.draw_subrect-drawn.new.picture before body c.requires.left refl (c.as_slice.ensures.value ∙ c.gather-used.ensures.items) whole c.clear.ensures c.in_ok-drawn.ensures.inside c.requires.place.whole c.in_ok-drawn.ensures.value stands
-
-pub returns-then-len-size-clause-goes_on : goal.returns-then-len-size-clause-goes_on
-returns-then-len-size-clause-goes_on c = grind (arith, common_steps)
+    let whole : length xs ≡ size_of r.format + 8 = ap length c.as_slice.ensures.value ∙ omega (arith, c.size-size.ensures.value) in
+    let none : length c.clear.new.self.items ≡ 0 = ap length c.clear.ensures in
+    let drawn = c.in_ok-drawn.ensures in
+    record {
+      some = omega (arith, c.size-size.ensures.value);
+      used = c.gather-used.ensures.used;
+      reaches = record {
+        sound = grind (arith, nat_tests);
+        same = refl;
+        goes_on = λ before body stands.
+            subrect_taken r.format r.rect c.args.left (c.args.left - 1) c.args.pending.now.items (take used c.args.bytes.now) xs c.clear.new.self.items c.args.picture.now c.draw_subrect-drawn.new.picture before body c.requires.left refl (c.as_slice.ensures.value ∙ c.gather-used.ensures.items) whole c.clear.ensures drawn.inside c.requires.place.whole drawn.value stands;
+        width = drawn.width;
+        height = drawn.height;
+      };
+    }

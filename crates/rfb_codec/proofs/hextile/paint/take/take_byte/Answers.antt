@@ -1,4 +1,5 @@
-use Rattle.std.proofs.Common.{◌≡◌, ◌∙◌, [], ◌∷◌, ◌++◌, List, ℕ, None, Ok, drop, subst}
+use Rattle.std.proofs.Common.{◌≡◌, ◌∙◌, ◌<◌, [], ◌∷◌, ◌++◌, List, ℕ, None, Ok, length, drop, ap, refl, subst, arith}
+use Rattle.std.proofs.lemmas.Bool.Decides.{nat_tests}
 use Rattle.rfb_codec.specs.Hextile.{tile_width, tile_height}
 use Rattle.rfb_codec.specs.inside.TileRead.{tile_of_read}
 use Rattle.rfb_codec.specs.inside.Step.{TellsNext}
@@ -6,14 +7,21 @@ use Rattle.rfb_codec.proofs.TakeTileLemmas.{byte_waits, last_taken, tile_goes_on
 use Rattle.rfb_codec.proofs.TileFaultLemmas.{byte_refused}
 use Rattle.rfb_codec.proofs.hextile.paint.take.take_byte.Goals as goal
 
-pub returns-in-Err-clause-fault : goal.returns-in-Err-clause-fault
-returns-in-Err-clause-fault c = λ before body stands.
-    byte_refused c.args.format c.args.rect c.args.tile c.args.seen c.args.pending.now.items c.as_slice-bytes.result.now c.args.byte c.in-Err.fault c.args.picture.now before body c.requires.below (c.as_slice-bytes.ensures.value ∙ c.push.ensures.items) c.in-Err.ensures.told stands
+pub returns-in-Err : goal.returns-in-Err
+returns-in-Err c =
+    let r = c.args.rectangle.now in
+    record {
+      stops = λ before body stands.
+          byte_refused r.format r.rect c.args.tile c.args.seen c.args.pending.now.items c.as_slice-bytes.result.now c.args.byte c.in-Err.fault c.args.picture.now before body c.requires.below (c.as_slice-bytes.ensures.value ∙ c.push.ensures.items) c.in-Err.ensures.told stands;
+      emptied = ap length c.clear.ensures;
+      width = refl;
+      height = refl;
+    }
 
-pub returns-in-Ok-Some-clause-goes_on : goal.returns-in-Ok-Some-clause-goes_on
-returns-in-Ok-Some-clause-goes_on c = λ before body stands.
-    let f = c.args.format in
-    let rect = c.args.rect in
+pub returns-in-Ok-Some : goal.returns-in-Ok-Some
+returns-in-Ok-Some c =
+    let f = c.args.rectangle.now.format in
+    let rect = c.args.rectangle.now.rect in
     let n = c.args.tile in
     let pending = c.args.pending.now.items in
     let xs = c.as_slice-bytes.result.now in
@@ -21,11 +29,39 @@ returns-in-Ok-Some-clause-goes_on c = λ before body stands.
     let t = tile_of_read f (tile_width rect.w n) (tile_height rect.w rect.h n) read xs in
     let told = rw c.in-Ok-Some.field-0-is at c.in-Ok-Some.ensures.told in
     let is : xs ≡ pending ++ c.args.byte ∷ [] = c.as_slice-bytes.ensures.value ∙ c.push.ensures.items in
-    tile_goes_on f rect n c.args.seen c.draw_next-seen.result t pending (c.args.byte ∷ []) xs c.clear-in-Ok-Some.new.self.items c.args.picture.now c.draw_next-seen.new.picture before body c.requires.below is c.clear-in-Ok-Some.ensures c.draw_next-seen.ensures.value
-    (λ tiles number sees begins. last_taken f rect.w rect.h tiles pending xs c.args.byte t (drop read.used xs) begins is (told tiles number sees).0) stands
+    let none : length c.clear-in-Ok-Some.new.self.items ≡ 0 = ap length c.clear-in-Ok-Some.ensures in
+    record {
+      some = omega arith;
+      used = omega arith;
+      reaches = record {
+        sound = grind (arith, nat_tests);
+        same = refl;
+        goes_on = λ before body stands.
+            tile_goes_on f rect n c.args.seen c.draw_next-seen.result t pending (c.args.byte ∷ []) xs c.clear-in-Ok-Some.new.self.items c.args.picture.now c.draw_next-seen.new.picture before body c.requires.below is c.clear-in-Ok-Some.ensures c.draw_next-seen.ensures.value
+            (λ tiles number sees begins. last_taken f rect.w rect.h tiles pending xs c.args.byte t (drop read.used xs) begins is (told tiles number sees).0) stands;
+        width = c.draw_next-seen.ensures.width;
+        height = c.draw_next-seen.ensures.height;
+      };
+    }
 
-pub returns-in-Ok-None-clause-goes_on : goal.returns-in-Ok-None-clause-goes_on
-returns-in-Ok-None-clause-goes_on c = λ before body stands.
+pub returns-in-Ok-None : goal.returns-in-Ok-None
+returns-in-Ok-None c =
+    let f = c.args.rectangle.now.format in
+    let rect = c.args.rectangle.now.rect in
+    let rest = c.push.new.self.items in
     let told = rw c.in-Ok-None.field-0-is at c.in-Ok-None.ensures.told in
-    byte_waits c.args.format c.args.rect c.args.tile c.args.seen c.args.pending.now.items c.push.new.self.items c.args.byte c.args.picture.now before body c.requires.some c.push.ensures.items
-    (subst (λ (ys : List ℕ). TellsNext c.args.format c.args.rect c.args.tile c.args.seen ys (Ok None)) c.as_slice-bytes.ensures.value told) stands
+    let few = rw c.in-Ok-None.field-0-is at c.in-Ok-None.ensures.short in
+    let short : length rest < 1536 = subst (λ (ys : List ℕ). length ys < 1536) c.as_slice-bytes.ensures.value few in
+    record {
+      some = omega arith;
+      used = omega arith;
+      reaches = record {
+        sound = grind (arith, nat_tests);
+        same = refl;
+        goes_on = λ before body stands.
+            byte_waits f rect c.args.tile c.args.seen c.args.pending.now.items rest c.args.byte c.args.picture.now before body c.requires.some c.push.ensures.items
+            (subst (λ (ys : List ℕ). TellsNext f rect c.args.tile c.args.seen ys (Ok None)) c.as_slice-bytes.ensures.value told) stands;
+        width = refl;
+        height = refl;
+      };
+    }
