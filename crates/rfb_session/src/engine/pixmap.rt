@@ -105,7 +105,7 @@ fn make_room<W: Sink>(waiting: &mut Waiting, sink: &mut W) -> Result<(), Device>
 
 // Writes the components of each colour over all of the bytes.
 fn put_components(bytes: &mut [u8], colours: &[Colour])
-    requires { length bytes.old ≡ 6 * length colours.now }
+    requires { length bytes.old ≡ COLOUR_BYTES * length colours.now }
     ensures { bytes.new ≡ components colours.now }
 {
     let mut start = 0;
@@ -219,7 +219,7 @@ impl Waiting {
 
     // Puts the components of these colours after them.
     fn append_components(&mut self, colours: &[Colour])
-        requires { length self.old + 6 * length colours.now ≤ ROOM }
+        requires fits { length self.old + COLOUR_BYTES * length colours.now ≤ ROOM }
         ensures { self.new ≡ self.old ++ components colours.now }
     {
         let end = self.len + COLOUR_BYTES * colours.len();

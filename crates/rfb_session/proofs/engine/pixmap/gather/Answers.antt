@@ -26,7 +26,10 @@ returns-in_err-make_room-clause-stopped g c =
 
 pub append_components-requires : goal.append_components-requires
 append_components-requires g c =
-    room_for_block c.args.colours.now c.loop-start.start c.min-end.result c.room.result _ c.room.ensures c.min-end.ensures
+    record {
+      fits = room_for_block c.args.colours.now c.loop-start.start c.min-end.result c.room.result _
+          c.room.ensures c.min-end.ensures;
+    }
 
 pub loop-start-preserved : goal.loop-start-preserved
 loop-start-preserved g c =
