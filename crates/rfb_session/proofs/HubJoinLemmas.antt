@@ -2,7 +2,6 @@
 use Rattle.std.proofs.Common.{◌≡◌, ℕ, List, [], false, sym, subst}
 use Rattle.rfb_pixel.specs.declared.colour.Colour.{Colour}
 use Rattle.rfb_picture.specs.Grid.{Grid, IsGrid}
-use Rattle.rfb_wire.specs.declared.encoding.Encoding.{Encoding}
 use Rattle.rfb_server.specs.declared.session.Session.{Session}
 use Rattle.rfb_server.specs.Following.{Follows}
 use Rattle.rfb_server.specs.Server.{first_server}
@@ -20,21 +19,20 @@ use Rattle.rfb_session.specs.Link.{Ends, first_link}
 use Rattle.rfb_session.specs.LinkStanding.{LinkStandsFor, AreNew}
 
 pub fresh_seat : (hub : Hub) (setup : Setup) (session : Session) (viewer : Viewer) (link : Link)
-    (seat : Seat) (w h : ℕ) (name : List ℕ) (encodings : List Encoding) → w ≡ hub.screen.width →
-    h ≡ hub.screen.height → name ≡ hub.name.items → encodings ≡ setup.encodings.items →
-    IsGrid hub.screen →
+    (seat : Seat) (w h : ℕ) (name : List ℕ) → w ≡ hub.screen.width → h ≡ hub.screen.height →
+    name ≡ hub.name.items → IsGrid hub.screen →
     ((screen : Grid Colour) → SessionStandsFor (serving_with hub.offer w h name hub.text_limit)
     screen session (with_screen screen
     (first_server (serving_with hub.offer w h name hub.text_limit))) []) →
     ((screen : Grid Colour) → IsGrid screen → screen.width ≡ w → screen.height ≡ h →
     Follows screen session) →
-    ViewerStandsFor (viewing_with setup.format encodings setup.limit setup.shared setup.max_places
-    setup.text_limit) viewer first_viewer [] →
+    ViewerStandsFor (viewing_with setup.format setup.encodings.items setup.limit setup.shared
+    setup.max_places setup.text_limit) viewer first_viewer [] →
     ((e : Ends) (screen : Grid Colour) → AreNew e session viewer screen →
     LinkStandsFor e screen link (first_link e)) → link.session ≡ session → seat.setup ≡ setup →
     seat.link ≡ link → seat.foreign ≡ false → IsFreshSeat hub setup seat
-fresh_seat hub setup session viewer link seat w h name encodings wide high named listed whole
-    stands follows viewer_is links session_is setup_is link_is ours =
+fresh_seat hub setup session viewer link seat w h name wide high named whole stands follows
+    viewer_is links session_is setup_is link_is ours =
     let serves = subst (λ (x : ℕ). (screen : Grid Colour) →
     SessionStandsFor (serving_with hub.offer x hub.screen.height hub.name.items hub.text_limit) screen session
     (with_screen screen (first_server (serving_with hub.offer x hub.screen.height hub.name.items hub.text_limit))) []) wide
@@ -44,8 +42,6 @@ fresh_seat hub setup session viewer link seat w h name encodings wide high named
     (subst (λ (t : List ℕ). (screen : Grid Colour) →
     SessionStandsFor (serving_with hub.offer w h t hub.text_limit) screen session
     (with_screen screen (first_server (serving_with hub.offer w h t hub.text_limit))) []) named stands)) in
-    let views = subst (λ (xs : List Encoding). ViewerStandsFor (viewing_with setup.format xs setup.limit
-    setup.shared setup.max_places setup.text_limit) viewer first_viewer []) listed viewer_is in
     record {
       setup_is = setup_is;
       ours = ours;
@@ -55,5 +51,5 @@ fresh_seat hub setup session viewer link seat w h name encodings wide high named
       fresh = subst (λ (l : Link). LinkStandsFor (ends_of (serving_in hub) setup) hub.screen l
           (first_link (ends_of (serving_in hub) setup))) (sym link_is)
           (links (ends_of (serving_in hub) setup) hub.screen
-          (record { session_is = serves hub.screen; viewer_is = views }));
+          (record { session_is = serves hub.screen; viewer_is = viewer_is }));
     }

@@ -51,15 +51,7 @@ impl Hub {
             self.offer,
             self.text_limit,
         )?;
-        let viewer = Viewer::new(
-            self.alloc,
-            setup.format,
-            copy_of(&setup.encodings),
-            setup.limit,
-            setup.shared,
-            setup.max_places,
-            setup.text_limit,
-        );
+        let viewer = Viewer::of(self.alloc, setup_of(setup));
         let link = Link::new(self.alloc, session, viewer)?;
         Ok(Seat::new(setup_of(setup), link))
     }
