@@ -18,7 +18,7 @@ mod tests;
 
 use crate::hub::event::{HubEvent, HubTold};
 use crate::hub::seat::Seat;
-use crate::slots::SLOTS;
+use crate::slots::{SLOTS, seat_of};
 use crate::told::NoMemory;
 use arrayvec::ArrayVec;
 use rfb_hello::Version;
@@ -57,7 +57,7 @@ impl Hub {
     ghost use Rattle.rfb_picture.specs.Grid.{Grid, uniform};
     ghost use Rattle.rfb_server.specs.Server.{black};
     ghost use Rattle.rfb_server.specs.Standing.{serving_with};
-    ghost use Rattle.rfb_session.specs.Hub.{IsEmptyHub, seat_in, serving_in, is_shut};
+    ghost use Rattle.rfb_session.specs.Hub.{IsEmptyHub, serving_in, is_shut};
     ghost use Rattle.rfb_session.specs.Hub.{HubStands, HasFewHubBytes, shown_in, fault_number_in};
     ghost use Rattle.rfb_session.specs.HubSteps.{HubActs, OthersStay, SlotsDo};
     ghost use Rattle.rfb_session.specs.HubSteps.{HubSteps, NeedsNoMemory, RunsHub};
@@ -160,7 +160,7 @@ impl Hub {
     pub fn picture(&self, slot: u8) -> Option<&Picture<Colour>>
         ensures { option_copied result ≡ shown_in self.now slot }
     {
-        match self.seat(slot) {
+        match seat_of(&self.slots, slot) {
             Some(seat) => seat.link().picture(),
             None => None,
         }
@@ -170,21 +170,10 @@ impl Hub {
     pub fn fault(&self, slot: u8) -> Option<u8>
         ensures { result ≡ fault_number_in self.now slot }
     {
-        match self.seat(slot) {
+        match seat_of(&self.slots, slot) {
             Some(seat) => seat.link().server_fault_number(),
             None => None,
         }
-    }
-
-    // The seat of a slot, where it is taken.
-    fn seat(&self, slot: u8) -> Option<&Seat>
-        ensures { option_copied result ≡ seat_in self.now slot }
-    {
-        let place = slot as usize;
-        if place >= SLOTS {
-            return None;
-        }
-        self.slots[place].as_ref()
     }
 
     // What an event is, happens.

@@ -1,7 +1,7 @@
 //! A share: one screen that its owner draws on, and seats for eight viewers of it. It has no
 //! sockets: its owner brings it what the viewers send, and writes to them what waits for them.
 
-ghost use Rattle.std.specs.Prelude.{◌≡◌, ◌≤◌, length, All, IfOk, option_copied};
+ghost use Rattle.std.specs.Prelude.{◌≡◌, ◌≤◌, length, All, IfOk};
 ghost use Rattle.std.specs.Option.{ForSome};
 ghost use Rattle.rfb_server.specs.Following.{Follows};
 ghost use Rattle.rfb_session.specs.ShareSeats.{session_at};
@@ -18,7 +18,7 @@ pub(crate) mod waiting;
 
 use crate::hub::{BLACK, NAME_LIMIT, name_of};
 use crate::share::seat::ShareSeat;
-use crate::slots::SLOTS;
+use crate::slots::{SLOTS, seat_of};
 use arrayvec::ArrayVec;
 use rfb_hello::Version;
 use rfb_picture::Picture;
@@ -48,7 +48,7 @@ impl Share {
     ghost use Rattle.rfb_picture.specs.Grid.{uniform};
     ghost use Rattle.rfb_server.specs.Server.{black};
     ghost use Rattle.rfb_server.specs.Standing.{serving_with};
-    ghost use Rattle.rfb_session.specs.Share.{IsEmptyShare, seat_in, serving_in, screen_of};
+    ghost use Rattle.rfb_session.specs.Share.{IsEmptyShare, serving_in, screen_of};
     ghost use Rattle.rfb_session.specs.Share.{fault_in};
 
     /// A share with a black screen and eight empty seats. Each session offers versions up to
@@ -93,20 +93,9 @@ impl Share {
     pub fn fault(&self, seat: u8) -> Option<ServerFault>
         ensures { result ≡ fault_in self.now seat }
     {
-        match self.seat(seat) {
+        match seat_of(&self.seats, seat) {
             Some(seat) => seat.fault(),
             None => None,
         }
-    }
-
-    // The seat of that number, where it is taken.
-    fn seat(&self, seat: u8) -> Option<&ShareSeat>
-        ensures { option_copied result ≡ seat_in self.now seat }
-    {
-        let place = seat as usize;
-        if place >= SLOTS {
-            return None;
-        }
-        self.seats[place].as_ref()
     }
 }

@@ -1,7 +1,7 @@
 //! Eight slots, in which whoever has a session that follows a screen may sit.
 
 ghost use Rattle.std.specs.Prelude.{◌≡◌, ◌<◌, ℕ, ◌&&◌, length, nat_eq, not, None, Some, All, true};
-ghost use Rattle.std.specs.Prelude.{false, IfSome};
+ghost use Rattle.std.specs.Prelude.{false, IfSome, option_copied};
 ghost use Rattle.std.specs.Option.{ForSome};
 ghost use Rattle.rfb_picture.specs.declared.rect.Rect.{Rect};
 ghost use Rattle.rfb_picture.specs.Places.{has_bit};
@@ -130,6 +130,17 @@ pub(crate) fn first_empty<T>(slots: &[Option<T>; SLOTS]) -> Option<usize>
         }
     }
     None
+}
+
+// Who sits in a slot, where there is such a slot and it is taken.
+pub(crate) fn seat_of<T>(slots: &[Option<T>; SLOTS], slot: u8) -> Option<&T>
+    ensures { option_copied result ≡ seat_at slot slots.now }
+{
+    let place = slot as usize;
+    if place >= SLOTS {
+        return None;
+    }
+    slots[place].as_ref()
 }
 
 // Whether a slot is taken.

@@ -10,7 +10,7 @@ ghost use Rattle.rfb_session.specs.Slots.{OnSlot};
 use crate::share::Share;
 use crate::share::event::Composing;
 use crate::share::seat::ShareSeat;
-use crate::slots::SLOTS;
+use crate::slots::{SLOTS, seat_of};
 use crate::told::NoMemory;
 use rfb_picture::Picture;
 use rfb_pixel::Colour;
@@ -25,7 +25,7 @@ impl Share {
         ensures value { result.now ≡ waits_at self.now seat }
         ensures few { is_update_at self.now seat ≡ false → length result.now ≤ 297 }
     {
-        match self.seat(seat) {
+        match seat_of(&self.seats, seat) {
             Some(seat) => seat.waiting(),
             None => &[],
         }

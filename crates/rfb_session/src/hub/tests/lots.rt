@@ -7,6 +7,7 @@ ghost use Rattle.rfb_session.specs.HubSeats.{HasFewSlotBytes};
 use super::*;
 use crate::event::Event;
 use crate::link::copy_of;
+use crate::slots::seat_of;
 use crate::world::tests::machine::lot::Lot;
 use crate::world::tests::machine::{encodings_of, format_of, version_of};
 
@@ -65,7 +66,7 @@ fn number_of(refused: Option<HubFault>) -> u8 {
 }
 
 fn in_flight_to_viewer(hub: &Hub, slot: u8) -> usize {
-    match hub.seat(slot) {
+    match seat_of(&hub.slots, slot) {
         Some(seat) => seat.link().in_flight_to_viewer(),
         None => 0,
     }
@@ -73,7 +74,7 @@ fn in_flight_to_viewer(hub: &Hub, slot: u8) -> usize {
 
 // Whether a slot is as its machine.
 fn is_alike(hub: &Hub, guest: &mut Guest) -> bool {
-    let Some(seat) = hub.seat(guest.slot) else {
+    let Some(seat) = seat_of(&hub.slots, guest.slot) else {
         return !guest.taken;
     };
     guest.taken
