@@ -1,7 +1,6 @@
 -- A copy more, for the session that tells its viewer of it.
-use Rattle.std.proofs.Common.{◌≡◌, ℕ, ◌+◌, ◌-◌, ◌<◌, Bool, true, false, List, [], ◌∷◌, ◌++◌, length, Option, Some, None, if◌then◌else◌, refl, sym, ap, subst, ◌∙◌, arith, append_assoc, append-nil, length-append, slice_get, inl, inr}
+use Rattle.std.proofs.Common.{◌≡◌, ℕ, ◌+◌, ◌-◌, ◌<◌, Bool, true, false, List, [], ◌∷◌, ◌++◌, length, Option, Some, None, if◌then◌else◌, refl, sym, ap, subst, ◌∙◌, arith, append_assoc, append-nil, length-append, slice_get}
 use Rattle.std.proofs.lemmas.Bool.{both_ways}
-use Rattle.std.proofs.lemmas.Option.{slice_get_cases}
 use mir.Val.{bool_byte}
 use Rattle.rfb_pixel.specs.declared.colour.Colour.{Colour}
 use Rattle.rfb_picture.specs.declared.rect.Rect.{Rect}
@@ -132,18 +131,6 @@ listed_usable session n l = by (is_listed CopyRect session.encodings) l
   where
     by : (listed : Bool) → n < (if listed then length session.hints.items else 0) → listed ≡ true
     by true less = refl
-    by false less = absurd (omega arith)
-
--- which are as many as that, so each has its number
-pub some_hint : (session : Session) (n : ℕ) → n < usable_hints session → (hint : Hint) × (slice_get session.hints.items n ≡ Some hint)
-some_hint session n l = by (is_listed CopyRect session.encodings) l
-  where
-    by : (listed : Bool) → n < (if listed then length session.hints.items else 0) → (hint : Hint) × (slice_get session.hints.items n ≡ Some hint)
-    by true less =
-        elim ((slice_get_cases session.hints.items n).1) [
-          | inl (hint, within, this, got) ↦ (hint, this)
-          | inr (past, none) ↦ absurd (omega (arith, less, past))
-        ]
     by false less = absurd (omega arith)
 
 -- the state after copies

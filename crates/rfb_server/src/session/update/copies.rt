@@ -86,41 +86,17 @@ impl Session {
     {
         let mut count = 0;
         for index in 0..self.usable_hints() {
-            let sent = self.send_hint(screen, index, out, quiet);
+            let Some(hint) = self.hints.get(index) else {
+                unreachable!()
+            };
+            let hint = *hint;
+            let sent = self.send_copy(screen, hint, out, quiet);
             count += u16::from(sent);
         }
         count
     }
 
-    // Tells the viewer to copy by the hint of that number, if that is of use. There is room for it.
-    fn send_hint(
-        &mut self,
-        screen: &Picture<Colour>,
-        index: usize,
-        out: &mut Vec<u8>,
-        quiet: &mut Rect,
-    ) -> bool
-        requires about { Follows screen.now self.old }
-        requires quiet { IsQuiet screen.now self.old quiet.old }
-        requires room { vec_len out.old + 16 ≤ vec_capacity out.old }
-        ensures kept { IsKept self.old self.new }
-        ensures about { Follows screen.now self.new }
-        ensures sent { (hint : Hint) → slice_get self.old.hints.items index ≡ Some hint →
-            SendsHint result screen.now hint self.old self.new out.old.items out.new.items }
-        ensures quiet { IsQuiet screen.now self.new quiet.new }
-        ensures len { vec_len out.new ≤ vec_len out.old + 16 }
-        ensures room { vec_capacity out.new ≡ vec_capacity out.old }
-    {
-        match self.hints.get(index) {
-            None => false,
-            Some(hint) => {
-                let hint = *hint;
-                self.send_copy(screen, hint, out, quiet)
-            }
-        }
-    }
-
-    // The same for a hint.
+    // Tells the viewer to copy by a hint, if that is of use. There is room for it.
     fn send_copy(
         &mut self,
         screen: &Picture<Colour>,

@@ -1,8 +1,8 @@
-use Rattle.std.proofs.Common.{◌≡◌, ◌<◌, ◌≤◌, Bool, true, false, slice_get, Some, refl, arith, ◌∙◌}
+use Rattle.std.proofs.Common.{◌≡◌, ◌<◌, ◌≤◌, Bool, true, false, slice_get, Some, sym, refl, arith, ◌∙◌}
 use Rattle.rfb_server.specs.inside.Copies.{usable_hints}
 use mir.Val.{bool_byte}
 use Rattle.rfb_server.proofs.SentCells.{kept_then, kept_same}
-use Rattle.rfb_server.proofs.CopiedLemmas.{copies_begin, copies_go_on, listed_usable, some_hint}
+use Rattle.rfb_server.proofs.CopiedLemmas.{copies_begin, copies_go_on, listed_usable}
 use Rattle.rfb_server.proofs.session.Session.send_copies.Goals as goal
 
 at_most : (b : Bool) → bool_byte b ≤ 1
@@ -26,18 +26,19 @@ pub loop-index-preserved : goal.loop-index-preserved
 loop-index-preserved c =
     let s = c.args.self.now in
     let l = c.loop-index in
+    let hint = c.in-Some.hint.now in
     let below : l.index < usable_hints s = omega (arith, c.usable_hints-index-end.ensures.value) in
-    let (hint, this) = some_hint s l.index below in
-    let here : slice_get l.self.hints.items l.index ≡ Some hint = rw (l.invariant.kept.hints) this in
+    let here : slice_get l.self.hints.items l.index ≡ Some hint = sym c.in-Some.ensures in
+    let this : slice_get s.hints.items l.index ≡ Some hint = rw (← l.invariant.kept.hints) here in
     record {
-      kept = kept_then s l.self c.send_hint-sent.new.self l.invariant.kept c.send_hint-sent.ensures.kept;
-      about = c.send_hint-sent.ensures.about;
-      quiet = c.send_hint-sent.ensures.quiet;
+      kept = kept_then s l.self c.send_copy-sent.new.self l.invariant.kept c.send_copy-sent.ensures.kept;
+      about = c.send_copy-sent.ensures.about;
+      quiet = c.send_copy-sent.ensures.quiet;
       sent = rw (c.from-count.ensures)
-          (copies_go_on c.args.screen.now s l.self c.send_hint-sent.new.self c.args.out.now.items l.out.items c.send_hint-sent.new.out.items l.index l.count hint
+          (copies_go_on c.args.screen.now s l.self c.send_copy-sent.new.self c.args.out.now.items l.out.items c.send_copy-sent.new.out.items l.index l.count hint
           c.requires.about l.invariant.kept (listed_usable s l.index below) this (c.requires.marked l.index hint below this) l.invariant.sent
-          c.send_hint-sent.result (c.send_hint-sent.ensures.sent hint here));
-      few = rw (c.from-count.ensures) (omega (arith, at_most c.send_hint-sent.result, l.invariant.few));
-      capacity = c.send_hint-sent.ensures.room ∙ l.invariant.capacity;
-      space = omega (arith, c.send_hint-sent.ensures.len, l.invariant.space);
+          c.send_copy-sent.result c.send_copy-sent.ensures.sent);
+      few = rw (c.from-count.ensures) (omega (arith, at_most c.send_copy-sent.result, l.invariant.few));
+      capacity = c.send_copy-sent.ensures.room ∙ l.invariant.capacity;
+      space = omega (arith, c.send_copy-sent.ensures.len, l.invariant.space);
     }
