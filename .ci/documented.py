@@ -70,7 +70,8 @@ def paced(block):
     for line in block.splitlines():
         port = re.search(r"--port (\d+)|::(\d+)", line)
         display = re.search(r"[a-z0-9]:(\d+)\b", line)
-        if (port or display) and "serve" not in line and "-vnc" not in line and not here:
+        begins = re.search(r"serve|rfb share|-vnc", line)
+        if (port or display) and not begins and not here:
             number = int(port.group(1) or port.group(2)) if port else 5900 + int(display.group(1))
             lines.append("wait_for %d" % number)
         lines.append(line)

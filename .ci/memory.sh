@@ -3,7 +3,8 @@
 # each run: the first, the second, and so on to the last. Such a run must end with status 1, print
 # nothing on standard output, and end its standard error with the line 'fault 30 NoMemory'; or end as
 # a run does where none is refused, if it could do without it, sentences of --explain aside. A
-# command that prints as it goes, `serve` or `view`, may have printed a beginning. A call with a file
+# command that prints as it goes, `serve` or `view`, may have printed a beginning; `share` may tell it
+# of one of its owner's lines, and go on. A call with a file
 # `as`, which names another, asks for memory as often as that one, and so for none in what it has
 # more.
 #
@@ -89,7 +90,7 @@ refuse() {
 run() {
     local words
     mapfile -t words < "$(file "$1/args")"
-    refuse "$2" "$3" "$program" "${words[@]}"
+    refuse "$2" "$3" "$program" "${words[@]/PORT/$port}"
 }
 
 same() { cmp -s "$room/one.$1" "$room/all.$1"; }
@@ -100,6 +101,15 @@ is_beginning() {
     grep -qxE 'serve|view' "$(file "$1/args")" || return 1
     cmp -s -n "$(stat -c %s "$room/one.out")" "$room/one.out" "$room/all.out"
 }
+
+# Whether one run's errors are those of the whole run, and a line of `share` for which there was no
+# memory.
+is_reported_of_a_line() {
+    sed '/^line [0-9]*: fault 30 NoMemory$/d' "$room/one.err" | cmp -s - "$room/all.err"
+}
+
+# Where PORT stands in the words of a call. Nothing is to listen there.
+port=$((20000 + RANDOM % 10000))
 
 declare -A asked
 passed=0 failed=0
@@ -119,6 +129,8 @@ for call in "$calls"/*/; do
             passed=$((passed + 1))
         elif [ "$(cat "$room/one.status")" = 1 ] && is_beginning "$call" \
             && [ "$(tail -n 1 "$room/one.err")" = "fault 30 NoMemory" ]; then
+            passed=$((passed + 1)) refused=$((refused + 1))
+        elif same status && same out && is_reported_of_a_line; then
             passed=$((passed + 1)) refused=$((refused + 1))
         else
             failed=$((failed + 1))

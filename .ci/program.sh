@@ -9,8 +9,9 @@
 #   status   the exit status that it must have
 #   device   where standard output goes in place of a file
 #   memory   the most memory that it may have, in KiB of address space
-#   beside   the words of another run of it, which begins first and listens on a port; PORT in these
-#            words and in args is a port that was free
+#   beside   the words of another run of it, which begins first and listens on a port; PORT in args
+#            and in these words is a port that was free, PICTURE in these words the path of the next
+#   picture  a file that it shows
 #   told     what that one must print; its status must be 0
 # In place of stdin and stdout there may be stdin.gz and stdout.gz.
 # The last line is 'N passed, M failed'.
@@ -47,6 +48,7 @@ free_port() {
 begin() {
     local words turn
     mapfile -t words < "$2/beside"
+    words=("${words[@]/PICTURE/$2/picture}")
     timeout 60 "$1" "${words[@]/PORT/$3}" > "$room/told" 2>&1 &
     for turn in {1..200}; do
         if listens "$3"; then break; fi
@@ -59,11 +61,11 @@ try() {
     local words wanted device port status=0
     mapfile -t words < "$(file "$2/args")"
     wanted=$(cat "$2/status")
-    if [ -e "$2/beside" ]; then
+    if [[ " ${words[*]} " == *PORT* ]]; then
         port=$(free_port)
         words=("${words[@]/PORT/$port}")
-        begin "$1" "$2" "$port"
     fi
+    if [ -e "$2/beside" ]; then begin "$1" "$2" "$port"; fi
     device=$room/stdout
     : > "$device"
     input "$2" > "$room/stdin"

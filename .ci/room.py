@@ -35,7 +35,7 @@ void *realloc(void *at, size_t size) { note(size); return __libc_realloc(at, siz
 
 
 # Words, input and the bytes in flight, in all.
-MOST_BESIDE = 65536
+MOST_BESIDE = 98304
 
 
 def up(number, by):

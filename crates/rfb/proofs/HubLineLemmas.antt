@@ -1,10 +1,8 @@
 -- Lines of a hub's script, read one after another.
-use Rattle.std.proofs.Common.{◌==◌, Bool, true, false, is_some, ◌≡◌, ◌≢◌, ◌<◌, ◌+◌, ◌∙◌, ℕ, Option, Some, None, MatchOption, codes, subst, List, [], ◌∷◌, ◌++◌, Bor, suc, ap, sym, refl, inl, inr, ◌⊎◌, length, take, drop, get_or, arith, append_assoc, length-append}
-use Rattle.std.proofs.lemmas.List.{length_push}
+use Rattle.std.proofs.Common.{◌==◌, Bool, true, false, is_some, ◌≡◌, ◌≢◌, ◌<◌, ◌+◌, ◌∙◌, ℕ, Option, Some, None, MatchOption, codes, subst, List, [], ◌∷◌, ◌++◌, Bor, ap, sym, refl, inl, inr, ◌⊎◌, length, take, drop, get_or, arith, append_assoc, length-append}
 use Rattle.std.proofs.lemmas.List.Splits.{slice_split_none}
 use Rattle.std.proofs.lemmas.List.Elements.{All-nil, All-cons, All-head, All-tail}
 use Rattle.rfb.specs.declared.script.hub.line.HubNumbered.{HubNumbered}
-use Rattle.rfb.specs.declared.script.hub.line.HubStep.{HubStep}
 use Rattle.rfb.specs.declared.script.line.Screen.{Screen as Size}
 use Rattle.rfb.specs.HubScript.{AreHubScript, AreOpenHub, AskInHub, AsksInHub, BeginHub, GivesHub, IsBadInHub, IsFirstBadInHub, IsWithoutShow, NamesShown, SaysHub, SaysHubStep, SaysShow, first_line, line_after}
 use Rattle.rfb.specs.Script.{AreEmpty, words_of}

@@ -1,5 +1,5 @@
 -- Runs of a hub's script, and what is reported of its lines.
-use Rattle.std.proofs.Common.{◌≡◌, ◌≢◌, ◌+◌, ◌∙◌, ap, sym, refl, subst, Bool, true, false, is_some, inl, inr, ◌⊎◌, zero, suc, ℕ, Option, Some, None, List, [], ◌∷◌, ◌++◌, OnErr, Result, Ok, Err, append-nil, append_assoc, bit_or, arith}
+use Rattle.std.proofs.Common.{◌≡◌, ◌≢◌, ◌+◌, ◌∙◌, ap, sym, refl, subst, true, false, is_some, inl, inr, ◌⊎◌, zero, suc, ℕ, Option, None, List, [], ◌∷◌, ◌++◌, OnErr, Result, Ok, Err, append-nil, append_assoc, bit_or, arith}
 use Rattle.rfb_picture.specs.Grid.{uniform}
 use Rattle.rfb_server.specs.Server.{black}
 use Rattle.rfb_server.specs.Standing.{serving_with}
@@ -22,8 +22,7 @@ use Rattle.rfb_session.proofs.NetworkLaws.{headline_holds}
 use Rattle.rfb.specs.declared.fault.Fault.{Fault}
 use Rattle.rfb.specs.declared.playing.hub.LineTold.{LineTold}
 use Rattle.rfb.specs.declared.script.hub.line.HubNumbered.{HubNumbered}
-use Rattle.rfb.specs.declared.script.hub.line.HubStep.{HubStep}
-use Rattle.rfb.specs.declared.script.hub.line.HubStep.TheVariants.{Event, Settle}
+use Rattle.rfb.specs.declared.script.hub.line.HubStep.TheVariants.{Event}
 use Rattle.rfb.specs.declared.script.line.Screen.{Screen as Size}
 use Rattle.rfb.specs.CommandLine.{HubPlayedTo, ShowsSlotTo}
 use Rattle.rfb.specs.Few.{HasFewInHub}

@@ -8,10 +8,10 @@ use Rattle.rfb_session.specs.Hub.{shown_in}
 use Rattle.rfb_session.specs.HubSteps.{HubPlayed}
 use Rattle.std.specs.Io.KnownBytes.{Appends}
 use Rattle.rfb.specs.declared.fault.Failure.{Failure}
-use Rattle.rfb.specs.declared.fault.Failure.TheVariants.{BadLine, Fault, Engine}
+use Rattle.rfb.specs.declared.fault.Failure.TheVariants.{BadLine, Fault, Engine, Picture}
 use Rattle.rfb.specs.declared.script.hub.line.HubNumbered.{HubNumbered}
 use Rattle.rfb.specs.declared.script.line.Screen.{Screen as Size}
-use Rattle.rfb.specs.CommandLine.{FailsAtAny, HubPlayedTo, LeavesScript, PlaysAny, PlaysHub, PlaysScript}
+use Rattle.rfb.specs.CommandLine.{FailsAtAny, HubPlayedTo, LeavesScript, PlaysAny, PlaysScript}
 use Rattle.rfb.specs.HubPlaying.{hub_events}
 use Rattle.rfb.specs.HubScript.{AreHubScript, BeginHub, StopsReadingAny, StopsReadingHub}
 use Rattle.rfb.specs.Script.{StopsReading, lines_of}
@@ -23,7 +23,9 @@ fails_any None empty all (BadLine n) e is stops = tt
 fails_any (Some text) empty all (BadLine n) e is stops = let same : all ≡ text = rw e at is in rw (← same) stops
 fails_any read empty all (Fault fault) e is stops = tt
 fails_any read empty all (Engine fault) e is (inl stops) = absurd stops.1
+fails_any read empty all (Picture flaw) e is (inl stops) = absurd stops.1
 fails_any read empty all (Engine fault) e is (inr stops) = absurd stops.1
+fails_any read empty all (Picture flaw) e is (inr stops) = absurd stops.1
 
 pub stops_hub : (lines : List (List ℕ)) (failure : Failure) (b : Bool) → (b ≡ true → BeginHub lines) × (BeginHub lines → b ≡ true) → b ≡ true → StopsReadingHub lines failure → StopsReadingAny lines failure
 stops_hub lines failure b kind is stops = inl (kind.0 is, stops)

@@ -12,10 +12,10 @@ use Rattle.rfb.specs.declared.script.hub.line.HubStep.{HubStep}
 use Rattle.rfb.specs.declared.script.hub.line.HubStep.TheVariants.{Event, Settle}
 use Rattle.rfb.specs.declared.script.line.Screen.{Screen as Size}
 use Rattle.rfb.specs.Few.{HasFewInHub}
-use Rattle.rfb.specs.HubScript.{AreForeign, AreJoin, AsksInHub, GivesHub, IsSlotThen, IsSlotAlone, NamesShown, SaysAt, SaysHub, SaysHubStep, SaysShow}
-use Rattle.rfb.specs.Script.{Begins, SaysEvent, words_of}
+use Rattle.rfb.specs.HubScript.{AreForeign, AreJoin, IsSlotThen, IsSlotAlone, SaysAt, SaysHub, SaysHubStep, SaysShow}
+use Rattle.rfb.specs.Script.{Begins, SaysEvent}
 use Rattle.rfb.specs.Words.{AreFill, AreMove, AreSize, texts}
-use Rattle.rfb.proofs.HubWordLemmas.{no_slot_first, nothing_after, none_after, is_after, split_texts}
+use Rattle.rfb.proofs.HubWordLemmas.{no_slot_first, nothing_after, none_after, split_texts}
 use Rattle.rfb.proofs.ScriptLemmas.{heads, nothing, no_texts, other_word, same_word, tails, words_are}
 
 -- two keywords that differ

@@ -1,14 +1,13 @@
 -- Words of a line of a hub's script: as many as they have to be, each for its value.
-use Rattle.std.proofs.Common.{◌≡◌, ◌≢◌, ◌≤◌, ◌+◌, ◌∙◌, ap, sym, refl, subst, Bool, true, false, Option, Some, None, MatchOption, length, ℕ, List, [], ◌∷◌, Bor, Ok, Err, Result, inl, inr, ◌⊎◌, arith, codes}
+use Rattle.std.proofs.Common.{◌≡◌, ◌≢◌, ◌≤◌, ◌∙◌, ap, sym, subst, Bool, true, false, Option, Some, None, MatchOption, length, ℕ, List, [], ◌∷◌, Bor, Ok, Err, codes}
 use Rattle.hex.specs.Hex.{decode_of}
 use Rattle.hex.specs.declared.error.FromHexError.{FromHexError}
 use Rattle.rfb_viewer.specs.declared.setup.ViewerSetup.{ViewerSetup as Setup}
 use Rattle.rfb.specs.declared.script.line.Wants.{Wants}
-use Rattle.rfb.specs.HubScript.{AreForeign, AreJoin, AreSetup, IsSlotThen, IsHexWord, IsSetup, IsSlotAlone, IsSlotWord, kind_of_join}
-use Rattle.rfb.specs.Script.{Begins}
+use Rattle.rfb.specs.HubScript.{AreForeign, AreSetup, IsSlotThen, IsHexWord, IsSetup, IsSlotAlone, IsSlotWord, kind_of_join}
 use Rattle.rfb.specs.Words.{AreWants, texts}
 use Rattle.rfb.proofs.ArgumentLemmas.{word, one_words, two_words}
-use Rattle.rfb.proofs.ScriptLemmas.{heads, nothing, no_texts, other_word, tails, texts_length}
+use Rattle.rfb.proofs.ScriptLemmas.{heads, nothing, no_texts, tails, texts_length}
 
 -- ---- a slot
 

@@ -23,3 +23,11 @@ pub mod WordLemmas
 pub mod LinesLemmas
 pub mod ListLemmas
 pub mod MadeLemmas
+pub mod OwnerLineLemmas
+pub mod OwnerReaderLemmas
+pub mod OwnerStageLemmas
+pub mod SharedLemmas
+pub mod PixmapNumberLemmas
+pub mod PixmapHeadLemmas
+pub mod PixmapPlacesLemmas
+pub mod PixmapFileLemmas

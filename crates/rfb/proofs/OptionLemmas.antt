@@ -1,5 +1,5 @@
 -- What was given to options, from what the getters tell.
-use Rattle.std.proofs.Common.{◌≡◌, ◌<◌, ◌^◌, ◌∙◌, ap, ap₂, sym, refl, subst, codes, [], ℕ, Bool, true, false, not, ◌&&◌, List, Option, Some, None, Result, Ok, Err, MatchResult, option_map}
+use Rattle.std.proofs.Common.{◌≡◌, ◌<◌, ◌^◌, ◌∙◌, ap, ap₂, sym, refl, subst, codes, [], ℕ, Bool, true, false, not, ◌&&◌, List, Option, Some, None, Result, Ok, Err, MatchResult, option_map, IfSome, is_some, Bor}
 use Rattle.std.proofs.lemmas.Option.{none-some, same_Some}
 use Rattle.std.specs.Str.Parse.{IsNumeral, ParsesUnsigned, digits_value, without_leading_plus}
 use Rattle.clap.specs.Matches.{ReadsOne}
@@ -12,6 +12,7 @@ use Rattle.rfb.specs.declared.options.WrongWords.{WrongWords}
 use Rattle.rfb.specs.declared.options.WrongWords.TheVariants.{Words, Value}
 use Rattle.arrayvec.specs.ArrayVec.{ArrayVec}
 use Rattle.rfb_wire.specs.declared.encoding.Encoding.{Encoding}
+use Rattle.rfb.specs.Options.{CountsConnections, GivesConnections, GivesOr, HasBadConnections, IsAbsent, IsFlagged, IsThere}
 use Rattle.rfb.specs.Options.{AreOrdered, AreWrong, GivesEncodings, GivesFormat, HasBadEncodings, HasBadFormat, HasBadValue, IsOrder, IsWrongValue, asked, NamesEncodings, NamesFormat, program}
 use Rattle.rfb.specs.Words.{AreEncodings, IsFormatWord, parts_of}
 
@@ -84,3 +85,36 @@ asked_order words o (Ok order) taken same is =
 asked_order words o (Err (Words error)) taken same is = absurd is
 asked_order words o (Err (Value value)) taken same is =
     (taken, subst HasBadValue same is)
+
+-- ---- a word that may be left out
+
+pub word_absent : (o : Option (Bor Text)) (word : Option Text) → option_map (λ s. s.now) o ≡ word → o ≡ None → word ≡ None
+word_absent None word is none = sym is
+word_absent (Some w) word is none = absurd (none-some w (sym none))
+
+pub word_given : (o : Option (Bor Text)) (word : Option Text) → option_map (λ s. s.now) o ≡ word → IfSome o (λ w. word ≡ Some w.now)
+word_given None word is = tt
+word_given (Some w) word is = sym is
+
+pub is_word_there : (o : Option (Bor Text)) (word : Option Text) → IfSome o (λ w. word ≡ Some w.now) → is_some o ≡ true → (t : Text) × (word ≡ Some t)
+is_word_there None word given there = let e : false ≡ true = there in absurd (cc)
+is_word_there (Some w) word given there = (w.now, given)
+
+pub is_word_absent : (o : Option (Bor Text)) (word : Option Text) → (o ≡ None → word ≡ None) → is_some o ≡ false → word ≡ None
+is_word_absent None word absent not = absent refl
+is_word_absent (Some w) word absent not = let e : true ≡ false = not in absurd (cc)
+
+-- ---- how many connections
+
+pub counted : (flag : Bool) (rows : List Row) (n : ℕ) → IsFlagged (codes "forever") rows flag → flag ≡ false →
+    GivesOr (codes "connections") 65535 1 rows n → GivesConnections rows n
+counted flag rows n is off gives = (flag, is, subst (λ (b : Bool). CountsConnections b rows n) (sym off) gives)
+
+pub uncounted : (flag : Bool) (rows : List Row) → IsFlagged (codes "forever") rows flag → flag ≡ true →
+    IsAbsent (codes "connections") rows → GivesConnections rows 18446744073709551615
+uncounted flag rows is on absent =
+    (flag, is, subst (λ (b : Bool). CountsConnections b rows 18446744073709551615) (sym on) (absent, refl))
+
+pub counted_twice : (flag : Bool) (rows : List Row) → IsFlagged (codes "forever") rows flag → flag ≡ true →
+    IsThere (codes "connections") rows → HasBadConnections rows
+counted_twice flag rows is on there = (subst (λ (b : Bool). IsFlagged (codes "forever") rows b) on is, there)

@@ -6,14 +6,14 @@ use Rattle.rfb_session.specs.declared.engine.fault.EngineFault.{EngineFault}
 use Rattle.rfb.specs.declared.fault.Fault.{Fault}
 use Rattle.rfb.specs.declared.fault.Failure.{Failure}
 use Rattle.rfb.specs.declared.fault.Failure.TheVariants as failure
-use Rattle.rfb.specs.declared.recording.replay.Replay.{Replay}
+use Rattle.rfb.specs.declared.play.options.PlayOptions.{PlayOptions}
 use Rattle.rfb_session.proofs.WrittenLaws.{whole_beginning}
 use Rattle.rfb.specs.Recording.{BeginsPicture, EndsShown, FailsToPlay, IsFresh, LeavesRecording, MayWritePicture, PlaysRecording, ShowsEnd, StopsWatching, Watches, WritesPicture, shows_end}
 
-pub plays_recording : (replay : Replay) (read before after : Option (List ℕ)) (first last : Viewer) (told : ℕ)
-    (r : Result (Unit {0}) Failure) → IsFresh replay.format (Raw ∷ []) first → Watches replay.updates read first told last →
-    OnOk r (WritesPicture last before after) → OnOk r (PlaysRecording replay read before after)
-plays_recording replay read before after first last told (Ok done) fresh watched written = record {
+pub plays_recording : (options : PlayOptions) (read before after : Option (List ℕ)) (first last : Viewer) (told : ℕ)
+    (r : Result (Unit {0}) Failure) → IsFresh options.format (Raw ∷ []) first → Watches options.updates read first told last →
+    OnOk r (WritesPicture last before after) → OnOk r (PlaysRecording options read before after)
+plays_recording options read before after first last told (Ok done) fresh watched written = record {
   first = first;
   fresh = fresh;
   told = told;
@@ -21,15 +21,15 @@ plays_recording replay read before after first last told (Ok done) fresh watched
   watches = watched;
   written = written;
 }
-plays_recording replay read before after first last told (Err failure) fresh watched written = tt
+plays_recording options read before after first last told (Err failure) fresh watched written = tt
 
-pub leaves_recording : {W : Type 0} (contents : W → Option (List ℕ)) (replay : Replay) (read : Option (List ℕ)) (old new : W) (first last : Viewer) (told : ℕ)
-    (r : Result (Unit {0}) Failure) → IsFresh replay.format (Raw ∷ []) first → Watches replay.updates read first told last →
+pub leaves_recording : {W : Type 0} (contents : W → Option (List ℕ)) (options : PlayOptions) (read : Option (List ℕ)) (old new : W) (first last : Viewer) (told : ℕ)
+    (r : Result (Unit {0}) Failure) → IsFresh options.format (Raw ∷ []) first → Watches options.updates read first told last →
     OnErr r ((new ≡ old) ⊎ BeginsPicture last (contents old) (contents new)) →
-    OnErr r (LeavesRecording replay read (contents old) (contents new))
-leaves_recording contents replay read old new first last told (Ok done) fresh watched left = tt
-leaves_recording contents replay read old new first last told (Err failure) fresh watched (inl same) = inl (ap contents same)
-leaves_recording contents replay read old new first last told (Err failure) fresh watched (inr begun) = inr (inl (record {
+    OnErr r (LeavesRecording options read (contents old) (contents new))
+leaves_recording contents options read old new first last told (Ok done) fresh watched left = tt
+leaves_recording contents options read old new first last told (Err failure) fresh watched (inl same) = inl (ap contents same)
+leaves_recording contents options read old new first last told (Err failure) fresh watched (inr begun) = inr (inl (record {
   first = first;
   fresh = fresh;
   told = told;
@@ -38,12 +38,13 @@ leaves_recording contents replay read old new first last told (Err failure) fres
   written = begun;
 }))
 
-pub fails_to_show : (replay : Replay) (read before after : Option (List ℕ)) (r : Result (Unit {0}) Failure) →
-    IfErr r (λ f. (fault : Fault) × (f ≡ failure.Fault fault)) → IfErr r (FailsToPlay replay read before after)
-fails_to_show replay read before after (Ok done) is = tt
-fails_to_show replay read before after (Err (failure.Fault fault)) is = tt
-fails_to_show replay read before after (Err (failure.BadLine n)) is = let e = is.1 in absurd (cc)
-fails_to_show replay read before after (Err (failure.Engine fault)) is = let e = is.1 in absurd (cc)
+pub fails_to_show : (options : PlayOptions) (read before after : Option (List ℕ)) (r : Result (Unit {0}) Failure) →
+    IfErr r (λ f. (fault : Fault) × (f ≡ failure.Fault fault)) → IfErr r (FailsToPlay options read before after)
+fails_to_show options read before after (Ok done) is = tt
+fails_to_show options read before after (Err (failure.Fault fault)) is = tt
+fails_to_show options read before after (Err (failure.BadLine n)) is = let e = is.1 in absurd (cc)
+fails_to_show options read before after (Err (failure.Picture flaw)) is = let e = is.1 in absurd (cc)
+fails_to_show options read before after (Err (failure.Engine fault)) is = let e = is.1 in absurd (cc)
 
 pub shown_no_engine : (engine : EngineFault) (r : Result (Unit {0}) Failure) →
     IfErr r (λ f. (fault : Fault) × (f ≡ failure.Fault fault)) → r ≡ Err (failure.Engine engine) → ⊥
@@ -80,6 +81,7 @@ begins_early is_wanted last fault before after (failure.Engine told) (same, show
         written is (inr whole) = inr (is, begins_whole last before after whole)
 begins_early is_wanted last fault before after (failure.Fault own) begun = inr begun
 begins_early is_wanted last fault before after (failure.BadLine n) none = absurd none
+begins_early is_wanted last fault before after (failure.Picture flaw) none = absurd none
 
 -- an engine's fault is reported as it is
 pub ends_same : (is_wanted : Bool) (last : Viewer) (fault told : EngineFault) (before after : Option (List ℕ)) (f : Failure) →
@@ -87,26 +89,28 @@ pub ends_same : (is_wanted : Bool) (last : Viewer) (fault told : EngineFault) (b
 ends_same is_wanted last fault told before after (failure.Engine other) ends same = let e = ends.0 in cc
 ends_same is_wanted last fault told before after (failure.Fault own) ends same = absurd (cc)
 ends_same is_wanted last fault told before after (failure.BadLine n) ends same = absurd ends
+ends_same is_wanted last fault told before after (failure.Picture flaw) ends same = absurd ends
 
-pub fails_early : (replay : Replay) (read before after : Option (List ℕ)) (first last : Viewer) (fault : EngineFault) (f : Failure) →
-    IsFresh replay.format (Raw ∷ []) first → StopsWatching replay.updates read first fault last →
-    EndsShown replay.is_partial last fault before after f → FailsToPlay replay read before after f
-fails_early replay read before after first last fault (failure.Engine told) fresh stops ends = (
+pub fails_early : (options : PlayOptions) (read before after : Option (List ℕ)) (first last : Viewer) (fault : EngineFault) (f : Failure) →
+    IsFresh options.format (Raw ∷ []) first → StopsWatching options.updates read first fault last →
+    EndsShown options.is_partial last fault before after f → FailsToPlay options read before after f
+fails_early options read before after first last fault (failure.Engine told) fresh stops ends = (
   first,
   last,
   fresh,
-  subst (λ (e : EngineFault). StopsWatching replay.updates read first e last) (sym ends.0) stops,
-  subst (λ (e : EngineFault). ShowsEnd replay.is_partial last e before after) (sym ends.0) ends.1,
+  subst (λ (e : EngineFault). StopsWatching options.updates read first e last) (sym ends.0) stops,
+  subst (λ (e : EngineFault). ShowsEnd options.is_partial last e before after) (sym ends.0) ends.1,
 )
-fails_early replay read before after first last fault (failure.Fault own) fresh stops ends = tt
-fails_early replay read before after first last fault (failure.BadLine n) fresh stops ends = absurd ends
+fails_early options read before after first last fault (failure.Fault own) fresh stops ends = tt
+fails_early options read before after first last fault (failure.BadLine n) fresh stops ends = absurd ends
+fails_early options read before after first last fault (failure.Picture flaw) fresh stops ends = absurd ends
 
-pub leaves_early : (replay : Replay) (read before after : Option (List ℕ)) (first last : Viewer) (fault : EngineFault) →
-    IsFresh replay.format (Raw ∷ []) first → StopsWatching replay.updates read first fault last →
-    (after ≡ before) ⊎ ((shows_end replay.is_partial fault ≡ true) × BeginsPicture last before after) →
-    LeavesRecording replay read before after
-leaves_early replay read before after first last fault fresh stops (inl same) = inl same
-leaves_early replay read before after first last fault fresh stops (inr (is, begun)) = inr (inr (
+pub leaves_early : (options : PlayOptions) (read before after : Option (List ℕ)) (first last : Viewer) (fault : EngineFault) →
+    IsFresh options.format (Raw ∷ []) first → StopsWatching options.updates read first fault last →
+    (after ≡ before) ⊎ ((shows_end options.is_partial fault ≡ true) × BeginsPicture last before after) →
+    LeavesRecording options read before after
+leaves_early options read before after first last fault fresh stops (inl same) = inl same
+leaves_early options read before after first last fault fresh stops (inr (is, begun)) = inr (inr (
   fault,
   record {
     is_shown = is;

@@ -10,7 +10,7 @@ use Rattle.rfb_session.specs.ViewEngine.{KeepsLast, StopsViewing}
 use Rattle.rfb.specs.declared.fault.Fault.{Fault}
 use Rattle.rfb.specs.declared.fault.Failure.{Failure}
 use Rattle.rfb.specs.declared.fault.Failure.TheVariants as failure
-use Rattle.rfb.specs.declared.viewing.look.Sight.{Sight}
+use Rattle.rfb.specs.declared.viewing.options.Sight.{Sight}
 use Rattle.rfb.specs.Recording.{BeginsPicture, EndsShown, ShowsEnd, WritesPicture, shows_end}
 use Rattle.rfb.specs.Viewing.{FailsToView, IsMadeFor, LeavesSomeView, LeavesView, Saw, ShowsView, StopsSeeing, StopsView, Views}
 
@@ -171,6 +171,7 @@ shows_recorded sight read answered before after first last (failure.Engine fault
     never_recorded sight.is_recorded _ is not
 shows_recorded sight read answered before after first last (failure.Fault fault) is stops = tt
 shows_recorded sight read answered before after first last (failure.BadLine n) is stops = absurd stops
+shows_recorded sight read answered before after first last (failure.Picture flaw) is stops = absurd stops
 
 pub fails_recorded : (sight : Sight) (read answered before after : Option (List ℕ)) (first last : Viewer)
     (r : Result (Unit {0}) Failure) → IsMadeFor sight first → sight.is_recorded ≡ true →
@@ -213,6 +214,7 @@ fails_seeing sight read answered before after first last fault (failure.Fault ow
   ),
 )
 fails_seeing sight read answered before after first last fault (failure.BadLine n) fresh not stops ends = absurd ends
+fails_seeing sight read answered before after first last fault (failure.Picture flaw) fresh not stops ends = absurd ends
 
 pub leaves_seeing : (sight : Sight) (read answered before after : Option (List ℕ)) (first last : Viewer) (fault : EngineFault) →
     IsMadeFor sight first → sight.is_recorded ≡ false →
@@ -240,6 +242,7 @@ fails_shown sight read answered before after first last (Err (failure.Fault faul
   inl (stops_unkept sight.is_recorded read answered before after first sight.updates (failure.Fault fault) last not saw, tt),
 )
 fails_shown sight read answered before after first last (Err (failure.BadLine n)) fresh not saw is = let e = is.1 in absurd (cc)
+fails_shown sight read answered before after first last (Err (failure.Picture flaw)) fresh not saw is = let e = is.1 in absurd (cc)
 fails_shown sight read answered before after first last (Err (failure.Engine fault)) fresh not saw is = let e = is.1 in absurd (cc)
 
 -- an engine whose devices had not failed before

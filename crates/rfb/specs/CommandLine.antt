@@ -5,7 +5,7 @@ use Rattle.std.specs.Io.KnownBytes.{Appends}
 use Rattle.rfb_pixel.specs.declared.colour.Colour.{Colour}
 use Rattle.rfb_picture.specs.Grid.{Grid}
 use Rattle.rfb.specs.declared.fault.Failure.{Failure}
-use Rattle.rfb.specs.declared.fault.Failure.TheVariants.{BadLine, Fault, Engine}
+use Rattle.rfb.specs.declared.fault.Failure.TheVariants.{BadLine, Fault, Engine, Picture}
 use Rattle.rfb_session.specs.declared.world.World.{World}
 use Rattle.rfb_session.specs.World.{shown_by}
 use Rattle.rfb.specs.declared.script.line.Numbered.{Numbered}
@@ -25,11 +25,11 @@ use Rattle.clap.specs.Words.{Text}
 use Rattle.rfb.specs.declared.options.Order.{Order}
 use Rattle.rfb.specs.declared.options.Task.{Task}
 use Rattle.rfb.specs.declared.options.paths.Paths.{Paths}
-use Rattle.rfb.specs.declared.options.Task.TheVariants.{Script, Loop, Play, Serve, View}
+use Rattle.rfb.specs.declared.options.Task.TheVariants.{Script, Loop, Play, Serve, View, Share}
 use Rattle.rfb.specs.Loopback.{LeavesSomePicture, PlaysSomeScript}
 use Rattle.rfb.specs.Options.{AreOrdered}
 use Rattle.rfb.specs.Recording.{LeavesRecording, PlaysRecording}
-use Rattle.rfb.specs.Serving.{ServesFewer, ServesSo}
+use Rattle.rfb.specs.Serving.{LeavesServed, ServesAsked}
 use Rattle.rfb.specs.Viewing.{FailsSomehow, LeavesSomeView, ViewsSome}
 
 -- ---- a script
@@ -116,34 +116,38 @@ abbrev pub FailsAtAny : Option (List ℕ) → Failure → Type 0
 FailsAtAny read (BadLine n) = IfSome read (λ text. StopsReadingAny (lines_of text) (BadLine n))
 FailsAtAny read (Fault fault) = ⊤
 FailsAtAny read (Engine fault) = ⊥
+FailsAtAny read (Picture flaw) = ⊥
 
 -- the same of a script that is no hub's
 abbrev pub FailsAt : Option (List ℕ) → Failure → Type 0
 FailsAt read (BadLine n) = IfSome read (λ text. StopsReading (lines_of text) (BadLine n))
 FailsAt read (Fault fault) = ⊤
 FailsAt read (Engine fault) = ⊥
+FailsAt read (Picture flaw) = ⊥
 
 -- ---- any command
 
--- what was read and written at a command; of the bytes that come over a connection nothing is known
+-- what was read and written at a command; of the bytes that come over a connection nothing is
+-- known, and nothing is said here of a share
 abbrev pub Does : Task → Option (List ℕ) → Option (List ℕ) → Option (List ℕ) → Type 0
 Does Script read before after = PlaysScript read before after
 Does Loop read before after = PlaysSomeScript read before after
-Does (Serve wanted) read before after = ServesSo wanted.screen wanted.connections before after
-Does (View look) read before after = ViewsSome look.sight before after
-Does (Play replay) read before after = PlaysRecording replay read before after
+Does (Serve options) read before after = ServesAsked options before after
+Does (View options) read before after = ViewsSome options.sight before after
+Does (Play options) read before after = PlaysRecording options read before after
+Does (Share options) read before after = ⊤
 
 -- what was written at a command that failed: nothing, or a beginning of what it was to write; what
 -- a view keeps of a server's bytes is written as they come, and has what its viewer was fed
 abbrev pub Leaves : Task → Option (List ℕ) → Option (List ℕ) → Option (List ℕ) → Type 0
 Leaves Script read before after = LeavesScript read before after
 Leaves Loop read before after = LeavesSomePicture before after
-Leaves (Serve wanted) read before after =
-    ServesFewer wanted.screen wanted.connections before after
-Leaves (View look) read before after =
-    (look.sight.is_recorded ≡ false → LeavesSomeView look.sight before after)
-    × FailsSomehow look.sight before after
-Leaves (Play replay) read before after = LeavesRecording replay read before after
+Leaves (Serve options) read before after = LeavesServed options before after
+Leaves (View options) read before after =
+    (options.sight.is_recorded ≡ false → LeavesSomeView options.sight before after)
+    × FailsSomehow options.sight before after
+Leaves (Play options) read before after = LeavesRecording options read before after
+Leaves (Share options) read before after = ⊤
 
 -- where a file is named, it is read in place of standard input; of its bytes nothing is known
 abbrev pub FromFile : Option (Bor Text) → (Option (List ℕ) → Type 0) → Option (List ℕ) → Type 0

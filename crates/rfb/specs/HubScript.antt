@@ -6,7 +6,7 @@ use Rattle.rfb_session.specs.declared.hub.event.HubEvent.TheVariants.{Fill, Put,
 use Rattle.rfb_viewer.specs.declared.setup.ViewerSetup.{ViewerSetup as Setup}
 use Rattle.rfb_session.specs.HubSeats.{event_of}
 use Rattle.rfb.specs.declared.fault.Failure.{Failure}
-use Rattle.rfb.specs.declared.fault.Failure.TheVariants.{BadLine, Fault, Engine}
+use Rattle.rfb.specs.declared.fault.Failure.TheVariants.{BadLine, Fault, Engine, Picture}
 use Rattle.rfb.specs.declared.fault.Fault.TheVariants.{NoMemory}
 use Rattle.rfb.specs.declared.script.hub.line.HubNumbered.{HubNumbered}
 use Rattle.rfb.specs.declared.script.hub.line.HubStep.{HubStep}
@@ -201,6 +201,7 @@ abbrev pub StopsReadingHub : List (List ℕ) → Failure → Type 0
 StopsReadingHub lines (BadLine n) = IsFirstBadInHub lines n ⊎ IsWithoutShow lines n
 StopsReadingHub lines (Fault fault) = fault ≡ NoMemory
 StopsReadingHub lines (Engine fault) = ⊥
+StopsReadingHub lines (Picture flaw) = ⊥
 
 -- why they are read to no script of either kind; the first line that is not empty tells the kind
 abbrev pub StopsReadingAny : List (List ℕ) → Failure → Type 0

@@ -14,13 +14,16 @@ use Rattle.rfb_wire.specs.declared.encoding.Encoding.TheVariants.{Raw}
 use Rattle.rfb.specs.declared.options.Order.{Order}
 use Rattle.rfb.specs.declared.options.Task.{Task}
 use Rattle.rfb.specs.declared.options.paths.Paths.{Paths}
-use Rattle.rfb.specs.declared.options.Task.TheVariants.{Script, Loop, Play, Serve, View}
+use Rattle.rfb.specs.declared.options.Task.TheVariants.{Script, Loop, Play, Serve, View, Share}
 use Rattle.rfb.specs.declared.options.WrongWords.{WrongWords}
 use Rattle.rfb.specs.declared.options.WrongWords.TheVariants.{Words, Value}
-use Rattle.rfb.specs.declared.recording.replay.Replay.{Replay}
-use Rattle.rfb.specs.declared.serving.Wanted.{Wanted}
-use Rattle.rfb.specs.declared.viewing.look.Look.{Look}
-use Rattle.rfb.specs.declared.viewing.look.Sight.{Sight}
+use Rattle.rfb.specs.declared.play.options.PlayOptions.{PlayOptions}
+use Rattle.rfb.specs.declared.serving.options.ScreenChoice.{ScreenChoice}
+use Rattle.rfb.specs.declared.serving.options.ScreenChoice.TheVariants.{Scene, Picture}
+use Rattle.rfb.specs.declared.serving.options.ServeOptions.{ServeOptions}
+use Rattle.rfb.specs.declared.viewing.options.ViewOptions.{ViewOptions}
+use Rattle.rfb.specs.declared.viewing.options.Sight.{Sight}
+use Rattle.rfb.specs.declared.sharing.ShareOptions.{ShareOptions}
 use Rattle.rfb.specs.Address.{GivesServer}
 use Rattle.rfb.specs.Words.{AreEncodings, IsFormatWord, parts_of}
 
@@ -97,11 +100,32 @@ abbrev pub port_rule : Rule
 port_rule = record any_port_rule { required = true }
 
 abbrev pub side_rule : Text → Rule
-side_rule name = record (number_rule name 1 4096) { defaults = codes "64" ∷ [] }
+side_rule name = number_rule name 1 4096
 
 abbrev pub connections_rule : Rule
-connections_rule = record (number_rule (codes "connections") 1 65535) {
-  defaults = codes "1" ∷ [];
+connections_rule = number_rule (codes "connections") 1 65535
+
+-- one connection is served after another, without an end
+abbrev pub forever_rule : Rule
+forever_rule = flag_rule (codes "forever")
+
+-- a file that has the screen
+abbrev pub picture_rule : Rule
+picture_rule = record (new_rule (codes "picture")) {
+  long = Some (codes "picture");
+  value_names = 1;
+}
+
+abbrev pub viewers_rule : Rule
+viewers_rule = record (number_rule (codes "viewers") 1 8) { defaults = codes "8" ∷ [] }
+
+abbrev pub name_rule : Rule
+name_rule = word_rule (codes "name") (codes "rfb")
+
+abbrev pub idle_rule : Rule
+idle_rule = record (new_rule (codes "until-idle")) {
+  long = Some (codes "until-idle");
+  action = Some SetTrue;
 }
 
 -- how many updates are played, or else all
@@ -132,16 +156,30 @@ abbrev pub play_shape : Shape
 play_shape = (with_paths (with_rule (with_rule (with_rule (new_app (codes "play")) format_rule)
     first_updates_rule) partial_rule)).top
 
+abbrev pub with_screens : App → App
+with_screens app =
+    with_rule (with_rule (with_rule app (side_rule (codes "width"))) (side_rule (codes "height")))
+    picture_rule
+
+abbrev pub with_connections : App → App
+with_connections app = with_rule (with_rule app connections_rule) forever_rule
+
+abbrev pub with_listening : App → App
+with_listening app = with_rule (with_rule app timeout_rule) listen_rule
+
 abbrev pub serve_shape : Shape
-serve_shape = (with_rule (with_rule (with_rule (with_rule (with_rule (with_rule
-    (new_app (codes "serve")) port_rule) (side_rule (codes "width"))) (side_rule (codes "height")))
-    connections_rule) timeout_rule) listen_rule).top
+serve_shape =
+    (with_listening (with_connections (with_screens (with_rule (new_app (codes "serve")) port_rule)))).top
 
 abbrev pub view_shape : Shape
 view_shape = (with_rule (with_rule (with_rule (with_rule (with_rule (with_rule (with_rule
     (with_rule (with_rule (with_rule (new_app (codes "view")) server_rule) host_rule) any_port_rule)
     updates_rule) format_rule) encodings_rule) record_rule) timeout_rule) partial_rule)
     output_rule).top
+
+abbrev pub share_shape : Shape
+share_shape = (with_rule (with_rule (with_rule (with_rule (with_rule
+    (new_app (codes "share")) port_rule) listen_rule) viewers_rule) name_rule) idle_rule).top
 
 -- the program has a version, and commands, one of which has to be named
 abbrev pub top : App
@@ -152,8 +190,8 @@ top = record {
 
 abbrev pub program : App
 program =
-    with_subcommand (with_subcommand (with_subcommand (with_subcommand (with_subcommand top
-    script_shape) loop_shape) play_shape) serve_shape) view_shape
+    with_subcommand (with_subcommand (with_subcommand (with_subcommand (with_subcommand
+    (with_subcommand top script_shape) loop_shape) play_shape) serve_shape) view_shape) share_shape
 
 -- ---- what they ask for
 
@@ -214,20 +252,78 @@ abbrev pub NamesHost : Option Text → Text → Type 0
 NamesHost None host = host ≡ codes "127.0.0.1"
 NamesHost (Some word) host = host ≡ word
 
+-- a number from 1 on that may be left out, and is this one then
+pub record GivesOr (name : Text) (most otherwise : ℕ) (rows : List Row) (n : ℕ) : Type 0 where
+  pub absent : one_of name rows ≡ None → n ≡ otherwise
+  pub given : GivesNumber name 1 most rows n
+
+-- a word is given, or is not
+abbrev pub IsAbsent : Text → List Row → Type 0
+IsAbsent name rows = first_of name rows ≡ None
+
+abbrev pub IsThere : Text → List Row → Type 0
+IsThere name rows = (word : Text) × (first_of name rows ≡ Some word)
+
+-- what is shown: a picture, which has its own size, or the test scene
+abbrev pub GivesScreen : List Row → ScreenChoice → Type 0
+GivesScreen rows (Picture path) =
+    (first_of (codes "picture") rows ≡ Some path.now) × IsAbsent (codes "width") rows
+    × IsAbsent (codes "height") rows
+GivesScreen rows (Scene size) =
+    IsAbsent (codes "picture") rows × GivesOr (codes "width") 4096 64 rows size.width
+    × GivesOr (codes "height") 4096 64 rows size.height
+
+-- or a picture of another size
+abbrev pub HasBadScreen : List Row → Type 0
+HasBadScreen rows =
+    IsThere (codes "picture") rows × (IsThere (codes "width") rows ⊎ IsThere (codes "height") rows)
+
+-- how many connections are served: a number, or as many as can be counted
+abbrev pub CountsConnections : Bool → List Row → ℕ → Type 0
+CountsConnections true rows n = IsAbsent (codes "connections") rows × (n ≡ 18446744073709551615)
+CountsConnections false rows n = GivesOr (codes "connections") 65535 1 rows n
+
+abbrev pub GivesConnections : List Row → ℕ → Type 0
+GivesConnections rows n =
+    (is_endless : Bool) × IsFlagged (codes "forever") rows is_endless
+    × CountsConnections is_endless rows n
+
+-- or both
+abbrev pub HasBadConnections : List Row → Type 0
+HasBadConnections rows =
+    IsFlagged (codes "forever") rows true × IsThere (codes "connections") rows
+
 -- what `serve` is asked for
-pub record GivesWanted (rows : List Row) (wanted : Wanted) : Type 0 where
-  pub port : GivesNumber (codes "port") 1 65535 rows wanted.port
-  pub listen : NamesHost (first_of (codes "listen") rows) wanted.listen.now
-  pub width : GivesNumber (codes "width") 1 4096 rows wanted.screen.width
-  pub height : GivesNumber (codes "height") 1 4096 rows wanted.screen.height
-  pub connections : GivesNumber (codes "connections") 1 65535 rows wanted.connections
-  pub timeout : MayGiveNumber (codes "timeout") 1 4294967295 rows wanted.timeout
+pub record GivesServeOptions (rows : List Row) (options : ServeOptions) : Type 0 where
+  pub port : GivesNumber (codes "port") 1 65535 rows options.port
+  pub listen : NamesHost (first_of (codes "listen") rows) options.listen.now
+  pub screen : GivesScreen rows options.screen
+  pub connections : GivesConnections rows options.connections
+  pub timeout : MayGiveNumber (codes "timeout") 1 4294967295 rows options.timeout
+
+-- words that go with no other
+abbrev pub HasBadServe : List Row → Type 0
+HasBadServe rows = HasBadScreen rows ⊎ HasBadConnections rows
+
+-- the word that is given, or else this one
+abbrev pub NamesWord : Text → Option Text → Text → Type 0
+NamesWord default None word = word ≡ default
+NamesWord default (Some given) word = word ≡ given
+
+-- what `share` is asked for
+pub record GivesShareOptions (rows : List Row) (options : ShareOptions) : Type 0 where
+  pub listen : NamesHost (first_of (codes "listen") rows) options.listen.now
+  pub port : GivesNumber (codes "port") 1 65535 rows options.port
+  pub viewers : GivesNumber (codes "viewers") 1 8 rows options.viewers
+  pub few : (1 ≤ options.viewers) × (options.viewers ≤ 8)
+  pub name : NamesWord (codes "rfb") (first_of (codes "name") rows) options.name.now
+  pub until_idle : IsFlagged (codes "until-idle") rows options.until_idle
 
 -- what `play` is asked for
-pub record GivesReplay (rows : List Row) (replay : Replay) : Type 0 where
-  pub format : GivesFormat rows replay.format
-  pub updates : MayGiveNumber (codes "updates") 1 4294967295 rows replay.updates
-  pub is_partial : IsFlagged (codes "partial") rows replay.is_partial
+pub record GivesPlayOptions (rows : List Row) (options : PlayOptions) : Type 0 where
+  pub format : GivesFormat rows options.format
+  pub updates : MayGiveNumber (codes "updates") 1 4294967295 rows options.updates
+  pub is_partial : IsFlagged (codes "partial") rows options.is_partial
 
 -- the server that is given
 abbrev pub NamesServer : List Row → Option ℕ → Text → ℕ → Type 0
@@ -268,38 +364,43 @@ pub record GivesSight (rows : List Row) (sight : Sight) : Type 0 where
   pub is_partial : IsFlagged (codes "partial") rows sight.is_partial
 
 -- what `view` is asked for
-pub record GivesLook (rows : List Row) (look : Look) : Type 0 where
-  pub address : GivesAddress rows look.host.now look.port
-  pub timeout : MayGiveNumber (codes "timeout") 1 4294967295 rows look.timeout
-  pub sight : GivesSight rows look.sight
+pub record GivesViewOptions (rows : List Row) (options : ViewOptions) : Type 0 where
+  pub address : GivesAddress rows options.host.now options.port
+  pub timeout : MayGiveNumber (codes "timeout") 1 4294967295 rows options.timeout
+  pub sight : GivesSight rows options.sight
 
 -- a word of `view` is no format, or no list of encodings
 abbrev pub HasBadSight : List Row → Type 0
 HasBadSight rows = HasBadFormat rows ⊎ HasBadEncodings rows
 
 -- or it names no server
-abbrev pub HasBadLook : List Row → Type 0
-HasBadLook rows = HasBadAddress rows ⊎ HasBadSight rows
+abbrev pub HasBadView : List Row → Type 0
+HasBadView rows = HasBadAddress rows ⊎ HasBadSight rows
 
 -- a command, by its name and its options; `script` is the one with no other name
 abbrev pub IsTask : Option (Text × List Row) → Task → Type 0
 IsTask None Script = Unit {0}
 IsTask None Loop = ⊥
-IsTask None (Play replay) = ⊥
-IsTask None (Serve wanted) = ⊥
-IsTask None (View look) = ⊥
+IsTask None (Play options) = ⊥
+IsTask None (Serve options) = ⊥
+IsTask None (View options) = ⊥
+IsTask None (Share options) = ⊥
 IsTask (Some (name, rows)) Script =
     (name ≢ codes "loop") × (name ≢ codes "play") × (name ≢ codes "serve") × (name ≢ codes "view")
+    × (name ≢ codes "share")
 IsTask (Some (name, rows)) Loop = name ≡ codes "loop"
-IsTask (Some (name, rows)) (Play replay) = (name ≡ codes "play") × GivesReplay rows replay
-IsTask (Some (name, rows)) (Serve wanted) = (name ≡ codes "serve") × GivesWanted rows wanted
-IsTask (Some (name, rows)) (View look) = (name ≡ codes "view") × GivesLook rows look
+IsTask (Some (name, rows)) (Play options) = (name ≡ codes "play") × GivesPlayOptions rows options
+IsTask (Some (name, rows)) (Serve options) =
+    (name ≡ codes "serve") × GivesServeOptions rows options
+IsTask (Some (name, rows)) (View options) = (name ≡ codes "view") × GivesViewOptions rows options
+IsTask (Some (name, rows)) (Share options) = (name ≡ codes "share") × GivesShareOptions rows options
 
 -- a value of an option is none that it may have
 abbrev pub HasBadValue : Option (Text × List Row) → Type 0
 HasBadValue None = ⊥
 HasBadValue (Some (name, rows)) =
-    ((name ≡ codes "play") × HasBadFormat rows) ⊎ ((name ≡ codes "view") × HasBadLook rows)
+    ((name ≡ codes "play") × HasBadFormat rows) ⊎ ((name ≡ codes "serve") × HasBadServe rows)
+    ⊎ ((name ≡ codes "view") × HasBadView rows)
 
 -- ---- words
 

@@ -17,8 +17,8 @@ use Rattle.rfb_session.specs.Playing.{AllPlayed, StopsPlaying}
 use Rattle.rfb_session.specs.PlayingSome.{PlayedFirst, StopsPlayingSome}
 use Rattle.rfb_session.specs.Watching.{StandsBetween}
 use Rattle.rfb.specs.declared.fault.Failure.{Failure}
-use Rattle.rfb.specs.declared.fault.Failure.TheVariants.{BadLine, Fault, Engine}
-use Rattle.rfb.specs.declared.recording.replay.Replay.{Replay}
+use Rattle.rfb.specs.declared.fault.Failure.TheVariants.{BadLine, Fault, Engine, Picture}
+use Rattle.rfb.specs.declared.play.options.PlayOptions.{PlayOptions}
 use Rattle.rfb_session.specs.Pixmap.{pixmap}
 
 -- what a viewer of the program is made with
@@ -88,19 +88,19 @@ BeginsPicture viewer before after =
 
 -- a fresh viewer was fed as much as is wanted of what was read, and this was written of what it
 -- then shows
-pub record PlaysTo (Writes : Viewer → Type 0) (replay : Replay) (read : Option (List ℕ))
+pub record PlaysTo (Writes : Viewer → Type 0) (options : PlayOptions) (read : Option (List ℕ))
     : Type 0 where
   pub first : Viewer
-  pub fresh : IsFresh replay.format (Raw ∷ []) first
+  pub fresh : IsFresh options.format (Raw ∷ []) first
   pub told : ℕ
   pub last : Viewer
-  pub watches : Watches replay.updates read first told last
+  pub watches : Watches options.updates read first told last
   pub written : Writes last
 
 -- the whole of it was
-abbrev pub PlaysRecording : Replay → Option (List ℕ) → Option (List ℕ) → Option (List ℕ) → Type 0
-PlaysRecording replay read before after =
-    PlaysTo (λ viewer. WritesPicture viewer before after) replay read
+abbrev pub PlaysRecording : PlayOptions → Option (List ℕ) → Option (List ℕ) → Option (List ℕ) → Type 0
+PlaysRecording options read before after =
+    PlaysTo (λ viewer. WritesPicture viewer before after) options read
 
 -- the bytes came to an end, and no viewer did
 abbrev pub is_end : EngineFault → Bool
@@ -134,31 +134,33 @@ EndsShown is_wanted viewer fault before after (Engine told) =
 EndsShown is_wanted viewer fault before after (Fault own) =
     (shows_end is_wanted fault ≡ true) × BeginsPicture viewer before after
 EndsShown is_wanted viewer fault before after (BadLine n) = ⊥
+EndsShown is_wanted viewer fault before after (Picture flaw) = ⊥
 
 -- a fresh viewer was fed what came by an early end, which is wanted, and a beginning of what it
 -- then shows was written
-pub record PlaysPart (replay : Replay) (read before after : Option (List ℕ)) (fault : EngineFault)
+pub record PlaysPart (options : PlayOptions) (read before after : Option (List ℕ)) (fault : EngineFault)
     : Type 0 where
-  pub is_shown : shows_end replay.is_partial fault ≡ true
+  pub is_shown : shows_end options.is_partial fault ≡ true
   pub first : Viewer
-  pub fresh : IsFresh replay.format (Raw ∷ []) first
+  pub fresh : IsFresh options.format (Raw ∷ []) first
   pub last : Viewer
-  pub stops : StopsWatching replay.updates read first fault last
+  pub stops : StopsWatching options.updates read first fault last
   pub begun : BeginsPicture last before after
 
 -- the output is as it was, or a beginning was, also of what came by an early end
-abbrev pub LeavesRecording : Replay → Option (List ℕ) → Option (List ℕ) → Option (List ℕ) → Type 0
-LeavesRecording replay read before after =
-    (after ≡ before) ⊎ PlaysTo (λ viewer. BeginsPicture viewer before after) replay read
-    ⊎ ((fault : EngineFault) × PlaysPart replay read before after fault)
+abbrev pub LeavesRecording : PlayOptions → Option (List ℕ) → Option (List ℕ) → Option (List ℕ) → Type 0
+LeavesRecording options read before after =
+    (after ≡ before) ⊎ PlaysTo (λ viewer. BeginsPicture viewer before after) options read
+    ⊎ ((fault : EngineFault) × PlaysPart options read before after fault)
 
 -- what a fresh viewer was fed ended it, or ended where it must not, and this much of what it then
 -- shows was written
-abbrev pub FailsToPlay : Replay → Option (List ℕ) → Option (List ℕ) → Option (List ℕ) → Failure →
+abbrev pub FailsToPlay : PlayOptions → Option (List ℕ) → Option (List ℕ) → Option (List ℕ) → Failure →
     Type 0
-FailsToPlay replay read before after (Engine fault) =
-    (first last : Viewer) × IsFresh replay.format (Raw ∷ []) first
-    × StopsWatching replay.updates read first fault last
-    × ShowsEnd replay.is_partial last fault before after
-FailsToPlay replay read before after (Fault fault) = ⊤
-FailsToPlay replay read before after (BadLine n) = ⊥
+FailsToPlay options read before after (Engine fault) =
+    (first last : Viewer) × IsFresh options.format (Raw ∷ []) first
+    × StopsWatching options.updates read first fault last
+    × ShowsEnd options.is_partial last fault before after
+FailsToPlay options read before after (Fault fault) = ⊤
+FailsToPlay options read before after (BadLine n) = ⊥
+FailsToPlay options read before after (Picture flaw) = ⊥

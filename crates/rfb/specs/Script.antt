@@ -4,7 +4,7 @@ use Rattle.std.specs.List.{slice_split}
 use Rattle.rfb_session.specs.declared.event.Event.{Event}
 use Rattle.rfb_session.specs.declared.event.Event.TheVariants.{Fill, Put, Copy, Hint, Request, SetFormat, SetEncodings, Key, Pointer, CutText, Compose, ToServer, ToViewer}
 use Rattle.rfb.specs.declared.fault.Failure.{Failure}
-use Rattle.rfb.specs.declared.fault.Failure.TheVariants.{BadLine, Fault, Engine}
+use Rattle.rfb.specs.declared.fault.Failure.TheVariants.{BadLine, Fault, Engine, Picture}
 use Rattle.rfb.specs.declared.fault.Fault.TheVariants.{NoMemory}
 use Rattle.rfb.specs.declared.script.line.Numbered.{Numbered}
 use Rattle.rfb.specs.declared.script.line.Screen.{Screen as Size}
@@ -164,3 +164,4 @@ abbrev pub StopsReading : List (List ℕ) → Failure → Type 0
 StopsReading lines (BadLine n) = IsFirstBad lines n ⊎ IsWithoutScreen lines n
 StopsReading lines (Fault fault) = fault ≡ NoMemory
 StopsReading lines (Engine fault) = ⊥
+StopsReading lines (Picture flaw) = ⊥

@@ -1,5 +1,6 @@
--- Connections that are served with the test scene, and the lines that say how they ended.
-use Rattle.std.specs.Prelude.{◌≡◌, ◌≤◌, ◌⊎◌, ℕ, zero, suc, true, List, [], ◌∷◌, ◌++◌, Option, Result, Ok, Err, codes}
+-- Connections that are served with the test scene or with a picture, and the lines that say how they
+-- ended.
+use Rattle.std.specs.Prelude.{◌≡◌, ◌≤◌, ◌⊎◌, ℕ, zero, suc, true, List, [], ◌∷◌, ◌++◌, ⊤, Option, Some, None, Result, Ok, Err, codes}
 use Rattle.std.specs.Fmt.{decimal}
 use Rattle.std.specs.Io.KnownBytes.{Appends}
 use Rattle.rfb_server.specs.declared.server.Server.{Server}
@@ -7,8 +8,39 @@ use Rattle.rfb_session.specs.declared.engine.fault.EngineFault.{EngineFault}
 use Rattle.rfb_session.specs.declared.engine.fault.EngineFault.TheVariants.{Device, NoMemory}
 use Rattle.rfb_session.specs.Devices.{AppendsBeginning}
 use Rattle.rfb_session.specs.ServeEngine.{AllServed, GoesOn, ServerBetween, StopsServing}
+use Rattle.rfb_picture.specs.Grid.{Grid}
+use Rattle.rfb_pixel.specs.declared.colour.Colour.{Colour}
+use Rattle.rfb.specs.declared.pixmap.fault.PixmapError.{PixmapError}
+use Rattle.rfb.specs.declared.pixmap.fault.PixmapError.TheVariants.{Flaw as FlawError, Input, NoMemory as NoMemoryError}
+use Rattle.rfb.specs.declared.pixmap.Pixmap.{Pixmap}
+use Rattle.rfb.specs.pixmap.File.{HasFlaw, SpellsKnown, picture_of}
+use Rattle.rfb_server.specs.Server.{first_server}
+use Rattle.rfb_server.specs.Standing.{StandsFor, with_screen}
+use Rattle.rfb.specs.declared.fault.Fault.{Fault as FaultOf}
+use Rattle.rfb.specs.declared.fault.Fault.TheVariants.{NoMemory as OutOfMemory}
+use Rattle.rfb.specs.declared.fault.Failure.{Failure}
+use Rattle.rfb.specs.declared.fault.Failure.TheVariants.{BadLine, Fault, Engine, Picture as PictureFailure}
 use Rattle.rfb.specs.declared.script.line.Screen.{Screen as Size}
+use Rattle.rfb.specs.declared.serving.options.ScreenChoice.{ScreenChoice}
+use Rattle.rfb.specs.declared.serving.options.ScreenChoice.TheVariants.{Scene as SceneAsked, Picture as PictureAsked}
+use Rattle.rfb.specs.declared.serving.options.ServeOptions.{ServeOptions}
+use Rattle.rfb.specs.declared.serving.screen.ServedScreen.{ServedScreen}
+use Rattle.rfb.specs.declared.serving.screen.ServedScreen.TheVariants.{Scene, Picture}
+use Rattle.rfb.specs.Playing.{serving_of}
 use Rattle.rfb.specs.Scene.{ShowsScene}
+
+-- ---- the first screen
+
+-- a server was fed nothing, and its screen shows a picture
+abbrev pub ShowsPicture : Grid Colour → Server → Type 0
+ShowsPicture picture server =
+    (size : Size) × (size.width ≡ picture.width) × (size.height ≡ picture.height)
+    × StandsFor (serving_of size) server (with_screen picture (first_server (serving_of size))) []
+
+-- the same of the test scene, or of what a pixmap spells
+abbrev pub ShowsFirst : ServedScreen → Server → Type 0
+ShowsFirst (Scene size) server = ShowsScene size server
+ShowsFirst (Picture pixmap) server = ShowsPicture (picture_of pixmap) server
 
 -- ---- one connection
 
@@ -42,17 +74,17 @@ abbrev pub IsServedFrom : Option (List ℕ) → Option (List ℕ) → Server →
 IsServedFrom read written first (Ok updates) = ServesAll read written first updates
 IsServedFrom read written first (Err fault) = StopsEarly read written first fault
 
--- a reader and a writer were served by a server that was fed nothing before, and whose screen of
--- this size showed the scene; or there was no memory for that
-abbrev pub IsServed : Size → Option (List ℕ) → Option (List ℕ) → End → Type 0
-IsServed size read written end =
-    ((first : Server) × ShowsScene size first × IsServedFrom read written first end)
+-- a reader and a writer were served by a server that was fed nothing before, and whose screen showed
+-- the scene or the picture; or there was no memory for that
+abbrev pub IsServed : ServedScreen → Option (List ℕ) → Option (List ℕ) → End → Type 0
+IsServed screen read written end =
+    ((first : Server) × ShowsFirst screen first × IsServedFrom read written first end)
     ⊎ (end ≡ Err NoMemory)
 
 -- a connection of whose bytes nothing is known was served so; or there was none
-abbrev pub IsServedSome : Size → End → Type 0
-IsServedSome size end =
-    ((read written : Option (List ℕ)) × IsServed size read written end) ⊎ (end ≡ Err Device)
+abbrev pub IsServedSome : ServedScreen → End → Type 0
+IsServedSome screen end =
+    ((read written : Option (List ℕ)) × IsServed screen read written end) ⊎ (end ≡ Err Device)
 
 -- ---- lines
 
@@ -62,19 +94,66 @@ IsLineOf (Ok updates) line = line ≡ codes "ok " ++ decimal updates ++ 10 ∷ [
 IsLineOf (Err fault) line = (text : List ℕ) × (line ≡ codes "fault " ++ text ++ 10 ∷ [])
 
 -- a text has a line for each of a number of connections, in their order, that says how it ended
-abbrev pub TellsEnds : Size → ℕ → List ℕ → Type 0
-TellsEnds size zero text = text ≡ []
-TellsEnds size (suc n) text =
-    (before line : List ℕ) × (end : End) × TellsEnds size n before
-    × IsServedSome size end × IsLineOf end line × (text ≡ before ++ line)
+abbrev pub TellsEnds : ServedScreen → ℕ → List ℕ → Type 0
+TellsEnds screen zero text = text ≡ []
+TellsEnds screen (suc n) text =
+    (before line : List ℕ) × (end : End) × TellsEnds screen n before
+    × IsServedSome screen end × IsLineOf end line × (text ≡ before ++ line)
 
 -- the lines of `connections` connections stand after what was written before
-abbrev pub ServesSo : Size → ℕ → Option (List ℕ) → Option (List ℕ) → Type 0
-ServesSo size connections before after =
-    (text : List ℕ) × TellsEnds size connections text × Appends before after text
+abbrev pub ServesSo : ServedScreen → ℕ → Option (List ℕ) → Option (List ℕ) → Type 0
+ServesSo screen connections before after =
+    (text : List ℕ) × TellsEnds screen connections text × Appends before after text
 
 -- a beginning of the lines of at most `connections` connections does
-abbrev pub ServesFewer : Size → ℕ → Option (List ℕ) → Option (List ℕ) → Type 0
-ServesFewer size connections before after =
-    (n : ℕ) × (n ≤ connections) × (text : List ℕ) × TellsEnds size n text
+abbrev pub ServesFewer : ServedScreen → ℕ → Option (List ℕ) → Option (List ℕ) → Type 0
+ServesFewer screen connections before after =
+    (n : ℕ) × (n ≤ connections) × (text : List ℕ) × TellsEnds screen n text
     × AppendsBeginning before after text
+
+-- ---- what is asked for
+
+-- a picture is served that the bytes of a file spell; of its bytes nothing is known
+abbrev pub ServesSpelled : (ServedScreen → Type 0) → Type 0
+ServesSpelled Serves =
+    (bytes : Option (List ℕ)) × (pixmap : Pixmap) × SpellsKnown bytes (picture_of pixmap)
+    × Serves (Picture pixmap)
+
+-- the scene is, or the picture of the file that is named
+abbrev pub ServesWith : (ServedScreen → Type 0) → ScreenChoice → Type 0
+ServesWith Serves (SceneAsked size) = Serves (Scene size)
+ServesWith Serves (PictureAsked path) = ServesSpelled Serves
+
+-- as many connections were as are asked for; or nothing was written, or a beginning of the lines of
+-- at most as many
+abbrev pub ServesAsked : ServeOptions → Option (List ℕ) → Option (List ℕ) → Type 0
+ServesAsked options before after =
+    ServesWith (λ screen. ServesSo screen options.connections before after) options.screen
+
+abbrev pub LeavesServed : ServeOptions → Option (List ℕ) → Option (List ℕ) → Type 0
+LeavesServed options before after =
+    (after ≡ before)
+    ⊎ ServesWith (λ screen. ServesFewer screen options.connections before after) options.screen
+
+-- ---- why it fails
+
+-- by a fault, or by the picture
+abbrev pub FailsToServe : Failure → Type 0
+FailsToServe (Fault fault) = ⊤
+FailsToServe (PictureFailure flaw) = ⊤
+FailsToServe (BadLine n) = ⊥
+FailsToServe (Engine fault) = ⊥
+
+-- what an error of a pixmap's is to the program
+abbrev pub FailsAs : PixmapError → Failure → Type 0
+FailsAs (FlawError flaw) failure = failure ≡ PictureFailure flaw
+FailsAs (Input error) failure = (fault : FaultOf) × (failure ≡ Fault fault)
+FailsAs NoMemoryError failure = failure ≡ Fault OutOfMemory
+
+-- a flaw is one of what was read, where its bytes are known
+abbrev pub FailsToRead : Option (List ℕ) → Failure → Type 0
+FailsToRead (Some bytes) (PictureFailure flaw) = HasFlaw bytes flaw
+FailsToRead None (PictureFailure flaw) = ⊤
+FailsToRead read (Fault fault) = ⊤
+FailsToRead read (BadLine n) = ⊥
+FailsToRead read (Engine fault) = ⊥

@@ -5,8 +5,8 @@ use Rattle.rfb_session.specs.declared.engine.fault.EngineFault.{EngineFault}
 use Rattle.rfb_session.specs.ViewEngine.{HasViewed, StopsViewing}
 use Rattle.rfb.specs.declared.fault.Failure.{Failure}
 use Rattle.rfb.specs.declared.fault.Fault.{Fault as OwnFault}
-use Rattle.rfb.specs.declared.fault.Failure.TheVariants.{BadLine, Fault, Engine}
-use Rattle.rfb.specs.declared.viewing.look.Sight.{Sight}
+use Rattle.rfb.specs.declared.fault.Failure.TheVariants.{BadLine, Fault, Engine, Picture}
+use Rattle.rfb.specs.declared.viewing.options.Sight.{Sight}
 use Rattle.rfb.specs.Recording.{BeginsPicture, IsFresh, ShowsEnd, WritesPicture, shows_end}
 
 -- a viewer asked and was fed, up to the end of the `updates`-th update; its bytes were there to be
@@ -78,6 +78,7 @@ StopsView read answered blank copied old updates (Engine fault) new =
 StopsView read answered blank copied old updates (Fault fault) new =
     Saw read answered blank copied old updates new
 StopsView read answered blank copied old updates (BadLine n) new = ⊥
+StopsView read answered blank copied old updates (Picture flaw) new = ⊥
 
 -- what it ended with, and, where no recording is wanted, this much of its picture was written
 abbrev pub ShowsView : Sight → Viewer → Option (List ℕ) → Option (List ℕ) → Failure → Type 0
@@ -85,6 +86,7 @@ ShowsView sight last before after (Engine fault) =
     sight.is_recorded ≡ false → ShowsEnd sight.is_partial last fault before after
 ShowsView sight last before after (Fault fault) = ⊤
 ShowsView sight last before after (BadLine n) = ⊥
+ShowsView sight last before after (Picture flaw) = ⊥
 
 -- what a fresh viewer was fed ended it, or ended too early, or it saw all; a recording has what the
 -- engine says of it; or the picture of what came by an early end could not be written

@@ -50,6 +50,20 @@ Usage: rfb view --port <P>
 
 For more information, try '--help'.";
 
+const SIDES: &str = "\
+error: the argument '--picture <FILE>' cannot be used with '--width <N>' or '--height <N>'
+
+Usage: rfb serve [OPTIONS] --port <P>
+
+For more information, try '--help'.";
+
+const CONNECTIONS: &str = "\
+error: the argument '--forever' cannot be used with '--connections <K>'
+
+Usage: rfb serve [OPTIONS] --port <P>
+
+For more information, try '--help'.";
+
 const ENCODINGS: &str = "\
 rfb: encodings are raw, copyrect, rre and hextile: one to four of them, with a comma between two";
 
@@ -180,6 +194,8 @@ For more information, try '--help'."
         ),
         BadValue::Servers => writeln!(errors, "{SERVERS}"),
         BadValue::NoServer => writeln!(errors, "{NO_SERVER}"),
+        BadValue::Sides => writeln!(errors, "{SIDES}"),
+        BadValue::Connections => writeln!(errors, "{CONNECTIONS}"),
     };
 }
 

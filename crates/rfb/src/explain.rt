@@ -13,7 +13,7 @@ mod placing;
 pub use escaped::Escaped;
 pub use failing::{tell_client, tell_server};
 pub use heard::Heard;
-pub use hearing::{Hearing, Speaking};
+pub use hearing::{Hearing, Speaking, tell_updates};
 pub use placing::tell_place;
 use std::io;
 use std::io::Write;
@@ -77,11 +77,31 @@ pub fn tell_unbound<N: Write>(host: &str, port: u16, error: &io::Error, notes: &
     );
 }
 
+/// Says that this process could not be connected to itself.
+pub fn tell_unlinked<N: Write>(error: &io::Error, notes: &mut N) {
+    let _ = writeln!(notes, "rfb: no connection of 127.0.0.1 to itself: {error}");
+}
+
+/// Says that standard output cannot be written.
+pub fn tell_unshowable<N: Write>(error: &io::Error, notes: &mut N) {
+    let _ = writeln!(notes, "rfb: cannot write standard output: {error}");
+}
+
 /// Says that a file cannot be read.
 pub fn tell_unread<N: Write>(path: &str, error: &io::Error, notes: &mut N) {
     let _ = writeln!(
         notes,
         "rfb: cannot read {}: {error}",
+        Escaped(path.as_bytes())
+    );
+}
+
+/// Says that a file's picture cannot be shown.
+pub fn tell_unshown<N: Write>(path: &str, notes: &mut N) {
+    let _ = writeln!(
+        notes,
+        "rfb: cannot show {}: a picture is a PPM (P6) of 1 to 4096 places a side, with 255 or 65535 \
+         as its largest component",
         Escaped(path.as_bytes())
     );
 }

@@ -5,6 +5,7 @@ ghost use Rattle.rfb.specs.Fault.{IsFailureOf, IsFaultOf};
 ghost use Rattle.rfb.specs.declared.fault.Failure.TheVariants as Failure;
 ghost use Rattle.rfb.specs.declared.fault.Fault.TheVariants as Fault;
 
+use crate::pixmap::Flaw;
 use rfb_session::{Device, EngineFault, NoMemory};
 use std::alloc::{AllocError, AllocFailed};
 use std::io;
@@ -76,6 +77,9 @@ pub enum Failure {
     /// What ended an engine.
     #[error("fault {0}")]
     Engine(EngineFault),
+    /// What is wrong with a picture that was to be served. Nobody was.
+    #[error("bad picture {0}")]
+    Picture(Flaw),
 }
 
 impl Failure {

@@ -1,6 +1,8 @@
-//! The faults and the refusals by number, with what they mean: `rfb help faults`.
+//! The faults, the refusals and what is wrong with a picture, by number, with what they mean:
+//! `rfb help faults`.
 
 use crate::fault::Fault;
+use crate::pixmap::Flaw;
 use rfb_server::ServerFault;
 use rfb_session::{EngineFault, HubFault};
 use rfb_viewer::ViewerFault;
@@ -165,11 +167,30 @@ const TABLE: [(Numbered, &str); 32] = [
     ),
 ];
 
+// What is wrong with the file of a picture that is to be served.
+const PICTURES: [Flaw; 7] = [
+    Flaw::NoPixmap,
+    Flaw::NoNumber,
+    Flaw::BadSide,
+    Flaw::BadMaximum,
+    Flaw::NoBlank,
+    Flaw::TooShort,
+    Flaw::TooLong,
+];
+
+const PICTURES_HEAD: &str = "
+A picture that `serve --picture` does not show is refused by the first of these that holds.
+";
+
 /// Writes them, a line each.
 pub fn write_faults<W: Write>(output: &mut W) -> io::Result<()> {
     writeln!(output, "{HEAD}")?;
     for (numbered, meaning) in &TABLE {
         writeln!(output, "{numbered}: {meaning}")?;
+    }
+    writeln!(output, "{PICTURES_HEAD}")?;
+    for flaw in &PICTURES {
+        writeln!(output, "bad picture {flaw}")?;
     }
     output.flush()
 }

@@ -61,15 +61,21 @@ Examples:
   rfb play --updates 2 -i server.rfb -o picture.ppm";
 
 pub const VIEWERS: &str = "\
-Each connection has a fresh screen. After each update the picture scrolls up by a row. As soon as a
-connection ends, a line on standard output says `ok` and how many updates were sent, or `fault` and
-which fault ended it; then the next one is served. With --timeout S a viewer that sends nothing for
-S seconds is let go by `fault 29 Device`.
+Each connection has a fresh screen, with a test picture or the one of --picture. After each update
+the test picture scrolls up by a row. The other one stays as it is: once a viewer has it, a request
+for what has changed is not answered. As soon as a connection ends, a line on standard output says
+`ok` and how many updates were sent, or `fault` and which fault ended it; then the next one is
+served. With --timeout S a viewer that sends nothing for S seconds is let go by `fault 29 Device`.
+
+A picture is a PPM (P6) of 1 to 4096 pixels a side, with 255 or 65535 as its largest component; it
+has its own size, so --width and --height do not go with it. What is wrong with a file is said as
+`bad picture`, with a number and a sentence, and nobody is served.
 docs/PROTOCOL.md has the faults by number.
 
-Example, with a viewer of TigerVNC:
+Examples, with a viewer of TigerVNC:
   rfb serve --port 5950 --width 640 --height 480 &
-  vncviewer 127.0.0.1::5950";
+  vncviewer 127.0.0.1::5950
+  rfb serve --port 5950 --picture status.ppm --forever";
 
 pub const SERVERS: &str = "\
 A viewer asks for the whole screen and then, after each update, for what changed, until it has the
@@ -85,3 +91,26 @@ Examples:
   rfb view example.org:1 -o picture.ppm
   rfb view --host example.org --port 5900 --encodings hextile,copyrect --updates 3 > picture.ppm
   rfb view --port 5901 --record > server.rfb";
+
+pub const OWNERS: &str = "\
+Standard input has a line for each thing that is drawn. One space parts two words:
+  screen W H                  first: the size of the screen, 1 to 4096 pixels a side
+  fill X Y W H RRGGBB         a rectangle gets a colour; twelve digits are four for each component
+  copy X Y W H SX SY          it gets what the one at (SX, SY) had
+  scroll X Y W H DX DY        what lies in it moves so far to the right and down, or back with a minus
+  hint X Y W H SX SY          a hint for viewers: it looks as the one at (SX, SY) did
+  pixels X Y W H              three bytes for each of its pixels follow, and a newline
+  end N                       the viewer of seat N is let go
+  quit                        all ends
+A bad line is reported on standard error with its number, and nothing of it is drawn. When standard
+input ends the screen stays as it is.
+
+Standard output has a line for each thing that viewers do; N is a seat, 0 to 7:
+  join N, leave N ok, leave N fault C NAME
+                              one came; one went; one was let go, and why
+  key N down|up K             a key, by its keysym
+  pointer N BUTTONS X Y       the pointer, and the buttons that are down, a bit each
+  text N HEX                  a text that was cut, at most 1024 bytes of it
+
+Example:
+  (echo screen 640 480; echo fill 0 0 640 480 336699) | rfb share --port 5950";

@@ -11,11 +11,12 @@ mod ends;
 mod link;
 mod sent;
 
+use crate::explain::{Notes, tell_unlinked};
 use crate::fault::{Failure, Fault};
 use crate::loopback::ends::Ends;
 use crate::loopback::link::{Link, connected};
+use crate::play::write_picture;
 use crate::playing::{ALL, TURNS};
-use crate::recording::write_picture;
 use crate::script::{Numbered, Script, Step, read_explained};
 use crate::scripting::tell_refusal;
 use rfb_session::{Event, Refused};
@@ -44,7 +45,7 @@ pub fn script_through_loopback<N: Net, R: Read, W: Write, E: Write>(
     let mut text = Vec::new(alloc);
     input.read_to_end(&mut text)?;
     let script = read_explained(alloc, &text, errors, explains)?;
-    run(net, alloc, &script, output, errors)?;
+    run(net, alloc, &script, output, errors, explains)?;
     Ok(())
 }
 
@@ -55,12 +56,19 @@ fn run<N: Net, W: Write, E: Write>(
     script: &Script,
     output: &mut W,
     errors: &mut E,
+    explains: bool,
 ) -> Result<(), Fault>
     ensures done { OnOk result (WritesSomePicture (W.contents output.old) (W.contents output.new)) }
     ensures left { OnErr result
         (LeavesSomePicture (W.contents output.old) (W.contents output.new)) }
 {
-    let mut link = connected(net)?;
+    let mut link = match connected(net) {
+        Ok(link) => link,
+        Err(error) => {
+            tell_unlinked(&error, &mut Notes::new(errors, explains));
+            return Err(Fault::from(error));
+        }
+    };
     let done = run_over(alloc, &mut link, script, output, errors);
     drop(link);
     done

@@ -1,7 +1,7 @@
 //! The program `rfb`: both ends of the Remote Framebuffer protocol (RFC 6143) at work.
 //!
 //! `command_line` has the statuses, `options` the words, and each command a module: `scripting`,
-//! `loopback`, `recording`, `serving` and `viewing`. `script` has the language of scripts.
+//! `loopback`, `play`, `serving` and `viewing`. `script` has the language of scripts.
 #![tactic(auto)]
 
 mod command_line;
@@ -11,13 +11,15 @@ mod faults;
 mod help;
 mod loopback;
 mod options;
+mod pixmap;
+mod play;
 mod playing;
 mod reaching;
-mod recording;
 mod scene;
 mod script;
 mod scripting;
 mod serving;
+mod sharing;
 mod terminal;
 #[cfg(test)]
 mod tests;

@@ -5,6 +5,7 @@ mod looking;
 mod paths;
 mod replaying;
 mod serving;
+mod sharing;
 
 ghost use Rattle.std.specs.Prelude.{◌≡◌, ◌≤◌, false, map, Some, IfOk, MatchResult};
 ghost use Rattle.clap.specs.Words.{FailsBy, fault_of, found_of, rows_of, rule_of, shape_of, subcommand_rows_of};
@@ -17,15 +18,17 @@ ghost use Rattle.rfb.specs.Options.{format_rule, partial_rule, port_rule};
 ghost use Rattle.rfb.specs.Options.{loop_shape, program, script_shape, serve_shape, top, view_shape};
 
 use crate::help::{LANGUAGE, LOOPBACK, STATUSES, VERSION};
-use crate::options::looking::{look_in, view_words};
+use crate::options::looking::{view_options_in, view_words};
 pub use crate::options::paths::Paths;
 use crate::options::paths::{paths_in, with_paths};
-use crate::options::replaying::{play_words, replay_in};
-use crate::options::serving::{serve_words, wanted_in};
-use crate::recording::Replay;
+use crate::options::replaying::{play_options_in, play_words};
+use crate::options::serving::{serve_options_in, serve_words};
+use crate::options::sharing::{share_options_in, share_words};
+use crate::play::PlayOptions;
 use crate::script::read_format;
-use crate::serving::Wanted;
-use crate::viewing::Look;
+use crate::serving::ServeOptions;
+use crate::sharing::ShareOptions;
+use crate::viewing::ViewOptions;
 use clap::{Arg, ArgAction, ArgMatches, Command, Error};
 use rfb_pixel::Format;
 use std::alloc::{AllocError, Global};
@@ -39,20 +42,22 @@ pub enum Task<'a> {
     /// To run a script over a connection.
     Loop,
     /// To play a recording.
-    Play(Replay),
-    /// To serve the test scene.
-    Serve(Wanted<'a>),
+    Play(PlayOptions),
+    /// To serve the test scene or a picture.
+    Serve(ServeOptions<'a>),
     /// To view a server.
-    View(Look<'a>),
+    View(ViewOptions<'a>),
+    /// To share a screen that a program draws.
+    Share(ShareOptions<'a>),
 }
 
 impl Task<'_> {
     /// Whether what has come by an early end is wanted.
     pub fn is_partial(&self) -> bool {
         match self {
-            Task::Play(replay) => replay.is_partial,
-            Task::View(look) => look.sight.is_partial,
-            Task::Script | Task::Loop | Task::Serve(_) => false,
+            Task::Play(options) => options.is_partial,
+            Task::View(options) => options.sight.is_partial,
+            Task::Script | Task::Loop | Task::Serve(_) | Task::Share(_) => false,
         }
     }
 }
@@ -77,6 +82,10 @@ pub enum BadValue<'a> {
     Servers,
     /// No server at all.
     NoServer,
+    /// A size beside a picture, which has its own.
+    Sides,
+    /// A number of connections, and no end.
+    Connections,
 }
 
 /// Why words ask for no task.
@@ -115,7 +124,8 @@ fn commands<'a>(alloc: Global) -> Result<Command<'a>, AllocError>
 {
     let scripts = with_scripts(alloc, program_words(alloc))?;
     let recordings = scripts.subcommand(play_words(alloc)?)?;
-    with_peers(alloc, recordings)
+    let peers = with_peers(alloc, recordings)?;
+    peers.subcommand(share_words(alloc)?)
 }
 
 // The program, with no command yet.
@@ -253,19 +263,25 @@ fn command_of<'a>(name: &str, given: &ArgMatches<'a>) -> Result<Task<'a>, BadVal
         return Ok(Task::Loop);
     }
     if name == "play" {
-        return match replay_in(given) {
-            Ok(replay) => Ok(Task::Play(replay)),
+        return match play_options_in(given) {
+            Ok(options) => Ok(Task::Play(options)),
             Err(value) => Err(value),
         };
     }
     if name == "serve" {
-        return Ok(Task::Serve(wanted_in(given)));
-    }
-    if name == "view" {
-        return match look_in(given) {
-            Ok(look) => Ok(Task::View(look)),
+        return match serve_options_in(given) {
+            Ok(options) => Ok(Task::Serve(options)),
             Err(value) => Err(value),
         };
+    }
+    if name == "view" {
+        return match view_options_in(given) {
+            Ok(options) => Ok(Task::View(options)),
+            Err(value) => Err(value),
+        };
+    }
+    if name == "share" {
+        return Ok(Task::Share(share_options_in(given)));
     }
     Ok(Task::Script)
 }

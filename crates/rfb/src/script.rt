@@ -40,13 +40,16 @@ use crate::explain::Notes;
 use crate::fault::Failure;
 use crate::script::cause::tell_bad_line;
 use crate::script::read::{read_screen, read_step, read_viewer};
+pub use arguments::{read_fill, read_move, read_size};
 pub use hub::line::{HubNumbered, HubStep};
-pub use hub::{HubScript, begins_hub, read_hub_script};
+pub use hub::words::read_only_slot;
+pub use hub::{HubScript, begins_hub, read_hub_explained};
 pub use line::{Numbered, Screen, Step, Wants};
 pub use number::read_number;
+pub use read::parted;
 use std::alloc::Global;
 use std::io::Write;
-pub use words::{MAX_SIDE, read_format, read_list};
+pub use words::{MAX_SIDE, read_format, read_list, read_rect};
 
 /// A script that was read to its end and has no bad line.
 #[derive(Debug, Drop)]

@@ -12,7 +12,7 @@ mod hub;
 
 use crate::fault::{Failure, Fault};
 use crate::playing::{fresh_world, play};
-use crate::script::{Numbered, Script, begins_hub, read_explained, read_hub_script};
+use crate::script::{Numbered, Script, begins_hub, read_explained, read_hub_explained};
 use crate::scripting::hub::run_hub;
 use crate::writing::write_ppm;
 use rfb_session::{Refused, World};
@@ -21,8 +21,7 @@ use std::io::{LineWriter, Read, Write};
 
 /// Runs the script that `input` has, between a server and a viewer in memory, and writes the
 /// viewer's picture; of a hub's script, that of the slot that its last line names. At a bad line
-/// nothing is written. If sentences are wanted, one says why a line is bad, of a script without a
-/// hub.
+/// nothing is written. If sentences are wanted, one says why a line is bad.
 pub fn script<R: Read, W: Write, E: Write>(
     alloc: Global,
     input: &mut R,
@@ -41,7 +40,7 @@ pub fn script<R: Read, W: Write, E: Write>(
     input.read_to_end(&mut text)?;
     let lines = text.as_slice();
     if begins_hub(lines) {
-        let hub = read_hub_script(alloc, lines)?;
+        let hub = read_hub_explained(alloc, lines, errors, explains)?;
         run_hub(alloc, &hub, output, errors)?;
         return Ok(());
     }

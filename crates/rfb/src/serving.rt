@@ -1,72 +1,118 @@
-//! A server of the test scene, over sockets: one connection after another.
+//! A server of the test scene or of a picture, over sockets: one connection after another.
 
 ghost use Rattle.std.specs.Prelude.{◌≡◌, ◌⊎◌, ℕ, List, Ok, Err, IfOk, IfErr, OnOk, OnErr};
 ghost use Rattle.std.specs.Io.KnownBytes.{Appends};
+ghost use Rattle.rfb.specs.declared.pixmap.fault.Flaw.{Flaw};
 ghost use Rattle.rfb_session.specs.Devices.{AppendsBeginning};
-ghost use Rattle.rfb.specs.Playing.{IsFreshServer};
-ghost use Rattle.rfb.specs.Scene.{ShowsScene};
-ghost use Rattle.rfb.specs.Serving.{IsLineOf, IsServed, IsServedFrom, IsServedSome};
-ghost use Rattle.rfb.specs.Serving.{ServesFewer, ServesSo};
+ghost use Rattle.rfb.specs.Serving.{IsLineOf, IsServedSome};
+ghost use Rattle.rfb.specs.Serving.{FailsToServe, LeavesServed, ServesAsked, ServesFewer};
+ghost use Rattle.rfb.specs.Serving.{ServesSo, ServesSpelled};
 ghost use Rattle.rfb.specs.declared.fault.Failure.TheVariants as Failure;
 ghost use Rattle.rfb.specs.declared.fault.Fault.{Fault};
 
+mod fresh;
+mod options;
+mod screen;
+mod still;
+
 use crate::explain::{Notes, tell_bound, tell_client, tell_unbound};
 use crate::fault::Failure;
-use crate::playing::fresh_server;
 use crate::reaching::Timed;
-use crate::scene::TestScene;
-use crate::script::Screen;
+use crate::serving::fresh::serve_fresh;
+use crate::serving::screen::open_picture;
 use crate::writing::write_whole;
-use rfb_server::Server;
-use rfb_session::{EngineFault, Tally, serve};
+pub use options::{FOREVER, ScreenChoice, ServeOptions};
+use rfb_session::EngineFault;
+pub use screen::ServedScreen;
 use std::alloc::Global;
+use std::fs::Files;
 use std::io;
 use std::io::{Read, Write};
 use std::net::{Net, OpenListener, OpenStream, SocketAddr, TcpListener};
 
-/// What `serve` is asked for.
-#[derive(Clone, Copy, Debug, PartialEq, Eq)]
-pub struct Wanted<'a> {
-    pub port: u16,
-    /// The address that is listened on, or its name.
-    pub listen: &'a str,
-    pub screen: Screen,
-    pub connections: u16,
-    /// If there is a number, a client that sends nothing for that many seconds is let go.
-    pub timeout: Option<u32>,
-}
-
-/// Serves `wanted.connections` connections on a port of an address, one after another. `notes` say
-/// how it goes.
-pub fn serve_at<N: Net, W: Write, E: Write>(
-    net: &N,
+/// Serves as many connections as are asked for on a port of an address, one after another. Where a
+/// picture is asked for, its file is read before. `notes` say how it goes.
+pub fn serve_at<P: Files + Net, W: Write, E: Write>(
+    rt: &P,
     alloc: Global,
-    wanted: Wanted<'_>,
+    options: ServeOptions<'_>,
     output: &mut W,
     notes: &mut Notes<'_, E>,
 ) -> Result<(), Failure>
-    ensures done { OnOk result (ServesSo wanted.entry.screen wanted.entry.connections
-        (W.contents output.old) (W.contents output.new)) }
-    ensures stopped { OnErr result (ServesFewer wanted.entry.screen wanted.entry.connections
-        (W.contents output.old) (W.contents output.new)) }
-    ensures why { IfErr result (λ failure.
-        (fault : Fault) × (failure ≡ Failure.Fault fault)) }
+    ensures done { OnOk result
+        (ServesAsked options.entry (W.contents output.old) (W.contents output.new)) }
+    ensures stopped { OnErr result
+        (LeavesServed options.entry (W.contents output.old) (W.contents output.new)) }
+    ensures why { IfErr result FailsToServe }
+    ensures unwritten { (flaw : Flaw) → result ≡ Err (Failure.Picture flaw) →
+        output.new ≡ output.old }
 {
-    match TcpListener::bind(net, (wanted.listen, wanted.port)) {
-        Ok(listener) => {
-            tell_bound(wanted.listen, wanted.port, notes);
-            let timed = Timed::new(listener, wanted.timeout);
-            serve_on(
+    match options.screen {
+        ScreenChoice::Scene(size) => {
+            listen(
+                rt,
                 alloc,
-                &timed,
-                wanted.screen,
-                wanted.connections,
+                &ServedScreen::Scene(size),
+                options,
                 output,
                 notes,
             )
         }
+        ScreenChoice::Picture(path) => serve_file(rt, alloc, path, options, output, notes),
+    }
+}
+
+// Serves them with the picture of a file.
+fn serve_file<P: Files + Net, W: Write, E: Write>(
+    rt: &P,
+    alloc: Global,
+    path: &str,
+    options: ServeOptions<'_>,
+    output: &mut W,
+    notes: &mut Notes<'_, E>,
+) -> Result<(), Failure>
+    ensures done { OnOk result (ServesSpelled (λ screen. ServesSo screen options.entry.connections
+        (W.contents output.old) (W.contents output.new))) }
+    ensures stopped { OnErr result ((output.new ≡ output.old)
+        ⊎ ServesSpelled (λ screen. ServesFewer screen options.entry.connections
+        (W.contents output.old) (W.contents output.new))) }
+    ensures why { IfErr result FailsToServe }
+    ensures unwritten { (flaw : Flaw) → result ≡ Err (Failure.Picture flaw) →
+        output.new ≡ output.old }
+{
+    match open_picture(rt, alloc, path, notes) {
+        Ok(pixmap) => {
+            let screen = ServedScreen::Picture(pixmap);
+            listen(rt, alloc, &screen, options, output, notes)
+        }
+        Err(failure) => Err(failure),
+    }
+}
+
+// Serves them with a screen.
+fn listen<N: Net, W: Write, E: Write>(
+    net: &N,
+    alloc: Global,
+    screen: &ServedScreen,
+    options: ServeOptions<'_>,
+    output: &mut W,
+    notes: &mut Notes<'_, E>,
+) -> Result<(), Failure>
+    ensures done { OnOk result (ServesSo screen.now options.entry.connections
+        (W.contents output.old) (W.contents output.new)) }
+    ensures stopped { OnErr result (ServesFewer screen.now options.entry.connections
+        (W.contents output.old) (W.contents output.new)) }
+    ensures why { IfErr result (λ failure.
+        (fault : Fault) × (failure ≡ Failure.Fault fault)) }
+{
+    match TcpListener::bind(net, (options.listen, options.port)) {
+        Ok(listener) => {
+            tell_bound(options.listen, options.port, notes);
+            let timed = Timed::new(listener, options.timeout);
+            serve_on(alloc, &timed, screen, options.connections, output, notes)
+        }
         Err(error) => {
-            tell_unbound(wanted.listen, wanted.port, &error, notes);
+            tell_unbound(options.listen, options.port, &error, notes);
             Err(Failure::from(error))
         }
     }
@@ -79,37 +125,40 @@ pub fn serve_at<N: Net, W: Write, E: Write>(
 pub fn serve_on<L: OpenListener, W: Write, N: Write>(
     alloc: Global,
     listener: &L,
-    screen: Screen,
-    connections: u16,
+    screen: &ServedScreen,
+    connections: u64,
     output: &mut W,
     notes: &mut N,
 ) -> Result<(), Failure>
 where
     L::Stream: Read + Write + OpenStream,
-    ensures done { OnOk result (ServesSo screen connections
+    ensures done { OnOk result (ServesSo screen.now connections
         (W.contents output.old) (W.contents output.new)) }
-    ensures stopped { OnErr result (ServesFewer screen connections
+    ensures stopped { OnErr result (ServesFewer screen.now connections
         (W.contents output.old) (W.contents output.new)) }
     ensures why { IfErr result (λ failure.
         (fault : Fault) × (failure ≡ Failure.Fault fault)) }
 {
+    let mut sent = 0;
     for _connection in 0..connections {
-        let ended = serve_next(alloc, listener, screen, notes);
+        let ended = serve_next(alloc, listener, screen, &mut sent, notes);
         tell_end(alloc, ended, output)?;
     }
     Ok(())
 }
 
 // Serves the next connection, to its end. What is written goes out at once: a viewer waits for it.
+// `sent` counts the updates of all that left in peace.
 fn serve_next<L: OpenListener, N: Write>(
     alloc: Global,
     listener: &L,
-    screen: Screen,
+    screen: &ServedScreen,
+    sent: &mut u64,
     notes: &mut N,
 ) -> Result<u64, EngineFault>
 where
     L::Stream: Read + Write + OpenStream,
-    ensures { IsServedSome screen result }
+    ensures { IsServedSome screen.now result }
 {
     let Ok((stream, address)) = listener.accept() else {
         let _ = writeln!(notes, "rfb: a connection could not be accepted");
@@ -121,73 +170,31 @@ where
         return Err(EngineFault::Device);
     };
     let ended = serve_fresh(alloc, screen, stream, other);
-    tell_left(&ended, address, notes);
+    tell_left(&ended, address, sent, notes);
     ended
 }
 
-// Says how a viewer has left.
-fn tell_left<N: Write>(ended: &Result<u64, EngineFault>, address: SocketAddr, notes: &mut N) {
+// Says how a viewer has left, and adds its updates to those that were sent before.
+fn tell_left<N: Write>(
+    ended: &Result<u64, EngineFault>,
+    address: SocketAddr,
+    sent: &mut u64,
+    notes: &mut N,
+) {
     match ended {
         Ok(updates) => {
-            let _ = writeln!(notes, "rfb: {address} has left; updates sent: {updates}");
+            let total = sent.saturating_add(*updates);
+            *sent = total;
+            let _ = writeln!(
+                notes,
+                "rfb: {address} has left; updates sent: {updates}, in all so far: {total}"
+            );
         }
         Err(fault) => {
             tell_client(*fault, notes);
             let _ = writeln!(notes, "rfb: {address} was let go");
         }
     }
-}
-
-// Serves a reader and a writer with a fresh screen.
-fn serve_fresh<R: Read + Drop, W: Write + Drop>(
-    alloc: Global,
-    screen: Screen,
-    reader: R,
-    writer: W,
-) -> Result<u64, EngineFault>
-    ensures { IsServed screen (R.remaining reader) (W.contents writer) result }
-{
-    match fresh_server(alloc, screen) {
-        Ok(mut server) => {
-            let ended = serve_scene(alloc, screen, &mut server, reader, writer);
-            // By a call: what a body's end lets go is proved field by field.
-            drop(server);
-            ended
-        }
-        Err(_) => Err(EngineFault::NoMemory),
-    }
-}
-
-// Serves them with the test scene, on a server that was fed nothing.
-fn serve_scene<R: Read + Drop, W: Write + Drop>(
-    alloc: Global,
-    screen: Screen,
-    server: &mut Server,
-    reader: R,
-    writer: W,
-) -> Result<u64, EngineFault>
-    requires fresh { IsFreshServer screen server.old }
-    ensures { IsServed screen (R.remaining reader) (W.contents writer) result }
-{
-    match TestScene::new(alloc, server) {
-        Ok(mut scene) => serve_shown(alloc, server, &mut scene, reader, writer),
-        Err(_) => Err(EngineFault::NoMemory),
-    }
-}
-
-// Serves them with a server and its scene.
-fn serve_shown<R: Read + Drop, W: Write + Drop>(
-    alloc: Global,
-    server: &mut Server,
-    scene: &mut TestScene,
-    reader: R,
-    writer: W,
-) -> Result<u64, EngineFault>
-    ensures { IsServedFrom (R.remaining reader) (W.contents writer) server.old result }
-{
-    let mut source = Tally::new(reader);
-    let mut sink = Tally::new(writer);
-    serve(alloc, &mut source, &mut sink, server, scene)
 }
 
 // Prints how a connection has ended, in one write, and flushes it.

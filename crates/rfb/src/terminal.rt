@@ -1,6 +1,6 @@
 //! Standard output, where it may be a terminal: that is no place for a picture.
 
-use crate::explain::Notes;
+use crate::explain::{Notes, tell_unshowable};
 use std::io;
 use std::io::{ErrorKind, Write};
 
@@ -21,7 +21,8 @@ pub struct Shown<'a, W, E> {
 }
 
 impl<'a, W, E> Shown<'a, W, E> {
-    /// Writes to `output`. Where a picture or a recording is refused, `notes` say so.
+    /// Writes to `output`. Where a picture or a recording is refused, or a write fails, `notes` say
+    /// so.
     pub fn new(output: W, is_terminal: bool, notes: Notes<'a, E>) -> Shown<'a, W, E> {
         Shown {
             output,
@@ -39,10 +40,18 @@ impl<W: Write, E: Write> Write for Shown<'_, W, E> {
             let _ = writeln!(self.notes, "{REFUSAL}");
             return Err(io::Error::from(ErrorKind::InvalidInput));
         }
-        self.output.write(buf)
+        let written = self.output.write(buf);
+        if let Err(error) = &written {
+            tell_unshowable(error, &mut self.notes);
+        }
+        written
     }
 
     fn flush(&mut self) -> io::Result<()> {
-        self.output.flush()
+        let flushed = self.output.flush();
+        if let Err(error) = &flushed {
+            tell_unshowable(error, &mut self.notes);
+        }
+        flushed
     }
 }

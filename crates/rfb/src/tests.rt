@@ -13,6 +13,7 @@ mod nets;
 mod options;
 mod picture;
 mod recordings;
+mod shares;
 mod sockets;
 mod steps;
 mod streams;

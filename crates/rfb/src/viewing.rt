@@ -7,17 +7,20 @@ ghost use Rattle.rfb.specs.Viewing.{FailsToView, FailsToViewSome, Saw, StopsSeei
 ghost use Rattle.rfb.specs.Recording.{shows_end};
 ghost use Rattle.rfb.specs.Viewing.{LeavesSomeView, LeavesView, Views, ViewsSome};
 
-mod look;
+mod options;
 
-use crate::explain::{Heard, Hearing, Notes, Speaking, tell_server, tell_unreached, tell_unsent};
+use crate::explain::{
+    Heard, Hearing, Notes, Speaking, tell_server, tell_unreached, tell_unsent, tell_updates,
+};
 use crate::fault::{Failure, Fault};
+use crate::play::{show, show_early};
 use crate::playing::fresh_viewer;
 use crate::reaching::{Patient, connect};
-use crate::recording::{show, show_early};
-pub use look::{Look, Sight};
+pub use options::{Sight, ViewOptions};
 use rfb_session::{EngineFault, Lent, Sink, Tally, view_recording};
 use rfb_viewer::Viewer;
 use std::alloc::Global;
+use std::cell::Cell;
 use std::io::{Read, Write};
 use std::net::{Net, OpenStream};
 use std::time::Clock;
@@ -31,27 +34,27 @@ const ENDLESS: &str = "rfb: it waits as long as it takes: there is no --timeout"
 pub fn view_at<N: Net + Clock, W: Write, E: Write>(
     net: &N,
     alloc: Global,
-    look: Look<'_>,
+    options: ViewOptions<'_>,
     output: &mut W,
     notes: &mut Notes<'_, E>,
 ) -> Result<(), Failure>
     ensures done { OnOk result
-        (ViewsSome look.entry.sight (W.contents output.old) (W.contents output.new)) }
-    ensures stopped { IfErr result (FailsToViewSome look.entry.sight
+        (ViewsSome options.entry.sight (W.contents output.old) (W.contents output.new)) }
+    ensures stopped { IfErr result (FailsToViewSome options.entry.sight
         (W.contents output.old) (W.contents output.new)) }
-    ensures unwritten { look.entry.sight.is_recorded ≡ false → (fault : EngineFault) →
+    ensures unwritten { options.entry.sight.is_recorded ≡ false → (fault : EngineFault) →
         result ≡ Err (Failure.Engine fault) →
-        shows_end look.entry.sight.is_partial fault ≡ false → output.new ≡ output.old }
-    ensures left { look.entry.sight.is_recorded ≡ false → OnErr result
-        (LeavesSomeView look.entry.sight (W.contents output.old) (W.contents output.new)) }
+        shows_end options.entry.sight.is_partial fault ≡ false → output.new ≡ output.old }
+    ensures left { options.entry.sight.is_recorded ≡ false → OnErr result
+        (LeavesSomeView options.entry.sight (W.contents output.old) (W.contents output.new)) }
 {
-    if look.timeout.is_none() {
+    if options.timeout.is_none() {
         let _ = writeln!(notes, "{ENDLESS}");
     }
-    match connect(net, look.host, look.port, look.timeout) {
-        Ok(connection) => view_on(alloc, connection, look.sight, output, notes),
+    match connect(net, options.host, options.port, options.timeout) {
+        Ok(connection) => view_on(alloc, connection, options.sight, output, notes),
         Err(error) => {
-            tell_unreached(look.host, look.port, &error, notes);
+            tell_unreached(options.host, options.port, &error, notes);
             Err(Failure::from(error))
         }
     }
@@ -147,11 +150,20 @@ fn watch_heard<R: Read + Drop, V: Write + Drop, N: Write>(
         viewer.new) }
 {
     let mut unsent = None;
-    let hearing = Hearing::new(reader, heard, notes);
-    let speaking = Speaking::new(writer, &mut unsent);
+    let counted = Cell::new(0);
+    let hearing = Hearing::new(reader, heard, &counted, notes);
+    let speaking = Speaking::new(writer, &counted, &mut unsent);
     let ended = watch(hearing, speaking, viewer, updates);
     tell_unsent(&unsent, notes);
+    tell_all(&ended, notes);
     ended
+}
+
+// Says how many updates there were in all.
+fn tell_all<N: Write>(ended: &Result<u32, EngineFault>, notes: &mut N) {
+    if let Ok(updates) = ended {
+        let _ = tell_updates(*updates, 0, notes);
+    }
 }
 
 // Runs a viewer until `updates` updates ended.
@@ -191,7 +203,8 @@ fn record<R: Read + Drop, V: Write + Drop, W: Write, N: Write>(
         (R.remaining reader) (V.contents writer) (W.contents output.old) (W.contents output.new)
         viewer.old updates failure viewer.new) }
 {
-    let hearing = Hearing::new(reader, heard, notes);
+    let uncounted = Cell::new(0);
+    let hearing = Hearing::new(reader, heard, &uncounted, notes);
     match watch_and_keep(hearing, writer, viewer, updates, output) {
         Ok(_updates) => match output.flush() {
             Ok(()) => Ok(()),

@@ -10,9 +10,10 @@ use crate::explain::{Notes, tell_unread, tell_unwritten};
 use crate::fault::Failure;
 use crate::loopback::script_through_loopback;
 use crate::options::{Order, Task};
-use crate::recording::play_recording;
+use crate::play::play_recording;
 use crate::scripting::script;
 use crate::serving::serve_at;
+use crate::sharing::share_at;
 use crate::viewing::view_at;
 use crate::working::target::{Target, open_target};
 use std::fs::{File, Files, OpenFile};
@@ -128,7 +129,7 @@ fn work_from<P: AllocGlobal + Clock + Files + Net, R: Read, W: Write, E: Write>(
 }
 
 // Does a task.
-fn work<P: AllocGlobal + Clock + Net, R: Read, W: Write, E: Write>(
+fn work<P: AllocGlobal + Clock + Files + Net, R: Read, W: Write, E: Write>(
     rt: &P,
     task: Task<'_>,
     explains: bool,
@@ -145,17 +146,18 @@ fn work<P: AllocGlobal + Clock + Net, R: Read, W: Write, E: Write>(
     match task {
         Task::Script => script(alloc, input, output, errors, explains),
         Task::Loop => script_through_loopback(rt, alloc, input, output, errors, explains),
-        Task::Play(replay) => {
+        Task::Play(options) => {
             let mut notes = Notes::new(errors, explains);
-            play_recording(alloc, replay, input, output, &mut notes)
+            play_recording(alloc, options, input, output, &mut notes)
         }
-        Task::Serve(wanted) => {
+        Task::Serve(options) => {
             let mut notes = Notes::new(errors, explains);
-            serve_at(rt, alloc, wanted, output, &mut notes)
+            serve_at(rt, alloc, options, output, &mut notes)
         }
-        Task::View(look) => {
+        Task::View(options) => {
             let mut notes = Notes::new(errors, explains);
-            view_at(rt, alloc, look, output, &mut notes)
+            view_at(rt, alloc, options, output, &mut notes)
         }
+        Task::Share(options) => share_at(rt, alloc, options, input, output, errors, explains),
     }
 }

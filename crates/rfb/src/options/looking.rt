@@ -6,7 +6,7 @@ ghost use Rattle.clap.specs.Simple.{app_of, with_rule};
 ghost use Rattle.rfb_wire.specs.declared.encoding.Encoding.{Encoding};
 ghost use Rattle.rfb.specs.Options.{any_port_rule, host_rule, server_rule, view_shape};
 ghost use Rattle.rfb.specs.Options.{encodings_rule, format_rule, output_rule, partial_rule, record_rule, timeout_rule, updates_rule};
-ghost use Rattle.rfb.specs.Options.{GivesEncodings, GivesLook, GivesNumber, GivesSight, HasBadEncodings, HasBadLook, HasBadSight};
+ghost use Rattle.rfb.specs.Options.{GivesEncodings, GivesViewOptions, GivesNumber, GivesSight, HasBadEncodings, HasBadView, HasBadSight};
 ghost use Rattle.rfb.specs.Words.{AreEncodings, parts_of};
 
 use crate::help::SERVERS;
@@ -16,7 +16,7 @@ use crate::options::replaying::number_given;
 use crate::options::{BadValue, format_in, format_word, is_given, partial_word};
 use crate::playing::only_raw;
 use crate::script::{Wants, read_list};
-use crate::viewing::{Look, Sight};
+use crate::viewing::{Sight, ViewOptions};
 use arrayvec::ArrayVec;
 use clap::{Arg, ArgAction, ArgMatches, Command};
 use rfb_wire::Encoding;
@@ -115,16 +115,16 @@ fn record_word<'a>(alloc: Global) -> Arg<'a>
 }
 
 /// The server that is to be viewed, and what is to be seen of it.
-pub fn look_in<'a>(given: &ArgMatches<'a>) -> Result<Look<'a>, BadValue<'a>>
-    ensures { MatchResult result (GivesLook (rows_of (found_of given.now)))
-        (λ _. HasBadLook (rows_of (found_of given.now))) }
+pub fn view_options_in<'a>(given: &ArgMatches<'a>) -> Result<ViewOptions<'a>, BadValue<'a>>
+    ensures { MatchResult result (GivesViewOptions (rows_of (found_of given.now)))
+        (λ _. HasBadView (rows_of (found_of given.now))) }
 {
     let address = match address_in(given) {
         Ok(address) => address,
         Err(value) => return Err(value),
     };
     match sight_in(given) {
-        Ok(sight) => Ok(Look {
+        Ok(sight) => Ok(ViewOptions {
             host: address.host,
             port: address.port,
             timeout: number_given(given, "timeout"),

@@ -3,12 +3,12 @@
 ghost use Rattle.std.specs.Prelude.{◌≡◌, ◌≤◌, false, IfOk, IfSome, MatchResult};
 ghost use Rattle.clap.specs.Words.{found_of, rows_of, rule_of, shape_of};
 ghost use Rattle.rfb.specs.Options.{first_updates_rule, play_shape};
-ghost use Rattle.rfb.specs.Options.{GivesReplay, HasBadFormat, MayGiveNumber};
+ghost use Rattle.rfb.specs.Options.{GivesPlayOptions, HasBadFormat, MayGiveNumber};
 
 use crate::help::RECORDINGS;
 use crate::options::paths::with_paths;
 use crate::options::{BadValue, format_in, format_word, is_given, partial_word};
-use crate::recording::Replay;
+use crate::play::PlayOptions;
 use clap::{Arg, ArgMatches, Command};
 use std::alloc::{AllocError, Global};
 
@@ -38,12 +38,12 @@ fn first_updates_word<'a>(alloc: Global) -> Arg<'a>
 }
 
 /// The format of a recording, and how much of it is to be played.
-pub fn replay_in<'a>(given: &ArgMatches<'a>) -> Result<Replay, BadValue<'a>>
-    ensures { MatchResult result (GivesReplay (rows_of (found_of given.now)))
+pub fn play_options_in<'a>(given: &ArgMatches<'a>) -> Result<PlayOptions, BadValue<'a>>
+    ensures { MatchResult result (GivesPlayOptions (rows_of (found_of given.now)))
         (λ _. HasBadFormat (rows_of (found_of given.now))) }
 {
     match format_in(given) {
-        Ok(format) => Ok(Replay {
+        Ok(format) => Ok(PlayOptions {
             format,
             updates: number_given(given, "updates"),
             is_partial: is_given(given, "partial"),

@@ -20,15 +20,19 @@ ghost use Rattle.std.specs.Prelude.{◌↔◌, ◌≡◌, ◌+◌, true, if◌th
 ghost use Rattle.rfb.specs.HubScript.{AreHubScript, BeginHub, StopsReadingHub};
 ghost use Rattle.rfb.specs.Script.{lines_of};
 
+use crate::explain::Notes;
 use crate::fault::Failure;
+use crate::script::cause::tell_bad_hub_line;
 use crate::script::hub::line::{HubNumbered, HubStep};
 use crate::script::hub::read::{read_hub, read_hub_step, read_show};
 use crate::script::line::Screen;
 use std::alloc::Global;
+use std::io::Write;
+pub use words::{SHARED, SOLE, read_slot};
 
 pub mod line;
 mod read;
-mod words;
+pub mod words;
 
 /// A script of a hub that was read to its end and has no bad line.
 #[derive(Debug, Drop)]
@@ -39,6 +43,24 @@ pub struct HubScript {
     pub steps: Vec<HubNumbered>,
     /// The slot that its last line names.
     pub shown: u8,
+}
+
+/// Reads a whole script of a hub, and says why a line is bad, if sentences are wanted.
+pub fn read_hub_explained<E: Write>(
+    alloc: Global,
+    text: &[u8],
+    errors: &mut E,
+    explains: bool,
+) -> Result<HubScript, Failure>
+    ensures read { IfOk result (λ script.
+        AreHubScript (lines_of text.now) script.screen script.steps.items script.shown) }
+    ensures stopped { IfErr result (StopsReadingHub (lines_of text.now)) }
+{
+    let read = read_hub_script(alloc, text);
+    if let Err(Failure::BadLine(number)) = &read {
+        tell_bad_hub_line(text, *number, &mut Notes::new(errors, explains));
+    }
+    read
 }
 
 /// Whether the first line that is not empty is one of a hub.

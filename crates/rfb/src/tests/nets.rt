@@ -4,7 +4,7 @@ use super::devices::FailingWriter;
 use super::streams::{CLIENT, PICTURE, SERVER};
 use crate::command_line::command;
 use crate::script::Screen;
-use crate::serving::serve_on;
+use crate::serving::{ServedScreen, serve_on};
 use std::alloc::Allocator;
 use std::cell::Cell;
 use std::fs::{Files, Metadata, OpenOptions};
@@ -328,11 +328,11 @@ fn a_recording_that_cannot_be_flushed_is_a_fault(rt: HostRuntime) {
 
 // What is reported of three viewers that come, and of two that do not.
 const COMINGS: &[u8] = b"rfb: 127.0.0.1:9 has connected
-rfb: 127.0.0.1:9 has left; updates sent: 1
+rfb: 127.0.0.1:9 has left; updates sent: 1, in all so far: 1
 rfb: 127.0.0.1:9 has connected
-rfb: 127.0.0.1:9 has left; updates sent: 1
+rfb: 127.0.0.1:9 has left; updates sent: 1, in all so far: 2
 rfb: 127.0.0.1:9 has connected
-rfb: 127.0.0.1:9 has left; updates sent: 1
+rfb: 127.0.0.1:9 has left; updates sent: 1, in all so far: 3
 rfb: a connection could not be accepted
 rfb: a connection could not be accepted
 ";
@@ -341,13 +341,13 @@ rfb: a connection could not be accepted
 fn each_line_of_serve_is_of_a_connection_of_its_own(rt: HostRuntime) {
     // Three come, and five are asked for.
     let ear = Ear { left: Cell::new(3) };
-    let screen = Screen {
+    let screen = ServedScreen::Scene(Screen {
         width: 2,
         height: 1,
-    };
+    });
     let mut lines = Vec::new(rt.alloc());
     let mut told = Vec::new(rt.alloc());
-    let served = serve_on(rt.alloc(), &ear, screen, 5, &mut lines, &mut told);
+    let served = serve_on(rt.alloc(), &ear, &screen, 5, &mut lines, &mut told);
     assert!(rt; served.is_ok());
     let ends = b"ok 1\nok 1\nok 1\nfault 29 Device\nfault 29 Device\n".as_slice();
     assert_eq!(rt; lines.as_slice(), ends);

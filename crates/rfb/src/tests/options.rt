@@ -1,11 +1,11 @@
 //! What the words of a command ask for.
 
 use crate::options::{Order, Paths, Task, read_words};
+use crate::play::PlayOptions;
 use crate::playing::only_raw;
-use crate::recording::Replay;
 use crate::script::{Screen, Wants};
-use crate::serving::Wanted;
-use crate::viewing::{Look, Sight};
+use crate::serving::{FOREVER, ScreenChoice, ServeOptions};
+use crate::viewing::{Sight, ViewOptions};
 use arrayvec::ArrayVec;
 use rfb_pixel::Format;
 use rfb_wire::Encoding;
@@ -32,10 +32,10 @@ fn script_and_loop_have_no_words(rt: HostRuntime) {
 
 #[test]
 fn a_recording_is_played_in_a_format_and_whole_or_in_part(rt: HostRuntime) {
-    for (words, replay) in [
+    for (words, options) in [
         (
             ["rfb", "play"].as_slice(),
-            Replay {
+            PlayOptions {
                 format: Format::rgb888(),
                 updates: None,
                 is_partial: false,
@@ -43,7 +43,7 @@ fn a_recording_is_played_in_a_format_and_whole_or_in_part(rt: HostRuntime) {
         ),
         (
             ["rfb", "play", "--format", "rgb565"].as_slice(),
-            Replay {
+            PlayOptions {
                 format: Format::rgb565(),
                 updates: None,
                 is_partial: false,
@@ -51,7 +51,7 @@ fn a_recording_is_played_in_a_format_and_whole_or_in_part(rt: HostRuntime) {
         ),
         (
             ["rfb", "play", "--updates", "1", "--format=bgr233"].as_slice(),
-            Replay {
+            PlayOptions {
                 format: Format::bgr233(),
                 updates: Some(1),
                 is_partial: false,
@@ -59,14 +59,14 @@ fn a_recording_is_played_in_a_format_and_whole_or_in_part(rt: HostRuntime) {
         ),
         (
             ["rfb", "play", "--updates=4294967295", "--partial"].as_slice(),
-            Replay {
+            PlayOptions {
                 format: Format::rgb888(),
                 updates: Some(u32::MAX),
                 is_partial: true,
             },
         ),
     ] {
-        assert_eq!(rt; task(&rt, words), Some(Task::Play(replay)), "{words:?}");
+        assert_eq!(rt; task(&rt, words), Some(Task::Play(options)), "{words:?}");
     }
 }
 
@@ -108,9 +108,9 @@ fn numbers_may_be_the_least_and_the_greatest(rt: HostRuntime) {
         for i in 0..count {
             all[2 + i] = words[i];
         }
-        let wanted = Wanted {
+        let wanted = ServeOptions {
             port,
-            screen: Screen { width, height },
+            screen: ScreenChoice::Scene(Screen { width, height }),
             listen: "127.0.0.1",
             connections,
             timeout: None,
@@ -119,15 +119,35 @@ fn numbers_may_be_the_least_and_the_greatest(rt: HostRuntime) {
         assert_eq!(rt; given, Some(Task::Serve(wanted)), "{words:?}");
     }
     let words = ["rfb", "serve", "--port=9", "--timeout=7", "--listen=::"];
-    let wanted = Wanted {
+    let wanted = ServeOptions {
         port: 9,
         listen: "::",
-        screen: Screen {
+        screen: ScreenChoice::Scene(Screen {
             width: 64,
             height: 64,
-        },
+        }),
         connections: 1,
         timeout: Some(7),
+    };
+    assert_eq!(rt; task(&rt, words.as_slice()), Some(Task::Serve(wanted)));
+}
+
+#[test]
+fn a_picture_is_served_without_an_end(rt: HostRuntime) {
+    let words = [
+        "rfb",
+        "serve",
+        "--port=9",
+        "--picture",
+        "a.ppm",
+        "--forever",
+    ];
+    let wanted = ServeOptions {
+        port: 9,
+        listen: "127.0.0.1",
+        screen: ScreenChoice::Picture("a.ppm"),
+        connections: FOREVER,
+        timeout: None,
     };
     assert_eq!(rt; task(&rt, words.as_slice()), Some(Task::Serve(wanted)));
 }
@@ -146,13 +166,13 @@ fn a_view_of_a_port_has_defaults(rt: HostRuntime) {
         is_recorded: false,
         is_partial: false,
     };
-    let look = Look {
+    let options = ViewOptions {
         host: "127.0.0.1",
         port: 9,
         timeout: None,
         sight,
     };
-    assert_eq!(rt; task(&rt, LEAST.as_slice()), Some(Task::View(look)));
+    assert_eq!(rt; task(&rt, LEAST.as_slice()), Some(Task::View(options)));
 }
 
 const MOST: [&str; 13] = [
@@ -187,13 +207,13 @@ fn a_view_has_all_that_is_given(rt: HostRuntime) {
         is_recorded: true,
         is_partial: true,
     };
-    let look = Look {
+    let options = ViewOptions {
         host: "::1",
         port: 65_535,
         timeout: Some(u32::MAX),
         sight,
     };
-    assert_eq!(rt; task(&rt, MOST.as_slice()), Some(Task::View(look)));
+    assert_eq!(rt; task(&rt, MOST.as_slice()), Some(Task::View(options)));
 }
 
 #[test]
@@ -250,11 +270,11 @@ fn a_server_is_named_by_a_word_or_by_its_host_and_its_port(rt: HostRuntime) {
         (["rfb", "view", "--host", "::1"].as_slice(), "::1", 5900),
         (["rfb", "view", "--host=a", "--port=7"].as_slice(), "a", 7),
     ] {
-        let Some(Task::View(look)) = task(&rt, words) else {
+        let Some(Task::View(options)) = task(&rt, words) else {
             assert!(rt; false, "{words:?}");
             return;
         };
-        assert_eq!(rt; look.host, host, "{words:?}");
-        assert_eq!(rt; look.port, port, "{words:?}");
+        assert_eq!(rt; options.host, host, "{words:?}");
+        assert_eq!(rt; options.port, port, "{words:?}");
     }
 }

@@ -2,14 +2,8 @@
 
 ghost use Rattle.std.specs.Prelude.{◌<◌};
 
-use super::calls::{Ended, FILL_LEFT_PLACE, LEFT_PLACE_FILLED, run};
+use super::calls::{Ended, run};
 use std::test::Fail;
-
-#[test]
-fn one_update_shows_a_filled_place(rt: HostRuntime) {
-    let ended = run(&rt, FILL_LEFT_PLACE);
-    assert!(rt; ended.is(0, LEFT_PLACE_FILLED, b""));
-}
 
 // A screen of 7 by 6 with a rectangle of 4 by 3 at (1, 2), in which FF8001 stands.
 const RECTANGLE: [&[u8; 7]; 6] = [
@@ -66,57 +60,6 @@ settle
         assert!(rt; ended.is(0, shown.as_slice(), b""), "{text}");
     }
     Ok(())
-}
-
-#[test]
-fn a_second_request_is_refused_and_the_update_comes(rt: HostRuntime) {
-    let script = b"screen 2 1
-fill 0 0 1 1 FF8001
-settle
-request full 0 0 2 1
-request full 0 0 2 1
-settle
-compose
-settle
-";
-    let ended = run(&rt, script);
-    assert!(rt; ended.is(0, LEFT_PLACE_FILLED, b"line 5: refused 26 Busy\n"));
-}
-
-#[test]
-fn each_refusal_is_reported_at_its_line_and_the_script_goes_on(rt: HostRuntime) {
-    let script = b"screen 2 1
-request full 0 0 2 1
-fill 1 0 2 1 0000FF
-settle
-
-fill 65535 65535 65535 65535 0000FF
-fill 2 1 0 0 0000FF
-request full 0 0 3 1
-request full 0 0 0 1
-request full 0 0 2 1
-request full 0 0 3 1
-fill 0 0 1 1 FF8001
-settle
-compose
-settle
-compose
-";
-    let refused = b"line 2: refused 25 NotReady
-line 3: refused 24 Outside
-line 6: refused 24 Outside
-line 8: refused 27 AreaOutside
-line 9: refused 27 AreaOutside
-line 11: refused 26 Busy
-";
-    let ended = run(&rt, script);
-    assert!(rt; ended.is(0, LEFT_PLACE_FILLED, refused.as_slice()));
-}
-
-#[test]
-fn without_a_picture_nothing_is_written(rt: HostRuntime) {
-    let ended = run(&rt, b"screen 2 1");
-    assert!(rt; ended.is(1, b"", b"fault 25 NotReady\n"));
 }
 
 // The colour of a place of a picture of 4,096 by 4,096, whose header has 19 bytes.

@@ -8,8 +8,6 @@ use std::io::ErrorKind;
 
 const PLAY: [&str; 2] = ["rfb", "play"];
 
-const PLAY_BGR233: [&str; 4] = ["rfb", "play", "--format", "bgr233"];
-
 #[test]
 fn a_recording_shows_its_last_picture(rt: HostRuntime) {
     for (recording, picture) in [
@@ -43,21 +41,6 @@ fn a_recording_is_played_up_to_a_number_of_updates(rt: HostRuntime) -> Result<()
     let ended = call_all(&rt, words.as_slice(), &[SERVER, &MORE[..9]])?;
     assert!(rt; ended.is(1, b"", b"fault 28 Truncated\n"));
     Ok(())
-}
-
-#[test]
-fn a_recording_that_ends_inside_a_message_is_truncated(rt: HostRuntime) {
-    for (words, recording) in [
-        (PLAY.as_slice(), b"".as_slice()),
-        (PLAY.as_slice(), b"RFB 0".as_slice()),
-        (PLAY.as_slice(), &SERVER[..44]),
-        (PLAY.as_slice(), &SERVER[..68]),
-        // Two places have two bytes there, and the others begin a message.
-        (PLAY_BGR233.as_slice(), SERVER),
-    ] {
-        let ended = call(&rt, words, recording);
-        assert!(rt; ended.is(1, b"", b"fault 28 Truncated\n"));
-    }
 }
 
 #[test]

@@ -4,16 +4,16 @@ use super::calls::call;
 use super::streams::{CLIENT, SERVER};
 use crate::reaching::Timed;
 use crate::script::Screen;
-use crate::serving::serve_on;
+use crate::serving::{ServedScreen, serve_on};
 use std::io;
 use std::io::{Read, Write};
 use std::net::{Net, OpenListener, OpenStream, Shutdown, TcpListener, TcpStream};
 use std::test::Fail;
 
-const TWO_PLACES: Screen = Screen {
+const TWO_PLACES: ServedScreen = ServedScreen::Scene(Screen {
     width: 2,
     height: 1,
-};
+});
 
 // A viewer that has sent these bytes, and sends no more.
 fn viewer_of(rt: &HostRuntime, listener: &TcpListener, bytes: &[u8]) -> io::Result<TcpStream> {
@@ -36,7 +36,7 @@ fn a_viewer_is_served_over_a_socket(rt: HostRuntime) -> Result<(), Fail> {
     let viewer = viewer_of(&rt, &listener, CLIENT)?;
     let mut lines = Vec::new(rt.alloc());
     let mut told = Vec::new(rt.alloc());
-    let served = serve_on(rt.alloc(), &listener, TWO_PLACES, 1, &mut lines, &mut told);
+    let served = serve_on(rt.alloc(), &listener, &TWO_PLACES, 1, &mut lines, &mut told);
     assert!(rt; served.is_ok());
     assert_eq!(rt; lines.as_slice(), b"ok 1\n".as_slice());
     assert_eq!(rt; sent_to(&rt, viewer)?.as_slice(), SERVER);
@@ -53,7 +53,7 @@ fn a_fault_ends_its_own_connection_alone(rt: HostRuntime) -> Result<(), Fail> {
     let whole = viewer_of(&rt, &listener, CLIENT)?;
     let mut lines = Vec::new(rt.alloc());
     let mut told = Vec::new(rt.alloc());
-    let served = serve_on(rt.alloc(), &listener, TWO_PLACES, 5, &mut lines, &mut told);
+    let served = serve_on(rt.alloc(), &listener, &TWO_PLACES, 5, &mut lines, &mut told);
     assert!(rt; served.is_ok());
     assert_eq!(rt;
         lines.as_slice(),
@@ -76,7 +76,7 @@ fn a_viewer_that_sends_nothing_in_time_is_let_go(rt: HostRuntime) -> Result<(), 
     let timed = Timed::new(listener, Some(1));
     let mut lines = Vec::new(rt.alloc());
     let mut told = Vec::new(rt.alloc());
-    let served = serve_on(rt.alloc(), &timed, TWO_PLACES, 1, &mut lines, &mut told);
+    let served = serve_on(rt.alloc(), &timed, &TWO_PLACES, 1, &mut lines, &mut told);
     assert!(rt; served.is_ok());
     assert_eq!(rt; lines.as_slice(), b"fault 29 Device\n".as_slice());
     drop(silent);

@@ -96,21 +96,3 @@ fn a_view_that_is_cut_short_shows_nothing(rt: HostRuntime) -> Result<(), Fail> {
     }
     Ok(())
 }
-
-#[test]
-fn a_server_that_is_not_there_is_a_fault(rt: HostRuntime) -> Result<(), Fail> {
-    // A port that was free a moment ago.
-    let port = TcpListener::bind(&rt, ("127.0.0.1", 0))?
-        .local_addr()?
-        .port();
-    let port = format!(in rt.alloc(); "{port}")?;
-    let ended = call(
-        &rt,
-        ["rfb", "view", "--port", port.as_str()].as_slice(),
-        b"",
-    );
-    assert_eq!(rt; ended.errors.as_slice(), b"fault 29 Device\n".as_slice());
-    assert_eq!(rt; ended.output.as_slice(), b"".as_slice());
-    assert_eq!(rt; ended.status, 1);
-    Ok(())
-}

@@ -110,33 +110,10 @@ fn is_help(ended: &Ended) -> bool {
 }
 
 #[test]
-fn bad_encodings_are_reported_on_errors(rt: HostRuntime) {
-    for list in BAD_ENCODINGS {
-        let words = ["rfb", "view", "--port", "9", "--encodings", list];
-        let ended = call(&rt, words.as_slice(), b"");
-        assert_eq!(rt; ended.status, 2, "{list}");
-        assert_eq!(rt; ended.output.as_slice(), b"".as_slice(), "{list}");
-        assert_eq!(rt;
-            ended.errors.as_slice(),
-            b"bad encodings\n".as_slice(),
-            "{list}"
-        );
-    }
-}
-
-#[test]
 fn help_is_printed_on_output(rt: HostRuntime) {
     for words in HELP {
         let ended = call(&rt, words, b"");
         assert!(rt; is_help(&ended), "{words:?}");
-    }
-}
-
-#[test]
-fn the_version_is_printed_on_output(rt: HostRuntime) {
-    for word in ["--version", "-V"] {
-        let ended = call(&rt, &["rfb", word], b"");
-        assert!(rt; ended.is(0, b"rfb 0.1.0\n", b""), "{word}");
     }
 }
 

@@ -17,4 +17,6 @@ returns c =
     c.in_ok-scripts.ensures ∙ ap (with_both script_shape loop_shape) c.program_words.ensures in
     let recordings : app_of c.in_ok-recordings.recordings ≡ with_subcommand (with_both script_shape loop_shape top) play_shape =
     c.in_ok-recordings.ensures.shape (no_globals _ _ _ _ (ap is_plain c.in_ok-play_words.ensures)) ∙ ap₂ with_subcommand scripts c.in_ok-play_words.ensures in
-    IfOk-weaker c.with_peers.result _ _ (λ r more. more ∙ ap (with_both serve_shape view_shape) recordings) c.with_peers.ensures
+    let peers : app_of c.in_ok-peers.peers ≡ with_both serve_shape view_shape (with_subcommand (with_both script_shape loop_shape top) play_shape) =
+    c.in_ok-peers.ensures ∙ ap (with_both serve_shape view_shape) recordings in
+    IfOk-weaker c.subcommand-2.result _ _ (λ r adds. adds.shape (no_globals _ _ _ _ (ap is_plain c.in_ok-share_words.ensures)) ∙ ap₂ with_subcommand peers c.in_ok-share_words.ensures) c.subcommand-2.ensures

@@ -12,9 +12,11 @@ use rfb_hello::Version;
 use rfb_session::Setup;
 use std::alloc::{AllocError, Global};
 
-const SHARED: &[u8] = b"shared";
+/// Others may go on beside a viewer.
+pub const SHARED: &[u8] = b"shared";
 
-const SOLE: &[u8] = b"sole";
+/// A viewer asks for the screen alone.
+pub const SOLE: &[u8] = b"sole";
 
 // How many bytes a line of foreign ones has at most.
 const FOREIGN_MAX: usize = 64;

@@ -1,4 +1,4 @@
-use Rattle.std.proofs.Common.{◌==◌, ◌≡◌, true, false, rules, tests, subst, sym, List, ℕ}
+use Rattle.std.proofs.Common.{◌==◌, ◌≡◌, true, false, rules, tests, subst, List, ℕ}
 use Rattle.std.proofs.lemmas.Iterator.Splits.{YieldsList-from_slice_split}
 use Rattle.std.proofs.lemmas.Iterator.Consumers.{YieldsList-turn, YieldsList-so_far, YieldsList-end}
 use Rattle.rfb.specs.Script.{AreEmpty, lines_of}

@@ -1,4 +1,4 @@
-use Rattle.std.proofs.Common.{arith, ◌++◌, ◌∷◌, [], ◌∙◌, ◌==◌, ◌≡◌, not, None, Some, Option, List, ℕ, ap, refl, sym, subst, rules, tests, inl, inr, is_some, length}
+use Rattle.std.proofs.Common.{arith, ◌++◌, ◌∷◌, [], ◌∙◌, ◌==◌, ◌≡◌, not, Some, Option, List, ℕ, ap, refl, sym, subst, rules, tests, inl, inr}
 use Rattle.std.proofs.lemmas.Iterator.Splits.{YieldsList-from_slice_split}
 use Rattle.std.proofs.lemmas.Iterator.Consumers.{YieldsList-turn, YieldsList-so_far, YieldsList-end}
 use Rattle.std.proofs.lemmas.List.{length_push}

@@ -1,0 +1,473 @@
+#!/usr/bin/env python3
+"""Viewers of a share: `rfb share` beside clients of its own, written from RFC 6143.
+
+    .ci/shares.py crates/rfb/out/rfb [ROW..]
+
+Each row starts a share and clients, and looks at what they see and at what the share tells. Without
+names all rows are run but the last two, which are for measuring by hand: `idle`, eight viewers of
+1,920 by 1,080 with nothing changing, and `video`, frames as pixels to four viewers. MANY=N is how
+many viewers come one after another. The last line is 'N passed, M failed'.
+"""
+
+import os
+import socket
+import struct
+import subprocess
+import sys
+import threading
+import time
+import traceback
+
+PROGRAM = os.path.abspath(sys.argv[1])
+MANY = int(os.environ.get("MANY", "400"))
+
+
+def free_port():
+    with socket.socket() as taken:
+        taken.bind(("127.0.0.1", 0))
+        return taken.getsockname()[1]
+
+
+def wait_for(is_so, what, limit=10):
+    end = time.time() + limit
+    while time.time() < end:
+        if is_so():
+            return
+        time.sleep(0.005)
+    raise AssertionError(what)
+
+
+class Share:
+    """A run of `rfb share`, and what it has told so far."""
+
+    def __init__(self, *words):
+        self.port = free_port()
+        self.run = subprocess.Popen([PROGRAM, "share", "--port", str(self.port), *words],
+                                    stdin=subprocess.PIPE, stdout=subprocess.PIPE,
+                                    stderr=subprocess.PIPE)
+        self.output = b""
+        self.errors = b""
+        for name, stream in (("output", self.run.stdout), ("errors", self.run.stderr)):
+            threading.Thread(target=self.listen, args=(name, stream), daemon=True).start()
+
+    def listen(self, name, stream):
+        while True:
+            part = os.read(stream.fileno(), 65536)
+            if not part:
+                return
+            setattr(self, name, getattr(self, name) + part)
+
+    def say(self, text):
+        self.run.stdin.write(text if isinstance(text, bytes) else text.encode())
+        self.run.stdin.flush()
+
+    def tells(self, line, times=1):
+        wait_for(lambda: self.output.split(b"\n").count(line) >= times, (line, self.output[-300:]))
+
+    def ends(self, status=0):
+        assert self.run.wait(10) == status, (self.run.returncode, self.errors)
+
+    def quits(self):
+        self.say("quit\n")
+        self.ends()
+
+    def ticks(self):
+        """The processor time that it took, in hundredths of a second."""
+        with open(f"/proc/{self.run.pid}/stat") as stat:
+            words = stat.read().rsplit(")", 1)[1].split()
+        return int(words[11]) + int(words[12])
+
+    def memory(self):
+        """What it has resident, in KiB."""
+        with open(f"/proc/{self.run.pid}/statm") as statm:
+            return int(statm.read().split()[1]) * 4
+
+    def descriptors(self):
+        return len(os.listdir(f"/proc/{self.run.pid}/fd"))
+
+
+class Viewer:
+    """A client of version 3.8 that takes Raw and CopyRect at rgb888."""
+
+    def __init__(self, share, bytewise=False):
+        for _ in range(500):
+            try:
+                self.stream = socket.create_connection(("127.0.0.1", share.port))
+                break
+            except ConnectionRefusedError:
+                time.sleep(0.01)
+        self.stream.settimeout(10)
+        self.stream.setsockopt(socket.IPPROTO_TCP, socket.TCP_NODELAY, 1)
+        self.bytewise = bytewise
+        self.came = b""
+
+    def send(self, data):
+        step = 1 if self.bytewise else len(data)
+        for start in range(0, len(data), step):
+            self.stream.sendall(data[start:start + step])
+            if self.bytewise:
+                time.sleep(0.001)
+
+    def get(self, count):
+        while len(self.came) < count:
+            part = self.stream.recv(65536)
+            if not part:
+                raise EOFError(self.came[:40])
+            self.came += part
+        taken, self.came = self.came[:count], self.came[count:]
+        return taken
+
+    def hello(self, shared=1):
+        assert self.get(12) == b"RFB 003.008\n"
+        self.send(b"RFB 003.008\n")
+        assert self.get(2) == b"\1\1"
+        self.send(b"\1")
+        assert self.get(4) == bytes(4)
+        self.send(bytes([shared]))
+        self.width, self.height = struct.unpack(">HH", self.get(4))
+        self.get(16)
+        self.name = self.get(struct.unpack(">I", self.get(4))[0])
+        self.shown = bytearray(self.width * self.height * 4)
+        return self
+
+    def ask(self, incremental=1):
+        self.send(struct.pack(">BBHHHH", 3, incremental, 0, 0, self.width, self.height))
+
+    def update(self):
+        """Takes an update, and returns the encodings of its rectangles."""
+        kind, count = struct.unpack(">BxH", self.get(4))
+        assert kind == 0, kind
+        encodings = []
+        for _ in range(count):
+            x, y, w, h, encoding = struct.unpack(">HHHHi", self.get(12))
+            encodings.append(encoding)
+            if encoding == 1:
+                sx, sy = struct.unpack(">HH", self.get(4))
+                rows = [self.row(sx, sy + k, w) for k in range(h)]
+            else:
+                assert encoding == 0, encoding
+                data = self.get(w * h * 4)
+                rows = [data[k * w * 4:(k + 1) * w * 4] for k in range(h)]
+            for k, row in enumerate(rows):
+                start = ((y + k) * self.width + x) * 4
+                self.shown[start:start + len(row)] = row
+        return encodings
+
+    def row(self, x, y, w):
+        start = (y * self.width + x) * 4
+        return bytes(self.shown[start:start + w * 4])
+
+    def at(self, x, y):
+        blue, green, red, _ = self.row(x, y, 1)
+        return red, green, blue
+
+    def sees(self, x, y, colour):
+        """Asks and takes updates until that colour is there."""
+        for _ in range(50):
+            if self.at(x, y) == colour:
+                return
+            self.ask()
+            self.update()
+        raise AssertionError((self.at(x, y), colour))
+
+    def has_ended(self):
+        try:
+            while self.stream.recv(65536):
+                pass
+            return True
+        except ConnectionResetError:
+            return True
+
+    def close(self, reset=False):
+        if reset:
+            self.stream.setsockopt(socket.SOL_SOCKET, socket.SO_LINGER, struct.pack("ii", 1, 0))
+        self.stream.close()
+
+
+def viewers(share, count):
+    return [Viewer(share).hello() for _ in range(count)]
+
+
+# ---- rows
+
+def each_line_draws_and_each_event_is_reported():
+    share = Share("--name", "wall")
+    share.say("screen 4 3\n\nfill 0 0 4 3 102030\nfill 1 1 2 1 ff0000\n")
+    viewer = Viewer(share).hello()
+    assert viewer.name == b"wall" and (viewer.width, viewer.height) == (4, 3)
+    viewer.ask(0)
+    viewer.update()
+    assert viewer.at(0, 0) == (16, 32, 48) and viewer.at(1, 1) == (255, 0, 0)
+    share.say("scroll 0 0 4 3 1 -1\n")
+    viewer.sees(3, 0, (255, 0, 0))
+    assert viewer.at(2, 0) == (255, 0, 0) and viewer.at(1, 1) == (16, 32, 48)
+    share.say("pixels 1 1 2 2\nabcdefghijkl\n")
+    viewer.sees(2, 2, tuple(b"jkl"))
+    assert viewer.at(1, 1) == tuple(b"abc")
+    # Pixels that are newlines, cut at each byte.
+    for byte in b"pixels 0 0 1 2\n\n\n\n\n\n\n\nfill 3 2 1 1 00ff00\n":
+        share.say(bytes([byte]))
+    viewer.sees(3, 2, (0, 255, 0))
+    assert viewer.at(0, 1) == (10, 10, 10)
+    # Bad lines, of which nothing is drawn: their numbers count each line before them once.
+    first = 1 + 4 + 1 + 1 + 2
+    bad = ["fill 0 0 9 9 000000", "nonsense", "pixels 3 0 2 1\nabcdef", "pixels 0 0 1 1\nabcd",
+           "screen 4 3", "end 10", "x" * 200]
+    share.say("\n".join(bad) + "\nfill 0 0 1 1 010203\n")
+    viewer.sees(0, 0, (1, 2, 3))
+    assert viewer.at(3, 2) == (0, 255, 0)
+    wanted = b"".join(b"line %d: bad line\n" % (first + k) for k in range(len(bad)))
+    wait_for(lambda: share.errors.endswith(wanted), share.errors)
+    viewer.send(struct.pack(">BBHI", 4, 1, 0, 0xFF0D) + struct.pack(">BBHI", 4, 0, 0, 97))
+    viewer.send(struct.pack(">BBHH", 5, 1, 2, 1) + struct.pack(">BxxxI", 6, 5) + b"hi\0\xffz")
+    for line in (b"join 0", b"key 0 down 65293", b"key 0 up 97", b"pointer 0 1 2 1",
+                 b"text 0 686900ff7a"):
+        share.tells(line)
+    share.say("end 0\n")
+    assert viewer.has_ended()
+    share.tells(b"leave 0 ok")
+    viewer = Viewer(share).hello()
+    viewer.send(b"\x63")
+    share.tells(b"leave 0 fault 7 UnknownMessage")
+    assert viewer.has_ended()
+    share.quits()
+
+
+def a_scroll_is_sent_as_a_copy():
+    share = Share()
+    share.say("screen 40 30\n")
+    viewer = Viewer(share).hello()
+    viewer.send(struct.pack(">BxHii", 2, 2, 1, 0))
+    shown = [[(x, y, 5 * x ^ y) for x in range(40)] for y in range(30)]
+    share.say(b"pixels 0 0 40 30\n" + bytes(c for row in shown for colour in row for c in colour) + b"\n")
+    viewer.ask(0)
+    viewer.update()
+    viewer.sees(39, 29, shown[29][39])
+    viewer.ask()
+    share.say("scroll 4 6 30 20 3 -5\n")
+    assert viewer.update() == [1]
+    for y in range(30):
+        for x in range(40):
+            came = 7 <= x < 34 and 6 <= y < 21
+            assert viewer.at(x, y) == (shown[y + 5][x - 3] if came else shown[y][x]), (x, y)
+    share.quits()
+
+
+def the_end_of_input_leaves_the_screen():
+    share = Share("--until-idle")
+    share.say("screen 2 1\nfill 0 0 2 1 ffffff\n")
+    share.run.stdin.close()
+    viewer = Viewer(share).hello()
+    viewer.ask(0)
+    viewer.update()
+    assert viewer.at(1, 0) == (255, 255, 255)
+    before = share.ticks()
+    time.sleep(0.5)
+    assert share.ticks() - before <= 1, share.ticks() - before
+    viewer.close()
+    share.ends()
+    share = Share()
+    share.say("\nbad\n")
+    share.run.stdin.close()
+    share.ends(1)
+
+
+def a_ninth_is_let_go_and_sole_use_ends_the_others():
+    share = Share()
+    share.say("screen 2 1\n")
+    eight = viewers(share, 8)
+    assert Viewer(share).has_ended()
+    eight[3].close()
+    share.tells(b"leave 3 ok")
+    eight[3] = Viewer(share).hello()
+    share.tells(b"join 3", 2)
+    for viewer in eight:
+        viewer.ask(0)
+        viewer.update()
+    eight[0].close()
+    share.tells(b"leave 0 ok")
+    alone = Viewer(share).hello(0)
+    for viewer in eight[1:]:
+        assert viewer.has_ended()
+    alone.ask(0)
+    alone.update()
+    for seat in range(1, 8):
+        share.tells(b"leave %d ok" % seat)
+    share.quits()
+
+
+def a_stuck_viewer_holds_nobody_up(width=512, height=384, frames=30):
+    share = Share()
+    share.say(f"screen {width} {height}\n")
+    stuck = Viewer(share).hello()
+    seven = viewers(share, 7)
+    for viewer in [stuck] + seven:
+        viewer.ask(0)
+    for viewer in seven:
+        viewer.update()
+    start = time.time()
+    for frame in range(frames):
+        colour = (frame * 8, 255 - frame, 128)
+        share.say(f"scroll 0 0 {width} {height} 0 -8\n"
+                  f"fill 0 {height - 8} {width} 8 {'%02x%02x%02x' % colour}\n")
+        if frame % 2 == 0:
+            stuck.ask()
+        for viewer in seven:
+            viewer.sees(5, height - 1, colour)
+    taken = time.time() - start
+    assert all(viewer.shown == seven[0].shown for viewer in seven)
+    before = share.ticks()
+    time.sleep(0.5)
+    idle = share.ticks() - before
+    assert idle <= 1, idle
+    # It reads again, and sees what the others do.
+    stuck.update()
+    while stuck.shown != seven[0].shown:
+        stuck.ask()
+        stuck.update()
+    share.quits()
+    return f"{frames} frames at seven viewers in {taken:.2f} s"
+
+
+def a_flood_of_requests_is_answered_by_few_updates():
+    share = Share()
+    share.say("screen 320 240\n")
+    flooding, other = viewers(share, 2)
+    done = threading.Event()
+
+    def flood():
+        requests = struct.pack(">BBHHHH", 3, 1, 0, 0, 320, 240) * 1000
+        flooding.stream.settimeout(0.2)
+        while not done.is_set():
+            try:
+                flooding.stream.sendall(requests)
+            except OSError:
+                pass
+
+    thread = threading.Thread(target=flood)
+    thread.start()
+    other.ask(0)
+    other.update()
+    start = time.time()
+    for k in range(50):
+        share.say(f"fill {k} 0 1 1 ffffff\n")
+        other.sees(k, 0, (255, 255, 255))
+    taken = time.time() - start
+    done.set()
+    thread.join()
+    share.quits()
+    return f"50 updates beside a flood in {taken:.2f} s"
+
+
+def a_client_may_send_a_byte_at_a_time():
+    share = Share()
+    share.say("screen 64 64\nfill 0 0 64 64 0a0b0c\n")
+    slow = [Viewer(share, bytewise=True).hello() for _ in range(2)]
+    for viewer in slow:
+        viewer.ask(0)
+        viewer.update()
+        assert viewer.at(63, 63) == (10, 11, 12)
+    slow[1].send(struct.pack(">BBHI", 4, 1, 0, 113))
+    share.tells(b"key 1 down 113")
+    share.quits()
+
+
+def clients_leave_in_the_middle_of_an_update():
+    share = Share()
+    share.say("screen 1000 750\n")
+    other = Viewer(share).hello()
+    for k in range(20):
+        leaving = Viewer(share).hello()
+        leaving.ask(0)
+        leaving.get(100)
+        leaving.close(reset=k % 2 == 1)
+    wait_for(lambda: share.output.count(b"\nleave ") == 20, share.output[-300:])
+    other.ask(0)
+    other.update()
+    share.quits()
+
+
+def many_come_one_after_another():
+    share = Share()
+    share.say("screen 64 64\n")
+    other = Viewer(share).hello()
+    figures = []
+    for k in range(MANY):
+        viewer = Viewer(share).hello()
+        viewer.ask(0)
+        viewer.update()
+        viewer.close()
+        share.tells(b"leave 1 ok", k + 1)
+        if k in (MANY // 4, MANY // 2, MANY - 1):
+            figures.append((share.memory(), share.descriptors()))
+    assert figures[0][1] == figures[-1][1], figures
+    assert figures[-1][0] - figures[1][0] <= 16, figures
+    other.ask(0)
+    other.update()
+    share.quits()
+    return f"{MANY} connections; KiB and descriptors at a quarter, half and all: {figures}"
+
+
+def idle():
+    share = Share()
+    share.say("screen 1920 1080\n")
+    eight = viewers(share, 8)
+    for viewer in eight:
+        viewer.ask(0)
+        viewer.update()
+        viewer.ask()
+    time.sleep(0.5)
+    before = share.ticks()
+    time.sleep(10)
+    ticks = share.ticks() - before
+    share.quits()
+    return f"{ticks} hundredths of a second in 10 s"
+
+
+def video(width=640, height=480, frames=30):
+    share = Share()
+    share.say(f"screen {width} {height}\n")
+    four = viewers(share, 4)
+    for viewer in four:
+        viewer.ask(0)
+        viewer.update()
+    start = time.time()
+    for frame in range(frames):
+        row = bytes((x * (frame + 1)) & 255 for x in range(width * 3))
+        share.say(f"pixels 0 0 {width} {height}\n".encode() + row * height + b"\n")
+        for viewer in four:
+            viewer.sees(width - 1, height - 1, tuple(row[-3:]))
+    taken = time.time() - start
+    share.quits()
+    return f"{frames} frames at four viewers in {taken:.2f} s"
+
+
+ROWS = [each_line_draws_and_each_event_is_reported, a_scroll_is_sent_as_a_copy,
+        the_end_of_input_leaves_the_screen, a_ninth_is_let_go_and_sole_use_ends_the_others,
+        a_stuck_viewer_holds_nobody_up,
+        a_flood_of_requests_is_answered_by_few_updates, a_client_may_send_a_byte_at_a_time,
+        clients_leave_in_the_middle_of_an_update, many_come_one_after_another]
+
+
+def main():
+    passed = failed = 0
+    named = [globals()[name] for name in sys.argv[2:]]
+    for row in named or ROWS:
+        start = time.time()
+        try:
+            told = row()
+        except Exception:
+            traceback.print_exc(file=sys.stdout)
+            failed += 1
+            continue
+        passed += 1
+        if named or told:
+            print(f"{row.__name__}: {told or 'ok'}, {time.time() - start:.1f} s")
+    print(f"{passed} passed, {failed} failed")
+    return 1 if failed else 0
+
+
+if __name__ == "__main__":
+    status = main()
+    sys.stdout.flush()
+    os._exit(status)

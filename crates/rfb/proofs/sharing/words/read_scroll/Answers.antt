@@ -1,0 +1,17 @@
+use Rattle.std.proofs.Common.{arith}
+use Rattle.rfb.proofs.OwnerLineLemmas.{is_scroll, no_scroll}
+use Rattle.rfb.proofs.sharing.words.read_scroll.Goals as goal
+
+pub returns-in_err-read_shift : goal.returns-in_err-read_shift
+returns-in_err-read_shift c =
+    rw c.from_residual-in_err-read_shift.ensures (no_scroll c.args.words.now _ (omega arith)
+    (λ rect dx dy are columns rows. c.in_err-read_shift.ensures dx columns))
+
+pub returns-in_err-read_shift-2 : goal.returns-in_err-read_shift-2
+returns-in_err-read_shift-2 c =
+    rw c.from_residual-in_err-read_shift-2.ensures (no_scroll c.args.words.now _ (omega arith)
+    (λ rect dx dy are columns rows. c.in_err-read_shift-2.ensures dy rows))
+
+pub returns : goal.returns
+returns c =
+    is_scroll c.args.words.now _ (omega arith) _ _ _ c.in_ok-read_rect.ensures.value c.in_ok-read_shift.ensures c.in_ok-read_shift-2.ensures

@@ -1,0 +1,195 @@
+//! Recordings of a server, played to a viewer.
+
+ghost use Rattle.std.specs.Prelude.{◌≡◌, ◌≤◌, ◌⊎◌, false, Err, IfOk, IfErr, IfSome, OnOk, OnErr};
+ghost use Rattle.rfb.specs.declared.fault.Fault.{Fault};
+ghost use Rattle.rfb_session.specs.declared.engine.fault.EngineFault.{EngineFault};
+ghost use Rattle.rfb.specs.declared.fault.Failure.TheVariants as Failure;
+ghost use Rattle.rfb.specs.Recording.{BeginsPicture, FailsToPlay, LeavesRecording, PlaysRecording};
+ghost use Rattle.rfb.specs.Recording.{EndsShown, MayWritePicture, is_end, shows_end};
+ghost use Rattle.rfb.specs.Recording.{WritesPicture, Watches, StopsWatching};
+ghost use Rattle.rfb.specs.Recording.{WatchesAll, StopsWatchingAll, WatchesSome, StopsWatchingSome};
+
+mod options;
+
+use crate::explain::{Heard, Hearing, Notes, tell_place, tell_server};
+use crate::fault::{Failure, Fault};
+use crate::playing::{fresh_viewer, only_raw};
+use crate::writing::write_ppm;
+pub use options::PlayOptions;
+use rfb_session::{EngineFault, Tally};
+use rfb_viewer::Viewer;
+use std::alloc::Global;
+use std::cell::Cell;
+use std::io::{Read, Write};
+
+// How many bytes of a recording are kept, to find where it goes wrong.
+const RECORDING_ROOM: usize = 16_777_216;
+
+/// Plays what `input` has, the bytes of a server, to a fresh viewer that takes pixels of
+/// `options.format`, up to the end of the last update that is asked for, or all of it. Then it
+/// writes the picture that the viewer shows. Nothing is written where the viewer or the bytes end
+/// with a fault; then `notes` say why. Only where the bytes end too early, or a read fails, the
+/// picture of all that came is written if it is wanted.
+pub fn play_recording<R: Read, W: Write, E: Write>(
+    alloc: Global,
+    options: PlayOptions,
+    input: &mut R,
+    output: &mut W,
+    notes: &mut Notes<'_, E>,
+) -> Result<(), Failure>
+    ensures done { OnOk result (PlaysRecording options
+        (R.remaining input.old) (W.contents output.old) (W.contents output.new)) }
+    ensures stopped { IfErr result (FailsToPlay options
+        (R.remaining input.old) (W.contents output.old) (W.contents output.new)) }
+    ensures unwritten { (fault : EngineFault) → result ≡ Err (Failure.Engine fault) →
+        shows_end options.is_partial fault ≡ false → output.new ≡ output.old }
+    ensures left { OnErr result (LeavesRecording options
+        (R.remaining input.old) (W.contents output.old) (W.contents output.new)) }
+{
+    let mut viewer = fresh_viewer(alloc, options.format, only_raw());
+    let room = if notes.are_wanted() {
+        RECORDING_ROOM
+    } else {
+        0
+    };
+    let mut heard = Heard::new(alloc, room, "this is a recording of");
+    match watch_heard(input, &mut viewer, options.updates, &mut heard, notes) {
+        Ok(_updates) => show(&viewer, output),
+        Err(fault) => {
+            tell_server(fault, viewer.reason(), &heard, notes);
+            tell_place(alloc, options.format, fault, &heard, notes);
+            Err(show_early(&viewer, options.is_partial, fault, output))
+        }
+    }
+}
+
+// Feeds a viewer as `watch` does, and keeps the first bytes of what it reads.
+fn watch_heard<R: Read, N: Write>(
+    input: &mut R,
+    viewer: &mut Viewer,
+    updates: Option<u32>,
+    heard: &mut Heard,
+    notes: &mut N,
+) -> Result<u64, EngineFault>
+    requires some { IfSome updates (λ count. 1 ≤ count) }
+    ensures watched { IfOk result (λ told.
+        Watches updates (R.remaining input.old) viewer.old told viewer.new) }
+    ensures stopped { IfErr result (λ fault.
+        StopsWatching updates (R.remaining input.old) viewer.old fault viewer.new) }
+{
+    let none = Cell::new(0);
+    let mut hearing = Hearing::new(input, heard, &none, notes);
+    watch(&mut hearing, viewer, updates)
+}
+
+// Feeds a viewer what `input` has, until `updates` updates ended or all is fed, and returns how
+// many ended.
+fn watch<R: Read>(
+    input: &mut R,
+    viewer: &mut Viewer,
+    updates: Option<u32>,
+) -> Result<u64, EngineFault>
+    requires some { IfSome updates (λ count. 1 ≤ count) }
+    ensures watched { IfOk result (λ told.
+        Watches updates (R.remaining input.old) viewer.old told viewer.new) }
+    ensures stopped { IfErr result (λ fault.
+        StopsWatching updates (R.remaining input.old) viewer.old fault viewer.new) }
+{
+    match updates {
+        Some(count) => watch_some(input, viewer, count),
+        None => watch_all(input, viewer),
+    }
+}
+
+// Feeds a viewer what `input` has, until `updates` updates ended, or all of it if fewer do.
+fn watch_some<R: Read>(input: &mut R, viewer: &mut Viewer, updates: u32) -> Result<u64, EngineFault>
+    requires some { 1 ≤ updates }
+    ensures watched { IfOk result (λ told.
+        WatchesSome updates (R.remaining input.old) viewer.old told viewer.new) }
+    ensures stopped { IfErr result (λ fault.
+        StopsWatchingSome updates (R.remaining input.old) viewer.old fault viewer.new) }
+{
+    let mut source = Tally::new(input);
+    rfb_session::play_some(&mut source, viewer, u64::from(updates))
+}
+
+// Feeds a viewer all that `input` has.
+fn watch_all<R: Read>(input: &mut R, viewer: &mut Viewer) -> Result<u64, EngineFault>
+    ensures watched { IfOk result (λ told.
+        WatchesAll (R.remaining input.old) viewer.old told viewer.new) }
+    ensures stopped { IfErr result (λ fault.
+        StopsWatchingAll (R.remaining input.old) viewer.old fault viewer.new) }
+{
+    let mut source = Tally::new(input);
+    rfb_session::play(&mut source, viewer)
+}
+
+/// After an engine that ended with this fault, writes the picture of what has come, if that is
+/// wanted and the end is an early one; and answers why the command ends.
+pub fn show_early<W: Write>(
+    viewer: &Viewer,
+    is_wanted: bool,
+    fault: EngineFault,
+    output: &mut W,
+) -> Failure
+    ensures ends { EndsShown is_wanted viewer.now fault
+        (W.contents output.old) (W.contents output.new) result }
+    ensures unwanted { shows_end is_wanted fault ≡ false → output.new ≡ output.old }
+{
+    if is_wanted && is_end(fault) {
+        return match show_part(viewer, output) {
+            Ok(()) => Failure::Engine(fault),
+            Err(own) => Failure::Fault(own),
+        };
+    }
+    Failure::Engine(fault)
+}
+
+// Whether the bytes came to an end, and no viewer did.
+fn is_end(fault: EngineFault) -> bool
+    ensures { result ≡ is_end fault }
+{
+    match fault {
+        EngineFault::Truncated | EngineFault::Device => true,
+        EngineFault::Server(_) | EngineFault::Viewer(_) | EngineFault::NoMemory => false,
+    }
+}
+
+// Writes what a viewer shows, if it shows a picture.
+fn show_part<W: Write>(viewer: &Viewer, output: &mut W) -> Result<(), Fault>
+    ensures done { OnOk result
+        (MayWritePicture viewer.now (W.contents output.old) (W.contents output.new)) }
+    ensures left { OnErr result
+        (BeginsPicture viewer.now (W.contents output.old) (W.contents output.new)) }
+{
+    match viewer.picture() {
+        Some(picture) => write_ppm(picture, output),
+        None => Ok(()),
+    }
+}
+
+/// Writes what a viewer shows. What ends it is a fault of the program's own, and no engine's.
+pub fn show<W: Write>(viewer: &Viewer, output: &mut W) -> Result<(), Failure>
+    ensures done { OnOk result
+        (WritesPicture viewer.now (W.contents output.old) (W.contents output.new)) }
+    ensures left { OnErr result ((output.new ≡ output.old)
+        ⊎ BeginsPicture viewer.now (W.contents output.old) (W.contents output.new)) }
+    ensures stopped { IfErr result (λ failure. (fault : Fault) × (failure ≡ Failure.Fault fault)) }
+{
+    match write_picture(viewer, output) {
+        Ok(()) => Ok(()),
+        Err(fault) => Err(Failure::Fault(fault)),
+    }
+}
+
+/// Writes what a viewer shows, as PPM. Where there is no picture, nothing is written.
+pub fn write_picture<W: Write>(viewer: &Viewer, output: &mut W) -> Result<(), Fault>
+    ensures done { OnOk result
+        (WritesPicture viewer.now (W.contents output.old) (W.contents output.new)) }
+    ensures left { OnErr result ((output.new ≡ output.old)
+        ⊎ BeginsPicture viewer.now (W.contents output.old) (W.contents output.new)) }
+{
+    let picture = viewer.picture().ok_or(Fault::NotReady)?;
+    write_ppm(picture, output)?;
+    Ok(())
+}

@@ -1,0 +1,81 @@
+//! A share over sockets: a screen that a program draws by lines on standard input, for up to eight
+//! viewers at once, whose doings it reads as lines on standard output.
+
+mod desk;
+pub mod drawing;
+mod guests;
+mod input;
+pub mod line;
+mod pixels;
+pub mod reader;
+mod ready;
+mod stage;
+pub mod telling;
+pub mod words;
+
+use crate::explain::Notes;
+use crate::fault::Failure;
+use crate::sharing::desk::Desk;
+use std::alloc::Global;
+use std::io::{Read, Write};
+use std::net::{Net, OpenListener, TcpListener};
+
+// How many bytes are read at once.
+const READ_AT_ONCE: usize = 4096;
+
+/// What `share` is asked for.
+#[derive(Clone, Copy, Debug, PartialEq, Eq)]
+pub struct ShareOptions<'a> {
+    /// The address and the port to listen on.
+    pub listen: &'a str,
+    pub port: u16,
+    /// How many viewers there are at once at most, 1 to 8.
+    pub viewers: u16,
+    /// The screen's name.
+    pub name: &'a str,
+    /// Whether all ends with the last viewer.
+    pub until_idle: bool,
+}
+
+/// Shares a screen until a line says `quit`, or with the last viewer if that is wanted. `input` is
+/// standard input. A line of its that is bad is reported on `errors`. It fails where nothing can
+/// listen there, where there is no memory for the screen, where a line cannot be written, or where
+/// `input` ends before it gives the size of the screen.
+pub fn share_at<N: Net, R: Read, W: Write, E: Write>(
+    net: &N,
+    alloc: Global,
+    options: ShareOptions<'_>,
+    input: &mut R,
+    output: &mut W,
+    errors: &mut E,
+    explains: bool,
+) -> Result<(), Failure> {
+    let listener = match TcpListener::bind(net, (options.listen, options.port)) {
+        Ok(listener) => listener,
+        Err(error) => {
+            let mut notes = Notes::new(errors, explains);
+            let _ = writeln!(
+                notes,
+                "rfb: nothing can listen on {}, port {}: {error}",
+                options.listen, options.port
+            );
+            return Err(Failure::from(error));
+        }
+    };
+    listener.set_nonblocking(true)?;
+    let _ = writeln!(
+        Notes::new(errors, explains),
+        "rfb: listening on {}, port {}",
+        options.listen,
+        options.port
+    );
+    let mut desk = Desk::new(net, alloc, listener)?;
+    // Not one in each turn: a turn may be short, and then emptying it is half of the work.
+    let mut part = [0; READ_AT_ONCE];
+    for _turn in 0..u64::MAX {
+        if desk.turn(&options, &mut part, input, output, errors)? {
+            break;
+        }
+    }
+    Ok(())
+}

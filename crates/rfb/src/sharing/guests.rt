@@ -1,0 +1,98 @@
+//! The viewers of a share, each with its connection.
+
+mod admitting;
+mod drawing;
+mod hearing;
+mod serving;
+
+use crate::fault::Failure;
+use crate::sharing::ready::Ready;
+use crate::sharing::telling::{tell_fault, tell_leave};
+use rfb_session::{SLOTS, Share};
+use std::alloc::Global;
+use std::fmt::Display;
+use std::io::{Read, Write};
+use std::net::OpenStream;
+use std::os::fd::AsRawFd;
+
+/// A share, and the connections of its viewers, each at the place of its seat.
+#[derive(Drop)]
+pub struct Guests<S: Drop> {
+    pub share: Share,
+    streams: Vec<Option<S>>,
+    // Where something may have to be composed: a drawing, a request, or a last byte was written.
+    stirred: [bool; SLOTS],
+    // Whether a viewer ever came.
+    came: bool,
+}
+
+impl<S: Read + Write + OpenStream + AsRawFd + Drop> Guests<S> {
+    /// A share without viewers.
+    pub fn new(alloc: Global, share: Share) -> Result<Guests<S>, Failure> {
+        let mut streams = Vec::with_capacity(alloc, SLOTS)?;
+        for _place in 0..SLOTS {
+            streams.push(None)?;
+        }
+        Ok(Guests {
+            share,
+            streams,
+            stirred: [false; SLOTS],
+            came: false,
+        })
+    }
+
+    /// Whether viewers came, and all have gone.
+    pub fn have_gone(&self) -> bool {
+        self.came && self.count() == 0
+    }
+
+    // How many viewers there are.
+    fn count(&self) -> usize {
+        let mut count: usize = 0;
+        for stream in &self.streams {
+            if stream.is_some() {
+                count = count.saturating_add(1);
+            }
+        }
+        count
+    }
+
+    /// A viewer is let go, if there is one at the seat, with nothing wrong.
+    pub fn let_go<W: Write>(
+        &mut self,
+        seat: u8,
+        ready: &mut Ready,
+        output: &mut W,
+    ) -> Result<(), Failure> {
+        if self.close(seat, ready) {
+            tell_leave(output, seat)?;
+        }
+        Ok(())
+    }
+
+    // It is let go for a fault.
+    fn fail<W: Write, F: Display + Drop>(
+        &mut self,
+        seat: u8,
+        fault: F,
+        ready: &mut Ready,
+        output: &mut W,
+    ) -> Result<(), Failure> {
+        if self.close(seat, ready) {
+            tell_fault(output, seat, &fault)?;
+        }
+        Ok(())
+    }
+
+    // Its connection is closed, and its seat is empty. A connection that could not be had may be
+    // had now.
+    fn close(&mut self, seat: u8, ready: &mut Ready) -> bool {
+        match self.streams.get_mut(seat as usize) {
+            Some(slot) if slot.is_some() => *slot = None,
+            _ => return false,
+        }
+        self.share.left(seat);
+        ready.listener = true;
+        true
+    }
+}

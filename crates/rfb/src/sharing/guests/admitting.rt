@@ -1,0 +1,77 @@
+//! Viewers that come to a share.
+
+use crate::fault::Failure;
+use crate::sharing::ShareOptions;
+use crate::sharing::guests::Guests;
+use crate::sharing::ready::Ready;
+use crate::sharing::telling::tell_join;
+use mio::unix::SourceFd;
+use mio::{Interest, Registry, Token};
+use std::io::{ErrorKind, Read, Write};
+use std::net::{OpenListener, OpenStream};
+use std::os::fd::AsRawFd;
+
+// How many connections are accepted in one turn.
+const ACCEPTS: u32 = 16;
+
+impl<S: Read + Write + OpenStream + AsRawFd + Drop> Guests<S> {
+    /// Accepts connections. One for which there is no seat is let go at once.
+    pub fn admit<L: OpenListener<Stream = S>, W: Write>(
+        &mut self,
+        listener: &L,
+        registry: &Registry,
+        options: &ShareOptions<'_>,
+        ready: &mut Ready,
+        output: &mut W,
+    ) -> Result<(), Failure> {
+        for _accept in 0..ACCEPTS {
+            if !ready.listener {
+                break;
+            }
+            match listener.accept() {
+                Ok((stream, _)) => self.seat(stream, registry, options, ready, output)?,
+                Err(error) => match error.kind() {
+                    ErrorKind::Interrupted | ErrorKind::ConnectionAborted => {}
+                    // None waits; or none can be had before another is closed.
+                    _ => ready.listener = false,
+                },
+            }
+        }
+        Ok(())
+    }
+
+    // A connection gets a seat, if one is free.
+    fn seat<W: Write>(
+        &mut self,
+        stream: S,
+        registry: &Registry,
+        options: &ShareOptions<'_>,
+        ready: &mut Ready,
+        output: &mut W,
+    ) -> Result<(), Failure> {
+        if self.count() >= options.viewers as usize || stream.set_nonblocking(true).is_err() {
+            return Ok(());
+        }
+        let _ = stream.set_nodelay(true);
+        let Ok(Some(seat)) = self.share.join() else {
+            return Ok(());
+        };
+        let descriptor = stream.as_raw_fd();
+        let both = Interest::READABLE | Interest::WRITABLE;
+        let place = seat as usize;
+        if registry
+            .register(&mut SourceFd(&descriptor), Token(place), both)
+            .is_err()
+        {
+            self.share.left(seat);
+            return Ok(());
+        }
+        if let Some(slot) = self.streams.get_mut(place) {
+            *slot = Some(stream);
+        }
+        ready.renew(place);
+        self.came = true;
+        tell_join(output, seat)?;
+        Ok(())
+    }
+}
