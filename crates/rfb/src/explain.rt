@@ -7,6 +7,7 @@ mod escaped;
 mod failing;
 mod heard;
 mod hearing;
+mod keeping;
 mod naming;
 mod placing;
 
@@ -14,6 +15,7 @@ pub use escaped::Escaped;
 pub use failing::{tell_client, tell_server};
 pub use heard::Heard;
 pub use hearing::{Hearing, Speaking, tell_updates};
+pub use keeping::{Reading, Writing};
 pub use placing::tell_place;
 use std::io;
 use std::io::Write;

@@ -6,7 +6,7 @@ ghost use Rattle.rfb.specs.CommandLine.{Does, FromFile, Leaves, Through};
 
 mod target;
 
-use crate::explain::{Notes, tell_unread, tell_unwritten};
+use crate::explain::{Notes, Reading, Writing, tell_unread, tell_unwritten};
 use crate::fault::Failure;
 use crate::loopback::script_through_loopback;
 use crate::options::{Order, Task};
@@ -20,6 +20,9 @@ use std::fs::{File, Files, OpenFile};
 use std::io::{Read, Write};
 use std::net::Net;
 use std::time::Clock;
+
+// How standard input is called.
+const INPUT: &str = "standard input";
 
 /// Does what an order asks for. Where a file is named that cannot be opened, or not be written
 /// whole, `errors` say so if sentences are wanted.
@@ -61,8 +64,13 @@ fn work_into<P: AllocGlobal + Clock + Files + Net, R: Read, E: Write>(
     let is_partial = task.is_partial();
     match open_target(rt, path) {
         Ok(mut target) => {
-            let ended = work_from(rt, task, from, explains, input, &mut target.file, errors);
+            let mut unsaved = None;
+            let mut file = Writing::new(&mut target.file, &mut unsaved);
+            let ended = work_from(rt, task, from, explains, input, &mut file, errors);
             let mut notes = Notes::new(errors, explains);
+            if let Some(error) = &unsaved {
+                tell_unwritten(path, error, &mut notes);
+            }
             close(rt, target, ended, is_partial, &mut notes)
         }
         Err(error) => {
@@ -117,15 +125,39 @@ fn work_from<P: AllocGlobal + Clock + Files + Net, R: Read, W: Write, E: Write>(
         (R.remaining input.old)) }
 {
     let Some(path) = from else {
-        return work(rt, task, explains, input, output, errors);
+        return work_reading(rt, task, INPUT, explains, input, output, errors);
     };
     match File::open(rt, path) {
-        Ok(mut file) => work(rt, task, explains, &mut file, output, errors),
+        Ok(mut file) => work_reading(rt, task, path, explains, &mut file, output, errors),
         Err(error) => {
             tell_unread(path, &error, &mut Notes::new(errors, explains));
             Err(Failure::from(error))
         }
     }
+}
+
+// Does a task. Where what it reads cannot be read, `errors` say so by its name.
+fn work_reading<P: AllocGlobal + Clock + Files + Net, R: Read, W: Write, E: Write>(
+    rt: &P,
+    task: Task<'_>,
+    name: &str,
+    explains: bool,
+    input: &mut R,
+    output: &mut W,
+    errors: &mut E,
+) -> Result<(), Failure>
+    ensures done { OnOk result (Does task.entry
+        (R.remaining input.old) (W.contents output.old) (W.contents output.new)) }
+    ensures left { OnErr result (Leaves task.entry
+        (R.remaining input.old) (W.contents output.old) (W.contents output.new)) }
+{
+    let mut unread = None;
+    let mut reading = Reading::new(input, &mut unread);
+    let done = work(rt, task, explains, &mut reading, output, errors);
+    if let Some(error) = &unread {
+        tell_unread(name, error, &mut Notes::new(errors, explains));
+    }
+    done
 }
 
 // Does a task.
