@@ -10,8 +10,8 @@ def put(name, **files):
 words=lambda *all: ''.join(w+'\n' for w in all)
 FLAWS=['it does not begin with P6','its width, its height or its largest component is missing',
     'its width or its height is not 1 to 4096','its largest component is neither 255 nor 65535',
-    'no blank stands before its places','it ends before its last place does','bytes follow its last place']
-SENTENCE='rfb: cannot show /dev/stdin: a picture is a PPM (P6) of 1 to 4096 places a side, with 255 or 65535 as its largest component\n'
+    'no blank stands before its pixels','it ends before its last pixel does','bytes follow its last pixel']
+SENTENCE='rfb: cannot show /dev/stdin: a picture is a PPM (P6) of 1 to 4096 pixels a side, with 255 or 65535 as its largest component\n'
 def bad(name,number,data,*more,said=''):
     put(name,args=words('serve','--port','9','--picture','/dev/stdin',*more),stdin=data,status='1\n',
         stderr=said+'bad picture %d: %s\n'%(number,FLAWS[number-1]))
@@ -28,9 +28,9 @@ bad('picture_of_4097_rows',3,b'P6\n1 4097\n255\n'+3*4097*b'\0')
 bad('picture_of_more_columns_than_there_are_numbers',3,b'P6\n'+40*b'9'+b' 1\n255\n')
 bad('picture_of_fifteen_greys',4,b'P6\n1 1\n15\n\0\0\0')
 bad('picture_of_256_greys',4,b'P6\n1 1\n256\n\0\0\0\0\0\0')
-bad('picture_with_a_comment_before_its_places',5,b'P6\n1 1\n255#\n\0\0\0')
+bad('picture_with_a_comment_before_its_pixels',5,b'P6\n1 1\n255#\n\0\0\0')
 bad('picture_that_ends_after_its_head',6,b'P6\n1 1\n255\n')
-bad('picture_that_ends_in_its_last_place',6,b'P6\n2 1\n65535\n'+11*b'\0')
+bad('picture_that_ends_in_its_last_pixel',6,b'P6\n2 1\n65535\n'+11*b'\0')
 bad('picture_with_a_newline_after_it',7,b'P6\n1 1\n255\n\0\0\0\n')
 bad('picture_with_another_after_it',7,2*b'P6\n1 1\n255\n\0\0\0')
 bad('explained_picture',3,b'P6\n5000 1\n255\n','--explain',said=SENTENCE)

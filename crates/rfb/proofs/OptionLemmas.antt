@@ -12,8 +12,12 @@ use Rattle.rfb.specs.declared.options.WrongWords.{WrongWords}
 use Rattle.rfb.specs.declared.options.WrongWords.TheVariants.{Words, Value}
 use Rattle.arrayvec.specs.ArrayVec.{ArrayVec}
 use Rattle.rfb_wire.specs.declared.encoding.Encoding.{Encoding}
-use Rattle.rfb.specs.Options.{CountsConnections, GivesConnections, GivesOr, HasBadConnections, IsAbsent, IsFlagged, IsThere}
-use Rattle.rfb.specs.Options.{AreOrdered, AreWrong, GivesEncodings, GivesFormat, HasBadEncodings, HasBadFormat, HasBadValue, IsOrder, IsWrongValue, asked, NamesEncodings, NamesFormat, program}
+use Rattle.rfb.specs.command.Values.{GivesOr, IsAbsent, IsFlagged, IsThere}
+use Rattle.rfb.specs.command.Serving.{CountsConnections, GivesConnections, HasBadConnections}
+use Rattle.rfb.specs.command.Program.{asked, program}
+use Rattle.rfb.specs.command.Values.{GivesFormat, HasBadFormat, NamesFormat}
+use Rattle.rfb.specs.command.Looking.{GivesEncodings, HasBadEncodings, NamesEncodings}
+use Rattle.rfb.specs.Options.{AreOrdered, AreWrong, HasBadValue, IsOrder, IsWrongValue}
 use Rattle.rfb.specs.Words.{AreEncodings, IsFormatWord, parts_of}
 
 -- a plain command has no global argument

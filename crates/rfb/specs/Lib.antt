@@ -21,3 +21,4 @@ pub mod Sharing
 pub mod Viewing
 pub mod Words
 pub mod pixmap
+pub mod command

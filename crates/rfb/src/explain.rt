@@ -102,7 +102,7 @@ pub fn tell_unread<N: Write>(path: &str, error: &io::Error, notes: &mut N) {
 pub fn tell_unshown<N: Write>(path: &str, notes: &mut N) {
     let _ = writeln!(
         notes,
-        "rfb: cannot show {}: a picture is a PPM (P6) of 1 to 4096 places a side, with 255 or 65535 \
+        "rfb: cannot show {}: a picture is a PPM (P6) of 1 to 4096 pixels a side, with 255 or 65535 \
          as its largest component",
         Escaped(path.as_bytes())
     );

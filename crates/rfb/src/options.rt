@@ -1,21 +1,22 @@
 //! The words of the command line: which there are, and what they ask for.
 
 mod address;
+mod given;
 mod looking;
 mod paths;
 mod replaying;
 mod serving;
 mod sharing;
+mod words;
 
-ghost use Rattle.std.specs.Prelude.{◌≡◌, ◌≤◌, false, map, Some, IfOk, MatchResult};
-ghost use Rattle.clap.specs.Words.{FailsBy, fault_of, found_of, rows_of, rule_of, shape_of, subcommand_rows_of};
+ghost use Rattle.std.specs.Prelude.{◌≡◌, map, Some, IfOk, MatchResult};
+ghost use Rattle.clap.specs.Words.{FailsBy, fault_of, found_of, rows_of, shape_of, subcommand_rows_of};
 ghost use Rattle.clap.specs.Simple.{app_of, with_subcommand};
-ghost use Rattle.rfb.specs.Options.{AreOrdered, AreWrong, GivesFiles, IsOrder, IsWrongValue};
-ghost use Rattle.rfb.specs.Options.{GivesFormat, GivesNumber, HasBadFormat, HasBadValue, IsFlagged, IsTask, asked};
-ghost use Rattle.rfb_pixel.specs.Format.{PixelFormat};
-ghost use Rattle.rfb.specs.Words.{IsFormatWord};
-ghost use Rattle.rfb.specs.Options.{format_rule, partial_rule, port_rule};
-ghost use Rattle.rfb.specs.Options.{loop_shape, program, script_shape, serve_shape, top, view_shape};
+ghost use Rattle.rfb.specs.command.Values.{GivesFiles};
+ghost use Rattle.rfb.specs.Options.{AreOrdered, AreWrong, IsOrder, IsWrongValue};
+ghost use Rattle.rfb.specs.command.Program.{asked};
+ghost use Rattle.rfb.specs.Options.{HasBadValue, IsTask};
+ghost use Rattle.rfb.specs.command.Program.{loop_shape, program, script_shape, serve_shape, top, view_shape};
 
 use crate::help::{LANGUAGE, LOOPBACK, STATUSES, VERSION};
 use crate::options::looking::{view_options_in, view_words};
@@ -25,12 +26,10 @@ use crate::options::replaying::{play_options_in, play_words};
 use crate::options::serving::{serve_options_in, serve_words};
 use crate::options::sharing::{share_options_in, share_words};
 use crate::play::PlayOptions;
-use crate::script::read_format;
 use crate::serving::ServeOptions;
 use crate::sharing::ShareOptions;
 use crate::viewing::ViewOptions;
-use clap::{Arg, ArgAction, ArgMatches, Command, Error};
-use rfb_pixel::Format;
+use clap::{ArgMatches, Command, Error};
 use std::alloc::{AllocError, Global};
 use std::convert::AsStr;
 
@@ -63,14 +62,14 @@ impl Task<'_> {
 }
 
 /// What the words ask for, and with which files.
-#[derive(Debug, PartialEq, Eq, Drop)]
+#[derive(Drop)]
 pub struct Order<'a> {
     pub task: Task<'a>,
     pub paths: Paths<'a>,
 }
 
 /// A word that no value of its option is.
-#[derive(Clone, Copy, Debug)]
+#[derive(Clone, Copy)]
 pub enum BadValue<'a> {
     /// No format.
     Format(&'a str),
@@ -89,7 +88,7 @@ pub enum BadValue<'a> {
 }
 
 /// Why words ask for no task.
-#[derive(Debug, Drop)]
+#[derive(Drop)]
 pub enum WrongWords<'a> {
     /// They are none that there are, or ask for a text; or memory is wanting.
     Words(Error),
@@ -179,42 +178,6 @@ fn loop_words<'a>(alloc: Global) -> Result<Command<'a>, AllocError>
     with_paths(alloc, command)
 }
 
-// The word of a port.
-fn port_word<'a>(alloc: Global) -> Arg<'a>
-    ensures rule { rule_of result ≡ port_rule }
-    ensures local { result.global ≡ false }
-{
-    Arg::new(alloc, "port")
-        .long("port")
-        .value_name("P")
-        .value_parser(clap::value_parser!(u16).range(1..))
-        .required(true)
-        .help("The port, 1 to 65535")
-}
-
-// The word of a format.
-fn format_word<'a>(alloc: Global) -> Arg<'a>
-    ensures rule { rule_of result ≡ format_rule }
-    ensures local { result.global ≡ false }
-{
-    Arg::new(alloc, "format")
-        .long("format")
-        .value_name("F")
-        .default_value("rgb888")
-        .help("The format of pixels, from the first update on: rgb888, rgb565, bgr233 or rgb101010")
-}
-
-// The word that asks for what has come by an early end.
-fn partial_word<'a>(alloc: Global) -> Arg<'a>
-    ensures rule { rule_of result ≡ partial_rule }
-    ensures local { result.global ≡ false }
-{
-    Arg::new(alloc, "partial")
-        .long("partial")
-        .action(ArgAction::SetTrue)
-        .help("Writes the picture of what has come by an early end, too; the status is 1 then")
-}
-
 // What the words ask for, once they are parsed.
 fn order_in<'a>(matches: &ArgMatches<'a>) -> Result<Order<'a>, WrongWords<'a>>
     ensures { MatchResult result (IsOrder (subcommand_rows_of matches.now))
@@ -284,60 +247,4 @@ fn command_of<'a>(name: &str, given: &ArgMatches<'a>) -> Result<Task<'a>, BadVal
         return Ok(Task::Share(share_options_in(given)));
     }
     Ok(Task::Script)
-}
-
-// Whether a word that may be given is.
-fn is_given(given: &ArgMatches<'_>, name: &str) -> bool
-    ensures { IsFlagged name.now (rows_of (found_of given.now)) result }
-{
-    given.get_flag(name)
-}
-
-// The format that is given, or else rgb888.
-fn format_in<'a>(given: &ArgMatches<'a>) -> Result<Format, BadValue<'a>>
-    ensures { MatchResult result (GivesFormat (rows_of (found_of given.now)))
-        (λ _. HasBadFormat (rows_of (found_of given.now))) }
-{
-    match given.get_str("format") {
-        Some(word) => format_named(word),
-        None => Ok(Format::rgb888()),
-    }
-}
-
-// The format of this name.
-fn format_named<'a>(word: &'a str) -> Result<Format, BadValue<'a>>
-    ensures { MatchResult result (IsFormatWord word.now)
-        (λ _. (format : PixelFormat) → ¬ (IsFormatWord word.now format)) }
-{
-    match read_format(word.as_bytes()) {
-        Some(format) => Ok(format),
-        None => Err(BadValue::Format(word)),
-    }
-}
-
-// The number that is given, which is one of these by then.
-fn number_in(given: &ArgMatches<'_>, name: &str, least: u16, most: u16) -> u16
-    requires { least ≤ most }
-    ensures number { GivesNumber name.now least most (rows_of (found_of given.now)) result }
-    ensures range { (least ≤ result) × (result ≤ most) }
-{
-    match given.get_one::<u16>(name) {
-        Some(number) => within(number, least, most),
-        None => least,
-    }
-}
-
-// A number, or the nearest in a range.
-fn within(number: u16, least: u16, most: u16) -> u16
-    requires { least ≤ most }
-    ensures same { least ≤ number → number ≤ most → result ≡ number }
-    ensures range { (least ≤ result) × (result ≤ most) }
-{
-    if number < least {
-        return least;
-    }
-    if number > most {
-        return most;
-    }
-    number
 }

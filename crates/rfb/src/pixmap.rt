@@ -19,9 +19,9 @@ pub use fault::{Flaw, PixmapError};
 pub use read::read_pixmap;
 use rfb_pixel::Colour;
 
-/// A picture of 1 to 4,096 places a side, with a colour for each: row after row from the top, each
+/// A picture of 1 to 4,096 pixels a side, with a colour for each: row after row from the top, each
 /// from the left.
-#[derive(Debug, Drop)]
+#[derive(Drop)]
 pub struct Pixmap {
     pub width: u16,
     pub height: u16,

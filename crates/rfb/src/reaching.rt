@@ -61,6 +61,7 @@ fn connect_until<N: Net + Clock>(
     port: u16,
     deadline: &Deadline<'_, N>,
 ) -> io::Result<N::Stream> {
+    // Each turn that is not the last sleeps, so these are never all of them.
     for _turn in 0..u64::MAX {
         let Some(left) = deadline.left()? else {
             return TcpStream::connect(net, (host, port));

@@ -52,7 +52,7 @@ use std::io::Write;
 pub use words::{MAX_SIDE, read_format, read_list, read_rect};
 
 /// A script that was read to its end and has no bad line.
-#[derive(Debug, Drop)]
+#[derive(Drop)]
 pub struct Script {
     /// What its first line says.
     pub screen: Screen,

@@ -13,7 +13,7 @@ mod stage;
 pub mod telling;
 pub mod words;
 
-use crate::explain::Notes;
+use crate::explain::{Notes, tell_bound, tell_unbound};
 use crate::fault::Failure;
 use crate::sharing::desk::Desk;
 use std::alloc::Global;
@@ -50,32 +50,35 @@ pub fn share_at<N: Net, R: Read, W: Write, E: Write>(
     errors: &mut E,
     explains: bool,
 ) -> Result<(), Failure> {
-    let listener = match TcpListener::bind(net, (options.listen, options.port)) {
-        Ok(listener) => listener,
-        Err(error) => {
-            let mut notes = Notes::new(errors, explains);
-            let _ = writeln!(
-                notes,
-                "rfb: nothing can listen on {}, port {}: {error}",
-                options.listen, options.port
-            );
-            return Err(Failure::from(error));
-        }
-    };
-    listener.set_nonblocking(true)?;
-    let _ = writeln!(
-        Notes::new(errors, explains),
-        "rfb: listening on {}, port {}",
-        options.listen,
-        options.port
-    );
+    let listener = listen(net, &options, &mut Notes::new(errors, explains))?;
     let mut desk = Desk::new(net, alloc, listener)?;
     // Not one in each turn: a turn may be short, and then emptying it is half of the work.
     let mut part = [0; READ_AT_ONCE];
+    // A loop by number, since one without an end is no function that returns. At a turn for each
+    // nanosecond these last for five hundred years.
     for _turn in 0..u64::MAX {
         if desk.turn(&options, &mut part, input, output, errors)? {
             break;
         }
     }
     Ok(())
+}
+
+// A listener that does not wait.
+fn listen<N: Net, T: Write>(
+    net: &N,
+    options: &ShareOptions<'_>,
+    notes: &mut T,
+) -> Result<N::Listener, Failure> {
+    match TcpListener::bind(net, (options.listen, options.port)) {
+        Ok(listener) => {
+            listener.set_nonblocking(true)?;
+            tell_bound(options.listen, options.port, notes);
+            Ok(listener)
+        }
+        Err(error) => {
+            tell_unbound(options.listen, options.port, &error, notes);
+            Err(Failure::from(error))
+        }
+    }
 }

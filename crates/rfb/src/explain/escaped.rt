@@ -4,7 +4,7 @@ use std::fmt;
 
 /// Prints bytes as text: printable ASCII characters as they are, and a backslash and any other byte
 /// by its number, as `\x1b`. So no text of a peer's moves a terminal's cursor.
-#[derive(Clone, Copy, Debug)]
+#[derive(Clone, Copy)]
 pub struct Escaped<'a>(pub &'a [u8]);
 
 impl fmt::Display for Escaped<'_> {

@@ -88,7 +88,7 @@ impl Heard {
 }
 
 // A server's screen, as ServerInit tells it.
-#[derive(Clone, Copy, Debug)]
+#[derive(Clone, Copy)]
 struct Screen<'a> {
     width: u16,
     height: u16,

@@ -3,7 +3,7 @@
 use std::fmt;
 
 /// A security type, RFC 6143 sections 7.1.2 and 8.1.
-#[derive(Clone, Copy, Debug)]
+#[derive(Clone, Copy)]
 pub struct SecurityType(pub u8);
 
 impl fmt::Display for SecurityType {
@@ -24,7 +24,7 @@ impl fmt::Display for SecurityType {
 }
 
 /// An encoding, sections 7.7 and 8.4.
-#[derive(Clone, Copy, Debug)]
+#[derive(Clone, Copy)]
 pub struct EncodingNumber(pub i32);
 
 impl fmt::Display for EncodingNumber {

@@ -3,10 +3,12 @@
 ghost use Rattle.std.specs.Prelude.{◌≡◌, codes, ℕ, List, false, option_map, MatchOption, MatchResult};
 ghost use Rattle.clap.specs.Words.{found_of, rows_of, rule_of};
 ghost use Rattle.rfb.specs.Address.{GivesServer, IsAddress, NamesDisplay, NamesPort, OrLoopback};
-ghost use Rattle.rfb.specs.Options.{GivesAddress, HasBadAddress, MayGiveNumber};
-ghost use Rattle.rfb.specs.Options.{any_port_rule, host_rule, server_rule};
+ghost use Rattle.rfb.specs.command.Values.{MayGiveNumber};
+ghost use Rattle.rfb.specs.command.Looking.{GivesAddress, HasBadAddress};
+ghost use Rattle.rfb.specs.command.Rules.{any_port_rule, host_rule, server_rule};
 
 use crate::options::BadValue;
+use crate::options::words::number_word;
 use crate::script::read_number;
 use clap::{Arg, ArgMatches};
 use std::alloc::Global;
@@ -19,7 +21,7 @@ const DISPLAYS: u16 = 5900;
 const LAST_DISPLAY: u16 = 99;
 
 /// A server, by its name or address and its port.
-#[derive(Clone, Copy, Debug, PartialEq, Eq)]
+#[derive(Clone, Copy)]
 pub struct Address<'a> {
     pub host: &'a str,
     pub port: u16,
@@ -50,11 +52,7 @@ pub fn any_port_word<'a>(alloc: Global) -> Arg<'a>
     ensures rule { rule_of result ≡ any_port_rule }
     ensures local { result.global ≡ false }
 {
-    Arg::new(alloc, "port")
-        .long("port")
-        .value_name("P")
-        .value_parser(clap::value_parser!(u16).range(1..))
-        .help("The port, 1 to 65535; 5900 without it")
+    number_word(alloc, "port", "P", "The port, 1 to 65535; 5900 without it")
 }
 
 /// The server that is given: by a word, or by its host, its port or both, and never by both ways.

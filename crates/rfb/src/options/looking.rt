@@ -4,21 +4,24 @@ ghost use Rattle.std.specs.Prelude.{◌≡◌, ◌≤◌, false, codes, List, If
 ghost use Rattle.clap.specs.Words.{found_of, rows_of, rule_of, shape_of};
 ghost use Rattle.clap.specs.Simple.{app_of, with_rule};
 ghost use Rattle.rfb_wire.specs.declared.encoding.Encoding.{Encoding};
-ghost use Rattle.rfb.specs.Options.{any_port_rule, host_rule, server_rule, view_shape};
-ghost use Rattle.rfb.specs.Options.{encodings_rule, format_rule, output_rule, partial_rule, record_rule, timeout_rule, updates_rule};
-ghost use Rattle.rfb.specs.Options.{GivesEncodings, GivesViewOptions, GivesNumber, GivesSight, HasBadEncodings, HasBadView, HasBadSight};
+ghost use Rattle.rfb.specs.command.Rules.{any_port_rule, host_rule, server_rule};
+ghost use Rattle.rfb.specs.command.Program.{view_shape};
+ghost use Rattle.rfb.specs.command.Rules.{encodings_rule, format_rule, output_rule, partial_rule, record_rule, timeout_rule, updates_rule};
+ghost use Rattle.rfb.specs.command.Values.{GivesNumber};
+ghost use Rattle.rfb.specs.command.Looking.{GivesEncodings, GivesViewOptions, GivesSight, HasBadEncodings, HasBadView, HasBadSight};
 ghost use Rattle.rfb.specs.Words.{AreEncodings, parts_of};
 
 use crate::help::SERVERS;
+use crate::options::BadValue;
 use crate::options::address::{address_in, any_port_word, host_word, server_word};
+use crate::options::given::{format_in, is_given, number_given};
 use crate::options::paths::output_word;
-use crate::options::replaying::number_given;
-use crate::options::{BadValue, format_in, format_word, is_given, partial_word};
+use crate::options::words::{flag_word, format_word, large_number_word, partial_word, text_word};
 use crate::playing::only_raw;
 use crate::script::{Wants, read_list};
 use crate::viewing::{Sight, ViewOptions};
 use arrayvec::ArrayVec;
-use clap::{Arg, ArgAction, ArgMatches, Command};
+use clap::{Arg, ArgMatches, Command};
 use rfb_wire::Encoding;
 use std::alloc::{AllocError, Global};
 
@@ -71,11 +74,12 @@ fn timeout_word<'a>(alloc: Global) -> Arg<'a>
     ensures rule { rule_of result ≡ timeout_rule }
     ensures local { result.global ≡ false }
 {
-    Arg::new(alloc, "timeout")
-        .long("timeout")
-        .value_name("S")
-        .value_parser(clap::value_parser!(u32).range(1..))
-        .help("The seconds after which it ends, 1 to 4294967295; without it, it waits")
+    large_number_word(
+        alloc,
+        "timeout",
+        "S",
+        "The seconds after which it ends, 1 to 4294967295; without it, it waits",
+    )
 }
 
 // The word of how many updates are viewed.
@@ -83,12 +87,13 @@ fn updates_word<'a>(alloc: Global) -> Arg<'a>
     ensures rule { rule_of result ≡ updates_rule }
     ensures local { result.global ≡ false }
 {
-    Arg::new(alloc, "updates")
-        .long("updates")
-        .value_name("U")
-        .value_parser(clap::value_parser!(u32).range(1..))
-        .default_value("1")
-        .help("How many updates are viewed, 1 to 4294967295")
+    large_number_word(
+        alloc,
+        "updates",
+        "U",
+        "How many updates are viewed, 1 to 4294967295",
+    )
+    .default_value("1")
 }
 
 // The word of a list of encodings.
@@ -96,11 +101,13 @@ fn encodings_word<'a>(alloc: Global) -> Arg<'a>
     ensures rule { rule_of result ≡ encodings_rule }
     ensures local { result.global ≡ false }
 {
-    Arg::new(alloc, "encodings")
-        .long("encodings")
-        .value_name("E")
-        .default_value("raw")
-        .help("One to four of raw, copyrect, rre and hextile with commas, the best first")
+    text_word(
+        alloc,
+        "encodings",
+        "E",
+        "raw",
+        "One to four of raw, copyrect, rre and hextile with commas, the best first",
+    )
 }
 
 // The word that asks for a recording.
@@ -108,10 +115,11 @@ fn record_word<'a>(alloc: Global) -> Arg<'a>
     ensures rule { rule_of result ≡ record_rule }
     ensures local { result.global ≡ false }
 {
-    Arg::new(alloc, "record")
-        .long("record")
-        .action(ArgAction::SetTrue)
-        .help("Writes the server's bytes as they come, in place of the picture")
+    flag_word(
+        alloc,
+        "record",
+        "Writes the server's bytes as they come, in place of the picture",
+    )
 }
 
 /// The server that is to be viewed, and what is to be seen of it.

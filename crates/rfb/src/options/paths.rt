@@ -1,15 +1,17 @@
 //! The words of files that stand in place of standard input and output.
 
-ghost use Rattle.std.specs.Prelude.{◌≡◌, codes, false, IfOk};
+ghost use Rattle.std.specs.Prelude.{◌≡◌, false, IfOk};
 ghost use Rattle.clap.specs.Words.{found_of, rows_of, rule_of};
-ghost use Rattle.clap.specs.Simple.{app_of, with_rule};
-ghost use Rattle.rfb.specs.Options.{GivesPaths, input_rule, output_rule, path_rule, with_paths};
+ghost use Rattle.clap.specs.Simple.{app_of};
+ghost use Rattle.rfb.specs.command.Rules.{input_rule, output_rule, path_rule};
+ghost use Rattle.rfb.specs.command.Program.{with_paths};
+ghost use Rattle.rfb.specs.command.Values.{GivesPaths};
 
 use clap::{Arg, ArgMatches, Command};
 use std::alloc::{AllocError, Global};
 
 /// The files that a command reads and writes.
-#[derive(Clone, Copy, Debug, PartialEq, Eq)]
+#[derive(Clone, Copy, PartialEq, Eq)]
 pub struct Paths<'a> {
     /// What is read, if it is not standard input.
     pub input: Option<&'a str>,

@@ -1,13 +1,17 @@
-//! The words of `play`, and numbers that words may ask for.
+//! The words of `play`.
 
-ghost use Rattle.std.specs.Prelude.{◌≡◌, ◌≤◌, false, IfOk, IfSome, MatchResult};
+ghost use Rattle.std.specs.Prelude.{◌≡◌, false, IfOk, MatchResult};
 ghost use Rattle.clap.specs.Words.{found_of, rows_of, rule_of, shape_of};
-ghost use Rattle.rfb.specs.Options.{first_updates_rule, play_shape};
-ghost use Rattle.rfb.specs.Options.{GivesPlayOptions, HasBadFormat, MayGiveNumber};
+ghost use Rattle.rfb.specs.command.Rules.{first_updates_rule};
+ghost use Rattle.rfb.specs.command.Program.{play_shape};
+ghost use Rattle.rfb.specs.command.Values.{HasBadFormat};
+ghost use Rattle.rfb.specs.Options.{GivesPlayOptions};
 
 use crate::help::RECORDINGS;
+use crate::options::BadValue;
+use crate::options::given::{format_in, is_given, number_given};
 use crate::options::paths::with_paths;
-use crate::options::{BadValue, format_in, format_word, is_given, partial_word};
+use crate::options::words::{format_word, large_number_word, partial_word};
 use crate::play::PlayOptions;
 use clap::{Arg, ArgMatches, Command};
 use std::alloc::{AllocError, Global};
@@ -30,11 +34,12 @@ fn first_updates_word<'a>(alloc: Global) -> Arg<'a>
     ensures rule { rule_of result ≡ first_updates_rule }
     ensures local { result.global ≡ false }
 {
-    Arg::new(alloc, "updates")
-        .long("updates")
-        .value_name("U")
-        .value_parser(clap::value_parser!(u32).range(1..))
-        .help("The updates after which it ends, 1 to 4294967295; without it, all are played")
+    large_number_word(
+        alloc,
+        "updates",
+        "U",
+        "The updates after which it ends, 1 to 4294967295; without it, all are played",
+    )
 }
 
 /// The format of a recording, and how much of it is to be played.
@@ -50,23 +55,4 @@ pub fn play_options_in<'a>(given: &ArgMatches<'a>) -> Result<PlayOptions, BadVal
         }),
         Err(value) => Err(value),
     }
-}
-
-/// The number that is asked for, if one is given.
-pub fn number_given(given: &ArgMatches<'_>, name: &str) -> Option<u32>
-    ensures number { MayGiveNumber name.now 1 4294967295 (rows_of (found_of given.now)) result }
-    ensures some { IfSome result (λ count. 1 ≤ count) }
-{
-    match given.get_one::<u32>(name) {
-        Some(number) => Some(at_least_one(number)),
-        None => None,
-    }
-}
-
-// A number, or 1 in place of 0.
-fn at_least_one(number: u32) -> u32
-    ensures same { 1 ≤ number → result ≡ number }
-    ensures some { 1 ≤ result }
-{
-    if number == 0 { 1 } else { number }
 }

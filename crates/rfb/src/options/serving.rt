@@ -1,19 +1,22 @@
 //! The words of `serve`.
 
-ghost use Rattle.std.specs.Prelude.{◌≡◌, ◌≤◌, codes, false, true, None, Some, IfOk, IfSome, MatchResult};
+ghost use Rattle.std.specs.Prelude.{◌≡◌, codes, false, None, Some, IfOk, MatchResult};
 ghost use Rattle.clap.specs.Words.{first_of, found_of, rows_of, rule_of, shape_of};
 ghost use Rattle.clap.specs.Simple.{app_of};
-ghost use Rattle.rfb.specs.Options.{GivesConnections, GivesOr, GivesScreen, GivesServeOptions, IsAbsent, IsThere, NamesHost};
-ghost use Rattle.rfb.specs.Options.{HasBadConnections, HasBadScreen, HasBadServe};
-ghost use Rattle.rfb.specs.Options.{connections_rule, forever_rule, listen_rule, picture_rule, serve_shape, side_rule, timeout_rule};
-ghost use Rattle.rfb.specs.Options.{with_connections, with_listening, with_screens};
+ghost use Rattle.rfb.specs.command.Values.{GivesOr, NamesHost};
+ghost use Rattle.rfb.specs.command.Serving.{GivesConnections, GivesScreen, GivesServeOptions};
+ghost use Rattle.rfb.specs.command.Serving.{HasBadConnections, HasBadScreen, HasBadServe};
+ghost use Rattle.rfb.specs.command.Rules.{connections_rule, forever_rule, listen_rule, picture_rule, side_rule, timeout_rule};
+ghost use Rattle.rfb.specs.command.Program.{serve_shape};
+ghost use Rattle.rfb.specs.command.Program.{with_connections, with_listening, with_screens};
 
 use crate::help::VIEWERS;
-use crate::options::replaying::number_given;
-use crate::options::{BadValue, is_given, number_in, port_word, within};
+use crate::options::BadValue;
+use crate::options::given::{is_given, is_there, number_given, number_in, number_or, word_in};
+use crate::options::words::{flag_word, large_number_word, number_word, port_word, text_word};
 use crate::script::{MAX_SIDE, Screen};
 use crate::serving::{FOREVER, ScreenChoice, ServeOptions};
-use clap::{Arg, ArgAction, ArgMatches, Command};
+use clap::{Arg, ArgMatches, Command};
 use std::alloc::{AllocError, Global};
 
 const LOOPBACK: &str = "127.0.0.1";
@@ -66,11 +69,13 @@ pub fn listen_word<'a>(alloc: Global) -> Arg<'a>
     ensures rule { rule_of result ≡ listen_rule }
     ensures local { result.global ≡ false }
 {
-    Arg::new(alloc, "listen")
-        .long("listen")
-        .value_name("ADDRESS")
-        .default_value(LOOPBACK)
-        .help("The address that is listened on; 0.0.0.0 is all of IPv4")
+    text_word(
+        alloc,
+        "listen",
+        "ADDRESS",
+        LOOPBACK,
+        "The address that is listened on; 0.0.0.0 is all of IPv4",
+    )
 }
 
 // The word of the screen's width.
@@ -81,7 +86,7 @@ fn width_word<'a>(alloc: Global) -> Arg<'a>
     side_word(
         alloc,
         "width",
-        "The places of a row of the screen, 1 to 4096; 64 without it",
+        "The pixels of a row of the screen, 1 to 4096; 64 without it",
     )
 }
 
@@ -125,10 +130,11 @@ fn forever_word<'a>(alloc: Global) -> Arg<'a>
     ensures rule { rule_of result ≡ forever_rule }
     ensures local { result.global ≡ false }
 {
-    Arg::new(alloc, "forever")
-        .long("forever")
-        .action(ArgAction::SetTrue)
-        .help("Serves one connection after another until it is ended from outside")
+    flag_word(
+        alloc,
+        "forever",
+        "Serves one connection after another until it is ended from outside",
+    )
 }
 
 // The word of how many connections are served.
@@ -136,11 +142,12 @@ fn connections_word<'a>(alloc: Global) -> Arg<'a>
     ensures rule { rule_of result ≡ connections_rule }
     ensures local { result.global ≡ false }
 {
-    Arg::new(alloc, "connections")
-        .long("connections")
-        .value_name("K")
-        .value_parser(clap::value_parser!(u16).range(1..))
-        .help("How many connections are served, 1 to 65535; 1 without it")
+    number_word(
+        alloc,
+        "connections",
+        "K",
+        "How many connections are served, 1 to 65535; 1 without it",
+    )
 }
 
 // The word of a time.
@@ -148,11 +155,12 @@ fn timeout_word<'a>(alloc: Global) -> Arg<'a>
     ensures rule { rule_of result ≡ timeout_rule }
     ensures local { result.global ≡ false }
 {
-    Arg::new(alloc, "timeout")
-        .long("timeout")
-        .value_name("S")
-        .value_parser(clap::value_parser!(u32).range(1..))
-        .help("The seconds without a byte after which a viewer is let go, 1 to 4294967295")
+    large_number_word(
+        alloc,
+        "timeout",
+        "S",
+        "The seconds without a byte after which a viewer is let go, 1 to 4294967295",
+    )
 }
 
 /// What `serve` is asked for. The screen is judged first.
@@ -217,35 +225,6 @@ fn connections_in<'a>(given: &ArgMatches<'a>) -> Result<u64, BadValue<'a>>
         return Err(BadValue::Connections);
     }
     Ok(FOREVER)
-}
-
-// The word that is given to an option, if one is.
-fn word_in<'a>(given: &ArgMatches<'a>, name: &str) -> Option<&'a str>
-    ensures absent { result ≡ None → IsAbsent name.now (rows_of (found_of given.now)) }
-    ensures given { IfSome result (λ word.
-        first_of name.now (rows_of (found_of given.now)) ≡ Some word.now) }
-{
-    given.get_str(name)
-}
-
-// Whether one is.
-fn is_there(given: &ArgMatches<'_>, name: &str) -> bool
-    ensures there { result ≡ true → IsThere name.now (rows_of (found_of given.now)) }
-    ensures absent { result ≡ false → IsAbsent name.now (rows_of (found_of given.now)) }
-{
-    word_in(given, name).is_some()
-}
-
-// The number that is given, which is at most `most` by then, or else another.
-fn number_or(given: &ArgMatches<'_>, name: &str, most: u16, otherwise: u16) -> u16
-    requires { (1 ≤ otherwise) × (otherwise ≤ most) }
-    ensures number { GivesOr name.now most otherwise (rows_of (found_of given.now)) result }
-    ensures range { (1 ≤ result) × (result ≤ most) }
-{
-    match given.get_one::<u16>(name) {
-        Some(number) => within(number, 1, most),
-        None => otherwise,
-    }
 }
 
 /// The address that is given, or else the loopback address.

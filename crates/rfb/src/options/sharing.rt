@@ -2,13 +2,17 @@
 
 ghost use Rattle.std.specs.Prelude.{◌≡◌, codes, false, IfOk};
 ghost use Rattle.clap.specs.Words.{first_of, found_of, rows_of, rule_of, shape_of};
-ghost use Rattle.rfb.specs.Options.{GivesShareOptions, IsFlagged, NamesWord, idle_rule, name_rule, share_shape, viewers_rule};
+ghost use Rattle.rfb.specs.command.Rules.{idle_rule, name_rule, viewers_rule};
+ghost use Rattle.rfb.specs.command.Program.{share_shape};
+ghost use Rattle.rfb.specs.command.Values.{NamesWord};
+ghost use Rattle.rfb.specs.Options.{GivesShareOptions};
 
 use crate::help::OWNERS;
+use crate::options::given::{is_given, number_in};
 use crate::options::serving::{listen_in, listen_word};
-use crate::options::{number_in, port_word};
+use crate::options::words::{flag_word, port_word, text_word};
 use crate::sharing::ShareOptions;
-use clap::{Arg, ArgAction, ArgMatches, Command};
+use clap::{Arg, ArgMatches, Command};
 use std::alloc::{AllocError, Global};
 
 const NAME: &str = "rfb";
@@ -48,11 +52,13 @@ fn name_word<'a>(alloc: Global) -> Arg<'a>
     ensures rule { rule_of result ≡ name_rule }
     ensures local { result.global ≡ false }
 {
-    Arg::new(alloc, "name")
-        .long("name")
-        .value_name("TEXT")
-        .default_value(NAME)
-        .help("The screen's name, of which viewers get 255 bytes at most")
+    text_word(
+        alloc,
+        "name",
+        "TEXT",
+        NAME,
+        "The screen's name, of which viewers get 255 bytes at most",
+    )
 }
 
 // The word that ends all with the last viewer.
@@ -60,10 +66,11 @@ fn idle_word<'a>(alloc: Global) -> Arg<'a>
     ensures rule { rule_of result ≡ idle_rule }
     ensures local { result.global ≡ false }
 {
-    Arg::new(alloc, "until-idle")
-        .long("until-idle")
-        .action(ArgAction::SetTrue)
-        .help("Ends once viewers came and the last of them has gone")
+    flag_word(
+        alloc,
+        "until-idle",
+        "Ends once viewers came and the last of them has gone",
+    )
 }
 
 /// What `share` is asked for.
@@ -75,7 +82,7 @@ pub fn share_options_in<'a>(given: &ArgMatches<'a>) -> ShareOptions<'a>
         port: number_in(given, "port", 1, u16::MAX),
         viewers: number_in(given, "viewers", 1, MOST_VIEWERS),
         name: name_in(given),
-        until_idle: is_until_idle(given),
+        until_idle: is_given(given, "until-idle"),
     }
 }
 
@@ -88,11 +95,4 @@ fn name_in<'a>(given: &ArgMatches<'a>) -> &'a str
         Some(name) => name,
         None => NAME,
     }
-}
-
-// Whether all ends with the last viewer.
-fn is_until_idle(given: &ArgMatches<'_>) -> bool
-    ensures { IsFlagged (codes "until-idle") (rows_of (found_of given.now)) result }
-{
-    given.get_flag("until-idle")
 }

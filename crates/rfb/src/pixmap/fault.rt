@@ -24,18 +24,18 @@ pub enum Flaw {
     #[error("4: its largest component is neither 255 nor 65535")]
     BadMaximum,
     /// No space, tab, newline or carriage return follows its largest component.
-    #[error("5: no blank stands before its places")]
+    #[error("5: no blank stands before its pixels")]
     NoBlank,
-    /// It ends before its last place does.
-    #[error("6: it ends before its last place does")]
+    /// It ends before its last pixel does.
+    #[error("6: it ends before its last pixel does")]
     TooShort,
-    /// Bytes follow its last place.
-    #[error("7: bytes follow its last place")]
+    /// Bytes follow its last pixel.
+    #[error("7: bytes follow its last pixel")]
     TooLong,
 }
 
 /// Why a picture is not read.
-#[derive(Clone, Copy, Debug)]
+#[derive(Clone, Copy)]
 pub enum PixmapError {
     /// The file spells none.
     Flaw(Flaw),

@@ -1,4 +1,4 @@
-//! The head of a pixmap: what stands before its places.
+//! The head of a pixmap: what stands before its pixels.
 
 ghost use Rattle.std.specs.Prelude.{◌≡◌, ◌≤◌, List, ℕ, MatchOption, MatchResult};
 ghost use Rattle.rfb.specs.pixmap.Head.{BlankNext, HasHeadFlaw, IsHead};
@@ -10,7 +10,7 @@ use crate::pixmap::fault::Flaw;
 use crate::pixmap::number::{is_blank, next_number, number_of};
 
 /// What a component has.
-#[derive(Clone, Copy, Debug, PartialEq, Eq)]
+#[derive(Clone, Copy)]
 pub enum Sample {
     /// One byte; the largest component is 255.
     Byte,
@@ -19,7 +19,7 @@ pub enum Sample {
 }
 
 /// What a head says.
-#[derive(Clone, Copy, Debug, PartialEq, Eq)]
+#[derive(Clone, Copy)]
 pub struct Head {
     pub width: u16,
     pub height: u16,

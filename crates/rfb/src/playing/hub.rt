@@ -19,7 +19,7 @@ use rfb_session::{Hub, HubEvent, HubFault, HubTold, NoMemory, SlotEvent};
 use std::alloc::{AllocError, Global};
 
 /// What became of a line.
-#[derive(Clone, Copy, Debug, PartialEq, Eq)]
+#[derive(Clone, Copy)]
 pub struct LineTold {
     /// The first refusal of one of its events, if one was refused.
     pub refused: Option<HubFault>,

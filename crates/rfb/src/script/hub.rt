@@ -35,7 +35,7 @@ mod read;
 pub mod words;
 
 /// A script of a hub that was read to its end and has no bad line.
-#[derive(Debug, Drop)]
+#[derive(Drop)]
 pub struct HubScript {
     /// What its first line says.
     pub screen: Screen,

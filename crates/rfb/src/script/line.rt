@@ -26,7 +26,7 @@ pub struct Wants {
 }
 
 /// What a line asks of both ends.
-#[derive(Debug, Drop)]
+#[derive(Drop)]
 pub enum Step {
     /// One event.
     Event(Event),
@@ -35,7 +35,7 @@ pub enum Step {
 }
 
 /// A good line that is not empty.
-#[derive(Debug, Drop)]
+#[derive(Drop)]
 pub enum Line {
     /// The line that stands first.
     Screen(Screen),
@@ -46,7 +46,7 @@ pub enum Line {
 }
 
 /// A step, and the line that asks for it, counted from 1.
-#[derive(Debug, Drop)]
+#[derive(Drop)]
 pub struct Numbered {
     pub line: u64,
     pub step: Step,

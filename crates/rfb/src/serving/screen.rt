@@ -13,7 +13,7 @@ use std::fs::{File, Files};
 use std::io::{Read, Write};
 
 /// What each connection shows at first.
-#[derive(Debug, Drop)]
+#[derive(Drop)]
 pub enum ServedScreen {
     /// The test scene, on a screen of this size.
     Scene(Screen),

@@ -9,7 +9,7 @@ use std::io::ErrorKind;
 pub const INPUT: i32 = 0;
 
 /// What standard input is.
-#[derive(Clone, Copy, Debug, PartialEq, Eq)]
+#[derive(Clone, Copy, PartialEq, Eq)]
 pub enum Input {
     /// A pipe, a terminal or a socket: it tells when it can be read.
     Telling,

@@ -5,7 +5,7 @@ use rfb_picture::Rect;
 use rfb_pixel::Colour;
 
 /// What one line says, by itself.
-#[derive(Clone, Copy, Debug, PartialEq, Eq)]
+#[derive(Clone, Copy, PartialEq, Eq)]
 pub enum OwnerLine {
     /// The size of the screen: the first line that is not empty.
     Screen(Screen),
@@ -26,7 +26,7 @@ pub enum OwnerLine {
 }
 
 /// Why what was read is not done.
-#[derive(Clone, Copy, Debug, PartialEq, Eq)]
+#[derive(Clone, Copy)]
 pub enum Refusal {
     /// It says nothing that may stand there.
     Bad,
@@ -35,7 +35,7 @@ pub enum Refusal {
 }
 
 /// What a line says, with its pixels, once all of it is read.
-#[derive(Debug, Drop)]
+#[derive(Drop)]
 pub enum Order {
     /// An empty line.
     Nothing,

@@ -9,7 +9,7 @@ use rfb_wire::pieces::append_within;
 use std::alloc::{AllocError, Global};
 
 /// A rectangle, and those bytes of its colours that have come. There is room for all.
-#[derive(Debug, Drop)]
+#[derive(Drop)]
 pub struct Pixels {
     rect: Rect,
     bytes: Vec<u8>,

@@ -19,7 +19,7 @@ const NEWLINE: u8 = b'\n';
 
 /// Reads lines of the owner's. It holds a line of at most 96 bytes, or the pixels of a rectangle
 /// on the screen, three bytes for each place.
-#[derive(Debug, Drop)]
+#[derive(Drop)]
 pub struct OwnerReader {
     alloc: Global,
     // The size of the screen, once a line has said it.
@@ -28,7 +28,7 @@ pub struct OwnerReader {
 }
 
 /// What was read of some bytes.
-#[derive(Debug, Drop)]
+#[derive(Drop)]
 pub struct Taken {
     /// How many of them were taken.
     pub used: usize,

@@ -10,7 +10,7 @@ pub const LISTENER: Token = Token(SLOTS);
 pub const OWNER: Token = Token(SLOTS + 1);
 
 /// What was reported to be ready, and did not say since that it is not.
-#[derive(Debug, Drop)]
+#[derive(Drop)]
 pub struct Ready {
     pub owner: bool,
     pub listener: bool,

@@ -12,7 +12,7 @@ use arrayvec::ArrayVec;
 pub const LINE_MAX: usize = 96;
 
 /// How far the bytes have come, from the end of what was read last on.
-#[derive(Debug, Drop)]
+#[derive(Drop)]
 pub enum Stage {
     /// In a line, of which these have come.
     Line(ArrayVec<u8, LINE_MAX>),

@@ -1,7 +1,7 @@
 use Rattle.std.proofs.Common.{◌≡◌, ◌∙◌, ap, ap₂, Bool}
 use Rattle.std.proofs.lemmas.Result.{IfOk-weaker}
 use Rattle.clap.specs.Simple.{App, Shape, app_of, with_subcommand}
-use Rattle.rfb.specs.Options.{loop_shape, play_shape, script_shape, serve_shape, top, view_shape}
+use Rattle.rfb.specs.command.Program.{loop_shape, play_shape, script_shape, serve_shape, top, view_shape}
 use Rattle.rfb.proofs.OptionLemmas.{no_globals}
 use Rattle.rfb.proofs.options.commands.Goals as goal
 

@@ -5,7 +5,7 @@ use Rattle.clap.specs.Faults.{fault_of, is_simple_and_free}
 use Rattle.clap.specs.Kinds.{FailsBy}
 use Rattle.clap.specs.declared.error.Error.{Error}
 use Rattle.clap.specs.declared.parser.matches.ArgMatches.{ArgMatches}
-use Rattle.rfb.specs.Options.{asked, program}
+use Rattle.rfb.specs.command.Program.{asked, program}
 use Rattle.rfb.proofs.options.parse.Goals as goal
 
 program_is_simple : is_simple_and_free program ≡ true

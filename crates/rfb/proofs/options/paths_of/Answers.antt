@@ -3,7 +3,7 @@ use Rattle.clap.specs.Walk.{Row, Text, rows_of}
 use Rattle.clap.specs.Matches.{found_of}
 use Rattle.clap.specs.Simple.{subcommand_rows_of}
 use Rattle.rfb.specs.declared.options.paths.Paths.{Paths}
-use Rattle.rfb.specs.Options.{GivesFiles}
+use Rattle.rfb.specs.command.Values.{GivesFiles}
 use Rattle.rfb.proofs.OptionLemmas.{both_there, map_map, not_there}
 use Rattle.rfb.proofs.options.paths_of.Goals as goal
 

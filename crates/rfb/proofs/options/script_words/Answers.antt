@@ -1,7 +1,7 @@
 use Rattle.std.proofs.Common.{◌≡◌, ◌∙◌, ap, codes}
 use Rattle.std.proofs.lemmas.Result.{IfOk-weaker}
 use Rattle.clap.specs.Simple.{App, app_of, app_of_fields, new_app}
-use Rattle.rfb.specs.Options.{with_paths}
+use Rattle.rfb.specs.command.Program.{with_paths}
 use Rattle.rfb.proofs.options.script_words.Goals as goal
 
 pub returns : goal.returns

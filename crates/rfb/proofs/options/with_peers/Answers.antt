@@ -1,7 +1,7 @@
 use Rattle.std.proofs.Common.{◌≡◌, ◌∙◌, ap, ap₂, Bool}
 use Rattle.std.proofs.lemmas.Result.{IfOk-weaker}
 use Rattle.clap.specs.Simple.{Shape, app_of, with_subcommand}
-use Rattle.rfb.specs.Options.{serve_shape}
+use Rattle.rfb.specs.command.Program.{serve_shape}
 use Rattle.rfb.proofs.OptionLemmas.{no_globals}
 use Rattle.rfb.proofs.options.with_peers.Goals as goal
 

@@ -1,7 +1,7 @@
 use Rattle.std.proofs.Common.{◌≡◌, ◌∙◌, ap, ap₂, Bool}
 use Rattle.std.proofs.lemmas.Result.{IfOk-weaker}
 use Rattle.clap.specs.Simple.{Shape, app_of, with_subcommand}
-use Rattle.rfb.specs.Options.{script_shape}
+use Rattle.rfb.specs.command.Program.{script_shape}
 use Rattle.rfb.proofs.OptionLemmas.{no_globals}
 use Rattle.rfb.proofs.options.with_scripts.Goals as goal
 

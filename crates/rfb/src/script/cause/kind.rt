@@ -12,7 +12,7 @@ use std::io::Write;
 const HEX_MAX: usize = 128;
 
 /// What a word is to be.
-#[derive(Clone, Copy, Debug)]
+#[derive(Clone, Copy)]
 pub enum Kind {
     /// A side of the screen.
     Side,
@@ -34,7 +34,7 @@ pub enum Kind {
 }
 
 /// The words after a keyword, and how many of them are due.
-#[derive(Clone, Copy, Debug)]
+#[derive(Clone, Copy)]
 pub struct Arguments {
     pub kinds: &'static [Kind],
     pub least: usize,

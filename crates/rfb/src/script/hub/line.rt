@@ -6,7 +6,7 @@ ghost use Rattle.rfb.specs.Few.{length_in_hub};
 use rfb_session::HubEvent;
 
 /// What a line asks of a hub.
-#[derive(Debug, Drop)]
+#[derive(Drop)]
 pub enum HubStep {
     /// One event.
     Event(HubEvent),
@@ -16,7 +16,7 @@ pub enum HubStep {
 }
 
 /// A step, and the line that asks for it, counted from 1.
-#[derive(Debug, Drop)]
+#[derive(Drop)]
 pub struct HubNumbered {
     pub line: u64,
     pub step: HubStep,

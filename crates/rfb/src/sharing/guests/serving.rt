@@ -48,6 +48,7 @@ impl<S: Read + Write + OpenStream + AsRawFd + Drop> Guests<S> {
         let Some(Some(stream)) = self.streams.get_mut(place) else {
             return Ok(false);
         };
+        // Each turn writes a byte, was interrupted or is the last, so these are never all of them.
         for _write in 0..u64::MAX {
             let waiting = self.share.to_write(seat);
             if waiting.is_empty() {

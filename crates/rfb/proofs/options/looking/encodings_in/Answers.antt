@@ -2,7 +2,7 @@ use Rattle.std.proofs.Common.{◌≡◌, ◌∙◌, ap, sym, subst, codes, List,
 use Rattle.clap.specs.Walk.{Text, first_of, rows_of}
 use Rattle.clap.specs.Matches.{found_of}
 use Rattle.clap.proofs.WalkLemmas.{first_value-rows}
-use Rattle.rfb.specs.Options.{NamesEncodings}
+use Rattle.rfb.specs.command.Looking.{NamesEncodings}
 use Rattle.rfb.proofs.OptionLemmas.{encodings_given}
 use Rattle.rfb.proofs.options.looking.encodings_in.Goals as goal
 

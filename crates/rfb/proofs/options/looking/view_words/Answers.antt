@@ -1,7 +1,7 @@
 use Rattle.std.proofs.Common.{◌≡◌, ◌∙◌, ap, ap₂, codes}
 use Rattle.std.proofs.lemmas.Result.{IfOk-weaker}
 use Rattle.clap.specs.Simple.{App, app_of, app_of_fields, new_app, with_rule}
-use Rattle.rfb.specs.Options.{any_port_rule, encodings_rule, format_rule, host_rule, output_rule, partial_rule, record_rule, server_rule, timeout_rule, updates_rule}
+use Rattle.rfb.specs.command.Rules.{any_port_rule, encodings_rule, format_rule, host_rule, output_rule, partial_rule, record_rule, server_rule, timeout_rule, updates_rule}
 use Rattle.rfb.proofs.options.looking.view_words.Goals as goal
 
 abbrev with_server : App

@@ -1,7 +1,7 @@
 use Rattle.std.proofs.Common.{◌≡◌, ◌∙◌, ap, ap₂}
 use Rattle.std.proofs.lemmas.Result.{IfOk-weaker}
 use Rattle.clap.specs.Simple.{app_of, with_rule}
-use Rattle.rfb.specs.Options.{encodings_rule, format_rule}
+use Rattle.rfb.specs.command.Rules.{encodings_rule, format_rule}
 use Rattle.rfb.proofs.options.looking.with_sight.Goals as goal
 
 pub returns : goal.returns

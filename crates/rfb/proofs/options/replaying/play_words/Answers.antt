@@ -1,7 +1,8 @@
 use Rattle.std.proofs.Common.{◌≡◌, ◌∙◌, ap, ap₂, codes}
 use Rattle.std.proofs.lemmas.Result.{IfOk-weaker}
 use Rattle.clap.specs.Simple.{App, app_of, app_of_fields, new_app, with_rule}
-use Rattle.rfb.specs.Options.{first_updates_rule, format_rule, partial_rule, with_paths}
+use Rattle.rfb.specs.command.Rules.{first_updates_rule, format_rule, partial_rule}
+use Rattle.rfb.specs.command.Program.{with_paths}
 use Rattle.rfb.proofs.options.replaying.play_words.Goals as goal
 
 pub returns : goal.returns

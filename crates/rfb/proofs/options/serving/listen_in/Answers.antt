@@ -2,7 +2,7 @@ use Rattle.std.proofs.Common.{◌≡◌, ◌∙◌, ap, sym, subst, refl, codes,
 use Rattle.clap.specs.Walk.{Text, first_of, rows_of}
 use Rattle.clap.specs.Matches.{found_of}
 use Rattle.clap.proofs.WalkLemmas.{first_value-rows}
-use Rattle.rfb.specs.Options.{NamesHost}
+use Rattle.rfb.specs.command.Values.{NamesHost}
 use Rattle.rfb.proofs.options.serving.listen_in.Goals as goal
 
 abbrev text_of : Option (Bor (List ℕ)) → Option Text

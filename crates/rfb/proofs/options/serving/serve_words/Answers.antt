@@ -1,7 +1,8 @@
 use Rattle.std.proofs.Common.{◌≡◌, ◌∙◌, ap, ap₂, codes}
 use Rattle.std.proofs.lemmas.Result.{IfOk-weaker}
 use Rattle.clap.specs.Simple.{App, app_of, app_of_fields, new_app, with_rule}
-use Rattle.rfb.specs.Options.{port_rule, with_connections, with_listening, with_screens}
+use Rattle.rfb.specs.command.Rules.{port_rule}
+use Rattle.rfb.specs.command.Program.{with_connections, with_listening, with_screens}
 use Rattle.rfb.proofs.options.serving.serve_words.Goals as goal
 
 abbrev with_port : App

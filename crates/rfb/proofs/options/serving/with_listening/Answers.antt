@@ -1,7 +1,7 @@
 use Rattle.std.proofs.Common.{◌≡◌, ◌∙◌, ap, ap₂}
 use Rattle.std.proofs.lemmas.Result.{IfOk-weaker}
 use Rattle.clap.specs.Simple.{app_of, with_rule}
-use Rattle.rfb.specs.Options.{timeout_rule}
+use Rattle.rfb.specs.command.Rules.{timeout_rule}
 use Rattle.rfb.proofs.options.serving.with_listening.Goals as goal
 
 pub returns : goal.returns

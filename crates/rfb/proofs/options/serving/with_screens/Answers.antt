@@ -1,7 +1,7 @@
 use Rattle.std.proofs.Common.{◌≡◌, ◌∙◌, ap, ap₂, codes}
 use Rattle.std.proofs.lemmas.Result.{IfOk-weaker}
 use Rattle.clap.specs.Simple.{app_of, with_rule}
-use Rattle.rfb.specs.Options.{side_rule}
+use Rattle.rfb.specs.command.Rules.{side_rule}
 use Rattle.rfb.proofs.options.serving.with_screens.Goals as goal
 
 pub returns : goal.returns

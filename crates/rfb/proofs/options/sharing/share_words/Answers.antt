@@ -1,7 +1,7 @@
 use Rattle.std.proofs.Common.{◌≡◌, ◌∙◌, ap, ap₂, codes}
 use Rattle.std.proofs.lemmas.Result.{IfOk-weaker}
 use Rattle.clap.specs.Simple.{App, app_of, app_of_fields, new_app, with_rule}
-use Rattle.rfb.specs.Options.{listen_rule, name_rule, port_rule, viewers_rule}
+use Rattle.rfb.specs.command.Rules.{listen_rule, name_rule, port_rule, viewers_rule}
 use Rattle.rfb.proofs.options.sharing.share_words.Goals as goal
 
 pub returns : goal.returns

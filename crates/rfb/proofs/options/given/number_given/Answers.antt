@@ -4,7 +4,7 @@ use Rattle.std.proofs.lemmas.Option.{none-some}
 use Rattle.clap.specs.Matches.{found_of}
 use Rattle.clap.proofs.WalkLemmas.{one_text-rows}
 use Rattle.rfb.proofs.OptionLemmas.{none_read, number_read}
-use Rattle.rfb.proofs.options.replaying.number_given.Goals as goal
+use Rattle.rfb.proofs.options.given.number_given.Goals as goal
 
 pub returns-in-Some-clause-number : goal.returns-in-Some-clause-number
 returns-in-Some-clause-number c = record {

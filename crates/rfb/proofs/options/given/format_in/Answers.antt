@@ -2,9 +2,9 @@ use Rattle.std.proofs.Common.{◌≡◌, ◌∙◌, ap, sym, subst, codes, List,
 use Rattle.clap.specs.Walk.{Text, first_of, rows_of}
 use Rattle.clap.specs.Matches.{found_of}
 use Rattle.clap.proofs.WalkLemmas.{first_value-rows}
-use Rattle.rfb.specs.Options.{NamesFormat}
+use Rattle.rfb.specs.command.Values.{NamesFormat}
 use Rattle.rfb.proofs.OptionLemmas.{format_given}
-use Rattle.rfb.proofs.options.format_in.Goals as goal
+use Rattle.rfb.proofs.options.given.format_in.Goals as goal
 
 abbrev text_of : Option (Bor (List ℕ)) → Option Text
 text_of = option_map (λ s. s.now)

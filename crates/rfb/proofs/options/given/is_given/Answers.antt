@@ -1,7 +1,7 @@
 use Rattle.std.proofs.Common.{◌∙◌}
 use Rattle.clap.specs.Matches.{found_of}
 use Rattle.clap.proofs.WalkLemmas.{one_text-rows}
-use Rattle.rfb.proofs.options.sharing.is_until_idle.Goals as goal
+use Rattle.rfb.proofs.options.given.is_given.Goals as goal
 
 pub returns : goal.returns
 returns c = (

@@ -2,7 +2,7 @@ use Rattle.std.proofs.Common.{◌∙◌}
 use Rattle.clap.specs.Matches.{found_of}
 use Rattle.clap.proofs.WalkLemmas.{first_value-rows}
 use Rattle.rfb.proofs.OptionLemmas.{word_absent, word_given}
-use Rattle.rfb.proofs.options.serving.word_in.Goals as goal
+use Rattle.rfb.proofs.options.given.word_in.Goals as goal
 
 pub returns-clause-absent : goal.returns-clause-absent
 returns-clause-absent c none =

@@ -3,7 +3,7 @@ use Rattle.std.specs.Str.Parse.{ExplainsUnsignedError, HasUnsignedDigitsIfOk, Pa
 use Rattle.clap.specs.Matches.{found_of}
 use Rattle.clap.proofs.WalkLemmas.{one_text-rows}
 use Rattle.rfb.proofs.OptionLemmas.{none_read, number_read}
-use Rattle.rfb.proofs.options.number_in.Goals as goal
+use Rattle.rfb.proofs.options.given.number_in.Goals as goal
 
 pub returns-in-Some-clause-number : goal.returns-in-Some-clause-number
 returns-in-Some-clause-number c = λ text is numeral above below.

@@ -1,0 +1,115 @@
+-- The words of the command line, one by one.
+use Rattle.std.specs.Prelude.{ℕ, pos, true, [], ◌∷◌, Some, codes}
+use Rattle.clap.specs.declared.builder.action.ArgAction.TheVariants.{SetTrue}
+use Rattle.clap.specs.declared.builder.value_parser.ValueParser.TheVariants.{Signed}
+use Rattle.clap.specs.Words.{Rule, Text, new_rule}
+use Rattle.rfb_pixel.specs.Format.{rgb888}
+
+-- any word, or else this one
+abbrev pub word_rule : Text → Text → Rule
+word_rule name default = record (new_rule name) {
+  long = Some name;
+  value_names = 1;
+  defaults = default ∷ [];
+}
+
+-- a format, by its name
+abbrev pub format_rule : Rule
+format_rule = word_rule (codes "format") (codes "rgb888")
+
+-- a server, by a word that stands alone
+abbrev pub server_rule : Rule
+server_rule = record (new_rule (codes "server")) { value_names = 1 }
+
+abbrev pub host_rule : Rule
+host_rule = record (new_rule (codes "host")) {
+  long = Some (codes "host");
+  value_names = 1;
+}
+
+abbrev pub listen_rule : Rule
+listen_rule = word_rule (codes "listen") (codes "127.0.0.1")
+
+abbrev pub encodings_rule : Rule
+encodings_rule = word_rule (codes "encodings") (codes "raw")
+
+-- a word that is given or not
+abbrev pub flag_rule : Text → Rule
+flag_rule name = record (new_rule name) {
+  long = Some name;
+  action = Some SetTrue;
+}
+
+abbrev pub record_rule : Rule
+record_rule = flag_rule (codes "record")
+
+-- what has come by an early end is wanted
+abbrev pub partial_rule : Rule
+partial_rule = flag_rule (codes "partial")
+
+-- a file, by its path
+abbrev pub path_rule : Text → ℕ → Rule
+path_rule name short = record (new_rule name) {
+  long = Some name;
+  short = Some short;
+  value_names = 1;
+}
+
+abbrev pub input_rule : Rule
+input_rule = path_rule (codes "input") 105
+
+abbrev pub output_rule : Rule
+output_rule = path_rule (codes "output") 111
+
+-- a number in a range, by its digits
+abbrev pub number_rule : Text → ℕ → ℕ → Rule
+number_rule name least most = record (new_rule name) {
+  long = Some name;
+  value_names = 1;
+  parser = Some (Signed (pos least) (pos most));
+}
+
+abbrev pub any_port_rule : Rule
+any_port_rule = number_rule (codes "port") 1 65535
+
+abbrev pub port_rule : Rule
+port_rule = record any_port_rule { required = true }
+
+abbrev pub side_rule : Text → Rule
+side_rule name = number_rule name 1 4096
+
+abbrev pub connections_rule : Rule
+connections_rule = number_rule (codes "connections") 1 65535
+
+-- one connection is served after another, without an end
+abbrev pub forever_rule : Rule
+forever_rule = flag_rule (codes "forever")
+
+-- a file that has the screen
+abbrev pub picture_rule : Rule
+picture_rule = record (new_rule (codes "picture")) {
+  long = Some (codes "picture");
+  value_names = 1;
+}
+
+abbrev pub viewers_rule : Rule
+viewers_rule = record (number_rule (codes "viewers") 1 8) { defaults = codes "8" ∷ [] }
+
+abbrev pub name_rule : Rule
+name_rule = word_rule (codes "name") (codes "rfb")
+
+abbrev pub idle_rule : Rule
+idle_rule = flag_rule (codes "until-idle")
+
+-- how many updates are played, or else all
+abbrev pub first_updates_rule : Rule
+first_updates_rule = number_rule (codes "updates") 1 4294967295
+
+-- after how many seconds waiting ends, or else never
+abbrev pub timeout_rule : Rule
+timeout_rule = number_rule (codes "timeout") 1 4294967295
+
+abbrev pub updates_rule : Rule
+updates_rule = record (number_rule (codes "updates") 1 4294967295) {
+  defaults = codes "1" ∷ [];
+}

@@ -1,0 +1,77 @@
+-- What a word gives: a format, a number, a file, or that it is there.
+use Rattle.std.specs.Prelude.{◌≡◌, ◌≤◌, ℕ, Bool, true, false, List, Option, Some, None, codes, option_map}
+use Rattle.std.specs.Str.Parse.{IsNumeral, digits_value, without_leading_plus}
+use Rattle.clap.specs.Words.{Row, Text, first_of, one_of}
+use Rattle.rfb_pixel.specs.Format.{PixelFormat, rgb888}
+use Rattle.rfb.specs.declared.options.paths.Paths.{Paths}
+use Rattle.rfb.specs.Words.{IsFormatWord}
+
+-- the format that is given by its name, or rgb888
+abbrev pub NamesFormat : Option Text → PixelFormat → Type 0
+NamesFormat None format = format ≡ rgb888
+NamesFormat (Some word) format = IsFormatWord word format
+
+abbrev pub GivesFormat : List Row → PixelFormat → Type 0
+GivesFormat rows format = NamesFormat (first_of (codes "format") rows) format
+
+-- a word for a format is the name of none
+abbrev pub HasBadFormat : List Row → Type 0
+HasBadFormat rows =
+    (word : Text) × (first_of (codes "format") rows ≡ Some word)
+    × ((format : PixelFormat) → ¬ (IsFormatWord word format))
+
+-- a number that is given by its digits, a plus before them or none, if it lies in the range
+abbrev pub GivesNumber : Text → ℕ → ℕ → List Row → ℕ → Type 0
+GivesNumber name least most rows n =
+    (text : Text) → one_of name rows ≡ Some text → IsNumeral 10 (without_leading_plus text) →
+    least ≤ digits_value 10 (without_leading_plus text) →
+    digits_value 10 (without_leading_plus text) ≤ most →
+    n ≡ digits_value 10 (without_leading_plus text)
+
+-- the same of a number that may be left out
+pub record MayGiveNumber (name : Text) (least most : ℕ) (rows : List Row) (n : Option ℕ)
+    : Type 0 where
+  pub absent : one_of name rows ≡ None → n ≡ None
+  pub given : (text : Text) → one_of name rows ≡ Some text →
+      IsNumeral 10 (without_leading_plus text) →
+      least ≤ digits_value 10 (without_leading_plus text) →
+      digits_value 10 (without_leading_plus text) ≤ most →
+      n ≡ Some (digits_value 10 (without_leading_plus text))
+
+-- a word that is given or not is there
+abbrev pub IsFlagged : Text → List Row → Bool → Type 0
+IsFlagged name rows flag =
+    (one_of name rows ≡ Some (codes "true") → flag ≡ true)
+    × (one_of name rows ≡ Some (codes "false") → flag ≡ false)
+
+-- the files that are named, where one is
+pub record GivesPaths (rows : List Row) (paths : Paths) : Type 0 where
+  pub input : option_map (λ path. path.now) paths.input ≡ first_of (codes "input") rows
+  pub output : option_map (λ path. path.now) paths.output ≡ first_of (codes "output") rows
+
+-- the same of a command; where none is named there is no file
+abbrev pub GivesFiles : Option (Text × List Row) → Paths → Type 0
+GivesFiles None paths = (paths.input ≡ None) × (paths.output ≡ None)
+GivesFiles (Some (name, rows)) paths = GivesPaths rows paths
+
+-- an address that is given, or the loopback address
+abbrev pub NamesHost : Option Text → Text → Type 0
+NamesHost None host = host ≡ codes "127.0.0.1"
+NamesHost (Some word) host = host ≡ word
+
+-- a number from 1 on that may be left out, and is this one then
+pub record GivesOr (name : Text) (most otherwise : ℕ) (rows : List Row) (n : ℕ) : Type 0 where
+  pub absent : one_of name rows ≡ None → n ≡ otherwise
+  pub given : GivesNumber name 1 most rows n
+
+-- a word is given, or is not
+abbrev pub IsAbsent : Text → List Row → Type 0
+IsAbsent name rows = first_of name rows ≡ None
+
+abbrev pub IsThere : Text → List Row → Type 0
+IsThere name rows = (word : Text) × (first_of name rows ≡ Some word)
+
+-- the word that is given, or else this one
+abbrev pub NamesWord : Text → Option Text → Text → Type 0
+NamesWord default None word = word ≡ default
+NamesWord default (Some given) word = word ≡ given

@@ -1,0 +1,116 @@
+//! What was given to the words of a command: whether one is there, a text, a format, a number.
+
+ghost use Rattle.std.specs.Prelude.{◌≡◌, ◌≤◌, false, true, None, IfSome, MatchResult};
+ghost use Rattle.clap.specs.Words.{first_of, found_of, rows_of};
+ghost use Rattle.rfb_pixel.specs.Format.{PixelFormat};
+ghost use Rattle.rfb.specs.command.Values.{GivesFormat, GivesNumber, GivesOr, HasBadFormat, IsAbsent, IsFlagged, IsThere, MayGiveNumber};
+ghost use Rattle.rfb.specs.Words.{IsFormatWord};
+
+use crate::options::BadValue;
+use crate::script::read_format;
+use clap::ArgMatches;
+use rfb_pixel::Format;
+
+/// Whether a word that may be given is.
+pub fn is_given(given: &ArgMatches<'_>, name: &str) -> bool
+    ensures { IsFlagged name.now (rows_of (found_of given.now)) result }
+{
+    given.get_flag(name)
+}
+
+/// Whether one is.
+pub fn is_there(given: &ArgMatches<'_>, name: &str) -> bool
+    ensures there { result ≡ true → IsThere name.now (rows_of (found_of given.now)) }
+    ensures absent { result ≡ false → IsAbsent name.now (rows_of (found_of given.now)) }
+{
+    word_in(given, name).is_some()
+}
+
+/// The word that is given to an option, if one is.
+pub fn word_in<'a>(given: &ArgMatches<'a>, name: &str) -> Option<&'a str>
+    ensures absent { result ≡ None → IsAbsent name.now (rows_of (found_of given.now)) }
+    ensures given { IfSome result (λ word.
+        first_of name.now (rows_of (found_of given.now)) ≡ Some word.now) }
+{
+    given.get_str(name)
+}
+
+/// The format that is given, or else rgb888.
+pub fn format_in<'a>(given: &ArgMatches<'a>) -> Result<Format, BadValue<'a>>
+    ensures { MatchResult result (GivesFormat (rows_of (found_of given.now)))
+        (λ _. HasBadFormat (rows_of (found_of given.now))) }
+{
+    match given.get_str("format") {
+        Some(word) => format_named(word),
+        None => Ok(Format::rgb888()),
+    }
+}
+
+// The format of this name.
+fn format_named<'a>(word: &'a str) -> Result<Format, BadValue<'a>>
+    ensures { MatchResult result (IsFormatWord word.now)
+        (λ _. (format : PixelFormat) → ¬ (IsFormatWord word.now format)) }
+{
+    match read_format(word.as_bytes()) {
+        Some(format) => Ok(format),
+        None => Err(BadValue::Format(word)),
+    }
+}
+
+/// The number that is given, which is one of these by then.
+pub fn number_in(given: &ArgMatches<'_>, name: &str, least: u16, most: u16) -> u16
+    requires { least ≤ most }
+    ensures number { GivesNumber name.now least most (rows_of (found_of given.now)) result }
+    ensures range { (least ≤ result) × (result ≤ most) }
+{
+    match given.get_one::<u16>(name) {
+        Some(number) => within(number, least, most),
+        None => least,
+    }
+}
+
+/// The number that is given, which is at most `most` by then, or else another.
+pub fn number_or(given: &ArgMatches<'_>, name: &str, most: u16, otherwise: u16) -> u16
+    requires { (1 ≤ otherwise) × (otherwise ≤ most) }
+    ensures number { GivesOr name.now most otherwise (rows_of (found_of given.now)) result }
+    ensures range { (1 ≤ result) × (result ≤ most) }
+{
+    match given.get_one::<u16>(name) {
+        Some(number) => within(number, 1, most),
+        None => otherwise,
+    }
+}
+
+// A number, or the nearest in a range.
+fn within(number: u16, least: u16, most: u16) -> u16
+    requires { least ≤ most }
+    ensures same { least ≤ number → number ≤ most → result ≡ number }
+    ensures range { (least ≤ result) × (result ≤ most) }
+{
+    if number < least {
+        return least;
+    }
+    if number > most {
+        return most;
+    }
+    number
+}
+
+/// The number that is asked for, if one is given.
+pub fn number_given(given: &ArgMatches<'_>, name: &str) -> Option<u32>
+    ensures number { MayGiveNumber name.now 1 4294967295 (rows_of (found_of given.now)) result }
+    ensures some { IfSome result (λ count. 1 ≤ count) }
+{
+    match given.get_one::<u32>(name) {
+        Some(number) => Some(at_least_one(number)),
+        None => None,
+    }
+}
+
+// A number, or 1 in place of 0.
+fn at_least_one(number: u32) -> u32
+    ensures same { 1 ≤ number → result ≡ number }
+    ensures some { 1 ≤ result }
+{
+    if number == 0 { 1 } else { number }
+}
