@@ -1,7 +1,7 @@
 //! Raw, RFC 6143 section 7.7.1: pixels row by row.
 
 ghost use Rattle.std.specs.Prelude.{◌≡◌, ◌+◌, ◌*◌, ◌<◌, ◌≤◌, length};
-ghost use Rattle.rfb_pixel.specs.Format.{size_of, colour_of};
+ghost use Rattle.rfb_pixel.specs.Format.{size_of, colour_of, rgb888, rgb565, bgr233};
 ghost use Rattle.rfb_codec.specs.Raw.{raw_length, raw_pixel};
 ghost use Rattle.rfb_codec.specs.inside.Step.{IsPaintable};
 ghost use Rattle.rfb_codec.specs.Painter.{over};
@@ -22,21 +22,93 @@ pub fn paint_rows(format: Format, rect: Rect, bytes: &[u8], picture: &mut Pictur
     ensures width { picture.new.width ≡ picture.old.width }
     ensures height { picture.new.height ≡ picture.old.height }
 {
-    // As for `paint_lines`, a loop each. That of rgb888, which this project announces, is made once
-    // more for the rows of a whole tile, whose length is known before it runs.
+    // Each format that this project announces has a function with one loop, by a format that is
+    // known before it runs. At rgb888 a whole tile has one whose two lengths are known too.
     if format == Format::rgb888() {
-        if rect.w == TILE {
-            rows_in(Format::rgb888(), rect, bytes, picture);
+        if rect.w == TILE && rect.h == TILE {
+            tile_rows_rgb888(rect, bytes, picture);
         } else {
-            rows_in(Format::rgb888(), rect, bytes, picture);
+            rows_rgb888(rect, bytes, picture);
         }
     } else if format == Format::rgb565() {
-        rows_in(Format::rgb565(), rect, bytes, picture);
+        rows_rgb565(rect, bytes, picture);
     } else if format == Format::bgr233() {
-        rows_in(Format::bgr233(), rect, bytes, picture);
+        rows_bgr233(rect, bytes, picture);
     } else {
-        rows_in(format, rect, bytes, picture);
+        rows_other(format, rect, bytes, picture);
     }
+}
+
+// The same of a whole tile at rgb888.
+#[inline(never)]
+fn tile_rows_rgb888(rect: Rect, bytes: &[u8], picture: &mut Picture<Colour>)
+    requires place { IsPaintable picture.old rect }
+    requires wide { rect.w ≡ 16 }
+    requires high { rect.h ≡ 16 }
+    requires whole { length bytes.now ≡ raw_length rgb888 rect.w rect.h }
+    ensures value { picture.new ≡
+        over rect (λ x y. colour_of rgb888 (raw_pixel rgb888 rect.w bytes.now x y)) picture.old }
+    ensures width { picture.new.width ≡ picture.old.width }
+    ensures height { picture.new.height ≡ picture.old.height }
+{
+    let rect = Rect {
+        w: TILE,
+        h: TILE,
+        ..rect
+    };
+    rows_in(Format::rgb888(), rect, bytes, picture);
+}
+
+// The same at rgb888, of any size.
+#[inline(never)]
+fn rows_rgb888(rect: Rect, bytes: &[u8], picture: &mut Picture<Colour>)
+    requires place { IsPaintable picture.old rect }
+    requires whole { length bytes.now ≡ raw_length rgb888 rect.w rect.h }
+    ensures value { picture.new ≡
+        over rect (λ x y. colour_of rgb888 (raw_pixel rgb888 rect.w bytes.now x y)) picture.old }
+    ensures width { picture.new.width ≡ picture.old.width }
+    ensures height { picture.new.height ≡ picture.old.height }
+{
+    rows_in(Format::rgb888(), rect, bytes, picture);
+}
+
+// The same at rgb565.
+#[inline(never)]
+fn rows_rgb565(rect: Rect, bytes: &[u8], picture: &mut Picture<Colour>)
+    requires place { IsPaintable picture.old rect }
+    requires whole { length bytes.now ≡ raw_length rgb565 rect.w rect.h }
+    ensures value { picture.new ≡
+        over rect (λ x y. colour_of rgb565 (raw_pixel rgb565 rect.w bytes.now x y)) picture.old }
+    ensures width { picture.new.width ≡ picture.old.width }
+    ensures height { picture.new.height ≡ picture.old.height }
+{
+    rows_in(Format::rgb565(), rect, bytes, picture);
+}
+
+// The same at bgr233.
+#[inline(never)]
+fn rows_bgr233(rect: Rect, bytes: &[u8], picture: &mut Picture<Colour>)
+    requires place { IsPaintable picture.old rect }
+    requires whole { length bytes.now ≡ raw_length bgr233 rect.w rect.h }
+    ensures value { picture.new ≡
+        over rect (λ x y. colour_of bgr233 (raw_pixel bgr233 rect.w bytes.now x y)) picture.old }
+    ensures width { picture.new.width ≡ picture.old.width }
+    ensures height { picture.new.height ≡ picture.old.height }
+{
+    rows_in(Format::bgr233(), rect, bytes, picture);
+}
+
+// The same in any format.
+#[inline(never)]
+fn rows_other(format: Format, rect: Rect, bytes: &[u8], picture: &mut Picture<Colour>)
+    requires place { IsPaintable picture.old rect }
+    requires whole { length bytes.now ≡ raw_length format rect.w rect.h }
+    ensures value { picture.new ≡
+        over rect (λ x y. colour_of format (raw_pixel format rect.w bytes.now x y)) picture.old }
+    ensures width { picture.new.width ≡ picture.old.width }
+    ensures height { picture.new.height ≡ picture.old.height }
+{
+    rows_in(format, rect, bytes, picture);
 }
 
 // The same, by one loop for every format.
@@ -108,8 +180,8 @@ fn lines_in(
 {
     let size = usize::from(rect.w) * format.size();
     'lines: for row in 0..count {
-        // They tell that the picture has a colour at each place, and numbers these in 16 bits.
-        let (_width, _height) = (picture.width(), picture.height());
+        // It tells too that the picture has a colour at each place, and numbers these in 16 bits.
+        prove!(rect.w <= picture.width() && rect.h <= picture.height());
         let at = Place { x: 0, y: top + row };
         let start = usize::from(row) * size;
         let line = &bytes[start..start + size];
