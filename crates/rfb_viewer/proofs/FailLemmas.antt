@@ -94,12 +94,12 @@ paint_keeps NoForeground old new bytes same = none_kept old new same
 paint_keeps BothColourBits old new bytes same = none_kept old new same
 paint_keeps SourceOutside old new bytes same = none_kept old new same
 
-wire_other : (fault : WireFault) → fault_of_wire fault ≡ NoMemory → ⊥
+pub wire_other : (fault : WireFault) → fault_of_wire fault ≡ NoMemory → ⊥
 wire_other (WireMessage kind) e = cc
 wire_other (WireEncoding number) e = cc
 wire_other WireOutside e = cc
 
-paint_other : (fault : PaintFault) → fault_of_paint fault ≡ NoMemory → ⊥
+pub paint_other : (fault : PaintFault) → fault_of_paint fault ≡ NoMemory → ⊥
 paint_other SubrectOutside e = cc
 paint_other NoBackground e = cc
 paint_other NoForeground e = cc

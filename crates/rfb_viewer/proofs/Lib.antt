@@ -15,3 +15,4 @@ pub mod LeastLemmas
 pub mod DamageHeadLemmas
 pub mod DamageStepLemmas
 pub mod DamageFeedLemmas
+pub mod TakingLemmas

@@ -3,3 +3,4 @@ pub mod Damaging
 pub mod Feeding
 pub mod Sound
 pub mod Steps
+pub mod Taking

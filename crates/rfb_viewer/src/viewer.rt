@@ -50,9 +50,8 @@ impl Viewer {
     ghost use Rattle.rfb_viewer.specs.Standing.{picture_of};
     ghost use Rattle.rfb_viewer.specs.Damage.{damage_of, ended_of, damaging, IsDamaged};
     ghost use Rattle.rfb_viewer.specs.Damage.{IsSameOutside, KeepsDamage};
-    ghost use Rattle.rfb_viewer.specs.inside.Damaging.{Damages, EndsIn};
-    ghost use Rattle.rfb_viewer.specs.inside.Feeding.{StepsOn, RefusesBy, StarvesBy};
     ghost use Rattle.rfb_viewer.specs.inside.Sound.{IsElsewhere};
+    ghost use Rattle.rfb_viewer.specs.inside.Taking.{Steps};
     ghost use Rattle.rfb_viewer.specs.Failing.{KeepsPicture, KeepsReason};
 
     /// A viewer that was fed nothing. It goes up to version `limit`, asks for the screen alone
@@ -175,19 +174,7 @@ impl Viewer {
         requires some { 0 < length bytes.now }
         requires going { fault_of self.old ≡ None }
         requires elsewhere { IsElsewhere self.old.progress }
-        ensures used { IfOk result (λ fed. (0 < fed.used) × (fed.used ≤ length bytes.now)) }
-        ensures going { IfOk result (λ fed. fault_of self.new ≡ None) }
-        ensures steps { IfOk result (λ fed.
-            StepsOn self.old (take fed.used bytes.now) fed.event self.new) }
-        ensures damage { IfOk result (λ fed.
-            Damages self.old (take fed.used bytes.now) self.new) }
-        ensures damaged { IfErr result (λ fault. Damages self.old bytes.now self.new) }
-        ensures fault { IfErr result (RefusesBy self.old bytes.now) }
-        ensures memory { IfErr result (StarvesBy self.old bytes.now) }
-        ensures picture { IfErr result (λ fault. EndsIn fault self.old bytes.now self.new) }
-        ensures reason { IfErr result (λ fault. KeepsReason fault self.old bytes.now self.new) }
-        ensures made { making_of self.new ≡ making_of self.old }
-        ensures fails { IfErr result (λ fault. fault_of self.new ≡ Some fault) }
+        ensures { Steps self.old bytes.now result self.new }
     {
         match self.progress {
             Progress::Handshake => self.greet(bytes),

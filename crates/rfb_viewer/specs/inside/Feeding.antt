@@ -1,6 +1,6 @@
 -- What a viewer makes of bytes that it is fed.
 use Rattle.std.specs.Prelude.{◌≡◌, ◌≢◌, ℕ, Bool, true, false, List, Option, Some, None, Ok}
-use Rattle.rfb_wire.specs.stream.End.{FedBy, RefusedBy, RunsOutBy, StepsBy}
+use Rattle.rfb_wire.specs.stream.End.{RefusedBy, RunsOutBy, StepsBy}
 use Rattle.rfb_viewer.specs.declared.fault.ViewerFault.{ViewerFault}
 use Rattle.rfb_viewer.specs.declared.fault.ViewerFault.TheVariants.{NoMemory}
 use Rattle.rfb_viewer.specs.declared.event.ViewerEvent.{ViewerEvent}
@@ -21,11 +21,6 @@ StepsOn old bytes event new =
 abbrev pub end_event : Bool → Option ViewerEvent
 end_event true = Some UpdateDone
 end_event false = None
-
--- it takes bytes, all of which it used
-abbrev pub TakesBy : Viewer → List ℕ → Option ViewerEvent → Viewer → Type 0
-TakesBy old bytes event new =
-    (viewing : Viewing) → FedBy (viewer viewing) (StandsFor viewing) old bytes (seen event) new
 
 -- bytes are at fault
 abbrev pub RefusesBy : Viewer → List ℕ → ViewerFault → Type 0

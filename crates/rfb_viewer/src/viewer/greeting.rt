@@ -1,6 +1,6 @@
 //! The handshake of a viewer.
 
-ghost use Rattle.std.specs.Prelude.{◌≡◌, ◌≤◌, ◌<◌, length, take, IfOk, IfErr, OnOk, OnErr, None, Some};
+ghost use Rattle.std.specs.Prelude.{◌≡◌, ◌<◌, length, OnOk, OnErr, None, Some};
 ghost use Rattle.rfb_viewer.specs.inside.Damaging.{screen_made};
 ghost use Rattle.rfb_viewer.specs.inside.Steps.{screen_or};
 
@@ -21,29 +21,14 @@ const BLACK: Colour = Colour { r: 0, g: 0, b: 0 };
 
 impl Viewer {
     ghost use Rattle.rfb_viewer.specs.declared.viewer.progress.Progress.{Progress};
-    ghost use Rattle.rfb_viewer.specs.Standing.{fault_of, making_of};
-    ghost use Rattle.rfb_viewer.specs.inside.Feeding.{StepsOn, RefusesBy, StarvesBy};
-    ghost use Rattle.rfb_viewer.specs.Failing.{KeepsReason};
-    ghost use Rattle.rfb_viewer.specs.inside.Damaging.{Damages, EndsIn};
+    ghost use Rattle.rfb_viewer.specs.inside.Taking.{Steps};
 
     // Takes bytes of the server's handshake, up to the last of its next step, and makes the screen
     // where that tells its size.
     pub(super) fn greet(&mut self, bytes: &[u8]) -> Result<Fed<ViewerEvent>, ViewerFault>
         requires some { 0 < length bytes.now }
         requires handshake { self.old.progress ≡ Progress.Handshake }
-        ensures used { IfOk result (λ fed. (0 < fed.used) × (fed.used ≤ length bytes.now)) }
-        ensures going { IfOk result (λ fed. fault_of self.new ≡ None) }
-        ensures steps { IfOk result (λ fed.
-            StepsOn self.old (take fed.used bytes.now) fed.event self.new) }
-        ensures damage { IfOk result (λ fed.
-            Damages self.old (take fed.used bytes.now) self.new) }
-        ensures damaged { IfErr result (λ fault. Damages self.old bytes.now self.new) }
-        ensures fault { IfErr result (RefusesBy self.old bytes.now) }
-        ensures memory { IfErr result (StarvesBy self.old bytes.now) }
-        ensures picture { IfErr result (λ fault. EndsIn fault self.old bytes.now self.new) }
-        ensures reason { IfErr result (λ fault. KeepsReason fault self.old bytes.now self.new) }
-        ensures made { making_of self.new ≡ making_of self.old }
-        ensures fails { IfErr result (λ fault. fault_of self.new ≡ Some fault) }
+        ensures { Steps self.old bytes.now result self.new }
     {
         let fed = match self.hello.feed(bytes) {
             Ok(fed) => fed,

@@ -1,6 +1,6 @@
 //! What a viewer takes of messages: their heads, colours and texts.
 
-ghost use Rattle.std.specs.Prelude.{◌≡◌, ◌≤◌, ◌<◌, ℕ, length, take, IfOk, IfErr, None, Some};
+ghost use Rattle.std.specs.Prelude.{◌≡◌, ◌<◌, ℕ, length};
 ghost use Rattle.arrayvec.specs.ArrayVec.{ArrayVec as Items};
 ghost use Rattle.rfb_hello.specs.KeptText.{KeptText};
 
@@ -17,28 +17,13 @@ use std::mem;
 
 impl Viewer {
     ghost use Rattle.rfb_viewer.specs.declared.viewer.progress.Progress.{Progress};
-    ghost use Rattle.rfb_viewer.specs.Standing.{fault_of, making_of};
-    ghost use Rattle.rfb_viewer.specs.inside.Feeding.{StepsOn, RefusesBy, StarvesBy};
-    ghost use Rattle.rfb_viewer.specs.Failing.{KeepsReason};
-    ghost use Rattle.rfb_viewer.specs.inside.Damaging.{Damages, EndsIn};
+    ghost use Rattle.rfb_viewer.specs.inside.Taking.{Steps, Takes};
 
     // Takes a byte of a message's head.
     pub(super) fn take_head(&mut self, bytes: &[u8]) -> Result<Fed<ViewerEvent>, ViewerFault>
         requires some { 0 < length bytes.now }
         requires head { (part : Items ℕ) × (self.old.progress ≡ Progress.Head part) }
-        ensures used { IfOk result (λ fed. (0 < fed.used) × (fed.used ≤ length bytes.now)) }
-        ensures going { IfOk result (λ fed. fault_of self.new ≡ None) }
-        ensures steps { IfOk result (λ fed.
-            StepsOn self.old (take fed.used bytes.now) fed.event self.new) }
-        ensures damage { IfOk result (λ fed.
-            Damages self.old (take fed.used bytes.now) self.new) }
-        ensures damaged { IfErr result (λ fault. Damages self.old bytes.now self.new) }
-        ensures fault { IfErr result (RefusesBy self.old bytes.now) }
-        ensures memory { IfErr result (StarvesBy self.old bytes.now) }
-        ensures picture { IfErr result (λ fault. EndsIn fault self.old bytes.now self.new) }
-        ensures reason { IfErr result (λ fault. KeepsReason fault self.old bytes.now self.new) }
-        ensures made { making_of self.new ≡ making_of self.old }
-        ensures fails { IfErr result (λ fault. fault_of self.new ≡ Some fault) }
+        ensures { Steps self.old bytes.now result self.new }
     {
         let Progress::Head(part) = &mut self.progress else {
             unreachable!()
@@ -69,11 +54,7 @@ impl Viewer {
     pub(super) fn skip_colours(&mut self, bytes: &[u8]) -> Fed<ViewerEvent>
         requires some { 0 < length bytes.now }
         requires colours { (more : ℕ) × (self.old.progress ≡ Progress.Colours more) }
-        ensures used { (0 < result.used) × (result.used ≤ length bytes.now) }
-        ensures going { fault_of self.new ≡ None }
-        ensures steps { StepsOn self.old (take result.used bytes.now) result.event self.new }
-        ensures damage { Damages self.old (take result.used bytes.now) self.new }
-        ensures made { making_of self.new ≡ making_of self.old }
+        ensures { Takes self.old bytes.now result.used result.event self.new }
     {
         let Progress::Colours { more } = &mut self.progress else {
             unreachable!()
@@ -98,11 +79,7 @@ impl Viewer {
         requires some { 0 < length bytes.now }
         requires text { (n more : ℕ) × (kept : KeptText)
             × (self.old.progress ≡ Progress.CutText n more kept) }
-        ensures used { (0 < result.used) × (result.used ≤ length bytes.now) }
-        ensures going { fault_of self.new ≡ None }
-        ensures steps { StepsOn self.old (take result.used bytes.now) result.event self.new }
-        ensures damage { Damages self.old (take result.used bytes.now) self.new }
-        ensures made { making_of self.new ≡ making_of self.old }
+        ensures { Takes self.old bytes.now result.used result.event self.new }
     {
         let Progress::CutText { more, kept, .. } = &mut self.progress else {
             unreachable!()

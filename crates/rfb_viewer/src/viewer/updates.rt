@@ -1,6 +1,6 @@
 //! What a viewer takes of an update's rectangles: their heads and their data.
 
-ghost use Rattle.std.specs.Prelude.{◌≡◌, ◌≤◌, ◌<◌, ℕ, length, take, IfOk, IfErr, None, Some};
+ghost use Rattle.std.specs.Prelude.{◌≡◌, ◌<◌, ℕ, length};
 ghost use Rattle.arrayvec.specs.ArrayVec.{ArrayVec as Items};
 ghost use Rattle.rfb_codec.specs.UnderWay.{UnderWay};
 
@@ -29,29 +29,14 @@ pub(crate) struct Taken {
 
 impl Viewer {
     ghost use Rattle.rfb_viewer.specs.declared.viewer.progress.Progress.{Progress};
-    ghost use Rattle.rfb_viewer.specs.Standing.{fault_of, making_of};
-    ghost use Rattle.rfb_viewer.specs.inside.Feeding.{StepsOn, RefusesBy, StarvesBy, end_event};
-    ghost use Rattle.rfb_viewer.specs.Failing.{KeepsReason};
-    ghost use Rattle.rfb_viewer.specs.inside.Damaging.{Damages, EndsIn};
+    ghost use Rattle.rfb_viewer.specs.inside.Taking.{Steps, StepsInData};
 
     // Takes bytes of a rectangle's head, and after it those of its data.
     pub(super) fn take_rect_head(&mut self, bytes: &[u8]) -> Result<Fed<ViewerEvent>, ViewerFault>
         requires some { 0 < length bytes.now }
         requires head { (more : ℕ) × (part : Items ℕ)
             × (self.old.progress ≡ Progress.RectHead more part) }
-        ensures used { IfOk result (λ fed. (0 < fed.used) × (fed.used ≤ length bytes.now)) }
-        ensures going { IfOk result (λ fed. fault_of self.new ≡ None) }
-        ensures steps { IfOk result (λ fed.
-            StepsOn self.old (take fed.used bytes.now) fed.event self.new) }
-        ensures damage { IfOk result (λ fed.
-            Damages self.old (take fed.used bytes.now) self.new) }
-        ensures damaged { IfErr result (λ fault. Damages self.old bytes.now self.new) }
-        ensures fault { IfErr result (RefusesBy self.old bytes.now) }
-        ensures memory { IfErr result (StarvesBy self.old bytes.now) }
-        ensures picture { IfErr result (λ fault. EndsIn fault self.old bytes.now self.new) }
-        ensures reason { IfErr result (λ fault. KeepsReason fault self.old bytes.now self.new) }
-        ensures made { making_of self.new ≡ making_of self.old }
-        ensures fails { IfErr result (λ fault. fault_of self.new ≡ Some fault) }
+        ensures { Steps self.old bytes.now result self.new }
     {
         let Progress::RectHead { more, head } = &mut self.progress else {
             unreachable!()
@@ -105,20 +90,7 @@ impl Viewer {
         requires some { 0 < length bytes.now }
         requires data { (more : ℕ) × (painter : UnderWay)
             × (self.old.progress ≡ Progress.Data more painter) }
-        ensures used { IfOk result (λ taken.
-            (0 < taken.used) × (taken.used ≤ length bytes.now)) }
-        ensures going { IfOk result (λ taken. fault_of self.new ≡ None) }
-        ensures steps { IfOk result (λ taken.
-            StepsOn self.old (take taken.used bytes.now) (end_event taken.ends_update) self.new) }
-        ensures damage { IfOk result (λ taken.
-            Damages self.old (take taken.used bytes.now) self.new) }
-        ensures damaged { IfErr result (λ fault. Damages self.old bytes.now self.new) }
-        ensures fault { IfErr result (RefusesBy self.old bytes.now) }
-        ensures memory { IfErr result (StarvesBy self.old bytes.now) }
-        ensures picture { IfErr result (λ fault. EndsIn fault self.old bytes.now self.new) }
-        ensures reason { IfErr result (λ fault. KeepsReason fault self.old bytes.now self.new) }
-        ensures made { making_of self.new ≡ making_of self.old }
-        ensures fails { IfErr result (λ fault. fault_of self.new ≡ Some fault) }
+        ensures { StepsInData self.old bytes.now result self.new }
     {
         let Progress::Data { more, painter } = &mut self.progress else {
             unreachable!()

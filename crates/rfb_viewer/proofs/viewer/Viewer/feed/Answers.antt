@@ -30,23 +30,23 @@ returns-in_err-fed c =
     let rest = take_rest c.args.bytes.now c.loop-used.used in
     let fault = c.in_err-fed.field-0.0 in
     let ends = subst (λ (xs : List ℕ). EndsIn fault c.loop-used.self xs c.take.new.self) rest c.in_err-fed.ensures.picture in
-    let damaged = subst (λ (xs : List ℕ). Damages c.loop-used.self xs c.take.new.self) rest c.in_err-fed.ensures.damaged in
+    let damaged = subst (λ (xs : List ℕ). Damages c.loop-used.self xs c.take.new.self) rest c.in_err-fed.ensures.damage in
     rw (p.1, p.2) (record {
       used = tt;
       all = tt;
       some = tt;
       fed = tt;
-      outside = outside_fault c.args.self.now c.loop-used.self c.take.new.self c.loop-used.used c.args.bytes.now fault c.loop-used.invariant.fed c.loop-used.invariant.outside damaged c.in_err-fed.ensures.fails ends;
+      outside = outside_fault c.args.self.now c.loop-used.self c.take.new.self c.loop-used.used c.args.bytes.now fault c.loop-used.invariant.fed c.loop-used.invariant.outside damaged c.in_err-fed.ensures.failed ends;
       damage = tt;
-      damaged = λ none. damages_later fault c.args.self.now c.loop-used.self c.take.new.self c.loop-used.used c.args.bytes.now c.loop-used.invariant.damage damaged c.in_err-fed.ensures.fails ends;
-      made = c.take.ensures.made ∙ c.loop-used.invariant.made;
+      damaged = λ none. damages_later fault c.args.self.now c.loop-used.self c.take.new.self c.loop-used.used c.args.bytes.now c.loop-used.invariant.damage damaged c.in_err-fed.ensures.failed ends;
+      made = c.in_err-fed.ensures.made ∙ c.loop-used.invariant.made;
       fault = λ other viewing. refused_later (viewer viewing) (viewer_machine viewing) (StandsFor viewing) c.args.self.now c.loop-used.self c.loop-used.used c.args.bytes.now fault (c.loop-used.invariant.fed viewing)
-          (subst (λ (xs : List ℕ). RefusedBy (viewer viewing) (StandsFor viewing) c.loop-used.self xs fault) rest (c.in_err-fed.ensures.fault other viewing));
+          (subst (λ (xs : List ℕ). RefusedBy (viewer viewing) (StandsFor viewing) c.loop-used.self xs fault) rest (c.in_err-fed.ensures.refuses other viewing));
       memory = λ wants viewing. runs_out_later (viewer viewing) (viewer_machine viewing) (AsksMemory viewing) (StandsFor viewing) c.args.self.now c.loop-used.self c.loop-used.used c.args.bytes.now (c.loop-used.invariant.fed viewing)
-          (subst (λ (xs : List ℕ). RunsOutBy (viewer viewing) (AsksMemory viewing) (StandsFor viewing) c.loop-used.self xs) rest (c.in_err-fed.ensures.memory wants viewing));
+          (subst (λ (xs : List ℕ). RunsOutBy (viewer viewing) (AsksMemory viewing) (StandsFor viewing) c.loop-used.self xs) rest (c.in_err-fed.ensures.starves wants viewing));
       picture = λ none. ends_later fault c.args.self.now c.loop-used.self c.take.new.self c.loop-used.used c.args.bytes.now c.loop-used.invariant.fed ends;
       reason = λ none. kept_later fault c.args.self.now c.loop-used.self c.take.new.self c.loop-used.used c.args.bytes.now c.loop-used.invariant.fed (subst (λ (xs : List ℕ). KeepsReason fault c.loop-used.self xs c.take.new.self) rest c.in_err-fed.ensures.reason);
-      fails = c.in_err-fed.ensures.fails;
+      fails = c.in_err-fed.ensures.failed;
       failed = λ f h. absurd cc;
     })
 
@@ -57,23 +57,23 @@ returns-in_err-painted c =
     let rest = take_rest c.args.bytes.now c.loop-used.used in
     let fault = c.in_err-painted.field-0.0 in
     let ends = subst (λ (xs : List ℕ). EndsIn fault c.loop-used.self xs c.take_data.new.self) rest c.in_err-painted.ensures.picture in
-    let damaged = subst (λ (xs : List ℕ). Damages c.loop-used.self xs c.take_data.new.self) rest c.in_err-painted.ensures.damaged in
+    let damaged = subst (λ (xs : List ℕ). Damages c.loop-used.self xs c.take_data.new.self) rest c.in_err-painted.ensures.damage in
     rw (p.1, p.2) (record {
       used = tt;
       all = tt;
       some = tt;
       fed = tt;
-      outside = outside_fault c.args.self.now c.loop-used.self c.take_data.new.self c.loop-used.used c.args.bytes.now fault c.loop-used.invariant.fed c.loop-used.invariant.outside damaged c.in_err-painted.ensures.fails ends;
+      outside = outside_fault c.args.self.now c.loop-used.self c.take_data.new.self c.loop-used.used c.args.bytes.now fault c.loop-used.invariant.fed c.loop-used.invariant.outside damaged c.in_err-painted.ensures.failed ends;
       damage = tt;
-      damaged = λ none. damages_later fault c.args.self.now c.loop-used.self c.take_data.new.self c.loop-used.used c.args.bytes.now c.loop-used.invariant.damage damaged c.in_err-painted.ensures.fails ends;
-      made = c.take_data.ensures.made ∙ c.loop-used.invariant.made;
+      damaged = λ none. damages_later fault c.args.self.now c.loop-used.self c.take_data.new.self c.loop-used.used c.args.bytes.now c.loop-used.invariant.damage damaged c.in_err-painted.ensures.failed ends;
+      made = c.in_err-painted.ensures.made ∙ c.loop-used.invariant.made;
       fault = λ other viewing. refused_later (viewer viewing) (viewer_machine viewing) (StandsFor viewing) c.args.self.now c.loop-used.self c.loop-used.used c.args.bytes.now fault (c.loop-used.invariant.fed viewing)
-          (subst (λ (xs : List ℕ). RefusedBy (viewer viewing) (StandsFor viewing) c.loop-used.self xs fault) rest (c.in_err-painted.ensures.fault other viewing));
+          (subst (λ (xs : List ℕ). RefusedBy (viewer viewing) (StandsFor viewing) c.loop-used.self xs fault) rest (c.in_err-painted.ensures.refuses other viewing));
       memory = λ wants viewing. runs_out_later (viewer viewing) (viewer_machine viewing) (AsksMemory viewing) (StandsFor viewing) c.args.self.now c.loop-used.self c.loop-used.used c.args.bytes.now (c.loop-used.invariant.fed viewing)
-          (subst (λ (xs : List ℕ). RunsOutBy (viewer viewing) (AsksMemory viewing) (StandsFor viewing) c.loop-used.self xs) rest (c.in_err-painted.ensures.memory wants viewing));
+          (subst (λ (xs : List ℕ). RunsOutBy (viewer viewing) (AsksMemory viewing) (StandsFor viewing) c.loop-used.self xs) rest (c.in_err-painted.ensures.starves wants viewing));
       picture = λ none. ends_later fault c.args.self.now c.loop-used.self c.take_data.new.self c.loop-used.used c.args.bytes.now c.loop-used.invariant.fed ends;
       reason = λ none. kept_later fault c.args.self.now c.loop-used.self c.take_data.new.self c.loop-used.used c.args.bytes.now c.loop-used.invariant.fed (subst (λ (xs : List ℕ). KeepsReason fault c.loop-used.self xs c.take_data.new.self) rest c.in_err-painted.ensures.reason);
-      fails = c.in_err-painted.ensures.fails;
+      fails = c.in_err-painted.ensures.failed;
       failed = λ f h. absurd cc;
     })
 
@@ -82,14 +82,14 @@ returns-then-is_some c =
     let began = c.loop-used.invariant.began in
     let rest = take_rest c.args.bytes.now c.loop-used.used in
     let fed = c.in_ok-fed.fed in
-    let within : fed.used ≤ length (drop c.loop-used.used c.args.bytes.now) = rw rest at c.in_ok-fed.ensures.used.1 in
+    let within : fed.used ≤ length (drop c.loop-used.used c.args.bytes.now) = rw rest at c.in_ok-fed.ensures.within in
     let damaged = subst (λ (xs : List ℕ). Damages c.loop-used.self (take fed.used xs) c.take.new.self) rest c.in_ok-fed.ensures.damage in
     let steps = subst (λ (xs : List ℕ). StepsOn c.loop-used.self (take fed.used xs) fed.event c.take.new.self) rest c.in_ok-fed.ensures.steps in
     record {
       used = omega (arith, length-drop c.loop-used.used c.args.bytes.now, within, c.loop-used.invariant.within);
       all = λ none. absurd (some_told fed.event (sym c.is_some.ensures ∙ c.if-is_some.true) none);
-      some = λ any. omega (arith, c.in_ok-fed.ensures.used.0);
-      made = c.take.ensures.made ∙ c.loop-used.invariant.made;
+      some = λ any. omega (arith, c.in_ok-fed.ensures.some);
+      made = c.in_ok-fed.ensures.made ∙ c.loop-used.invariant.made;
       fed = λ viewing. fed_step (viewer viewing) (viewer_machine viewing) (StandsFor viewing) c.args.self.now c.loop-used.self c.take.new.self c.loop-used.used fed.used c.args.bytes.now (seen fed.event) (c.loop-used.invariant.fed viewing) (steps viewing);
       damage = damage_on c.args.self.now c.loop-used.self c.take.new.self c.loop-used.used fed.used c.args.bytes.now (seen fed.event) steps damaged c.loop-used.invariant.damage;
       outside = λ viewing s prefix stands.
@@ -107,7 +107,7 @@ pub loop-used-preserved : goal.loop-used-preserved
 loop-used-preserved c =
     let rest = take_rest c.args.bytes.now c.loop-used.used in
     let fed = c.in_ok-fed.fed in
-    let within : fed.used ≤ length (drop c.loop-used.used c.args.bytes.now) = rw rest at c.in_ok-fed.ensures.used.1 in
+    let within : fed.used ≤ length (drop c.loop-used.used c.args.bytes.now) = rw rest at c.in_ok-fed.ensures.within in
     let none : fed.event ≡ None = none_told fed.event (sym c.is_some.ensures ∙ c.if-is_some.false) in
     let damaged = subst (λ (xs : List ℕ). Damages c.loop-used.self (take fed.used xs) c.take.new.self) rest c.in_ok-fed.ensures.damage in
     let steps = subst (λ (e : Option ViewerEvent). StepsOn c.loop-used.self (take fed.used (drop c.loop-used.used c.args.bytes.now)) e c.take.new.self) none (subst (λ (xs : List ℕ). StepsOn c.loop-used.self (take fed.used xs) fed.event c.take.new.self) rest c.in_ok-fed.ensures.steps) in
@@ -115,7 +115,7 @@ loop-used-preserved c =
       within = omega (arith, length-drop c.loop-used.used c.args.bytes.now, within, c.loop-used.invariant.within);
       began = c.loop-used.invariant.began;
       going = c.in_ok-fed.ensures.going;
-      made = c.take.ensures.made ∙ c.loop-used.invariant.made;
+      made = c.in_ok-fed.ensures.made ∙ c.loop-used.invariant.made;
       fed = λ viewing. fed_step (viewer viewing) (viewer_machine viewing) (StandsFor viewing) c.args.self.now c.loop-used.self c.take.new.self c.loop-used.used fed.used c.args.bytes.now (None) (c.loop-used.invariant.fed viewing) (steps viewing);
       damage = damage_on c.args.self.now c.loop-used.self c.take.new.self c.loop-used.used fed.used c.args.bytes.now (None) steps damaged c.loop-used.invariant.damage;
       outside = outside_on c.args.self.now c.loop-used.self c.take.new.self c.loop-used.used fed.used c.args.bytes.now (None) steps damaged c.loop-used.invariant.fed c.loop-used.invariant.outside;
@@ -126,14 +126,14 @@ returns-then-painted c =
     let began = c.loop-used.invariant.began in
     let rest = take_rest c.args.bytes.now c.loop-used.used in
     let painted = c.in_ok-painted.painted in
-    let within : painted.used ≤ length (drop c.loop-used.used c.args.bytes.now) = rw rest at c.in_ok-painted.ensures.used.1 in
+    let within : painted.used ≤ length (drop c.loop-used.used c.args.bytes.now) = rw rest at c.in_ok-painted.ensures.within in
     let damaged = subst (λ (xs : List ℕ). Damages c.loop-used.self (take painted.used xs) c.take_data.new.self) rest c.in_ok-painted.ensures.damage in
     let steps = subst (λ (ends : Bool). StepsOn c.loop-used.self (take painted.used (drop c.loop-used.used c.args.bytes.now)) (end_event ends) c.take_data.new.self) c.if-painted.true (subst (λ (xs : List ℕ). StepsOn c.loop-used.self (take painted.used xs) (end_event painted.ends_update) c.take_data.new.self) rest c.in_ok-painted.ensures.steps) in
     record {
       used = omega (arith, length-drop c.loop-used.used c.args.bytes.now, within, c.loop-used.invariant.within);
       all = λ none. absurd (some_told (Some UpdateDone) refl none);
-      some = λ any. omega (arith, c.in_ok-painted.ensures.used.0);
-      made = c.take_data.ensures.made ∙ c.loop-used.invariant.made;
+      some = λ any. omega (arith, c.in_ok-painted.ensures.some);
+      made = c.in_ok-painted.ensures.made ∙ c.loop-used.invariant.made;
       fed = λ viewing. fed_step (viewer viewing) (viewer_machine viewing) (StandsFor viewing) c.args.self.now c.loop-used.self c.take_data.new.self c.loop-used.used painted.used c.args.bytes.now (Some Done) (c.loop-used.invariant.fed viewing) (steps viewing);
       damage = damage_on c.args.self.now c.loop-used.self c.take_data.new.self c.loop-used.used painted.used c.args.bytes.now (Some Done) steps damaged c.loop-used.invariant.damage;
       outside = λ viewing s prefix stands.
@@ -151,14 +151,14 @@ pub loop-used-preserved-else-painted : goal.loop-used-preserved-else-painted
 loop-used-preserved-else-painted c =
     let rest = take_rest c.args.bytes.now c.loop-used.used in
     let painted = c.in_ok-painted.painted in
-    let within : painted.used ≤ length (drop c.loop-used.used c.args.bytes.now) = rw rest at c.in_ok-painted.ensures.used.1 in
+    let within : painted.used ≤ length (drop c.loop-used.used c.args.bytes.now) = rw rest at c.in_ok-painted.ensures.within in
     let damaged = subst (λ (xs : List ℕ). Damages c.loop-used.self (take painted.used xs) c.take_data.new.self) rest c.in_ok-painted.ensures.damage in
     let steps = subst (λ (ends : Bool). StepsOn c.loop-used.self (take painted.used (drop c.loop-used.used c.args.bytes.now)) (end_event ends) c.take_data.new.self) c.if-painted.false (subst (λ (xs : List ℕ). StepsOn c.loop-used.self (take painted.used xs) (end_event painted.ends_update) c.take_data.new.self) rest c.in_ok-painted.ensures.steps) in
     record {
       within = omega (arith, length-drop c.loop-used.used c.args.bytes.now, within, c.loop-used.invariant.within);
       began = c.loop-used.invariant.began;
       going = c.in_ok-painted.ensures.going;
-      made = c.take_data.ensures.made ∙ c.loop-used.invariant.made;
+      made = c.in_ok-painted.ensures.made ∙ c.loop-used.invariant.made;
       fed = λ viewing. fed_step (viewer viewing) (viewer_machine viewing) (StandsFor viewing) c.args.self.now c.loop-used.self c.take_data.new.self c.loop-used.used painted.used c.args.bytes.now (None) (c.loop-used.invariant.fed viewing) (steps viewing);
       damage = damage_on c.args.self.now c.loop-used.self c.take_data.new.self c.loop-used.used painted.used c.args.bytes.now (None) steps damaged c.loop-used.invariant.damage;
       outside = outside_on c.args.self.now c.loop-used.self c.take_data.new.self c.loop-used.used painted.used c.args.bytes.now (None) steps damaged c.loop-used.invariant.fed c.loop-used.invariant.outside;

@@ -1,7 +1,9 @@
-use Rattle.std.proofs.Common.{◌∙◌, ℕ, List, ◌++◌, take, slice_index, ap, sym, subst, refl}
+use Rattle.std.proofs.Common.{◌∙◌, ℕ, List, ◌++◌, take, slice_index, ap, sym, subst, refl, arith}
 use Rattle.rfb_wire.specs.Heads.{IsUnknown}
 use Rattle.rfb_wire.specs.ServerHead.{SpellsServerHead}
 use Rattle.rfb_wire.proofs.stream_laws.FeedLaws.{front_refuses}
+use Rattle.rfb_viewer.specs.declared.fault.ViewerFault.{ViewerFault}
+use Rattle.rfb_viewer.specs.declared.viewer.progress.Progress.TheVariants.{Head, Failed}
 use Rattle.rfb_viewer.specs.Fault.{fault_of_wire}
 use Rattle.rfb_viewer.specs.Viewer.{viewer}
 use Rattle.rfb_viewer.specs.Progress.{IsHeadBegun}
@@ -9,65 +11,73 @@ use Rattle.rfb_viewer.specs.Standing.{StandsFor}
 use Rattle.rfb_viewer.proofs.ViewerLaws.{viewer_machine}
 use Rattle.rfb_viewer.proofs.HeadLemmas.{misses_begun, one_byte, head_whole}
 use Rattle.rfb_viewer.proofs.MessageLemmas.{head_part, head_bad, head_got, head_asks}
-use Rattle.rfb_viewer.proofs.FailLemmas.{head_ends, head_memory, wire_keeps, none_at}
+use Rattle.rfb_viewer.proofs.FailLemmas.{head_ends, head_memory, none_at}
+use Rattle.rfb_viewer.proofs.TakingLemmas.{damages_at, after_going, wire_fails, memory_fails}
 use Rattle.rfb_viewer.proofs.viewer.Viewer.take_head.Goals as goal
 
-pub returns-in-More-clause-steps : goal.returns-in-More-clause-steps
-returns-in-More-clause-steps c = λ viewing.
-    let one = one_byte c.args.bytes.now c.requires.some in
-    let part = c.in-Head.part in
-    head_part viewing c.args.self.now _ part c.read_head.new.part (take 1 c.args.bytes.now) c.in-Head.is
-    (c.in-More.ensures.kept ∙ ap (λ (ys : List ℕ). part.items ++ ys) (sym one))
-    (subst IsHeadBegun (sym c.in-More.ensures.kept) (misses_begun _ _ c.in-More.ensures.more))
-    (record { hello = refl; form = refl; encodings = refl; limit = refl; progress_is = refl; request_is = refl; picture_is = refl })
-
-pub returns-in-Bad-clause-fault : goal.returns-in-Bad-clause-fault
-returns-in-Bad-clause-fault c = λ _ viewing.
-    let one = one_byte c.args.bytes.now c.requires.some in
-    let part = c.in-Head.part in
+pub returns-in-More : goal.returns-in-More
+returns-in-More c =
     let old = c.args.self.now in
+    let one = one_byte c.args.bytes.now c.requires.some in
+    let part = c.in-Head.part in
+    record {
+      some = omega arith;
+      within = omega (arith, c.requires.some);
+      steps = λ viewing.
+          head_part viewing old _ part c.read_head.new.part (take 1 c.args.bytes.now) c.in-Head.is
+          (c.in-More.ensures.kept ∙ ap (λ (ys : List ℕ). part.items ++ ys) (sym one))
+          (subst IsHeadBegun (sym c.in-More.ensures.kept) (misses_begun _ _ c.in-More.ensures.more))
+          (record { hello = refl; form = refl; encodings = refl; limit = refl; progress_is = refl; request_is = refl; picture_is = refl });
+      damage = damages_at old _ (take 1 c.args.bytes.now) (Head part) c.in-Head.is refl;
+      going = refl;
+      made = refl;
+    }
+
+pub returns-in-Bad : goal.returns-in-Bad
+returns-in-Bad c =
+    let old = c.args.self.now in
+    let bytes = c.args.bytes.now in
+    let fault = c.in-Bad.fault in
+    let part = c.in-Head.part in
+    let one = one_byte bytes c.requires.some in
+    let unknown = subst (λ (ys : List ℕ). IsUnknown SpellsServerHead fault (part.items ++ ys)) (sym one) c.in-Bad.ensures.bad in
     rw (c.fail.ensures.value, c.of_wire.ensures)
-    (front_refuses (viewer viewing) (viewer_machine viewing) (StandsFor viewing) old old 1 c.args.bytes.now (fault_of_wire c.in-Bad.fault)
-    (head_bad viewing old old part (take 1 c.args.bytes.now) c.in-Bad.fault c.in-Head.is
-    (subst (λ (ys : List ℕ). IsUnknown SpellsServerHead c.in-Bad.fault (part.items ++ ys)) (sym one) c.in-Bad.ensures.bad)))
+    (wire_fails old _ bytes (damages_at old _ bytes (Head part) c.in-Head.is refl) refl fault
+    (λ viewing. front_refuses (viewer viewing) (viewer_machine viewing) (StandsFor viewing) old old 1 bytes (fault_of_wire fault) (head_bad viewing old old part (take 1 bytes) fault c.in-Head.is unknown))
+    (λ viewing. head_ends viewing old old part 1 bytes fault c.in-Head.is (head_bad viewing old old part (take 1 bytes) fault c.in-Head.is unknown))
+    refl (c.fail.ensures.after ∙ ap (λ (f : ViewerFault). Failed f) c.of_wire.ensures))
 
-pub returns-in_default-go_on_after-clause-memory : goal.returns-in_default-go_on_after-clause-memory
-returns-in_default-go_on_after-clause-memory c = λ _ viewing.
-    let one = one_byte c.args.bytes.now c.requires.some in
-    let got = c.in-Got.ensures.got in
-    head_asks viewing c.args.self.now c.args.self.now c.in-Head.part (slice_index c.args.bytes.now 0) c.args.bytes.now c.in-Got.head c.in-Head.is one
-    (λ begun. head_whole c.in-Got.head c.in-Head.part.items (slice_index c.args.bytes.now 0) _ begun got.0 got.1) c.in_default-go_on_after.ensures.asked
-
-pub returns-clause-steps : goal.returns-clause-steps
-returns-clause-steps c = λ viewing.
-    let one = one_byte c.args.bytes.now c.requires.some in
-    let part = c.in-Head.part in
-    let got = c.in-Got.ensures.got in
-    rw (c.in-Ok.ensures.told)
-    (head_got viewing c.args.self.now _ part (take 1 c.args.bytes.now) c.in-Got.head c.in-Head.is
-    (λ begun. subst (λ (ys : List ℕ). SpellsServerHead c.in-Got.head (part.items ++ ys)) (sym one) (head_whole c.in-Got.head part.items (slice_index c.args.bytes.now 0) _ begun got.0 got.1))
-    (record { hello = refl; form = refl; encodings = refl; limit = refl; progress_is = c.in-Ok.ensures.progress; request_is = c.in-Ok.ensures.request; picture_is = refl }))
-
-pub returns-in-Bad-clause-picture : goal.returns-in-Bad-clause-picture
-returns-in-Bad-clause-picture c =
-    let one = one_byte c.args.bytes.now c.requires.some in
-    let part = c.in-Head.part in
+pub returns-in_default-go_on_after : goal.returns-in_default-go_on_after
+returns-in_default-go_on_after c =
     let old = c.args.self.now in
-    rw (c.fail.ensures.value, c.of_wire.ensures) (λ viewing.
-    head_ends viewing old old part 1 c.args.bytes.now c.in-Bad.fault c.in-Head.is
-    (head_bad viewing old old part (take 1 c.args.bytes.now) c.in-Bad.fault c.in-Head.is
-    (subst (λ (ys : List ℕ). IsUnknown SpellsServerHead c.in-Bad.fault (part.items ++ ys)) (sym one) c.in-Bad.ensures.bad)))
-
-pub returns-in-Bad-clause-reason : goal.returns-in-Bad-clause-reason
-returns-in-Bad-clause-reason c = rw (c.fail.ensures.value, c.of_wire.ensures) (wire_keeps c.in-Bad.fault c.args.self.now _ c.args.bytes.now refl)
-
-pub returns-in_default-go_on_after-clause-picture : goal.returns-in_default-go_on_after-clause-picture
-returns-in_default-go_on_after-clause-picture c =
-    let one = one_byte c.args.bytes.now c.requires.some in
+    let bytes = c.args.bytes.now in
+    let part = c.in-Head.part in
+    let byte = slice_index bytes 0 in
+    let head = c.in-Got.head in
+    let one = one_byte bytes c.requires.some in
     let got = c.in-Got.ensures.got in
-    rw (c.fail-in_default-go_on_after.ensures.value) (λ viewing.
-    head_memory viewing c.args.self.now c.in-Head.part (slice_index c.args.bytes.now 0) c.args.bytes.now c.in-Got.head c.in-Head.is one
-    (λ begun. head_whole c.in-Got.head c.in-Head.part.items (slice_index c.args.bytes.now 0) _ begun got.0 got.1) c.in_default-go_on_after.ensures.asked)
+    let asked = c.in_default-go_on_after.ensures.asked in
+    rw (c.fail-in_default-go_on_after.ensures.value)
+    (memory_fails old _ bytes (damages_at old _ bytes (Head part) c.in-Head.is refl) refl
+    (λ viewing. head_asks viewing old old part byte bytes head c.in-Head.is one (λ begun. head_whole head part.items byte _ begun got.0 got.1) asked)
+    (λ viewing. head_memory viewing old part byte bytes head c.in-Head.is one (λ begun. head_whole head part.items byte _ begun got.0 got.1) asked)
+    (none_at old old.hello refl) c.fail-in_default-go_on_after.ensures.after)
 
-pub returns-in_default-go_on_after-clause-reason : goal.returns-in_default-go_on_after-clause-reason
-returns-in_default-go_on_after-clause-reason c = rw (c.fail-in_default-go_on_after.ensures.value) (none_at c.args.self.now c.args.self.now.hello refl)
+pub returns : goal.returns
+returns c =
+    let old = c.args.self.now in
+    let bytes = c.args.bytes.now in
+    let one = one_byte bytes c.requires.some in
+    let part = c.in-Head.part in
+    let got = c.in-Got.ensures.got in
+    record {
+      some = omega arith;
+      within = omega (arith, c.requires.some);
+      steps = λ viewing. rw (c.in-Ok.ensures.told)
+          (head_got viewing old _ part (take 1 bytes) c.in-Got.head c.in-Head.is
+          (λ begun. subst (λ (ys : List ℕ). SpellsServerHead c.in-Got.head (part.items ++ ys)) (sym one) (head_whole c.in-Got.head part.items (slice_index bytes 0) _ begun got.0 got.1))
+          (record { hello = refl; form = refl; encodings = refl; limit = refl; progress_is = c.in-Ok.ensures.progress; request_is = c.in-Ok.ensures.request; picture_is = refl }));
+      damage = damages_at old _ (take 1 bytes) (Head part) c.in-Head.is refl;
+      going = rw c.in-Ok.ensures.progress (after_going old.text_limit c.in-Got.head);
+      made = refl;
+    }
