@@ -67,7 +67,7 @@ fn learn(known: &mut Area, rect: Rect)
     ensures height { known.new.asked.height ≡ known.old.asked.height }
 {
     // It tells that each place is known or not.
-    let _width = known.width();
+    prove!(rect.w <= known.width());
     if !known.asked().has_all(rect) {
         known.add(rect, false);
     }

@@ -41,8 +41,9 @@ pub(crate) fn join(damage: &mut Option<Edges>, rect: Rect, picture: &Picture<Col
     if rect.w == 0 || rect.h == 0 {
         return;
     }
-    // A picture has less than 65,536 columns and rows, so these are no greater.
-    let _size = (picture.width(), picture.height());
+    // A picture has less than 65,536 columns and rows, so the edges are no greater.
+    prove!(rect.w <= picture.width());
+    prove!(rect.h <= picture.height());
     let right = rect.x + rect.w;
     let lower = rect.y + rect.h;
     *damage = Some(match *damage {
