@@ -35,7 +35,9 @@ impl Format {
         requires { length bytes.now ≡ length colours.old * size_of self.now }
         ensures { AreColours self.now bytes.now colours.new }
     {
-        // As for `pack_row`, a loop each.
+        // As for `pack_row`, a loop each. That of the format that this project announces becomes a
+        // part of callers who know the format. The others are calls: with their loops in it this
+        // would be too large to be a part of any.
         if *self == Format::rgb888() {
             unpack_rgb888(bytes, colours);
         } else if *self == Format::rgb565() {
@@ -43,7 +45,7 @@ impl Format {
         } else if *self == Format::bgr233() {
             unpack_bgr233(bytes, colours);
         } else {
-            unpack_each(*self, bytes, colours);
+            unpack_singly(*self, bytes, colours);
         }
     }
 }
@@ -141,10 +143,9 @@ fn unpack_each(format: Format, bytes: &[u8], colours: &mut [Colour])
     }
 }
 
-// The same of a row of fewer than eight. It stands by itself, so that `unpack_row` is small enough to
-// become a part of its callers, which know the format.
+// The same by a call, for rows of fewer than eight, and for formats that have no lanes.
 #[inline(never)]
-fn unpack_few(format: Format, bytes: &[u8], colours: &mut [Colour])
+fn unpack_singly(format: Format, bytes: &[u8], colours: &mut [Colour])
     requires { length bytes.now ≡ length colours.old * size_of format }
     ensures { AreColours format bytes.now colours.new }
 {
@@ -162,7 +163,7 @@ fn unpack_rgb888(bytes: &[u8], colours: &mut [Colour])
     ensures { AreColours rgb888 bytes.now colours.new }
 {
     if colours.len() < LANES {
-        unpack_few(Format::rgb888(), bytes, colours);
+        unpack_singly(Format::rgb888(), bytes, colours);
         return;
     }
     if colours.len() < 2 * LANES {
@@ -205,13 +206,13 @@ fn unpack_eight_at(bytes: &[u8], at: usize, colours: &mut [Colour])
 }
 
 // The same of rgb565.
-#[inline(always)]
+#[inline(never)]
 fn unpack_rgb565(bytes: &[u8], colours: &mut [Colour])
     requires { length bytes.now ≡ length colours.old * 2 }
     ensures { AreColours rgb565 bytes.now colours.new }
 {
     if colours.len() < LANES {
-        unpack_few(Format::rgb565(), bytes, colours);
+        unpack_singly(Format::rgb565(), bytes, colours);
         return;
     }
     let last = colours.len() - LANES;
@@ -224,13 +225,13 @@ fn unpack_rgb565(bytes: &[u8], colours: &mut [Colour])
 }
 
 // The same of bgr233.
-#[inline(always)]
+#[inline(never)]
 fn unpack_bgr233(bytes: &[u8], colours: &mut [Colour])
     requires { length bytes.now ≡ length colours.old }
     ensures { AreColours bgr233 bytes.now colours.new }
 {
     if colours.len() < LANES {
-        unpack_few(Format::bgr233(), bytes, colours);
+        unpack_singly(Format::bgr233(), bytes, colours);
         return;
     }
     let last = colours.len() - LANES;
