@@ -109,7 +109,10 @@ fn take_whole(
         let announced = rectangle.by_format(Format::rgb888());
         take_each(&announced, left, bytes, picture)
     } else {
-        take_each(rectangle, left, bytes, picture)
+        // Its own copy of what the rectangle is: that of the caller would be read again after each
+        // place that is written.
+        let own = *rectangle;
+        take_each(&own, left, bytes, picture)
     }
 }
 
