@@ -12,8 +12,6 @@ mod input;
 mod number;
 mod places;
 mod read;
-#[cfg(test)]
-mod tests;
 
 pub use fault::{Flaw, PixmapError};
 pub use read::read_pixmap;

@@ -1,16 +1,7 @@
-//! The program as its user sees it: calls of `command`, by their status, output and errors.
+//! What no call of the built program shows: inputs that fail, outputs that cannot be flushed, a network
+//! that keeps what is asked of it, and both ends of a socket in one process.
 
-mod calls;
 mod devices;
-mod explain;
-mod files;
-mod loopback;
 mod nets;
-mod options;
-mod recordings;
-mod shares;
 mod sockets;
 mod streams;
-mod texts;
-mod views;
-mod words;

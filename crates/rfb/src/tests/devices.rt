@@ -1,15 +1,15 @@
-//! Inputs and outputs that fail.
+//! Inputs that fail, and outputs that cannot be flushed.
 
-use super::calls::{Ended, LEFT_PLACE_FILLED, SCRIPT};
+use super::streams::{BLACK, HANDSHAKE, PICTURE, SERVER};
 use crate::command_line::command;
 use std::io;
 use std::io::{ErrorKind, Read, Write};
 
-/// Gives its bytes, and then fails.
+// Gives its bytes, and then fails.
 #[derive(Drop)]
-pub struct FailingReader<'a> {
-    pub bytes: &'a [u8],
-    pub kind: ErrorKind,
+struct FailingReader<'a> {
+    bytes: &'a [u8],
+    kind: ErrorKind,
 }
 
 impl Read for FailingReader<'_> {
@@ -21,215 +21,113 @@ impl Read for FailingReader<'_> {
     }
 }
 
-/// Takes as many bytes as it has room for, and then fails.
+/// Takes all bytes, and cannot be flushed.
 #[derive(Drop)]
-pub struct FailingWriter {
-    pub room: usize,
-    pub can_flush: bool,
-}
+pub struct Unflushed;
 
-impl Write for FailingWriter {
+impl Write for Unflushed {
     fn write(&mut self, buf: &[u8]) -> io::Result<usize> {
-        if self.room == 0 {
-            return Err(io::Error::from(ErrorKind::StorageFull));
-        }
-        let count = buf.len().min(self.room);
-        self.room -= count;
-        Ok(count)
-    }
-
-    fn flush(&mut self) -> io::Result<()> {
-        if self.can_flush {
-            Ok(())
-        } else {
-            Err(io::Error::from(ErrorKind::BrokenPipe))
-        }
-    }
-}
-
-/// A call whose input gives these bytes, and then fails.
-pub fn call_on_failing_input(
-    rt: &HostRuntime,
-    words: &[&str],
-    bytes: &[u8],
-    kind: ErrorKind,
-) -> Ended {
-    let mut input = FailingReader { bytes, kind };
-    let mut output = Vec::new(rt.alloc());
-    let mut errors = Vec::new(rt.alloc());
-    let status = command(rt, words, &mut input, &mut output, &mut errors);
-    Ended {
-        status,
-        output,
-        errors,
-    }
-}
-
-/// A call whose output has this room, and then fails. What was written there is not reported.
-pub fn call_to_failing_output(
-    rt: &HostRuntime,
-    words: &[&str],
-    mut input: &[u8],
-    room: usize,
-    can_flush: bool,
-) -> Ended {
-    let mut output = FailingWriter { room, can_flush };
-    let mut errors = Vec::new(rt.alloc());
-    let status = command(rt, words, &mut input, &mut output, &mut errors);
-    Ended {
-        status,
-        output: Vec::new(rt.alloc()),
-        errors,
-    }
-}
-
-/// Counts the writes, and takes all bytes.
-#[derive(Drop)]
-struct CountingWriter {
-    writes: usize,
-    bytes: Vec<u8>,
-}
-
-impl Write for CountingWriter {
-    fn write(&mut self, buf: &[u8]) -> io::Result<usize> {
-        self.writes = self.writes.saturating_add(1);
-        self.bytes.extend_from_slice(buf)?;
         Ok(buf.len())
     }
 
     fn flush(&mut self) -> io::Result<()> {
-        Ok(())
+        Err(io::Error::from(ErrorKind::BrokenPipe))
     }
 }
 
-#[test]
-fn each_refusal_is_one_write(rt: HostRuntime) {
-    let mut input = b"screen 2 1
-fill 2 0 1 1 000000
-request full 0 0 1 1
-settle
-request full 0 0 0 1
-"
-        .as_slice();
-    let mut output = Vec::new(rt.alloc());
-    let mut errors = CountingWriter {
-        writes: 0,
-        bytes: Vec::new(rt.alloc()),
-    };
-    let words = SCRIPT.as_slice();
-    let status = command(&rt, words, &mut input, &mut output, &mut errors);
-    assert_eq!(rt;
-        errors.bytes.as_slice(),
-        b"line 2: refused 24 Outside
-line 3: refused 25 NotReady
-line 5: refused 27 AreaOutside
-"
-            .as_slice()
-    );
-    assert_eq!(rt; errors.writes, 3);
-    assert_eq!(rt; status, 0);
-}
+// The words that run a script, one over a connection, and a recording.
+const SCRIPT: &[&str] = &["rfb", "script"];
 
-// Outputs that fail at a picture of 24,591 bytes or before.
-const FAILING_OUTPUTS: [(usize, bool); 6] = [
-    (0, true),
-    (5, true),
-    (8_192, true),
-    (24_590, true),
-    (24_591, false),
-    (usize::MAX, false),
-];
+const LOOP: &[&str] = &["rfb", "loop"];
 
-#[test]
-fn a_failing_output_is_reported_after_the_refusals(rt: HostRuntime) {
-    let script = b"screen 64 64
-request full 0 0 1 1
-settle
-fill 64 0 1 1 FF8001
-";
-    let told = b"line 2: refused 25 NotReady
-line 4: refused 24 Outside
-fault 29 Device
-";
-    for (room, can_flush) in FAILING_OUTPUTS {
-        let words = SCRIPT.as_slice();
-        let ended = call_to_failing_output(&rt, words, script, room, can_flush);
-        assert!(rt; ended.tells(1, told), "room {room}");
-    }
-}
+const PLAY: &[&str] = &["rfb", "play"];
 
-#[test]
-fn help_that_cannot_be_written_is_a_fault(rt: HostRuntime) {
-    for (room, can_flush) in [(0, true), (5, true), (usize::MAX, false)] {
-        let words = ["rfb", "--help"].as_slice();
-        let ended = call_to_failing_output(&rt, words, b"", room, can_flush);
-        assert!(rt; ended.tells(1, b"fault 29 Device\n"), "room {room}");
-    }
-}
+const PARTIAL: &[&str] = &["rfb", "play", "--partial"];
+
+const HELP: &[&str] = &["rfb", "--help"];
+
+/// What is told of a device that fails.
+pub const DEVICE: &[u8] = b"fault 29 Device\n";
+
+const NO_MEMORY: &[u8] = b"fault 30 NoMemory\n";
+
+const ONE_PLACE: &[u8] = b"screen 1 1\nsettle\n";
 
 // Inputs that fail after these bytes, by their kind, and what is reported.
-const FAILING_INPUTS: [(&[u8], ErrorKind, &[u8]); 4] = [
-    (b"", ErrorKind::Other, b"fault 29 Device\n"),
-    (
-        b"screen 2 1\nsettle\n",
-        ErrorKind::Other,
-        b"fault 29 Device\n",
-    ),
+const FAILING: &[(&[&str], &[u8], ErrorKind, &[u8])] = &[
+    (SCRIPT, b"", ErrorKind::Other, DEVICE),
+    (SCRIPT, ONE_PLACE, ErrorKind::Other, DEVICE),
     // Not even a bad line is reported.
     (
+        SCRIPT,
         b"screen 2 1\nsettler\n",
         ErrorKind::TimedOut,
-        b"fault 29 Device\n",
+        DEVICE,
     ),
-    (
-        b"screen 2 1\nsettle\n",
-        ErrorKind::OutOfMemory,
-        b"fault 30 NoMemory\n",
-    ),
+    (SCRIPT, ONE_PLACE, ErrorKind::OutOfMemory, NO_MEMORY),
+    (PLAY, b"", ErrorKind::Other, DEVICE),
+    // It is not tried again.
+    (PLAY, b"", ErrorKind::Interrupted, DEVICE),
+    (PLAY, HANDSHAKE, ErrorKind::Interrupted, DEVICE),
+    (PLAY, SERVER, ErrorKind::ConnectionReset, DEVICE),
 ];
+
+// What has come before a read fails, and the picture that is wanted of it.
+const FAILING_LATE: &[(&[u8], &[u8])] = &[
+    (SERVER, PICTURE),
+    (HANDSHAKE, BLACK),
+    // The size of the screen is not there.
+    (b"RFB 003.008\n\x01\x01", b""),
+];
+
+// Whether a call whose input gives these bytes and then fails answers 1, and writes these.
+fn fails_so(
+    rt: &HostRuntime,
+    words: &[&str],
+    bytes: &[u8],
+    kind: ErrorKind,
+    written: &[u8],
+    told: &[u8],
+) -> bool {
+    let mut input = FailingReader { bytes, kind };
+    let mut output = Vec::new(rt.alloc());
+    let mut errors = Vec::new(rt.alloc());
+    let status = command(rt, words, &mut input, &mut output, &mut errors);
+    status == 1 && output.as_slice() == written && errors.as_slice() == told
+}
 
 #[test]
 fn a_failing_input_is_reported_and_nothing_runs(rt: HostRuntime) {
-    for (bytes, kind, told) in FAILING_INPUTS {
-        let ended = call_on_failing_input(&rt, SCRIPT.as_slice(), bytes, kind);
-        assert!(rt; ended.is(1, b"", told));
+    for (words, bytes, kind, told) in FAILING {
+        assert!(rt; fails_so(&rt, words, bytes, *kind, b"", told));
     }
 }
 
-// A refusal, and the picture all the same.
-const REFUSED: &[u8] = b"screen 2 1
-fill 0 0 1 1 FF8001
-settle
-request full 0 0 2 1
-settle
-compose
-settle
-fill 2 0 1 1 000000";
+#[test]
+fn what_has_come_before_a_failing_read_is_shown_if_it_is_wanted(rt: HostRuntime) {
+    for (bytes, picture) in FAILING_LATE {
+        assert!(rt; fails_so(&rt, PARTIAL, bytes, ErrorKind::Other, picture, DEVICE));
+    }
+}
 
-// Whether a call whose errors fail gives this status and writes this.
-fn changes_nothing(
-    rt: &HostRuntime,
-    words: &[&str],
-    mut input: &[u8],
-    status: u8,
-    written: &[u8],
-) -> bool {
-    let mut output = Vec::new(rt.alloc());
-    let mut errors = FailingWriter {
-        room: 3,
-        can_flush: true,
-    };
-    let answered = command(rt, words, &mut input, &mut output, &mut errors);
-    answered == status && output.as_slice() == written
+// What is done, and cannot be flushed.
+const UNFLUSHED: &[(&[&str], &[u8])] = &[
+    (SCRIPT, ONE_PLACE),
+    (LOOP, ONE_PLACE),
+    (PLAY, SERVER),
+    (HELP, b""),
+];
+
+// Whether a call whose output cannot be flushed answers 1, and says why.
+fn cannot_flush(rt: &HostRuntime, words: &[&str], mut input: &[u8]) -> bool {
+    let mut errors = Vec::new(rt.alloc());
+    let status = command(rt, words, &mut input, &mut Unflushed, &mut errors);
+    status == 1 && errors.as_slice() == DEVICE
 }
 
 #[test]
-fn failing_errors_change_no_status(rt: HostRuntime) {
-    let script = SCRIPT.as_slice();
-    let unready = b"screen 2 1\nfill 2 0 1 1 000000\n".as_slice();
-    let bad = b"screen 2 1\npaint\n".as_slice();
-    assert!(rt; changes_nothing(&rt, script, REFUSED, 0, LEFT_PLACE_FILLED));
-    assert!(rt; changes_nothing(&rt, script, unready, 1, b""));
-    assert!(rt; changes_nothing(&rt, script, bad, 1, b""));
-    assert!(rt; changes_nothing(&rt, ["rfb", "paint"].as_slice(), b"", 2, b""));
+fn an_output_that_cannot_be_flushed_is_a_fault(rt: HostRuntime) {
+    for (words, input) in UNFLUSHED {
+        assert!(rt; cannot_flush(&rt, words, input));
+    }
 }

@@ -14,6 +14,9 @@ pub const HANDSHAKE: &[u8] = b"RFB 003.008\n\
     \x20\x18\x00\x01\x00\xFF\x00\xFF\x00\xFF\x10\x08\x00\x00\x00\x00\
     \x00\x00\x00\x03rfb";
 
+/// The picture after that.
+pub const BLACK: &[u8] = b"P6\n2 1\n65535\n\0\0\0\0\0\0\0\0\0\0\0\0";
+
 /// The same, and one update: a rectangle of both places, Raw, of the bytes (0, 0, 0) and (4, 0, 2).
 pub const SERVER: &[u8] = b"RFB 003.008\n\
     \x01\x01\
@@ -29,15 +32,6 @@ pub const SERVER: &[u8] = b"RFB 003.008\n\
 
 /// The picture after that.
 pub const PICTURE: &[u8] = b"P6\n2 1\n65535\n\0\0\0\0\0\0\x04\x04\0\0\x02\x02";
-
-/// One update more: the right place, Raw, of the bytes (255, 128, 1).
-pub const MORE: &[u8] = b"\x00\x00\x00\x01\
-    \x00\x01\x00\x00\x00\x01\x00\x01\
-    \x00\x00\x00\x00\
-    \x01\x80\xFF\x00";
-
-/// The picture after both.
-pub const LATER_PICTURE: &[u8] = b"P6\n2 1\n65535\n\0\0\0\0\0\0\xFF\xFF\x80\x80\x01\x01";
 
 /// What a viewer of that sends: its version, None, a shared screen, rgb888, Raw alone, and a
 /// request for both places.

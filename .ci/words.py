@@ -1,0 +1,652 @@
+#!/usr/bin/env python3
+"""The words of the command line, and what they read, write and connect to.
+
+    .ci/words.py PROGRAM..
+
+Each row runs a program, and compares its status and both outputs with what docs/PROTOCOL.md and the
+help say. Files are in a folder of its own; files and streams fail where the system is told to let
+them; peers are sockets of 127.0.0.1 and of one address more that a machine has for itself. The last
+line is 'N passed, M failed'.
+"""
+
+import os
+import random
+import resource
+import signal
+import socket
+import subprocess
+import sys
+import tempfile
+import threading
+import time
+import traceback
+
+# Another address of this machine: all that begin with 127 are.
+OTHER = "127.%d.%d.%d" % tuple(random.randrange(1, 255) for _ in range(3))
+
+DEVICE = b"fault 29 Device\n"
+TRUNCATED = b"fault 28 Truncated\n"
+
+# A script that fills the left place of two, and its picture.
+SCRIPT = b"""screen 2 1
+fill 0 0 1 1 FF8001
+settle
+request full 0 0 2 1
+settle
+compose
+settle
+"""
+FILLED = b"P6\n2 1\n65535\n" + bytes.fromhex("FFFF80800101 000000000000")
+
+# A client that asks for all of a screen of two places: its version, None, a shared screen, and a
+# request.
+CLIENT = b"RFB 003.008\n" + bytes.fromhex("01 01 03 00 0000 0000 0002 0001")
+
+# A server of two places that is named rfb: the version, None of one type, success, ServerInit.
+HELLO = b"RFB 003.008\n" + bytes.fromhex(
+    "01 01 00000000 0002 0001 20180001 00FF00FF00FF 100800 000000 00000003 726662")
+# One update: a rectangle of both places, Raw, of the colours (0, 0, 0) and (4, 0, 2).
+SERVER = HELLO + bytes.fromhex("00000001 0000 0000 0002 0001 00000000 00000000 02000400")
+SHOWN = b"P6\n2 1\n65535\n" + bytes.fromhex("000000000000 040400000202")
+# One more: the right place, Raw, of the colour (255, 128, 1).
+MORE = bytes.fromhex("00000001 0001 0000 0001 0001 00000000 0180FF00")
+SHOWN_LATER = b"P6\n2 1\n65535\n" + bytes.fromhex("000000000000 FFFF80800101")
+BLACK = b"P6\n2 1\n65535\n" + bytes(12)
+
+
+def free_port(host="127.0.0.1"):
+    with socket.socket() as taken:
+        taken.bind((host, 0))
+        return taken.getsockname()[1]
+
+
+def wait_for(is_so, what, limit=20):
+    end = time.time() + limit
+    while time.time() < end:
+        if is_so():
+            return
+        time.sleep(0.01)
+    raise AssertionError(what)
+
+
+class Run:
+    """A run of the program that has begun. Its input and both outputs are files."""
+
+    begun = []
+
+    def __init__(self, words, given=b"", errors=None, before=None, room=None):
+        self.files = [tempfile.TemporaryFile() for _ in range(3)]
+        self.files[0].write(given)
+        self.files[0].seek(0)
+        self.words = words
+        self.run = subprocess.Popen([PROGRAM, *words], stdin=self.files[0], stdout=self.files[1],
+                                    stderr=errors or self.files[2], preexec_fn=before, cwd=room)
+        self.begun.append(self)
+
+    def told(self, which):
+        self.files[which].seek(0)
+        return self.files[which].read()
+
+    def ends(self, status, output=None, errors=None):
+        """Compares how it ends; what is None may be anything."""
+        try:
+            ended = self.run.wait(60)
+        except subprocess.TimeoutExpired:
+            ended = "none: it has not ended in a minute"
+        got = self.told(1), self.told(2)
+        assert ended == status, (self.words, ended, got[0][-200:], got[1][-500:])
+        assert output is None or got[0] == output, (self.words, got[0][:500])
+        assert errors is None or got[1] == errors, (self.words, got[1][-500:])
+
+    def stops(self):
+        """Ends it if it still runs."""
+        self.run.kill()
+        self.run.wait()
+        for file in self.files:
+            file.close()
+
+
+def ends(words, given, status, output=b"", errors=b""):
+    Run(words, given).ends(status, output, errors)
+
+
+# ---- words
+
+BAD_WORDS = """
+scrip
+SCRIPT
+script first.script
+script script
+loop first.script
+loop --port 5950
+script loop
+--width 2
+play --format
+play --format rgb888 --format rgb888
+play --format RGB888
+play --updates
+play --updates 0
+play --updates 4294967296
+play --updates one
+serve
+serve --port 0
+serve --port 65536
+serve --port 9 --width 0
+serve --port 9 --height 4097
+serve --port 9 --connections 0
+serve --port 9 --connections 65536
+serve --port nine
+serve --port 9 --timeout 0
+view
+view --port 0
+view --port 9 --updates 0
+view --port 9 --updates 4294967296
+view --port 9 --format bgr101010
+view --port 9 --timeout 0
+view --port 9 --timeout 0.5
+play --partial yes
+view a:
+view a:100
+view a:one
+view a::0
+view a::65536
+view [::1]
+view a b
+view a --port 9
+view a:1 --host b
+faults
+help fault
+help faults 1
+play -i
+script -i a -i b
+serve --port 9 -o a
+"""
+
+# Lists of encodings, none of which is one.
+BAD_ENCODINGS = ["", ",", "raw,", "raw, rre", "Raw", "zrle", "raw;rre",
+                 "raw,rre,hextile,copyrect,raw"]
+
+HELP = """
+help
+--help
+-h
+help script
+script --help
+help loop
+loop -h
+help play
+serve --help
+help view
+"""
+
+
+def words_that_there_are_not():
+    lines = [line.split(" ") for line in BAD_WORDS.split("\n")[1:-1]]
+    for words in [*lines, ["play", "--format", ""]]:
+        run = Run(words, b"screen 2 1\nsettle\n")
+        run.ends(2, b"")
+        assert run.told(2).startswith(b"error: "), (words, run.told(2))
+    for word in BAD_ENCODINGS:
+        ends(["view", "--port", "9", "--encodings", word], b"", 2, b"", b"bad encodings\n")
+    ends(["view", "--port", "9", "--encodings", "zrle", "--explain"], b"", 2, b"",
+         b"rfb: encodings are raw, copyrect, rre and hextile: one to four of them, with a comma"
+         b" between two\nbad encodings\n")
+
+
+def help_is_printed_once():
+    for line in HELP.split("\n")[1:-1]:
+        run = Run(line.split(" "))
+        run.ends(0, None, b"")
+        assert run.told(1).count(b"docs/PROTOCOL.md") == 1, (line, run.told(1))
+
+
+# ---- recordings
+
+def a_recording_is_played_up_to_a_number_of_updates():
+    for updates, more, shown in (
+            ("1", MORE, SHOWN),
+            # After the last update nothing is looked at, be it truncated or no message.
+            ("1", MORE[:9], SHOWN),
+            ("1", b"\xFF", SHOWN),
+            ("2", MORE, SHOWN_LATER),
+            ("3", MORE, SHOWN_LATER),
+            ("4294967295", MORE, SHOWN_LATER)):
+        ends(["play", "--updates", updates], SERVER + more, 0, shown)
+    ends(["play", "--updates", "2"], SERVER + MORE[:9], 1, b"", TRUNCATED)
+    # Two bytes of the eight are two pixels there, and both have no colour.
+    ends(["play", "--updates", "1", "--format=bgr233"], SERVER, 0, BLACK)
+
+
+def what_came_by_an_early_end_is_shown_if_it_is_wanted():
+    ends(["play", "--partial"], SERVER, 0, SHOWN)
+    # One whole pixel of the two.
+    ends(["play", "--partial"], SERVER[:65], 1, BLACK, TRUNCATED)
+    ends(["play", "--updates=4294967295", "--partial"], SERVER[:65], 1, BLACK, TRUNCATED)
+    # The size of the screen is not there.
+    ends(["play", "--partial"], SERVER[:36], 1, b"", TRUNCATED)
+    # A server's fault is no early end.
+    ends(["play", "--partial"], SERVER + b"\xFF", 1, b"", b"fault 7 UnknownMessage\n")
+
+
+def a_bad_recording_is_explained():
+    offers = b"rfb: the server offers no security type 1 (None), but 2 (VNC Authentication)"
+    for came, told in (
+            (b"HTTP/1.1 200 OK\r\n",
+             b"rfb: in place of a version came `HTTP/1.1 200`: no server of RFB is there\n"
+             b"rfb: that is at byte 12; whole updates before it: 0\nfault 15 BadVersion\n"),
+            (b"RFB 003.008\n\x03\x02\x13\x05",
+             offers + b" 19 (VeNCrypt) 5\n"
+             b"rfb: that is at byte 16; whole updates before it: 0\nfault 18 NoneNotOffered\n"),
+            (b"RFB 003.003\n\0\0\0\x02",
+             offers + b"\n"
+             b"rfb: that is at byte 16; whole updates before it: 0\nfault 18 NoneNotOffered\n"),
+            (b"RFB 003.008\n\0\0\0\0\x09go\x1b[2J \\!",
+             b"rfb: the server refuses the connection, and says `go\\x1b[2J \\x5c!`\n"
+             b"rfb: that is at byte 26; whole updates before it: 0\nfault 19 Refused\n"),
+            (b"RFB 003.008\n\0\0\0\0\x0Ca\\b\0\x1b[1m\x7f\xff ~",
+             b"rfb: the server refuses the connection, and says"
+             b" `a\\x5cb\\x00\\x1b[1m\\x7f\\xff ~`\n"
+             b"rfb: that is at byte 29; whole updates before it: 0\nfault 19 Refused\n"),
+            (b"RFB 0",
+             b"rfb: the server's bytes end too early, after 5 of them\n"
+             b"rfb: that is at byte 5; whole updates before it: 0\n" + TRUNCATED),
+            (SERVER + bytes.fromhex("00000001 0000 0000 0200 0100 00000010"),
+             b"rfb: this is a recording of rfb, 2 by 1\n"
+             b"rfb: a rectangle has encoding 16 (ZRLE), and only raw, copyrect, rre and hextile are"
+             b" taken\nrfb: that is at byte 85; whole updates before it: 1\n"
+             b"rfb: a recording in another format than the one of --format reads like that\n"
+             b"fault 8 UnknownEncoding\n")):
+        ends(["play", "--explain"], came, 1, b"", told)
+
+
+# ---- pictures that are not served
+
+SENTENCES = {
+    1: "it does not begin with P6",
+    2: "its width, its height or its largest component is missing",
+    3: "its width or its height is not 1 to 4096",
+    4: "its largest component is neither 255 nor 65535",
+    5: "no blank stands before its pixels",
+    6: "it ends before its last pixel does",
+    7: "bytes follow its last pixel",
+}
+
+
+def what_is_first_wrong_with_a_picture_is_reported():
+    for picture, number in (
+            (b"", 1),
+            (b"P5\n1 1\n255\n\0", 1),
+            (b"P61 1 255\n\0\0\0", 1),
+            (b"P6", 2),
+            (b"P6\n#2 1 255\n", 2),
+            (b"P6\n2,1 255\n", 2),
+            (b"P6 0 1 255\n", 3),
+            (b"P6 4097 1 255\n", 3),
+            (b"P6 1 99999999999999999999", 3),
+            (b"P6 1 1 256\n", 4),
+            (b"P6 1 1 131071\n", 4),
+            (b"P6 1 1 255", 5),
+            (b"P6 1 1 255#\n\0\0\0", 5),
+            (b"P6 1 1 255\n\0\0", 6),
+            (b"P6 1 1 65535\n\0\0\0", 6),
+            (b"P6 1 1 255\n\0\0\0\n", 7)):
+        ends(["serve", "--port", "9", "--picture", "/dev/stdin"], picture, 1, b"",
+             f"bad picture {number}: {SENTENCES[number]}\n".encode())
+
+
+# ---- the lines of a share's owner
+
+def bad_lines(*numbers):
+    return b"".join(b"line %d: bad line\n" % number for number in numbers)
+
+
+def an_owners_line_says_what_its_words_say():
+    words = ["share", "--port", str(free_port())]
+    ends(words, b"screen 8 8\nfill 1 2 3 4 FF8000\nfill 1 2 3 4 ffff80800000\ncopy 1 2 3 4 5 4\n"
+         b"hint 1 2 3 4 0 4\nscroll 1 2 3 4 -32767 8\nend 7\nquit\n", 0)
+    ends(words, b"screen 4097 1\nscreen 0 1\nscreen 4096 1\nquit\n", 0, b"", bad_lines(1, 2))
+    bad = (b"fill 1 2 3 4", b"fill 1 2 3 4 FF800", b"fill 1 2 3 4 FF8000 ", b" fill 1 2 3 4 FF8000",
+           b"copy 1 2 3 4 5 65536", b"copy 1 2 3 4 5 65535", b"scroll 1 2 3 4 +1 0",
+           b"scroll 1 2 3 4 -32768 0", b"scroll 1 2 3 4 0 32768", b"pixels 1 2 3", b"end 70",
+           b"Quit")
+    ends(words, b"screen 8 8\n" + b"\n".join(bad) + b"\nquit\n", 0, b"",
+         bad_lines(*range(2, 2 + len(bad))))
+    # Six bytes of pixels are newlines; one line stands in the wrong place, one is too long, pixels
+    # leave the screen, and others have one byte too many.
+    ends(words, b"fill 0 0 1 1 000000\nscreen 2 1\n\npixels 0 0 2 1\n\n\n\n\n\n\n\nscreen 2 1\n"
+         + b"x" * 97 + b"\npixels 1 0 2 1\nabcdef\npixels 0 0 1 1\nabcd\nquit\npixels 0 0 1 1\nabc",
+         0, b"", bad_lines(1, 5, 6, 7, 8))
+
+
+# ---- files
+
+def a_file_is_written_whole_or_not_at_all():
+    with tempfile.TemporaryDirectory() as room:
+        script, picture, link = (os.path.join(room, name) for name in ("script", "picture", "link"))
+
+        def holds(path, wanted, count):
+            with open(path, "rb") as file:
+                assert file.read() == wanted, path
+            assert len(os.listdir(room)) == count, os.listdir(room)
+
+        def reads(text):
+            with open(script, "wb") as file:
+                file.write(text)
+
+        reads(SCRIPT)
+        # A new file, and then one in its place. Standard input is not looked at.
+        for words in (["script", "-i", script, "-o", picture],
+                      ["loop", "--output=" + picture, "-i" + script]):
+            ends(words, b"settle\n", 0)
+            holds(picture, FILLED, 2)
+        # Where it fails, what was there stays.
+        reads(b"screen 2 1\n")
+        ends(["script", "-i", script, "-o", picture], b"", 1, b"", b"fault 25 NotReady\n")
+        holds(picture, FILLED, 2)
+        # What a link leads to is written.
+        os.symlink(picture, link)
+        reads(b"screen 1 1\nsettle\n")
+        ends(["script", "--input", script, "-o=" + link], b"", 0)
+        assert os.path.islink(link)
+        holds(picture, b"P6\n1 1\n65535\n" + bytes(6), 3)
+        # A line is no name of standard output.
+        Run(["script", "--output", "-"], SCRIPT, room=room).ends(0, b"", b"")
+        holds(os.path.join(room, "-"), FILLED, 4)
+
+
+def a_file_that_cannot_be_had_is_a_fault_of_a_device():
+    for words in (["script", "-i", "/no/such/file"], ["play", "-i", "/"],
+                  ["script", "-o", "/no/such/file"], ["script", "-o", "/"],
+                  ["script", "-o", "/dev/full"], ["script", "-o", ""]):
+        ends(words, SCRIPT, 1, b"", DEVICE)
+
+
+# ---- streams that fail
+
+def limited(kind, count):
+    """Limits what a run may have. A write past the limit of a file is an error and no signal."""
+    def before():
+        signal.signal(signal.SIGXFSZ, signal.SIG_IGN)
+        resource.setrlimit(kind, (count, count))
+    return before
+
+
+def an_output_that_fails_is_reported_after_the_refusals():
+    refusals = b"line 2: refused 25 NotReady\nline 4: refused 24 Outside\n"
+    for words, given, told, whole, rooms in (
+            (["script"], b"screen 64 64\nrequest full 0 0 1 1\nsettle\nfill 64 0 1 1 FF8001\n",
+             refusals, b"P6\n64 64\n65535\n" + bytes(24576), (0, 5, 8192, 24590)),
+            (["loop"], SCRIPT, b"", FILLED, (0, 5, 24)),
+            (["play"], SERVER, b"", SHOWN, (0, 5, 24)),
+            (["--help"], b"", b"", None, (0, 5))):
+        for room in rooms:
+            here, there = os.pipe()
+            run = Run(words, given, errors=there, before=limited(resource.RLIMIT_FSIZE, room))
+            run.ends(1, whole and whole[:room])
+            os.close(there)
+            with open(here, "rb") as errors:
+                assert errors.read() == told + DEVICE, (words, room)
+            assert len(run.told(1)) == room, (words, room, len(run.told(1)))
+
+
+def errors_that_fail_change_nothing_else():
+    with open("/dev/full", "wb") as full:
+        for words, given, status, output in (
+                (["script"], SCRIPT + b"fill 2 0 1 1 000000", 0, FILLED),
+                (["script"], b"screen 2 1\nfill 2 0 1 1 000000\n", 1, b""),
+                (["script"], b"screen 2 1\npaint\n", 1, b""),
+                (["paint"], b"", 2, b"")):
+            Run(words, given, errors=full).ends(status, output)
+
+
+def each_refusal_is_one_write():
+    here, there = socket.socketpair(socket.AF_UNIX, socket.SOCK_SEQPACKET)
+    with here, there:
+        Run(["script"], b"screen 2 1\nfill 2 0 1 1 000000\nrequest full 0 0 1 1\nsettle\n"
+            b"request full 0 0 0 1\n", errors=there).ends(0)
+        there.close()
+        writes = list(iter(lambda: here.recv(65536), b""))
+    assert writes == [b"line 2: refused 24 Outside\n", b"line 3: refused 25 NotReady\n",
+                      b"line 5: refused 27 AreaOutside\n"], writes
+
+
+# ---- servers that are viewed
+
+class Server:
+    """Listens on an address, sends the bytes to whom comes first, and ends writing."""
+
+    def __init__(self, sent=SERVER, host="127.0.0.1", port=0, late=0):
+        self.port = port or free_port(host)
+        self.came = b""
+        self.listener = socket.socket()
+        self.listener.setsockopt(socket.SOL_SOCKET, socket.SO_REUSEADDR, 1)
+        self.listener.bind((host, self.port))
+        self.listener.settimeout(20)
+        if not late:
+            self.listener.listen()
+        self.thread = threading.Thread(target=self.serve, args=(sent, late), daemon=True)
+        self.thread.start()
+
+    def serve(self, sent, late):
+        if late:
+            time.sleep(late)
+            self.listener.listen()
+        try:
+            with self.listener, self.listener.accept()[0] as line:
+                line.settimeout(20)
+                line.sendall(sent)
+                line.shutdown(socket.SHUT_WR)
+                self.came = b"".join(iter(lambda: line.recv(65536), b""))
+        except OSError:
+            # Nobody has come, or who came has gone without a word.
+            pass
+
+    def shows(self, words, status=0, output=SHOWN, errors=b""):
+        """Views it with these words, and returns what the viewer sent."""
+        ends(["view", *words], b"", status, output, errors)
+        self.thread.join(20)
+        return self.came
+
+
+def a_server_is_named_by_a_word_or_by_its_host_and_its_port():
+    for words, port in (
+            ([OTHER], 5900),
+            ([OTHER + ":0"], 5900),
+            ([OTHER + ":99"], 5999),
+            ([OTHER + "::65535"], 65535),
+            (["--host", OTHER], 5900)):
+        Server(host=OTHER, port=port).shows(words)
+    server = Server(host=OTHER)
+    server.shows(["--host=" + OTHER, f"--port={server.port}"])
+    server = Server()
+    server.shows([f"::{server.port}"])
+    server = Server()
+    server.shows(["--port", str(server.port)])
+    for display in range(10, 100):
+        try:
+            server = Server(port=5900 + display)
+        except OSError:
+            continue
+        server.shows([f":{display}"])
+        break
+
+
+def a_view_asks_for_what_its_words_say():
+    """A version, None, a shared screen, a format, encodings, and a request for both places."""
+    hello, request = CLIENT[:14], CLIENT[14:]
+    rgb888 = bytes.fromhex("00000000 20180001 00FF00FF00FF 100800 000000")
+    bgr233 = bytes.fromhex("00000000 08080001 000700070003 000306 000000")
+    server = Server()
+    raw = bytes.fromhex("02000001 00000000")
+    came = server.shows(["--port", str(server.port)])
+    assert came == hello + rgb888 + raw + request, came
+    server = Server(HELLO)
+    words = [f"--port={server.port}", "--host", "localhost", "--updates=4294967295", "--format",
+             "bgr233", "--encodings", "hextile,raw,hextile,copyrect", "--record", "--partial",
+             "--timeout=4294967295"]
+    four = bytes.fromhex("02000004 00000005 00000000 00000005 00000001")
+    came = server.shows(words, 1, HELLO, TRUNCATED)
+    assert came == hello + bgr233 + four + request, came
+
+
+def a_view_that_is_cut_short_shows_nothing():
+    for count in 0, 45, 68:
+        server = Server(SERVER[:count])
+        server.shows(["--port", str(server.port)], 1, b"", TRUNCATED)
+        server = Server(SERVER[:count])
+        server.shows(["--port", str(server.port), "--record"], 1, SERVER[:count], TRUNCATED)
+    for count, shown in (len(SERVER), SHOWN), (40, b""):
+        server = Server(SERVER[:count])
+        words = ["--port", str(server.port), "--updates", "2", "--partial"]
+        server.shows(words, 1, shown, TRUNCATED)
+
+
+def a_refused_connection_is_tried_again():
+    server = Server(late=1)
+    server.shows(["--port", str(server.port), "--timeout", "5"])
+
+
+# ---- viewers that are served
+
+def connected(port, host="127.0.0.1"):
+    """A connection to a server, which may not listen yet."""
+    for _ in range(1000):
+        try:
+            return socket.create_connection((host, port), 20)
+        except ConnectionRefusedError:
+            time.sleep(0.01)
+    raise AssertionError(f"nothing listens on {host}, port {port}")
+
+
+def size_shown(port, host="127.0.0.1"):
+    """The size of the screen that a viewer is shown there."""
+    with connected(port, host) as line:
+        line.sendall(CLIENT[:14])
+        came = b""
+        while len(came) < 22:
+            part = line.recv(65536)
+            assert part, came
+            came += part
+    return int.from_bytes(came[18:20], "big"), int.from_bytes(came[20:22], "big")
+
+
+def a_screen_has_the_sides_that_are_given():
+    for more, size, goes_on in (
+            ([], (64, 64), False),
+            (["--width", "1"], (1, 64), False),
+            (["--width=4096", "--height=1"], (4096, 1), False),
+            (["--height", "4096"], (64, 4096), False),
+            (["--connections=65535"], (64, 64), True),
+            (["--forever"], (64, 64), True)):
+        port = free_port()
+        run = Run(["serve", f"--port={port}", *more])
+        assert size_shown(port) == size, more
+        if goes_on:
+            assert size_shown(port) == size, more
+        else:
+            run.ends(0, b"ok 0\n", b"")
+    run = Run(["serve", "--port", "65535", "--timeout=7", "--listen=" + OTHER])
+    assert size_shown(65535, OTHER) == (64, 64)
+    run.ends(0, b"ok 0\n", b"")
+
+
+def is_listened_on(host, port):
+    with socket.socket() as probe:
+        return probe.connect_ex((host, port)) == 0
+
+
+def what_is_listened_on_is_what_is_named():
+    hosts = "127.0.0.1", OTHER
+    for words, where in (
+            ([], [True, False]),
+            (["--listen", OTHER], [False, True]),
+            (["--listen=0.0.0.0"], [True, True])):
+        port = free_port()
+        Run(["serve", "--port", str(port), "--forever", *words])
+        connected(port, hosts[where.index(True)]).close()
+        assert [is_listened_on(host, port) for host in hosts] == where, words
+
+
+def each_line_of_serve_is_of_a_connection_of_its_own():
+    port = free_port()
+    run = Run(["serve", "--explain", "--port", str(port), "--width", "2", "--height", "1",
+               "--connections", "3"])
+    told = b""
+    for turn in 1, 2, 3:
+        with connected(port) as line:
+            line.sendall(CLIENT)
+            line.shutdown(socket.SHUT_WR)
+            assert b"".join(iter(lambda: line.recv(65536), b"")) == SERVER
+            own = b"rfb: 127.0.0.1:%d has " % line.getsockname()[1]
+        told += own + b"connected\n" + own + b"left; updates sent: 1, in all so far: %d\n" % turn
+    run.ends(0, b"ok 1\n" * 3)
+    assert run.told(2).split(b"\n", 1)[1] == told, run.told(2)
+    # With no descriptor to be had no connection is accepted.
+    run = Run(["serve", "--explain", "--port", str(free_port()), "--connections", "3"],
+              before=limited(resource.RLIMIT_NOFILE, 4))
+    run.ends(0, DEVICE * 3)
+    assert run.told(2).split(b"\n", 1)[1] == b"rfb: a connection could not be accepted\n" * 3
+
+
+def a_viewer_that_sends_nothing_in_time_is_let_go():
+    port = free_port()
+    run = Run(["serve", "--port", str(port), "--timeout", "1"])
+    with connected(port):
+        run.ends(0, DEVICE, b"")
+
+
+def a_port_in_use_is_reported_with_the_systems_words():
+    with socket.socket() as taken:
+        taken.bind(("127.0.0.1", 0))
+        taken.listen()
+        port = taken.getsockname()[1]
+        ends(["serve", "--explain", "--port", str(port)], b"", 1, b"",
+             b"rfb: cannot listen on 127.0.0.1:%d: Address already in use (os error 98)\n" % port
+             + DEVICE)
+
+
+ROWS = [
+    words_that_there_are_not,
+    help_is_printed_once,
+    a_recording_is_played_up_to_a_number_of_updates,
+    what_came_by_an_early_end_is_shown_if_it_is_wanted,
+    a_bad_recording_is_explained,
+    what_is_first_wrong_with_a_picture_is_reported,
+    an_owners_line_says_what_its_words_say,
+    a_file_is_written_whole_or_not_at_all,
+    a_file_that_cannot_be_had_is_a_fault_of_a_device,
+    an_output_that_fails_is_reported_after_the_refusals,
+    errors_that_fail_change_nothing_else,
+    each_refusal_is_one_write,
+    a_server_is_named_by_a_word_or_by_its_host_and_its_port,
+    a_view_asks_for_what_its_words_say,
+    a_view_that_is_cut_short_shows_nothing,
+    a_refused_connection_is_tried_again,
+    a_screen_has_the_sides_that_are_given,
+    what_is_listened_on_is_what_is_named,
+    each_line_of_serve_is_of_a_connection_of_its_own,
+    a_viewer_that_sends_nothing_in_time_is_let_go,
+    a_port_in_use_is_reported_with_the_systems_words,
+]
+
+
+def main(programs):
+    global PROGRAM
+    passed = failed = 0
+    for PROGRAM in map(os.path.abspath, programs):
+        for row in ROWS:
+            try:
+                row()
+                passed += 1
+            except Exception:
+                failed += 1
+                print(f"{os.path.basename(PROGRAM)}, {row.__name__}:")
+                traceback.print_exc(limit=-2, file=sys.stdout)
+            while Run.begun:
+                Run.begun.pop().stops()
+    print(f"{passed} passed, {failed} failed")
+    return failed != 0 or passed == 0
+
+
+if __name__ == "__main__":
+    sys.exit(main(sys.argv[1:]))
