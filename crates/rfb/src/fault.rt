@@ -13,7 +13,7 @@ use std::io::ErrorKind;
 use thiserror::Error;
 
 /// Why the program stops before its work is done.
-#[derive(Clone, Copy, Debug, PartialEq, Eq, Error)]
+#[derive(Clone, Copy, Debug, Error)]
 pub enum Fault {
     /// There is no picture to write.
     #[error("25 NotReady")]
@@ -66,7 +66,7 @@ impl From<io::Error> for Fault {
 }
 
 /// Why a command ends with status 1. Its text is the command's last line on standard error.
-#[derive(Clone, Copy, Debug, PartialEq, Eq, Error)]
+#[derive(Clone, Copy, Debug, Error)]
 pub enum Failure {
     /// The first bad line of a script, counted from 1. Nothing was run.
     #[error("line {0}: bad line")]

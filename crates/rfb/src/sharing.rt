@@ -24,7 +24,7 @@ use std::net::{Net, OpenListener, TcpListener};
 const READ_AT_ONCE: usize = 4096;
 
 /// What `share` is asked for.
-#[derive(Clone, Copy, Debug, PartialEq, Eq)]
+#[derive(Clone, Copy)]
 pub struct ShareOptions<'a> {
     /// The address and the port to listen on.
     pub listen: &'a str,

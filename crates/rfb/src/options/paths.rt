@@ -11,7 +11,7 @@ use clap::{Arg, ArgMatches, Command};
 use std::alloc::{AllocError, Global};
 
 /// The files that a command reads and writes.
-#[derive(Clone, Copy, PartialEq, Eq)]
+#[derive(Clone, Copy)]
 pub struct Paths<'a> {
     /// What is read, if it is not standard input.
     pub input: Option<&'a str>,

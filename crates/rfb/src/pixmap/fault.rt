@@ -8,7 +8,7 @@ use std::io;
 use thiserror::Error;
 
 /// The first thing that is wrong with a file.
-#[derive(Clone, Copy, Debug, PartialEq, Eq, Error)]
+#[derive(Clone, Copy, Debug, Error)]
 pub enum Flaw {
     /// It does not begin with `P6`, or a digit follows.
     #[error("1: it does not begin with P6")]

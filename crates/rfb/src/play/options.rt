@@ -6,7 +6,7 @@ ghost use Rattle.std.proofs.Props.{props};
 use rfb_pixel::Format;
 
 /// What `play` is asked for: in which format a recording is played, and how much of it.
-#[derive(Clone, Copy, Debug, PartialEq, Eq)]
+#[derive(Clone, Copy)]
 pub struct PlayOptions {
     pub format: Format,
     /// It ends after this number of updates. Without a number, or where the recording has fewer, it

@@ -9,7 +9,7 @@ use rfb_session::Event;
 use rfb_wire::Encoding;
 
 /// The size of the screen in places, each side from 1 to 4,096.
-#[derive(Clone, Copy, Debug, PartialEq, Eq)]
+#[derive(Clone, Copy)]
 pub struct Screen {
     pub width: u16,
     pub height: u16,
@@ -19,7 +19,7 @@ pub struct Screen {
 
 /// What the viewer asks the server for, once both are ready: pixels of a format, in one of these
 /// encodings, the best first.
-#[derive(Debug, PartialEq, Eq, Drop)]
+#[derive(Drop)]
 pub struct Wants {
     pub format: Format,
     pub encodings: ArrayVec<Encoding, 4>,

@@ -3,7 +3,7 @@
 use crate::script::Screen;
 
 /// What `serve` is asked for.
-#[derive(Clone, Copy, Debug, PartialEq, Eq)]
+#[derive(Clone, Copy)]
 pub struct ServeOptions<'a> {
     pub port: u16,
     /// The address that is listened on, or its name.
@@ -16,7 +16,7 @@ pub struct ServeOptions<'a> {
 }
 
 /// What is shown at first.
-#[derive(Clone, Copy, Debug, PartialEq, Eq)]
+#[derive(Clone, Copy)]
 pub enum ScreenChoice<'a> {
     /// The test scene, on a screen of this size.
     Scene(Screen),

@@ -5,7 +5,7 @@ use rfb_picture::Rect;
 use rfb_pixel::Colour;
 
 /// What one line says, by itself.
-#[derive(Clone, Copy, PartialEq, Eq)]
+#[derive(Clone, Copy)]
 pub enum OwnerLine {
     /// The size of the screen: the first line that is not empty.
     Screen(Screen),

@@ -5,7 +5,7 @@ ghost use Rattle.std.specs.Prelude.{◌≤◌};
 use crate::script::Wants;
 
 /// What `view` is asked for: a server, and what to see of it.
-#[derive(Debug, PartialEq, Eq, Drop)]
+#[derive(Drop)]
 pub struct ViewOptions<'a> {
     /// A name or an address.
     pub host: &'a str,
@@ -16,7 +16,7 @@ pub struct ViewOptions<'a> {
 }
 
 /// What is to be seen of a server.
-#[derive(Debug, PartialEq, Eq, Drop)]
+#[derive(Drop)]
 pub struct Sight {
     pub wants: Wants,
     /// It ends after this number of updates.
