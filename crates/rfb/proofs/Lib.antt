@@ -18,6 +18,7 @@ pub mod SceneLemmas
 pub mod ScriptLemmas
 pub mod ServingLemmas
 pub mod ThroughLemmas
+pub mod UsageLemmas
 pub mod ViewingLemmas
 pub mod WordLemmas
 pub mod LinesLemmas

@@ -1,5 +1,6 @@
 -- The words of the command line, one by one and by command.
 pub mod Rules
+pub mod Usage
 pub mod Program
 pub mod Values
 pub mod Serving

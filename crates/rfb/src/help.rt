@@ -14,7 +14,37 @@ terminal they do by themselves.
 
 `rfb help faults` has refusals and faults by number, docs/PROTOCOL.md the language of scripts.";
 
-pub const LANGUAGE: &str = "\
+/// What stands below the words of a command in its help.
+pub enum Topic {
+    /// The language of scripts.
+    Language,
+    /// What `loop` does with it.
+    Loopback,
+    /// What a recording is.
+    Recordings,
+    /// What viewers are served.
+    Viewers,
+    /// What servers are asked for.
+    Servers,
+    /// The lines of a share's owner, and those that it gets.
+    Owners,
+}
+
+impl Topic {
+    /// Its text.
+    pub fn text(&self) -> &'static str {
+        match self {
+            Topic::Language => LANGUAGE,
+            Topic::Loopback => LOOPBACK,
+            Topic::Recordings => RECORDINGS,
+            Topic::Viewers => VIEWERS,
+            Topic::Servers => SERVERS,
+            Topic::Owners => OWNERS,
+        }
+    }
+}
+
+const LANGUAGE: &str = "\
 A script has a line for each step. One space parts two words:
   screen W H                  first: the size of the screen, 1 to 4096 pixels a side
   viewer F E..                second, or not at all: the format and the encodings that it takes
@@ -42,7 +72,7 @@ docs/PROTOCOL.md has the language of scripts, with all that is bad in it.
 Example:
   rfb script < examples/first.script > picture.ppm";
 
-pub const LOOPBACK: &str = "\
+const LOOPBACK: &str = "\
 Both ends are in this process, and talk over a connection of 127.0.0.1. At each delivery at most
 4096 bytes are written before the other end reads them. What is printed is what `script` prints.
 There is no hub here. `rfb help script` and docs/PROTOCOL.md have the language of scripts.
@@ -50,7 +80,7 @@ There is no hub here. `rfb help script` and docs/PROTOCOL.md have the language o
 Example:
   rfb loop < examples/first.script > picture.ppm";
 
-pub const RECORDINGS: &str = "\
+const RECORDINGS: &str = "\
 A recording is all that a server sent, from its greeting to the end of a message. What a viewer
 would answer is dropped. With --updates the picture is the one right after that update, and what
 comes later is not looked at; a recording of fewer updates is played whole.
@@ -60,7 +90,7 @@ Examples:
   rfb play --format rgb565 < server.rfb > picture.ppm
   rfb play --updates 2 -i server.rfb -o picture.ppm";
 
-pub const VIEWERS: &str = "\
+const VIEWERS: &str = "\
 Each connection has a fresh screen, with a test picture or the one of --picture. After each update
 the test picture scrolls up by a row. The other one stays as it is: once a viewer has it, a request
 for what has changed is not answered. As soon as a connection ends, a line on standard output says
@@ -77,7 +107,7 @@ Examples, with a viewer of TigerVNC:
   vncviewer 127.0.0.1::5950
   rfb serve --port 5950 --picture status.ppm --forever";
 
-pub const SERVERS: &str = "\
+const SERVERS: &str = "\
 A viewer asks for the whole screen and then, after each update, for what changed, until it has the
 updates that --updates asks for. A server sends none while nothing changes. Then the picture is
 written. With --record standard output gets in its place what the server sent up to there, as it
@@ -92,7 +122,7 @@ Examples:
   rfb view --host example.org --port 5900 --encodings hextile,copyrect --updates 3 > picture.ppm
   rfb view --port 5901 --record > server.rfb";
 
-pub const OWNERS: &str = "\
+const OWNERS: &str = "\
 Standard input has a line for each thing that is drawn. One space parts two words:
   screen W H                  first: the size of the screen, 1 to 4096 pixels a side
   fill X Y W H RRGGBB         a rectangle gets a colour; twelve digits are four for each component

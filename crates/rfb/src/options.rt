@@ -7,24 +7,26 @@ mod paths;
 mod replaying;
 mod serving;
 mod sharing;
+mod usage;
 mod words;
 
 ghost use Rattle.std.specs.Prelude.{◌≡◌, map, Some, IfOk, MatchResult};
-ghost use Rattle.clap.specs.Words.{FailsBy, fault_of, found_of, rows_of, shape_of, subcommand_rows_of};
-ghost use Rattle.clap.specs.Simple.{app_of, with_subcommand};
+ghost use Rattle.clap.specs.Words.{FailsBy, fault_of, found_of, rows_of, subcommand_rows_of};
+ghost use Rattle.clap.specs.Simple.{app_of};
 ghost use Rattle.rfb.specs.command.Values.{GivesFiles};
 ghost use Rattle.rfb.specs.Options.{AreOrdered, AreWrong, IsOrder, IsWrongValue};
-ghost use Rattle.rfb.specs.command.Program.{asked};
 ghost use Rattle.rfb.specs.Options.{HasBadValue, IsTask};
-ghost use Rattle.rfb.specs.command.Program.{loop_shape, program, script_shape, serve_shape, top, view_shape};
+ghost use Rattle.rfb.specs.command.Program.{asked, program};
 
-use crate::help::{LANGUAGE, LOOPBACK, STATUSES, VERSION};
-use crate::options::looking::{view_options_in, view_words};
+use crate::help::{STATUSES, Topic, VERSION};
+use crate::options::looking::{VIEW, view_options_in};
 pub use crate::options::paths::Paths;
-use crate::options::paths::{paths_in, with_paths};
-use crate::options::replaying::{play_options_in, play_words};
-use crate::options::serving::{serve_options_in, serve_words};
-use crate::options::sharing::{share_options_in, share_words};
+use crate::options::paths::paths_in;
+use crate::options::replaying::{PLAY, play_options_in};
+use crate::options::serving::{SERVE, serve_options_in};
+use crate::options::sharing::{SHARE, share_options_in};
+use crate::options::usage::{Usage, with_commands};
+use crate::options::words::{INPUT, OUTPUT};
 use crate::play::PlayOptions;
 use crate::serving::ServeOptions;
 use crate::sharing::ShareOptions;
@@ -32,6 +34,23 @@ use crate::viewing::ViewOptions;
 use clap::{ArgMatches, Command, Error};
 use std::alloc::{AllocError, Global};
 use std::convert::AsStr;
+
+// The commands.
+const COMMANDS: &[Usage<'static>] = &[SCRIPT, LOOP, PLAY, SERVE, VIEW, SHARE];
+
+const SCRIPT: Usage<'static> = Usage {
+    name: "script",
+    about: "Runs a script from standard input, and writes the viewer's picture as PPM",
+    topic: Topic::Language,
+    words: &[INPUT, OUTPUT],
+};
+
+const LOOP: Usage<'static> = Usage {
+    name: "loop",
+    about: "Runs a script as `script` does, and delivers its bytes through a connection",
+    topic: Topic::Loopback,
+    words: &[INPUT, OUTPUT],
+};
 
 /// What the words ask for.
 #[derive(Drop)]
@@ -116,66 +135,16 @@ fn parse<'a, S: AsStr>(alloc: Global, words: &'a [S]) -> Result<ArgMatches<'a>, 
     commands(alloc)?.try_get_matches_from(words)
 }
 
-// The commands that there are. Each function here adds two at most: with all of them in one, its
-// proof would be long.
+// The program, with the commands that there are.
 fn commands<'a>(alloc: Global) -> Result<Command<'a>, AllocError>
     ensures { IfOk result (λ command. app_of command ≡ program) }
 {
-    let scripts = with_scripts(alloc, program_words(alloc))?;
-    let recordings = scripts.subcommand(play_words(alloc)?)?;
-    let peers = with_peers(alloc, recordings)?;
-    peers.subcommand(share_words(alloc)?)
-}
-
-// The program, with no command yet.
-fn program_words<'a>(alloc: Global) -> Command<'a>
-    ensures { app_of result ≡ top }
-{
-    Command::new(alloc, "rfb")
+    let program = Command::new(alloc, "rfb")
         .version(VERSION)
         .about("Both ends of the Remote Framebuffer protocol")
         .after_help(STATUSES)
-        .subcommand_required(true)
-}
-
-// Adds the commands that run scripts.
-fn with_scripts<'a>(alloc: Global, command: Command<'a>) -> Result<Command<'a>, AllocError>
-    ensures { IfOk result (λ more. app_of more
-        ≡ with_subcommand (with_subcommand (app_of command.entry) script_shape) loop_shape) }
-{
-    command
-        .subcommand(script_words(alloc)?)?
-        .subcommand(loop_words(alloc)?)
-}
-
-// Adds the commands that are one end, with a peer of another process.
-fn with_peers<'a>(alloc: Global, command: Command<'a>) -> Result<Command<'a>, AllocError>
-    ensures { IfOk result (λ more. app_of more
-        ≡ with_subcommand (with_subcommand (app_of command.entry) serve_shape) view_shape) }
-{
-    command
-        .subcommand(serve_words(alloc)?)?
-        .subcommand(view_words(alloc)?)
-}
-
-// The words of `script`.
-fn script_words<'a>(alloc: Global) -> Result<Command<'a>, AllocError>
-    ensures { IfOk result (λ command. shape_of command ≡ script_shape) }
-{
-    let command = Command::new(alloc, "script")
-        .about("Runs a script from standard input, and writes the viewer's picture as PPM")
-        .after_help(LANGUAGE);
-    with_paths(alloc, command)
-}
-
-// The words of `loop`.
-fn loop_words<'a>(alloc: Global) -> Result<Command<'a>, AllocError>
-    ensures { IfOk result (λ command. shape_of command ≡ loop_shape) }
-{
-    let command = Command::new(alloc, "loop")
-        .about("Runs a script as `script` does, and delivers its bytes through a connection")
-        .after_help(LOOPBACK);
-    with_paths(alloc, command)
+        .subcommand_required(true);
+    with_commands(alloc, program, COMMANDS)
 }
 
 // What the words ask for, once they are parsed.

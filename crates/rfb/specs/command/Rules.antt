@@ -3,7 +3,6 @@ use Rattle.std.specs.Prelude.{ℕ, pos, true, [], ◌∷◌, Some, codes}
 use Rattle.clap.specs.declared.builder.action.ArgAction.TheVariants.{SetTrue}
 use Rattle.clap.specs.declared.builder.value_parser.ValueParser.TheVariants.{Signed}
 use Rattle.clap.specs.Words.{Rule, Text, new_rule}
-use Rattle.rfb_pixel.specs.Format.{rgb888}
 
 -- any word, or else this one
 abbrev pub word_rule : Text → Text → Rule

@@ -1,17 +1,15 @@
 //! The server that `view` is asked for.
 
-ghost use Rattle.std.specs.Prelude.{◌≡◌, codes, ℕ, List, false, option_map, MatchOption, MatchResult};
-ghost use Rattle.clap.specs.Words.{found_of, rows_of, rule_of};
+ghost use Rattle.std.specs.Prelude.{codes, ℕ, List, option_map, MatchOption, MatchResult};
+ghost use Rattle.clap.specs.Words.{found_of, rows_of};
 ghost use Rattle.rfb.specs.Address.{GivesServer, IsAddress, NamesDisplay, NamesPort, OrLoopback};
 ghost use Rattle.rfb.specs.command.Values.{MayGiveNumber};
 ghost use Rattle.rfb.specs.command.Looking.{GivesAddress, HasBadAddress};
-ghost use Rattle.rfb.specs.command.Rules.{any_port_rule, host_rule, server_rule};
 
 use crate::options::BadValue;
-use crate::options::words::number_word;
+use crate::options::usage::{Mark, Takes, Word};
 use crate::script::read_number;
-use clap::{Arg, ArgMatches};
-use std::alloc::Global;
+use clap::ArgMatches;
 
 const LOOPBACK: &str = "127.0.0.1";
 
@@ -27,33 +25,29 @@ pub struct Address<'a> {
     pub port: u16,
 }
 
-/// The word of a server, which has no option before it.
-pub fn server_word<'a>(alloc: Global) -> Arg<'a>
-    ensures rule { rule_of result ≡ server_rule }
-    ensures local { result.global ≡ false }
-{
-    Arg::new(alloc, "server").value_name("SERVER").help(
-        "HOST, HOST:DISPLAY or HOST::PORT; display N is at port 5900 + N, HOST alone at 5900",
-    )
-}
+/// A server, by a word that stands alone.
+pub const SERVER: Word<'static> = Word {
+    name: "server",
+    mark: Mark::Alone,
+    takes: Takes::Text("SERVER"),
+    help: "HOST, HOST:DISPLAY or HOST::PORT; display N is at port 5900 + N, HOST alone at 5900",
+};
 
-/// The word of a host.
-pub fn host_word<'a>(alloc: Global) -> Arg<'a>
-    ensures rule { rule_of result ≡ host_rule }
-    ensures local { result.global ≡ false }
-{
-    Arg::new(alloc, "host").long("host").value_name("H").help(
-        "The name or the address of the server, 127.0.0.1 without it",
-    )
-}
+/// A host.
+pub const HOST: Word<'static> = Word {
+    name: "host",
+    mark: Mark::Long,
+    takes: Takes::Text("H"),
+    help: "The name or the address of the server, 127.0.0.1 without it",
+};
 
-/// The word of a port that may be left out.
-pub fn any_port_word<'a>(alloc: Global) -> Arg<'a>
-    ensures rule { rule_of result ≡ any_port_rule }
-    ensures local { result.global ≡ false }
-{
-    number_word(alloc, "port", "P", "The port, 1 to 65535; 5900 without it")
-}
+/// A port that may be left out.
+pub const ANY_PORT: Word<'static> = Word {
+    name: "port",
+    mark: Mark::Long,
+    takes: Takes::Small("P", u16::MAX),
+    help: "The port, 1 to 65535; 5900 without it",
+};
 
 /// The server that is given: by a word, or by its host, its port or both, and never by both ways.
 pub fn address_in<'a>(given: &ArgMatches<'a>) -> Result<Address<'a>, BadValue<'a>>

@@ -1,126 +1,63 @@
 //! The words of `view`.
 
-ghost use Rattle.std.specs.Prelude.{◌≡◌, ◌≤◌, false, codes, List, IfOk, MatchResult};
-ghost use Rattle.clap.specs.Words.{found_of, rows_of, rule_of, shape_of};
-ghost use Rattle.clap.specs.Simple.{app_of, with_rule};
+ghost use Rattle.std.specs.Prelude.{◌≤◌, codes, List, MatchResult};
+ghost use Rattle.clap.specs.Words.{found_of, rows_of};
 ghost use Rattle.rfb_wire.specs.declared.encoding.Encoding.{Encoding};
-ghost use Rattle.rfb.specs.command.Rules.{any_port_rule, host_rule, server_rule};
-ghost use Rattle.rfb.specs.command.Program.{view_shape};
-ghost use Rattle.rfb.specs.command.Rules.{encodings_rule, format_rule, output_rule, partial_rule, record_rule, timeout_rule, updates_rule};
 ghost use Rattle.rfb.specs.command.Values.{GivesNumber};
 ghost use Rattle.rfb.specs.command.Looking.{GivesEncodings, GivesViewOptions, GivesSight, HasBadEncodings, HasBadView, HasBadSight};
 ghost use Rattle.rfb.specs.Words.{AreEncodings, parts_of};
 
-use crate::help::SERVERS;
+use crate::help::Topic;
 use crate::options::BadValue;
-use crate::options::address::{address_in, any_port_word, host_word, server_word};
+use crate::options::address::{ANY_PORT, HOST, SERVER, address_in};
 use crate::options::given::{format_in, is_given, number_given};
-use crate::options::paths::output_word;
-use crate::options::words::{flag_word, format_word, large_number_word, partial_word, text_word};
+use crate::options::usage::{Mark, Takes, Usage, Word};
+use crate::options::words::{FORMAT, OUTPUT, PARTIAL};
 use crate::playing::only_raw;
 use crate::script::{Wants, read_list};
 use crate::viewing::{Sight, ViewOptions};
 use arrayvec::ArrayVec;
-use clap::{Arg, ArgMatches, Command};
+use clap::ArgMatches;
 use rfb_wire::Encoding;
-use std::alloc::{AllocError, Global};
 
-/// The words of `view`.
-pub fn view_words<'a>(alloc: Global) -> Result<Command<'a>, AllocError>
-    ensures { IfOk result (λ command. shape_of command ≡ view_shape) }
-{
-    let command = Command::new(alloc, "view")
-        .about("Views a server, and writes the picture that it shows as PPM")
-        .after_help(SERVERS);
-    let server = with_server(alloc, command)?.arg(updates_word(alloc))?;
-    with_patience(alloc, with_sight(alloc, server)?)
-}
-
-// Adds which server it is.
-fn with_server<'a>(alloc: Global, command: Command<'a>) -> Result<Command<'a>, AllocError>
-    ensures { IfOk result (λ more. app_of more ≡ with_rule (with_rule
-        (with_rule (app_of command.entry) server_rule) host_rule) any_port_rule) }
-{
-    command
-        .arg(server_word(alloc))?
-        .arg(host_word(alloc))?
-        .arg(any_port_word(alloc))
-}
-
-// Adds what is to be seen of the server, and how.
-fn with_sight<'a>(alloc: Global, command: Command<'a>) -> Result<Command<'a>, AllocError>
-    ensures { IfOk result (λ more. app_of more ≡ with_rule (with_rule
-        (with_rule (app_of command.entry) format_rule) encodings_rule) record_rule) }
-{
-    command
-        .arg(format_word(alloc))?
-        .arg(encodings_word(alloc))?
-        .arg(record_word(alloc))
-}
-
-// Adds how long it waits, what it writes then, and where.
-fn with_patience<'a>(alloc: Global, command: Command<'a>) -> Result<Command<'a>, AllocError>
-    ensures { IfOk result (λ more. app_of more ≡ with_rule (with_rule
-        (with_rule (app_of command.entry) timeout_rule) partial_rule) output_rule) }
-{
-    command
-        .arg(timeout_word(alloc))?
-        .arg(partial_word(alloc))?
-        .arg(output_word(alloc))
-}
-
-// The word of a time.
-fn timeout_word<'a>(alloc: Global) -> Arg<'a>
-    ensures rule { rule_of result ≡ timeout_rule }
-    ensures local { result.global ≡ false }
-{
-    large_number_word(
-        alloc,
-        "timeout",
-        "S",
-        "The seconds after which it ends, 1 to 4294967295; without it, it waits",
-    )
-}
-
-// The word of how many updates are viewed.
-fn updates_word<'a>(alloc: Global) -> Arg<'a>
-    ensures rule { rule_of result ≡ updates_rule }
-    ensures local { result.global ≡ false }
-{
-    large_number_word(
-        alloc,
-        "updates",
-        "U",
-        "How many updates are viewed, 1 to 4294967295",
-    )
-    .default_value("1")
-}
-
-// The word of a list of encodings.
-fn encodings_word<'a>(alloc: Global) -> Arg<'a>
-    ensures rule { rule_of result ≡ encodings_rule }
-    ensures local { result.global ≡ false }
-{
-    text_word(
-        alloc,
-        "encodings",
-        "E",
-        "raw",
-        "One to four of raw, copyrect, rre and hextile with commas, the best first",
-    )
-}
-
-// The word that asks for a recording.
-fn record_word<'a>(alloc: Global) -> Arg<'a>
-    ensures rule { rule_of result ≡ record_rule }
-    ensures local { result.global ≡ false }
-{
-    flag_word(
-        alloc,
-        "record",
-        "Writes the server's bytes as they come, in place of the picture",
-    )
-}
+/// What `view` is called with.
+pub const VIEW: Usage<'static> = Usage {
+    name: "view",
+    about: "Views a server, and writes the picture that it shows as PPM",
+    topic: Topic::Servers,
+    words: &[
+        SERVER,
+        HOST,
+        ANY_PORT,
+        Word {
+            name: "updates",
+            mark: Mark::Long,
+            takes: Takes::NumberOr("U", "1"),
+            help: "How many updates are viewed, 1 to 4294967295",
+        },
+        FORMAT,
+        Word {
+            name: "encodings",
+            mark: Mark::Long,
+            takes: Takes::TextOr("E", "raw"),
+            help: "One to four of raw, copyrect, rre and hextile with commas, the best first",
+        },
+        Word {
+            name: "record",
+            mark: Mark::Long,
+            takes: Takes::Nothing,
+            help: "Writes the server's bytes as they come, in place of the picture",
+        },
+        Word {
+            name: "timeout",
+            mark: Mark::Long,
+            takes: Takes::Number("S"),
+            help: "The seconds after which it ends, 1 to 4294967295; without it, it waits",
+        },
+        PARTIAL,
+        OUTPUT,
+    ],
+};
 
 /// The server that is to be viewed, and what is to be seen of it.
 pub fn view_options_in<'a>(given: &ArgMatches<'a>) -> Result<ViewOptions<'a>, BadValue<'a>>

@@ -1,46 +1,36 @@
 //! The words of `play`.
 
-ghost use Rattle.std.specs.Prelude.{◌≡◌, false, IfOk, MatchResult};
-ghost use Rattle.clap.specs.Words.{found_of, rows_of, rule_of, shape_of};
-ghost use Rattle.rfb.specs.command.Rules.{first_updates_rule};
-ghost use Rattle.rfb.specs.command.Program.{play_shape};
+ghost use Rattle.std.specs.Prelude.{MatchResult};
+ghost use Rattle.clap.specs.Words.{found_of, rows_of};
 ghost use Rattle.rfb.specs.command.Values.{HasBadFormat};
 ghost use Rattle.rfb.specs.Options.{GivesPlayOptions};
 
-use crate::help::RECORDINGS;
+use crate::help::Topic;
 use crate::options::BadValue;
 use crate::options::given::{format_in, is_given, number_given};
-use crate::options::paths::with_paths;
-use crate::options::words::{format_word, large_number_word, partial_word};
+use crate::options::usage::{Mark, Takes, Usage, Word};
+use crate::options::words::{FORMAT, INPUT, OUTPUT, PARTIAL};
 use crate::play::PlayOptions;
-use clap::{Arg, ArgMatches, Command};
-use std::alloc::{AllocError, Global};
+use clap::ArgMatches;
 
-/// The words of `play`.
-pub fn play_words<'a>(alloc: Global) -> Result<Command<'a>, AllocError>
-    ensures { IfOk result (λ command. shape_of command ≡ play_shape) }
-{
-    let command = Command::new(alloc, "play")
-        .about("Plays a server's bytes from standard input, and writes the last picture as PPM")
-        .after_help(RECORDINGS)
-        .arg(format_word(alloc))?
-        .arg(first_updates_word(alloc))?
-        .arg(partial_word(alloc))?;
-    with_paths(alloc, command)
-}
-
-// The word of how many updates are played.
-fn first_updates_word<'a>(alloc: Global) -> Arg<'a>
-    ensures rule { rule_of result ≡ first_updates_rule }
-    ensures local { result.global ≡ false }
-{
-    large_number_word(
-        alloc,
-        "updates",
-        "U",
-        "The updates after which it ends, 1 to 4294967295; without it, all are played",
-    )
-}
+/// What `play` is called with.
+pub const PLAY: Usage<'static> = Usage {
+    name: "play",
+    about: "Plays a server's bytes from standard input, and writes the last picture as PPM",
+    topic: Topic::Recordings,
+    words: &[
+        FORMAT,
+        Word {
+            name: "updates",
+            mark: Mark::Long,
+            takes: Takes::Number("U"),
+            help: "The updates after which it ends, 1 to 4294967295; without it, all are played",
+        },
+        PARTIAL,
+        INPUT,
+        OUTPUT,
+    ],
+};
 
 /// The format of a recording, and how much of it is to be played.
 pub fn play_options_in<'a>(given: &ArgMatches<'a>) -> Result<PlayOptions, BadValue<'a>>

@@ -1,95 +1,51 @@
-//! Words of which several commands have one: given or not, a text, a number.
+//! Words that several commands have.
 
-ghost use Rattle.std.specs.Prelude.{◌≡◌, false};
-ghost use Rattle.clap.specs.Words.{rule_of};
-ghost use Rattle.rfb.specs.command.Rules.{flag_rule, format_rule, number_rule, partial_rule, port_rule, word_rule};
+use crate::options::usage::{Mark, Takes, Word};
 
-use clap::{Arg, ArgAction};
-use std::alloc::Global;
+/// A port that has to be given.
+pub const PORT: Word<'static> = Word {
+    name: "port",
+    mark: Mark::Long,
+    takes: Takes::Needed("P", u16::MAX),
+    help: "The port, 1 to 65535",
+};
 
-/// A word that is given or not.
-pub fn flag_word<'a>(alloc: Global, name: &'a str, help: &'a str) -> Arg<'a>
-    ensures rule { rule_of result ≡ flag_rule name.entry.now }
-    ensures local { result.global ≡ false }
-{
-    Arg::new(alloc, name)
-        .long(name)
-        .action(ArgAction::SetTrue)
-        .help(help)
-}
+/// An address to listen on.
+pub const LISTEN: Word<'static> = Word {
+    name: "listen",
+    mark: Mark::Long,
+    takes: Takes::TextOr("ADDRESS", "127.0.0.1"),
+    help: "The address that is listened on; 0.0.0.0 is all of IPv4",
+};
 
-/// A text, or else `default`.
-pub fn text_word<'a>(
-    alloc: Global,
-    name: &'a str,
-    value: &'a str,
-    default: &'a str,
-    help: &'a str,
-) -> Arg<'a>
-    ensures rule { rule_of result ≡ word_rule name.entry.now default.entry.now }
-    ensures local { result.global ≡ false }
-{
-    Arg::new(alloc, name)
-        .long(name)
-        .value_name(value)
-        .default_value(default)
-        .help(help)
-}
+/// A format.
+pub const FORMAT: Word<'static> = Word {
+    name: "format",
+    mark: Mark::Long,
+    takes: Takes::TextOr("F", "rgb888"),
+    help: "The format of pixels, from the first update on: rgb888, rgb565, bgr233 or rgb101010",
+};
 
-/// A number from 1 to 65535.
-pub fn number_word<'a>(alloc: Global, name: &'a str, value: &'a str, help: &'a str) -> Arg<'a>
-    ensures rule { rule_of result ≡ number_rule name.entry.now 1 65535 }
-    ensures local { result.global ≡ false }
-{
-    Arg::new(alloc, name)
-        .long(name)
-        .value_name(value)
-        .value_parser(clap::value_parser!(u16).range(1..))
-        .help(help)
-}
+/// Whether what has come by an early end is wanted.
+pub const PARTIAL: Word<'static> = Word {
+    name: "partial",
+    mark: Mark::Long,
+    takes: Takes::Nothing,
+    help: "Writes the picture of what has come by an early end, too; the status is 1 then",
+};
 
-/// A number from 1 to 4294967295.
-pub fn large_number_word<'a>(alloc: Global, name: &'a str, value: &'a str, help: &'a str) -> Arg<'a>
-    ensures rule { rule_of result ≡ number_rule name.entry.now 1 4294967295 }
-    ensures local { result.global ≡ false }
-{
-    Arg::new(alloc, name)
-        .long(name)
-        .value_name(value)
-        .value_parser(clap::value_parser!(u32).range(1..))
-        .help(help)
-}
+/// The file that is read.
+pub const INPUT: Word<'static> = Word {
+    name: "input",
+    mark: Mark::LongOr('i'),
+    takes: Takes::Text("FILE"),
+    help: "Reads this file in place of standard input",
+};
 
-/// The word of a port.
-pub fn port_word<'a>(alloc: Global) -> Arg<'a>
-    ensures rule { rule_of result ≡ port_rule }
-    ensures local { result.global ≡ false }
-{
-    number_word(alloc, "port", "P", "The port, 1 to 65535").required(true)
-}
-
-/// The word of a format.
-pub fn format_word<'a>(alloc: Global) -> Arg<'a>
-    ensures rule { rule_of result ≡ format_rule }
-    ensures local { result.global ≡ false }
-{
-    text_word(
-        alloc,
-        "format",
-        "F",
-        "rgb888",
-        "The format of pixels, from the first update on: rgb888, rgb565, bgr233 or rgb101010",
-    )
-}
-
-/// The word that asks for what has come by an early end.
-pub fn partial_word<'a>(alloc: Global) -> Arg<'a>
-    ensures rule { rule_of result ≡ partial_rule }
-    ensures local { result.global ≡ false }
-{
-    flag_word(
-        alloc,
-        "partial",
-        "Writes the picture of what has come by an early end, too; the status is 1 then",
-    )
-}
+/// The file that is written.
+pub const OUTPUT: Word<'static> = Word {
+    name: "output",
+    mark: Mark::LongOr('o'),
+    takes: Takes::Text("FILE"),
+    help: "Writes this file in place of standard output, whole or not at all",
+};

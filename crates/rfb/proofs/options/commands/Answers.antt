@@ -1,22 +1,27 @@
-use Rattle.std.proofs.Common.{◌≡◌, ◌∙◌, ap, ap₂, Bool}
+use Rattle.std.proofs.Common.{◌≡◌, ◌∙◌, ap, refl, true, List, [], ◌∷◌}
 use Rattle.std.proofs.lemmas.Result.{IfOk-weaker}
-use Rattle.clap.specs.Simple.{App, Shape, app_of, with_subcommand}
-use Rattle.rfb.specs.command.Program.{loop_shape, play_shape, script_shape, serve_shape, top, view_shape}
-use Rattle.rfb.proofs.OptionLemmas.{no_globals}
+use Rattle.clap.specs.Simple.{Shape, app_of, app_of_fields, on_top}
+use Rattle.rfb.specs.command.Program.{loop_shape, play_shape, program, script_shape, serve_shape, share_shape, top, view_shape}
+use Rattle.rfb.proofs.UsageLemmas.{with_all, with_shapes}
 use Rattle.rfb.proofs.options.commands.Goals as goal
 
-abbrev is_plain : Shape → Bool
-is_plain s = s.is_plain
+abbrev versioned : Shape → Shape
+versioned s = record s { has_version = true }
 
-abbrev with_both : Shape → Shape → App → App
-with_both a b app = with_subcommand (with_subcommand app a) b
+abbrev required : Shape → Shape
+required s = record s { subcommand_required = true }
+
+abbrev shapes : List Shape
+shapes = script_shape ∷ loop_shape ∷ play_shape ∷ serve_shape ∷ view_shape ∷ share_shape ∷ []
+
+is_program : with_shapes top shapes ≡ program
+unfolding with_shapes
+is_program = refl
 
 pub returns : goal.returns
 returns c =
-    let scripts : app_of c.in_ok-scripts.scripts ≡ with_both script_shape loop_shape top =
-    c.in_ok-scripts.ensures ∙ ap (with_both script_shape loop_shape) c.program_words.ensures in
-    let recordings : app_of c.in_ok-recordings.recordings ≡ with_subcommand (with_both script_shape loop_shape top) play_shape =
-    c.in_ok-recordings.ensures.shape (no_globals _ _ _ _ (ap is_plain c.in_ok-play_words.ensures)) ∙ ap₂ with_subcommand scripts c.in_ok-play_words.ensures in
-    let peers : app_of c.in_ok-peers.peers ≡ with_both serve_shape view_shape (with_subcommand (with_both script_shape loop_shape top) play_shape) =
-    c.in_ok-peers.ensures ∙ ap (with_both serve_shape view_shape) recordings in
-    IfOk-weaker c.subcommand-2.result _ _ (λ r adds. adds.shape (no_globals _ _ _ _ (ap is_plain c.in_ok-share_words.ensures)) ∙ ap₂ with_subcommand peers c.in_ok-share_words.ensures) c.subcommand-2.ensures
+    let first : app_of c.version.result ≡ on_top versioned (app_of c.new.result) = ap app_of_fields c.version.ensures in
+    let second : app_of c.after_help.result ≡ app_of c.version.result = ap app_of_fields c.after_help.ensures ∙ ap app_of_fields c.about.ensures in
+    let third : app_of c.subcommand_required-program.result ≡ on_top required (app_of c.after_help.result) = ap app_of_fields c.subcommand_required-program.ensures in
+    let fresh : app_of c.subcommand_required-program.result ≡ top = third ∙ ap (on_top required) (second ∙ first ∙ ap (on_top versioned) c.new.ensures.app) in
+    IfOk-weaker c.with_commands.result _ _ (λ r more. with_all r _ top _ shapes more fresh refl ∙ is_program) c.with_commands.ensures
