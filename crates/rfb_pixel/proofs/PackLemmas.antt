@@ -1,7 +1,7 @@
 -- Eight colours as pixels, in any format.
-use Rattle.std.proofs.Common.{◌≡◌, ◌∙◌, ℕ, ◌<◌, zero, suc, List, [], ◌∷◌, length, map, slice_index, slice_index_or, ap, sym, refl, arith}
+use Rattle.std.proofs.Common.{◌≡◌, ◌∙◌, ℕ, ◌<◌, zero, suc, List, [], ◌∷◌, length, map, slice_index, slice_index_or, sym, refl, arith}
 use Rattle.std.proofs.lemmas.Grind.{same_number_lists}
-use Rattle.std.proofs.lemmas.List.{get_or-map, get_or_default, length-map}
+use Rattle.std.proofs.lemmas.List.{get_or-map, get_or_default, length-map, same_lists}
 use mir.Syntax.{w16}
 use mir.Val.{Fits}
 use Rattle.rfb_pixel.specs.declared.colour.Colour.{Colour}
@@ -21,16 +21,22 @@ eight_below P a b c d e f g h (suc (suc (suc (suc (suc (suc (suc zero))))))) bel
 eight_below P a b c d e f g h (suc (suc (suc (suc (suc (suc (suc (suc k)))))))) below = absurd (omega arith)
 
 -- eight colours of a row, each as a pixel
-pub eight_packed : (pixel : Colour → ℕ) (row : List Colour) (none d : Colour) → length row ≡ 8 → (k : ℕ) → k < 8 →
-    slice_index (map pixel (slice_index_or row 0 none ∷ slice_index_or row 1 none ∷ slice_index_or row 2 none ∷ slice_index_or row 3 none
-    ∷ slice_index_or row 4 none ∷ slice_index_or row 5 none ∷ slice_index_or row 6 none ∷ slice_index_or row 7 none ∷ [])) k
-    ≡ pixel (slice_index_or row k d)
-eight_packed pixel row none d long =
-    let at = λ (k : ℕ) (below : k < 8). ap pixel (get_or_default row k none d (omega (arith, long, below))) in
-    eight_below (λ k. slice_index (map pixel (slice_index_or row 0 none ∷ slice_index_or row 1 none ∷ slice_index_or row 2 none ∷ slice_index_or row 3 none
-    ∷ slice_index_or row 4 none ∷ slice_index_or row 5 none ∷ slice_index_or row 6 none ∷ slice_index_or row 7 none ∷ [])) k ≡ pixel (slice_index_or row k d))
-    (at 0 (omega arith)) (at 1 (omega arith)) (at 2 (omega arith)) (at 3 (omega arith))
-    (at 4 (omega arith)) (at 5 (omega arith)) (at 6 (omega arith)) (at 7 (omega arith))
+pub eight_packed : (pixel : Colour → ℕ) (row : List Colour) (d : Colour) → length row ≡ 8 → (k : ℕ) → k < 8 →
+    slice_index (map pixel row) k ≡ pixel (slice_index_or row k d)
+eight_packed pixel row d long k below = get_or-map pixel row k d 0 (omega (arith, long, below))
+
+-- a row of eight is its eight colours
+pub eight_read : (row : List Colour) (none : Colour) → length row ≡ 8 →
+    slice_index_or row 0 none ∷ slice_index_or row 1 none ∷ slice_index_or row 2 none ∷ slice_index_or row 3 none
+    ∷ slice_index_or row 4 none ∷ slice_index_or row 5 none ∷ slice_index_or row 6 none ∷ slice_index_or row 7 none ∷ [] ≡ row
+eight_read row none long =
+    same_lists _ _ (sym long) (λ k d below. eight_below (λ k. slice_index_or (slice_index_or row 0 none ∷ slice_index_or row 1 none ∷ slice_index_or row 2 none ∷ slice_index_or row 3 none
+    ∷ slice_index_or row 4 none ∷ slice_index_or row 5 none ∷ slice_index_or row 6 none ∷ slice_index_or row 7 none ∷ []) k d ≡ slice_index_or row k d)
+    (at 0 d (omega arith)) (at 1 d (omega arith)) (at 2 d (omega arith)) (at 3 d (omega arith))
+    (at 4 d (omega arith)) (at 5 d (omega arith)) (at 6 d (omega arith)) (at 7 d (omega arith)) k below)
+  where
+    at : (k : ℕ) (d : Colour) → k < 8 → slice_index_or row k none ≡ slice_index_or row k d
+    at k d below = get_or_default row k none d (omega (arith, long, below))
 
 -- eight colours one by one, where a lane of each is its pixel
 pub eight_same : (lane pixel : Colour → ℕ) (a b c d e f g h : Colour) → lane a ≡ pixel a → lane b ≡ pixel b → lane c ≡ pixel c → lane d ≡ pixel d →

@@ -17,6 +17,21 @@ pub use rgb888::{pack_eight_rgb888, unpack_eight_rgb888};
 /// How many pixels are taken at once.
 pub const LANES: usize = 8;
 
+// The components of eight colours, one after another.
+#[inline(always)]
+fn read_eight(colours: &[Colour]) -> ([u16; 8], [u16; 8], [u16; 8])
+    requires { length colours.now ≡ 8 }
+    ensures { colours_in result.0 result.1 result.2 ≡ colours.now }
+{
+    let (a, b, c, d) = (colours[0], colours[1], colours[2], colours[3]);
+    let (e, f, g, h) = (colours[4], colours[5], colours[6], colours[7]);
+    (
+        [a.r, a.g, a.b, b.r, b.g, b.b, c.r, c.g],
+        [c.b, d.r, d.g, d.b, e.r, e.g, e.b, f.r],
+        [f.g, f.b, g.r, g.g, g.b, h.r, h.g, h.b],
+    )
+}
+
 // Writes the eight colours whose components stand one after another.
 #[inline(always)]
 fn write_eight(x: [u16; 8], y: [u16; 8], z: [u16; 8], colours: &mut [Colour])

@@ -7,7 +7,7 @@ ghost use Rattle.rfb_pixel.specs.Format.{AreColours, pixel_of, rgb565};
 ghost use Rattle.rfb_pixel.specs.inside.Lanes.{colours_in};
 
 use crate::colour::Colour;
-use crate::lanes::write_eight;
+use crate::lanes::{read_eight, write_eight};
 use std::simd::{u8x16, u16x8, u32x8};
 
 // What a component is multiplied by to be, in 65,536ths, a field of five or of six bits in the upper
@@ -25,11 +25,7 @@ pub fn pack_eight_rgb565(colours: &[Colour]) -> u32x8
     ensures bound { (k : ℕ) → k < 8 → slice_index result k < 2 ^ 16 }
     ensures len { length result ≡ 8 }
 {
-    let (a, b, c, d) = (colours[0], colours[1], colours[2], colours[3]);
-    let (e, f, g, h) = (colours[4], colours[5], colours[6], colours[7]);
-    let x = [a.r, a.g, a.b, b.r, b.g, b.b, c.r, c.g];
-    let y = [c.b, d.r, d.g, d.b, e.r, e.g, e.b, f.r];
-    let z = [f.g, f.b, g.r, g.g, g.b, h.r, h.g, h.b];
+    let (x, y, z) = read_eight(colours);
     pixels_of(&x, &y, &z)
 }
 

@@ -7,7 +7,7 @@ ghost use Rattle.rfb_pixel.specs.Format.{AreColours, pixel_of, rgb888};
 ghost use Rattle.rfb_pixel.specs.inside.Lanes.{colours_in};
 
 use crate::colour::Colour;
-use crate::lanes::write_eight;
+use crate::lanes::{read_eight, write_eight};
 use std::simd::{u8x16, u8x32, u16x8, u32x8};
 
 /// Writes the colours of eight pixels of rgb888. A component has its byte twice.
@@ -44,11 +44,7 @@ pub fn pack_eight_rgb888(colours: &[Colour]) -> u32x8
     ensures bound { (k : ℕ) → k < 8 → slice_index result k < 2 ^ 32 }
     ensures len { length result ≡ 8 }
 {
-    let (a, b, c, d) = (colours[0], colours[1], colours[2], colours[3]);
-    let (e, f, g, h) = (colours[4], colours[5], colours[6], colours[7]);
-    let x = [a.r, a.g, a.b, b.r, b.g, b.b, c.r, c.g];
-    let y = [c.b, d.r, d.g, d.b, e.r, e.g, e.b, f.r];
-    let z = [f.g, f.b, g.r, g.g, g.b, h.r, h.g, h.b];
+    let (x, y, z) = read_eight(colours);
     pixels_of(&x, &y, &z)
 }
 
@@ -58,7 +54,8 @@ fn pixels_of(x: &[u16], y: &[u16], z: &[u16]) -> u32x8
     requires x { length x.now ≡ 8 }
     requires y { length y.now ≡ 8 }
     requires z { length z.now ≡ 8 }
-    ensures { result ≡ map (pixel_of rgb888) (colours_in x.now y.now z.now) }
+    ensures value { result ≡ map (pixel_of rgb888) (colours_in x.now y.now z.now) }
+    ensures bound { (k : ℕ) → k < 8 → slice_index result k < 2 ^ 32 }
 {
     let x = u16x8::from_array([x[0], x[1], x[2], x[3], x[4], x[5], x[6], x[7]]).cast::<u32>();
     let y = u16x8::from_array([y[0], y[1], y[2], y[3], y[4], y[5], y[6], y[7]]).cast::<u32>();

@@ -6,8 +6,8 @@ use Rattle.rfb_pixel.proofs.Pack888Lemmas.{packed}
 use Rattle.rfb_pixel.proofs.PackLemmas.{eight_below, three_fit}
 use Rattle.rfb_pixel.proofs.lanes.rgb888.pixels_of.Goals as goal
 
-pub returns : goal.returns
-returns c =
+pub returns-clause-value : goal.returns-clause-value
+returns-clause-value c =
     let x = c.type_inv.x in
     let y = c.type_inv.y in
     let z = c.type_inv.z in
