@@ -1,26 +1,50 @@
 //! Why a line of a script is bad, for a person.
 
+mod form;
 mod hub;
 mod kind;
+mod parting;
+mod reason;
 
-use crate::explain::Escaped;
-use crate::script::cause::kind::{arguments_of, tell_arguments};
+use crate::script::cause::form::{OF_SCRIPT, form_of};
+use crate::script::cause::kind::why_not_form;
+use crate::script::cause::parting::{ends_line, parts_words};
+use crate::script::cause::reason::Reason;
+use crate::script::hub::HUB;
 use crate::script::read::SCREEN;
+use arrayvec::ArrayVec;
 pub use hub::tell_bad_hub_line;
-use std::io;
 use std::io::Write;
 
-// The word that the first line of a hub's script begins with.
-const HUB: &[u8] = b"hub";
+// Room for one word more than a line may have.
+const WORDS: usize = 9;
+
+// Which word of a line its keyword is, where nothing stands before it.
+const FIRST: &str = "first";
+
+// What is wrong with lines, where nothing of the line itself is told.
+const SPACES: &str = " has a space at an end, or two in a row: one space parts two words";
+
+const RETURN: &str = " has a carriage return: a newline alone ends a line";
+
+const TAB: &str = " has a tab: one space parts two words";
+
+const NO_SCREEN: &str = " is the last, and none says `screen W H`";
+
+const LATE_SCREEN: &str = ": `screen W H` stands first, and once";
+
+const LATE_VIEWER: &str = ": `viewer F E..` stands second, and once";
+
+const HUB_ALONE: &str = ": `hub W H`, each side 1 to 4096, stands first, with `rfb script`";
 
 /// Says why the line with this number, counted from 1, is bad.
 pub fn tell_bad_line<N: Write>(text: &[u8], number: u64, notes: &mut N) {
     let mut at = 0u64;
     let mut is_first = true;
-    for line in text.split(|byte| *byte == b'\n') {
+    for line in text.split(ends_line) {
         at = at.saturating_add(1);
         if at == number {
-            let _ = tell_line(line, number, is_first, notes);
+            tell_reason(number, why_bad(line, is_first), notes);
             return;
         }
         if !line.is_empty() {
@@ -29,33 +53,35 @@ pub fn tell_bad_line<N: Write>(text: &[u8], number: u64, notes: &mut N) {
     }
 }
 
-// The same of that line. It is the first one or not, empty ones aside.
-fn tell_line<N: Write>(line: &[u8], number: u64, is_first: bool, notes: &mut N) -> io::Result<()> {
-    write!(notes, "rfb: line {number} of the script")?;
-    if line.is_empty() {
-        return writeln!(notes, " is the last, and none says `screen W H`");
-    }
-    if tell_form(line, notes)? {
-        return Ok(());
-    }
-    tell_words(line, is_first, notes)
+// Says it of the line with this number.
+fn tell_reason<N: Write>(number: u64, reason: Reason<'_>, notes: &mut N) {
+    let _ = writeln!(notes, "rfb: line {number} of the script{reason}");
 }
 
-// Says which byte may not stand in a line, or where its spaces are wrong. It tells whether it said
-// anything.
-fn tell_form<N: Write>(line: &[u8], notes: &mut N) -> io::Result<bool> {
-    if let Some(byte) = line.iter().find(|byte| !is_of_word(**byte)) {
-        tell_byte(*byte, notes)?;
-        return Ok(true);
+// Why a line is bad. It is the first one or not, empty ones aside.
+fn why_bad(line: &[u8], is_first: bool) -> Reason<'_> {
+    if line.is_empty() {
+        return Reason::Said(NO_SCREEN);
     }
-    if line.split(|byte| *byte == b' ').any(|word| word.is_empty()) {
-        writeln!(
-            notes,
-            " has a space at an end, or two in a row: one space parts two words"
-        )?;
-        return Ok(true);
+    match why_not_words(line) {
+        Some(reason) => reason,
+        None => why_no_line(line, is_first),
     }
-    Ok(false)
+}
+
+// Which byte may not stand in a line, or that its spaces are wrong.
+fn why_not_words(line: &[u8]) -> Option<Reason<'_>> {
+    for byte in line {
+        if !is_of_word(*byte) {
+            return Some(why_not_byte(*byte));
+        }
+    }
+    for word in line.split(parts_words) {
+        if word.is_empty() {
+            return Some(Reason::Said(SPACES));
+        }
+    }
+    None
 }
 
 // Whether a byte may stand in a line.
@@ -63,46 +89,43 @@ fn is_of_word(byte: u8) -> bool {
     (b' '..=b'~').contains(&byte)
 }
 
-// Says that a byte may stand in no line.
-fn tell_byte<N: Write>(byte: u8, notes: &mut N) -> io::Result<()> {
+// Why it may not.
+fn why_not_byte<'a>(byte: u8) -> Reason<'a> {
     match byte {
-        b'\r' => writeln!(notes, " has a carriage return: a newline alone ends a line"),
-        b'\t' => writeln!(notes, " has a tab: one space parts two words"),
-        other => writeln!(
-            notes,
-            " has a byte that is no printable ASCII character, 0x{other:02x}"
-        ),
+        b'\r' => Reason::Said(RETURN),
+        b'\t' => Reason::Said(TAB),
+        other => Reason::Byte(other),
     }
 }
 
-// Says what is wrong with the words of a line.
-fn tell_words<N: Write>(line: &[u8], is_first: bool, notes: &mut N) -> io::Result<()> {
-    let Some(keyword) = line.split(|byte| *byte == b' ').next() else {
-        return Ok(());
+// What is wrong with the words of a line.
+fn why_no_line(line: &[u8], is_first: bool) -> Reason<'_> {
+    let words = first_words(line);
+    let Some((keyword, rest)) = words.as_slice().split_first() else {
+        return Reason::Said(NO_SCREEN);
     };
-    if keyword == HUB {
-        return writeln!(
-            notes,
-            ": `hub W H`, each side 1 to 4096, stands first, with `rfb script`"
-        );
+    if *keyword == HUB {
+        return Reason::Said(HUB_ALONE);
     }
-    let Some(arguments) = arguments_of(keyword) else {
-        return tell_keyword(keyword, notes);
+    let Some(form) = form_of(keyword, OF_SCRIPT) else {
+        return Reason::Keyword(keyword);
     };
-    if is_first != (keyword == SCREEN) {
-        return writeln!(notes, ": `screen W H` stands first, and once");
+    if is_first != (*keyword == SCREEN) {
+        return Reason::Said(LATE_SCREEN);
     }
-    if tell_arguments(line, 1, arguments, notes)? {
-        return Ok(());
+    match why_not_form(rest, form, FIRST) {
+        Some(reason) => reason,
+        None => Reason::Said(LATE_VIEWER),
     }
-    writeln!(notes, ": `viewer F E..` stands second, and once")
 }
 
-// Says that no line begins with a word.
-fn tell_keyword<N: Write>(keyword: &[u8], notes: &mut N) -> io::Result<()> {
-    writeln!(
-        notes,
-        " begins with `{}`, as no line does",
-        Escaped(keyword)
-    )
+// The words of a line, as far as there is room.
+fn first_words(line: &[u8]) -> ArrayVec<&[u8], WORDS> {
+    let mut words = ArrayVec::new();
+    for word in line.split(parts_words) {
+        if words.try_push(word).is_err() {
+            break;
+        }
+    }
+    words
 }

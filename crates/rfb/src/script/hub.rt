@@ -26,6 +26,7 @@ use crate::script::cause::tell_bad_hub_line;
 use crate::script::hub::line::{HubNumbered, HubStep};
 use crate::script::hub::read::{read_hub, read_hub_step, read_show};
 use crate::script::line::Screen;
+pub use read::{AT, FOREIGN, HUB, JOIN, LEAVE, SHOW};
 use std::alloc::Global;
 use std::io::Write;
 pub use words::{SHARED, SOLE, read_slot};

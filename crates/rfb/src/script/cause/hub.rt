@@ -1,29 +1,34 @@
 //! Why a line of a hub's script is bad.
 
-use crate::explain::Escaped;
-use crate::script::cause::kind::{hub_arguments, tell_arguments, viewer_arguments};
-use crate::script::cause::{HUB, tell_form, tell_keyword};
-use crate::script::hub::read_slot;
-use std::io;
+use crate::script::cause::form::{OF_HUB_SCRIPT, OF_SLOT, form_of};
+use crate::script::cause::kind::{Kind, why_not_form};
+use crate::script::cause::parting::ends_line;
+use crate::script::cause::reason::Reason;
+use crate::script::cause::{FIRST, first_words, tell_reason, why_not_words};
+use crate::script::hub::{AT, SHOW, read_slot};
 use std::io::Write;
 
-// The words that the last line begins with, and a line of one slot.
-const SHOW: &[u8] = b"show";
+// Which word of a line of one slot its keyword is.
+const THIRD: &str = "third";
 
-const AT: &[u8] = b"at";
+// What is wrong with lines, where nothing of the line itself is told.
+const LATE_SHOW: &str = ": `show S` stands last, and once";
 
-// How many words stand before those of a line of one slot, its keyword among them.
-const BEFORE_AT: usize = 3;
+const LATE_HUB: &str = ": `hub W H` stands first, and once";
+
+const NO_SLOT: &str = ": a slot and a line of it stand after `at`";
+
+const NO_LINE: &str = ": a line of the slot stands after `at S`";
 
 /// Says why the line with this number, counted from 1, is bad. A script without a last line is bad
 /// after its end.
 pub fn tell_bad_hub_line<N: Write>(text: &[u8], number: u64, notes: &mut N) {
     let mut at = 0u64;
     let mut has_shown = false;
-    for line in text.split(|byte| *byte == b'\n') {
+    for line in text.split(ends_line) {
         at = at.saturating_add(1);
         if at == number && !line.is_empty() {
-            let _ = tell_line(line, number, has_shown, notes);
+            tell_reason(number, why_bad(line, has_shown), notes);
             return;
         }
         has_shown = has_shown || line.starts_with(SHOW);
@@ -34,54 +39,48 @@ pub fn tell_bad_hub_line<N: Write>(text: &[u8], number: u64, notes: &mut N) {
     );
 }
 
-// The same of that line, after the one that shows a slot or before it.
-fn tell_line<N: Write>(line: &[u8], number: u64, has_shown: bool, notes: &mut N) -> io::Result<()> {
-    write!(notes, "rfb: line {number} of the script")?;
-    if tell_form(line, notes)? {
-        return Ok(());
+// Why a line is bad, after the one that shows a slot or before it.
+fn why_bad(line: &[u8], has_shown: bool) -> Reason<'_> {
+    match why_not_words(line) {
+        Some(reason) => reason,
+        None if has_shown => Reason::Said(LATE_SHOW),
+        None => why_no_line(line),
     }
-    if has_shown {
-        return writeln!(notes, ": `show S` stands last, and once");
-    }
-    let mut words = line.split(|byte| *byte == b' ');
-    let Some(keyword) = words.next() else {
-        return Ok(());
-    };
-    if keyword == AT {
-        let slot = words.next();
-        return tell_at(line, slot, words.next(), notes);
-    }
-    let Some(arguments) = hub_arguments(keyword) else {
-        return tell_keyword(keyword, notes);
-    };
-    if tell_arguments(line, 1, arguments, notes)? {
-        return Ok(());
-    }
-    if keyword == HUB {
-        return writeln!(notes, ": `hub W H` stands first, and once");
-    }
-    Ok(())
 }
 
-// Says what is wrong with a line of one slot.
-fn tell_at<N: Write>(
-    line: &[u8],
-    slot: Option<&[u8]>,
-    keyword: Option<&[u8]>,
-    notes: &mut N,
-) -> io::Result<()> {
-    let Some(slot) = slot else {
-        return writeln!(notes, ": a slot and a line of it stand after `at`");
+// What is wrong with the words of a line. Only the first line is bad for where it stands.
+fn why_no_line(line: &[u8]) -> Reason<'_> {
+    let words = first_words(line);
+    let Some((keyword, rest)) = words.as_slice().split_first() else {
+        return Reason::Said(LATE_HUB);
+    };
+    let found = if *keyword == AT {
+        why_not_at(rest)
+    } else {
+        match form_of(keyword, OF_HUB_SCRIPT) {
+            Some(form) => why_not_form(rest, form, FIRST),
+            None => Some(Reason::Keyword(keyword)),
+        }
+    };
+    match found {
+        Some(reason) => reason,
+        None => Reason::Said(LATE_HUB),
+    }
+}
+
+// What is wrong with the words after `at`, if anything is.
+fn why_not_at<'a>(words: &[&'a [u8]]) -> Option<Reason<'a>> {
+    let Some((slot, line)) = words.split_first() else {
+        return Some(Reason::Said(NO_SLOT));
     };
     if read_slot(slot).is_none() {
-        return writeln!(notes, ": `{}`, is no slot: one digit", Escaped(slot));
+        return Some(Reason::Word(slot, Kind::Slot));
     }
-    let Some(keyword) = keyword else {
-        return writeln!(notes, ": a line of the slot stands after `at S`");
+    let Some((keyword, rest)) = line.split_first() else {
+        return Some(Reason::Said(NO_LINE));
     };
-    let Some(arguments) = viewer_arguments(keyword) else {
-        return writeln!(notes, ": `{}` is no line of one slot", Escaped(keyword));
-    };
-    let _ = tell_arguments(line, BEFORE_AT, arguments, notes)?;
-    Ok(())
+    match form_of(keyword, OF_SLOT) {
+        Some(form) => why_not_form(rest, form, THIRD),
+        None => Some(Reason::SlotKeyword(keyword)),
+    }
 }

@@ -21,18 +21,18 @@ use crate::script::read::{
 use rfb_session::{HubEvent, SlotEvent};
 use std::alloc::{AllocError, Global};
 
-// The words that lines of a hub begin with, beside those of a script.
-const HUB: &[u8] = b"hub";
+/// The words that lines of a hub begin with, beside those of a script.
+pub const HUB: &[u8] = b"hub";
 
-const SHOW: &[u8] = b"show";
+pub const SHOW: &[u8] = b"show";
 
-const JOIN: &[u8] = b"join";
+pub const JOIN: &[u8] = b"join";
 
-const LEAVE: &[u8] = b"leave";
+pub const LEAVE: &[u8] = b"leave";
 
-const FOREIGN: &[u8] = b"foreign";
+pub const FOREIGN: &[u8] = b"foreign";
 
-const AT: &[u8] = b"at";
+pub const AT: &[u8] = b"at";
 
 /// The size of a hub's screen, as a line without its newline gives it. It is `None` where the line
 /// gives none.
