@@ -113,8 +113,9 @@ fn view_over<R: Read + Drop, V: Write + Drop, W: Write, E: Write>(
     let mut viewer = fresh_viewer(alloc, sight.wants.format, sight.wants.encodings);
     let room = if notes.are_wanted() { ROOM } else { 0 };
     let mut heard = Heard::new(alloc, room, "connected to");
+    // Each arm lets go of what it made by calls: what an arm's end lets go is proved field by field.
     if is_recorded {
-        return record(
+        let ended = record(
             reader,
             writer,
             &mut viewer,
@@ -123,12 +124,23 @@ fn view_over<R: Read + Drop, V: Write + Drop, W: Write, E: Write>(
             &mut heard,
             notes,
         );
+        drop(heard);
+        drop(viewer);
+        return ended;
     }
     match watch_heard(reader, writer, &mut viewer, updates, &mut heard, notes) {
-        Ok(_updates) => show(&viewer, output),
+        Ok(_updates) => {
+            let shown = show(&viewer, output);
+            drop(heard);
+            drop(viewer);
+            shown
+        }
         Err(fault) => {
             tell_server(fault, viewer.reason(), &heard, notes);
-            Err(show_early(&viewer, is_partial, fault, output))
+            let failure = show_early(&viewer, is_partial, fault, output);
+            drop(heard);
+            drop(viewer);
+            Err(failure)
         }
     }
 }

@@ -6,39 +6,39 @@ use Rattle.rfb.proofs.viewing.view_over.Goals as goal
 
 pub returns-then-is_recorded-clause-done : goal.returns-then-is_recorded-clause-done
 returns-then-is_recorded-clause-done g c =
-    views_recorded c.args.sight _ _ _ _ c.fresh_viewer-viewer.result c.record.new.viewer c.record.result c.fresh_viewer-viewer.ensures c.if-is_recorded.true c.record.ensures.saw
+    views_recorded c.args.sight _ _ _ _ c.fresh_viewer-viewer.result c.record-ended.new.viewer c.record-ended.result c.fresh_viewer-viewer.ensures c.if-is_recorded.true c.record-ended.ensures.saw
 
 pub returns-then-is_recorded-clause-stopped : goal.returns-then-is_recorded-clause-stopped
 returns-then-is_recorded-clause-stopped g c =
-    fails_recorded c.args.sight _ _ _ _ c.fresh_viewer-viewer.result c.record.new.viewer c.record.result c.fresh_viewer-viewer.ensures c.if-is_recorded.true c.record.ensures.stopped
+    fails_recorded c.args.sight _ _ _ _ c.fresh_viewer-viewer.result c.record-ended.new.viewer c.record-ended.result c.fresh_viewer-viewer.ensures c.if-is_recorded.true c.record-ended.ensures.stopped
 
 pub returns-in-Ok-clause-done : goal.returns-in-Ok-clause-done
 returns-in-Ok-clause-done g c =
-    views_shown c.args.sight _ _ _ _ c.fresh_viewer-viewer.result c.watch_heard.new.viewer c.show.result c.fresh_viewer-viewer.ensures c.if-is_recorded.false c.in-Ok.ensures.saw c.show.ensures.done
+    views_shown c.args.sight _ _ _ _ c.fresh_viewer-viewer.result c.watch_heard.new.viewer c.show-shown.result c.fresh_viewer-viewer.ensures c.if-is_recorded.false c.in-Ok.ensures.saw c.show-shown.ensures.done
 
 pub returns-in-Ok-clause-stopped : goal.returns-in-Ok-clause-stopped
 returns-in-Ok-clause-stopped g c =
-    fails_shown c.args.sight _ _ _ _ c.fresh_viewer-viewer.result c.watch_heard.new.viewer c.show.result c.fresh_viewer-viewer.ensures c.if-is_recorded.false c.in-Ok.ensures.saw c.show.ensures.stopped
+    fails_shown c.args.sight _ _ _ _ c.fresh_viewer-viewer.result c.watch_heard.new.viewer c.show-shown.result c.fresh_viewer-viewer.ensures c.if-is_recorded.false c.in-Ok.ensures.saw c.show-shown.ensures.stopped
 
 pub returns-then-is_recorded-clause-left : goal.returns-then-is_recorded-clause-left
 returns-then-is_recorded-clause-left g c = λ not. never_recorded c.args.sight.is_recorded _ c.if-is_recorded.true not
 
 pub returns-in-Ok-clause-left : goal.returns-in-Ok-clause-left
 returns-in-Ok-clause-left g c = λ not.
-    leaves_shown g.W.Write.contents c.args.sight _ _ c.args.output.now c.show.new.output c.fresh_viewer-viewer.result c.watch_heard.new.viewer c.show.result c.fresh_viewer-viewer.ensures not c.in-Ok.ensures.saw c.show.ensures.left
+    leaves_shown g.W.Write.contents c.args.sight _ _ c.args.output.now c.show-shown.new.output c.fresh_viewer-viewer.result c.watch_heard.new.viewer c.show-shown.result c.fresh_viewer-viewer.ensures not c.in-Ok.ensures.saw c.show-shown.ensures.left
 
-pub returns-clause-stopped : goal.returns-clause-stopped
-returns-clause-stopped g c =
-    fails_seeing c.args.sight _ _ _ _ c.fresh_viewer-viewer.result c.watch_heard.new.viewer c.in-Err.fault c.show_early.result
-    c.fresh_viewer-viewer.ensures c.if-is_recorded.false c.in-Err.ensures.stopped c.show_early.ensures.ends
+pub returns-in-Err-clause-stopped : goal.returns-in-Err-clause-stopped
+returns-in-Err-clause-stopped g c =
+    fails_seeing c.args.sight _ _ _ _ c.fresh_viewer-viewer.result c.watch_heard.new.viewer c.in-Err.fault c.show_early-failure.result
+    c.fresh_viewer-viewer.ensures c.if-is_recorded.false c.in-Err.ensures.stopped c.show_early-failure.ensures.ends
 
-pub returns-clause-unwritten : goal.returns-clause-unwritten
-returns-clause-unwritten g c = λ not fault is unshown.
-    let same = ends_same c.args.sight.is_partial c.watch_heard.new.viewer c.in-Err.fault fault _ _ c.show_early.result c.show_early.ensures.ends (cc) in
-    c.show_early.ensures.unwanted (ap (shows_end c.args.sight.is_partial) (sym same) ∙ unshown)
+pub returns-in-Err-clause-unwritten : goal.returns-in-Err-clause-unwritten
+returns-in-Err-clause-unwritten g c = λ not fault is unshown.
+    let same = ends_same c.args.sight.is_partial c.watch_heard.new.viewer c.in-Err.fault fault _ _ c.show_early-failure.result c.show_early-failure.ensures.ends (cc) in
+    c.show_early-failure.ensures.unwanted (ap (shows_end c.args.sight.is_partial) (sym same) ∙ unshown)
 
-pub returns-clause-left : goal.returns-clause-left
-returns-clause-left g c = λ not.
+pub returns-in-Err-clause-left : goal.returns-in-Err-clause-left
+returns-in-Err-clause-left g c = λ not.
     leaves_seeing c.args.sight _ _ _ _ c.fresh_viewer-viewer.result c.watch_heard.new.viewer c.in-Err.fault
     c.fresh_viewer-viewer.ensures not c.in-Err.ensures.stopped
-    (begins_early c.args.sight.is_partial c.watch_heard.new.viewer _ _ _ c.show_early.result c.show_early.ensures.ends)
+    (begins_early c.args.sight.is_partial c.watch_heard.new.viewer _ _ _ c.show_early-failure.result c.show_early-failure.ensures.ends)
