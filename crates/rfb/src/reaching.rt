@@ -9,7 +9,7 @@ use std::{io, thread};
 const PAUSE: u64 = 100;
 
 /// When waiting ends, if ever.
-#[derive(Clone, Copy)]
+#[derive(Drop)]
 pub struct Deadline<'a, C> {
     clock: &'a C,
     end: Option<(Instant, Duration)>,
@@ -137,13 +137,12 @@ impl<L> Timed<L> {
     }
 }
 
-impl<L: OpenListener> OpenListener for Timed<L>
+impl<L: OpenListener> Timed<L>
 where
     L::Stream: OpenStream,
 {
-    type Stream = L::Stream;
-
-    fn accept(&self) -> io::Result<(L::Stream, SocketAddr)> {
+    /// Takes the next connection, and tells who is at its other end.
+    pub fn accept(&self) -> io::Result<(L::Stream, SocketAddr)> {
         let (stream, address) = self.listener.accept()?;
         if let Some(seconds) = self.seconds {
             stream.set_read_timeout(Some(Duration::from_secs(u64::from(seconds))))?;

@@ -124,7 +124,7 @@ fn listen<N: Net, W: Write, E: Write>(
 /// flushed, or there is no memory for it; then a beginning of the lines was written.
 pub fn serve_on<L: OpenListener, W: Write, N: Write>(
     alloc: Global,
-    listener: &L,
+    listener: &Timed<L>,
     screen: &ServedScreen,
     connections: u64,
     output: &mut W,
@@ -151,7 +151,7 @@ where
 // `sent` counts the updates of all that left in peace.
 fn serve_next<L: OpenListener, N: Write>(
     alloc: Global,
-    listener: &L,
+    listener: &Timed<L>,
     screen: &ServedScreen,
     sent: &mut u64,
     notes: &mut N,

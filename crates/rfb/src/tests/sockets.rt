@@ -3,7 +3,7 @@
 use super::streams::{CLIENT, PICTURE, REQUESTS, SERVER};
 use crate::explain::Notes;
 use crate::playing::only_raw;
-use crate::reaching::{Deadline, Patient};
+use crate::reaching::{Deadline, Patient, Timed};
 use crate::script::{Screen, Wants};
 use crate::serving::{ServedScreen, serve_on};
 use crate::viewing::{Sight, view_on};
@@ -37,6 +37,7 @@ fn a_viewer_is_served_over_a_socket(rt: HostRuntime) -> Result<(), Fail> {
     let listener = TcpListener::bind(&rt, ("127.0.0.1", 0))?;
     let viewer = TcpStream::connect(&rt, listener.local_addr()?)?;
     let viewer = having_sent(viewer, CLIENT)?;
+    let listener = Timed::new(listener, None);
     let mut lines = Vec::new(rt.alloc());
     let mut told = Vec::new(rt.alloc());
     let served = serve_on(rt.alloc(), &listener, &TWO_PLACES, 1, &mut lines, &mut told);
