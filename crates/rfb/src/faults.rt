@@ -6,28 +6,34 @@ use crate::pixmap::Flaw;
 use rfb_server::ServerFault;
 use rfb_session::{EngineFault, HubFault};
 use rfb_viewer::ViewerFault;
-use std::io;
+use std::fmt::Display;
 use std::io::Write;
-use thiserror::Error;
+use std::{fmt, io};
 
 // What has a number. It prints as its number and its name.
-#[derive(Clone, Copy, Debug, Error)]
 enum Numbered {
     // What a client did wrong.
-    #[error("{0}")]
     Client(ServerFault),
     // What a server did wrong.
-    #[error("{0}")]
     Server(ViewerFault),
     // Why a call is refused.
-    #[error("{0}")]
     Refusal(HubFault),
     // Why an engine ends.
-    #[error("{0}")]
     Engine(EngineFault),
     // Why the program ends.
-    #[error("{0}")]
     Program(Fault),
+}
+
+impl fmt::Display for Numbered {
+    fn fmt<F: fmt::Write>(&self, f: &mut fmt::Formatter<F>) -> fmt::Result {
+        match self {
+            Numbered::Client(fault) => fault.fmt(f),
+            Numbered::Server(fault) => fault.fmt(f),
+            Numbered::Refusal(fault) => fault.fmt(f),
+            Numbered::Engine(fault) => fault.fmt(f),
+            Numbered::Program(fault) => fault.fmt(f),
+        }
+    }
 }
 
 const HEAD: &str = "\
