@@ -36,31 +36,13 @@ fn tell_viewer_fault<N: Write>(
             "rfb: in place of a version came `{}`: no server of RFB is there",
             Escaped(version_line(heard.as_slice()))
         ),
-        ViewerFault::NoneNotOffered => tell_types(heard.as_slice(), notes),
-        ViewerFault::BadSecurityWord => tell_types(heard.as_slice(), notes),
-        ViewerFault::Refused(_) => writeln!(
-            notes,
-            "rfb: the server refuses the connection, and says `{}`",
-            Escaped(reason)
-        ),
-        ViewerFault::SecurityFailed(_) => writeln!(
-            notes,
-            "rfb: the server does not let the viewer in, and says `{}`",
-            Escaped(reason)
-        ),
-        ViewerFault::ScreenEmpty => writeln!(notes, "rfb: the server's screen has no pixel"),
-        ViewerFault::ScreenTooLarge => writeln!(
-            notes,
-            "rfb: the server's screen has more than 16777216 pixels"
-        ),
-        ViewerFault::NoMemory => writeln!(notes, "rfb: there is no memory for the screen"),
-        other => tell_message_fault(other, notes),
-    }
-}
-
-// What is wrong with a message of a server's.
-fn tell_message_fault<N: Write>(fault: ViewerFault, notes: &mut N) -> io::Result<()> {
-    match fault {
+        ViewerFault::NoneNotOffered | ViewerFault::BadSecurityWord => {
+            tell_types(heard.as_slice(), notes)
+        }
+        ViewerFault::Refused(_) => tell_reason("refuses the connection", reason, notes),
+        ViewerFault::SecurityFailed(_) => {
+            tell_reason("does not let the viewer in", reason, notes)
+        }
         ViewerFault::UnknownMessage(kind) => {
             writeln!(notes, "rfb: a message has type {kind}, which no server has")
         }
@@ -69,23 +51,34 @@ fn tell_message_fault<N: Write>(fault: ViewerFault, notes: &mut N) -> io::Result
             "rfb: a rectangle has encoding {}, and only raw, copyrect, rre and hextile are taken",
             EncodingNumber(number)
         ),
-        ViewerFault::RectOutside => writeln!(notes, "rfb: a rectangle leaves the screen"),
-        ViewerFault::SubrectOutside => {
-            writeln!(
-                notes,
-                "rfb: a subrectangle leaves its rectangle or its tile"
-            )
+        other => writeln!(notes, "rfb: {}", flaw_of_server(other)),
+    }
+}
+
+// Which reason a server gave for what it does.
+fn tell_reason<N: Write>(does: &str, reason: &[u8], notes: &mut N) -> io::Result<()> {
+    writeln!(
+        notes,
+        "rfb: the server {does}, and says `{}`",
+        Escaped(reason)
+    )
+}
+
+// What is wrong with what a server sent, where its fault alone says it.
+fn flaw_of_server(fault: ViewerFault) -> &'static str {
+    match fault {
+        ViewerFault::RectOutside => "a rectangle leaves the screen",
+        ViewerFault::SubrectOutside => "a subrectangle leaves its rectangle or its tile",
+        ViewerFault::NoBackground => "a tile of Hextile has no background",
+        ViewerFault::NoForeground => "a tile of Hextile has no foreground",
+        ViewerFault::BothColourBits => {
+            "a tile of Hextile has a foreground, and subrectangles with colours"
         }
-        ViewerFault::NoBackground => writeln!(notes, "rfb: a tile of Hextile has no background"),
-        ViewerFault::NoForeground => writeln!(notes, "rfb: a tile of Hextile has no foreground"),
-        ViewerFault::BothColourBits => writeln!(
-            notes,
-            "rfb: a tile of Hextile has a foreground, and subrectangles with colours"
-        ),
-        ViewerFault::SourceOutside => {
-            writeln!(notes, "rfb: the source of a CopyRect leaves the screen")
-        }
-        _ => Ok(()),
+        ViewerFault::SourceOutside => "the source of a CopyRect leaves the screen",
+        ViewerFault::ScreenEmpty => "the server's screen has no pixel",
+        ViewerFault::ScreenTooLarge => "the server's screen has more than 16777216 pixels",
+        ViewerFault::NoMemory => "there is no memory for the screen",
+        _ => "the server broke the protocol",
     }
 }
 
@@ -110,20 +103,6 @@ fn tell_server_fault<N: Write>(fault: ServerFault, notes: &mut N) -> io::Result<
             notes,
             "rfb: the viewer sent a message of type {kind}, which no client has"
         ),
-        ServerFault::BadVersion => {
-            writeln!(notes, "rfb: the other end sent no version: it is no viewer")
-        }
-        ServerFault::VersionTooHigh => {
-            writeln!(notes, "rfb: the viewer's version is above the one offered")
-        }
-        ServerFault::BadSecurityChoice => writeln!(
-            notes,
-            "rfb: the viewer chose another security type than 1 (None)"
-        ),
-        ServerFault::NotTrueColour => {
-            writeln!(notes, "rfb: the viewer asked for pixels by a colour map")
-        }
-        ServerFault::NoMemory => writeln!(notes, "rfb: there is no memory for a text"),
         ServerFault::BadBits
         | ServerFault::DepthTooLarge
         | ServerFault::BadMax
@@ -132,5 +111,18 @@ fn tell_server_fault<N: Write>(fault: ServerFault, notes: &mut N) -> io::Result<
             notes,
             "rfb: the viewer asked for a pixel format that cannot be: {fault}"
         ),
+        other => writeln!(notes, "rfb: {}", flaw_of_client(other)),
+    }
+}
+
+// What is wrong with what a client sent, where its fault alone says it.
+fn flaw_of_client(fault: ServerFault) -> &'static str {
+    match fault {
+        ServerFault::BadVersion => "the other end sent no version: it is no viewer",
+        ServerFault::VersionTooHigh => "the viewer's version is above the one offered",
+        ServerFault::BadSecurityChoice => "the viewer chose another security type than 1 (None)",
+        ServerFault::NotTrueColour => "the viewer asked for pixels by a colour map",
+        ServerFault::NoMemory => "there is no memory for a text",
+        _ => "the viewer broke the protocol",
     }
 }

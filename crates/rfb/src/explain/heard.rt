@@ -2,6 +2,7 @@
 
 use crate::explain::Escaped;
 use crate::explain::naming::SecurityType;
+use byteorder::{BigEndian, ByteOrder};
 use rfb_hello::Version;
 use std::alloc::Global;
 use std::io;
@@ -111,18 +112,12 @@ impl Screen<'_> {
 // The screen, once its name is there.
 fn screen_in(bytes: &[u8]) -> Option<Screen<'_>> {
     let init = bytes.get(init_start(bytes)?..)?;
-    let &[w, low_w, h, low_h, ..] = init else {
-        return None;
-    };
-    let &[a, b, c, d] = init.get(INIT_SIZE - 4..INIT_SIZE)? else {
-        return None;
-    };
-    let length = u32::from_be_bytes([a, b, c, d]) as usize;
-    let shown = length.min(NAME_MAX);
+    let head = init.get(..INIT_SIZE)?;
+    let length = BigEndian::read_u32(&head[20..]) as usize;
     Some(Screen {
-        width: u16::from_be_bytes([w, low_w]),
-        height: u16::from_be_bytes([h, low_h]),
-        name: init.get(INIT_SIZE..INIT_SIZE + shown)?,
+        width: BigEndian::read_u16(head),
+        height: BigEndian::read_u16(&head[2..]),
+        name: init.get(INIT_SIZE..INIT_SIZE + length.min(NAME_MAX))?,
     })
 }
 
