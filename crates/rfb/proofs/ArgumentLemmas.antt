@@ -8,7 +8,7 @@ use Rattle.rfb_wire.specs.declared.encoding.Encoding.{Encoding}
 use Rattle.rfb.specs.declared.script.line.Screen.{Screen as Size}
 use Rattle.rfb.specs.Number.{IsCount, IsNumber}
 use Rattle.rfb.specs.declared.script.line.Wants.{Wants}
-use Rattle.rfb.specs.Words.{AreEncodings, AreWants, name_of, AreFill, AreMove, AreRect, AreRequest, AreSize, IsColourWord, IsCountAlone, IsFormatAlone, IsFormatWord, IsNumberOf, IsSide, kind_of, texts}
+use Rattle.rfb.specs.Words.{AreEncodings, AreWants, name_of, AreFill, AreMove, AreRect, AreRequest, AreSize, IsColourText, IsColourWord, IsCountAlone, IsFormatAlone, IsFormatWord, IsNumberOf, IsSide, SaysColour, kind_of, texts}
 use Rattle.rfb.proofs.ScriptLemmas.{heads, nothing, tails, texts_length}
 
 -- the word at an index
@@ -122,6 +122,10 @@ no_kind w full inc false e = full e
 pub is_move : (words : List (Bor (List ℕ))) (d : Bor (List ℕ)) → length words ≡ 6 → (rect : Rect) (sx sy : ℕ) → AreRect (word words 0 d) (word words 1 d) (word words 2 d) (word words 3 d) rect → IsNumberOf (word words 4 d) sx → IsNumberOf (word words 5 d) sy → AreMove (texts words) rect sx sy
 is_move words d len rect sx sy are column row =
     (word words 0 d, word words 1 d, word words 2 d, word words 3 d, word words 4 d, word words 5 d, six_words words d len, are, column, row)
+
+pub is_fill : (words : List (Bor (List ℕ))) (d : Bor (List ℕ)) → length words ≡ 5 → (rect : Rect) (colour : Colour) → AreRect (word words 0 d) (word words 1 d) (word words 2 d) (word words 3 d) rect → IsColourText (word words 4 d) → SaysColour (word words 4 d) colour → AreFill (texts words) rect colour
+is_fill words d len rect colour are is says =
+    (word words 0 d, word words 1 d, word words 2 d, word words 3 d, word words 4 d, five_words words d len, are, (is, says))
 
 pub is_request : (words : List (Bor (List ℕ))) (d : Bor (List ℕ)) → length words ≡ 5 → (incremental : Bool) (rect : Rect) → word words 0 d ≡ kind_of incremental → AreRect (word words 1 d) (word words 2 d) (word words 3 d) (word words 4 d) rect → AreRequest (texts words) incremental rect
 is_request words d len incremental rect kind are =

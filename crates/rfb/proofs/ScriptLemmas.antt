@@ -9,6 +9,9 @@ use Rattle.rfb_pixel.specs.declared.colour.Colour.{Colour}
 use Rattle.rfb_pixel.specs.Format.{PixelFormat}
 use Rattle.rfb_session.specs.declared.event.Event.{Event}
 use Rattle.rfb_session.specs.declared.event.Event.TheVariants.{Fill, Put, Copy, Hint, Request, SetFormat, SetEncodings, Key, Pointer, CutText, Compose, ToServer, ToViewer}
+use Rattle.rfb_session.specs.declared.hub.event.SlotEvent.{SlotEvent}
+use Rattle.rfb_session.specs.declared.hub.event.SlotEvent.TheVariants as Slot
+use Rattle.rfb_session.specs.HubSeats.{event_of}
 use Rattle.rfb.specs.declared.script.line.Screen.{Screen as Size}
 use Rattle.rfb.specs.declared.script.line.Wants.{Wants}
 use Rattle.rfb.specs.declared.script.line.Step.{Step as ScriptStep}
@@ -17,7 +20,7 @@ use Rattle.rfb.specs.declared.script.line.Line.{Line}
 use Rattle.rfb.specs.declared.script.line.Line.TheVariants.{Screen, Viewer, Step}
 use Rattle.rfb.specs.Words.{AreFill, AreMove, AreRequest, AreSize, AreWants, IsCountAlone, IsFormatAlone, texts}
 use Rattle.rfb.specs.Few.{HasFew}
-use Rattle.rfb.specs.Script.{Says, SaysEvent, SaysNothing, SaysStep}
+use Rattle.rfb.specs.Script.{Begins, Says, SaysEvent, SaysNothing, SaysStep}
 
 -- ---- a keyword
 
@@ -187,9 +190,29 @@ no_event key rest nf nc nh nr nm ns nv ncompose (Key down code) said = absurd sa
 no_event key rest nf nc nh nr nm ns nv ncompose (Pointer buttons x y) said = absurd said
 no_event key rest nf nc nh nr nm ns nv ncompose (CutText text) said = absurd said
 
+-- a keyword of no drawing and no hint has the events of a slot alone
+pub no_other_event : (key : List ℕ) (rest : List (List ℕ)) → bytes_eq key (codes "fill") ≡ false → bytes_eq key (codes "copy") ≡ false → bytes_eq key (codes "hint") ≡ false → ((event : SlotEvent) → ¬ (SaysEvent (key ∷ rest) (event_of event))) → (event : Event) → ¬ (SaysEvent (key ∷ rest) event)
+no_other_event key rest nf nc nh none (Fill rect colour) said = other_word key (codes "fill") nf (heads key _ rest said.0 said.1)
+no_other_event key rest nf nc nh none (Copy rect sx sy) said = other_word key (codes "copy") nc (heads key _ rest said.0 said.1)
+no_other_event key rest nf nc nh none (Hint rect sx sy) said = other_word key (codes "hint") nh (heads key _ rest said.0 said.1)
+no_other_event key rest nf nc nh none (Request incremental rect) said = none (Slot.Request incremental rect) said
+no_other_event key rest nf nc nh none (SetFormat format) said = none (Slot.SetFormat format) said
+no_other_event key rest nf nc nh none (ToServer n) said = none (Slot.ToServer n) said
+no_other_event key rest nf nc nh none (ToViewer n) said = none (Slot.ToViewer n) said
+no_other_event key rest nf nc nh none Compose said = none Slot.Compose said
+no_other_event key rest nf nc nh none (Put x y row) said = absurd said
+no_other_event key rest nf nc nh none (SetEncodings encodings) said = absurd said
+no_other_event key rest nf nc nh none (Key down code) said = absurd said
+no_other_event key rest nf nc nh none (Pointer buttons x y) said = absurd said
+no_other_event key rest nf nc nh none (CutText text) said = absurd said
+
 -- a word that is a keyword has the events of it
 pub no_event_of : (key word : List ℕ) (rest : List (List ℕ)) → bytes_eq key word ≡ true → ((event : Event) → ¬ (SaysEvent (word ∷ rest) event)) → (event : Event) → ¬ (SaysEvent (key ∷ rest) event)
 no_event_of key word rest same none = subst (λ (k : List ℕ). (event : Event) → ¬ (SaysEvent (k ∷ rest) event)) (sym (same_word key word same)) none
+
+-- a word that is a keyword, and what is after it
+pub begins_with : (key word : List ℕ) (rest : List (List ℕ)) (Holds : List (List ℕ) → Type 0) → bytes_eq key word ≡ true → Holds rest → Begins word (key ∷ rest) Holds
+begins_with key word rest Holds same holds = (rest, ap (λ (k : List ℕ). k ∷ rest) (same_word key word same), holds)
 
 -- a word alone
 pub alone : (key word : List ℕ) (rest : List (Bor (List ℕ))) → bytes_eq key word ≡ true → length rest ≡ 0 → key ∷ texts rest ≡ word ∷ []
@@ -268,18 +291,15 @@ says_settle words first rest e same none =
 abbrev pub GiveWants : List (List ℕ) → Type 0
 GiveWants all = (wants : Wants) × Says all (Viewer wants)
 
-pub viewer_line : (all : List (List ℕ)) (words : List (Bor (List ℕ))) (first : Bor (List ℕ)) (rest : List (Bor (List ℕ))) → texts words ≡ all → words ≡ first ∷ rest → bytes_eq first.now (codes "viewer") ≡ true → (r : Option Wants) → MatchOption r ((wants : Wants) → ¬ (AreWants (texts rest) wants)) (AreWants (texts rest))
-    → MatchOption r (¬ (GiveWants all)) (λ wants. Says all (Viewer wants))
-viewer_line all words first rest is e same None none = λ gives.
-    only_viewer (texts rest) none (Viewer gives.0) (subst (λ (ws : List (List ℕ)). Says ws (Viewer gives.0)) (sym is ∙ words_are words first rest (codes "viewer") e same) gives.1)
-viewer_line all words first rest is e same (Some wants) are = (texts rest, sym is ∙ words_are words first rest (codes "viewer") e same, are)
+pub viewer_words : (words : List (Bor (List ℕ))) (first : Bor (List ℕ)) (rest : List (Bor (List ℕ))) → words ≡ first ∷ rest → bytes_eq first.now (codes "viewer") ≡ true → (r : Option Wants) → MatchOption r ((wants : Wants) → ¬ (AreWants (texts rest) wants)) (AreWants (texts rest))
+    → MatchOption r ((wants : Wants) → ¬ (Says (texts words) (Viewer wants))) (λ wants. Says (texts words) (Viewer wants))
+viewer_words words first rest e same None none = λ wants says.
+    only_viewer (texts rest) none (Viewer wants) (subst (λ (ws : List (List ℕ)). Says ws (Viewer wants)) (words_are words first rest (codes "viewer") e same) says)
+viewer_words words first rest e same (Some wants) are = (texts rest, words_are words first rest (codes "viewer") e same, are)
 
-pub other_line : (all : List (List ℕ)) (words : List (Bor (List ℕ))) (first : Bor (List ℕ)) (rest : List (Bor (List ℕ))) → texts words ≡ all → words ≡ first ∷ rest → bytes_eq first.now (codes "viewer") ≡ false → ¬ (GiveWants all)
-other_line all words first rest is e other gives =
-    other_word first.now (codes "viewer") other (heads first.now (codes "viewer") (texts rest) gives.1.0 (sym (ap (λ (ws : List (Bor (List ℕ))). texts ws) e) ∙ is ∙ gives.1.1))
-
-pub no_line : (all : List (List ℕ)) (words : List (Bor (List ℕ))) → texts words ≡ all → length words ≡ 0 → ¬ (GiveWants all)
-no_line all words is none gives = nothing (codes "viewer") gives.1.0 (sym (no_texts words none) ∙ is ∙ gives.1.1)
+pub viewer_line : (r : Option Wants) (all : List (List ℕ)) → MatchOption r ((wants : Wants) → ¬ (Says all (Viewer wants))) (λ wants. Says all (Viewer wants)) → MatchOption r (¬ (GiveWants all)) (λ wants. Says all (Viewer wants))
+viewer_line None all none = λ gives. none gives.0 gives.1
+viewer_line (Some wants) all says = says
 
 -- ---- no line has nine words
 

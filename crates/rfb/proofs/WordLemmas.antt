@@ -1,11 +1,17 @@
 -- Words of a line that are numbers.
-use Rattle.std.proofs.Common.{◌≡◌, ◌∙◌, ◌==◌, Bool, true, false, sym, ap, zero, suc, length, ℕ, ◌+◌, ◌*◌, ◌-◌, ◌<◌, ◌≤◌, List, [], ◌∷◌, ◌++◌, refl, take, arith}
+use Rattle.std.proofs.Common.{◌≡◌, ◌∙◌, ◌==◌, Bool, true, false, sym, ap, zero, suc, length, ℕ, ◌+◌, ◌*◌, ◌-◌, ◌<◌, ◌≤◌, List, [], ◌∷◌, ◌++◌, refl, take, arith, get_or, subst, Some, None, Ok, Err, Result}
 use Rattle.std.proofs.lemmas.Str.{digit_value_digit}
 use Rattle.std.proofs.lemmas.Str.Parse.{IsNumeralModel, digits_value_short, numerals_by_value, tells_by_index, tells_digits}
 use Rattle.std.specs.Char.{digit_value}
 use Rattle.std.specs.Int.{IsInRange}
 use Rattle.std.specs.Str.Parse.{AllDigits, digits_value, digits_value_after}
+use Rattle.std.specs.Result.{result_ok}
+use Rattle.hex.specs.Hex.{decode_of, decode_sized}
+use Rattle.hex.specs.declared.error.FromHexError.{FromHexError}
+use Rattle.hex.proofs.HexLemmas.{decode_of-ok, decode_sized-ok, decode_sized-twice}
+use Rattle.rfb_pixel.specs.declared.colour.Colour.{Colour}
 use Rattle.rfb.specs.Number.{IsDigits}
+use Rattle.rfb.specs.Words.{SaysComponents}
 
 pub digits : IsNumeralModel IsDigits (digits_value 10)
 digits = numerals_by_value _ tells_by_index
@@ -38,3 +44,28 @@ below word i all few = omega (arith, digits_value_short all_digits (take i word)
 pub not_none : (n : ℕ) (b : Bool) → b ≡ (n == 0) → b ≡ false → 1 ≤ n
 not_none zero b is fails = let e : true ≡ false = sym is ∙ fails in absurd (cc)
 not_none (suc n) b is fails = omega arith
+
+-- ---- a colour
+
+ok_of : (bytes : List ℕ) (r : Result (List ℕ) FromHexError) → Some bytes ≡ result_ok r → r ≡ Ok bytes
+ok_of bytes (Ok b) some = let same : Some bytes ≡ Some b = some in cc
+ok_of bytes (Err e) some = let bad : Some bytes ≡ None = some in absurd (cc)
+
+six_bytes : (b : List ℕ) → length b ≡ 6 → b ≡ get_or b 0 0 ∷ get_or b 1 0 ∷ get_or b 2 0 ∷ get_or b 3 0 ∷ get_or b 4 0 ∷ get_or b 5 0 ∷ []
+six_bytes [] len = absurd (omega arith)
+six_bytes (a ∷ []) len = absurd (omega arith)
+six_bytes (a ∷ b ∷ []) len = absurd (omega arith)
+six_bytes (a ∷ b ∷ c ∷ []) len = absurd (omega arith)
+six_bytes (a ∷ b ∷ c ∷ d ∷ []) len = absurd (omega arith)
+six_bytes (a ∷ b ∷ c ∷ d ∷ e ∷ []) len = absurd (omega arith)
+six_bytes (a ∷ b ∷ c ∷ d ∷ e ∷ f ∷ []) len = refl
+six_bytes (a ∷ b ∷ c ∷ d ∷ e ∷ f ∷ x ∷ rest) len = absurd (omega arith)
+
+-- six bytes that a word decodes to are its components
+pub are_components : (word bytes : List ℕ) (r : Result (List ℕ) FromHexError) (colour : Colour) → r ≡ decode_sized word 6 → Some bytes ≡ result_ok r → colour.r ≡ get_or bytes 0 0 * 256 + get_or bytes 1 0 → colour.g ≡ get_or bytes 2 0 * 256 + get_or bytes 3 0 → colour.b ≡ get_or bytes 4 0 * 256 + get_or bytes 5 0 → SaysComponents word colour
+are_components word bytes r colour sized some red green blue =
+    let decoded : decode_sized word 6 ≡ Ok bytes = sym sized ∙ ok_of bytes r some in
+    let len = decode_sized-ok word 6 bytes decoded in
+    let whole : decode_of word ≡ Ok bytes = sym (decode_sized-twice word 6 len) ∙ decoded in
+    let six : length bytes ≡ 6 = omega (arith, (decode_of-ok word bytes whole).2, len) in
+    (get_or bytes 0 0, get_or bytes 1 0, get_or bytes 2 0, get_or bytes 3 0, get_or bytes 4 0, get_or bytes 5 0, subst (λ (b : List ℕ). decode_of word ≡ Ok b) (six_bytes bytes six) whole, red, green, blue)

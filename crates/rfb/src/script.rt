@@ -33,6 +33,7 @@ mod cause;
 mod hub;
 mod line;
 mod number;
+mod parting;
 mod read;
 mod words;
 

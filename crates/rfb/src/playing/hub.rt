@@ -5,7 +5,9 @@ ghost use Rattle.rfb_hello.specs.declared.version.Version.TheVariants.{V38};
 ghost use Rattle.rfb_picture.specs.Grid.{uniform};
 ghost use Rattle.rfb_server.specs.Server.{black};
 ghost use Rattle.rfb_server.specs.Standing.{serving_with};
-ghost use Rattle.rfb_session.specs.Hub.{HubStands, IsEmptyHub, seat_in, serving_in};
+ghost use Rattle.rfb_session.specs.Hub.{HasFewHubBytes, HubStands, IsEmptyHub, seat_in, serving_in};
+ghost use Rattle.rfb_session.specs.HubSteps.{HubSteps};
+ghost use Rattle.rfb_session.specs.declared.hub.event.HubEvent.TheVariants as HubEvent;
 ghost use Rattle.rfb.specs.Few.{HasFewInHub};
 ghost use Rattle.rfb.specs.HubPlaying.{LeadsHub, TellsLine, deliveries_in, hub_events_of, or_refusal};
 ghost use Rattle.rfb.specs.Playing.{name};
@@ -64,11 +66,20 @@ fn settle(hub: &mut Hub, slot: u8) -> Result<LineTold, NoMemory>
 {
     let mut all = NOTHING;
     for _turn in 0..TURNS {
-        let server = hub.step(&HubEvent::Of(slot, SlotEvent::ToServer(ALL)))?;
-        let viewer = hub.step(&HubEvent::Of(slot, SlotEvent::ToViewer(ALL)))?;
+        let server = step_in(hub, slot, SlotEvent::ToServer(ALL))?;
+        let viewer = step_in(hub, slot, SlotEvent::ToViewer(ALL))?;
         all = with(with(all, server), viewer);
     }
     Ok(all)
+}
+
+// Takes an event of a slot.
+fn step_in(hub: &mut Hub, slot: u8, event: SlotEvent) -> Result<HubTold, NoMemory>
+    requires few { HasFewHubBytes (HubEvent.Of slot event) }
+    ensures steps { IfOk result (λ told. HubSteps hub.old (HubEvent.Of slot event) told hub.new) }
+    ensures stands { HubStands hub.old → OnOk result (HubStands hub.new) }
+{
+    hub.step(&HubEvent::Of(slot, event))
 }
 
 // What became of a line of one event more.

@@ -3,12 +3,11 @@
 mod form;
 mod hub;
 mod kind;
-mod parting;
 mod reason;
 
 use crate::script::cause::form::{OF_SCRIPT, form_of};
 use crate::script::cause::kind::why_not_form;
-use crate::script::cause::parting::{ends_line, parts_words};
+use crate::script::parting::{ends_line, parts_words};
 use crate::script::cause::reason::Reason;
 use crate::script::hub::HUB;
 use crate::script::read::SCREEN;

@@ -1,16 +1,21 @@
 //! Reading one line of a script, by itself.
 
-ghost use Rattle.std.specs.Prelude.{◌≡◌, ◌≢◌, ◌<◌, ◌∷◌, MatchOption, codes, length};
+ghost use Rattle.std.specs.Prelude.{◌≡◌, ◌<◌, ◌∷◌, MatchOption, length};
 ghost use Rattle.rfb_session.specs.declared.event.Event.{Event};
+ghost use Rattle.rfb_session.specs.declared.hub.event.SlotEvent.{SlotEvent};
+ghost use Rattle.rfb_session.specs.HubSeats.{event_of as world_event};
 ghost use Rattle.rfb.specs.Script.{AsksForStep, GivesSize, GivesWants, Says, SaysEvent, SaysNothing, SaysStep, words_of};
+ghost use Rattle.rfb.specs.declared.script.line.Line.TheVariants as Line;
+ghost use Rattle.rfb.specs.declared.script.line.Wants.{Wants};
 ghost use Rattle.rfb.specs.Words.{texts};
 
 use crate::script::arguments::{
     read_bytes, read_fill, read_move, read_only_format, read_request, read_size, read_wants,
 };
 use crate::script::line::{Line, Screen, Step, Wants};
+use crate::script::parting::{PIECES_MAX, pieces};
 use arrayvec::ArrayVec;
-use rfb_session::Event;
+use rfb_session::{Event, SlotEvent};
 
 /// The word that the first line begins with.
 pub const SCREEN: &[u8] = b"screen";
@@ -37,9 +42,6 @@ pub const TO_SERVER: &[u8] = b"toserver";
 
 pub const SETTLE: &[u8] = b"settle";
 
-// No line has more words. A line of a hub's script may have that many.
-const WORDS_MAX: usize = 8;
-
 /// The screen's size, as a line without its newline gives it. It is `None` where the line gives
 /// none.
 pub fn read_screen(line: &[u8]) -> Option<Screen>
@@ -58,8 +60,16 @@ pub fn read_viewer(line: &[u8]) -> Option<Wants>
     ensures { MatchOption result (¬ (GivesWants line.now))
         (λ wants. Says (words_of line.now) (Line.Viewer wants)) }
 {
-    let words = parted(line)?;
-    let (keyword, rest) = words.as_slice().split_first()?;
+    wants_of(parted(line)?.as_slice())
+}
+
+// What the viewer wants, as the words of a line give it.
+fn wants_of(words: &[&[u8]]) -> Option<Wants>
+    ensures { MatchOption result
+        ((wants : Wants) → ¬ (Says (texts words.now) (Line.Viewer wants)))
+        (λ wants. Says (texts words.now) (Line.Viewer wants)) }
+{
+    let (keyword, rest) = words.split_first()?;
     if *keyword == VIEWER {
         return read_wants(rest);
     }
@@ -85,15 +95,11 @@ fn read_line(line: &[u8]) -> Option<Line>
 }
 
 /// The words of a line, if they are not too many.
-pub fn parted<'a>(line: &'a [u8]) -> Option<ArrayVec<&'a [u8], WORDS_MAX>>
+pub fn parted<'a>(line: &'a [u8]) -> Option<ArrayVec<&'a [u8], PIECES_MAX>>
     ensures { MatchOption result (8 < length (words_of line.now))
         (λ words. texts words.items ≡ words_of line.now) }
 {
-    let mut words = ArrayVec::new();
-    for word in line.split(|byte| *byte == b' ') {
-        words.try_push(word).ok()?;
-    }
-    Some(words)
+    pieces(line, b' ')
 }
 
 // What the words of a line say.
@@ -134,33 +140,48 @@ fn event_of(keyword: &[u8], rest: &[&[u8]]) -> Option<Event>
         let (rect, sx, sy) = read_move(rest)?;
         return Some(Event::Hint(rect, sx, sy));
     }
-    other_event_of(keyword, rest)
+    Some(as_event(slot_event_of(keyword, rest)?))
 }
 
-// The same, where the keyword is none of a drawing or a hint.
-fn other_event_of(keyword: &[u8], rest: &[&[u8]]) -> Option<Event>
-    requires fill { keyword.now ≢ codes "fill" }
-    requires copy { keyword.now ≢ codes "copy" }
-    requires hint { keyword.now ≢ codes "hint" }
+/// The event of one slot of a hub, or of both ends of a script, that a keyword and the words after
+/// it ask for.
+pub fn slot_event_of(keyword: &[u8], rest: &[&[u8]]) -> Option<SlotEvent>
     ensures { MatchOption result
-        ((event : Event) → ¬ (SaysEvent (keyword.now ∷ texts rest.now) event))
-        (SaysEvent (keyword.now ∷ texts rest.now)) }
+        ((event : SlotEvent) → ¬ (SaysEvent (keyword.now ∷ texts rest.now) (world_event event)))
+        (λ event. SaysEvent (keyword.now ∷ texts rest.now) (world_event event)) }
 {
     if keyword == REQUEST {
         let (incremental, area) = read_request(rest)?;
-        return Some(Event::Request(incremental, area));
+        return Some(SlotEvent::Request(incremental, area));
     }
     if keyword == FORMAT {
-        return Some(Event::SetFormat(read_only_format(rest)?));
+        return Some(SlotEvent::SetFormat(read_only_format(rest)?));
     }
     if keyword == TO_VIEWER {
-        return Some(Event::ToViewer(read_bytes(rest)?));
+        return Some(SlotEvent::ToViewer(read_bytes(rest)?));
     }
     if keyword == TO_SERVER {
-        return Some(Event::ToServer(read_bytes(rest)?));
+        return Some(SlotEvent::ToServer(read_bytes(rest)?));
     }
     if keyword == COMPOSE && rest.is_empty() {
-        return Some(Event::Compose);
+        return Some(SlotEvent::Compose);
     }
     None
+}
+
+// The same event, of both ends of a script.
+fn as_event(event: SlotEvent) -> Event
+    ensures { result ≡ world_event event }
+{
+    match event {
+        SlotEvent::Request(incremental, area) => Event::Request(incremental, area),
+        SlotEvent::SetFormat(format) => Event::SetFormat(format),
+        SlotEvent::SetEncodings(encodings) => Event::SetEncodings(encodings),
+        SlotEvent::Key(down, key) => Event::Key(down, key),
+        SlotEvent::Pointer(buttons, x, y) => Event::Pointer(buttons, x, y),
+        SlotEvent::CutText(text) => Event::CutText(text),
+        SlotEvent::Compose => Event::Compose,
+        SlotEvent::ToServer(count) => Event::ToServer(count),
+        SlotEvent::ToViewer(count) => Event::ToViewer(count),
+    }
 }

@@ -1,6 +1,6 @@
 //! Words of a line that stand for a value.
 
-ghost use Rattle.std.specs.Prelude.{◌≡◌, ◌≢◌, ◌<◌, ◌↔◌, ◌∷◌, [], ℕ, Ok, IfSome, IsSome, List, MatchOption, length};
+ghost use Rattle.std.specs.Prelude.{◌≡◌, ◌≢◌, ◌<◌, ◌↔◌, ◌∷◌, ◌+◌, ◌*◌, [], ℕ, Ok, IfSome, IsSome, List, MatchOption, length};
 ghost use Rattle.std.specs.List.{AllPass};
 ghost use Rattle.std.specs.Str.Parse.{digits_value};
 ghost use Rattle.hex.specs.Hex.{is_hex_digit};
@@ -10,6 +10,7 @@ ghost use Rattle.rfb.specs.Words.{AreEncodings, AreNumbers, AreRect, IsFormatWor
 ghost use Rattle.rfb.specs.Words.{IsColourText, SaysBytes, SaysColour, SaysComponents};
 
 use crate::script::number::read_number;
+use crate::script::parting::pieces;
 use arrayvec::ArrayVec;
 use hex::FromHex;
 use rfb_picture::Rect;
@@ -84,10 +85,17 @@ fn read_components(word: &[u8]) -> Option<Colour>
 {
     let [r, low_r, g, low_g, b, low_b] = <[u8; 6] as FromHex>::from_hex(word).ok()?;
     Some(Colour {
-        r: u16::from(r) * 256 + u16::from(low_r),
-        g: u16::from(g) * 256 + u16::from(low_g),
-        b: u16::from(b) * 256 + u16::from(low_b),
+        r: component(r, low_r),
+        g: component(g, low_g),
+        b: component(b, low_b),
     })
+}
+
+// A component, of its high byte and its low one.
+fn component(high: u8, low: u8) -> u16
+    ensures { result ≡ high * 256 + low }
+{
+    u16::from(high) * 256 + u16::from(low)
 }
 
 /// A format, by its name.
@@ -152,17 +160,5 @@ pub fn read_list(list: &[u8]) -> Option<ArrayVec<Encoding, 4>>
         ((encodings : List Encoding) → ¬ (AreEncodings (parts_of list.now) encodings))
         (λ encodings. AreEncodings (parts_of list.now) encodings.items) }
 {
-    read_encodings(parted(list)?.as_slice())
-}
-
-// The parts of a list, if they are not too many.
-fn parted<'a>(list: &'a [u8]) -> Option<ArrayVec<&'a [u8], 4>>
-    ensures { MatchOption result (4 < length (parts_of list.now))
-        (λ parts. texts parts.items ≡ parts_of list.now) }
-{
-    let mut parts = ArrayVec::new();
-    for part in list.split(|byte| *byte == b',') {
-        parts.try_push(part).ok()?;
-    }
-    Some(parts)
+    read_encodings(pieces(list, b',')?.as_slice())
 }

@@ -1,24 +1,18 @@
 //! Reading one line of a hub's script, by itself.
 
 ghost use Rattle.std.specs.Prelude.{◌≢◌, ◌∷◌, IfOk, MatchOption, codes};
-ghost use Rattle.rfb_session.specs.declared.hub.event.SlotEvent.{SlotEvent};
-ghost use Rattle.rfb_session.specs.HubSeats.{event_of};
 ghost use Rattle.rfb.specs.declared.script.hub.line.HubStep.{HubStep};
 ghost use Rattle.rfb.specs.declared.script.hub.line.HubStep.TheVariants as HubStep;
 ghost use Rattle.rfb.specs.HubScript.{AsksInHub, GivesHub, NamesShown, SaysAt, SaysHub, SaysHubStep, SaysShow};
-ghost use Rattle.rfb.specs.Script.{SaysEvent, words_of};
+ghost use Rattle.rfb.specs.Script.{words_of};
 ghost use Rattle.rfb.specs.Words.{texts};
 
-use crate::script::arguments::{
-    read_bytes, read_fill, read_move, read_only_format, read_request, read_size,
-};
+use crate::script::arguments::{read_fill, read_move, read_size};
 use crate::script::hub::line::HubStep;
 use crate::script::hub::words::{read_foreign, read_join, read_only_slot, read_slot};
 use crate::script::line::Screen;
-use crate::script::read::{
-    COMPOSE, COPY, FILL, FORMAT, HINT, REQUEST, SETTLE, TO_SERVER, TO_VIEWER, parted,
-};
-use rfb_session::{HubEvent, SlotEvent};
+use crate::script::read::{COPY, FILL, HINT, SETTLE, parted, slot_event_of};
+use rfb_session::HubEvent;
 use std::alloc::{AllocError, Global};
 
 /// The words that lines of a hub begin with, beside those of a script.
@@ -147,29 +141,4 @@ fn step_at(words: &[&[u8]]) -> Option<HubStep>
         return Some(HubStep::Settle(slot));
     }
     Some(HubStep::Event(HubEvent::Of(slot, slot_event_of(keyword, rest)?)))
-}
-
-// The event of a slot that a keyword and the words after it ask for.
-fn slot_event_of(keyword: &[u8], rest: &[&[u8]]) -> Option<SlotEvent>
-    ensures { MatchOption result
-        ((event : SlotEvent) → ¬ (SaysEvent (keyword.now ∷ texts rest.now) (event_of event)))
-        (λ event. SaysEvent (keyword.now ∷ texts rest.now) (event_of event)) }
-{
-    if keyword == REQUEST {
-        let (incremental, area) = read_request(rest)?;
-        return Some(SlotEvent::Request(incremental, area));
-    }
-    if keyword == FORMAT {
-        return Some(SlotEvent::SetFormat(read_only_format(rest)?));
-    }
-    if keyword == TO_VIEWER {
-        return Some(SlotEvent::ToViewer(read_bytes(rest)?));
-    }
-    if keyword == TO_SERVER {
-        return Some(SlotEvent::ToServer(read_bytes(rest)?));
-    }
-    if keyword == COMPOSE && rest.is_empty() {
-        return Some(SlotEvent::Compose);
-    }
-    None
 }

@@ -1,7 +1,6 @@
 use Rattle.std.proofs.Common.{◌∙◌, sym, arith, true, false}
-use Rattle.std.proofs.lemmas.Grind.{common_steps}
-use Rattle.rfb.proofs.ArgumentLemmas.{is_request, no_request}
-use Rattle.rfb.proofs.ScriptLemmas.{same_word}
+use Rattle.rfb.proofs.ArgumentLemmas.{is_request, no_kind, no_request, not_request}
+use Rattle.rfb.proofs.ScriptLemmas.{other_word, same_word}
 use Rattle.rfb.proofs.script.arguments.read_request.Goals as goal
 
 pub returns-in_err-read_rect : goal.returns-in_err-read_rect
@@ -23,10 +22,12 @@ returns-then-eq-2 c =
     is_request c.args.words.now _ (omega arith) true _ (same_word _ _ (sym c.eq-2.ensures ∙ c.if-eq-2.true)) c.in_ok-read_rect-2.ensures.value
 
 pub returns-in_default : goal.returns-in_default
-returns-in_default c = grind (arith, common_steps)
+returns-in_default c = not_request c.args.words.now (λ e. omega (arith, e))
 
 pub returns-in_default-2 : goal.returns-in_default-2
-returns-in_default-2 c = grind (arith, common_steps)
+returns-in_default-2 c = not_request c.args.words.now (λ e. omega (arith, e))
 
 pub returns : goal.returns
-returns c = grind (arith, common_steps)
+returns c =
+    no_request c.args.words.now _ (omega arith)
+    (λ incremental rect kind are. no_kind _ (other_word _ _ (sym c.eq.ensures ∙ c.if-eq.false)) (other_word _ _ (sym c.eq-2.ensures ∙ c.if-eq-2.false)) incremental kind)

@@ -1,6 +1,8 @@
-use Rattle.std.proofs.Common.{◌∙◌, sym, codes, arith}
+use Rattle.std.proofs.Common.{◌∙◌, sym, subst, codes, arith, List, ℕ}
 use Rattle.std.proofs.lemmas.Grind.{common_steps}
-use Rattle.rfb.proofs.ScriptLemmas.{empty_of, line_none, only_screen, only_viewer, says_settle, says_size, says_wants}
+use Rattle.rfb.specs.Script.{SaysEvent, SaysNothing}
+use Rattle.rfb.proofs.HubWordLemmas.{split_texts}
+use Rattle.rfb.proofs.ScriptLemmas.{empty_of, line_none, only_event, other_word, only_screen, only_viewer, says_settle, says_size, says_wants}
 use Rattle.rfb.proofs.script.read.line_of.Goals as goal
 
 pub returns-in_err-read_size : goal.returns-in_err-read_size
@@ -28,3 +30,14 @@ returns-in_err-keyword c = grind (arith, common_steps)
 
 pub returns-then-eq-3 : goal.returns-then-eq-3
 returns-then-eq-3 c = grind (arith, common_steps)
+
+pub returns-in_err-event_of : goal.returns-in_err-event_of
+returns-in_err-event_of c =
+    let k = c.in_ok-keyword in
+    rw c.from_residual-in_err-event_of.ensures (subst (λ (l : List (List ℕ)). SaysNothing l) (sym (split_texts c.args.words.now k.keyword.now k.rest.now k.ensures.cases.0))
+    (only_event k.keyword.now.now _ (other_word _ _ (sym c.eq.ensures ∙ c.if-eq.false)) (other_word _ _ (sym c.eq-2.ensures ∙ c.if-eq-2.false)) (other_word _ _ (sym c.eq-3.ensures ∙ c.if-eq-3.false)) c.in_err-event_of.ensures))
+
+pub returns : goal.returns
+returns c =
+    let k = c.in_ok-keyword in
+    subst (λ (l : List (List ℕ)). SaysEvent l c.in_ok-event_of.field-0) (sym (split_texts c.args.words.now k.keyword.now k.rest.now k.ensures.cases.0)) c.in_ok-event_of.ensures

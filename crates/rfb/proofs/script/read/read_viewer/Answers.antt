@@ -1,10 +1,11 @@
-use Rattle.std.proofs.Common.{◌∙◌, ap, sym, ℕ, List, Bor}
-use Rattle.rfb.specs.Script.{words_of}
-use Rattle.rfb.specs.Words.{texts}
-use Rattle.rfb.proofs.ScriptLemmas.{viewer_line}
+use Rattle.rfb.specs.declared.script.line.Line.TheVariants.{Viewer}
+use Rattle.rfb.proofs.ScriptLemmas.{too_many_words, viewer_line}
 use Rattle.rfb.proofs.script.read.read_viewer.Goals as goal
 
-pub returns-then-eq : goal.returns-then-eq
-returns-then-eq c =
-    viewer_line (words_of c.args.line.now) c.as_slice.result.now c.in_ok-keyword.keyword.now c.in_ok-keyword.rest.now (ap (λ (ws : List (Bor (List ℕ))). texts ws) c.as_slice.ensures.value ∙ c.in_ok-words.ensures)
-    c.in_ok-keyword.ensures.cases.0 (sym c.eq.ensures ∙ c.if-eq.true) c.read_wants.result c.read_wants.ensures
+pub returns-in_err-parted : goal.returns-in_err-parted
+returns-in_err-parted c =
+    rw c.from_residual.ensures (λ gives. too_many_words _ c.in_err-parted.ensures (Viewer gives.0) gives.1)
+
+pub returns : goal.returns
+returns c =
+    viewer_line c.wants_of.result _ (rw (← c.in_ok-parted.ensures, ← c.as_slice.ensures.value) c.wants_of.ensures)

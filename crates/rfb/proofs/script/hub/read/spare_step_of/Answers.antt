@@ -12,3 +12,9 @@ returns-in_err-read_only_slot c =
 
 pub returns-then-eq-3 : goal.returns-then-eq-3
 returns-then-eq-3 c = at_read c.args.keyword.now _ (sym c.eq-3.ensures ∙ c.if-eq-3.true) c.step_at.result c.step_at.ensures
+
+pub returns-in_err-drawing_of : goal.returns-in_err-drawing_of
+returns-in_err-drawing_of c = rw c.from_residual-in_err-drawing_of.ensures c.in_err-drawing_of.ensures
+
+pub returns : goal.returns
+returns c = c.in_ok-drawing_of.ensures

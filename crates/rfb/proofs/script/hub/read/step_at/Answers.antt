@@ -2,6 +2,7 @@ use Rattle.std.proofs.Common.{◌≡◌, ◌∷◌, [], ◌∙◌, sym, subst, �
 use Rattle.rfb_session.specs.HubSeats.{event_of}
 use Rattle.rfb.specs.Script.{SaysEvent}
 use Rattle.rfb.proofs.HubWordLemmas.{is_after, split_texts}
+use Rattle.rfb.proofs.HubStepLemmas.{no_at_slot}
 use Rattle.rfb.proofs.ScriptLemmas.{empty_of, says_settle}
 use Rattle.rfb.proofs.script.hub.read.step_at.Goals as goal
 
@@ -14,3 +15,7 @@ pub returns : goal.returns
 returns c =
     is_after c.args.words.now c.in_ok-slot.slot.now c.in_ok-slot.line.now (λ (l : List (List ℕ)). SaysEvent l (event_of c.in_ok-slot_event_of.field-0)) c.in_ok-slot-2.slot c.in_ok-slot.ensures.cases.0 c.in_ok-slot-2.ensures
     (subst (λ (l : List (List ℕ)). SaysEvent l (event_of c.in_ok-slot_event_of.field-0)) (sym (split_texts c.in_ok-slot.line.now c.in_ok-keyword.keyword.now c.in_ok-keyword.rest.now c.in_ok-keyword.ensures.cases.0)) c.in_ok-slot_event_of.ensures)
+
+pub returns-in_err-slot-2 : goal.returns-in_err-slot-2
+returns-in_err-slot-2 c =
+    rw c.from_residual-in_err-slot-2.ensures (no_at_slot c.args.words.now c.in_ok-slot.slot.now c.in_ok-slot.line.now c.in_ok-slot.ensures.cases.0 (λ s is few. c.in_err-slot-2.ensures s (is, few)))
