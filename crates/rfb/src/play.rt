@@ -1,10 +1,11 @@
 //! Recordings of a server, played to a viewer.
 
-ghost use Rattle.std.specs.Prelude.{◌≡◌, ◌≤◌, ◌⊎◌, false, Err, IfOk, IfErr, IfSome, OnOk, OnErr};
+ghost use Rattle.std.specs.Prelude.{◌≡◌, ◌≤◌, ◌⊎◌, ◌∷◌, [], false, Err, IfOk, IfErr, IfSome, OnOk, OnErr};
 ghost use Rattle.rfb.specs.declared.fault.Fault.{Fault};
 ghost use Rattle.rfb_session.specs.declared.engine.fault.EngineFault.{EngineFault};
 ghost use Rattle.rfb.specs.declared.fault.Failure.TheVariants as Failure;
-ghost use Rattle.rfb.specs.Recording.{BeginsPicture, FailsToPlay, LeavesRecording, PlaysRecording};
+ghost use Rattle.rfb.specs.Recording.{BeginsPicture, FailsToPlay, IsFresh, LeavesRecording, PlaysRecording};
+ghost use Rattle.rfb_wire.specs.declared.encoding.Encoding.TheVariants.{Raw};
 ghost use Rattle.rfb.specs.Recording.{EndsShown, MayWritePicture, is_end, shows_end};
 ghost use Rattle.rfb.specs.Recording.{WritesPicture, Watches, StopsWatching};
 ghost use Rattle.rfb.specs.Recording.{WatchesAll, StopsWatchingAll, WatchesSome, StopsWatchingSome};
@@ -53,12 +54,46 @@ pub fn play_recording<R: Read, W: Write, E: Write>(
         0
     };
     let mut heard = Heard::new(alloc, room, "this is a recording of");
-    match watch_heard(input, &mut viewer, options.updates, &mut heard, notes) {
-        Ok(_updates) => show(&viewer, output),
+    let done = play_to(
+        alloc,
+        options,
+        input,
+        &mut viewer,
+        &mut heard,
+        output,
+        notes,
+    );
+    drop(heard);
+    drop(viewer);
+    done
+}
+
+// The same with this fresh viewer, and with room for what is read.
+fn play_to<R: Read, W: Write, E: Write>(
+    alloc: Global,
+    options: PlayOptions,
+    input: &mut R,
+    viewer: &mut Viewer,
+    heard: &mut Heard,
+    output: &mut W,
+    notes: &mut Notes<'_, E>,
+) -> Result<(), Failure>
+    requires { IsFresh options.format (Raw ∷ []) viewer.old }
+    ensures done { OnOk result (PlaysRecording options
+        (R.remaining input.old) (W.contents output.old) (W.contents output.new)) }
+    ensures stopped { IfErr result (FailsToPlay options
+        (R.remaining input.old) (W.contents output.old) (W.contents output.new)) }
+    ensures unwritten { (fault : EngineFault) → result ≡ Err (Failure.Engine fault) →
+        shows_end options.is_partial fault ≡ false → output.new ≡ output.old }
+    ensures left { OnErr result (LeavesRecording options
+        (R.remaining input.old) (W.contents output.old) (W.contents output.new)) }
+{
+    match watch_heard(input, viewer, options.updates, heard, notes) {
+        Ok(_updates) => show(viewer, output),
         Err(fault) => {
-            tell_server(fault, viewer.reason(), &heard, notes);
-            tell_place(alloc, options.format, fault, &heard, notes);
-            Err(show_early(&viewer, options.is_partial, fault, output))
+            tell_server(fault, viewer.reason(), heard, notes);
+            tell_place(alloc, options.format, fault, heard, notes);
+            Err(show_early(viewer, options.is_partial, fault, output))
         }
     }
 }

@@ -1,34 +1,4 @@
-use Rattle.std.proofs.Common.{◌∙◌, ap, sym}
-use Rattle.rfb.specs.Recording.{shows_end}
-use Rattle.rfb.proofs.RecordingLemmas.{begins_early, ends_same, fails_early, fails_to_show, leaves_early, leaves_recording, plays_recording, shown_no_engine}
 use Rattle.rfb.proofs.play.play_recording.Goals as goal
 
-pub returns-in-Ok-clause-done : goal.returns-in-Ok-clause-done
-returns-in-Ok-clause-done g c =
-    plays_recording c.args.options _ _ _ _ c.watch_heard.new.viewer _ c.show.result (rw c.only_raw.ensures at c.fresh_viewer-viewer.ensures) c.in-Ok.ensures.watched c.show.ensures.done
-
-pub returns-in-Ok-clause-stopped : goal.returns-in-Ok-clause-stopped
-returns-in-Ok-clause-stopped g c = fails_to_show c.args.options _ _ _ c.show.result c.show.ensures.stopped
-
-pub returns-in-Ok-clause-unwritten : goal.returns-in-Ok-clause-unwritten
-returns-in-Ok-clause-unwritten g c = λ fault is unshown. absurd (shown_no_engine fault c.show.result c.show.ensures.stopped is)
-
-pub returns-in-Ok-clause-left : goal.returns-in-Ok-clause-left
-returns-in-Ok-clause-left g c =
-    leaves_recording g.W.Write.contents c.args.options _ c.args.output.now c.show.new.output _ c.watch_heard.new.viewer _ c.show.result (rw c.only_raw.ensures at c.fresh_viewer-viewer.ensures) c.in-Ok.ensures.watched c.show.ensures.left
-
-pub returns-clause-stopped : goal.returns-clause-stopped
-returns-clause-stopped g c =
-    fails_early c.args.options _ _ _ c.fresh_viewer-viewer.result c.watch_heard.new.viewer _ c.show_early.result
-    (rw c.only_raw.ensures at c.fresh_viewer-viewer.ensures) c.in-Err.ensures.stopped c.show_early.ensures.ends
-
-pub returns-clause-unwritten : goal.returns-clause-unwritten
-returns-clause-unwritten g c = λ fault is unshown.
-    let same = ends_same c.args.options.is_partial c.watch_heard.new.viewer c.in-Err.fault fault _ _ c.show_early.result c.show_early.ensures.ends (cc) in
-    c.show_early.ensures.unwanted (ap (shows_end c.args.options.is_partial) (sym same) ∙ unshown)
-
-pub returns-clause-left : goal.returns-clause-left
-returns-clause-left g c =
-    leaves_early c.args.options _ _ _ c.fresh_viewer-viewer.result c.watch_heard.new.viewer _
-    (rw c.only_raw.ensures at c.fresh_viewer-viewer.ensures) c.in-Err.ensures.stopped
-    (begins_early c.args.options.is_partial c.watch_heard.new.viewer _ _ _ c.show_early.result c.show_early.ensures.ends)
+pub play_to-done-requires : goal.play_to-done-requires
+play_to-done-requires g c = rw c.only_raw.ensures at c.fresh_viewer-viewer.ensures
