@@ -287,24 +287,25 @@ foreign_none words first rest e same none step said =
 
 -- ---- the first line, and the last
 
-pub hub_line : (all : List (List ℕ)) (words : List (Bor (List ℕ))) (first : Bor (List ℕ)) (rest : List (Bor (List ℕ))) → texts words ≡ all → words ≡ first ∷ rest → bytes_eq first.now (codes "hub") ≡ true → (r : Option Size) → MatchOption r ((size : Size) → ¬ (AreSize (texts rest) size)) (AreSize (texts rest))
-    → MatchOption r (¬ ((size : Size) × SaysHub all size)) (SaysHub all)
-hub_line all words first rest is e same None none = λ gives.
-    none gives.0 (subst (λ (r : List (List ℕ)). AreSize r gives.0) (tails (codes "hub") (codes "hub") (texts rest) gives.1.0 (sym (words_are words first rest (codes "hub") e same) ∙ is ∙ gives.1.1)) gives.1.2)
-hub_line all words first rest is e same (Some size) are = (texts rest, sym is ∙ words_are words first rest (codes "hub") e same, are)
+pub hub_words : (words : List (Bor (List ℕ))) (first : Bor (List ℕ)) (rest : List (Bor (List ℕ))) → words ≡ first ∷ rest → bytes_eq first.now (codes "hub") ≡ true → (r : Option Size) → MatchOption r ((size : Size) → ¬ (AreSize (texts rest) size)) (AreSize (texts rest))
+    → MatchOption r ((size : Size) → ¬ (SaysHub (texts words) size)) (SaysHub (texts words))
+hub_words words first rest e same None none = λ size says.
+    none size (subst (λ (r : List (List ℕ)). AreSize r size) (tails (codes "hub") (codes "hub") (texts rest) says.0 (sym (words_are words first rest (codes "hub") e same) ∙ says.1)) says.2)
+hub_words words first rest e same (Some size) are = (texts rest, words_are words first rest (codes "hub") e same, are)
 
-pub show_line : (all : List (List ℕ)) (words : List (Bor (List ℕ))) (first : Bor (List ℕ)) (rest : List (Bor (List ℕ))) → texts words ≡ all → words ≡ first ∷ rest → bytes_eq first.now (codes "show") ≡ true → (r : Option ℕ) → MatchOption r ((slot : ℕ) → ¬ (IsSlotAlone (texts rest) slot)) (IsSlotAlone (texts rest))
-    → MatchOption r (¬ ((slot : ℕ) × SaysShow all slot)) (SaysShow all)
-show_line all words first rest is e same None none = λ gives.
-    none gives.0 (subst (λ (r : List (List ℕ)). IsSlotAlone r gives.0) (tails (codes "show") (codes "show") (texts rest) gives.1.0 (sym (words_are words first rest (codes "show") e same) ∙ is ∙ gives.1.1)) gives.1.2)
-show_line all words first rest is e same (Some slot) are = (texts rest, sym is ∙ words_are words first rest (codes "show") e same, are)
+pub show_words : (words : List (Bor (List ℕ))) (first : Bor (List ℕ)) (rest : List (Bor (List ℕ))) → words ≡ first ∷ rest → bytes_eq first.now (codes "show") ≡ true → (r : Option ℕ) → MatchOption r ((slot : ℕ) → ¬ (IsSlotAlone (texts rest) slot)) (IsSlotAlone (texts rest))
+    → MatchOption r ((slot : ℕ) → ¬ (SaysShow (texts words) slot)) (SaysShow (texts words))
+show_words words first rest e same None none = λ slot says.
+    none slot (subst (λ (r : List (List ℕ)). IsSlotAlone r slot) (tails (codes "show") (codes "show") (texts rest) says.0 (sym (words_are words first rest (codes "show") e same) ∙ says.1)) says.2)
+show_words words first rest e same (Some slot) are = (texts rest, words_are words first rest (codes "show") e same, are)
 
-pub other_first : (all : List (List ℕ)) (words : List (Bor (List ℕ))) (first : Bor (List ℕ)) (rest : List (Bor (List ℕ))) (key : List ℕ) → texts words ≡ all → words ≡ first ∷ rest → bytes_eq first.now key ≡ false → (more : List (List ℕ)) → ¬ (all ≡ key ∷ more)
-other_first all words first rest key is e other more said =
-    other_word first.now key other (heads first.now key (texts rest) more (sym (split_texts words first rest e) ∙ is ∙ said))
+pub hub_line : (r : Option Size) (all : List (List ℕ)) → MatchOption r ((size : Size) → ¬ (SaysHub all size)) (SaysHub all) → MatchOption r (¬ ((size : Size) × SaysHub all size)) (SaysHub all)
+hub_line None all none = λ gives. none gives.0 gives.1
+hub_line (Some size) all says = says
 
-pub no_first : (all : List (List ℕ)) (words : List (Bor (List ℕ))) (key : List ℕ) → texts words ≡ all → length words ≡ 0 → (more : List (List ℕ)) → ¬ (all ≡ key ∷ more)
-no_first all words key is none more said = nothing key more (sym (no_texts words none) ∙ is ∙ said)
+pub show_line : (r : Option ℕ) (all : List (List ℕ)) → MatchOption r ((slot : ℕ) → ¬ (SaysShow all slot)) (SaysShow all) → MatchOption r (¬ ((slot : ℕ) × SaysShow all slot)) (SaysShow all)
+show_line None all none = λ names. none names.0 names.1
+show_line (Some slot) all says = says
 
 -- ---- no step has too many bytes
 

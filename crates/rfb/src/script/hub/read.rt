@@ -1,7 +1,8 @@
 //! Reading one line of a hub's script, by itself.
 
-ghost use Rattle.std.specs.Prelude.{◌≢◌, ◌∷◌, IfOk, MatchOption, codes};
+ghost use Rattle.std.specs.Prelude.{◌≢◌, ◌∷◌, ℕ, IfOk, MatchOption, codes};
 ghost use Rattle.rfb.specs.declared.script.hub.line.HubStep.{HubStep};
+ghost use Rattle.rfb.specs.declared.script.line.Screen.{Screen};
 ghost use Rattle.rfb.specs.declared.script.hub.line.HubStep.TheVariants as HubStep;
 ghost use Rattle.rfb.specs.HubScript.{AsksInHub, GivesHub, NamesShown, SaysAt, SaysHub, SaysHubStep, SaysShow};
 ghost use Rattle.rfb.specs.Script.{words_of};
@@ -33,8 +34,15 @@ pub const AT: &[u8] = b"at";
 pub fn read_hub(line: &[u8]) -> Option<Screen>
     ensures { MatchOption result (¬ (GivesHub line.now)) (SaysHub (words_of line.now)) }
 {
-    let words = parted(line)?;
-    let (keyword, rest) = words.as_slice().split_first()?;
+    hub_of(parted(line)?.as_slice())
+}
+
+// The same, as the words of a line give it.
+fn hub_of(words: &[&[u8]]) -> Option<Screen>
+    ensures { MatchOption result ((size : Screen) → ¬ (SaysHub (texts words.now) size))
+        (SaysHub (texts words.now)) }
+{
+    let (keyword, rest) = words.split_first()?;
     if *keyword == HUB {
         return read_size(rest);
     }
@@ -46,8 +54,15 @@ pub fn read_hub(line: &[u8]) -> Option<Screen>
 pub fn read_show(line: &[u8]) -> Option<u8>
     ensures { MatchOption result (¬ (NamesShown line.now)) (SaysShow (words_of line.now)) }
 {
-    let words = parted(line)?;
-    let (keyword, rest) = words.as_slice().split_first()?;
+    shown_by(parted(line)?.as_slice())
+}
+
+// The same, as the words of a line name it.
+fn shown_by(words: &[&[u8]]) -> Option<u8>
+    ensures { MatchOption result ((slot : ℕ) → ¬ (SaysShow (texts words.now) slot))
+        (SaysShow (texts words.now)) }
+{
+    let (keyword, rest) = words.split_first()?;
     if *keyword == SHOW {
         return read_only_slot(rest);
     }

@@ -1,5 +1,6 @@
-use Rattle.std.proofs.Common.{◌≡◌, ◌∙◌, ◌+◌, ◌-◌, ◌≤◌, ap, refl, arith, length, length-take-le, take, drop}
+use Rattle.std.proofs.Common.{min, ◌≡◌, ◌∙◌, ◌+◌, ◌-◌, ◌≤◌, ap, refl, arith, length, length-take-le, take, drop}
 use Rattle.std.proofs.lemmas.List.{drop-drop}
+use Rattle.std.proofs.lemmas.Grind.{common_steps}
 use Rattle.rfb.proofs.DeliveryLemmas.{reaches_viewer_none, reaches_viewer_more}
 use Rattle.rfb.proofs.loopback.ends.Ends.deliver_to_viewer.Goals as goal
 
@@ -33,3 +34,15 @@ loop-left-preserved g c =
       reached = reaches_viewer_more bytes _ _ _ (wanted - l.left) taken (wanted - (l.left - taken)) _ _ _ _ _ _ _ _ _ _ _ _
           l.invariant.taken c.in_ok-taken.ensures.part size more l.invariant.reached c.in_ok-reach_viewer.ensures;
     }
+
+pub returns-clause-taken : goal.returns-clause-taken
+returns-clause-taken g c =
+    let l = c.loop-left in
+    let whole : c.min-wanted.result - l.left ≡ min (length c.args.self.now.to_viewer.items) c.args.count = grind (arith, common_steps) in
+    l.invariant.taken ∙ ap (λ n. drop n c.args.self.now.to_viewer.items) whole
+
+pub returns-clause-reached : goal.returns-clause-reached
+returns-clause-reached g c =
+    let l = c.loop-left in
+    let whole : c.min-wanted.result - l.left ≡ min (length c.args.self.now.to_viewer.items) c.args.count = grind (arith, common_steps) in
+    rw whole at l.invariant.reached

@@ -1,10 +1,8 @@
-use Rattle.std.proofs.Common.{◌∙◌, ap, sym, ℕ, List, Bor}
-use Rattle.rfb.specs.Script.{words_of}
-use Rattle.rfb.specs.Words.{texts}
-use Rattle.rfb.proofs.HubStepLemmas.{hub_line}
+use Rattle.rfb.proofs.HubStepLemmas.{hub_line, too_many_for_hub}
 use Rattle.rfb.proofs.script.hub.read.read_hub.Goals as goal
 
-pub returns-then-eq : goal.returns-then-eq
-returns-then-eq c =
-    hub_line (words_of c.args.line.now) c.as_slice.result.now c.in_ok-keyword.keyword.now c.in_ok-keyword.rest.now (ap (λ (ws : List (Bor (List ℕ))). texts ws) c.as_slice.ensures.value ∙ c.in_ok-words.ensures)
-    c.in_ok-keyword.ensures.cases.0 (sym c.eq.ensures ∙ c.if-eq.true) c.read_size.result c.read_size.ensures
+pub returns-in_err-parted : goal.returns-in_err-parted
+returns-in_err-parted c = rw c.from_residual.ensures (λ gives. too_many_for_hub _ c.in_err-parted.ensures gives.0 gives.1)
+
+pub returns : goal.returns
+returns c = hub_line c.hub_of.result _ (rw (← c.in_ok-parted.ensures, ← c.as_slice.ensures.value) c.hub_of.ensures)
