@@ -3,7 +3,6 @@
 ghost use Rattle.std.specs.Prelude.{◌≡◌};
 ghost use Rattle.rfb.specs.declared.pixmap.fault.PixmapError.TheVariants as PixmapError;
 
-use std::alloc::{AllocError, AllocFailed};
 use std::io;
 use thiserror::Error;
 
@@ -58,21 +57,5 @@ impl From<io::Error> for PixmapError {
 
     fn from(error: io::Error) -> PixmapError {
         PixmapError::Input(error)
-    }
-}
-
-impl From<AllocError> for PixmapError {
-    ghost from_gives = { λ _ error. error ≡ PixmapError.NoMemory };
-
-    fn from(_error: AllocError) -> PixmapError {
-        PixmapError::NoMemory
-    }
-}
-
-impl<T: Drop> From<AllocFailed<T>> for PixmapError {
-    ghost from_gives = { λ _ error. error ≡ PixmapError.NoMemory };
-
-    fn from(_error: AllocFailed<T>) -> PixmapError {
-        PixmapError::NoMemory
     }
 }

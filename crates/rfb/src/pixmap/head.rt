@@ -1,7 +1,7 @@
 //! The head of a pixmap: what stands before its pixels.
 
 ghost use Rattle.std.specs.Prelude.{◌≡◌, ◌≤◌, List, ℕ, MatchOption, MatchResult};
-ghost use Rattle.rfb.specs.pixmap.Head.{BlankNext, HasHeadFlaw, IsHead};
+ghost use Rattle.rfb.specs.pixmap.Head.{BlankNext, HasHeadFlaw, HasLateFlaw, IsHead};
 ghost use Rattle.rfb.specs.pixmap.Head.{MagicNext, MaximumNext, NoMaximumNext, NoSideNext, SideNext, maximum_of};
 ghost use Rattle.rfb.specs.pixmap.Number.{AreDigits, value_of};
 ghost use Rattle.rfb.specs.pixmap.Side.{IsSide};
@@ -35,19 +35,18 @@ pub fn read_head(bytes: &[u8]) -> Result<(Head, &[u8]), Flaw>
         (λ p. IsHead bytes.now p.0.width p.0.height p.0.sample p.1.now)
         (HasHeadFlaw bytes.now) }
 {
-    let rest = after_magic(bytes).ok_or(Flaw::NoPixmap)?;
+    let Some(rest) = after_magic(bytes) else {
+        return Err(Flaw::NoPixmap);
+    };
     let (width, rest) = next_side(rest)?;
     let (height, rest) = next_side(rest)?;
-    let (sample, rest) = next_maximum(rest)?;
+    let (sample, places) = next_sample(rest)?;
     let head = Head {
         width,
         height,
         sample,
     };
-    match after_blank(rest) {
-        Some(places) => Ok((head, places)),
-        None => Err(Flaw::NoBlank),
-    }
+    Ok((head, places))
 }
 
 // What follows `P6`. A digit would make another word of it.
@@ -66,9 +65,13 @@ fn after_magic(bytes: &[u8]) -> Option<&[u8]>
 fn next_side(bytes: &[u8]) -> Result<(u16, &[u8]), Flaw>
     ensures { MatchResult result (λ p. SideNext bytes.now p.0 p.1.now) (NoSideNext bytes.now) }
 {
-    let (digits, rest) = next_number(bytes).ok_or(Flaw::NoNumber)?;
-    let side = side_of(digits).ok_or(Flaw::BadSide)?;
-    Ok((side, rest))
+    let Some((digits, rest)) = next_number(bytes) else {
+        return Err(Flaw::NoNumber);
+    };
+    match side_of(digits) {
+        Some(side) => Ok((side, rest)),
+        None => Err(Flaw::BadSide),
+    }
 }
 
 // The side that digits write.
@@ -84,14 +87,31 @@ fn side_of(digits: &[u8]) -> Option<u16>
     u16::try_from(number).ok()
 }
 
+// What a component has, by the largest one, and what follows the blank after that.
+fn next_sample(bytes: &[u8]) -> Result<(Sample, &[u8]), Flaw>
+    ensures { MatchResult result
+        (λ p. (rest : List ℕ) × MaximumNext bytes.now p.0 rest × BlankNext rest p.1.now)
+        (HasLateFlaw bytes.now) }
+{
+    let (sample, rest) = next_maximum(bytes)?;
+    match after_blank(rest) {
+        Some(places) => Ok((sample, places)),
+        None => Err(Flaw::NoBlank),
+    }
+}
+
 // The largest component, and what follows.
 fn next_maximum(bytes: &[u8]) -> Result<(Sample, &[u8]), Flaw>
     ensures { MatchResult result
         (λ p. MaximumNext bytes.now p.0 p.1.now) (NoMaximumNext bytes.now) }
 {
-    let (digits, rest) = next_number(bytes).ok_or(Flaw::NoNumber)?;
-    let sample = sample_of(digits).ok_or(Flaw::BadMaximum)?;
-    Ok((sample, rest))
+    let Some((digits, rest)) = next_number(bytes) else {
+        return Err(Flaw::NoNumber);
+    };
+    match sample_of(digits) {
+        Some(sample) => Ok((sample, rest)),
+        None => Err(Flaw::BadMaximum),
+    }
 }
 
 // What a component has, by the largest one, that digits write.
