@@ -20,9 +20,6 @@ use std::alloc::Global;
 use std::io::{Read, Write};
 use std::net::{Net, OpenListener, TcpListener};
 
-// How many bytes are read at once.
-const READ_AT_ONCE: usize = 4096;
-
 /// What `share` is asked for.
 #[derive(Clone, Copy)]
 pub struct ShareOptions<'a> {
@@ -52,16 +49,7 @@ pub fn share_at<N: Net, R: Read, W: Write, E: Write>(
 ) -> Result<(), Failure> {
     let listener = listen(net, &options, &mut Notes::new(errors, explains))?;
     let mut desk = Desk::new(net, alloc, listener)?;
-    // Not one in each turn: a turn may be short, and then emptying it is half of the work.
-    let mut part = [0; READ_AT_ONCE];
-    // A loop by number, since one without an end is no function that returns. At a turn for each
-    // nanosecond these last for five hundred years.
-    for _turn in 0..u64::MAX {
-        if desk.turn(&options, &mut part, input, output, errors)? {
-            break;
-        }
-    }
-    Ok(())
+    desk.run(&options, input, output, errors)
 }
 
 // A listener that does not wait.
@@ -71,11 +59,16 @@ fn listen<N: Net, T: Write>(
     notes: &mut T,
 ) -> Result<N::Listener, Failure> {
     match TcpListener::bind(net, (options.listen, options.port)) {
-        Ok(listener) => {
-            listener.set_nonblocking(true)?;
-            tell_bound(options.listen, options.port, notes);
-            Ok(listener)
-        }
+        Ok(listener) => match listener.set_nonblocking(true) {
+            Ok(()) => {
+                tell_bound(options.listen, options.port, notes);
+                Ok(listener)
+            }
+            Err(error) => {
+                drop(listener);
+                Err(Failure::from(error))
+            }
+        },
         Err(error) => {
             tell_unbound(options.listen, options.port, &error, notes);
             Err(Failure::from(error))

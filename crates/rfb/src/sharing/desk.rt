@@ -11,10 +11,14 @@ use crate::sharing::reader::OwnerReader;
 use crate::sharing::ready::Ready;
 use mio::{Events, Poll};
 use std::alloc::Global;
+use std::io;
 use std::io::{Read, Write};
 use std::net::{Net, OpenListener, OpenStream};
 use std::os::fd::AsRawFd;
 use std::time::Duration;
+
+// How many bytes are read at once.
+const READ_AT_ONCE: usize = 4096;
 
 // How many sources there are at most: standard input, the listener and eight connections.
 const SOURCES: usize = 10;
@@ -60,9 +64,29 @@ impl<
         })
     }
 
-    /// Waits until something can be done, does it, and tells whether all has ended. What is read
-    /// comes to `part` first.
-    pub fn turn<R: Read, W: Write, E: Write>(
+    /// Turns until all has ended.
+    pub fn run<R: Read, W: Write, E: Write>(
+        &mut self,
+        options: &ShareOptions<'_>,
+        input: &mut R,
+        output: &mut W,
+        errors: &mut E,
+    ) -> Result<(), Failure> {
+        // Not one in each turn: a turn may be short, and then emptying it is half of the work.
+        let mut part = [0; READ_AT_ONCE];
+        // A loop by number, since one without an end is no function that returns. At a turn for each
+        // nanosecond these last for five hundred years.
+        for _turn in 0..u64::MAX {
+            if self.turn(options, &mut part, input, output, errors)? {
+                break;
+            }
+        }
+        Ok(())
+    }
+
+    // Waits until something can be done, does it, and tells whether all has ended. What is read
+    // comes to `part` first.
+    fn turn<R: Read, W: Write, E: Write>(
         &mut self,
         options: &ShareOptions<'_>,
         part: &mut [u8],
@@ -70,36 +94,41 @@ impl<
         output: &mut W,
         errors: &mut E,
     ) -> Result<bool, Failure> {
-        self.wait()?;
+        wait(&mut self.poll, &mut self.events, &mut self.ready)?;
         self.hear_owner(options, part, input, output, errors)?;
         if self.quits {
             return Ok(true);
         }
-        if self.input == Input::Ended && self.guests.is_none() {
-            return Err(Failure::BadLine(self.lines.saturating_add(1)));
+        let ready = &mut self.ready;
+        match &mut self.guests {
+            Some(guests) => {
+                guests.turn(
+                    &self.listener,
+                    self.poll.registry(),
+                    options,
+                    part,
+                    ready,
+                    output,
+                )
+            }
+            None if self.input == Input::Ended => {
+                Err(Failure::BadLine(self.lines.saturating_add(1)))
+            }
+            None => Ok(false),
         }
-        if let Some(guests) = &mut self.guests {
-            let ready = &mut self.ready;
-            guests.admit(&self.listener, self.poll.registry(), options, ready, output)?;
-            guests.hear(part, ready, output)?;
-            guests.serve(ready, output)?;
-            output.flush()?;
-            return Ok(options.until_idle && guests.have_gone());
-        }
-        Ok(false)
     }
+}
 
-    // Waits until something is ready, unless something was left.
-    fn wait(&mut self) -> Result<(), Failure> {
-        let limit = if self.ready.is_left() {
-            Some(Duration::ZERO)
-        } else {
-            None
-        };
-        self.poll.poll(&mut self.events, limit)?;
-        for event in self.events.iter() {
-            self.ready.note(event.token());
-        }
-        Ok(())
+// Waits until something is ready, unless something was left.
+fn wait(poll: &mut Poll, events: &mut Events<Global>, ready: &mut Ready) -> io::Result<()> {
+    let limit = if ready.is_left() {
+        Some(Duration::ZERO)
+    } else {
+        None
+    };
+    poll.poll(events, limit)?;
+    for event in events.iter() {
+        ready.note(event.token());
     }
+    Ok(())
 }

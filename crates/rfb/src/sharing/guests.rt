@@ -6,13 +6,16 @@ mod hearing;
 mod serving;
 
 use crate::fault::Failure;
+use crate::sharing::ShareOptions;
+use crate::sharing::line::{OwnerLine, Refusal};
 use crate::sharing::ready::Ready;
 use crate::sharing::telling::{tell_fault, tell_leave};
+use mio::Registry;
 use rfb_session::{SLOTS, Share};
 use std::alloc::Global;
 use std::fmt::Display;
 use std::io::{Read, Write};
-use std::net::OpenStream;
+use std::net::{OpenListener, OpenStream};
 use std::os::fd::AsRawFd;
 
 /// A share, and the connections of its viewers, each at the place of its seat.
@@ -41,9 +44,22 @@ impl<S: Read + Write + OpenStream + AsRawFd + Drop> Guests<S> {
         })
     }
 
-    /// Whether viewers came, and all have gone.
-    pub fn have_gone(&self) -> bool {
-        self.came && self.count() == 0
+    /// Lets viewers come, hears them and writes to them, as far as none of it has to be waited for,
+    /// and tells whether all ends with the last of them. What is read comes to `part` first.
+    pub fn turn<L: OpenListener<Stream = S>, W: Write>(
+        &mut self,
+        listener: &L,
+        registry: &Registry,
+        options: &ShareOptions<'_>,
+        part: &mut [u8],
+        ready: &mut Ready,
+        output: &mut W,
+    ) -> Result<bool, Failure> {
+        self.admit(listener, registry, options, ready, output)?;
+        self.hear(part, ready, output)?;
+        self.serve(ready, output)?;
+        output.flush()?;
+        Ok(options.until_idle && self.came && self.count() == 0)
     }
 
     // How many viewers there are.
@@ -57,31 +73,45 @@ impl<S: Read + Write + OpenStream + AsRawFd + Drop> Guests<S> {
         count
     }
 
-    /// A viewer is let go, if there is one at the seat, with nothing wrong.
-    pub fn let_go<W: Write>(
+    /// Draws what a line asks for, or lets a viewer go, and gives why not, if it can't be done.
+    pub fn obey<W: Write>(
+        &mut self,
+        line: &OwnerLine,
+        ready: &mut Ready,
+        output: &mut W,
+    ) -> Result<Option<Refusal>, Failure> {
+        if let OwnerLine::End(seat) = line {
+            self.let_go(*seat, ready, output)?;
+            return Ok(None);
+        }
+        Ok(self.draw(line))
+    }
+
+    // A viewer is let go, if there is one at the seat, with nothing wrong.
+    fn let_go<W: Write>(
         &mut self,
         seat: u8,
         ready: &mut Ready,
         output: &mut W,
     ) -> Result<(), Failure> {
-        if self.close(seat, ready) {
-            tell_leave(output, seat)?;
+        if !self.close(seat, ready) {
+            return Ok(());
         }
-        Ok(())
+        tell_leave(output, seat)
     }
 
     // It is let go for a fault.
-    fn fail<W: Write, F: Display + Drop>(
+    fn fail<W: Write, F: Display>(
         &mut self,
         seat: u8,
-        fault: F,
+        fault: &F,
         ready: &mut Ready,
         output: &mut W,
     ) -> Result<(), Failure> {
-        if self.close(seat, ready) {
-            tell_fault(output, seat, &fault)?;
+        if !self.close(seat, ready) {
+            return Ok(());
         }
-        Ok(())
+        tell_fault(output, seat, fault)
     }
 
     // Its connection is closed, and its seat is empty. A connection that could not be had may be

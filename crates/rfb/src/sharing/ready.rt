@@ -1,7 +1,10 @@
 //! What may be read or written without waiting.
 
-use mio::Token;
+use mio::unix::SourceFd;
+use mio::{Interest, Registry, Token};
 use rfb_session::SLOTS;
+use std::io;
+use std::os::fd::AsRawFd;
 
 /// The token of the listener; a connection has the number of its seat.
 pub const LISTENER: Token = Token(SLOTS);
@@ -52,4 +55,14 @@ impl Ready {
     pub fn is_left(&self) -> bool {
         self.owner || self.listener || self.reads.contains(&true)
     }
+}
+
+/// From now on something is among the sources.
+pub fn register<F: AsRawFd>(
+    registry: &Registry,
+    source: &F,
+    token: Token,
+    interest: Interest,
+) -> io::Result<()> {
+    registry.register(&mut SourceFd(&source.as_raw_fd()), token, interest)
 }

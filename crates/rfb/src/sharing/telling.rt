@@ -17,24 +17,31 @@ use std::io::Write;
 const TOLD_MAX: usize = 1024;
 
 /// A viewer came to a seat.
-pub fn tell_join<W: Write>(output: &mut W, seat: u8) -> io::Result<()>
+pub fn tell_join<W: Write>(output: &mut W, seat: u8) -> Result<(), Failure>
     ensures { OnOk result
         (Appends (W.contents output.old) (W.contents output.new) (join_line seat)) }
 {
-    writeln!(output, "join {seat}")
+    writeln!(output, "join {seat}")?;
+    Ok(())
 }
 
 /// It went, or was let go, with nothing wrong.
-pub fn tell_leave<W: Write>(output: &mut W, seat: u8) -> io::Result<()>
+pub fn tell_leave<W: Write>(output: &mut W, seat: u8) -> Result<(), Failure>
     ensures { OnOk result
         (Appends (W.contents output.old) (W.contents output.new) (leave_line seat)) }
 {
-    writeln!(output, "leave {seat} ok")
+    writeln!(output, "leave {seat} ok")?;
+    Ok(())
 }
 
 /// It was let go for a fault.
-pub fn tell_fault<W: Write, F: Display>(output: &mut W, seat: u8, fault: &F) -> io::Result<()> {
-    writeln!(output, "leave {seat} fault {fault}")
+pub fn tell_fault<W: Write, F: Display>(
+    output: &mut W,
+    seat: u8,
+    fault: &F,
+) -> Result<(), Failure> {
+    writeln!(output, "leave {seat} fault {fault}")?;
+    Ok(())
 }
 
 /// What it did. Of a text 1,024 bytes are printed at most.
@@ -58,11 +65,8 @@ fn tell_key<W: Write>(output: &mut W, seat: u8, down: bool, key: u32) -> Result<
     ensures { OnOk result
         (Appends (W.contents output.old) (W.contents output.new) (key_line seat down key)) }
 {
-    if down {
-        writeln!(output, "key {seat} down {key}")?;
-        return Ok(());
-    }
-    writeln!(output, "key {seat} up {key}")?;
+    let way = if down { "down" } else { "up" };
+    writeln!(output, "key {seat} {way} {key}")?;
     Ok(())
 }
 

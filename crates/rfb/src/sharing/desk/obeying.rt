@@ -7,12 +7,11 @@ use crate::sharing::ShareOptions;
 use crate::sharing::desk::Desk;
 use crate::sharing::guests::Guests;
 use crate::sharing::line::{Order, OwnerLine, Refusal};
-use crate::sharing::ready::LISTENER;
+use crate::sharing::ready::{LISTENER, register};
 use mio::Interest;
-use mio::unix::SourceFd;
 use rfb_hello::Version;
-use rfb_picture::Rect;
 use rfb_session::Share;
+use std::alloc::{AllocError, Global};
 use std::io::{Read, Write};
 use std::net::{OpenListener, OpenStream};
 use std::os::fd::AsRawFd;
@@ -42,53 +41,38 @@ impl<
                 self.open(screen, options)?;
                 Ok(None)
             }
-            Order::Line(line) => self.obey_line(&line, output),
-            Order::Pixels(rect, data) => Ok(self.put(rect, &data)),
+            Order::Line(line) => match &mut self.guests {
+                Some(guests) => guests.obey(&line, &mut self.ready, output),
+                None => Ok(Some(Refusal::Bad)),
+            },
+            Order::Pixels(rect, data) => match &mut self.guests {
+                Some(guests) => Ok(guests.put(self.alloc, rect, &data)),
+                None => Ok(Some(Refusal::Bad)),
+            },
         }
     }
 
     // The owner has said how large the screen is: viewers may come.
     fn open(&mut self, screen: Screen, options: &ShareOptions<'_>) -> Result<(), Failure> {
-        let name = options.name.as_bytes();
-        let name = &name[..name.len().min(NAME_MAX)];
-        let share = Share::new(
-            self.alloc,
-            screen.width,
-            screen.height,
-            name,
-            Version::V38,
-            TEXT_LIMIT,
-        )?;
+        let share = share_of(self.alloc, screen, options.name)?;
         self.guests = Some(Guests::new(self.alloc, share)?);
-        let descriptor = self.listener.as_raw_fd();
-        self.poll
-            .registry()
-            .register(&mut SourceFd(&descriptor), LISTENER, Interest::READABLE)?;
+        let listens = Interest::READABLE;
+        register(self.poll.registry(), &self.listener, LISTENER, listens)?;
         self.ready.listener = true;
         Ok(())
     }
+}
 
-    // Draws what a line asks for, or lets a viewer go.
-    fn obey_line<W: Write>(
-        &mut self,
-        line: &OwnerLine,
-        output: &mut W,
-    ) -> Result<Option<Refusal>, Failure> {
-        let Some(guests) = &mut self.guests else {
-            return Ok(Some(Refusal::Bad));
-        };
-        if let OwnerLine::End(seat) = line {
-            guests.let_go(*seat, &mut self.ready, output)?;
-            return Ok(None);
-        }
-        Ok(guests.draw(line))
-    }
-
-    // Draws pixels.
-    fn put(&mut self, rect: Rect, data: &[u8]) -> Option<Refusal> {
-        match &mut self.guests {
-            Some(guests) => guests.put(self.alloc, rect, data),
-            None => Some(Refusal::Bad),
-        }
-    }
+// A share of a screen of this size.
+fn share_of(alloc: Global, screen: Screen, name: &str) -> Result<Share, AllocError> {
+    let name = name.as_bytes();
+    let name = &name[..name.len().min(NAME_MAX)];
+    Share::new(
+        alloc,
+        screen.width,
+        screen.height,
+        name,
+        Version::V38,
+        TEXT_LIMIT,
+    )
 }

@@ -3,10 +3,10 @@
 use crate::fault::Failure;
 use crate::sharing::ShareOptions;
 use crate::sharing::guests::Guests;
-use crate::sharing::ready::Ready;
+use crate::sharing::ready::{Ready, register};
 use crate::sharing::telling::tell_join;
-use mio::unix::SourceFd;
 use mio::{Interest, Registry, Token};
+use rfb_session::Share;
 use std::io::{ErrorKind, Read, Write};
 use std::net::{OpenListener, OpenStream};
 use std::os::fd::AsRawFd;
@@ -49,29 +49,41 @@ impl<S: Read + Write + OpenStream + AsRawFd + Drop> Guests<S> {
         ready: &mut Ready,
         output: &mut W,
     ) -> Result<(), Failure> {
-        if self.count() >= options.viewers as usize || stream.set_nonblocking(true).is_err() {
+        if self.count() >= options.viewers as usize {
             return Ok(());
         }
-        let _ = stream.set_nodelay(true);
-        let Ok(Some(seat)) = self.share.join() else {
-            return Ok(());
-        };
-        let descriptor = stream.as_raw_fd();
-        let both = Interest::READABLE | Interest::WRITABLE;
-        let place = seat as usize;
-        if registry
-            .register(&mut SourceFd(&descriptor), Token(place), both)
-            .is_err()
-        {
-            self.share.left(seat);
-            return Ok(());
+        match seat_for(&mut self.share, &stream, registry) {
+            Some(seat) => {
+                let place = seat as usize;
+                if let Some(slot) = self.streams.get_mut(place) {
+                    *slot = Some(stream);
+                }
+                ready.renew(place);
+                self.came = true;
+                tell_join(output, seat)
+            }
+            None => Ok(()),
         }
-        if let Some(slot) = self.streams.get_mut(place) {
-            *slot = Some(stream);
-        }
-        ready.renew(place);
-        self.came = true;
-        tell_join(output, seat)?;
-        Ok(())
     }
+}
+
+// The seat that a connection gets, if it can be had: from now on it is among the sources.
+fn seat_for<S: OpenStream + AsRawFd>(
+    share: &mut Share,
+    stream: &S,
+    registry: &Registry,
+) -> Option<u8> {
+    if stream.set_nonblocking(true).is_err() {
+        return None;
+    }
+    let _ = stream.set_nodelay(true);
+    let Ok(Some(seat)) = share.join() else {
+        return None;
+    };
+    let both = Interest::READABLE | Interest::WRITABLE;
+    if register(registry, stream, Token(seat as usize), both).is_err() {
+        share.left(seat);
+        return None;
+    }
+    Some(seat)
 }

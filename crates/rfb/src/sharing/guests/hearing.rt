@@ -47,15 +47,19 @@ impl<S: Read + Write + OpenStream + AsRawFd + Drop> Guests<S> {
                 ready.reads[place] = false;
                 break;
             };
-            match stream.read(part) {
-                Ok(0) => self.let_go(seat, ready, output)?,
-                Ok(count) => self.receive(seat, &part[..count], ready, output)?,
+            let told = match stream.read(part) {
+                Ok(0) => self.let_go(seat, ready, output),
+                Ok(count) => self.receive(seat, &part[..count], ready, output),
                 Err(error) => match error.kind() {
-                    ErrorKind::Interrupted => {}
-                    ErrorKind::WouldBlock => ready.reads[place] = false,
-                    _ => self.fail(seat, Fault::Device, ready, output)?,
+                    ErrorKind::Interrupted => Ok(()),
+                    ErrorKind::WouldBlock => {
+                        ready.reads[place] = false;
+                        Ok(())
+                    }
+                    _ => self.fail(seat, &Fault::Device, ready, output),
                 },
-            }
+            };
+            told?;
         }
         Ok(())
     }
@@ -81,7 +85,7 @@ impl<S: Read + Write + OpenStream + AsRawFd + Drop> Guests<S> {
                 Err(fault) => {
                     // What waits is written as far as it goes at once.
                     let _ = self.write(seat, ready);
-                    return self.fail(seat, fault, ready, output);
+                    return self.fail(seat, &fault, ready, output);
                 }
             }
         }
@@ -100,9 +104,9 @@ impl<S: Read + Write + OpenStream + AsRawFd + Drop> Guests<S> {
                 self.let_go(place, ready, output)?;
             }
         }
-        if let Some(event) = &heard.event {
-            tell_event(output, heard.seat, event)?;
+        match &heard.event {
+            Some(event) => tell_event(output, heard.seat, event),
+            None => Ok(()),
         }
-        Ok(())
     }
 }

@@ -15,29 +15,29 @@ impl<S: Read + Write + OpenStream + AsRawFd + Drop> Guests<S> {
     pub fn serve<W: Write>(&mut self, ready: &mut Ready, output: &mut W) -> Result<(), Failure> {
         for seat in 0..SLOTS as u8 {
             if self.serve_seat(seat, ready).is_err() {
-                self.fail(seat, Fault::Device, ready, output)?;
+                self.fail(seat, &Fault::Device, ready, output)?;
             }
         }
         Ok(())
     }
 
-    // The same for one of them. It gives an error where its connection has failed.
-    fn serve_seat(&mut self, seat: u8, ready: &mut Ready) -> Result<(), Fault>
+    // The same for one of them, and whether nothing waits for it. It gives an error where its
+    // connection has failed.
+    fn serve_seat(&mut self, seat: u8, ready: &mut Ready) -> Result<bool, Fault>
         requires { seat < 8 }
     {
         let place = seat as usize;
-        if !self.write(seat, ready)? || !self.stirred[place] {
-            return Ok(());
+        let is_done = self.write(seat, ready)?;
+        if !is_done || !self.stirred[place] {
+            return Ok(is_done);
         }
         match self.share.compose(seat) {
-            Ok(Composing::Composed) => {
-                self.write(seat, ready)?;
-            }
+            Ok(Composing::Composed) => return self.write(seat, ready),
             // Where memory was wanting, the next turn tries again.
             Err(_) => {}
             Ok(_) => self.stirred[place] = false,
         }
-        Ok(())
+        Ok(true)
     }
 
     /// Writes what waits for one as far as its connection takes it, and tells whether that is all.

@@ -3,7 +3,7 @@ use Rattle.rfb_pixel.specs.declared.colour.Colour.{Colour}
 use Rattle.rfb_session.specs.declared.share.event.Drawing.TheVariants.{Put}
 use Rattle.rfb_session.specs.Share.{screen_of}
 use Rattle.rfb.specs.SharedDrawing.{DrawsRows, colours_in, row_bytes}
-use Rattle.rfb.proofs.SharedLemmas.{held_after, length-row, row_held}
+use Rattle.rfb.proofs.SharedLemmas.{held_after, length-row, length-row_bytes, row_held}
 use Rattle.rfb.proofs.sharing.drawing.draw_rows.Goals as goal
 
 pub loop-k-init : goal.loop-k-init
@@ -11,6 +11,11 @@ loop-k-init c = record { room = c.requires.room; held = c.requires.inside; drawn
 
 pub overflow_add-rect : goal.overflow_add-rect
 overflow_add-rect c = omega (arith, c.loop-k.invariant.held.1, c.loop-k.share.rows)
+
+pub with_colours-row-requires : goal.with_colours-row-requires
+with_colours-row-requires c =
+    let size = length-row_bytes c.args.rect c.args.bytes.now c.loop-k.k c.loop-k-test.true c.requires.bytes in
+    record { room = rw c.part_of.ensures (omega (arith, size, c.loop-k.invariant.room)) }
 
 pub draw_row-row-requires : goal.draw_row-row-requires
 draw_row-row-requires c =
