@@ -1,6 +1,12 @@
 use Rattle.std.proofs.Common.{refl}
-use Rattle.rfb.proofs.OwnerStageLemmas.{pixels_end}
+use Rattle.rfb.proofs.OwnerStageLemmas.{pixels_end, pixels_spoil}
 use Rattle.rfb.proofs.sharing.reader.OwnerReader.end_pixels.Goals as goal
+
+pub returns-then-byte-ne-NEWLINE : goal.returns-then-byte-ne-NEWLINE
+returns-then-byte-ne-NEWLINE c = record {
+  goes = λ text comes. pixels_spoil c.args.pixels c.args.byte c.requires.all c.if-byte-ne-NEWLINE.true c.args.self.now.screen text comes;
+  known = refl;
+}
 
 pub returns : goal.returns
 returns c =

@@ -1,7 +1,17 @@
-use Rattle.std.proofs.Common.{refl, arith, ap, ℕ, List, take, length}
+use Rattle.std.proofs.Common.{◌≡◌, refl, arith, ap, ℕ, List, take, length}
 use Rattle.std.proofs.lemmas.List.{length-take}
-use Rattle.rfb.proofs.OwnerStageLemmas.{first_newline, refused_end, refused_spoil}
+use Rattle.rfb.proofs.OwnerStageLemmas.{first_newline, refused_come, refused_end, refused_spoil}
 use Rattle.rfb.proofs.sharing.reader.OwnerReader.feed_refused.Goals as goal
+
+pub returns-then-left-gt0-clause-feeds : goal.returns-then-left-gt0-clause-feeds
+returns-then-left-gt0-clause-feeds c =
+    let used = c.min-used.result in
+    let all : length (take used c.args.bytes.now) ≡ used = omega (arith, length-take {A = ℕ}, c.min-used.ensures) in
+    let come = refused_come c.args.left c.args.why (take used c.args.bytes.now) (omega arith) (omega (arith, all, c.min-used.ensures)) in
+    record {
+      goes = λ text comes. rw all at (come c.args.self.now.screen text comes);
+      known = refl;
+    }
 
 pub returns-then-used-gt0-clause-feeds : goal.returns-then-used-gt0-clause-feeds
 returns-then-used-gt0-clause-feeds c = record {
