@@ -11,29 +11,25 @@ use Rattle.rfb.specs.declared.options.WrongWords.TheVariants.{Words}
 use Rattle.rfb.specs.CommandLine.{Does, DoesAsked, Leaves, LeavesAsked, Through}
 use Rattle.rfb.specs.Options.{AreCommand, AreOrdered, AreWrong}
 
-pub does_asked : (words : List Text) (order : Order) (read before after last : Option (List ℕ))
-    (u : Unit {0}) (r done : Result (Unit {0}) Failure) → AreOrdered words order →
-    OnOk r (Through order.paths (Does order.task) read before after) → done ≡ r → done ≡ Ok u → last ≡ after →
-    DoesAsked words read before last
-does_asked words order read before after last u r done asked does same is kept =
-    let ok : r ≡ Ok u = sym same ∙ is in
-    let did : Through order.paths (Does order.task) read before after =
-    subst (λ (x : Result (Unit {0}) Failure). OnOk x (Through order.paths (Does order.task) read before after)) ok does in
-    (order, asked, subst (λ (o : Option (List ℕ)). Through order.paths (Does order.task) read before o) (sym kept) did)
+pub zero_not_one : (n : ℕ) → n ≡ 0 → n ≡ 1 → ⊥
+zero_not_one n is not = let both : 0 ≡ 1 = sym is ∙ not in cc
 
-pub leaves_asked : {W : Type 0} (contents : W → Option (List ℕ)) (words : List Text) (order : Order) (read last : Option (List ℕ))
-    (old new : W) (failure : Failure) (r done : Result (Unit {0}) Failure) → AreOrdered words order →
+pub does_asked : (words : List Text) (order : Order) (read before after : Option (List ℕ)) (status : ℕ)
+    (r : Result (Unit {0}) Failure) → AreOrdered words order →
+    OnOk r (Through order.paths (Does order.task) read before after) → OnErr r (status ≡ 1) → status ≡ 0 →
+    DoesAsked words read before after
+does_asked words order read before after status (Ok u) asked does failed zero = (order, asked, does)
+does_asked words order read before after status (Err failure) asked does failed zero =
+    absurd (zero_not_one status zero failed)
+
+pub leaves_asked : {W : Type 0} (contents : W → Option (List ℕ)) (words : List Text) (order : Order) (read : Option (List ℕ))
+    (old new : W) (status : ℕ) (r : Result (Unit {0}) Failure) → AreOrdered words order →
     OnErr r ((new ≡ old) ⊎ Through order.paths (Leaves order.task) read (contents old) (contents new)) →
-    done ≡ r → done ≡ Err failure → last ≡ contents new → LeavesAsked words read (contents old) last
-leaves_asked contents words order read last old new failure r done asked leaves same is kept =
-    some (subst (λ (x : Result (Unit {0}) Failure). OnErr x ((new ≡ old)
-    ⊎ Through order.paths (Leaves order.task) read (contents old) (contents new))) (sym same ∙ is) leaves)
-  where
-    some : (new ≡ old) ⊎ Through order.paths (Leaves order.task) read (contents old) (contents new) →
-        LeavesAsked words read (contents old) last
-    some (inl kept_so) = inl (kept ∙ ap contents kept_so)
-    some (inr left) =
-        inr (order, asked, subst (λ (o : Option (List ℕ)). Through order.paths (Leaves order.task) read (contents old) o) (sym kept) left)
+    OnOk r (status ≡ 0) → status ≡ 1 → LeavesAsked words read (contents old) (contents new)
+leaves_asked contents words order read old new status (Ok u) asked leaves done one =
+    absurd (zero_not_one status done one)
+leaves_asked contents words order read old new status (Err failure) asked (inl kept) done one = inl (ap contents kept)
+leaves_asked contents words order read old new status (Err failure) asked (inr left) done one = inr (order, asked, left)
 
 -- of a list without kinds the one kind is want of memory
 pub only_memory : (kinds : Kinds) (e : Error) → kinds ≡ [] → HasKind kinds e → kind_of e ≡ OutOfMemory

@@ -1,7 +1,9 @@
 //! The command line: what the words ask for is done, and the exit status is chosen.
 
-ghost use Rattle.std.specs.Prelude.{◌≡◌, ◌≢◌, ◌≤◌, map, IfOk};
+ghost use Rattle.std.specs.Prelude.{◌≡◌, ◌≢◌, ◌≤◌, map, IfOk, OnOk, OnErr};
+ghost use Rattle.clap.specs.Words.{HasKind, fault_of};
 ghost use Rattle.rfb.specs.Options.{AreCommand, AreMistaken, HaveMeaning, ask_for_faults, plain_of};
+ghost use Rattle.rfb.specs.command.Program.{program};
 ghost use Rattle.rfb.specs.CommandLine.{DoesAsked, LeavesAsked};
 ghost use Rattle.std.specs.IoError.{error_kind};
 ghost use Rattle.std.specs.declared.io.ErrorKind.TheVariants.{InvalidData};
@@ -140,27 +142,59 @@ fn obey<P: AllocGlobal + Clock + Files + Net, S: AsStr, R: Read, W: Write, E: Wr
         LeavesAsked (map S.text words.now)
         (R.remaining input.old) (W.contents output.old) (W.contents output.new) }
 {
-    let alloc = rt.alloc();
-    let done = match read_words(alloc, words) {
-        Ok(order) => work_through(rt, order, explains, input, output, errors),
+    match read_words(rt.alloc(), words) {
+        Ok(order) => {
+            let done = work_through(rt, order, explains, input, output, errors);
+            status_of(done, errors)
+        }
         Err(WrongWords::Value(value)) => {
             tell_value(value, explains, errors);
-            return BAD_WORDS;
+            BAD_WORDS
         }
-        Err(WrongWords::Words(answer)) if answer.kind() == ErrorKind::OutOfMemory => {
-            Err(Failure::Fault(Fault::NoMemory))
+        Err(WrongWords::Words(answer)) => {
+            let status = answer_words(words, &answer, output, errors);
+            drop(answer);
+            status
         }
-        Err(WrongWords::Words(_)) if ask_for_faults(words) => show_faults(output),
-        Err(WrongWords::Words(answer)) if answer.use_stderr() => {
-            let _ = write!(errors, "{answer}");
-            return BAD_WORDS;
-        }
-        Err(WrongWords::Words(answer)) => show(&answer, output),
-    };
+    }
+}
+
+// The status of what was done. Why it was not is printed.
+fn status_of<E: Write>(done: Result<(), Failure>, errors: &mut E) -> u8
+    ensures done { OnOk done (result ≡ 0) }
+    ensures failed { OnErr done (result ≡ 1) }
+{
     match done {
         Ok(()) => DONE,
         Err(failure) => tell(failure, errors),
     }
+}
+
+// Answers words that ask for no task: with a text that they ask for, or with what is wrong.
+fn answer_words<S: AsStr, W: Write, E: Write>(
+    words: &[S],
+    answer: &clap::Error,
+    output: &mut W,
+    errors: &mut E,
+) -> u8
+    requires kind { HasKind (fault_of program (map S.text words.now)) answer.now }
+    ensures range { result ≤ 2 }
+    ensures done { result ≡ 0 → HaveMeaning (map S.text words.now) }
+    ensures mistake { result ≡ 2 → AreMistaken (map S.text words.now) }
+    ensures memory { AreCommand (map S.text words.now) →
+        (result ≡ 1) × (output.new ≡ output.old) }
+{
+    if answer.kind() == ErrorKind::OutOfMemory {
+        return tell(Failure::Fault(Fault::NoMemory), errors);
+    }
+    if ask_for_faults(words) {
+        return status_of(show_faults(output), errors);
+    }
+    if answer.use_stderr() {
+        let _ = write!(errors, "{answer}");
+        return BAD_WORDS;
+    }
+    status_of(show(answer, output), errors)
 }
 
 // Prints why a command fails, and answers its exit status.

@@ -7,9 +7,9 @@ mod reason;
 
 use crate::script::cause::form::{OF_SCRIPT, form_of};
 use crate::script::cause::kind::why_not_form;
-use crate::script::parting::{ends_line, parts_words};
 use crate::script::cause::reason::Reason;
 use crate::script::hub::HUB;
+use crate::script::parting::{ends_line, parts_words};
 use crate::script::read::SCREEN;
 use arrayvec::ArrayVec;
 pub use hub::tell_bad_hub_line;

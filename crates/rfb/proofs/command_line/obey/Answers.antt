@@ -1,50 +1,32 @@
-use Rattle.std.proofs.Common.{◌≡◌, ◌∙◌, ap, inl, sym, true, map}
-use Rattle.clap.specs.Values.{kind_of}
-use Rattle.clap.specs.declared.error.kind.ErrorKind.TheVariants.{OutOfMemory}
-use Rattle.rfb.proofs.CommandLemmas.{does_asked, leaves_asked, not_both, wrong_memory}
+use Rattle.std.proofs.Common.{ap, inl, map}
+use Rattle.rfb.proofs.CommandLemmas.{does_asked, leaves_asked, zero_not_one}
 use Rattle.rfb.proofs.command_line.obey.Goals as goal
-use Rattle.rfb.proofs.command_line.obey.Goals.{in-Ok, in-Err-Words, in-Err-Words-2, in-Err-Words-4}
 
-pub returns-in-Ok-done-clause-played : goal.returns-in-Ok-done-clause-played
-returns-in-Ok-done-clause-played g c = λ zero command. elim c.match-read_words.branch [
-  | in-Ok w ↦
-      does_asked (map g.S.AsStr.text c.args.words.now) w.in-Ok.order (g.R.Read.remaining c.args.input.now)
-      (g.W.Write.contents c.args.output.now) (g.W.Write.contents w.work_through-done.new.output) (g.W.Write.contents c.match-read_words.output)
-      c.in-Ok-done.field-0 w.work_through-done.result c.match-read_words.done w.in-Ok.ensures w.work_through-done.ensures.done w.done-is c.in-Ok-done.is
-      (ap g.W.Write.contents w.output-is)
-  | in-Err-Words w ↦ let e = sym w.done-is ∙ c.in-Ok-done.is in absurd (cc)
-  | in-Err-Words-2 w ↦
-      let memory : kind_of w.in-Err-Words.answer ≡ OutOfMemory =
-      wrong_memory (map g.S.AsStr.text c.args.words.now) w.in-Err-Words.field-0 w.in-Err-Words.answer command w.in-Err-Words.ensures-1 w.in-Err-Words.field-0-is in
-      let is : w.kind.result ≡ OutOfMemory = w.kind.ensures ∙ memory in
-      let same : w.eq.result ≡ true = rw is at w.eq.ensures in
-      absurd (not_both w.eq.result same w.if-eq.false)
-  | in-Err-Words-4 w ↦
-      let memory : kind_of w.in-Err-Words.answer ≡ OutOfMemory =
-      wrong_memory (map g.S.AsStr.text c.args.words.now) w.in-Err-Words.field-0 w.in-Err-Words.answer command w.in-Err-Words.ensures-1 w.in-Err-Words.field-0-is in
-      let is : w.kind.result ≡ OutOfMemory = w.kind.ensures ∙ memory in
-      let same : w.eq.result ≡ true = rw is at w.eq.ensures in
-      absurd (not_both w.eq.result same w.if-eq.false)
-]
+pub returns-in-Ok-clause-played : goal.returns-in-Ok-clause-played
+returns-in-Ok-clause-played g c = λ zero _.
+    does_asked (map g.S.AsStr.text c.args.words.now) c.in-Ok.order (g.R.Read.remaining c.args.input.now)
+    (g.W.Write.contents c.args.output.now) (g.W.Write.contents c.work_through-done.new.output) c.status_of.result
+    c.work_through-done.result c.in-Ok.ensures c.work_through-done.ensures.done c.status_of.ensures.failed zero
 
-pub returns-in-Err-clause-failed : goal.returns-in-Err-clause-failed
-returns-in-Err-clause-failed g c = λ one command. elim c.match-read_words.branch [
-  | in-Ok w ↦
-      leaves_asked g.W.Write.contents (map g.S.AsStr.text c.args.words.now) w.in-Ok.order (g.R.Read.remaining c.args.input.now)
-      (g.W.Write.contents c.match-read_words.output) c.args.output.now w.work_through-done.new.output
-      c.in-Err.failure w.work_through-done.result c.match-read_words.done w.in-Ok.ensures w.work_through-done.ensures.left w.done-is c.in-Err.is
-      (ap g.W.Write.contents w.output-is)
-  | in-Err-Words w ↦ inl (ap g.W.Write.contents w.output-is)
-  | in-Err-Words-2 w ↦
-      let memory : kind_of w.in-Err-Words.answer ≡ OutOfMemory =
-      wrong_memory (map g.S.AsStr.text c.args.words.now) w.in-Err-Words.field-0 w.in-Err-Words.answer command w.in-Err-Words.ensures-1 w.in-Err-Words.field-0-is in
-      let is : w.kind.result ≡ OutOfMemory = w.kind.ensures ∙ memory in
-      let same : w.eq.result ≡ true = rw is at w.eq.ensures in
-      absurd (not_both w.eq.result same w.if-eq.false)
-  | in-Err-Words-4 w ↦
-      let memory : kind_of w.in-Err-Words.answer ≡ OutOfMemory =
-      wrong_memory (map g.S.AsStr.text c.args.words.now) w.in-Err-Words.field-0 w.in-Err-Words.answer command w.in-Err-Words.ensures-1 w.in-Err-Words.field-0-is in
-      let is : w.kind.result ≡ OutOfMemory = w.kind.ensures ∙ memory in
-      let same : w.eq.result ≡ true = rw is at w.eq.ensures in
-      absurd (not_both w.eq.result same w.if-eq.false)
-]
+pub returns-in-Ok-clause-failed : goal.returns-in-Ok-clause-failed
+returns-in-Ok-clause-failed g c = λ one _.
+    leaves_asked g.W.Write.contents (map g.S.AsStr.text c.args.words.now) c.in-Ok.order (g.R.Read.remaining c.args.input.now)
+    c.args.output.now c.work_through-done.new.output c.status_of.result
+    c.work_through-done.result c.in-Ok.ensures c.work_through-done.ensures.left c.status_of.ensures.done one
+
+pub returns-in-Ok-clause-done : goal.returns-in-Ok-clause-done
+returns-in-Ok-clause-done g c = λ _. inl (c.in-Ok.order, c.in-Ok.ensures)
+
+pub returns-in-Err-Words-clause-done : goal.returns-in-Err-Words-clause-done
+returns-in-Err-Words-clause-done g c = c.answer_words-status.ensures.done
+
+pub returns-in-Err-Words-clause-mistake : goal.returns-in-Err-Words-clause-mistake
+returns-in-Err-Words-clause-mistake g c = c.answer_words-status.ensures.mistake
+
+pub returns-in-Err-Words-clause-played : goal.returns-in-Err-Words-clause-played
+returns-in-Err-Words-clause-played g c = λ zero command.
+    absurd (zero_not_one _ zero (c.answer_words-status.ensures.memory command).0)
+
+pub returns-in-Err-Words-clause-failed : goal.returns-in-Err-Words-clause-failed
+returns-in-Err-Words-clause-failed g c = λ _ command.
+    inl (ap g.W.Write.contents (c.answer_words-status.ensures.memory command).1)
