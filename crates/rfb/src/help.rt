@@ -3,19 +3,10 @@
 /// The version that `--version` prints after the program's name.
 pub const VERSION: &str = "0.1.0";
 
-pub const STATUSES: &str = "\
-Status:
-  0  the work is done: the picture or this text is on standard output
-  1  it failed, and the last line on standard error says why
-  2  the words of the command ask for nothing that there is
-
-With --explain, at any command, sentences on standard error say how it goes and why it fails. At a
-terminal they do by themselves.
-
-`rfb help faults` has refusals and faults by number, docs/PROTOCOL.md the language of scripts.";
-
-/// What stands below the words of a command in its help.
+/// What stands below the words in help.
 pub enum Topic {
+    /// The statuses, below the commands.
+    Statuses,
     /// The language of scripts.
     Language,
     /// What `loop` does with it.
@@ -34,6 +25,7 @@ impl Topic {
     /// Its text.
     pub fn text(&self) -> &'static str {
         match self {
+            Topic::Statuses => STATUSES,
             Topic::Language => LANGUAGE,
             Topic::Loopback => LOOPBACK,
             Topic::Recordings => RECORDINGS,
@@ -43,6 +35,17 @@ impl Topic {
         }
     }
 }
+
+const STATUSES: &str = "\
+Status:
+  0  the work is done: the picture or this text is on standard output
+  1  it failed, and the last line on standard error says why
+  2  the words of the command ask for nothing that there is
+
+With --explain, at any command, sentences on standard error say how it goes and why it fails. At a
+terminal they do by themselves.
+
+`rfb help faults` has refusals and faults by number, docs/PROTOCOL.md the language of scripts.";
 
 const LANGUAGE: &str = "\
 A script has a line for each step. One space parts two words:

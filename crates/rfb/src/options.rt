@@ -8,6 +8,7 @@ mod replaying;
 mod serving;
 mod sharing;
 mod usage;
+mod verbs;
 mod words;
 
 ghost use Rattle.std.specs.Prelude.{◌≡◌, map, Some, IfOk, MatchResult};
@@ -18,15 +19,14 @@ ghost use Rattle.rfb.specs.Options.{AreOrdered, AreWrong, IsOrder, IsWrongValue}
 ghost use Rattle.rfb.specs.Options.{HasBadValue, IsTask};
 ghost use Rattle.rfb.specs.command.Program.{asked, program};
 
-use crate::help::{STATUSES, Topic, VERSION};
-use crate::options::looking::{VIEW, view_options_in};
+use crate::help::{Topic, VERSION};
+use crate::options::looking::view_options_in;
 pub use crate::options::paths::Paths;
 use crate::options::paths::paths_in;
-use crate::options::replaying::{PLAY, play_options_in};
-use crate::options::serving::{SERVE, serve_options_in};
-use crate::options::sharing::{SHARE, share_options_in};
-use crate::options::usage::{Usage, with_commands};
-use crate::options::words::{INPUT, OUTPUT};
+use crate::options::replaying::play_options_in;
+use crate::options::serving::serve_options_in;
+use crate::options::sharing::share_options_in;
+use crate::options::verbs::{Verb, commands_of};
 use crate::play::PlayOptions;
 use crate::serving::ServeOptions;
 use crate::sharing::ShareOptions;
@@ -36,21 +36,14 @@ use std::alloc::{AllocError, Global};
 use std::convert::AsStr;
 
 // The commands.
-const COMMANDS: &[Usage<'static>] = &[SCRIPT, LOOP, PLAY, SERVE, VIEW, SHARE];
-
-const SCRIPT: Usage<'static> = Usage {
-    name: "script",
-    about: "Runs a script from standard input, and writes the viewer's picture as PPM",
-    topic: Topic::Language,
-    words: &[INPUT, OUTPUT],
-};
-
-const LOOP: Usage<'static> = Usage {
-    name: "loop",
-    about: "Runs a script as `script` does, and delivers its bytes through a connection",
-    topic: Topic::Loopback,
-    words: &[INPUT, OUTPUT],
-};
+const COMMANDS: &[Verb] = &[
+    Verb::Script,
+    Verb::Loop,
+    Verb::Play,
+    Verb::Serve,
+    Verb::View,
+    Verb::Share,
+];
 
 /// What the words ask for.
 #[derive(Drop)]
@@ -139,12 +132,13 @@ fn parse<'a, S: AsStr>(alloc: Global, words: &'a [S]) -> Result<ArgMatches<'a>, 
 fn commands<'a>(alloc: Global) -> Result<Command<'a>, AllocError>
     ensures { IfOk result (λ command. app_of command ≡ program) }
 {
-    let program = Command::new(alloc, "rfb")
+    let commands = commands_of(alloc, COMMANDS)?;
+    Command::new(alloc, "rfb")
         .version(VERSION)
         .about("Both ends of the Remote Framebuffer protocol")
-        .after_help(STATUSES)
-        .subcommand_required(true);
-    with_commands(alloc, program, COMMANDS)
+        .after_help(Topic::Statuses.text())
+        .subcommand_required(true)
+        .subcommands(commands)
 }
 
 // What the words ask for, once they are parsed.

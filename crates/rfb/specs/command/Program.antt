@@ -2,6 +2,8 @@
 use Rattle.std.specs.Prelude.{true, List, [], ◌∷◌, Option, codes}
 use Rattle.clap.specs.Words.{App, Row, Rule, Shape, Text, subcommand_of, with_subcommand}
 use Rattle.clap.specs.Simple.{new_shape}
+use Rattle.rfb.specs.declared.options.verbs.Verb.{Verb}
+use Rattle.rfb.specs.declared.options.verbs.Verb.TheVariants as verbs
 use Rattle.rfb.specs.command.Rules.{format_rule, server_rule, host_rule, listen_rule, encodings_rule, record_rule, partial_rule, input_rule, output_rule, any_port_rule, port_rule, side_rule, connections_rule, forever_rule, picture_rule, viewers_rule, name_rule, idle_rule, first_updates_rule, timeout_rule, updates_rule}
 
 -- a command of these words
@@ -32,6 +34,14 @@ view_shape = command (codes "view")
 abbrev pub share_shape : Shape
 share_shape = command (codes "share")
     (port_rule ∷ listen_rule ∷ viewers_rule ∷ name_rule ∷ idle_rule ∷ [])
+
+abbrev pub shape_named : Verb → Shape
+shape_named verbs.Script = script_shape
+shape_named verbs.Loop = loop_shape
+shape_named verbs.Play = play_shape
+shape_named verbs.Serve = serve_shape
+shape_named verbs.View = view_shape
+shape_named verbs.Share = share_shape
 
 -- the program has a version, and commands, one of which has to be named
 abbrev pub top : App

@@ -3,7 +3,7 @@ use Rattle.std.specs.Prelude.{ℕ, pos, true, List, [], ◌∷◌, Some, map}
 use Rattle.clap.specs.declared.builder.action.ArgAction.TheVariants.{SetTrue}
 use Rattle.clap.specs.declared.builder.value_parser.ValueParser.TheVariants.{Signed}
 use Rattle.clap.specs.Simple.{new_shape}
-use Rattle.clap.specs.Words.{App, Rule, Shape, Text, new_rule, with_rule, with_subcommand}
+use Rattle.clap.specs.Words.{Rule, Shape, Text, new_rule}
 use Rattle.rfb.specs.declared.options.usage.Mark.{Mark}
 use Rattle.rfb.specs.declared.options.usage.Mark.TheVariants.{Long, LongOr, Alone}
 use Rattle.rfb.specs.declared.options.usage.Takes.{Takes}
@@ -32,10 +32,8 @@ abbrev pub taking : Takes → Rule → Rule
 taking takes.Nothing rule = record rule { action = Some SetTrue }
 taking (takes.Text value) rule = valued rule
 taking (takes.TextOr value default) rule = or_else default.now (valued rule)
-taking (takes.Number value) rule = numbered 4294967295 rule
-taking (takes.NumberOr value default) rule = or_else default.now (numbered 4294967295 rule)
-taking (takes.Small value most) rule = numbered most rule
-taking (takes.SmallOr value most default) rule = or_else default.now (numbered most rule)
+taking (takes.Number value most) rule = numbered most rule
+taking (takes.NumberOr value most default) rule = or_else default.now (numbered most rule)
 taking (takes.Needed value most) rule = record (numbered most rule) { required = true }
 
 abbrev pub rule_for : Word → Rule
@@ -43,13 +41,3 @@ rule_for word = taking word.takes (marked word.mark word.name.now)
 
 abbrev pub shape_for : Usage → Shape
 shape_for usage = record (new_shape usage.name.now) { rules = map rule_for usage.words.now }
-
--- words are added in their order, and so are commands
-unfoldable pub with_words : App → List Word → App
-with_words app [] = app
-with_words app (word ∷ words) = with_words (with_rule app (rule_for word)) words
-
-unfoldable pub with_commands : App → List Usage → App
-with_commands app [] = app
-with_commands app (usage ∷ usages) =
-    with_commands (with_subcommand app (shape_for usage)) usages

@@ -45,7 +45,7 @@ pub const HOST: Word<'static> = Word {
 pub const ANY_PORT: Word<'static> = Word {
     name: "port",
     mark: Mark::Long,
-    takes: Takes::Small("P", u16::MAX),
+    takes: Takes::Number("P", u16::MAX as u32),
     help: "The port, 1 to 65535; 5900 without it",
 };
 

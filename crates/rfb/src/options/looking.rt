@@ -21,7 +21,7 @@ use clap::ArgMatches;
 use rfb_wire::Encoding;
 
 /// What `view` is called with.
-pub const VIEW: Usage<'static> = Usage {
+pub const VIEW: &Usage<'static> = &Usage {
     name: "view",
     about: "Views a server, and writes the picture that it shows as PPM",
     topic: Topic::Servers,
@@ -32,7 +32,7 @@ pub const VIEW: Usage<'static> = Usage {
         Word {
             name: "updates",
             mark: Mark::Long,
-            takes: Takes::NumberOr("U", "1"),
+            takes: Takes::NumberOr("U", u32::MAX, "1"),
             help: "How many updates are viewed, 1 to 4294967295",
         },
         FORMAT,
@@ -51,7 +51,7 @@ pub const VIEW: Usage<'static> = Usage {
         Word {
             name: "timeout",
             mark: Mark::Long,
-            takes: Takes::Number("S"),
+            takes: Takes::Number("S", u32::MAX),
             help: "The seconds after which it ends, 1 to 4294967295; without it, it waits",
         },
         PARTIAL,

@@ -14,7 +14,7 @@ use crate::play::PlayOptions;
 use clap::ArgMatches;
 
 /// What `play` is called with.
-pub const PLAY: Usage<'static> = Usage {
+pub const PLAY: &Usage<'static> = &Usage {
     name: "play",
     about: "Plays a server's bytes from standard input, and writes the last picture as PPM",
     topic: Topic::Recordings,
@@ -23,7 +23,7 @@ pub const PLAY: Usage<'static> = Usage {
         Word {
             name: "updates",
             mark: Mark::Long,
-            takes: Takes::Number("U"),
+            takes: Takes::Number("U", u32::MAX),
             help: "The updates after which it ends, 1 to 4294967295; without it, all are played",
         },
         PARTIAL,

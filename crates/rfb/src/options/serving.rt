@@ -21,7 +21,7 @@ const LOOPBACK: &str = "127.0.0.1";
 const SIDE: u16 = 64;
 
 /// What `serve` is called with.
-pub const SERVE: Usage<'static> = Usage {
+pub const SERVE: &Usage<'static> = &Usage {
     name: "serve",
     about: "Serves a test picture that scrolls, or one of a file, to viewers, one after another",
     topic: Topic::Viewers,
@@ -30,13 +30,13 @@ pub const SERVE: Usage<'static> = Usage {
         Word {
             name: "width",
             mark: Mark::Long,
-            takes: Takes::Small("N", MAX_SIDE),
+            takes: Takes::Number("N", MAX_SIDE as u32),
             help: "The pixels of a row of the screen, 1 to 4096; 64 without it",
         },
         Word {
             name: "height",
             mark: Mark::Long,
-            takes: Takes::Small("N", MAX_SIDE),
+            takes: Takes::Number("N", MAX_SIDE as u32),
             help: "The rows of the screen, 1 to 4096; 64 without it",
         },
         Word {
@@ -48,7 +48,7 @@ pub const SERVE: Usage<'static> = Usage {
         Word {
             name: "connections",
             mark: Mark::Long,
-            takes: Takes::Small("K", u16::MAX),
+            takes: Takes::Number("K", u16::MAX as u32),
             help: "How many connections are served, 1 to 65535; 1 without it",
         },
         Word {
@@ -60,7 +60,7 @@ pub const SERVE: Usage<'static> = Usage {
         Word {
             name: "timeout",
             mark: Mark::Long,
-            takes: Takes::Number("S"),
+            takes: Takes::Number("S", u32::MAX),
             help: "The seconds without a byte after which a viewer is let go, 1 to 4294967295",
         },
         LISTEN,

@@ -19,7 +19,7 @@ const NAME: &str = "rfb";
 const MOST_VIEWERS: u16 = 8;
 
 /// What `share` is called with.
-pub const SHARE: Usage<'static> = Usage {
+pub const SHARE: &Usage<'static> = &Usage {
     name: "share",
     about: "Shares a screen that a program draws, by lines on standard input, with viewers",
     topic: Topic::Owners,
@@ -29,7 +29,7 @@ pub const SHARE: Usage<'static> = Usage {
         Word {
             name: "viewers",
             mark: Mark::Long,
-            takes: Takes::SmallOr("N", MOST_VIEWERS, "8"),
+            takes: Takes::NumberOr("N", MOST_VIEWERS as u32, "8"),
             help: "How many viewers there may be at once, 1 to 8",
         },
         Word {

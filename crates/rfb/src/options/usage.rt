@@ -1,10 +1,9 @@
 //! What a command is called with, as a table has it: its name, its texts and its words.
 
-ghost use Rattle.std.specs.Prelude.{◌≡◌, pos, false, IfOk};
+ghost use Rattle.std.specs.Prelude.{◌≡◌, pos, false, map, IfOk};
 ghost use Rattle.clap.specs.declared.builder.value_parser.ValueParser.TheVariants.{Signed};
 ghost use Rattle.clap.specs.Words.{rule_of, shape_of};
-ghost use Rattle.clap.specs.Simple.{app_of};
-ghost use Rattle.rfb.specs.command.Usage.{marked, numbered, rule_for, shape_for, valued, with_commands, with_words};
+ghost use Rattle.rfb.specs.command.Usage.{marked, numbered, rule_for, shape_for, valued};
 
 use crate::help::Topic;
 use clap::builder::ValueParser;
@@ -53,56 +52,36 @@ pub enum Takes<'a> {
     Text(&'a str),
     /// A text; without the word it is the second one here.
     TextOr(&'a str, &'a str),
-    /// A number from 1 to 4294967295.
-    Number(&'a str),
-    /// The same; without the word it is the one that the text spells.
-    NumberOr(&'a str, &'a str),
     /// A number from 1 to this one.
-    Small(&'a str, u16),
+    Number(&'a str, u32),
     /// The same; without the word it is the one that the text spells.
-    SmallOr(&'a str, u16, &'a str),
-    /// A number from 1 to this one. The word has to be there.
-    Needed(&'a str, u16),
+    NumberOr(&'a str, u32, &'a str),
+    /// The same. The word has to be there.
+    Needed(&'a str, u32),
 }
 
-/// Adds these commands.
-pub fn with_commands<'a>(
-    alloc: Global,
-    program: Command<'a>,
-    usages: &[Usage<'a>],
-) -> Result<Command<'a>, AllocError>
-    ensures { IfOk result (λ more. app_of more ≡ with_commands (app_of program.entry) usages.now) }
-{
-    let mut more = program;
-    for usage in usages {
-        more = more.subcommand(command_of(alloc, usage)?)?;
-    }
-    Ok(more)
-}
-
-// A command with its words.
-fn command_of<'a>(alloc: Global, usage: &Usage<'a>) -> Result<Command<'a>, AllocError>
+/// A command with its words.
+pub fn command_of<'a>(alloc: Global, usage: &Usage<'a>) -> Result<Command<'a>, AllocError>
     ensures { IfOk result (λ command. shape_of command ≡ shape_for usage.now) }
 {
-    let command = Command::new(alloc, usage.name)
+    let args = args_of(alloc, usage.words)?;
+    Command::new(alloc, usage.name)
         .about(usage.about)
-        .after_help(usage.topic.text());
-    with_words(alloc, command, usage.words)
+        .after_help(usage.topic.text())
+        .args(args)
 }
 
-// Adds these words.
-fn with_words<'a>(
-    alloc: Global,
-    command: Command<'a>,
-    words: &[Word<'a>],
-) -> Result<Command<'a>, AllocError>
-    ensures { IfOk result (λ more. app_of more ≡ with_words (app_of command.entry) words.now) }
+// These words.
+fn args_of<'a>(alloc: Global, words: &[Word<'a>]) -> Result<Vec<Arg<'a>>, AllocError>
+    ensures rules { IfOk result (λ args. map rule_of args.items ≡ map rule_for words.now) }
+    ensures local { IfOk result (λ args.
+        map (λ arg. arg.global) args.items ≡ map (λ _. false) words.now) }
 {
-    let mut more = command;
+    let mut args = Vec::with_capacity(alloc, words.len())?;
     for word in words {
-        more = more.arg(arg_of(alloc, word))?;
+        args.push(arg_of(alloc, word))?;
     }
-    Ok(more)
+    Ok(args)
 }
 
 // A word, and what follows it.
@@ -114,26 +93,16 @@ fn arg_of<'a>(alloc: Global, word: &Word<'a>) -> Arg<'a>
         Takes::Nothing => named(alloc, word).action(ArgAction::SetTrue),
         Takes::Text(value) => valued(alloc, word, value),
         Takes::TextOr(value, default) => valued(alloc, word, value).default_value(default),
-        Takes::Number(value) => numbered(alloc, word, value),
-        Takes::NumberOr(value, default) => numbered(alloc, word, value).default_value(default),
-        Takes::Small(value, most) => small(alloc, word, value, most),
-        Takes::SmallOr(value, most, default) => {
-            small(alloc, word, value, most).default_value(default)
+        Takes::Number(value, most) => numbered(alloc, word, value, most),
+        Takes::NumberOr(value, most, default) => {
+            numbered(alloc, word, value, most).default_value(default)
         }
-        Takes::Needed(value, most) => small(alloc, word, value, most).required(true),
+        Takes::Needed(value, most) => numbered(alloc, word, value, most).required(true),
     }
 }
 
-// A word that a number follows.
-fn numbered<'a>(alloc: Global, word: &Word<'a>, value: &'a str) -> Arg<'a>
-    ensures rule { rule_of result ≡ numbered 4294967295 (marked word.now.mark word.now.name.now) }
-    ensures local { result.global ≡ false }
-{
-    valued(alloc, word, value).value_parser(clap::value_parser!(u32).range(1..))
-}
-
 // A word that a number up to this one follows.
-fn small<'a>(alloc: Global, word: &Word<'a>, value: &'a str, most: u16) -> Arg<'a>
+fn numbered<'a>(alloc: Global, word: &Word<'a>, value: &'a str, most: u32) -> Arg<'a>
     ensures rule { rule_of result ≡ numbered most (marked word.now.mark word.now.name.now) }
     ensures local { result.global ≡ false }
 {
@@ -141,10 +110,10 @@ fn small<'a>(alloc: Global, word: &Word<'a>, value: &'a str, most: u16) -> Arg<'
 }
 
 // The numbers from 1 to this one.
-fn up_to<'a>(most: u16) -> ValueParser<'a>
+fn up_to<'a>(most: u32) -> ValueParser<'a>
     ensures { result ≡ Signed (pos 1) (pos most) }
 {
-    clap::value_parser!(u16).range(1..=i64::from(most))
+    clap::value_parser!(u32).range(1..=i64::from(most))
 }
 
 // A word that something follows.

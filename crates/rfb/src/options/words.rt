@@ -6,7 +6,7 @@ use crate::options::usage::{Mark, Takes, Word};
 pub const PORT: Word<'static> = Word {
     name: "port",
     mark: Mark::Long,
-    takes: Takes::Needed("P", u16::MAX),
+    takes: Takes::Needed("P", u16::MAX as u32),
     help: "The port, 1 to 65535",
 };
 

@@ -1,7 +1,7 @@
-use Rattle.std.proofs.Common.{◌≡◌, refl, subst, true, List, ℕ, Result}
+use Rattle.std.proofs.Common.{◌≡◌, ◌&&◌, refl, subst, true, false, Bool, List, ℕ, Result}
 use Rattle.std.proofs.lemmas.Result.{IfOk-weaker}
-use Rattle.clap.specs.Simple.{App, HasMatchesOf, is_simple, subcommand_rows_of}
-use Rattle.clap.specs.Faults.{fault_of, is_simple_and_free}
+use Rattle.clap.specs.Simple.{App, HasMatchesOf, built, is_simple, subcommand_rows_of}
+use Rattle.clap.specs.Faults.{fault_of, is_free_app, is_simple_and_free}
 use Rattle.clap.specs.Kinds.{FailsBy}
 use Rattle.clap.specs.declared.error.Error.{Error}
 use Rattle.clap.specs.declared.parser.matches.ArgMatches.{ArgMatches}
@@ -11,8 +11,15 @@ use Rattle.rfb.proofs.options.parse.Goals as goal
 program_is_simple : is_simple_and_free program ≡ true
 program_is_simple = refl
 
+left_true : (a b : Bool) → (a && b) ≡ true → a ≡ true
+left_true true b e = refl
+left_true false b e = let f : false ≡ true = e in absurd (cc)
+
+simple_of : (a : App) → is_simple_and_free a ≡ true → is_simple a ≡ true
+simple_of a e = left_true (is_simple a) (is_free_app (built a)) e
+
 program_is_plain : is_simple program ≡ true
-program_is_plain = refl
+program_is_plain = simple_of program program_is_simple
 
 of_program : {T : Type 0} (a : App) (words : List (List ℕ)) (r : Result T Error) → a ≡ program
     → (is_simple_and_free a ≡ true → FailsBy (fault_of a words) r) → FailsBy (fault_of program words) r
