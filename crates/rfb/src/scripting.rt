@@ -102,9 +102,15 @@ fn play_all<E: Write>(
 {
     let mut refusals = LineWriter::new(alloc, errors)?;
     for numbered in steps {
-        let refused = play(world, &numbered.step)?;
-        tell_refusal(numbered.line, refused, &mut refusals);
+        match play(world, &numbered.step) {
+            Ok(refused) => tell_refusal(numbered.line, refused, &mut refusals),
+            Err(error) => {
+                drop(refusals);
+                return Err(Fault::from(error));
+            }
+        }
     }
+    drop(refusals);
     Ok(())
 }
 

@@ -69,9 +69,15 @@ fn play_all<E: Write>(
 {
     let mut lines = LineWriter::new(alloc, errors)?;
     for numbered in steps {
-        let told = play_in_hub(hub, &numbered.step)?;
-        tell_line(numbered.line, told, &mut lines);
+        match play_in_hub(hub, &numbered.step) {
+            Ok(told) => tell_line(numbered.line, told, &mut lines),
+            Err(error) => {
+                drop(lines);
+                return Err(Fault::from(error));
+            }
+        }
     }
+    drop(lines);
     Ok(())
 }
 
