@@ -7,6 +7,7 @@ ghost use Rattle.rfb.specs.command.Values.{MayGiveNumber};
 ghost use Rattle.rfb.specs.command.Looking.{GivesAddress, HasBadAddress};
 
 use crate::options::BadValue;
+use crate::options::given::{number_given, within};
 use crate::options::usage::{Mark, Takes, Word};
 use crate::script::read_number;
 use clap::ArgMatches;
@@ -93,7 +94,10 @@ fn address_of<'a>(
 fn port_given(given: &ArgMatches<'_>) -> Option<u16>
     ensures { MayGiveNumber (codes "port") 1 65535 (rows_of (found_of given.now)) result }
 {
-    given.get_one::<u16>("port")
+    match number_given(given, "port") {
+        Some(number) => Some(within(number, 1, u16::MAX)),
+        None => None,
+    }
 }
 
 // The server that a word names.

@@ -63,7 +63,7 @@ pub fn number_in(given: &ArgMatches<'_>, name: &str, least: u16, most: u16) -> u
     ensures number { GivesNumber name.now least most (rows_of (found_of given.now)) result }
     ensures range { (least ≤ result) × (result ≤ most) }
 {
-    match given.get_one::<u16>(name) {
+    match given.get_one::<u32>(name) {
         Some(number) => within(number, least, most),
         None => least,
     }
@@ -75,25 +75,25 @@ pub fn number_or(given: &ArgMatches<'_>, name: &str, most: u16, otherwise: u16) 
     ensures number { GivesOr name.now most otherwise (rows_of (found_of given.now)) result }
     ensures range { (1 ≤ result) × (result ≤ most) }
 {
-    match given.get_one::<u16>(name) {
+    match given.get_one::<u32>(name) {
         Some(number) => within(number, 1, most),
         None => otherwise,
     }
 }
 
-// A number, or the nearest in a range.
-fn within(number: u16, least: u16, most: u16) -> u16
+/// A number, or the nearest in a range.
+pub fn within(number: u32, least: u16, most: u16) -> u16
     requires { least ≤ most }
     ensures same { least ≤ number → number ≤ most → result ≡ number }
     ensures range { (least ≤ result) × (result ≤ most) }
 {
-    if number < least {
+    if number < u32::from(least) {
         return least;
     }
-    if number > most {
+    if number > u32::from(most) {
         return most;
     }
-    number
+    number as u16
 }
 
 /// The number that is asked for, if one is given.
