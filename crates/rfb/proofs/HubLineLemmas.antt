@@ -1,5 +1,8 @@
 -- Lines of a hub's script, read one after another.
 use Rattle.std.proofs.Common.{◌==◌, Bool, true, false, is_some, ◌≡◌, ◌≢◌, ◌<◌, ◌+◌, ◌∙◌, ℕ, Option, Some, None, MatchOption, codes, subst, List, [], ◌∷◌, ◌++◌, Bor, ap, sym, refl, inl, inr, ◌⊎◌, length, take, drop, get_or, arith, append_assoc, length-append}
+use Rattle.std.specs.Iterator.{Yields}
+use Rattle.std.proofs.lemmas.Iterator.{YieldsList}
+use Rattle.std.proofs.lemmas.Iterator.Consumers.{YieldsList-turn, YieldsList-so_far}
 use Rattle.std.proofs.lemmas.List.Splits.{slice_split_none}
 use Rattle.std.proofs.lemmas.List.Elements.{All-nil, All-cons, All-head, All-tail}
 use Rattle.rfb.specs.declared.script.hub.line.HubNumbered.{HubNumbered}
@@ -157,6 +160,12 @@ hub_first_bad all words word n front turn count bad =
       count = omega (arith, count, size);
       bad = bad;
     }
+
+-- the same of a line that a loop has under way
+pub hub_first_bad_line : {S : Type 0} {steps : S → Option (Bor (List ℕ)) → S → Type 0} {s t u : S} {r : Option (Bor (List ℕ))} (all : List (List ℕ)) (words : List (Bor (List ℕ))) (word : Bor (List ℕ)) (n : ℕ)
+    → YieldsList steps (λ x. x.now) s all → Yields steps s words t → r ≡ Some word → steps t r u → n ≡ length words → IsBadInHub (texts words) word.now → IsFirstBadInHub all (n + 1)
+hub_first_bad_line {t = t} {u = u} {r = r} all words word n yields so_far is step count bad =
+    hub_first_bad all words word n (YieldsList-so_far yields words t so_far) (YieldsList-turn yields words t so_far r u word is step) count bad
 
 -- ---- the line after the last
 

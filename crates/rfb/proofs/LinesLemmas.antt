@@ -1,6 +1,9 @@
 -- Lines of a script, read one after another.
 use Rattle.std.proofs.Common.{◌==◌, Bool, true, false, is_some, ◌≡◌, ◌≢◌, ◌<◌, ◌+◌, ◌∙◌, ℕ, Option, Some, None, List, [], ◌∷◌, ◌++◌, Bor, suc, ap, sym, refl, inl, inr, length, take, drop, get_or, arith, append_assoc, length-append, take-append-drop, drop-cons}
 use Rattle.std.proofs.lemmas.Bool.Decides.{nat_tests}
+use Rattle.std.specs.Iterator.{Yields}
+use Rattle.std.proofs.lemmas.Iterator.{YieldsList}
+use Rattle.std.proofs.lemmas.Iterator.Consumers.{YieldsList-turn, YieldsList-so_far}
 use Rattle.std.proofs.lemmas.List.{length_push}
 use Rattle.std.proofs.lemmas.List.Elements.{All-nil, All-cons, All-head, All-tail}
 use Rattle.rfb.specs.declared.script.line.Numbered.{Numbered}
@@ -217,3 +220,9 @@ first_bad all words word n front turn count bad =
       count = omega (arith, count, size);
       bad = bad;
     }
+
+-- the same of a line that a loop has under way
+pub first_bad_line : {S : Type 0} {steps : S → Option (Bor (List ℕ)) → S → Type 0} {s t u : S} {r : Option (Bor (List ℕ))} (all : List (List ℕ)) (words : List (Bor (List ℕ))) (word : Bor (List ℕ)) (n : ℕ)
+    → YieldsList steps (λ x. x.now) s all → Yields steps s words t → r ≡ Some word → steps t r u → n ≡ length words → IsBadAfter (texts words) word.now → IsFirstBad all (n + 1)
+first_bad_line {t = t} {u = u} {r = r} all words word n yields so_far is step count bad =
+    first_bad all words word n (YieldsList-so_far yields words t so_far) (YieldsList-turn yields words t so_far r u word is step) count bad

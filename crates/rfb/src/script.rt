@@ -40,6 +40,7 @@ mod words;
 use crate::explain::Notes;
 use crate::fault::Failure;
 use crate::script::cause::tell_bad_line;
+use crate::script::parting::ends_line;
 use crate::script::read::{read_screen, read_step, read_viewer};
 pub use arguments::{read_fill, read_move, read_size};
 pub use hub::line::{HubNumbered, HubStep};
@@ -74,7 +75,7 @@ pub fn read_script(alloc: Global, text: &[u8]) -> Result<Script, Failure>
     let mut wants = None;
     let mut steps = Vec::new(alloc);
     let mut number = 0;
-    for line in text.split(|byte| *byte == b'\n') {
+    for line in text.split(ends_line) {
         number += 1;
         if line.is_empty() {
             continue;

@@ -26,6 +26,7 @@ use crate::script::cause::tell_bad_hub_line;
 use crate::script::hub::line::{HubNumbered, HubStep};
 use crate::script::hub::read::{read_hub, read_hub_step, read_show};
 use crate::script::line::Screen;
+use crate::script::parting::ends_line;
 pub use read::{AT, FOREIGN, HUB, JOIN, LEAVE, SHOW};
 use std::alloc::Global;
 use std::io::Write;
@@ -68,7 +69,7 @@ pub fn read_hub_explained<E: Write>(
 pub fn begins_hub(text: &[u8]) -> bool
     ensures { (result ≡ true) ↔ BeginHub (lines_of text.now) }
 {
-    for line in text.split(|byte| *byte == b'\n') {
+    for line in text.split(ends_line) {
         if !line.is_empty() {
             return read_hub(line).is_some();
         }
@@ -88,12 +89,13 @@ pub fn read_hub_script(alloc: Global, text: &[u8]) -> Result<HubScript, Failure>
     let mut shown = None;
     let mut number = 0;
     let mut after = 0;
-    for line in text.split(|byte| *byte == b'\n') {
+    for line in text.split(ends_line) {
         number += 1;
-        after = if line.is_empty() { number } else { number + 1 };
         if line.is_empty() {
+            after = number;
             continue;
         }
+        after = number + 1;
         if shown.is_some() {
             return Err(Failure::BadLine(number));
         }

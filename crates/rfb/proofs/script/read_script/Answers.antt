@@ -1,12 +1,12 @@
 use Rattle.std.proofs.Common.{arith, ◌∙◌, ◌==◌, not, None, Option, List, ℕ, ap, refl, sym, subst, rules, tests, inl, inr, is_some}
 use Rattle.std.proofs.lemmas.Iterator.Splits.{YieldsList-from_slice_split}
-use Rattle.std.proofs.lemmas.Iterator.Consumers.{YieldsList-turn, YieldsList-so_far, YieldsList-end}
+use Rattle.std.proofs.lemmas.Iterator.Consumers.{YieldsList-end}
 use Rattle.std.proofs.lemmas.List.{length_push}
 use Rattle.rfb.specs.declared.script.line.Screen.{Screen as Size}
 use Rattle.rfb.specs.declared.script.line.Wants.{Wants}
 use Rattle.rfb.specs.Script.{lines_of, AreEmpty, AreScript}
 use Rattle.rfb.specs.Words.{texts}
-use Rattle.rfb.proofs.LinesLemmas.{ReadSoFar, no_chars, some_chars, step_so_far, turn_blank, turn_size, turn_wants, bad_size, bad_step, first_bad}
+use Rattle.rfb.proofs.LinesLemmas.{ReadSoFar, no_chars, some_chars, step_so_far, turn_blank, turn_size, turn_wants, bad_size, bad_step, first_bad_line}
 use Rattle.rfb.proofs.script.read_script.Goals as goal
 
 pub loop-line-preserved-then-is_empty : goal.loop-line-preserved-then-is_empty
@@ -44,21 +44,17 @@ returns-in_default-clause-stopped c =
     let l = c.loop-line in
     let line = c.in-Some.line in
     let some = some_chars line.now c.is_empty.result c.is_empty.ensures c.if-is_empty.false in
-    let turn = YieldsList-turn (YieldsList-from_slice_split _ (λ byte. byte == 10) c.args.text.now (cc) (cc) (cc) (λ x r q k. search (rules, tests))) l.yielded _ l.yielded_by _ _ line c.in-Some.is c.next.ensures.steps in
-    let front = YieldsList-so_far (YieldsList-from_slice_split _ (λ byte. byte == 10) c.args.text.now (cc) (cc) (cc) (λ x r q k. search (rules, tests))) l.yielded _ l.yielded_by in
     let bad = bad_size (texts l.yielded) line.now l.screen l.wants l.steps.items some l.invariant.so_far (c.is_none.ensures ∙ ap not c.if-is_none.true) c.in_default.ensures in
-    inl (first_bad (lines_of c.args.text.now) l.yielded line l.number front turn l.invariant.count bad)
+    inl (first_bad_line (lines_of c.args.text.now) l.yielded line l.number (YieldsList-from_slice_split _ (λ byte. byte == 10) c.args.text.now (cc) (cc) (cc) (λ x r q k. search (rules, tests))) l.yielded_by c.in-Some.is c.next.ensures.steps l.invariant.count bad)
 
 pub returns-in_default-read_step-clause-stopped : goal.returns-in_default-read_step-clause-stopped
 returns-in_default-read_step-clause-stopped c =
     let l = c.loop-line in
     let line = c.in-Some.line in
     let some = some_chars line.now c.is_empty.result c.is_empty.ensures c.if-is_empty.false in
-    let turn = YieldsList-turn (YieldsList-from_slice_split _ (λ byte. byte == 10) c.args.text.now (cc) (cc) (cc) (λ x r q k. search (rules, tests))) l.yielded _ l.yielded_by _ _ line c.in-Some.is c.next.ensures.steps in
-    let front = YieldsList-so_far (YieldsList-from_slice_split _ (λ byte. byte == 10) c.args.text.now (cc) (cc) (cc) (λ x r q k. search (rules, tests))) l.yielded _ l.yielded_by in
     let bad = bad_step (texts l.yielded) line.now l.screen l.wants l.steps.items some l.invariant.so_far (c.is_none.ensures ∙ ap not c.if-is_none.false)
     (c.in_default-read_step.ensures, λ w s. c.in_default-read_second.ensures w (c.deref.ensures.value ∙ s)) in
-    inl (first_bad (lines_of c.args.text.now) l.yielded line l.number front turn l.invariant.count bad)
+    inl (first_bad_line (lines_of c.args.text.now) l.yielded line l.number (YieldsList-from_slice_split _ (λ byte. byte == 10) c.args.text.now (cc) (cc) (cc) (λ x r q k. search (rules, tests))) l.yielded_by c.in-Some.is c.next.ensures.steps l.invariant.count bad)
 
 pub returns-in-Some-screen-clause-read : goal.returns-in-Some-screen-clause-read
 returns-in-Some-screen-clause-read c =
