@@ -44,9 +44,12 @@ pub fn script_through_loopback<N: Net, R: Read, W: Write, E: Write>(
 {
     let mut text = Vec::new(alloc);
     input.read_to_end(&mut text)?;
-    let script = read_explained(alloc, &text, errors, explains)?;
-    run(net, alloc, &script, output, errors, explains)?;
-    Ok(())
+    let read = read_explained(alloc, &text, errors, explains);
+    drop(text);
+    let script = read?;
+    let done = run(net, alloc, &script, output, errors, explains);
+    drop(script);
+    Ok(done?)
 }
 
 // Plays a script over a connection, and writes what the viewer shows then.
@@ -62,16 +65,17 @@ fn run<N: Net, W: Write, E: Write>(
     ensures left { OnErr result
         (LeavesSomePicture (W.contents output.old) (W.contents output.new)) }
 {
-    let mut link = match connected(net) {
-        Ok(link) => link,
+    match connected(net) {
+        Ok(mut link) => {
+            let done = run_over(alloc, &mut link, script, output, errors);
+            drop(link);
+            done
+        }
         Err(error) => {
             tell_unlinked(&error, &mut Notes::new(errors, explains));
-            return Err(Fault::from(error));
+            Err(Fault::from(error))
         }
-    };
-    let done = run_over(alloc, &mut link, script, output, errors);
-    drop(link);
-    done
+    }
 }
 
 // The same with two fresh ends, over this connection.
