@@ -2,7 +2,7 @@ use Rattle.std.proofs.Common.{◌≡◌, ◌∷◌, [], ◌∙◌, sym, subst, �
 use Rattle.rfb_session.specs.HubSeats.{event_of}
 use Rattle.rfb.specs.Script.{SaysEvent}
 use Rattle.rfb.proofs.HubWordLemmas.{is_after, split_texts}
-use Rattle.rfb.proofs.HubStepLemmas.{no_at_slot}
+use Rattle.rfb.proofs.HubStepLemmas.{no_at_end, no_at_slot, no_at_words}
 use Rattle.rfb.proofs.ScriptLemmas.{empty_of, says_settle}
 use Rattle.rfb.proofs.script.hub.read.step_at.Goals as goal
 
@@ -19,3 +19,10 @@ returns c =
 pub returns-in_err-slot-2 : goal.returns-in_err-slot-2
 returns-in_err-slot-2 c =
     rw c.from_residual-in_err-slot-2.ensures (no_at_slot c.args.words.now c.in_ok-slot.slot.now c.in_ok-slot.line.now c.in_ok-slot.ensures.cases.0 (λ s is few. c.in_err-slot-2.ensures s (is, few)))
+
+pub returns-in_err-slot : goal.returns-in_err-slot
+returns-in_err-slot c = rw c.from_residual.ensures (no_at_words c.args.words.now c.in_err-slot.ensures.cases)
+
+pub returns-in_err-keyword : goal.returns-in_err-keyword
+returns-in_err-keyword c =
+    rw c.from_residual-in_err-keyword.ensures (no_at_end c.args.words.now c.in_ok-slot.slot.now c.in_ok-slot.line.now c.in_ok-slot.ensures.cases.0 c.in_err-keyword.ensures.cases)
