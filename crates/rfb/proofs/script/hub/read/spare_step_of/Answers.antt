@@ -1,5 +1,8 @@
-use Rattle.std.proofs.Common.{◌∙◌, sym, codes}
+use Rattle.std.proofs.Common.{◌∙◌, sym, codes, List, ℕ}
+use Rattle.rfb.specs.HubScript.{AreJoin, IsSlotAlone}
+use Rattle.rfb.specs.Words.{texts}
 use Rattle.rfb.proofs.HubStepLemmas.{at_read, no_step_of, hub_join, hub_leave}
+use Rattle.rfb.proofs.ScriptLemmas.{begins_with}
 use Rattle.rfb.proofs.script.hub.read.spare_step_of.Goals as goal
 
 pub returns-in_err-slot : goal.returns-in_err-slot
@@ -18,3 +21,12 @@ returns-in_err-drawing_of c = rw c.from_residual-in_err-drawing_of.ensures c.in_
 
 pub returns : goal.returns
 returns c = c.in_ok-drawing_of.ensures
+
+pub returns-then-eq : goal.returns-then-eq
+returns-then-eq c =
+    let r = c.in_ok-slot in
+    begins_with c.args.keyword.now (codes "join") (texts c.args.rest.now) (λ (l : List (List ℕ)). AreJoin l r.slot r.setup) (sym c.eq.ensures ∙ c.if-eq.true) r.ensures
+
+pub returns-then-eq-2 : goal.returns-then-eq-2
+returns-then-eq-2 c =
+    begins_with c.args.keyword.now (codes "leave") (texts c.args.rest.now) (λ (l : List (List ℕ)). IsSlotAlone l c.in_ok-read_only_slot.field-0) (sym c.eq-2.ensures ∙ c.if-eq-2.true) c.in_ok-read_only_slot.ensures
