@@ -1,6 +1,6 @@
 use Rattle.std.proofs.Common.{refl, ℕ, List}
 use Rattle.rfb.specs.HubScript.{AreSetup}
-use Rattle.rfb.proofs.HubWordLemmas.{is_after, is_setup, no_setup_kind, no_setup_wants, no_slot_first, none_after}
+use Rattle.rfb.proofs.HubWordLemmas.{is_after, is_setup, no_setup_kind, no_setup_wants, no_setup_words, no_slot_first, none_after, nothing_after}
 use Rattle.rfb.proofs.script.hub.words.read_join.Goals as goal
 
 pub returns-in_err-wants : goal.returns-in_err-wants
@@ -23,3 +23,12 @@ pub returns-in_err-shared : goal.returns-in_err-shared
 returns-in_err-shared c =
     rw c.from_residual-in_err-shared.ensures (λ slot setup. none_after c.args.words.now c.in_ok-slot.slot.now c.in_ok-slot.words.now (λ (l : List (List ℕ)). AreSetup l setup) c.in_ok-slot.ensures.cases.0
     (no_setup_kind c.in_ok-slot.words.now c.in_ok-kind.kind.now c.in_ok-kind.words.now c.in_ok-kind.ensures.cases.0 c.in_err-shared.ensures setup) slot)
+
+pub returns-in_err-slot : goal.returns-in_err-slot
+returns-in_err-slot c =
+    rw c.from_residual.ensures (λ slot setup. nothing_after c.args.words.now (λ (l : List (List ℕ)). AreSetup l setup) c.in_err-slot.ensures.cases slot)
+
+pub returns-in_err-kind : goal.returns-in_err-kind
+returns-in_err-kind c =
+    rw c.from_residual-in_err-kind.ensures (λ slot setup. none_after c.args.words.now c.in_ok-slot.slot.now c.in_ok-slot.words.now (λ (l : List (List ℕ)). AreSetup l setup) c.in_ok-slot.ensures.cases.0
+    (no_setup_words c.in_ok-slot.words.now c.in_err-kind.ensures.cases setup) slot)
