@@ -2,7 +2,8 @@ use Rattle.std.proofs.Common.{sym, subst, List, ℕ, MatchOption}
 use Rattle.rfb.specs.declared.script.hub.line.HubStep.{HubStep}
 use Rattle.rfb.specs.HubScript.{SaysHubStep}
 use Rattle.rfb.proofs.HubWordLemmas.{split_texts}
-use Rattle.rfb.proofs.HubStepLemmas.{eq_of_ne, foreign_found, foreign_none}
+use Rattle.rfb.proofs.ScriptLemmas.{no_texts}
+use Rattle.rfb.proofs.HubStepLemmas.{eq_of_ne, foreign_found, foreign_none, no_hub_words}
 use Rattle.rfb.proofs.script.hub.read.hub_step_of.Goals as goal
 
 pub returns-in-Some-2 : goal.returns-in-Some-2
@@ -19,3 +20,7 @@ pub returns-then-ne : goal.returns-then-ne
 returns-then-ne c =
     let k = c.in-Some in
     subst (λ (l : List (List ℕ)). MatchOption c.spare_step_of.result ((step : HubStep) → ¬ (SaysHubStep l step)) (SaysHubStep l)) (sym (split_texts c.args.words.now k.keyword.now k.rest.now k.ensures.cases.0)) c.spare_step_of.ensures
+
+pub returns-in_default : goal.returns-in_default
+returns-in_default c =
+    subst (λ (l : List (List ℕ)). (step : HubStep) → ¬ (SaysHubStep l step)) (sym (no_texts c.args.words.now c.in_default.ensures.cases)) no_hub_words
