@@ -1,5 +1,5 @@
 -- Words of a line of the owner's: which lines a keyword can begin.
-use Rattle.std.proofs.Common.{zero, suc, inl, inr, T, pos, neg_ℤ, to_z, of_z, w16, ◌≡◌, ◌≢◌, ◌<◌, ◌≤◌, ◌+◌, ◌∙◌, ap, sym, refl, subst, true, false, length, ℕ, ℤ, List, [], ◌∷◌, Bor, arith, codes}
+use Rattle.std.proofs.Common.{◌↔◌, ◌==◌, Bool, Option, Some, None, IfSome, IsSome, MatchOption, zero, suc, inl, inr, T, pos, neg_ℤ, to_z, of_z, w16, ◌≡◌, ◌≢◌, ◌<◌, ◌≤◌, ◌+◌, ◌∙◌, ap, sym, refl, subst, true, false, length, ℕ, ℤ, List, [], ◌∷◌, Bor, arith, codes}
 use Rattle.std.proofs.Math.Facts.{sfits_lit, to_z-of_z}
 use Rattle.std.proofs.lemmas.Bool.{lt-ltb}
 use Rattle.std.specs.Str.{bytes_eq}
@@ -11,9 +11,9 @@ use Rattle.rfb.specs.declared.sharing.line.OwnerLine.TheVariants.{Screen, Fill, 
 use Rattle.rfb.specs.HubScript.{IsSlotAlone}
 use Rattle.rfb.specs.Script.{Begins}
 use Rattle.rfb.specs.Sharing.{ArePlaces, AreScroll, IsShift, SaysNoOwner, SaysOwner}
-use Rattle.rfb.specs.Words.{AreFill, AreMove, AreRect, AreSize, texts}
+use Rattle.rfb.specs.Words.{AreFill, AreMove, AreNumbers, AreRect, AreSize, texts}
 use Rattle.rfb.proofs.ArgumentLemmas.{six_words, word}
-use Rattle.rfb.proofs.ScriptLemmas.{heads, nothing, other_word, same_word, tails, words_are}
+use Rattle.rfb.proofs.ScriptLemmas.{heads, nothing, other_word, same_word, tails, texts_length, words_are}
 
 -- two keywords that differ
 apart : (a b : List ℕ) (x y : List (List ℕ)) → bytes_eq a b ≡ false → a ∷ x ≡ b ∷ y → ⊥
@@ -189,3 +189,48 @@ no_scroll words d len none rect dx dy said =
     let f = sym (six_words words d len) ∙ said.6 in
     let e0 : word words 0 d ≡ said.0 = cc in let e1 : word words 1 d ≡ said.1 = cc in let e2 : word words 2 d ≡ said.2 = cc in let e3 : word words 3 d ≡ said.3 = cc in let e4 : word words 4 d ≡ said.4 = cc in let e5 : word words 5 d ≡ said.5 = cc in
     none rect dx dy (rw (e0, e1, e2, e3) said.7) (rw e4 said.8) (rw e5 said.9)
+
+pub not_scroll : (words : List (Bor (List ℕ))) → length words ≢ 6 → (rect : Rect) (dx dy : ℤ) → ¬ (AreScroll (texts words) rect dx dy)
+not_scroll words other rect dx dy said =
+    let s : length (texts words) ≡ 6 = ap (λ (l : List (List ℕ)). length l) said.6 in
+    other (sym (texts_length words) ∙ s)
+
+-- ---- a rectangle alone
+
+four_words : (words : List (Bor (List ℕ))) (d : Bor (List ℕ)) → length words ≡ 4 → texts words ≡ word words 0 d ∷ word words 1 d ∷ word words 2 d ∷ word words 3 d ∷ []
+four_words [] d len = absurd (omega arith)
+four_words (a ∷ []) d len = absurd (omega arith)
+four_words (a ∷ b ∷ []) d len = absurd (omega arith)
+four_words (a ∷ b ∷ c ∷ []) d len = absurd (omega arith)
+four_words (a ∷ b ∷ c ∷ e ∷ []) d len = refl
+four_words (a ∷ b ∷ c ∷ e ∷ x ∷ rest) d len = absurd (omega arith)
+
+pub places_are : (words : List (Bor (List ℕ))) (d : Bor (List ℕ)) → length words ≡ 4 → (r : Option Rect) → IfSome r (AreRect (word words 0 d) (word words 1 d) (word words 2 d) (word words 3 d))
+    → (IsSome r ↔ (AreNumbers (word words 0 d) (word words 1 d) (word words 2 d) (word words 3 d)))
+    → MatchOption r ((rect : Rect) → ¬ (ArePlaces (texts words) rect)) (ArePlaces (texts words))
+places_are words d len None value found = λ rect said.
+    let f = sym (four_words words d len) ∙ said.4 in
+    let e0 : word words 0 d ≡ said.0 = cc in let e1 : word words 1 d ≡ said.1 = cc in let e2 : word words 2 d ≡ said.2 = cc in let e3 : word words 3 d ≡ said.3 = cc in
+    let bad = found.1 (rw (e0, e1, e2, e3) said.5.numbers) in cc
+places_are words d len (Some rect) value found =
+    (word words 0 d, word words 1 d, word words 2 d, word words 3 d, four_words words d len, value)
+
+pub not_places : (words : List (Bor (List ℕ))) → length words ≢ 4 → (rect : Rect) → ¬ (ArePlaces (texts words) rect)
+not_places words other rect said =
+    let s : length (texts words) ≡ 4 = ap (λ (l : List (List ℕ)). length l) said.4 in
+    other (sym (texts_length words) ∙ s)
+
+-- ---- what no keyword begins
+
+pub no_first : (words : List (Bor (List ℕ))) → length words ≡ 0 → SaysNoOwner (texts words)
+no_first [] none = no_owner_words
+no_first (w ∷ rest) none = absurd (omega arith)
+
+pub some_texts : (words : List (Bor (List ℕ))) (b : Bool) → b ≡ (length words == 0) → b ≡ false → texts words ≢ []
+some_texts [] b is some e = absurd cc
+some_texts (w ∷ rest) b is some e = nothing w.now (texts rest) (sym e)
+
+pub owner_words : (words : List (Bor (List ℕ))) (first : Bor (List ℕ)) (rest : List (Bor (List ℕ))) (r : Option OwnerLine) → words ≡ first ∷ rest
+    → MatchOption r (SaysNoOwner (first.now ∷ texts rest)) (SaysOwner (first.now ∷ texts rest)) → MatchOption r (SaysNoOwner (texts words)) (SaysOwner (texts words))
+owner_words words first rest r e said =
+    subst (λ (ws : List (Bor (List ℕ))). MatchOption r (SaysNoOwner (texts ws)) (SaysOwner (texts ws))) (sym e) said

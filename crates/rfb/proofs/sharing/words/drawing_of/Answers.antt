@@ -1,7 +1,8 @@
 use Rattle.std.proofs.Common.{◌∙◌, ap, List, ℕ, ◌∷◌, sym, codes}
-use Rattle.rfb.proofs.OwnerLineLemmas.{keyword_none, only_copy, only_fill, only_hint, only_pixels, only_scroll, scroll_is}
-use Rattle.rfb.specs.Words.{texts}
-use Rattle.rfb.proofs.ScriptLemmas.{same_word}
+use Rattle.rfb.proofs.OwnerLineLemmas.{keyword_none, only_copy, only_fill, only_hint, only_known, only_pixels, only_scroll, scroll_is}
+use Rattle.rfb.specs.Sharing.{ArePlaces}
+use Rattle.rfb.specs.Words.{AreFill, AreMove, texts}
+use Rattle.rfb.proofs.ScriptLemmas.{begins_with, other_word, same_word}
 use Rattle.rfb.proofs.sharing.words.drawing_of.Goals as goal
 
 pub returns-in_err-rect : goal.returns-in_err-rect
@@ -27,3 +28,26 @@ returns-in_err-read_places c =
 pub returns-then-eq-4 : goal.returns-then-eq-4
 returns-then-eq-4 c =
     (texts c.args.rest.now, ap (λ (k : List ℕ). k ∷ texts c.args.rest.now) (same_word c.args.keyword.now (codes "scroll") (sym c.eq-4.ensures ∙ c.if-eq-4.true)), scroll_is (texts c.args.rest.now) _ _ _ c.in_ok-rect-4.ensures)
+
+pub returns-then-eq : goal.returns-then-eq
+returns-then-eq c =
+    let r = c.in_ok-rect in
+    begins_with c.args.keyword.now (codes "fill") (texts c.args.rest.now) (λ (l : List (List ℕ)). AreFill l r.rect r.colour) (sym c.eq.ensures ∙ c.if-eq.true) r.ensures
+
+pub returns-then-eq-2 : goal.returns-then-eq-2
+returns-then-eq-2 c =
+    let r = c.in_ok-rect-2 in
+    begins_with c.args.keyword.now (codes "copy") (texts c.args.rest.now) (λ (l : List (List ℕ)). AreMove l r.rect r.sx r.sy) (sym c.eq-2.ensures ∙ c.if-eq-2.true) r.ensures
+
+pub returns-then-eq-3 : goal.returns-then-eq-3
+returns-then-eq-3 c =
+    let r = c.in_ok-rect-3 in
+    begins_with c.args.keyword.now (codes "hint") (texts c.args.rest.now) (λ (l : List (List ℕ)). AreMove l r.rect r.sx r.sy) (sym c.eq-3.ensures ∙ c.if-eq-3.true) r.ensures
+
+pub returns-then-eq-5 : goal.returns-then-eq-5
+returns-then-eq-5 c =
+    begins_with c.args.keyword.now (codes "pixels") (texts c.args.rest.now) (λ (l : List (List ℕ)). ArePlaces l c.in_ok-read_places.field-0) (sym c.eq-5.ensures ∙ c.if-eq-5.true) c.in_ok-read_places.ensures
+
+pub returns : goal.returns
+returns c =
+    only_known c.args.keyword.now _ c.requires.screen (other_word _ _ (sym c.eq.ensures ∙ c.if-eq.false)) (other_word _ _ (sym c.eq-2.ensures ∙ c.if-eq-2.false)) (other_word _ _ (sym c.eq-3.ensures ∙ c.if-eq-3.false)) (other_word _ _ (sym c.eq-4.ensures ∙ c.if-eq-4.false)) (other_word _ _ (sym c.eq-5.ensures ∙ c.if-eq-5.false)) c.requires.end c.requires.quit
