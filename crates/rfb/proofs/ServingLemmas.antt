@@ -1,6 +1,6 @@
 -- Connections that are served one after another, and their lines.
 use Rattle.std.proofs.Common.{◌≡◌, ◌∙◌, ◌⊎◌, ◌+◌, ◌-◌, ◌*◌, ◌<◌, length, ap, sym, refl, subst, inl, inr, ℕ, true, List, [], ◌∷◌, ◌++◌, Option, OnOk, IfOk, IfErr, Ok, Err, codes, add-one, arith}
-use Rattle.std.specs.Io.KnownBytes.{Appends}
+use Rattle.std.specs.Io.KnownBytes.{Appends, Keeps}
 use Rattle.std.proofs.KnownBytes.{Appends-nil, Appends-trans}
 use Rattle.std.proofs.lemmas.Bool.Decides.{nat_tests}
 use Rattle.std.proofs.lemmas.List.{get_or_default}
@@ -45,6 +45,17 @@ after_nothing all empty text none is = is ∙ ap (λ (l : List ℕ). l ++ text) 
 pub some_text : (all empty text : List ℕ) → empty ≡ [] → all ≡ empty ++ (codes "fault " ++ text ++ 10 ∷ []) →
     (t : List ℕ) × (all ≡ codes "fault " ++ t ++ 10 ∷ [])
 some_text all empty text none is = (text, after_nothing all empty (codes "fault " ++ text ++ 10 ∷ []) none is)
+
+appends_kept : (a b c : Option (List ℕ)) (text : List ℕ) → Appends a b text → Keeps b c → Appends a c text
+appends_kept None b c text done kept = tt
+appends_kept (Some x) None c text done kept = absurd done
+appends_kept (Some x) (Some y) None text done kept = absurd kept
+appends_kept (Some x) (Some y) (Some z) text done kept = kept ∙ done
+
+-- a line that was written whole, after a flush
+pub line_flushed : (a b c : Option (List ℕ)) (end : End) (line : List ℕ) → IsLineOf end line → Appends a b line → Keeps b c →
+    (l : List ℕ) × IsLineOf end l × Appends a c l
+line_flushed a b c end line is done kept = (line, is, appends_kept a b c line done kept)
 
 -- ---- one connection
 

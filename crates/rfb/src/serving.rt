@@ -83,7 +83,10 @@ fn serve_file<P: Files + Net, W: Write, E: Write>(
     match open_picture(rt, alloc, path, notes) {
         Ok(pixmap) => {
             let screen = ServedScreen::Picture(pixmap);
-            listen(rt, alloc, &screen, options, output, notes)
+            let ended = listen(rt, alloc, &screen, options, output, notes);
+            // By a call: what an arm's end lets go is proved field by field.
+            drop(screen);
+            ended
         }
         Err(failure) => Err(failure),
     }

@@ -1,7 +1,7 @@
 use Rattle.std.proofs.Common.{◌≤◌, ◌<◌, length, take, arith, length-take}
 use Rattle.std.proofs.lemmas.Result.{err_from_is_err_and}
 use Rattle.std.specs.Io.KnownBytes.{IsAtEnd}
-use Rattle.rfb.proofs.PixmapFileLemmas.{head_flaw_read, places_flaw_read, spells_read}
+use Rattle.rfb.proofs.PixmapFileLemmas.{head_flaw_read, input_read, places_flaw_read, spells_read}
 use Rattle.rfb.proofs.pixmap.read.read_parts.Goals as goal
 
 pub returns-in_err-head-clause-refused : goal.returns-in_err-head-clause-refused
@@ -39,3 +39,8 @@ returns-clause-read g c =
     let are = rw (c.chain-all.ensures.bytes, c.from.ensures, c.from-2.ensures) at c.in_ok-places.ensures.read in
     spells_read (g.R.Read.remaining c.args.input.now) (g.R.Read.remaining c.read_up_to.new.input) (take n buffer)
     _ _ _ _ _ c.in_ok-count.ensures.bytes few end c.in_ok-head.ensures are
+
+pub returns-in_err-count-clause-refused : goal.returns-in_err-count-clause-refused
+returns-in_err-count-clause-refused g c =
+    let p = err_from_is_err_and c.from_residual.result c.from_residual.ensures.1 in
+    rw (p.1, p.2) (input_read (g.R.Read.remaining c.args.input.now) _ (λ flaw e. absurd cc))
