@@ -1,6 +1,6 @@
 //! A server of the test scene or of a picture, over sockets: one connection after another.
 
-ghost use Rattle.std.specs.Prelude.{◌≡◌, ◌⊎◌, ℕ, List, Ok, Err, IfOk, IfErr, OnOk, OnErr};
+ghost use Rattle.std.specs.Prelude.{◌≡◌, ◌⊎◌, ℕ, List, Ok, Err, IfOk, IfErr, OnOk, OnErr, string_bytes};
 ghost use Rattle.std.specs.Io.KnownBytes.{Appends};
 ghost use Rattle.rfb.specs.declared.pixmap.fault.Flaw.{Flaw};
 ghost use Rattle.rfb_session.specs.Devices.{AppendsBeginning};
@@ -24,9 +24,8 @@ use crate::writing::write_whole;
 pub use options::{FOREVER, ScreenChoice, ServeOptions};
 use rfb_session::EngineFault;
 pub use screen::ServedScreen;
-use std::alloc::Global;
+use std::alloc::{AllocError, Global};
 use std::fs::Files;
-use std::io;
 use std::io::{Read, Write};
 use std::net::{Net, OpenListener, OpenStream, SocketAddr, TcpListener};
 
@@ -215,36 +214,22 @@ fn tell_end<W: Write>(
         (fault : Fault) × (failure ≡ Failure.Fault fault)) }
 {
     let line = line_of(alloc, ended)?;
-    write_whole(&line, output)?;
+    write_whole(line.as_bytes(), output)?;
     output.flush()?;
     Ok(())
 }
 
 // The line that says how a connection has ended.
-fn line_of(alloc: Global, ended: Result<u64, EngineFault>) -> io::Result<Vec<u8>>
-    ensures { IfOk result (λ line. IsLineOf ended line.items) }
+fn line_of(alloc: Global, ended: Result<u64, EngineFault>) -> Result<String, AllocError>
+    ensures { IfOk result (λ line. IsLineOf ended (string_bytes line)) }
 {
     match ended {
-        Ok(updates) => line_of_updates(alloc, updates),
-        Err(fault) => line_of_fault(alloc, fault),
+        Ok(updates) => format!(in alloc; "ok {updates}\n"),
+        Err(fault) => {
+            let text = format!(in alloc; "{fault}")?;
+            let line = format!(in alloc; "fault {text}\n");
+            drop(text);
+            line
+        }
     }
-}
-
-// The line of a connection that ended after `updates` updates.
-fn line_of_updates(alloc: Global, updates: u64) -> io::Result<Vec<u8>>
-    ensures { IfOk result (λ line. IsLineOf (Ok updates) line.items) }
-{
-    let mut line = Vec::new(alloc);
-    writeln!(&mut line, "ok {updates}")?;
-    Ok(line)
-}
-
-// The line of a connection that ended by a fault.
-fn line_of_fault(alloc: Global, fault: EngineFault) -> io::Result<Vec<u8>>
-    ensures { IfOk result (λ line. IsLineOf (Err fault) line.items) }
-{
-    let text = format!(in alloc; "{fault}")?;
-    let mut line = Vec::new(alloc);
-    writeln!(&mut line, "fault {text}")?;
-    Ok(line)
 }
