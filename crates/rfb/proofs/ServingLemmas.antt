@@ -39,13 +39,6 @@ use Rattle.rfb.specs.Serving.{End, ShowsPicture, IsLineOf, IsServedFrom, IsServe
 
 -- ---- a line
 
-pub after_nothing : (all empty text : List ℕ) → empty ≡ [] → all ≡ empty ++ text → all ≡ text
-after_nothing all empty text none is = is ∙ ap (λ (l : List ℕ). l ++ text) none
-
-pub some_text : (all empty text : List ℕ) → empty ≡ [] → all ≡ empty ++ (codes "fault " ++ text ++ 10 ∷ []) →
-    (t : List ℕ) × (all ≡ codes "fault " ++ t ++ 10 ∷ [])
-some_text all empty text none is = (text, after_nothing all empty (codes "fault " ++ text ++ 10 ∷ []) none is)
-
 appends_kept : (a b c : Option (List ℕ)) (text : List ℕ) → Appends a b text → Keeps b c → Appends a c text
 appends_kept None b c text done kept = tt
 appends_kept (Some x) None c text done kept = absurd done
