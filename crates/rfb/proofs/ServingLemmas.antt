@@ -1,5 +1,5 @@
 -- Connections that are served one after another, and their lines.
-use Rattle.std.proofs.Common.{◌≡◌, ◌∙◌, ◌⊎◌, ◌+◌, ◌-◌, ◌*◌, ◌<◌, length, ap, sym, refl, subst, inl, inr, ℕ, true, List, [], ◌∷◌, ◌++◌, Option, OnOk, IfOk, IfErr, Ok, Err, codes, add-one, arith}
+use Rattle.std.proofs.Common.{◌≡◌, ◌∙◌, ◌⊎◌, ◌+◌, ◌-◌, ◌*◌, ◌<◌, length, ap, sym, refl, subst, inl, inr, ℕ, true, List, [], ◌++◌, Option, OnOk, IfOk, IfErr, Ok, Err, add-one, arith}
 use Rattle.std.specs.Io.KnownBytes.{Appends, Keeps}
 use Rattle.std.proofs.KnownBytes.{Appends-nil, Appends-trans}
 use Rattle.std.proofs.lemmas.Bool.Decides.{nat_tests}

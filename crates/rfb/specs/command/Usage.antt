@@ -1,5 +1,5 @@
 -- What a table of commands and words stands for, as the parser of words knows it.
-use Rattle.std.specs.Prelude.{ℕ, pos, true, List, [], ◌∷◌, Some, map}
+use Rattle.std.specs.Prelude.{ℕ, pos, true, [], ◌∷◌, Some, map}
 use Rattle.clap.specs.declared.builder.action.ArgAction.TheVariants.{SetTrue}
 use Rattle.clap.specs.declared.builder.value_parser.ValueParser.TheVariants.{Signed}
 use Rattle.clap.specs.Simple.{new_shape}
