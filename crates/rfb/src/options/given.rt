@@ -1,6 +1,6 @@
 //! What was given to the words of a command: whether one is there, a text, a format, a number.
 
-ghost use Rattle.std.specs.Prelude.{◌≡◌, ◌≤◌, false, true, None, IfSome, MatchResult};
+ghost use Rattle.std.specs.Prelude.{◌≡◌, ◌≤◌, ◌<◌, false, true, None, IfSome, MatchResult};
 ghost use Rattle.clap.specs.Words.{first_of, found_of, rows_of};
 ghost use Rattle.rfb_pixel.specs.Format.{PixelFormat};
 ghost use Rattle.rfb.specs.command.Values.{GivesFormat, GivesNumber, GivesOr, HasBadFormat, IsAbsent, IsFlagged, IsThere, MayGiveNumber};
@@ -85,6 +85,8 @@ pub fn number_or(given: &ArgMatches<'_>, name: &str, most: u16, otherwise: u16) 
 pub fn within(number: u32, least: u16, most: u16) -> u16
     requires { least ≤ most }
     ensures same { least ≤ number → number ≤ most → result ≡ number }
+    ensures below { number < least → result ≡ least }
+    ensures above { most < number → result ≡ most }
     ensures range { (least ≤ result) × (result ≤ most) }
 {
     if number < u32::from(least) {
