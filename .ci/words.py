@@ -9,6 +9,7 @@ them; peers are sockets of 127.0.0.1 and of one address more that a machine has 
 line is 'N passed, M failed'.
 """
 
+import contextlib
 import os
 import random
 import resource
@@ -74,13 +75,14 @@ class Run:
 
     begun = []
 
-    def __init__(self, words, given=b"", errors=None, before=None, room=None):
+    def __init__(self, words, given=b"", errors=None, before=None, room=None, source=None):
         self.files = [tempfile.TemporaryFile() for _ in range(3)]
         self.files[0].write(given)
         self.files[0].seek(0)
         self.words = words
-        self.run = subprocess.Popen([PROGRAM, *words], stdin=self.files[0], stdout=self.files[1],
-                                    stderr=errors or self.files[2], preexec_fn=before, cwd=room)
+        self.run = subprocess.Popen([PROGRAM, *words], stdin=source or self.files[0],
+                                    stdout=self.files[1], stderr=errors or self.files[2],
+                                    preexec_fn=before, cwd=room)
         self.begun.append(self)
 
     def told(self, which):
@@ -389,6 +391,65 @@ def an_output_that_fails_is_reported_after_the_refusals():
             assert len(run.told(1)) == room, (words, room, len(run.told(1)))
 
 
+@contextlib.contextmanager
+def failing(given):
+    """Standard input that gives these bytes, and then fails."""
+    here, there = socket.socketpair()
+    with here:
+        here.sendall(b"unread")
+        there.sendall(given)
+        # What it was sent is lost, so reads of the other end fail, once they have had all.
+        there.close()
+        yield here
+
+
+@contextlib.contextmanager
+def halting(given):
+    """The same, but that a read would have to wait."""
+    here, there = socket.socketpair()
+    with here, there:
+        here.setblocking(False)
+        there.sendall(given)
+        yield here
+
+
+@contextlib.contextmanager
+def folder(path):
+    opened = os.open(path, os.O_RDONLY)
+    yield opened
+    os.close(opened)
+
+
+def fails_after(given, words, shown, errors=DEVICE):
+    for stream in failing, halting:
+        with stream(given) as source:
+            Run(words, source=source).ends(1, shown, errors)
+
+
+def an_input_that_fails_is_reported_and_nothing_runs():
+    whole = b"screen 1 1\nsettle\n"
+    # Not even a bad line is reported.
+    bad = b"screen 2 1\nsettler\n"
+    for words in ["script"], ["loop"]:
+        for given in b"", whole, SCRIPT[:15], bad:
+            fails_after(given, words, b"")
+    for given in b"", HELLO[:15], HELLO, SERVER[:65], SERVER:
+        fails_after(given, ["play"], b"")
+    # A folder can't be read at all.
+    with folder("/") as source:
+        for words in ["script"], ["loop"], ["play"]:
+            Run(words, source=source).ends(1, b"", DEVICE)
+
+
+def what_came_before_an_input_failed_is_shown_if_it_is_wanted():
+    for given, shown in (SERVER, SHOWN), (SERVER[:65], BLACK), (HELLO, BLACK), (HELLO[:36], b""):
+        fails_after(given, ["play", "--partial"], shown)
+    # Once the updates that are wanted have ended, it is not read any more.
+    for stream in failing, halting:
+        with stream(SERVER) as source:
+            Run(["play", "--updates=1"], source=source).ends(0, SHOWN, b"")
+
+
 def errors_that_fail_change_nothing_else():
     with open("/dev/full", "wb") as full:
         for words, given, status, output in (
@@ -616,6 +677,8 @@ ROWS = [
     a_file_is_written_whole_or_not_at_all,
     a_file_that_cannot_be_had_is_a_fault_of_a_device,
     an_output_that_fails_is_reported_after_the_refusals,
+    an_input_that_fails_is_reported_and_nothing_runs,
+    what_came_before_an_input_failed_is_shown_if_it_is_wanted,
     errors_that_fail_change_nothing_else,
     each_refusal_is_one_write,
     a_server_is_named_by_a_word_or_by_its_host_and_its_port,

@@ -21,8 +21,6 @@ mod scripting;
 mod serving;
 mod sharing;
 mod terminal;
-#[cfg(test)]
-mod tests;
 mod viewing;
 mod working;
 mod writing;
