@@ -35,6 +35,7 @@ rfb_viewer tests::long_texts::want_of_memory_is_reported_for_good 0
 rfb_viewer tests::calls::a_text_without_memory_leaves_the_buffer 1
 rfb_session world::tests::memory::a_world_that_is_refused_memory_is_closed 0
 rfb_session hub::tests::memory::a_hub_that_is_refused_memory_is_closed 0
+rfb_session netpbm::tests::a_picture_that_is_refused_memory_is_reported 0
 '
 
 # The call numbered by REFUSE fails, and makes the file named by REFUSED. A run has a minute; `timeout`

@@ -28,7 +28,3 @@ pub mod OwnerLineLemmas
 pub mod OwnerReaderLemmas
 pub mod OwnerStageLemmas
 pub mod SharedLemmas
-pub mod PixmapNumberLemmas
-pub mod PixmapHeadLemmas
-pub mod PixmapPlacesLemmas
-pub mod PixmapFileLemmas

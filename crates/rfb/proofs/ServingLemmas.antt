@@ -22,11 +22,11 @@ use Rattle.rfb.specs.Scene.{ShowsScene, pattern}
 use Rattle.rfb.proofs.SceneLemmas.{draws_so}
 use Rattle.std.proofs.Common.{Bor, None, Some, OnErr, Result}
 use Rattle.clap.specs.Words.{Text}
-use Rattle.rfb.specs.declared.pixmap.fault.Flaw.{Flaw}
-use Rattle.rfb.specs.declared.pixmap.fault.PixmapError.{PixmapError}
-use Rattle.rfb.specs.declared.pixmap.fault.PixmapError.TheVariants.{Flaw as FlawError, Input, NoMemory as NoMemoryError}
-use Rattle.rfb.specs.declared.pixmap.Pixmap.{Pixmap}
-use Rattle.rfb.specs.pixmap.File.{FailsToSpell, SpellsKnown, picture_of}
+use Rattle.rfb_session.specs.declared.netpbm.fault.Flaw.{Flaw}
+use Rattle.rfb_session.specs.declared.netpbm.fault.PixmapError.{PixmapError}
+use Rattle.rfb_session.specs.declared.netpbm.fault.PixmapError.TheVariants.{Flaw as FlawError, Input, NoMemory as NoMemoryError}
+use Rattle.rfb_session.specs.declared.netpbm.Pixmap.{Pixmap}
+use Rattle.rfb_session.specs.netpbm.File.{FailsToSpell, SpellsKnown, picture_of}
 use Rattle.rfb.specs.declared.fault.Failure.{Failure}
 use Rattle.rfb.specs.declared.fault.Failure.TheVariants.{BadLine, Fault, Engine, Picture as PictureFailure}
 use Rattle.rfb.specs.declared.fault.Fault.{Fault as FaultOf}

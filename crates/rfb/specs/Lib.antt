@@ -20,5 +20,4 @@ pub mod SharedTelling
 pub mod Sharing
 pub mod Viewing
 pub mod Words
-pub mod pixmap
 pub mod command

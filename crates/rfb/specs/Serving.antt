@@ -10,10 +10,10 @@ use Rattle.rfb_session.specs.Devices.{AppendsBeginning}
 use Rattle.rfb_session.specs.ServeEngine.{AllServed, GoesOn, ServerBetween, StopsServing}
 use Rattle.rfb_picture.specs.Grid.{Grid}
 use Rattle.rfb_pixel.specs.declared.colour.Colour.{Colour}
-use Rattle.rfb.specs.declared.pixmap.fault.PixmapError.{PixmapError}
-use Rattle.rfb.specs.declared.pixmap.fault.PixmapError.TheVariants.{Flaw as FlawError, Input, NoMemory as NoMemoryError}
-use Rattle.rfb.specs.declared.pixmap.Pixmap.{Pixmap}
-use Rattle.rfb.specs.pixmap.File.{HasFlaw, SpellsKnown, picture_of}
+use Rattle.rfb_session.specs.declared.netpbm.fault.PixmapError.{PixmapError}
+use Rattle.rfb_session.specs.declared.netpbm.fault.PixmapError.TheVariants.{Flaw as FlawError, Input, NoMemory as NoMemoryError}
+use Rattle.rfb_session.specs.declared.netpbm.Pixmap.{Pixmap}
+use Rattle.rfb_session.specs.netpbm.File.{HasFlaw, SpellsKnown, picture_of}
 use Rattle.rfb_server.specs.Server.{first_server}
 use Rattle.rfb_server.specs.Standing.{StandsFor, with_screen}
 use Rattle.rfb.specs.declared.fault.Fault.{Fault as FaultOf}

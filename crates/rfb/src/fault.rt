@@ -5,7 +5,7 @@ ghost use Rattle.rfb.specs.Fault.{IsFailureOf, IsFaultOf};
 ghost use Rattle.rfb.specs.declared.fault.Failure.TheVariants as Failure;
 ghost use Rattle.rfb.specs.declared.fault.Fault.TheVariants as Fault;
 
-use crate::pixmap::Flaw;
+use rfb_session::netpbm::Flaw;
 use rfb_session::{Device, EngineFault, NoMemory};
 use std::alloc::{AllocError, AllocFailed};
 use std::io;

@@ -2,7 +2,7 @@
 //! `rfb help faults`.
 
 use crate::fault::Fault;
-use crate::pixmap::Flaw;
+use rfb_session::netpbm::Flaw;
 use rfb_server::ServerFault;
 use rfb_session::{EngineFault, HubFault};
 use rfb_viewer::ViewerFault;

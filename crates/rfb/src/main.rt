@@ -11,7 +11,6 @@ mod faults;
 mod help;
 mod loopback;
 mod options;
-mod pixmap;
 mod play;
 mod playing;
 mod reaching;

@@ -2,7 +2,7 @@
 
 ghost use Rattle.std.specs.Prelude.{◌≡◌, ◌⊎◌, ℕ, List, Ok, Err, IfOk, IfErr, OnOk, OnErr, string_bytes};
 ghost use Rattle.std.specs.Io.KnownBytes.{Appends};
-ghost use Rattle.rfb.specs.declared.pixmap.fault.Flaw.{Flaw};
+ghost use Rattle.rfb_session.specs.declared.netpbm.fault.Flaw.{Flaw};
 ghost use Rattle.rfb_session.specs.Devices.{AppendsBeginning};
 ghost use Rattle.rfb.specs.Serving.{IsLineOf, IsServedSome};
 ghost use Rattle.rfb.specs.Serving.{FailsToServe, LeavesServed, ServesAsked, ServesFewer};

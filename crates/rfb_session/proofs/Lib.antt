@@ -60,3 +60,7 @@ pub mod ServingLemmas
 pub mod TurnLemmas
 pub mod ViewLemmas
 pub mod LookLemmas
+pub mod NetpbmNumberLemmas
+pub mod NetpbmHeadLemmas
+pub mod NetpbmPlacesLemmas
+pub mod NetpbmFileLemmas

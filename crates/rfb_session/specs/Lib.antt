@@ -35,4 +35,5 @@ pub mod ShareViewers
 pub mod Turns
 pub mod ViewEngine
 pub mod Looking
+pub mod netpbm
 pub mod inside

@@ -15,6 +15,7 @@
 //!   `run`. A slot's events are `Of(slot, ..)`; drawings are everyone's.
 //! - One screen and up to eight viewers elsewhere: `Share::new`, `join` for each, `received` with
 //!   what came, `to_write` for what waits. It has the servers' ends alone, and knows no socket.
+//! - Pictures and files: `ppm` writes a picture as PPM, and `netpbm::read_ppm` reads one.
 //! - `Link` is a session and a viewer with the bytes in flight, over a screen that it is lent at
 //!   each call: what worlds and hubs are made of.
 //!
@@ -32,6 +33,7 @@ mod hub;
 mod latest;
 pub mod law;
 mod link;
+pub mod netpbm;
 mod reply;
 mod share;
 mod slots;

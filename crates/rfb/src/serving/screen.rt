@@ -1,12 +1,12 @@
 //! What a server shows: the test scene, or the picture of a file.
 
 ghost use Rattle.std.specs.Prelude.{List, Option, ℕ, IfOk, IfErr};
-ghost use Rattle.rfb.specs.pixmap.File.{SpellsKnown, picture_of};
+ghost use Rattle.rfb_session.specs.netpbm.File.{SpellsKnown, picture_of};
 ghost use Rattle.rfb.specs.Serving.{FailsAs, FailsToRead, FailsToServe};
 
 use crate::explain::{tell_unread, tell_unshown};
 use crate::fault::{Failure, Fault};
-use crate::pixmap::{Pixmap, PixmapError, read_pixmap};
+use rfb_session::netpbm::{Pixmap, PixmapError, read_ppm};
 use crate::script::Screen;
 use std::alloc::Global;
 use std::fs::{File, Files};
@@ -51,7 +51,7 @@ fn read_picture<R: Read, N: Write>(
     ensures read { IfOk result (λ pixmap. SpellsKnown (R.remaining input.old) (picture_of pixmap)) }
     ensures refused { IfErr result (FailsToRead (R.remaining input.old)) }
 {
-    match read_pixmap(alloc, input) {
+    match read_ppm(alloc, input) {
         Ok(pixmap) => Ok(pixmap),
         Err(error) => Err(failure_of(path, error, notes)),
     }

@@ -3,9 +3,9 @@
 ghost use Rattle.std.specs.Prelude.{◌≡◌};
 ghost use Rattle.rfb_picture.specs.Grid.{with_rows};
 ghost use Rattle.rfb_server.specs.Standing.{AreOf, Draws, screen_of};
-ghost use Rattle.rfb.specs.pixmap.File.{picture_of};
+ghost use Rattle.rfb_session.specs.netpbm.File.{picture_of};
 
-use crate::pixmap::Pixmap;
+use rfb_session::netpbm::Pixmap;
 use rfb_picture::Rect;
 use rfb_pixel::Colour;
 use rfb_server::Server;

@@ -3,7 +3,7 @@ use Rattle.rfb_picture.specs.Grid.{Grid}
 use Rattle.rfb_picture.proofs.GridLaws.{height-uniform, width-uniform}
 use Rattle.rfb_pixel.specs.declared.colour.Colour.{Colour}
 use Rattle.rfb_server.specs.Server.{black}
-use Rattle.rfb.specs.pixmap.File.{picture_of}
+use Rattle.rfb_session.specs.netpbm.File.{picture_of}
 use Rattle.rfb.proofs.ServingLemmas.{shows_picture}
 use Rattle.rfb.proofs.serving.fresh.serve_first_picture.Goals as goal
 
