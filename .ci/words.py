@@ -345,8 +345,11 @@ def a_file_is_written_whole_or_not_at_all():
         reads(b"screen 2 1\n")
         ends(["script", "-i", script, "-o", picture], b"", 1, b"", b"fault 25 NotReady\n")
         holds(picture, FILLED, 2)
-        # What a link leads to is written.
+        # What a link leads to is written in the same way.
         os.symlink(picture, link)
+        for words in ["script", "-i", script], ["play", "-i", "/no"], ["view", f"::{free_port()}"]:
+            Run([*words, "-o", link]).ends(1, b"")
+            holds(picture, FILLED, 3)
         reads(b"screen 1 1\nsettle\n")
         ends(["script", "--input", script, "-o=" + link], b"", 0)
         assert os.path.islink(link)
@@ -646,7 +649,8 @@ def each_line_of_serve_is_of_a_connection_of_its_own():
     run = Run(["serve", "--explain", "--port", str(free_port()), "--connections", "3"],
               before=limited(resource.RLIMIT_NOFILE, 4))
     run.ends(0, DEVICE * 3)
-    assert run.told(2).split(b"\n", 1)[1] == b"rfb: a connection could not be accepted\n" * 3
+    refused = b"rfb: a connection could not be accepted: Too many open files (os error 24)\n"
+    assert run.told(2).split(b"\n", 1)[1] == refused * 3, run.told(2)
 
 
 def a_viewer_that_sends_nothing_in_time_is_let_go():
@@ -654,6 +658,43 @@ def a_viewer_that_sends_nothing_in_time_is_let_go():
     run = Run(["serve", "--port", str(port), "--timeout", "1"])
     with connected(port):
         run.ends(0, DEVICE, b"")
+
+
+def a_viewer_that_takes_nothing_in_time_is_let_go():
+    """The next one has its turn then, though the first still has bytes to read."""
+    port = free_port()
+    run = Run(["serve", "--port", str(port), "--timeout", "1", "--width=4096", "--height=4096",
+               "--connections=2"])
+    with connected(port) as line:
+        line.sendall(CLIENT[:14] + bytes.fromhex("03 00 0000 0000 1000 1000"))
+        assert size_shown(port) == (4096, 4096)
+        run.ends(0, DEVICE + b"ok 0\n", b"")
+
+
+def a_process_that_was_stopped_goes_on():
+    def stops(run):
+        time.sleep(0.3)
+        run.run.send_signal(signal.SIGSTOP)
+        time.sleep(0.1)
+        run.run.send_signal(signal.SIGCONT)
+        time.sleep(0.3)
+
+    port = free_port()
+    run = Run(["serve", "--port", str(port), "--timeout", "20", "--width", "2", "--height", "1"])
+    with connected(port) as line:
+        line.sendall(CLIENT[:14])
+        stops(run)
+        line.sendall(CLIENT[14:])
+        line.shutdown(socket.SHUT_WR)
+        assert b"".join(iter(lambda: line.recv(65536), b"")) == SERVER
+    run.ends(0, b"ok 1\n", b"")
+    with socket.create_server(("127.0.0.1", 0)) as server:
+        run = Run(["view", "--port", str(server.getsockname()[1]), "--timeout", "20"])
+        with server.accept()[0] as line:
+            line.sendall(HELLO)
+            stops(run)
+            line.sendall(SERVER[len(HELLO):])
+            run.ends(0, SHOWN, b"")
 
 
 def a_port_in_use_is_reported_with_the_systems_words():
@@ -689,6 +730,8 @@ ROWS = [
     what_is_listened_on_is_what_is_named,
     each_line_of_serve_is_of_a_connection_of_its_own,
     a_viewer_that_sends_nothing_in_time_is_let_go,
+    a_viewer_that_takes_nothing_in_time_is_let_go,
+    a_process_that_was_stopped_goes_on,
     a_port_in_use_is_reported_with_the_systems_words,
 ]
 

@@ -1,11 +1,11 @@
 //! How long is waited for a peer: a connection to a server, and those that a listener takes.
 
-use std::io::{ErrorKind, Read};
+use std::io::{ErrorKind, Read, Write};
 use std::net::{Net, OpenListener, OpenStream, SocketAddr, TcpStream, ToSocketAddrs};
 use std::time::{Clock, Duration, Instant};
 use std::{io, thread};
 
-// How long it rests before a refused connection is tried again, in milliseconds.
+// How long it rests before what was refused is tried again, in milliseconds.
 const PAUSE: u64 = 100;
 
 /// When waiting ends, if ever.
@@ -115,38 +115,106 @@ impl<S: OpenStream, C> Patient<'_, S, C> {
 }
 
 impl<S: Read + OpenStream, C: Clock> Read for Patient<'_, S, C> {
+    /// Reads once, or again after a signal: a process that was stopped and goes on gets one, and its
+    /// reads with a limit end by it.
     fn read(&mut self, buf: &mut [u8]) -> io::Result<usize> {
-        if let Some(left) = self.deadline.left()? {
-            self.stream.set_read_timeout(Some(left))?;
+        for _turn in 0..u64::MAX {
+            if let Some(left) = self.deadline.left()? {
+                self.stream.set_read_timeout(Some(left))?;
+            }
+            match self.stream.read(buf) {
+                Err(error) if error.kind() == ErrorKind::Interrupted => {}
+                ended => return ended,
+            }
         }
-        self.stream.read(buf)
+        Err(io::Error::from(ErrorKind::Interrupted))
     }
 }
 
-/// A listener on whose connections a read ends where nothing comes for some time.
+/// A listener whose connections end where nothing comes, or nothing can be sent, for some time.
 #[derive(Drop)]
-pub struct Timed<L> {
+pub struct Timed<'a, L, C> {
     listener: L,
+    clock: &'a C,
     seconds: Option<u32>,
 }
 
-impl<L> Timed<L> {
-    /// Takes what `listener` takes. A read ends after `seconds` seconds, if there is a number.
-    pub fn new(listener: L, seconds: Option<u32>) -> Timed<L> {
-        Timed { listener, seconds }
+impl<'a, L, C> Timed<'a, L, C> {
+    /// Takes what `listener` takes. A read or a write ends after `seconds` seconds, if there is a
+    /// number.
+    pub fn new(listener: L, clock: &'a C, seconds: Option<u32>) -> Timed<'a, L, C> {
+        Timed {
+            listener,
+            clock,
+            seconds,
+        }
     }
 }
 
-impl<L: OpenListener> Timed<L>
+impl<L: OpenListener, C: Clock> Timed<'_, L, C>
 where
     L::Stream: OpenStream,
 {
-    /// Takes the next connection, and tells who is at its other end.
-    pub fn accept(&self) -> io::Result<(L::Stream, SocketAddr)> {
-        let (stream, address) = self.listener.accept()?;
-        if let Some(seconds) = self.seconds {
-            stream.set_read_timeout(Some(Duration::from_secs(u64::from(seconds))))?;
+    /// Takes the next connection, and tells who is at its other end. Where none can be had, it rests
+    /// before it says so: the next one may be had then.
+    pub fn accept(&self) -> io::Result<(Steady<L::Stream>, SocketAddr)> {
+        match self.listener.accept() {
+            Ok((stream, address)) => {
+                if let Some(seconds) = self.seconds {
+                    let limit = Some(Duration::from_secs(u64::from(seconds)));
+                    stream.set_read_timeout(limit)?;
+                    stream.set_write_timeout(limit)?;
+                }
+                Ok((Steady { stream }, address))
+            }
+            Err(error) => {
+                thread::sleep(self.clock, Duration::from_millis(PAUSE));
+                Err(error)
+            }
         }
-        Ok((stream, address))
+    }
+}
+
+/// A connection whose reads and writes begin again after a signal: where they have a limit, a process
+/// that was stopped and goes on gets one.
+#[derive(Drop)]
+pub struct Steady<S> {
+    stream: S,
+}
+
+impl<S: OpenStream> Steady<S> {
+    /// The same connection, to write to. What is written goes out at once.
+    pub fn answering(&self) -> io::Result<Steady<S>> {
+        let _ = self.stream.set_nodelay(true);
+        let stream = self.stream.try_clone()?;
+        Ok(Steady { stream })
+    }
+}
+
+impl<S: Read> Read for Steady<S> {
+    fn read(&mut self, buf: &mut [u8]) -> io::Result<usize> {
+        for _turn in 0..u64::MAX {
+            match self.stream.read(buf) {
+                Err(error) if error.kind() == ErrorKind::Interrupted => {}
+                ended => return ended,
+            }
+        }
+        Err(io::Error::from(ErrorKind::Interrupted))
+    }
+}
+
+impl<S: Write> Write for Steady<S> {
+    fn write(&mut self, buf: &[u8]) -> io::Result<usize> {
+        for _turn in 0..u64::MAX {
+            match self.stream.write(buf) {
+                Err(error) if error.kind() == ErrorKind::Interrupted => {}
+                ended => return ended,
+            }
+        }
+        Err(io::Error::from(ErrorKind::Interrupted))
+    }
+
+    fn flush(&mut self) -> io::Result<()> {
+        self.stream.flush()
     }
 }

@@ -28,10 +28,11 @@ use std::alloc::{AllocError, Global};
 use std::fs::Files;
 use std::io::{Read, Write};
 use std::net::{Net, OpenListener, OpenStream, SocketAddr, TcpListener};
+use std::time::Clock;
 
 /// Serves as many connections as are asked for on a port of an address, one after another. Where a
 /// picture is asked for, its file is read before. `notes` say how it goes.
-pub fn serve_at<P: Files + Net, W: Write, E: Write>(
+pub fn serve_at<P: Clock + Files + Net, W: Write, E: Write>(
     rt: &P,
     alloc: Global,
     options: ServeOptions<'_>,
@@ -62,7 +63,7 @@ pub fn serve_at<P: Files + Net, W: Write, E: Write>(
 }
 
 // Serves them with the picture of a file.
-fn serve_file<P: Files + Net, W: Write, E: Write>(
+fn serve_file<P: Clock + Files + Net, W: Write, E: Write>(
     rt: &P,
     alloc: Global,
     path: &str,
@@ -92,7 +93,7 @@ fn serve_file<P: Files + Net, W: Write, E: Write>(
 }
 
 // Serves them with a screen.
-fn listen<N: Net, W: Write, E: Write>(
+fn listen<N: Clock + Net, W: Write, E: Write>(
     net: &N,
     alloc: Global,
     screen: &ServedScreen,
@@ -110,7 +111,7 @@ fn listen<N: Net, W: Write, E: Write>(
     match TcpListener::bind(net, (options.listen, options.port)) {
         Ok(listener) => {
             tell_bound(options.listen, options.port, notes);
-            let timed = Timed::new(listener, options.timeout);
+            let timed = Timed::new(listener, net, options.timeout);
             serve_on(alloc, &timed, screen, options.connections, output, notes)
         }
         Err(error) => {
@@ -124,9 +125,9 @@ fn listen<N: Net, W: Write, E: Write>(
 /// `output` says how many updates were sent, or which fault ended it. One that cannot be accepted
 /// counts, as a fault of a device. It gives an error only where a line cannot be written or
 /// flushed, or there is no memory for it; then a beginning of the lines was written.
-pub fn serve_on<L: OpenListener, W: Write, N: Write>(
+pub fn serve_on<L: OpenListener, C: Clock, W: Write, N: Write>(
     alloc: Global,
-    listener: &Timed<L>,
+    listener: &Timed<'_, L, C>,
     screen: &ServedScreen,
     connections: u64,
     output: &mut W,
@@ -151,9 +152,9 @@ where
 
 // Serves the next connection, to its end. What is written goes out at once: a viewer waits for it.
 // `sent` counts the updates of all that left in peace.
-fn serve_next<L: OpenListener, N: Write>(
+fn serve_next<L: OpenListener, C: Clock, N: Write>(
     alloc: Global,
-    listener: &Timed<L>,
+    listener: &Timed<'_, L, C>,
     screen: &ServedScreen,
     sent: &mut u64,
     notes: &mut N,
@@ -162,14 +163,20 @@ where
     L::Stream: Read + Write + OpenStream,
     ensures { IsServedSome screen.now result }
 {
-    let Ok((stream, address)) = listener.accept() else {
-        let _ = writeln!(notes, "rfb: a connection could not be accepted");
-        return Err(EngineFault::Device);
+    let (stream, address) = match listener.accept() {
+        Ok(accepted) => accepted,
+        Err(error) => {
+            let _ = writeln!(notes, "rfb: a connection could not be accepted: {error}");
+            return Err(EngineFault::Device);
+        }
     };
     let _ = writeln!(notes, "rfb: {address} has connected");
-    let _ = stream.set_nodelay(true);
-    let Ok(other) = stream.try_clone() else {
-        return Err(EngineFault::Device);
+    let other = match stream.answering() {
+        Ok(other) => other,
+        Err(error) => {
+            let _ = writeln!(notes, "rfb: {address} was let go: {error}");
+            return Err(EngineFault::Device);
+        }
     };
     let ended = serve_fresh(alloc, screen, stream, other);
     tell_left(&ended, address, sent, notes);

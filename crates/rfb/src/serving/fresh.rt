@@ -5,13 +5,13 @@ ghost use Rattle.rfb.specs.Playing.{IsFreshServer};
 ghost use Rattle.rfb.specs.Serving.{IsServed, IsServedFrom};
 ghost use Rattle.rfb.specs.declared.serving.screen.ServedScreen.TheVariants as ServedScreen;
 
-use rfb_session::netpbm::Pixmap;
 use crate::playing::fresh_server;
 use crate::scene::TestScene;
 use crate::script::Screen;
 use crate::serving::screen::ServedScreen;
 use crate::serving::still::{Still, draw_picture};
 use rfb_server::Server;
+use rfb_session::netpbm::Pixmap;
 use rfb_session::{EngineFault, Scene, Tally, serve};
 use std::alloc::Global;
 use std::io::{Read, Write};

@@ -5,11 +5,11 @@ ghost use Rattle.rfb_picture.specs.Grid.{with_rows};
 ghost use Rattle.rfb_server.specs.Standing.{AreOf, Draws, screen_of};
 ghost use Rattle.rfb_session.specs.netpbm.File.{picture_of};
 
-use rfb_session::netpbm::Pixmap;
 use rfb_picture::Rect;
 use rfb_pixel::Colour;
 use rfb_server::Server;
 use rfb_session::Scene;
+use rfb_session::netpbm::Pixmap;
 
 /// A scene in which nothing moves. So a viewer that asks for what has changed is answered no more.
 #[derive(Drop)]
