@@ -8,7 +8,7 @@ ghost use Rattle.rfb.specs.CommandLine.{DoesAsked, LeavesAsked};
 ghost use Rattle.std.specs.IoError.{error_kind};
 ghost use Rattle.std.specs.declared.io.ErrorKind.TheVariants.{InvalidData};
 
-use crate::explain::Notes;
+use crate::explain::{Notes, tell_own};
 use crate::fault::{Failure, Fault};
 use crate::faults::write_faults;
 use crate::options::{BadValue, WrongWords, read_words};
@@ -145,7 +145,7 @@ fn obey<P: AllocGlobal + Clock + Files + Net, S: AsStr, R: Read, W: Write, E: Wr
     match read_words(rt.alloc(), words) {
         Ok(order) => {
             let done = work_through(rt, order, explains, input, output, errors);
-            status_of(done, errors)
+            status_of(done, explains, errors)
         }
         Err(WrongWords::Value(value)) => {
             tell_value(value, explains, errors);
@@ -159,14 +159,17 @@ fn obey<P: AllocGlobal + Clock + Files + Net, S: AsStr, R: Read, W: Write, E: Wr
     }
 }
 
-// The status of what was done. Why it was not is printed.
-fn status_of<E: Write>(done: Result<(), Failure>, errors: &mut E) -> u8
+// The status of what was done. Why it was not is printed, with a sentence if any are wanted.
+fn status_of<E: Write>(done: Result<(), Failure>, explains: bool, errors: &mut E) -> u8
     ensures done { OnOk done (result ≡ 0) }
     ensures failed { OnErr done (result ≡ 1) }
 {
     match done {
         Ok(()) => DONE,
-        Err(failure) => tell(failure, errors),
+        Err(failure) => {
+            tell_own(&failure, &mut Notes::new(errors, explains));
+            tell(failure, errors)
+        }
     }
 }
 
@@ -188,13 +191,13 @@ fn answer_words<S: AsStr, W: Write, E: Write>(
         return tell(Failure::Fault(Fault::NoMemory), errors);
     }
     if ask_for_faults(words) {
-        return status_of(show_faults(output), errors);
+        return status_of(show_faults(output), false, errors);
     }
     if answer.use_stderr() {
         let _ = write!(errors, "{answer}");
         return BAD_WORDS;
     }
-    status_of(show(answer, output), errors)
+    status_of(show(answer, output), false, errors)
 }
 
 // Prints why a command fails, and answers its exit status.

@@ -11,6 +11,7 @@ mod keeping;
 mod naming;
 mod placing;
 
+use crate::fault::{Failure, Fault};
 pub use escaped::Escaped;
 pub use failing::{tell_client, tell_server};
 pub use heard::Heard;
@@ -19,6 +20,13 @@ pub use keeping::{Reading, Writing};
 pub use placing::tell_place;
 use std::io;
 use std::io::Write;
+
+const NOT_READY: &str = "\
+rfb: the viewer has no picture yet: it has one once its handshake is done, which `settle` delivers";
+
+const NO_SUCH_SLOT: &str = "rfb: there is no viewer in the slot that the last line names";
+
+const NO_MEMORY: &str = "rfb: the system has refused memory";
 
 /// Where sentences go: to `errors`, or nowhere.
 #[derive(Drop)]
@@ -50,6 +58,18 @@ impl<E: Write> Write for Notes<'_, E> {
     fn flush(&mut self) -> io::Result<()> {
         Ok(())
     }
+}
+
+/// Says why there is no picture, or that memory was refused, if that is why a command fails. All else
+/// is told where it happens.
+pub fn tell_own<N: Write>(failure: &Failure, notes: &mut N) {
+    let text = match failure {
+        Failure::Fault(Fault::NotReady) => NOT_READY,
+        Failure::Fault(Fault::NoSuchSlot) => NO_SUCH_SLOT,
+        Failure::Fault(Fault::NoMemory) => NO_MEMORY,
+        _ => return,
+    };
+    let _ = writeln!(notes, "{text}");
 }
 
 /// Says that a connection to a host could not be had.
