@@ -2,8 +2,8 @@
 //! `rfb help faults`.
 
 use crate::fault::Fault;
-use rfb_session::netpbm::Flaw;
 use rfb_server::ServerFault;
+use rfb_session::netpbm::Flaw;
 use rfb_session::{EngineFault, HubFault};
 use rfb_viewer::ViewerFault;
 use std::fmt::Display;
@@ -38,7 +38,8 @@ impl fmt::Display for Numbered {
 
 const HEAD: &str = "\
 Each fault and refusal by its number and its name, and when it comes. 1 to 6 are of the format that a
-client asks for, 1 to 23 of a peer's bytes. 24 to 27 and 31 are refusals of a script's lines.
+client asks for, 1 to 23 of a peer's bytes. 24 to 27, 31 and 32 are refusals of a
+script's lines.
 ";
 
 // What has a number, by its number, and when it comes.

@@ -32,19 +32,19 @@ impl fmt::Display for Reason<'_> {
                 " has a byte that is no printable ASCII character, 0x{byte:02x}"
             ),
             Reason::Keyword(word) => {
-                write!(f, " begins with `{}`, as no line does", Escaped(word))
+                write!(f, " begins with `{}`, as no line there does", Escaped(word))
             }
             Reason::SlotKeyword(word) => {
                 write!(f, ": `{}` is no line of one slot", Escaped(word))
             }
-            Reason::Word(word, kind) => { write!(f, ": `{}`, {}", Escaped(word), refusal_of(kind)) }
+            Reason::Word(word, kind) => { write!(f, ": `{}` {}", Escaped(word), refusal_of(kind)) }
             Reason::TooMany(most, place) => {
-                write!(f, " has more words than the {most} after its {place}")
+                write!(f, " has too many words after its {place}: at most {most}")
             }
             Reason::TooFew(count, least, place) => {
                 write!(
                     f,
-                    " has {count} words after its {place}, and {least} are due"
+                    " has too few words after its {place}: {count} of {least}"
                 )
             }
         }
