@@ -10,7 +10,7 @@ use Rattle.rfb.specs.declared.options.Task.TheVariants.{Script, Loop, Play, Serv
 use Rattle.rfb.specs.declared.options.WrongWords.{WrongWords}
 use Rattle.rfb.specs.declared.options.WrongWords.TheVariants.{Words, Value}
 use Rattle.rfb.specs.declared.play.options.PlayOptions.{PlayOptions}
-use Rattle.rfb.specs.declared.sharing.ShareOptions.{ShareOptions}
+use Rattle.rfb.specs.declared.sharing.options.ShareOptions.{ShareOptions}
 use Rattle.rfb.specs.command.Program.{program, asked}
 use Rattle.rfb.specs.command.Values.{GivesFormat, HasBadFormat, GivesNumber, MayGiveNumber, IsFlagged, GivesFiles, NamesHost, NamesWord}
 use Rattle.rfb.specs.command.Serving.{GivesServeOptions, HasBadServe}

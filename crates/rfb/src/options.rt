@@ -1,15 +1,11 @@
 //! The words of the command line: which there are, and what they ask for.
 
-mod address;
-mod given;
-mod looking;
+pub mod address;
+pub mod given;
 mod paths;
-mod replaying;
-mod serving;
-mod sharing;
-mod usage;
+pub mod usage;
 mod verbs;
-mod words;
+pub mod words;
 
 ghost use Rattle.std.specs.Prelude.{◌≡◌, map, Some, IfOk, MatchResult};
 ghost use Rattle.clap.specs.Words.{FailsBy, fault_of, found_of, rows_of, subcommand_rows_of};
@@ -20,17 +16,15 @@ ghost use Rattle.rfb.specs.Options.{HasBadValue, IsTask};
 ghost use Rattle.rfb.specs.command.Program.{asked, program};
 
 use crate::help::{Topic, VERSION};
-use crate::options::looking::view_options_in;
 pub use crate::options::paths::Paths;
 use crate::options::paths::paths_in;
-use crate::options::replaying::play_options_in;
-use crate::options::serving::serve_options_in;
-use crate::options::sharing::share_options_in;
 use crate::options::verbs::{Verb, commands_of};
 use crate::play::PlayOptions;
-use crate::serving::ServeOptions;
-use crate::sharing::ShareOptions;
+use crate::play::words::play_options_in;
+use crate::serving::{ServeOptions, serve_options_in};
+use crate::sharing::{ShareOptions, share_options_in};
 use crate::viewing::ViewOptions;
+use crate::viewing::words::view_options_in;
 use clap::{ArgMatches, Command, Error};
 use std::alloc::{AllocError, Global};
 use std::convert::AsStr;

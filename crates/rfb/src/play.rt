@@ -11,6 +11,7 @@ ghost use Rattle.rfb.specs.Recording.{WritesPicture, Watches, StopsWatching};
 ghost use Rattle.rfb.specs.Recording.{WatchesAll, StopsWatchingAll, WatchesSome, StopsWatchingSome};
 
 mod options;
+pub mod words;
 
 use crate::explain::{Heard, Hearing, Notes, tell_place, tell_server};
 use crate::fault::{Failure, Fault};

@@ -21,7 +21,7 @@ use crate::reaching::Timed;
 use crate::serving::fresh::serve_fresh;
 use crate::serving::screen::open_picture;
 use crate::writing::write_whole;
-pub use options::{FOREVER, ScreenChoice, ServeOptions};
+pub use options::{FOREVER, SERVE, ScreenChoice, ServeOptions, listen_in, serve_options_in};
 use rfb_session::EngineFault;
 pub use screen::ServedScreen;
 use std::alloc::{AllocError, Global};

@@ -6,6 +6,7 @@ pub mod drawing;
 mod guests;
 mod input;
 pub mod line;
+mod options;
 mod pixels;
 pub mod reader;
 mod ready;
@@ -16,23 +17,10 @@ pub mod words;
 use crate::explain::{Notes, tell_bound, tell_unbound};
 use crate::fault::Failure;
 use crate::sharing::desk::Desk;
+pub use options::{SHARE, ShareOptions, share_options_in};
 use std::alloc::Global;
 use std::io::{Read, Write};
 use std::net::{Net, OpenListener, TcpListener};
-
-/// What `share` is asked for.
-#[derive(Clone, Copy)]
-pub struct ShareOptions<'a> {
-    /// The address and the port to listen on.
-    pub listen: &'a str,
-    pub port: u16,
-    /// How many viewers there are at once at most, 1 to 8.
-    pub viewers: u16,
-    /// The screen's name.
-    pub name: &'a str,
-    /// Whether all ends with the last viewer.
-    pub until_idle: bool,
-}
 
 /// Shares a screen until a line says `quit`, or with the last viewer if that is wanted. `input` is
 /// standard input. A line of its that is bad is reported on `errors`. It fails where nothing can

@@ -8,6 +8,7 @@ ghost use Rattle.rfb.specs.Recording.{shows_end};
 ghost use Rattle.rfb.specs.Viewing.{LeavesSomeView, LeavesView, Views, ViewsSome};
 
 mod options;
+pub mod words;
 
 use crate::explain::{
     Heard, Hearing, Notes, Speaking, tell_server, tell_unreached, tell_unsent, tell_updates,

@@ -6,12 +6,12 @@ ghost use Rattle.rfb.specs.command.Program.{shape_named};
 ghost use Rattle.rfb.specs.command.Usage.{shape_for};
 
 use crate::help::Topic;
-use crate::options::looking::VIEW;
-use crate::options::replaying::PLAY;
-use crate::options::serving::SERVE;
-use crate::options::sharing::SHARE;
 use crate::options::usage::{Usage, command_of};
 use crate::options::words::{INPUT, OUTPUT};
+use crate::play::words::PLAY;
+use crate::serving::SERVE;
+use crate::sharing::SHARE;
+use crate::viewing::words::VIEW;
 use clap::Command;
 use std::alloc::{AllocError, Global};
 

@@ -1,4 +1,4 @@
-//! The words of `share`.
+//! What `share` is asked for, and its words.
 
 ghost use Rattle.std.specs.Prelude.{codes};
 ghost use Rattle.clap.specs.Words.{first_of, found_of, rows_of};
@@ -7,11 +7,24 @@ ghost use Rattle.rfb.specs.Options.{GivesShareOptions};
 
 use crate::help::Topic;
 use crate::options::given::{is_given, number_in};
-use crate::options::serving::listen_in;
 use crate::options::usage::{Mark, Takes, Usage, Word};
 use crate::options::words::{LISTEN, PORT};
-use crate::sharing::ShareOptions;
+use crate::serving::listen_in;
 use clap::ArgMatches;
+
+/// What `share` is asked for.
+#[derive(Clone, Copy)]
+pub struct ShareOptions<'a> {
+    /// The address and the port to listen on.
+    pub listen: &'a str,
+    pub port: u16,
+    /// How many viewers there are at once at most, 1 to 8.
+    pub viewers: u16,
+    /// The screen's name.
+    pub name: &'a str,
+    /// Whether all ends with the last viewer.
+    pub until_idle: bool,
+}
 
 const NAME: &str = "rfb";
 

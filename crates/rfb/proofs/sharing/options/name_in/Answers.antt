@@ -3,7 +3,7 @@ use Rattle.clap.specs.Walk.{Text, first_of, rows_of}
 use Rattle.clap.specs.Matches.{found_of}
 use Rattle.clap.proofs.WalkLemmas.{first_value-rows}
 use Rattle.rfb.specs.command.Values.{NamesWord}
-use Rattle.rfb.proofs.options.sharing.name_in.Goals as goal
+use Rattle.rfb.proofs.sharing.options.name_in.Goals as goal
 
 abbrev text_of : Option (Bor (List ℕ)) → Option Text
 text_of = option_map (λ s. s.now)

@@ -3,7 +3,7 @@ use Rattle.clap.specs.Walk.{Text, first_of, rows_of}
 use Rattle.clap.specs.Matches.{found_of}
 use Rattle.clap.proofs.WalkLemmas.{first_value-rows}
 use Rattle.rfb.specs.command.Values.{NamesHost}
-use Rattle.rfb.proofs.options.serving.listen_in.Goals as goal
+use Rattle.rfb.proofs.serving.options.listen_in.Goals as goal
 
 abbrev text_of : Option (Bor (List ℕ)) → Option Text
 text_of = option_map (λ s. s.now)

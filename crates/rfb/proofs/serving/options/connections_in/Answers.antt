@@ -1,7 +1,7 @@
 use Rattle.clap.specs.Walk.{rows_of}
 use Rattle.clap.specs.Words.{found_of}
 use Rattle.rfb.proofs.OptionLemmas.{counted, counted_twice, uncounted}
-use Rattle.rfb.proofs.options.serving.connections_in.Goals as goal
+use Rattle.rfb.proofs.serving.options.connections_in.Goals as goal
 
 pub returns-then-not-is_given : goal.returns-then-not-is_given
 returns-then-not-is_given c =

@@ -1,6 +1,6 @@
 use Rattle.std.proofs.Common.{◌∙◌, sym}
 use Rattle.std.proofs.lemmas.Option.{none-some, same_Some}
-use Rattle.rfb.proofs.options.looking.updates_in.Goals as goal
+use Rattle.rfb.proofs.viewing.words.updates_in.Goals as goal
 
 pub returns-in-Some-clause-number : goal.returns-in-Some-clause-number
 returns-in-Some-clause-number c = λ text is numeral above below.

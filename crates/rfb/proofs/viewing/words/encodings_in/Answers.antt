@@ -4,7 +4,7 @@ use Rattle.clap.specs.Matches.{found_of}
 use Rattle.clap.proofs.WalkLemmas.{first_value-rows}
 use Rattle.rfb.specs.command.Looking.{NamesEncodings}
 use Rattle.rfb.proofs.OptionLemmas.{encodings_given}
-use Rattle.rfb.proofs.options.looking.encodings_in.Goals as goal
+use Rattle.rfb.proofs.viewing.words.encodings_in.Goals as goal
 
 abbrev text_of : Option (Bor (List ℕ)) → Option Text
 text_of = option_map (λ s. s.now)
