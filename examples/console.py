@@ -1,4 +1,5 @@
 """A console for `rfb share`: each line of standard input comes up below the others, which scroll."""
+import signal
 import sys
 
 # Three columns by five rows of each letter: a digit for each row, its highest bit on the left.
@@ -10,6 +11,7 @@ Y=55222 Z=71247 0=75557 1=26227 2=71747 3=71717 4=55711 5=74717 6=74757 7=71244 
 COLUMNS, LINES, DOT = 40, 12, 2
 WIDTH, HEIGHT, LINE = 4 * DOT * COLUMNS, 6 * DOT * LINES, 6 * DOT
 
+signal.signal(signal.SIGPIPE, signal.SIG_DFL)
 print("screen", WIDTH, HEIGHT)
 for text in sys.stdin:
     print("scroll", 0, 0, WIDTH, HEIGHT, 0, -LINE)
