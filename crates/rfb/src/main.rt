@@ -1,7 +1,7 @@
 //! The program `rfb`: both ends of the Remote Framebuffer protocol (RFC 6143) at work.
 //!
 //! `command_line` has the statuses, `options` the words, and each command a module: `scripting`,
-//! `loopback`, `play`, `serving` and `viewing`. `script` has the language of scripts.
+//! `loopback`, `play`, `serving`, `viewing` and `sharing`. `script` has the language of scripts.
 #![tactic(auto)]
 
 mod command_line;
