@@ -13,6 +13,7 @@
 #            and in these words is a port that was free, PICTURE in these words the path of the next
 #   picture  a file that it shows
 #   told     what that one must print; its status must be 0
+#   as       for .ci/memory.sh: another call, which asks for memory as often
 # In place of stdin and stdout there may be stdin.gz and stdout.gz.
 # The last line is 'N passed, M failed'.
 set -u
