@@ -9,24 +9,18 @@ them; peers are sockets of 127.0.0.1 and of one address more that a machine has 
 line is 'N passed, M failed'.
 """
 
-import contextlib
 import os
 import random
 import resource
-import signal
 import socket
-import subprocess
 import sys
 import tempfile
-import threading
-import time
-import traceback
+
+from calls import (CLIENT, DEVICE, HELLO, SERVER, SHOWN, TRUNCATED, Run, Server, connected, ends,
+                   failing, folder, free_port, halting, judged, limited)
 
 # Another address of this machine: all that begin with 127 are.
 OTHER = "127.%d.%d.%d" % tuple(random.randrange(1, 255) for _ in range(3))
-
-DEVICE = b"fault 29 Device\n"
-TRUNCATED = b"fault 28 Truncated\n"
 
 # A script that fills the left place of two, and its picture.
 SCRIPT = b"""screen 2 1
@@ -39,77 +33,10 @@ settle
 """
 FILLED = b"P6\n2 1\n65535\n" + bytes.fromhex("FFFF80800101 000000000000")
 
-# A client that asks for all of a screen of two places: its version, None, a shared screen, and a
-# request.
-CLIENT = b"RFB 003.008\n" + bytes.fromhex("01 01 03 00 0000 0000 0002 0001")
-
-# A server of two places that is named rfb: the version, None of one type, success, ServerInit.
-HELLO = b"RFB 003.008\n" + bytes.fromhex(
-    "01 01 00000000 0002 0001 20180001 00FF00FF00FF 100800 000000 00000003 726662")
-# One update: a rectangle of both places, Raw, of the colours (0, 0, 0) and (4, 0, 2).
-SERVER = HELLO + bytes.fromhex("00000001 0000 0000 0002 0001 00000000 00000000 02000400")
-SHOWN = b"P6\n2 1\n65535\n" + bytes.fromhex("000000000000 040400000202")
-# One more: the right place, Raw, of the colour (255, 128, 1).
+# One update more of SERVER: the right place, Raw, of the colour (255, 128, 1).
 MORE = bytes.fromhex("00000001 0001 0000 0001 0001 00000000 0180FF00")
 SHOWN_LATER = b"P6\n2 1\n65535\n" + bytes.fromhex("000000000000 FFFF80800101")
 BLACK = b"P6\n2 1\n65535\n" + bytes(12)
-
-
-def free_port(host="127.0.0.1"):
-    with socket.socket() as taken:
-        taken.bind((host, 0))
-        return taken.getsockname()[1]
-
-
-def wait_for(is_so, what, limit=20):
-    end = time.time() + limit
-    while time.time() < end:
-        if is_so():
-            return
-        time.sleep(0.01)
-    raise AssertionError(what)
-
-
-class Run:
-    """A run of the program that has begun. Its input and both outputs are files."""
-
-    begun = []
-
-    def __init__(self, words, given=b"", errors=None, before=None, room=None, source=None):
-        self.files = [tempfile.TemporaryFile() for _ in range(3)]
-        self.files[0].write(given)
-        self.files[0].seek(0)
-        self.words = words
-        self.run = subprocess.Popen([PROGRAM, *words], stdin=source or self.files[0],
-                                    stdout=self.files[1], stderr=errors or self.files[2],
-                                    preexec_fn=before, cwd=room)
-        self.begun.append(self)
-
-    def told(self, which):
-        self.files[which].seek(0)
-        return self.files[which].read()
-
-    def ends(self, status, output=None, errors=None):
-        """Compares how it ends; what is None may be anything."""
-        try:
-            ended = self.run.wait(60)
-        except subprocess.TimeoutExpired:
-            ended = "none: it has not ended in a minute"
-        got = self.told(1), self.told(2)
-        assert ended == status, (self.words, ended, got[0][-200:], got[1][-500:])
-        assert output is None or got[0] == output, (self.words, got[0][:500])
-        assert errors is None or got[1] == errors, (self.words, got[1][-500:])
-
-    def stops(self):
-        """Ends it if it still runs."""
-        self.run.kill()
-        self.run.wait()
-        for file in self.files:
-            file.close()
-
-
-def ends(words, given, status, output=b"", errors=b""):
-    Run(words, given).ends(status, output, errors)
 
 
 # ---- words
@@ -368,14 +295,6 @@ def a_file_that_cannot_be_had_is_a_fault_of_a_device():
 
 # ---- streams that fail
 
-def limited(kind, count):
-    """Limits what a run may have. A write past the limit of a file is an error and no signal."""
-    def before():
-        signal.signal(signal.SIGXFSZ, signal.SIG_IGN)
-        resource.setrlimit(kind, (count, count))
-    return before
-
-
 def an_output_that_fails_is_reported_after_the_refusals():
     refusals = b"line 2: refused 25 NotReady\nline 4: refused 24 Outside\n"
     for words, given, told, whole, rooms in (
@@ -392,35 +311,6 @@ def an_output_that_fails_is_reported_after_the_refusals():
             with open(here, "rb") as errors:
                 assert errors.read() == told + DEVICE, (words, room)
             assert len(run.told(1)) == room, (words, room, len(run.told(1)))
-
-
-@contextlib.contextmanager
-def failing(given):
-    """Standard input that gives these bytes, and then fails."""
-    here, there = socket.socketpair()
-    with here:
-        here.sendall(b"unread")
-        there.sendall(given)
-        # What it was sent is lost, so reads of the other end fail, once they have had all.
-        there.close()
-        yield here
-
-
-@contextlib.contextmanager
-def halting(given):
-    """The same, but that a read would have to wait."""
-    here, there = socket.socketpair()
-    with here, there:
-        here.setblocking(False)
-        there.sendall(given)
-        yield here
-
-
-@contextlib.contextmanager
-def folder(path):
-    opened = os.open(path, os.O_RDONLY)
-    yield opened
-    os.close(opened)
 
 
 def fails_after(given, words, shown, errors=DEVICE):
@@ -475,42 +365,6 @@ def each_refusal_is_one_write():
 
 
 # ---- servers that are viewed
-
-class Server:
-    """Listens on an address, sends the bytes to whom comes first, and ends writing."""
-
-    def __init__(self, sent=SERVER, host="127.0.0.1", port=0, late=0):
-        self.port = port or free_port(host)
-        self.came = b""
-        self.listener = socket.socket()
-        self.listener.setsockopt(socket.SOL_SOCKET, socket.SO_REUSEADDR, 1)
-        self.listener.bind((host, self.port))
-        self.listener.settimeout(20)
-        if not late:
-            self.listener.listen()
-        self.thread = threading.Thread(target=self.serve, args=(sent, late), daemon=True)
-        self.thread.start()
-
-    def serve(self, sent, late):
-        if late:
-            time.sleep(late)
-            self.listener.listen()
-        try:
-            with self.listener, self.listener.accept()[0] as line:
-                line.settimeout(20)
-                line.sendall(sent)
-                line.shutdown(socket.SHUT_WR)
-                self.came = b"".join(iter(lambda: line.recv(65536), b""))
-        except OSError:
-            # Nobody has come, or who came has gone without a word.
-            pass
-
-    def shows(self, words, status=0, output=SHOWN, errors=b""):
-        """Views it with these words, and returns what the viewer sent."""
-        ends(["view", *words], b"", status, output, errors)
-        self.thread.join(20)
-        return self.came
-
 
 def a_server_is_named_by_a_word_or_by_its_host_and_its_port():
     for words, port in (
@@ -571,16 +425,6 @@ def a_refused_connection_is_tried_again():
 
 
 # ---- viewers that are served
-
-def connected(port, host="127.0.0.1"):
-    """A connection to a server, which may not listen yet."""
-    for _ in range(1000):
-        try:
-            return socket.create_connection((host, port), 20)
-        except ConnectionRefusedError:
-            time.sleep(0.01)
-    raise AssertionError(f"nothing listens on {host}, port {port}")
-
 
 def size_shown(port, host="127.0.0.1"):
     """The size of the screen that a viewer is shown there."""
@@ -736,23 +580,5 @@ ROWS = [
 ]
 
 
-def main(programs):
-    global PROGRAM
-    passed = failed = 0
-    for PROGRAM in map(os.path.abspath, programs):
-        for row in ROWS:
-            try:
-                row()
-                passed += 1
-            except Exception:
-                failed += 1
-                print(f"{os.path.basename(PROGRAM)}, {row.__name__}:")
-                traceback.print_exc(limit=-2, file=sys.stdout)
-            while Run.begun:
-                Run.begun.pop().stops()
-    print(f"{passed} passed, {failed} failed")
-    return failed != 0 or passed == 0
-
-
 if __name__ == "__main__":
-    sys.exit(main(sys.argv[1:]))
+    sys.exit(judged(ROWS, sys.argv[1:]))
