@@ -488,12 +488,42 @@ CAUSES = [
     ("request all 0 0 1 1", ": `all` is neither `full` nor `inc`"),
 ]
 
+# The same of a hub's script.
+HUB_CAUSES = [
+    ("leave 0\r", " has a carriage return: a newline alone ends a line"),
+    ("leave\t0", " has a tab: one space parts two words"),
+    ("leave 0\0", " has a byte that is no printable ASCII character, 0x00"),
+    ("at  0 settle", " has a space at an end, or two in a row: one space parts two words"),
+    ("paint 1", " begins with `paint`, as no line there does"),
+    ("hub 2 1", ": `hub W H` stands first, and once"),
+    ("at", ": a slot and a line of it stand after `at`"),
+    ("at 0", ": a line of the slot stands after `at S`"),
+    ("at 0 paint", ": `paint` is no line of one slot"),
+    ("at 0 request full 0 0 2", " has too few words after its third: 4 of 5"),
+    ("at 0 settle 8", " has too many words after its third: at most 0"),
+    ("join 0 shared rgb888", " has too few words after its first: 3 of 4"),
+    ("leave 0 1", " has too many words after its first: at most 1"),
+    ("at 10 settle", ": `10` is no slot: one digit"),
+    ("join x shared rgb888 raw", ": `x` is no slot: one digit"),
+    ("leave 00", ": `00` is no slot: one digit"),
+    ("foreign -1 01", ": `-1` is no slot: one digit"),
+    ("show 10", ": `10` is no slot: one digit"),
+    ("join 0 alone rgb888 raw", ": `alone` is neither `shared` nor `sole`"),
+    ("join 0 sole rgb555 raw", ": `rgb555` is no format: rgb888, rgb565, bgr233 or rgb101010"),
+    ("foreign 0 0", ": `0` is no 1 to 64 bytes of two hexadecimal digits each"),
+    ("foreign 0 0G", ": `0G` is no 1 to 64 bytes of two hexadecimal digits each"),
+    (f"foreign 0 {'00' * 65}",
+     f": `{'00' * 65}` is no 1 to 64 bytes of two hexadecimal digits each"),
+    ("at 0 toviewer 4294967296", ": `4294967296` is no number from 0 to 4294967295"),
+]
+
 # Whole scripts that are bad, each at a line, and what is said of it.
 BAD_SCRIPTS = [
     ("", 1, " is the last, and none says `screen W H`"),
     ("\n\n", 3, " is the last, and none says `screen W H`"),
     ("\nsettle\n", 2, ": `screen W H` stands first, and once"),
     ("screen 0 1\n", 1, ": `0` is no number from 1 to 4096"),
+    ("hub 0 1\nshow 0\n", 1, ": `hub W H`, each side 1 to 4096, stands first, with `rfb script`"),
     ("screen 2 1\nsettle\nviewer rgb888 raw\n", 3, ": `viewer F E..` stands second, and once"),
 ]
 
@@ -501,6 +531,12 @@ BAD_SCRIPTS = [
 def a_bad_line_is_explained():
     for line, cause in CAUSES:
         yield f"screen 2 1\n{line}\n", 1, b"", f"rfb: line 2 of the script{cause}\n" + bad(2)
+
+
+def a_bad_line_of_a_hub_is_explained():
+    for line, cause in HUB_CAUSES:
+        yield (f"hub 2 1\n{line}\nshow 0\n", 1, b"",
+               f"rfb: line 2 of the script{cause}\n" + bad(2))
 
 
 def a_bad_script_is_explained():
@@ -530,6 +566,7 @@ ROWS = [
     (a_viewer_that_joins_again_has_nothing_of_the_one_before, SCRIPT),
     (a_drawing_and_a_hint_reach_each_session, SCRIPT),
     (a_bad_line_is_explained, ["script", "--explain"]),
+    (a_bad_line_of_a_hub_is_explained, ["script", "--explain"]),
     (a_bad_script_is_explained, ["--explain", "script"], ["--explain", "loop"]),
 ]
 
