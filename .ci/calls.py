@@ -5,6 +5,7 @@ import os
 import resource
 import signal
 import socket
+import struct
 import subprocess
 import sys
 import tempfile
@@ -163,6 +164,33 @@ def connected(port, host="127.0.0.1"):
         except ConnectionRefusedError:
             time.sleep(0.01)
     raise AssertionError(f"nothing listens on {host}, port {port}")
+
+
+def breaks(line):
+    """Ends a connection by a reset, which loses what is on its way."""
+    line.setsockopt(socket.SOL_SOCKET, socket.SO_LINGER, struct.pack("ii", 1, 0))
+    line.close()
+
+
+def takes(line, count):
+    line.settimeout(20)
+    while count > 0:
+        part = line.recv(count)
+        assert part, count
+        count -= len(part)
+
+
+def visits(port, sent, does=lambda line: None):
+    """Sends this to a server, and tells by which name it is known there, and how long it lasts."""
+    with connected(port) as line:
+        name = "rfb: 127.0.0.1:%d" % line.getsockname()[1]
+        begun = time.time()
+        line.sendall(sent)
+        does(line)
+        with contextlib.suppress(OSError):
+            while line.recv(4096):
+                pass
+    return name, time.time() - begun
 
 
 def judged(rows, programs):

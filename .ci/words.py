@@ -15,9 +15,10 @@ import resource
 import socket
 import sys
 import tempfile
+import time
 
 from calls import (CLIENT, DEVICE, HELLO, SERVER, SHOWN, TRUNCATED, Run, Server, connected, ends,
-                   failing, folder, free_port, halting, judged, limited)
+                   failing, folder, free_port, halting, judged, limited, visits)
 
 # Another address of this machine: all that begin with 127 are.
 OTHER = "127.%d.%d.%d" % tuple(random.randrange(1, 255) for _ in range(3))
@@ -424,6 +425,26 @@ def a_refused_connection_is_tried_again():
     server.shows(["--port", str(server.port), "--timeout", "5"])
 
 
+def a_view_of_a_silent_server_ends_when_its_time_is_up():
+    late = b"rfb: the time of --timeout is up, and no more came\n" + DEVICE
+    update = b"rfb: updates so far: 1\n"
+    hello = b"rfb: connected to rfb, 2 by 1\n"
+    begun, views = time.time(), []
+    for sent, words, shown, told in (
+            (b"", [], b"", b""),
+            (HELLO, [], b"", hello),
+            (SERVER[:65], [], b"", hello),
+            (SERVER, ["--updates=2"], b"", hello + update),
+            (SERVER, ["--updates=2", "--partial"], SHOWN, hello + update),
+            (HELLO, ["--record"], HELLO, hello)):
+        port = Server(sent, is_silent=True).port
+        views.append((Run(["view", "--explain", "--timeout=1", f"--port={port}", *words]),
+                      shown, told + late))
+    for run, shown, told in views:
+        run.ends(1, shown, told)
+        assert 1 <= time.time() - begun < 5, (run.words, time.time() - begun)
+
+
 # ---- viewers that are served
 
 def size_shown(port, host="127.0.0.1"):
@@ -551,6 +572,62 @@ def a_port_in_use_is_reported_with_the_systems_words():
              + DEVICE)
 
 
+def a_client_is_let_go_once_it_sends_nothing_in_the_time():
+    """One is silent inside a message. The next sends a part in time, twice, and stays."""
+    broken = "the connection to the viewer broke, or nothing came in the time of --timeout"
+
+    def goes_on(line):
+        for part in CLIENT[12:13], CLIENT[13:]:
+            time.sleep(0.6)
+            line.sendall(part)
+        line.shutdown(socket.SHUT_WR)
+
+    port = free_port()
+    run = Run(["serve", "--explain", "--timeout=1", f"--port={port}", "--connections=2"])
+    silent, lasts = visits(port, CLIENT[:-1])
+    assert 1 <= lasts < 5, lasts
+    stays, lasts = visits(port, CLIENT[:12], goes_on)
+    assert 1.2 <= lasts < 5, lasts
+    run.ends(0, DEVICE + b"ok 1\n", (
+        f"rfb: listening on 127.0.0.1:{port}\n{silent} has connected\nrfb: {broken}\n"
+        f"{silent} was let go\n{stays} has connected\n"
+        f"{stays} has left; updates sent: 1, in all so far: 1\n").encode())
+
+
+def what_cannot_be_listened_on_is_said():
+    port = free_port()
+    try:
+        socket.getaddrinfo(b"a..b", port)
+    except socket.gaierror as error:
+        unknown = f"failed to lookup address information: {error.strerror}"
+    for command in "serve", "share":
+        for address, why in (
+                # It is for documents, RFC 5737, and no machine has it.
+                ("192.0.2.1", "Cannot assign requested address (os error 99)"), ("a..b", unknown)):
+            ends([command, "--explain", f"--port={port}", "--listen", address], b"", 1, b"",
+                 f"rfb: cannot listen on {address}:{port}: {why}\n".encode() + DEVICE)
+    ends(["share", "--explain", f"--port={port}"], b"screen 2 1\nquit\n", 0, b"",
+         f"rfb: listening on 127.0.0.1:{port}\n".encode())
+
+
+def a_picture_is_read_once_for_all_viewers():
+    ends(["serve", "--explain", "--port=9", "--picture=/"], b"", 1, b"",
+         b"rfb: cannot read /: Is a directory (os error 21)\n" + DEVICE)
+    with tempfile.TemporaryDirectory() as room:
+        fifo, port = os.path.join(room, "fifo"), free_port()
+        os.mkfifo(fifo)
+        run = Run(["serve", f"--port={port}", "--connections=2", "--picture", fifo])
+        with open(fifo, "wb") as picture:
+            picture.write(b"P6 2 1 255 \0\0\0\4\0\2")
+        for _ in range(2):
+            with connected(port) as line:
+                line.sendall(CLIENT)
+                line.shutdown(socket.SHUT_WR)
+                came = b"".join(iter(lambda: line.recv(4096), b""))
+            assert came == SERVER, came
+        run.ends(0, b"ok 1\nok 1\n", b"")
+
+
 ROWS = [
     words_that_there_are_not,
     help_is_printed_once,
@@ -570,6 +647,7 @@ ROWS = [
     a_view_asks_for_what_its_words_say,
     a_view_that_is_cut_short_shows_nothing,
     a_refused_connection_is_tried_again,
+    a_view_of_a_silent_server_ends_when_its_time_is_up,
     a_screen_has_the_sides_that_are_given,
     what_is_listened_on_is_what_is_named,
     each_line_of_serve_is_of_a_connection_of_its_own,
@@ -577,6 +655,9 @@ ROWS = [
     a_viewer_that_takes_nothing_in_time_is_let_go,
     a_process_that_was_stopped_goes_on,
     a_port_in_use_is_reported_with_the_systems_words,
+    a_client_is_let_go_once_it_sends_nothing_in_the_time,
+    what_cannot_be_listened_on_is_said,
+    a_picture_is_read_once_for_all_viewers,
 ]
 
 
