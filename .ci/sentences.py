@@ -1,0 +1,234 @@
+#!/usr/bin/env python3
+"""The sentences of --explain: each where it is true, beside the bytes of which it is said.
+
+    .ci/sentences.py PROGRAM..
+
+Each row compares all of standard error. Bytes are made by functions named after the messages of RFC
+6143. Sentences that .ci/language.py, .ci/words.py and the calls of .ci/program show are not here.
+The last line is 'N passed, M failed'.
+"""
+
+import contextlib
+import os
+import resource
+import signal
+import socket
+import struct
+import sys
+
+from calls import (CLIENT, DEVICE, HELLO, SERVER, Run, Server, breaks, ends, failing, folder,
+                   free_port, judged, limited, takes, visits)
+from messages import (VERSION, client_init, hextile, message, rectangle, rre, security,
+                      security_of_33, security_result, server_init, set_pixel_format, texted)
+
+# ---- what a server does wrong
+
+NO_NONE = "the server offers no security type 1 (None), but "
+TYPES = ["2 (VNC Authentication)", "16 (Tight)", "17 (Ultra)", "18 (TLS)", "19 (VeNCrypt)",
+         "20 (GTK-VNC SASL)", "5", "255"]
+ENCODINGS = ["4 (CoRRE)", "6 (zlib)", "7 (Tight)", "8 (zlibhex)", "15 (TRLE)", "16 (ZRLE)",
+             "-223 (DesktopSize)", "-239 (Cursor)", "3", "-1", "2147483647", "-2147483648"]
+TAKEN = ", and only raw, copyrect, rre and hextile are taken"
+SUBRECTANGLE = "a subrectangle leaves its rectangle or its tile"
+
+# What came up to the byte that is wrong, the sentence and the fault; and the size of the screen.
+HANDSHAKES = [
+    (security(0), NO_NONE + "0 (Invalid)", "18 NoneNotOffered"),
+    (security(2, 16, 255), NO_NONE + "2 (VNC Authentication) 16 (Tight) 255", "18 NoneNotOffered"),
+    (security_result(1, texted(b"go away")),
+     "the server does not let the viewer in, and says `go away`", "21 SecurityFailed"),
+    (server_init(0, 1), "the server's screen has no pixel", "22 ScreenEmpty", (0, 1)),
+    (server_init(1, 0), "the server's screen has no pixel", "22 ScreenEmpty", (1, 0)),
+    (server_init(4097, 4096), "the server's screen has more than 16777216 pixels",
+     "23 ScreenTooLarge", (4097, 4096)),
+]
+MESSAGES = [
+    (message(77), "a message has type 77, which no server has", "7 UnknownMessage"),
+    (rectangle(0, area=(1, 0, 4, 4)), "a rectangle leaves the screen", "9 RectOutside"),
+    (rectangle(0, area=(0, 1, 4, 4)), "a rectangle leaves the screen", "9 RectOutside"),
+    (rectangle(1, struct.pack(">HH", 0, 1)), "the source of a CopyRect leaves the screen",
+     "14 SourceOutside"),
+    (rre(3, 0, 2, 1), SUBRECTANGLE, "10 SubrectOutside"),
+    (hextile(2 + 8 + 16, *bytes(4), 1, *bytes(4), 0x30, 0x10), SUBRECTANGLE, "10 SubrectOutside"),
+    (hextile(0), "a tile of Hextile has no background", "11 NoBackground"),
+    (hextile(2 + 8), "a tile of Hextile has no foreground", "12 NoForeground"),
+    (hextile(2 + 4 + 8 + 16), "a tile of Hextile has a foreground, and subrectangles with colours",
+     "13 BothColourBits"),
+]
+FORMAT = b"rfb: a recording in another format than the one of --format reads like that\n"
+
+
+def is_said(came, sentence, fault, size=None, hint=b""):
+    """Of a recording and of a server, whose next bytes are no matter."""
+    told = b"rfb: %s\n" % sentence.encode()
+    last = b"fault %s\n" % fault.encode()
+    screen = b" rfb, %d by %d\n" % size if size else b""
+    greeting = b"rfb: this is a recording of" + screen if size else b""
+    place = b"rfb: that is at byte %d; whole updates before it: 0\n" % len(came)
+    ends(["play", "--explain"], came + b"rfb", 1, b"", greeting + told + place + hint + last)
+    viewed = Server(came + b"rfb")
+    greeting = b"rfb: connected to" + screen if size else b""
+    viewed.shows(["--explain", "--timeout=60", f"--port={viewed.port}"], 1, b"",
+                 greeting + told + last)
+
+
+def what_is_wrong_with_a_handshake_is_said():
+    for row in HANDSHAKES:
+        is_said(*row)
+
+
+def what_is_wrong_with_a_message_is_said():
+    for row in MESSAGES:
+        is_said(*row, (4, 4), FORMAT)
+
+
+def each_security_type_is_named():
+    for name in TYPES:
+        number = int(name.split()[0])
+        is_said(security(number), NO_NONE + name, "18 NoneNotOffered")
+        is_said(security_of_33(number), NO_NONE + name,
+                "18 NoneNotOffered" if number == 2 else "20 BadSecurityWord")
+
+
+def each_encoding_is_named():
+    for name in ENCODINGS:
+        is_said(rectangle(int(name.split()[0])), f"a rectangle has encoding {name}{TAKEN}",
+                "8 UnknownEncoding", (4, 4), FORMAT)
+
+
+def a_screen_without_memory_is_said():
+    limit = limited(resource.RLIMIT_AS, 64 << 20)
+    came = server_init(4096, 4096)
+    Run(["play", "--explain"], came + b"rfb", before=limit).ends(
+        1, b"", b"rfb: this is a recording of rfb, 4096 by 4096\n"
+        b"rfb: there is no memory for the screen\n"
+        b"rfb: that is at byte 42; whole updates before it: 0\nfault 30 NoMemory\n")
+
+
+def after_16_megabytes_no_byte_is_named():
+    text = struct.pack(">3xI", 1 << 24) + bytes(1 << 24)
+    ends(["play", "--explain"], message(3, text) + b"M", 1, b"",
+         b"rfb: this is a recording of rfb, 4 by 4\n"
+         b"rfb: 16777216 bytes came, and more are read\n"
+         b"rfb: a message has type 77, which no server has\n"
+         b"rfb: that is after byte 16777216\nfault 7 UnknownMessage\n")
+
+
+# ---- streams and connections that fail
+
+RESET = b": Connection reset by peer (os error 104)\n"
+ENDLESS = b"rfb: it waits as long as it takes: there is no --timeout\n"
+VIEWED = b"rfb: connected to rfb, 2 by 1\n"
+
+
+def an_input_that_cannot_be_read_is_said():
+    unread = b"rfb: cannot read standard input"
+    for words in ["script"], ["loop"]:
+        with failing(b"screen 2 1\n") as source:
+            Run([*words, "--explain"], source=source).ends(1, b"", unread + RESET + DEVICE)
+        with folder("/") as source:
+            Run([*words, "--explain"], source=source).ends(
+                1, b"", unread + b": Is a directory (os error 21)\n" + DEVICE)
+    for given, told in (
+            (b"", b"rfb: reading failed" + RESET
+             + b"rfb: that is at byte 0; whole updates before it: 0\n"),
+            (SERVER, b"rfb: this is a recording of rfb, 2 by 1\nrfb: reading failed" + RESET
+             + b"rfb: that is at byte 69; whole updates before it: 1\n")):
+        with failing(given) as source:
+            Run(["play", "--explain"], source=source).ends(
+                1, b"", told + unread + RESET + DEVICE)
+
+
+@contextlib.contextmanager
+def viewing(*words):
+    """A view of a server that has come to it, and the server's end."""
+    with socket.create_server(("127.0.0.1", 0)) as listener:
+        listener.settimeout(20)
+        run = Run(["view", "--explain", f"--port={listener.getsockname()[1]}", *words])
+        yield run, listener.accept()[0]
+
+
+def what_a_view_fails_at_is_said():
+    with viewing() as (run, line):
+        line.sendall(HELLO)
+        # All up to the request, so it waits for an update.
+        takes(line, 52)
+        breaks(line)
+        run.ends(1, b"", ENDLESS + VIEWED + b"rfb: reading failed" + RESET + DEVICE)
+    with viewing() as (run, line):
+        # The connection has broken before the viewer writes its version.
+        run.run.send_signal(signal.SIGSTOP)
+        os.waitid(os.P_PID, run.run.pid, os.WSTOPPED | os.WNOWAIT)
+        line.sendall(SERVER)
+        breaks(line)
+        run.run.send_signal(signal.SIGCONT)
+        run.ends(1, b"", ENDLESS + VIEWED + b"rfb: sending to the server failed" + RESET + DEVICE)
+
+
+def a_loop_without_a_connection_is_said():
+    run = Run(["loop", "--explain"], b"screen 2 1\nsettle\n",
+              before=limited(resource.RLIMIT_NOFILE, 4))
+    run.ends(1, b"", b"rfb: no connection of 127.0.0.1 to itself:"
+             b" Too many open files (os error 24)\n" + DEVICE)
+
+
+# ---- viewers that are served
+
+FORMAT_THAT_CANNOT_BE = "the viewer asked for a pixel format that cannot be: "
+LEFT = "the viewer left inside a message"
+BROKEN = "the connection to the viewer broke, or nothing came in the time of --timeout"
+
+# What a client sends, the sentence and the fault, and what it does then.
+CLIENTS = [
+    (b"GET / HTTP/1", "the other end sent no version: it is no viewer", "15 BadVersion"),
+    (VERSION + b"\x02", "the viewer chose another security type than 1 (None)",
+     "17 BadSecurityChoice"),
+    *[(set_pixel_format(**changed), FORMAT_THAT_CANNOT_BE + fault, fault) for changed, fault in (
+        ({"bits": 24}, "1 BadBits"), ({"depth": 33}, "2 DepthTooLarge"),
+        ({"maxima": (255, 254, 255)}, "4 BadMax"), ({"shifts": (25, 8, 0)}, "5 ShiftTooLarge"),
+        ({"shifts": (16, 15, 0)}, "6 FieldsOverlap"))],
+    (set_pixel_format(true=0), "the viewer asked for pixels by a colour map", "3 NotTrueColour"),
+    (client_init(b"M"), "the viewer sent a message of type 77, which no client has",
+     "7 UnknownMessage"),
+    (CLIENT[:-1], LEFT, "28 Truncated", lambda line: line.shutdown(socket.SHUT_WR)),
+    (CLIENT[:-1], BROKEN, "29 Device", breaks),
+]
+
+
+def what_a_client_does_wrong_is_said_and_the_next_has_its_turn():
+    port = free_port()
+    run = Run(["serve", "--explain", f"--port={port}", f"--connections={len(CLIENTS)}"])
+    told = f"rfb: listening on 127.0.0.1:{port}\n"
+    for sent, sentence, _, *does in CLIENTS:
+        name, _ = visits(port, sent, *does)
+        told += f"{name} has connected\nrfb: {sentence}\n{name} was let go\n"
+    run.ends(0, "".join(f"fault {row[2]}\n" for row in CLIENTS).encode(), told.encode())
+
+
+def a_screen_for_a_viewer_without_memory_is_said():
+    port = free_port()
+    run = Run(["serve", "--explain", f"--port={port}", "--width=4096", "--height=4096"],
+              before=limited(resource.RLIMIT_AS, 64 << 20))
+    name, _ = visits(port, b"")
+    run.ends(0, b"fault 30 NoMemory\n", (
+        f"rfb: listening on 127.0.0.1:{port}\n{name} has connected\n"
+        f"rfb: there is no memory for the viewer\n{name} was let go\n").encode())
+
+
+ROWS = [
+    what_is_wrong_with_a_handshake_is_said,
+    what_is_wrong_with_a_message_is_said,
+    each_security_type_is_named,
+    each_encoding_is_named,
+    a_screen_without_memory_is_said,
+    after_16_megabytes_no_byte_is_named,
+    an_input_that_cannot_be_read_is_said,
+    what_a_view_fails_at_is_said,
+    a_loop_without_a_connection_is_said,
+    what_a_client_does_wrong_is_said_and_the_next_has_its_turn,
+    a_screen_for_a_viewer_without_memory_is_said,
+]
+
+
+if __name__ == "__main__":
+    sys.exit(judged(ROWS, sys.argv[1:]))
