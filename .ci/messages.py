@@ -32,13 +32,25 @@ def server_init(width=4, height=4):
     return security_result(0) + sides + pixel_format() + bytes([0, 0, 0, 3])
 
 
-def message(kind, more=b""):
-    return server_init() + b"rfb" + bytes([kind]) + more
+def rectangle_head(encoding, area):
+    return struct.pack(">4Hi", *area, encoding)
+
+
+def framebuffer_update(*rectangles):
+    """It follows a handshake. Its first rectangle is Raw, of one pixel."""
+    pixel = rectangle_head(0, (0, 0, 1, 1)) + bytes(4)
+    head = struct.pack(">BxH", 0, 1 + len(rectangles))
+    return server_init() + b"rfb" + head + pixel + b"".join(rectangles)
 
 
 def rectangle(encoding, data=b"", area=(0, 0, 4, 4)):
-    """The first rectangle of a FramebufferUpdate."""
-    return message(0, struct.pack(">xH4Hi", 1, *area, encoding) + data)
+    """The second rectangle of the first update."""
+    return framebuffer_update(rectangle_head(encoding, area) + data)
+
+
+def message(kind, more=b""):
+    """What follows the first update."""
+    return framebuffer_update() + bytes([kind]) + more
 
 
 def rre(*area):

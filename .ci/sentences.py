@@ -42,8 +42,8 @@ HANDSHAKES = [
     (server_init(4097, 4096), "the server's screen has more than 16777216 pixels",
      "23 ScreenTooLarge", (4097, 4096)),
 ]
-MESSAGES = [
-    (message(77), "a message has type 77, which no server has", "7 UnknownMessage"),
+# The same of rectangles that follow a pixel: read at another format they are others.
+RECTANGLES = [
     (rectangle(0, area=(1, 0, 4, 4)), "a rectangle leaves the screen", "9 RectOutside"),
     (rectangle(0, area=(0, 1, 4, 4)), "a rectangle leaves the screen", "9 RectOutside"),
     (rectangle(1, struct.pack(">HH", 0, 1)), "the source of a CopyRect leaves the screen",
@@ -58,18 +58,18 @@ MESSAGES = [
 FORMAT = b"rfb: a recording in another format than the one of --format reads like that\n"
 
 
-def is_said(came, sentence, fault, size=None, hint=b""):
+def is_said(came, sentence, fault, size=None, hint=b"", updates=0):
     """Of a recording and of a server, whose next bytes are no matter."""
     told = b"rfb: %s\n" % sentence.encode()
     last = b"fault %s\n" % fault.encode()
     screen = b" rfb, %d by %d\n" % size if size else b""
     greeting = b"rfb: this is a recording of" + screen if size else b""
-    place = b"rfb: that is at byte %d; whole updates before it: 0\n" % len(came)
+    place = b"rfb: that is at byte %d; whole updates before it: %d\n" % (len(came), updates)
     ends(["play", "--explain"], came + b"rfb", 1, b"", greeting + told + place + hint + last)
     viewed = Server(came + b"rfb")
     greeting = b"rfb: connected to" + screen if size else b""
-    viewed.shows(["--explain", "--timeout=60", f"--port={viewed.port}"], 1, b"",
-                 greeting + told + last)
+    words = ["--explain", "--timeout=60", "--updates=2", f"--port={viewed.port}"]
+    viewed.shows(words, 1, b"", greeting + told + last)
 
 
 def what_is_wrong_with_a_handshake_is_said():
@@ -78,8 +78,10 @@ def what_is_wrong_with_a_handshake_is_said():
 
 
 def what_is_wrong_with_a_message_is_said():
-    for row in MESSAGES:
+    for row in RECTANGLES:
         is_said(*row, (4, 4), FORMAT)
+    is_said(message(77), "a message has type 77, which no server has", "7 UnknownMessage",
+            (4, 4), FORMAT, 1)
 
 
 def each_security_type_is_named():
