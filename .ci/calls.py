@@ -122,11 +122,11 @@ class Server:
     """Listens on an address, sends the bytes to whom comes first, and ends writing or is silent."""
 
     def __init__(self, sent=SERVER, host="127.0.0.1", port=0, late=0, is_silent=False):
-        self.port = port or free_port(host)
         self.came = b""
         self.listener = socket.socket()
         self.listener.setsockopt(socket.SOL_SOCKET, socket.SO_REUSEADDR, 1)
-        self.listener.bind((host, self.port))
+        self.listener.bind((host, port))
+        self.port = self.listener.getsockname()[1]
         self.listener.settimeout(20)
         if not late:
             self.listener.listen()

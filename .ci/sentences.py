@@ -99,7 +99,7 @@ def each_encoding_is_named():
 
 
 def a_screen_without_memory_is_said():
-    limit = limited(resource.RLIMIT_AS, 64 << 20)
+    limit = limited(resource.RLIMIT_AS, 80000 << 10)
     came = server_init(4096, 4096)
     Run(["play", "--explain"], came + b"rfb", before=limit).ends(
         1, b"", b"rfb: this is a recording of rfb, 4096 by 4096\n"
@@ -210,7 +210,7 @@ def what_a_client_does_wrong_is_said_and_the_next_has_its_turn():
 def a_screen_for_a_viewer_without_memory_is_said():
     port = free_port()
     run = Run(["serve", "--explain", f"--port={port}", "--width=4096", "--height=4096"],
-              before=limited(resource.RLIMIT_AS, 64 << 20))
+              before=limited(resource.RLIMIT_AS, 80000 << 10))
     name, _ = visits(port, b"")
     run.ends(0, b"fault 30 NoMemory\n", (
         f"rfb: listening on 127.0.0.1:{port}\n{name} has connected\n"

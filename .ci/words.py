@@ -16,6 +16,7 @@ import socket
 import sys
 import tempfile
 import time
+from concurrent.futures import ThreadPoolExecutor
 
 from calls import (CLIENT, DEVICE, HELLO, SERVER, SHOWN, TRUNCATED, Run, Server, connected, ends,
                    failing, folder, free_port, halting, judged, limited, visits)
@@ -425,24 +426,32 @@ def a_refused_connection_is_tried_again():
     server.shows(["--port", str(server.port), "--timeout", "5"])
 
 
+HELLO_SAID = b"rfb: connected to rfb, 2 by 1\n"
+UPDATE_SAID = HELLO_SAID + b"rfb: updates so far: 1\n"
+
+# What a server sends before it is silent, words, what is shown, and what is said before the end.
+SILENT = [
+    (b"", [], b"", b""),
+    (HELLO, [], b"", HELLO_SAID),
+    (SERVER[:65], [], b"", HELLO_SAID),
+    (SERVER[:65], ["--partial"], BLACK, HELLO_SAID),
+    (SERVER, ["--updates=2"], b"", UPDATE_SAID),
+    (SERVER + MORE[:18], ["--updates=2", "--partial"], SHOWN, UPDATE_SAID),
+    (HELLO, ["--record"], HELLO, HELLO_SAID),
+]
+
+
 def a_view_of_a_silent_server_ends_when_its_time_is_up():
-    late = b"rfb: the time of --timeout is up, and no more came\n" + DEVICE
-    update = b"rfb: updates so far: 1\n"
-    hello = b"rfb: connected to rfb, 2 by 1\n"
-    begun, views = time.time(), []
-    for sent, words, shown, told in (
-            (b"", [], b"", b""),
-            (HELLO, [], b"", hello),
-            (SERVER[:65], [], b"", hello),
-            (SERVER, ["--updates=2"], b"", hello + update),
-            (SERVER, ["--updates=2", "--partial"], SHOWN, hello + update),
-            (HELLO, ["--record"], HELLO, hello)):
-        port = Server(sent, is_silent=True).port
-        views.append((Run(["view", "--explain", "--timeout=1", f"--port={port}", *words]),
-                      shown, told + late))
-    for run, shown, told in views:
-        run.ends(1, shown, told)
-        assert 1 <= time.time() - begun < 5, (run.words, time.time() - begun)
+    def is_viewed(row):
+        sent, words, shown, told = row
+        begun, server = time.time(), Server(sent, is_silent=True)
+        server.shows(["--explain", "--timeout=1", f"--port={server.port}", *words], 1, shown,
+                     told + b"rfb: the time of --timeout is up, and no more came\n" + DEVICE)
+        lasts = time.time() - begun
+        assert 1 <= lasts < 5, (row, lasts)
+
+    with ThreadPoolExecutor(len(SILENT)) as views:
+        list(views.map(is_viewed, SILENT))
 
 
 # ---- viewers that are served
