@@ -28,7 +28,7 @@ const RETURN: &str = " has a carriage return: a newline alone ends a line";
 
 const TAB: &str = " has a tab: one space parts two words";
 
-const NO_SCREEN: &str = " is the last, and none says `screen W H`";
+const NO_SCREEN: &str = ": the script ends before it, and none says `screen W H`";
 
 const LATE_SCREEN: &str = ": `screen W H` stands first, and once";
 

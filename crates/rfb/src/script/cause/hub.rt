@@ -35,7 +35,7 @@ pub fn tell_bad_hub_line<N: Write>(text: &[u8], number: u64, notes: &mut N) {
     }
     let _ = writeln!(
         notes,
-        "rfb: the script ends at line {number}, and none says `show S`"
+        "rfb: line {number} of the script: the script ends before it, and none says `show S`"
     );
 }
 
