@@ -3,6 +3,7 @@
 //! They stand beside the lines that a command ends with, before the one that says why. Nothing else
 //! depends on them: a sentence that cannot be written is lost.
 
+mod beginning;
 mod escaped;
 mod failing;
 mod heard;

@@ -1,6 +1,6 @@
 //! Sentences for what an engine ended with.
 
-use crate::explain::heard::{tell_types, version_line};
+use crate::explain::beginning::{tell_types, version_line};
 use crate::explain::naming::EncodingNumber;
 use crate::explain::{Escaped, Heard};
 use rfb_server::ServerFault;
