@@ -96,6 +96,14 @@ fn version_in(bytes: &[u8]) -> Option<Version> {
     Version::try_from(bytes.get(..VERSION_SIZE)?).ok()
 }
 
+/// Whether these bytes begin with a version, or a version with them.
+pub fn has_version(bytes: &[u8]) -> bool {
+    let count = bytes.len().min(VERSION_SIZE);
+    let mut text = Version::V38.text();
+    text[..count].copy_from_slice(&bytes[..count]);
+    Version::try_from(text.as_slice()).is_ok()
+}
+
 /// What came in place of a version: at most twelve bytes.
 pub fn version_line(bytes: &[u8]) -> &[u8] {
     match bytes.get(..VERSION_SIZE) {

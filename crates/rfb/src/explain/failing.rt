@@ -1,6 +1,6 @@
 //! Sentences for what an engine ended with.
 
-use crate::explain::beginning::{tell_types, version_line};
+use crate::explain::beginning::{has_version, tell_types, version_line};
 use crate::explain::naming::EncodingNumber;
 use crate::explain::{Escaped, Heard};
 use rfb_server::ServerFault;
@@ -13,14 +13,36 @@ use std::io::Write;
 pub fn tell_server<N: Write>(fault: EngineFault, reason: &[u8], heard: &Heard, notes: &mut N) {
     let _ = match fault {
         EngineFault::Viewer(fault) => tell_viewer_fault(fault, reason, heard, notes),
-        EngineFault::Truncated => writeln!(
-            notes,
-            "rfb: the server's bytes end too early, after {} of them",
-            heard.total()
-        ),
+        EngineFault::Truncated => tell_end(heard, notes),
+        EngineFault::Device => tell_stranger(heard, notes),
         EngineFault::NoMemory => writeln!(notes, "rfb: there is no memory"),
-        EngineFault::Device | EngineFault::Server(_) => Ok(()),
+        EngineFault::Server(_) => Ok(()),
     };
+}
+
+// Says that the bytes of a server end too early; or that they are of something else.
+fn tell_end<N: Write>(heard: &Heard, notes: &mut N) -> io::Result<()> {
+    if !has_version(heard.as_slice()) {
+        return tell_stranger(heard, notes);
+    }
+    writeln!(
+        notes,
+        "rfb: the server's bytes end too early, after {} of them",
+        heard.total()
+    )
+}
+
+// Says what came in place of a version, if something did.
+fn tell_stranger<N: Write>(heard: &Heard, notes: &mut N) -> io::Result<()> {
+    let bytes = heard.as_slice();
+    if has_version(bytes) {
+        return Ok(());
+    }
+    writeln!(
+        notes,
+        "rfb: in place of a version came `{}`: no server of RFB begins like that",
+        Escaped(version_line(bytes))
+    )
 }
 
 // What a server did wrong, or refused.
@@ -31,11 +53,7 @@ fn tell_viewer_fault<N: Write>(
     notes: &mut N,
 ) -> io::Result<()> {
     match fault {
-        ViewerFault::BadVersion => writeln!(
-            notes,
-            "rfb: in place of a version came `{}`: no server of RFB is there",
-            Escaped(version_line(heard.as_slice()))
-        ),
+        ViewerFault::BadVersion => tell_stranger(heard, notes),
         ViewerFault::NoneNotOffered | ViewerFault::BadSecurityWord => {
             tell_types(heard.as_slice(), notes)
         }
