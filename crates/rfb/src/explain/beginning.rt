@@ -35,13 +35,12 @@ pub struct Screen<'a> {
 
 impl fmt::Display for Screen<'_> {
     fn fmt<F: fmt::Write>(&self, f: &mut fmt::Formatter<F>) -> fmt::Result {
-        write!(
-            f,
-            "{}, {} by {}",
-            Escaped(self.name),
-            self.width,
-            self.height
-        )
+        if self.name.is_empty() {
+            f.write_str("a screen without a name")?;
+        } else {
+            write!(f, "{}", Escaped(self.name))?;
+        }
+        write!(f, ", {} by {}", self.width, self.height)
     }
 }
 
@@ -114,17 +113,30 @@ pub fn version_line(bytes: &[u8]) -> &[u8] {
 
 /// Says which security types a server offers. One of 3.3 chooses the type by itself.
 pub fn tell_types<N: Write>(bytes: &[u8], notes: &mut N) -> io::Result<()> {
+    write!(notes, "rfb: the server offers no security type 1 (None)")?;
     let security = bytes.get(VERSION_SIZE..).unwrap_or(b"");
-    let types = match version_in(bytes) {
-        Some(Version::V33) | None => security.get(3..4),
-        Some(Version::V37 | Version::V38) => types_in(security),
-    };
-    write!(
-        notes,
-        "rfb: the server offers no security type 1 (None), but"
-    )?;
-    for number in types.unwrap_or(b"") {
-        write!(notes, " {}", SecurityType(*number))?;
+    match version_in(bytes) {
+        Some(Version::V33) | None => tell_choice(security, notes)?,
+        Some(Version::V37 | Version::V38) => tell_list(security, notes)?,
     }
     writeln!(notes)
+}
+
+// Says which type a server of 3.3 chose.
+fn tell_choice<N: Write>(security: &[u8], notes: &mut N) -> io::Result<()> {
+    if let Some(word) = security.get(..4) {
+        let number = BigEndian::read_u32(word);
+        write!(notes, ", but {}", SecurityType(number))?;
+    }
+    Ok(())
+}
+
+// Says which types are on a list.
+fn tell_list<N: Write>(security: &[u8], notes: &mut N) -> io::Result<()> {
+    let mut before = ", but ";
+    for number in types_in(security).unwrap_or(b"") {
+        write!(notes, "{before}{}", SecurityType(u32::from(*number)))?;
+        before = ", ";
+    }
+    Ok(())
 }

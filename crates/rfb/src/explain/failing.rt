@@ -73,8 +73,11 @@ fn tell_viewer_fault<N: Write>(
     }
 }
 
-// Which reason a server gave for what it does.
+// Which reason a server gave for what it does, if it gave one.
 fn tell_reason<N: Write>(does: &str, reason: &[u8], notes: &mut N) -> io::Result<()> {
+    if reason.is_empty() {
+        return writeln!(notes, "rfb: the server {does}, and gives no reason");
+    }
     writeln!(
         notes,
         "rfb: the server {does}, and says `{}`",

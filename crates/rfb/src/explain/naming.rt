@@ -2,9 +2,9 @@
 
 use std::fmt;
 
-/// A security type, RFC 6143 sections 7.1.2 and 8.1.
+/// A security type, RFC 6143 sections 7.1.2 and 8.1. One of a list is a byte; that of 3.3 has four.
 #[derive(Clone, Copy)]
-pub struct SecurityType(pub u8);
+pub struct SecurityType(pub u32);
 
 impl fmt::Display for SecurityType {
     fn fmt<F: fmt::Write>(&self, f: &mut fmt::Formatter<F>) -> fmt::Result {
