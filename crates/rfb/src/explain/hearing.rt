@@ -53,7 +53,7 @@ impl<R: Read, N: Write> Read for Hearing<'_, R, N> {
         let result = self.reader.read(buf);
         match &result {
             Ok(count) => self.heard.hear(&buf[..*count], self.notes),
-            Err(error) => tell_read(error, self.notes),
+            Err(error) => tell_read(error, self.heard.total(), self.notes),
         }
         result
     }
@@ -120,11 +120,15 @@ pub fn tell_updates<N: Write>(updates: u32, told: u32, notes: &mut N) -> u32 {
     updates
 }
 
-// Says why a read failed.
-fn tell_read<N: Write>(error: &io::Error, notes: &mut N) {
+// Says why a read failed, after so many bytes.
+fn tell_read<N: Write>(error: &io::Error, total: u64, notes: &mut N) {
     let kind = error.kind();
     let _ = if kind == ErrorKind::WouldBlock || kind == ErrorKind::TimedOut {
-        writeln!(notes, "rfb: the time of --timeout is up, and no more came")
+        let bytes = if total == 1 { "byte" } else { "bytes" };
+        writeln!(
+            notes,
+            "rfb: the time of --timeout is up: {total} {bytes} had come"
+        )
     } else {
         writeln!(notes, "rfb: reading failed: {error}")
     };
