@@ -16,7 +16,7 @@ use crate::fault::{Failure, Fault};
 pub use escaped::Escaped;
 pub use failing::{tell_client, tell_server};
 pub use heard::Heard;
-pub use hearing::{Hearing, Speaking, tell_updates};
+pub use hearing::{Hearing, Speaking, tell_played, tell_updates};
 pub use keeping::{Reading, Writing};
 pub use placing::tell_place;
 use std::io;

@@ -13,7 +13,7 @@ ghost use Rattle.rfb.specs.Recording.{WatchesAll, StopsWatchingAll, WatchesSome,
 mod options;
 pub mod words;
 
-use crate::explain::{Heard, Hearing, Notes, tell_place, tell_server};
+use crate::explain::{Heard, Hearing, Notes, tell_place, tell_played, tell_server};
 use crate::fault::{Failure, Fault};
 use crate::playing::{fresh_viewer, only_raw};
 use crate::writing::write_ppm;
@@ -99,7 +99,7 @@ fn play_to<R: Read, W: Write, E: Write>(
     }
 }
 
-// Feeds a viewer as `watch` does, and keeps the first bytes of what it reads.
+// Feeds a viewer as `watch` does, keeps the first bytes of what it reads, and tells how it went.
 fn watch_heard<R: Read, N: Write>(
     input: &mut R,
     viewer: &mut Viewer,
@@ -115,7 +115,17 @@ fn watch_heard<R: Read, N: Write>(
 {
     let none = Cell::new(0);
     let mut hearing = Hearing::new(input, heard, &none, notes);
-    watch(&mut hearing, viewer, updates)
+    let ended = watch(&mut hearing, viewer, updates);
+    drop(hearing);
+    tell_all(&ended, notes);
+    ended
+}
+
+// Says how many updates there were in all.
+fn tell_all<N: Write>(ended: &Result<u64, EngineFault>, notes: &mut N) {
+    if let Ok(updates) = ended {
+        tell_played(*updates, notes);
+    }
 }
 
 // Feeds a viewer what `input` has, until `updates` updates ended or all is fed, and returns how

@@ -216,9 +216,7 @@ fn record<R: Read + Drop, V: Write + Drop, W: Write, N: Write>(
         (R.remaining reader) (V.contents writer) (W.contents output.old) (W.contents output.new)
         viewer.old updates failure viewer.new) }
 {
-    let uncounted = Cell::new(0);
-    let hearing = Hearing::new(reader, heard, &uncounted, notes);
-    match watch_and_keep(hearing, writer, viewer, updates, output) {
+    match record_heard(reader, writer, viewer, updates, output, heard, notes) {
         Ok(_updates) => match output.flush() {
             Ok(()) => Ok(()),
             Err(error) => Err(Failure::Fault(Fault::from(error))),
@@ -229,6 +227,34 @@ fn record<R: Read + Drop, V: Write + Drop, W: Write, N: Write>(
             Err(Failure::Engine(fault))
         }
     }
+}
+
+// Runs a viewer as `watch_and_keep` does, and tells how it goes.
+fn record_heard<R: Read + Drop, V: Write + Drop, W: Write, N: Write>(
+    reader: R,
+    writer: V,
+    viewer: &mut Viewer,
+    updates: u32,
+    output: &mut W,
+    heard: &mut Heard,
+    notes: &mut N,
+) -> Result<u32, EngineFault>
+    requires some { 1 ≤ updates }
+    ensures saw { IfOk result (λ told.
+        Saw (R.remaining reader) (V.contents writer) (W.contents output.old)
+        (W.contents output.new) viewer.old updates viewer.new) }
+    ensures stopped { IfErr result (λ fault.
+        StopsSeeing (R.remaining reader) (V.contents writer) (W.contents output.old)
+        (W.contents output.new) viewer.old updates fault viewer.new) }
+{
+    let mut unsent = None;
+    let counted = Cell::new(0);
+    let hearing = Hearing::new(reader, heard, &counted, notes);
+    let speaking = Speaking::new(writer, &counted, &mut unsent);
+    let ended = watch_and_keep(hearing, speaking, viewer, updates, output);
+    tell_unsent(&unsent, notes);
+    tell_all(&ended, notes);
+    ended
 }
 
 // Runs a viewer until `updates` updates ended, and writes what it is fed.

@@ -111,6 +111,11 @@ fn count_request(bytes: &[u8], updates: &Cell<u32>) {
     }
 }
 
+/// Says how many updates of a recording were played.
+pub fn tell_played<N: Write>(updates: u64, notes: &mut N) {
+    let _ = writeln!(notes, "rfb: updates played: {updates}");
+}
+
 /// Says how many updates have ended, if that is another number than was said last. It returns the
 /// number that was said last then.
 pub fn tell_updates<N: Write>(updates: u32, told: u32, notes: &mut N) -> u32 {
