@@ -9,7 +9,8 @@ use std::alloc::Global;
 use std::io::Write;
 
 /// Says at which byte of a recording it went wrong, after how many updates, and what may be the
-/// reason. To find the byte, what is kept of the recording is played again, byte by byte.
+/// reason. To find the byte, what is kept of the recording is played again, byte by byte. Where not
+/// all of it is kept, it went wrong after that.
 pub fn tell_place<N: Write>(
     alloc: Global,
     format: Format,
@@ -17,18 +18,20 @@ pub fn tell_place<N: Write>(
     heard: &Heard,
     notes: &mut N,
 ) {
-    if !heard.is_whole() {
-        let count = heard.as_slice().len();
-        let _ = writeln!(notes, "rfb: that is after byte {count}");
-        return;
-    }
     let mut viewer = fresh_viewer(alloc, format, only_raw());
     let (updates, bytes) = place_of(&mut viewer, heard.as_slice());
     drop(viewer);
-    let _ = writeln!(
-        notes,
-        "rfb: that is at byte {bytes}; whole updates before it: {updates}"
-    );
+    let _ = if heard.is_whole() {
+        writeln!(
+            notes,
+            "rfb: that is at byte {bytes}; whole updates before it: {updates}"
+        )
+    } else {
+        writeln!(
+            notes,
+            "rfb: that is after byte {bytes}; whole updates up to there: {updates}"
+        )
+    };
     if heard.has_screen() && is_of_another_format(fault) {
         let _ = writeln!(
             notes,
