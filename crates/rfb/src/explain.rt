@@ -15,7 +15,7 @@ mod placing;
 use crate::fault::{Failure, Fault};
 pub use escaped::Escaped;
 pub use failing::{tell_client, tell_server};
-pub use heard::Heard;
+pub use heard::{Heard, Origin};
 pub use hearing::{Hearing, Speaking, tell_played, tell_updates};
 pub use keeping::{Reading, Writing};
 pub use placing::tell_place;

@@ -13,7 +13,7 @@ ghost use Rattle.rfb.specs.Recording.{WatchesAll, StopsWatchingAll, WatchesSome,
 mod options;
 pub mod words;
 
-use crate::explain::{Heard, Hearing, Notes, tell_place, tell_played, tell_server};
+use crate::explain::{Heard, Hearing, Notes, Origin, tell_place, tell_played, tell_server};
 use crate::fault::{Failure, Fault};
 use crate::playing::{fresh_viewer, only_raw};
 use crate::writing::write_ppm;
@@ -54,7 +54,7 @@ pub fn play_recording<R: Read, W: Write, E: Write>(
     } else {
         0
     };
-    let mut heard = Heard::new(alloc, room, "this is a recording of");
+    let mut heard = Heard::new(alloc, room, Origin::Recording);
     let done = play_to(
         alloc,
         options,

@@ -11,7 +11,7 @@ mod options;
 pub mod words;
 
 use crate::explain::{
-    Heard, Hearing, Notes, Speaking, tell_server, tell_unreached, tell_unsent, tell_updates,
+    Heard, Hearing, Notes, Origin, Speaking, tell_server, tell_unreached, tell_unsent, tell_updates,
 };
 use crate::fault::{Failure, Fault};
 use crate::play::{show, show_early};
@@ -113,7 +113,7 @@ fn view_over<R: Read + Drop, V: Write + Drop, W: Write, E: Write>(
     let is_partial = sight.is_partial;
     let mut viewer = fresh_viewer(alloc, sight.wants.format, sight.wants.encodings);
     let room = if notes.are_wanted() { ROOM } else { 0 };
-    let mut heard = Heard::new(alloc, room, "connected to");
+    let mut heard = Heard::new(alloc, room, Origin::Connection);
     // Each arm lets go of what it made by calls: what an arm's end lets go is proved field by field.
     if is_recorded {
         let ended = record(

@@ -7,24 +7,33 @@ use std::io::Write;
 // A line says that more bytes come, each time that this number of them came.
 const STRETCH: u64 = 16_777_216;
 
+/// Where a server's bytes come from.
+#[derive(Clone, Copy)]
+pub enum Origin {
+    /// A connection, on which a read may end with the time of `--timeout`.
+    Connection,
+    Recording,
+}
+
 /// The first bytes that came of a server, as many as there is room for.
 #[derive(Drop)]
 pub struct Heard {
+    origin: Origin,
     bytes: Vec<u8>,
     room: usize,
     total: u64,
-    // What is said before the server's name, until that is printed.
-    greeting: Option<&'static str>,
+    has_screen: bool,
 }
 
 impl Heard {
-    /// Nothing yet. `greeting` is said before the server's name, once that has come.
-    pub fn new(alloc: Global, room: usize, greeting: &'static str) -> Heard {
+    /// Nothing yet.
+    pub fn new(alloc: Global, room: usize, origin: Origin) -> Heard {
         Heard {
+            origin,
             bytes: Vec::new(alloc),
             room,
             total: 0,
-            greeting: Some(greeting),
+            has_screen: false,
         }
     }
 
@@ -34,10 +43,13 @@ impl Heard {
         self.keep(bytes);
         let before = self.total;
         self.total = self.total.saturating_add(bytes.len() as u64);
-        if let Some(greeting) = self.greeting {
+        if !self.has_screen {
             if let Some(screen) = screen_in(&self.bytes) {
-                self.greeting = None;
-                let _ = writeln!(notes, "rfb: {greeting} {screen}");
+                self.has_screen = true;
+                let _ = match self.origin {
+                    Origin::Connection => writeln!(notes, "rfb: connected to {screen}"),
+                    Origin::Recording => writeln!(notes, "rfb: this is a recording of {screen}"),
+                };
             }
         }
         if before / STRETCH != self.total / STRETCH {
@@ -62,7 +74,15 @@ impl Heard {
 
     /// Whether it came to a screen.
     pub fn has_screen(&self) -> bool {
-        self.greeting.is_none()
+        self.has_screen
+    }
+
+    /// Whether a read may have to end with the time of `--timeout`.
+    pub fn is_timed(&self) -> bool {
+        match self.origin {
+            Origin::Connection => true,
+            Origin::Recording => false,
+        }
     }
 
     // Keeps these bytes, as far as there is room. Where memory is refused there is no more.

@@ -53,7 +53,7 @@ impl<R: Read, N: Write> Read for Hearing<'_, R, N> {
         let result = self.reader.read(buf);
         match &result {
             Ok(count) => self.heard.hear(&buf[..*count], self.notes),
-            Err(error) => tell_read(error, self.heard.total(), self.notes),
+            Err(error) => tell_read(error, self.heard, self.notes),
         }
         result
     }
@@ -125,10 +125,12 @@ pub fn tell_updates<N: Write>(updates: u32, told: u32, notes: &mut N) -> u32 {
     updates
 }
 
-// Says why a read failed, after so many bytes.
-fn tell_read<N: Write>(error: &io::Error, total: u64, notes: &mut N) {
+// Says why a read failed, after what was heard.
+fn tell_read<N: Write>(error: &io::Error, heard: &Heard, notes: &mut N) {
     let kind = error.kind();
-    let _ = if kind == ErrorKind::WouldBlock || kind == ErrorKind::TimedOut {
+    let is_late = kind == ErrorKind::WouldBlock || kind == ErrorKind::TimedOut;
+    let _ = if is_late && heard.is_timed() {
+        let total = heard.total();
         let bytes = if total == 1 { "byte" } else { "bytes" };
         writeln!(
             notes,
