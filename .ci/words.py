@@ -9,10 +9,13 @@ them; peers are sockets of 127.0.0.1 and of one address more that a machine has 
 line is 'N passed, M failed'.
 """
 
+import contextlib
 import os
 import random
 import resource
+import signal
 import socket
+import struct
 import sys
 import tempfile
 import time
@@ -159,35 +162,96 @@ def what_came_by_an_early_end_is_shown_if_it_is_wanted():
     ends(["play", "--partial"], SERVER + b"\xFF", 1, b"", b"fault 7 UnknownMessage\n")
 
 
+NO_TYPE = b"rfb: the server offers no security type 1 (None), but 2 (VNC Authentication)"
+NO_VERSION = b"rfb: in place of a version came `%b`: no server of RFB begins like that\n"
+ANOTHER_FORMAT = b"rfb: a recording in another format than the one of --format reads like that\n"
+
+
+def that_is_at(byte, updates=0):
+    return b"rfb: that is at byte %d; whole updates before it: %d\n" % (byte, updates)
+
+
 def a_bad_recording_is_explained():
-    offers = b"rfb: the server offers no security type 1 (None), but 2 (VNC Authentication)"
     for came, told in (
             (b"HTTP/1.1 200 OK\r\n",
-             b"rfb: in place of a version came `HTTP/1.1 200`: no server of RFB is there\n"
-             b"rfb: that is at byte 12; whole updates before it: 0\nfault 15 BadVersion\n"),
+             NO_VERSION % b"HTTP/1.1 200" + that_is_at(12) + b"fault 15 BadVersion\n"),
+            (b"P6\n2 1\n65535\n",
+             NO_VERSION % b"P6\\x0a2 1\\x0a65535" + that_is_at(12) + b"fault 15 BadVersion\n"),
+            # What is shorter than a version is no beginning of one, or one.
+            (b"+OK\r\n", NO_VERSION % b"+OK\\x0d\\x0a" + that_is_at(5) + TRUNCATED),
+            (b"RFB 003:", NO_VERSION % b"RFB 003:" + that_is_at(8) + TRUNCATED),
+            (b"RFB 003.008\r", NO_VERSION % b"RFB 003.008\\x0d" + that_is_at(12)
+             + b"fault 15 BadVersion\n"),
+            (b"", b"rfb: the server's bytes end too early, after 0 of them\n"
+             + that_is_at(0) + TRUNCATED),
+            (b"RFB 0", b"rfb: the server's bytes end too early, after 5 of them\n"
+             + that_is_at(5) + TRUNCATED),
+            (b"RFB 003.008", b"rfb: the server's bytes end too early, after 11 of them\n"
+             + that_is_at(11) + TRUNCATED),
             (b"RFB 003.008\n\x03\x02\x13\x05",
-             offers + b" 19 (VeNCrypt) 5\n"
-             b"rfb: that is at byte 16; whole updates before it: 0\nfault 18 NoneNotOffered\n"),
+             NO_TYPE + b", 19 (VeNCrypt), 5\n" + that_is_at(16) + b"fault 18 NoneNotOffered\n"),
+            (b"RFB 003.007\n\x03\x02\x05\x10",
+             NO_TYPE + b", 5, 16 (Tight)\n" + that_is_at(16) + b"fault 18 NoneNotOffered\n"),
             (b"RFB 003.003\n\0\0\0\x02",
-             offers + b"\n"
-             b"rfb: that is at byte 16; whole updates before it: 0\nfault 18 NoneNotOffered\n"),
-            (b"RFB 003.008\n\0\0\0\0\x09go\x1b[2J \\!",
-             b"rfb: the server refuses the connection, and says `go\\x1b[2J \\x5c!`\n"
-             b"rfb: that is at byte 26; whole updates before it: 0\nfault 19 Refused\n"),
-            (b"RFB 003.008\n\0\0\0\0\x0Ca\\b\0\x1b[1m\x7f\xff ~",
-             b"rfb: the server refuses the connection, and says"
-             b" `a\\x5cb\\x00\\x1b[1m\\x7f\\xff ~`\n"
-             b"rfb: that is at byte 29; whole updates before it: 0\nfault 19 Refused\n"),
-            (b"RFB 0",
-             b"rfb: the server's bytes end too early, after 5 of them\n"
-             b"rfb: that is at byte 5; whole updates before it: 0\n" + TRUNCATED),
+             NO_TYPE + b"\n" + that_is_at(16) + b"fault 18 NoneNotOffered\n"),
+            (b"RFB 003.003\n\0\0\x01\0",
+             b"rfb: the server offers no security type 1 (None), but 256\n" + that_is_at(16)
+             + b"fault 20 BadSecurityWord\n"),
             (SERVER + bytes.fromhex("00000001 0000 0000 0200 0100 00000010"),
              b"rfb: this is a recording of rfb, 2 by 1\n"
              b"rfb: a rectangle has encoding 16 (ZRLE), and only raw, copyrect, rre and hextile are"
-             b" taken\nrfb: that is at byte 85; whole updates before it: 1\n"
-             b"rfb: a recording in another format than the one of --format reads like that\n"
-             b"fault 8 UnknownEncoding\n")):
+             b" taken\n" + that_is_at(85, 1) + ANOTHER_FORMAT + b"fault 8 UnknownEncoding\n")):
         ends(["play", "--explain"], came, 1, b"", told)
+
+
+def a_refusal_is_explained_by_its_reason_alone():
+    refused = b"rfb: the server refuses the connection, and %b\n", b"fault 19 Refused\n"
+    failed = b"rfb: the server does not let the viewer in, and %b\n", b"fault 21 SecurityFailed\n"
+    for came, (sentence, fault) in (
+            (b"RFB 003.003\n\0\0\0\0", refused),
+            (b"RFB 003.007\n\0", refused),
+            (b"RFB 003.008\n\0", refused),
+            (b"RFB 003.008\n\x01\x01\0\0\0\x01", failed)):
+        for reason, says in (
+                (b"", b"gives no reason"),
+                (b"go\x1b[2J \\!", b"says `go\\x1b[2J \\x5c!`"),
+                (b"a\\b\0\x1b[1m\x7f\xff ~", b"says `a\\x5cb\\x00\\x1b[1m\\x7f\\xff ~`"),
+                # A long one has bytes where a screen and its name would be.
+                (b"A" * 3000, b"says `" + b"A" * 1024 + b"`")):
+            given = came + len(reason).to_bytes(4, "big") + reason
+            ends(["play", "--explain"], given, 1, b"",
+                 sentence % says + that_is_at(len(given)) + fault)
+
+
+def a_recording_that_is_played_says_of_what_it_is():
+    init = HELLO[18:]
+    for hello, name in (
+            (HELLO, b"rfb"),
+            (HELLO[:-7] + bytes(4), b"a screen without a name"),
+            (b"RFB 003.003\n\0\0\0\x01" + init, b"rfb"),
+            (b"RFB 003.007\n\x02\x02\x01" + init, b"rfb"),
+            (b"RFB 003.008\n\x03\x01\x02\x10\0\0\0\0" + init, b"rfb")):
+        told = b"rfb: this is a recording of %b, 2 by 1\nrfb: updates played: %d\n"
+        ends(["play", "--explain"], hello, 0, BLACK, told % (name, 0))
+        given = hello + SERVER[len(HELLO):] + MORE
+        for words, shown, updates in (
+                ([], SHOWN_LATER, 2),
+                (["--updates=1"], SHOWN, 1),
+                (["--updates=3"], SHOWN_LATER, 2)):
+            ends(["play", "--explain", *words], given, 0, shown, told % (name, updates))
+
+
+def a_long_recording_is_explained_as_far_as_it_is_kept():
+    text = b"\x03\0\0\0" + (17000000).to_bytes(4, "big") + bytes(17000000)
+    run = Run(["play", "--explain"], SERVER + text + b"\xff")
+    run.ends(1, b"")
+    told = run.told(2).split(b"\n", 2)
+    assert told[0] == b"rfb: this is a recording of rfb, 2 by 1", told
+    assert told[1].endswith(b" bytes came, and more are read"), told
+    assert told[2] == (
+        b"rfb: a message has type 255, which no server has in RFC 6143\n"
+        b"rfb: that is after byte 16777216; whole updates up to there: 1\n"
+        + ANOTHER_FORMAT + b"fault 7 UnknownMessage\n"), told
 
 
 # ---- pictures that are not served
@@ -315,8 +379,8 @@ def an_output_that_fails_is_reported_after_the_refusals():
             assert len(run.told(1)) == room, (words, room, len(run.told(1)))
 
 
-def fails_after(given, words, shown, errors=DEVICE):
-    for stream in failing, halting:
+def fails_after(given, words, shown, errors=DEVICE, streams=(failing, halting)):
+    for stream in streams:
         with stream(given) as source:
             Run(words, source=source).ends(1, shown, errors)
 
@@ -343,6 +407,18 @@ def what_came_before_an_input_failed_is_shown_if_it_is_wanted():
     for stream in failing, halting:
         with stream(SERVER) as source:
             Run(["play", "--updates=1"], source=source).ends(0, SHOWN, b"")
+
+
+def an_input_that_fails_is_explained():
+    of = b"rfb: this is a recording of rfb, 2 by 1\n"
+    lost = b"Connection reset by peer (os error 104)\n"
+    for stream, told in (
+            (failing, b"rfb: reading failed: " + lost + that_is_at(65)
+             + b"rfb: cannot read standard input: " + lost),
+            # No --timeout is up: a recording has none.
+            (halting, b"rfb: reading failed: Resource temporarily unavailable (os error 11)\n"
+             + that_is_at(65))):
+        fails_after(SERVER[:65], ["play", "--explain"], b"", of + told + DEVICE, [stream])
 
 
 def errors_that_fail_change_nothing_else():
@@ -426,18 +502,111 @@ def a_refused_connection_is_tried_again():
     server.shows(["--port", str(server.port), "--timeout", "5"])
 
 
-HELLO_SAID = b"rfb: connected to rfb, 2 by 1\n"
-UPDATE_SAID = HELLO_SAID + b"rfb: updates so far: 1\n"
+ENDLESS = b"rfb: it waits as long as it takes: there is no --timeout\n"
+CONNECTED = b"rfb: connected to rfb, 2 by 1\n"
+UPDATED = CONNECTED + b"rfb: updates so far: 1\n"
+
+
+def a_server_that_ends_is_explained():
+    for words, sent, status, output, told in (
+            ([], SERVER, 0, SHOWN, UPDATED),
+            (["--record"], SERVER, 0, SERVER, UPDATED),
+            ([], HELLO[:-7] + bytes(4), 1, b"",
+             b"rfb: connected to a screen without a name, 2 by 1\n"
+             b"rfb: the server's bytes end too early, after 42 of them\n" + TRUNCATED),
+            ([], b"220 hi\r\n", 1, b"", NO_VERSION % b"220 hi\\x0d\\x0a" + TRUNCATED),
+            (["--record"], b"220 hi\r\n", 1, b"220 hi\r\n",
+             NO_VERSION % b"220 hi\\x0d\\x0a" + TRUNCATED),
+            ([], b"RFB 00", 1, b"",
+             b"rfb: the server's bytes end too early, after 6 of them\n" + TRUNCATED),
+            ([], b"RFB 003.008\n\0" + (3000).to_bytes(4, "big") + b"A" * 3000, 1, b"",
+             b"rfb: the server refuses the connection, and says `" + b"A" * 1024 + b"`\n"
+             b"fault 19 Refused\n")):
+        server = Server(sent)
+        server.shows(["--port", str(server.port), "--explain", *words], status, output,
+                     ENDLESS + told)
+
+
+def wait_for(is_so, what, limit=20):
+    end = time.time() + limit
+    while time.time() < end:
+        if is_so():
+            return
+        time.sleep(0.01)
+    raise AssertionError(what)
+
+
+def is_stopped(run):
+    with open(f"/proc/{run.run.pid}/stat") as stat:
+        return stat.read().rpartition(")")[2].split()[0] == "T"
+
+
+def an_answer_that_cannot_be_sent_is_explained():
+    """The server is gone before its bytes are read: a read has them, and then a write fails."""
+    for words, output in ([], b""), (["--record"], None):
+        with socket.socket() as listener:
+            listener.bind(("127.0.0.1", 0))
+            listener.listen()
+            listener.settimeout(20)
+            port = listener.getsockname()[1]
+            run = Run(["view", "--port", str(port), "--explain", *words])
+            with listener.accept()[0] as line:
+                run.run.send_signal(signal.SIGSTOP)
+                wait_for(lambda: is_stopped(run), "it does not stop")
+                line.sendall(HELLO)
+                # It is reset where it is closed.
+                line.setsockopt(socket.SOL_SOCKET, socket.SO_LINGER, struct.pack("ii", 1, 0))
+        run.run.send_signal(signal.SIGCONT)
+        run.ends(1, output, ENDLESS + CONNECTED + b"rfb: sending to the server failed:"
+                 b" Connection reset by peer (os error 104)\n" + DEVICE)
+
+
+@contextlib.contextmanager
+def waited_for():
+    """A view that waits for a second, and the line to it."""
+    with socket.socket() as listener:
+        listener.bind(("127.0.0.1", 0))
+        listener.listen()
+        listener.settimeout(20)
+        run = Run(["view", "--port", str(listener.getsockname()[1]), "--timeout", "1", "--explain"])
+        with listener.accept()[0] as line:
+            yield run, line
+
+
+def a_server_that_is_too_slow_is_explained():
+    for sent, told in (
+            (b"", b"rfb: the time of --timeout is up: 0 bytes had come\n"),
+            (b"R", b"rfb: the time of --timeout is up: 1 byte had come\n"),
+            (b"+OK\r\n", b"rfb: the time of --timeout is up: 5 bytes had come\n"
+             + NO_VERSION % b"+OK\\x0d\\x0a"),
+            (SERVER[:65], CONNECTED + b"rfb: the time of --timeout is up: 65 bytes had come\n")):
+        with waited_for() as (run, line):
+            line.sendall(sent)
+            run.ends(1, b"", told + DEVICE)
+    # A byte each 0.2 seconds: it does not say that no more came.
+    with waited_for() as (run, line):
+        sent = 0
+        while run.run.poll() is None:
+            with contextlib.suppress(OSError):
+                line.sendall(HELLO[sent:sent + 1])
+                sent += 1
+            time.sleep(0.2)
+        told = [b"rfb: the time of --timeout is up: %d byte%b had come\n"
+                % (count, b"s" * (count != 1)) + DEVICE for count in range(sent + 1)]
+        run.ends(1, b"")
+        assert run.told(2) in told, run.told(2)
+
+
 
 # What a server sends before it is silent, words, what is shown, and what is said before the end.
 SILENT = [
     (b"", [], b"", b""),
-    (HELLO, [], b"", HELLO_SAID),
-    (SERVER[:65], [], b"", HELLO_SAID),
-    (SERVER[:65], ["--partial"], BLACK, HELLO_SAID),
-    (SERVER, ["--updates=2"], b"", UPDATE_SAID),
-    (SERVER + MORE[:18], ["--updates=2", "--partial"], SHOWN, UPDATE_SAID),
-    (HELLO, ["--record"], HELLO, HELLO_SAID),
+    (HELLO, [], b"", CONNECTED),
+    (SERVER[:65], [], b"", CONNECTED),
+    (SERVER[:65], ["--partial"], BLACK, CONNECTED),
+    (SERVER, ["--updates=2"], b"", UPDATED),
+    (SERVER + MORE[:18], ["--updates=2", "--partial"], SHOWN, UPDATED),
+    (HELLO, ["--record"], HELLO, CONNECTED),
 ]
 
 
@@ -445,8 +614,9 @@ def a_view_of_a_silent_server_ends_when_its_time_is_up():
     def is_viewed(row):
         sent, words, shown, told = row
         begun, server = time.time(), Server(sent, is_silent=True)
+        up = b"rfb: the time of --timeout is up: %d bytes had come\n" % len(sent)
         server.shows(["--explain", "--timeout=1", f"--port={server.port}", *words], 1, shown,
-                     told + b"rfb: the time of --timeout is up, and no more came\n" + DEVICE)
+                     told + up + DEVICE)
         lasts = time.time() - begun
         assert 1 <= lasts < 5, (row, lasts)
 
@@ -643,6 +813,9 @@ ROWS = [
     a_recording_is_played_up_to_a_number_of_updates,
     what_came_by_an_early_end_is_shown_if_it_is_wanted,
     a_bad_recording_is_explained,
+    a_refusal_is_explained_by_its_reason_alone,
+    a_recording_that_is_played_says_of_what_it_is,
+    a_long_recording_is_explained_as_far_as_it_is_kept,
     what_is_first_wrong_with_a_picture_is_reported,
     an_owners_line_says_what_its_words_say,
     a_file_is_written_whole_or_not_at_all,
@@ -650,11 +823,15 @@ ROWS = [
     an_output_that_fails_is_reported_after_the_refusals,
     an_input_that_fails_is_reported_and_nothing_runs,
     what_came_before_an_input_failed_is_shown_if_it_is_wanted,
+    an_input_that_fails_is_explained,
     errors_that_fail_change_nothing_else,
     each_refusal_is_one_write,
     a_server_is_named_by_a_word_or_by_its_host_and_its_port,
     a_view_asks_for_what_its_words_say,
     a_view_that_is_cut_short_shows_nothing,
+    a_server_that_ends_is_explained,
+    an_answer_that_cannot_be_sent_is_explained,
+    a_server_that_is_too_slow_is_explained,
     a_refused_connection_is_tried_again,
     a_view_of_a_silent_server_ends_when_its_time_is_up,
     a_screen_has_the_sides_that_are_given,
