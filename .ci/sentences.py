@@ -34,7 +34,8 @@ SUBRECTANGLE = "a subrectangle leaves its rectangle or its tile"
 # What came up to the byte that is wrong, the sentence and the fault; and the size of the screen.
 HANDSHAKES = [
     (security(0), NO_NONE + "0 (Invalid)", "18 NoneNotOffered"),
-    (security(2, 16, 255), NO_NONE + "2 (VNC Authentication) 16 (Tight) 255", "18 NoneNotOffered"),
+    (security(2, 16, 255), NO_NONE + "2 (VNC Authentication), 16 (Tight), 255",
+     "18 NoneNotOffered"),
     (security_result(1, texted(b"go away")),
      "the server does not let the viewer in, and says `go away`", "21 SecurityFailed"),
     (server_init(0, 1), "the server's screen has no pixel", "22 ScreenEmpty", (0, 1)),
@@ -52,7 +53,8 @@ RECTANGLES = [
     (hextile(2 + 8 + 16, *bytes(4), 1, *bytes(4), 0x30, 0x10), SUBRECTANGLE, "10 SubrectOutside"),
     (hextile(0), "a tile of Hextile has no background", "11 NoBackground"),
     (hextile(2 + 8), "a tile of Hextile has no foreground", "12 NoForeground"),
-    (hextile(2 + 4 + 8 + 16), "a tile of Hextile has a foreground, and subrectangles with colours",
+    (hextile(2 + 4 + 8 + 16),
+     "the mask of a tile of Hextile has a foreground, and subrectangles with colours",
      "13 BothColourBits"),
 ]
 FORMAT = b"rfb: a recording in another format than the one of --format reads like that\n"
@@ -80,8 +82,8 @@ def what_is_wrong_with_a_handshake_is_said():
 def what_is_wrong_with_a_message_is_said():
     for row in RECTANGLES:
         is_said(*row, (4, 4), FORMAT)
-    is_said(message(77), "a message has type 77, which no server has", "7 UnknownMessage",
-            (4, 4), FORMAT, 1)
+    is_said(message(77), "a message has type 77, which no server has in RFC 6143",
+            "7 UnknownMessage", (4, 4), FORMAT, 1)
 
 
 def each_security_type_is_named():
@@ -112,8 +114,9 @@ def after_16_megabytes_no_byte_is_named():
     ends(["play", "--explain"], message(3, text) + b"M", 1, b"",
          b"rfb: this is a recording of rfb, 4 by 4\n"
          b"rfb: 16777216 bytes came, and more are read\n"
-         b"rfb: a message has type 77, which no server has\n"
-         b"rfb: that is after byte 16777216\nfault 7 UnknownMessage\n")
+         b"rfb: a message has type 77, which no server has in RFC 6143\n"
+         b"rfb: that is after byte 16777216; whole updates up to there: 1\n" + FORMAT
+         + b"fault 7 UnknownMessage\n")
 
 
 # ---- streams and connections that fail
@@ -177,7 +180,7 @@ def a_loop_without_a_connection_is_said():
 # ---- viewers that are served
 
 FORMAT_THAT_CANNOT_BE = "the viewer asked for a pixel format that cannot be: "
-LEFT = "the viewer left inside a message"
+LEFT = "the viewer left before its handshake or a message was whole"
 BROKEN = "the connection to the viewer broke, or nothing came in the time of --timeout"
 
 # What a client sends, the sentence and the fault, and what it does then.
@@ -190,7 +193,7 @@ CLIENTS = [
         ({"maxima": (255, 254, 255)}, "4 BadMax"), ({"shifts": (25, 8, 0)}, "5 ShiftTooLarge"),
         ({"shifts": (16, 15, 0)}, "6 FieldsOverlap"))],
     (set_pixel_format(true=0), "the viewer asked for pixels by a colour map", "3 NotTrueColour"),
-    (client_init(b"M"), "the viewer sent a message of type 77, which no client has",
+    (client_init(b"M"), "the viewer sent a message of type 77, which no client has in RFC 6143",
      "7 UnknownMessage"),
     (CLIENT[:-1], LEFT, "28 Truncated", lambda line: line.shutdown(socket.SHUT_WR)),
     (CLIENT[:-1], BROKEN, "29 Device", breaks),

@@ -158,7 +158,7 @@ const TABLE: [(Numbered, &str); 32] = [
     ),
     (
         Numbered::Engine(EngineFault::Device),
-        "a read, a write or a connection failed",
+        "a read, a write or a connection failed, or the time of --timeout was up",
     ),
     (
         Numbered::Engine(EngineFault::NoMemory),

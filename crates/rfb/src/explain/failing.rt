@@ -62,7 +62,10 @@ fn tell_viewer_fault<N: Write>(
             tell_reason("does not let the viewer in", reason, notes)
         }
         ViewerFault::UnknownMessage(kind) => {
-            writeln!(notes, "rfb: a message has type {kind}, which no server has")
+            writeln!(
+                notes,
+                "rfb: a message has type {kind}, which no server has in RFC 6143"
+            )
         }
         ViewerFault::UnknownEncoding(number) => writeln!(
             notes,
@@ -93,7 +96,7 @@ fn flaw_of_server(fault: ViewerFault) -> &'static str {
         ViewerFault::NoBackground => "a tile of Hextile has no background",
         ViewerFault::NoForeground => "a tile of Hextile has no foreground",
         ViewerFault::BothColourBits => {
-            "a tile of Hextile has a foreground, and subrectangles with colours"
+            "the mask of a tile of Hextile has a foreground, and subrectangles with colours"
         }
         ViewerFault::SourceOutside => "the source of a CopyRect leaves the screen",
         ViewerFault::ScreenEmpty => "the server's screen has no pixel",
@@ -107,7 +110,10 @@ fn flaw_of_server(fault: ViewerFault) -> &'static str {
 pub fn tell_client<N: Write>(fault: EngineFault, notes: &mut N) {
     let _ = match fault {
         EngineFault::Server(fault) => tell_server_fault(fault, notes),
-        EngineFault::Truncated => writeln!(notes, "rfb: the viewer left inside a message"),
+        EngineFault::Truncated => writeln!(
+            notes,
+            "rfb: the viewer left before its handshake or a message was whole"
+        ),
         EngineFault::Device => writeln!(
             notes,
             "rfb: the connection to the viewer broke, or nothing came in the time of --timeout"
@@ -122,7 +128,7 @@ fn tell_server_fault<N: Write>(fault: ServerFault, notes: &mut N) -> io::Result<
     match fault {
         ServerFault::UnknownMessage(kind) => writeln!(
             notes,
-            "rfb: the viewer sent a message of type {kind}, which no client has"
+            "rfb: the viewer sent a message of type {kind}, which no client has in RFC 6143"
         ),
         ServerFault::BadBits
         | ServerFault::DepthTooLarge
