@@ -359,6 +359,22 @@ def a_file_that_cannot_be_had_is_a_fault_of_a_device():
         ends(words, SCRIPT, 1, b"", DEVICE)
 
 
+def a_terminal_gets_no_picture_by_its_name():
+    here, there = os.openpty()
+    path = os.ttyname(there)
+    for words, given in (["script"], SCRIPT), (["play"], SERVER):
+        ends([*words, "-o", path], given, 1, b"", DEVICE)
+        ends([*words, "--explain", "-o", path], given, 1, b"", b"rfb: cannot write %s: it is a"
+             b" terminal, which shows no picture and no recording\n" % path.encode() + DEVICE)
+    os.set_blocking(here, False)
+    try:
+        assert os.read(here, 100) == b""
+    except BlockingIOError:
+        pass
+    os.close(here)
+    os.close(there)
+
+
 # ---- streams that fail
 
 def an_output_that_fails_is_reported_after_the_refusals():
@@ -820,6 +836,7 @@ ROWS = [
     an_owners_line_says_what_its_words_say,
     a_file_is_written_whole_or_not_at_all,
     a_file_that_cannot_be_had_is_a_fault_of_a_device,
+    a_terminal_gets_no_picture_by_its_name,
     an_output_that_fails_is_reported_after_the_refusals,
     an_input_that_fails_is_reported_and_nothing_runs,
     what_came_before_an_input_failed_is_shown_if_it_is_wanted,

@@ -18,7 +18,7 @@ use std::alloc::{AllocError, Global};
 use std::convert::AsStr;
 use std::fs::Files;
 use std::io;
-use std::io::{Read, Write};
+use std::io::{IsTerminal, Read, Write};
 use std::net::Net;
 use std::time::Clock;
 
@@ -90,6 +90,8 @@ pub fn command<P: AllocGlobal + Clock + Files + Net, S: AsStr, R: Read, W: Write
     output: &mut W,
     errors: &mut E,
 ) -> u8
+where
+    P::File: IsTerminal,
     ensures range { result ≤ 2 }
     ensures done { result ≡ 0 → HaveMeaning (plain_of (map S.text words.now)) }
     ensures mistake { result ≡ 2 → AreMistaken (plain_of (map S.text words.now)) }
@@ -132,6 +134,8 @@ fn obey<P: AllocGlobal + Clock + Files + Net, S: AsStr, R: Read, W: Write, E: Wr
     output: &mut W,
     errors: &mut E,
 ) -> u8
+where
+    P::File: IsTerminal,
     ensures range { result ≤ 2 }
     ensures done { result ≡ 0 → HaveMeaning (map S.text words.now) }
     ensures mistake { result ≡ 2 → AreMistaken (map S.text words.now) }

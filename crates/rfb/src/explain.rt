@@ -138,6 +138,15 @@ pub fn tell_unwritten<N: Write>(path: &str, error: &io::Error, notes: &mut N) {
     );
 }
 
+/// Says that a file is a terminal, and no place for a picture.
+pub fn tell_terminal<N: Write>(path: &str, notes: &mut N) {
+    let _ = writeln!(
+        notes,
+        "rfb: cannot write {}: it is a terminal, which shows no picture and no recording",
+        Escaped(path.as_bytes())
+    );
+}
+
 /// Says why what was to be sent did not go out, if so.
 pub fn tell_unsent<N: Write>(failure: &Option<io::Error>, notes: &mut N) {
     if let Some(error) = failure {

@@ -6,8 +6,8 @@ ghost use Rattle.rfb.specs.CommandLine.{Does, FromFile, Leaves, Through};
 
 mod target;
 
-use crate::explain::{Notes, Reading, Writing, tell_unread, tell_unwritten};
-use crate::fault::Failure;
+use crate::explain::{Notes, Reading, Writing, tell_terminal, tell_unread, tell_unwritten};
+use crate::fault::{Failure, Fault};
 use crate::loopback::script_through_loopback;
 use crate::options::{Order, Task};
 use crate::play::play_recording;
@@ -17,7 +17,7 @@ use crate::sharing::share_at;
 use crate::viewing::view_at;
 use crate::working::target::{Target, open_target};
 use std::fs::{File, Files, OpenFile};
-use std::io::{Read, Write};
+use std::io::{IsTerminal, Read, Write};
 use std::net::Net;
 use std::time::Clock;
 
@@ -34,6 +34,8 @@ pub fn work_through<P: AllocGlobal + Clock + Files + Net, R: Read, W: Write, E: 
     output: &mut W,
     errors: &mut E,
 ) -> Result<(), Failure>
+where
+    P::File: IsTerminal,
     ensures done { OnOk result (Through order.entry.paths (Does order.entry.task)
         (R.remaining input.old) (W.contents output.old) (W.contents output.new)) }
     ensures left { OnErr result ((output.new ≡ output.old)
@@ -47,8 +49,9 @@ pub fn work_through<P: AllocGlobal + Clock + Files + Net, R: Read, W: Write, E: 
     }
 }
 
-// Does a task, and writes to the file of this path in place of standard output. It is kept where
-// all is written; or where what came by an early end is wanted, and some of it was written.
+// Does a task, and writes to the file of this path in place of standard output, unless that is a
+// terminal. It is kept where all is written; or where what came by an early end is wanted, and some
+// of it was written.
 fn work_into<P: AllocGlobal + Clock + Files + Net, R: Read, E: Write>(
     rt: &P,
     task: Task<'_>,
@@ -58,11 +61,17 @@ fn work_into<P: AllocGlobal + Clock + Files + Net, R: Read, E: Write>(
     input: &mut R,
     errors: &mut E,
 ) -> Result<(), Failure>
+where
+    P::File: IsTerminal,
     ensures done { OnOk result ((blank full : Option (List ℕ))
         × FromFile from.entry (λ read. Does task.entry read blank full) (R.remaining input.old)) }
 {
     let is_partial = task.is_partial();
     match open_target(rt, path) {
+        Ok(target) if target.file.is_terminal() => {
+            tell_terminal(path, &mut Notes::new(errors, explains));
+            Err(Failure::Fault(Fault::Device))
+        }
         Ok(mut target) => {
             let mut unsaved = None;
             let mut file = Writing::new(&mut target.file, &mut unsaved);
