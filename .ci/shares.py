@@ -272,6 +272,39 @@ def the_end_of_input_leaves_the_screen():
     share.ends(1)
 
 
+def the_last_line_may_lack_its_newline():
+    white, bad = (255, 255, 255), b"line 3: bad line\n"
+    for last, colour, errors in (
+            (b"", white, b""),
+            (b"fill 1 0 1 1 010203", (1, 2, 3), b""),
+            (b"pixels 1 0 1 1\nabc", tuple(b"abc"), b""),
+            (b"pixels 0 0 2 1\nabcde\n", (100, 101, 10), b""),
+            (b"pixels 1 0 0 1\n", white, b""),
+            (b"pixels 1 0 1 1\nab", white, bad),
+            (b"pixels 1 0 1 1\n", white, bad),
+            (b"pixels 1 0 1 1", white, bad),
+            (b"pixels 1 0 1 1\nabcd", white, bad),
+            (b"pixels 2 0 1 1\nabc", white, bad),
+            (b"pixels 2 0 1 1\nab", white, bad),
+            (b"fill 1 0 1 1 01020", white, bad),
+            (b"screen 2 1", white, bad),
+            (b"x" * 97, white, bad)):
+        share = Share("--until-idle")
+        share.say(b"screen 2 1\nfill 0 0 2 1 ffffff\n" + last)
+        share.run.stdin.close()
+        wait_for(lambda: share.errors == errors, (last, share.errors))
+        viewer = Viewer(share).hello()
+        viewer.sees(1, 0, colour)
+        viewer.close()
+        share.ends()
+        assert share.errors == errors, (last, share.errors)
+    share = Share("--until-idle")
+    share.say("screen 2 1")
+    share.run.stdin.close()
+    Viewer(share).hello().close()
+    share.ends()
+
+
 def a_ninth_is_let_go_and_sole_use_ends_the_others():
     share = Share()
     share.say("screen 2 1\n")
@@ -443,7 +476,8 @@ def video(width=640, height=480, frames=30):
 
 
 ROWS = [each_line_draws_and_each_event_is_reported, a_scroll_is_sent_as_a_copy,
-        the_end_of_input_leaves_the_screen, a_ninth_is_let_go_and_sole_use_ends_the_others,
+        the_end_of_input_leaves_the_screen, the_last_line_may_lack_its_newline,
+        a_ninth_is_let_go_and_sole_use_ends_the_others,
         a_stuck_viewer_holds_nobody_up,
         a_flood_of_requests_is_answered_by_few_updates, a_client_may_send_a_byte_at_a_time,
         clients_leave_in_the_middle_of_an_update, many_come_one_after_another]

@@ -313,6 +313,17 @@ def an_owners_line_says_what_its_words_say():
          0, b"", bad_lines(1, 5, 6, 7, 8))
 
 
+def an_owners_last_line_may_lack_its_newline():
+    words = ["share", "--port", str(free_port())]
+    ends(words, b"screen 2 1\nquit", 0)
+    ends(words, b"screen 2 1\npixels 0 0 1 1\nab\nquit\nx\nquit", 0, b"", bad_lines(2, 3))
+    # No line says the size of the screen.
+    for given, number in ((b"", 1), (b"\n", 2), (b"quit", 1), (b"\nscreen 0 1", 2),
+                          (b"\n\npixels 0 0 1 1\nabc", 3), (b"pixels 0 0 1 1", 1)):
+        ends(words, given, 1, b"", bad_lines(number))
+    ends(words, b"x\nscreen 0 1", 1, b"", bad_lines(1, 2))
+
+
 # ---- files
 
 def a_file_is_written_whole_or_not_at_all():
@@ -834,6 +845,7 @@ ROWS = [
     a_long_recording_is_explained_as_far_as_it_is_kept,
     what_is_first_wrong_with_a_picture_is_reported,
     an_owners_line_says_what_its_words_say,
+    an_owners_last_line_may_lack_its_newline,
     a_file_is_written_whole_or_not_at_all,
     a_file_that_cannot_be_had_is_a_fault_of_a_device,
     a_terminal_gets_no_picture_by_its_name,

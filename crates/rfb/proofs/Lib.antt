@@ -24,6 +24,7 @@ pub mod WordLemmas
 pub mod LinesLemmas
 pub mod ListLemmas
 pub mod MadeLemmas
+pub mod OwnerEndLemmas
 pub mod OwnerLineLemmas
 pub mod OwnerReaderLemmas
 pub mod OwnerStageLemmas

@@ -1,5 +1,5 @@
 -- A reader of the owner's lines, fed in any slices: what it stands for.
-use Rattle.std.specs.Prelude.{◌≡◌, ◌+◌, ◌⊎◌, ℕ, List, [], ◌∷◌, ◌++◌, Option, None, Some, length}
+use Rattle.std.specs.Prelude.{◌≡◌, ◌≢◌, ◌+◌, ◌<◌, ◌⊎◌, ℕ, List, [], ◌∷◌, ◌++◌, Option, None, Some, length}
 use Rattle.rfb_picture.specs.declared.rect.Rect.{Rect}
 use Rattle.rfb.specs.declared.script.line.Screen.{Screen as Size}
 use Rattle.rfb.specs.declared.sharing.line.OwnerLine.{OwnerLine}
@@ -8,7 +8,8 @@ use Rattle.rfb.specs.declared.sharing.line.Order.{Order}
 use Rattle.rfb.specs.declared.sharing.line.Refusal.TheVariants.{Bad}
 use Rattle.rfb.specs.declared.sharing.reader.OwnerReader.{OwnerReader}
 use Rattle.rfb.specs.declared.sharing.stage.Stage.{Stage}
-use Rattle.rfb.specs.Sharing.{AreAfterPixels, IsInPlace, IsOneLine, IsSpoilt, LiesOnKnown, Orders, RefusesPixels, data_length}
+use Rattle.rfb.specs.Script.{words_of}
+use Rattle.rfb.specs.Sharing.{AreAfterPixels, IsInPlace, IsOneLine, IsShort, IsSpoilt, LiesOnKnown, Orders, RefusesPixels, SaysOwner, data_length}
 
 -- some of the pixels of a rectangle have come, and `left` bytes of them have not
 abbrev pub AreComing : Rect → List ℕ → List ℕ → ℕ → Type 0
@@ -66,6 +67,26 @@ IsFresh stage = (known : Option Size) → ComesTo known [] stage
 -- a reader that was fed nothing
 abbrev pub IsFreshReader : OwnerReader → Type 0
 IsFreshReader reader = ComesTo None [] reader.stage × (reader.screen ≡ None)
+
+-- a text ends before all bytes of its pixels, or with their line
+abbrev pub IsCut : List ℕ → Type 0
+IsCut text =
+    (rect : Rect) × ((IsShort text × SaysOwner (words_of text) (OwnerLine.Pixels rect))
+    ⊎ ((bytes : List ℕ) × AreAfterPixels rect text bytes × (length bytes < data_length rect)))
+
+-- what a text gives after which nothing comes: what it would before a newline; where it is cut, it
+-- is refused; and where nothing came, nothing
+abbrev pub Closes : Option Size → List ℕ → Option Order → Type 0
+Closes known text None = text ≡ []
+Closes known text (Some order) =
+    (text ≢ []) × (Orders known text order ⊎ ((order ≡ Order.Refused Bad) × IsCut text))
+
+-- the same of any text that brings a reader to this stage, while this screen is known
+pub record ClosesFrom (screen : Option Size) (stage : Stage) (order : Option Order)
+    (new : OwnerReader) : Type 0 where
+  pub gives : (text : List ℕ) → ComesTo screen text stage → Closes screen text order
+  pub known : new.screen ≡ known_after screen order
+  pub fresh : IsFresh new.stage
 
 -- the line stands where it may, or is refused
 pub record Places (old : OwnerReader) (line : OwnerLine) (order : Order) (new : OwnerReader)

@@ -1,5 +1,7 @@
 //! The owner's lines, out of bytes that come in any slices.
 
+mod ending;
+
 ghost use Rattle.std.specs.Prelude.{◌≡◌, ◌≤◌, ◌<◌, ◌∷◌, ℕ, List, [], true, ◌↔◌, drop, length, take};
 ghost use Rattle.rfb.specs.Sharing.{IsOneLine, LiesOnKnown, data_length};
 ghost use Rattle.rfb.specs.OwnerReader.{Feeds, FeedsFrom, IsFresh, IsFreshReader, Places, StartsData};

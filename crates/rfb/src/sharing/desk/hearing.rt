@@ -4,6 +4,7 @@ use crate::fault::Failure;
 use crate::sharing::ShareOptions;
 use crate::sharing::desk::Desk;
 use crate::sharing::input::{INPUT, Input};
+use crate::sharing::line::Order;
 use crate::sharing::ready::OWNER;
 use crate::sharing::telling::tell_refusal;
 use mio::Interest;
@@ -33,7 +34,10 @@ impl<
                 break;
             }
             match input.read(part) {
-                Ok(0) => self.end_input(),
+                Ok(0) => {
+                    self.end_input();
+                    self.take_last(options, output, errors)?;
+                }
                 Ok(count) => self.take(&part[..count], options, output, errors)?,
                 Err(error) => match error.kind() {
                     ErrorKind::Interrupted => {}
@@ -78,12 +82,41 @@ impl<
             let taken = self.reader.feed(rest);
             rest = &rest[taken.used..];
             if let Some(order) = taken.order {
-                self.lines = self.lines.saturating_add(1);
-                if let Some(refusal) = self.obey(order, options, output)? {
-                    // One that can't be written changes nothing.
-                    let _ = tell_refusal(errors, self.lines, refusal);
-                }
+                self.follow(order, options, output, errors)?;
             }
+        }
+        Ok(())
+    }
+
+    // No more of them come: the last line may lack its newline. Where it is bad and there is no
+    // screen, it is why all ends.
+    fn take_last<W: Write, E: Write>(
+        &mut self,
+        options: &ShareOptions<'_>,
+        output: &mut W,
+        errors: &mut E,
+    ) -> Result<(), Failure> {
+        let Some(order) = self.reader.end() else {
+            return Ok(());
+        };
+        if self.guests.is_none() && matches!(order, Order::Refused(_)) {
+            return Err(Failure::BadLine(self.lines.saturating_add(1)));
+        }
+        self.follow(order, options, output, errors)
+    }
+
+    // Does what a line says, or reports why not.
+    fn follow<W: Write, E: Write>(
+        &mut self,
+        order: Order,
+        options: &ShareOptions<'_>,
+        output: &mut W,
+        errors: &mut E,
+    ) -> Result<(), Failure> {
+        self.lines = self.lines.saturating_add(1);
+        if let Some(refusal) = self.obey(order, options, output)? {
+            // One that can't be written changes nothing.
+            let _ = tell_refusal(errors, self.lines, refusal);
         }
         Ok(())
     }
