@@ -519,8 +519,8 @@ HUB_CAUSES = [
 
 # Whole scripts that are bad, each at a line, and what is said of it.
 BAD_SCRIPTS = [
-    ("", 1, ": the script ends before it, and none says `screen W H`"),
-    ("\n\n", 3, ": the script ends before it, and none says `screen W H`"),
+    ("", 1, ": the lines end before it, and none says `screen W H`"),
+    ("\n\n", 3, ": the lines end before it, and none says `screen W H`"),
     ("\nsettle\n", 2, ": `screen W H` stands first, and once"),
     ("screen 0 1\n", 1, ": `0` is no number from 1 to 4096"),
     ("hub 0 1\nshow 0\n", 1, ": `hub W H`, each side 1 to 4096, stands first, with `rfb script`"),

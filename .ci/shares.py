@@ -305,6 +305,23 @@ def the_last_line_may_lack_its_newline():
     share.ends()
 
 
+def a_last_line_that_is_bad_is_explained():
+    for last, cause in (
+            (b"pixels 0 0 2 1\nabcde", b": 5 bytes of pixels follow it, and 6 are due"),
+            (b"pixels 0 0 2 1", b": 0 bytes of pixels follow it, and 6 are due"),
+            (b"pixels 0 0 1 1\nabcd", b": no newline follows its 3 bytes of pixels"),
+            (b"pixels 1 0 2 1\nabc", b" has a rectangle that leaves the screen, 2 by 1"),
+            (b"paint", b" begins with `paint`, as no line there does")):
+        share = Share("--explain", "--until-idle")
+        share.say(b"screen 2 1\n\n" + last)
+        share.run.stdin.close()
+        Viewer(share).hello().close()
+        share.ends()
+        told = b"rfb: listening on 127.0.0.1:%d\n" % share.port
+        told += b"rfb: line 3 of standard input" + cause + b"\nline 3: bad line\n"
+        wait_for(lambda: share.errors == told, (last, share.errors))
+
+
 def a_ninth_is_let_go_and_sole_use_ends_the_others():
     share = Share()
     share.say("screen 2 1\n")
@@ -477,7 +494,7 @@ def video(width=640, height=480, frames=30):
 
 ROWS = [each_line_draws_and_each_event_is_reported, a_scroll_is_sent_as_a_copy,
         the_end_of_input_leaves_the_screen, the_last_line_may_lack_its_newline,
-        a_ninth_is_let_go_and_sole_use_ends_the_others,
+        a_last_line_that_is_bad_is_explained, a_ninth_is_let_go_and_sole_use_ends_the_others,
         a_stuck_viewer_holds_nobody_up,
         a_flood_of_requests_is_answered_by_few_updates, a_client_may_send_a_byte_at_a_time,
         clients_leave_in_the_middle_of_an_update, many_come_one_after_another]

@@ -322,6 +322,77 @@ def an_owners_last_line_may_lack_its_newline():
                           (b"\n\npixels 0 0 1 1\nabc", 3), (b"pixels 0 0 1 1", 1)):
         ends(words, given, 1, b"", bad_lines(number))
     ends(words, b"x\nscreen 0 1", 1, b"", bad_lines(1, 2))
+    # Where a read fails, what came of a line is passed over.
+    with failing(b"x\nscreen 2 1") as source:
+        Run(words, source=source).ends(1, b"", bad_lines(1, 2))
+
+
+# Bad lines of an owner's after the one that makes a screen of 8 by 8, and what is said of each.
+OWNER_CAUSES = (
+    (b"fill 0 0 1 1 000000\r", b" has a carriage return: a newline alone ends a line"),
+    (b"fill\t0", b" has a tab: one space parts two words"),
+    (b"f\xC3\xA4ll", b" has a byte that is no printable ASCII character, 0xc3"),
+    (b"quit ", b" has a space at an end, or two in a row: one space parts two words"),
+    (b"end  0", b" has a space at an end, or two in a row: one space parts two words"),
+    (b"x" * 97, b" has more than 96 bytes"),
+    (b"pixels 0 0 1 1" + b" " * 83, b" has more than 96 bytes"),
+    (b"x" * 96, b" begins with `" + b"x" * 96 + b"`, as no line there does"),
+    (b"Quit", b" begins with `Quit`, as no line there does"),
+    (b"request full 0 0 1 1", b" begins with `request`, as no line there does"),
+    (b"screen 8 8", b": `screen W H` stands first, and once"),
+    (b"fill 1 2 3 4", b" has too few words after its first: 4 of 5"),
+    (b"end", b" has too few words after its first: 0 of 1"),
+    (b"scroll 1 2 3 4 5", b" has too few words after its first: 5 of 6"),
+    (b"quit 1", b" has too many words after its first: at most 0"),
+    (b"pixels 1 2 3 4 5", b" has too many words after its first: at most 4"),
+    (b"hint 1 2 3 4 5 6 7 8 9", b" has too many words after its first: at most 6"),
+    (b"fill 65536 2 3 4 FF8000", b": `65536` is no number from 0 to 65535"),
+    (b"copy 1 2 3 4 5 x", b": `x` is no number from 0 to 65535"),
+    (b"fill 1 2 3 4 FF800", b": `FF800` is no colour of six or twelve hexadecimal digits"),
+    (b"scroll -1 2 3 4 0 0", b": `-1` is no number from 0 to 65535"),
+    (b"scroll 1 2 3 4 +1 0", b": `+1` is no number from -32767 to 32767"),
+    (b"scroll 1 2 3 4 0 -32768", b": `-32768` is no number from -32767 to 32767"),
+    (b"end 70", b": `70` is no seat from 0 to 7"),
+    (b"fill 1 0 8 1 FF8000", b" has a rectangle that leaves the screen, 8 by 8"),
+    (b"copy 1 2 3 4 5 65535", b" has a rectangle that leaves the screen, 8 by 8"),
+    (b"hint 0 5 3 4 0 0", b" has a rectangle that leaves the screen, 8 by 8"),
+    (b"scroll 0 0 1 9 0 0", b" has a rectangle that leaves the screen, 8 by 8"),
+    (b"pixels 7 0 2 1\nabcdef", b" has a rectangle that leaves the screen, 8 by 8"),
+    (b"pixels 7 0 1 1\n\n\n\nquit", b": no newline follows its 3 bytes of pixels"),
+    (b"pixels 0 0 8 8\n" + b"ab\n" * 64 + b"!", b": no newline follows its 192 bytes of pixels"),
+)
+
+# All that an owner says, where it makes no screen; the number of the last line, and what is said
+# of it.
+OWNER_ENDS = (
+    (b"", 1, b": the lines end before it, and none says `screen W H`"),
+    (b"\n\n", 3, b": the lines end before it, and none says `screen W H`"),
+    (b"quit", 1, b": `screen W H` stands first, and once"),
+    (b"pixels 0 0 1 1\nab", 1, b": `screen W H` stands first, and once"),
+    (b"\nscreen 0 1", 2, b": `0` is no number from 1 to 4096"),
+    (b"screen 1", 1, b" has too few words after its first: 1 of 2"),
+    (b"paint", 1, b" begins with `paint`, as no line there does"),
+    (b"x" * 200, 1, b" has more than 96 bytes"),
+)
+
+
+def why_bad(number, cause):
+    return b"rfb: line %d of standard input%s\n" % (number, cause) + bad_lines(number)
+
+
+def an_owners_bad_line_is_explained():
+    port = free_port()
+    words = ["share", "--explain", "--port", str(port)]
+    listens = b"rfb: listening on 127.0.0.1:%d\n" % port
+    lines = b"".join(line + b"\n" for line, _ in OWNER_CAUSES)
+    causes = [why_bad(number, cause) for number, (_, cause) in enumerate(OWNER_CAUSES, 2)]
+    ends(words, b"screen 8 8\n" + lines + b"quit\n", 0, b"", listens + b"".join(causes))
+    for given, number, cause in OWNER_ENDS:
+        ends(words, given, 1, b"", listens + why_bad(number, cause))
+    ends(words, b"paint\nfill 0 0 1 1 000000\n", 1, b"",
+         listens + why_bad(1, b" begins with `paint`, as no line there does")
+         + why_bad(2, b": `screen W H` stands first, and once")
+         + why_bad(3, b": the lines end before it, and none says `screen W H`"))
 
 
 # ---- files
@@ -846,6 +917,7 @@ ROWS = [
     what_is_first_wrong_with_a_picture_is_reported,
     an_owners_line_says_what_its_words_say,
     an_owners_last_line_may_lack_its_newline,
+    an_owners_bad_line_is_explained,
     a_file_is_written_whole_or_not_at_all,
     a_file_that_cannot_be_had_is_a_fault_of_a_device,
     a_terminal_gets_no_picture_by_its_name,

@@ -29,7 +29,7 @@ ghost use Rattle.rfb.specs.declared.script.line.Line.TheVariants as Line;
 ghost use Rattle.rfb.specs.Script.{AreScript, GivesWants, Says, StopsReading, lines_of, words_of};
 
 mod arguments;
-mod cause;
+pub mod cause;
 mod hub;
 mod line;
 mod number;

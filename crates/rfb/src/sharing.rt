@@ -1,6 +1,8 @@
 //! A share over sockets: a screen that a program draws by lines on standard input, for up to eight
 //! viewers at once, whose doings it reads as lines on standard output.
 
+mod beginning;
+mod cause;
 mod desk;
 pub mod drawing;
 mod guests;
@@ -36,7 +38,7 @@ pub fn share_at<N: Net, R: Read, W: Write, E: Write>(
     explains: bool,
 ) -> Result<(), Failure> {
     let listener = listen(net, &options, &mut Notes::new(errors, explains))?;
-    let mut desk = Desk::new(net, alloc, listener)?;
+    let mut desk = Desk::new(net, alloc, listener, explains)?;
     desk.run(&options, input, output, errors)
 }
 

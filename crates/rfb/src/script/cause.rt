@@ -1,9 +1,9 @@
 //! Why a line of a script is bad, for a person.
 
-mod form;
+pub mod form;
 mod hub;
-mod kind;
-mod reason;
+pub mod kind;
+pub mod reason;
 
 use crate::script::cause::form::{OF_SCRIPT, form_of};
 use crate::script::cause::kind::why_not_form;
@@ -18,8 +18,8 @@ use std::io::Write;
 // Room for one word more than a line may have.
 const WORDS: usize = 9;
 
-// Which word of a line its keyword is, where nothing stands before it.
-const FIRST: &str = "first";
+/// Which word of a line its keyword is, where nothing stands before it.
+pub const FIRST: &str = "first";
 
 // What is wrong with lines, where nothing of the line itself is told.
 const SPACES: &str = " has a space at an end, or two in a row: one space parts two words";
@@ -28,9 +28,11 @@ const RETURN: &str = " has a carriage return: a newline alone ends a line";
 
 const TAB: &str = " has a tab: one space parts two words";
 
-const NO_SCREEN: &str = ": the script ends before it, and none says `screen W H`";
+/// What is wrong with the line after the last one, where none says how large the screen is.
+pub const NO_SCREEN: &str = ": the lines end before it, and none says `screen W H`";
 
-const LATE_SCREEN: &str = ": `screen W H` stands first, and once";
+/// What is wrong with a line that says so and is not the first, or with another that is.
+pub const LATE_SCREEN: &str = ": `screen W H` stands first, and once";
 
 const LATE_VIEWER: &str = ": `viewer F E..` stands second, and once";
 
@@ -68,8 +70,8 @@ fn why_bad(line: &[u8], is_first: bool) -> Reason<'_> {
     }
 }
 
-// Which byte may not stand in a line, or that its spaces are wrong.
-fn why_not_words(line: &[u8]) -> Option<Reason<'_>> {
+/// Which byte may not stand in a line, or that its spaces are wrong.
+pub fn why_not_words(line: &[u8]) -> Option<Reason<'_>> {
     for byte in line {
         if !is_of_word(*byte) {
             return Some(why_not_byte(*byte));
@@ -118,8 +120,8 @@ fn why_no_line(line: &[u8], is_first: bool) -> Reason<'_> {
     }
 }
 
-// The words of a line, as far as there is room.
-fn first_words(line: &[u8]) -> ArrayVec<&[u8], WORDS> {
+/// The words of a line, as far as there is room.
+pub fn first_words(line: &[u8]) -> ArrayVec<&[u8], WORDS> {
     let mut words = ArrayVec::new();
     for word in line.split(parts_words) {
         if words.try_push(word).is_err() {

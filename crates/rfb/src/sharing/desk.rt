@@ -2,9 +2,11 @@
 
 mod hearing;
 mod obeying;
+mod reporting;
 
 use crate::fault::Failure;
 use crate::sharing::ShareOptions;
+use crate::sharing::beginning::Beginning;
 use crate::sharing::guests::Guests;
 use crate::sharing::input::{Input, begin_input};
 use crate::sharing::reader::OwnerReader;
@@ -33,12 +35,16 @@ pub struct Desk<L: Drop, S: Drop> {
     listener: L,
     input: Input,
     reader: OwnerReader,
+    // What it has read of a line.
+    said: Beginning,
     // How many of the owner's lines were read; pixels belong to their line.
     lines: u64,
     // There are none before the owner says how large the screen is.
     guests: Option<Guests<S>>,
     // The owner said that all ends.
     quits: bool,
+    // Whether a person reads why a line is bad.
+    explains: bool,
 }
 
 impl<
@@ -46,7 +52,12 @@ impl<
     S: Read + Write + OpenStream + AsRawFd + Drop,
 > Desk<L, S> {
     /// A listener that does not wait, and no screen yet.
-    pub fn new<N: Net>(net: &N, alloc: Global, listener: L) -> Result<Desk<L, S>, Failure> {
+    pub fn new<N: Net>(
+        net: &N,
+        alloc: Global,
+        listener: L,
+        explains: bool,
+    ) -> Result<Desk<L, S>, Failure> {
         let poll = Poll::new(net)?;
         let mut ready = Ready::new();
         let input = begin_input(poll.registry(), &mut ready);
@@ -58,9 +69,11 @@ impl<
             listener,
             input,
             reader: OwnerReader::new(alloc),
+            said: Beginning::new(),
             lines: 0,
             guests: None,
             quits: false,
+            explains,
         })
     }
 
@@ -99,6 +112,9 @@ impl<
         if self.quits {
             return Ok(true);
         }
+        if self.guests.is_none() && self.input == Input::Ended {
+            return Err(self.without_screen(errors));
+        }
         let ready = &mut self.ready;
         match &mut self.guests {
             Some(guests) => {
@@ -110,9 +126,6 @@ impl<
                     ready,
                     output,
                 )
-            }
-            None if self.input == Input::Ended => {
-                Err(Failure::BadLine(self.lines.saturating_add(1)))
             }
             None => Ok(false),
         }

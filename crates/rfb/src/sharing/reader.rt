@@ -203,8 +203,8 @@ impl OwnerReader {
     }
 }
 
-// How many bytes there are before the first newline, or else all.
-fn length_of_line(bytes: &[u8]) -> usize
+/// How many bytes there are before the first newline, or else all.
+pub fn length_of_line(bytes: &[u8]) -> usize
     ensures bound { result ≤ length bytes.now }
     ensures before { IsOneLine (take result bytes.now) }
     ensures newline { result < length bytes.now

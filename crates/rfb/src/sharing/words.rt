@@ -13,7 +13,8 @@ use crate::script::{
 use crate::sharing::line::OwnerLine;
 use rfb_picture::Rect;
 
-const SCREEN: &[u8] = b"screen";
+/// The word that the first line begins with.
+pub const SCREEN: &[u8] = b"screen";
 
 const FILL: &[u8] = b"fill";
 
@@ -21,13 +22,14 @@ const COPY: &[u8] = b"copy";
 
 const HINT: &[u8] = b"hint";
 
-const SCROLL: &[u8] = b"scroll";
+// The words that no line of a script begins with.
+pub const SCROLL: &[u8] = b"scroll";
 
-const PIXELS: &[u8] = b"pixels";
+pub const PIXELS: &[u8] = b"pixels";
 
-const END: &[u8] = b"end";
+pub const END: &[u8] = b"end";
 
-const QUIT: &[u8] = b"quit";
+pub const QUIT: &[u8] = b"quit";
 
 const MINUS: u8 = b'-';
 
@@ -111,8 +113,8 @@ fn read_scroll(words: &[&[u8]]) -> Option<(Rect, i16, i16)>
     Some((read_rect(x, y, w, h)?, read_shift(dx)?, read_shift(dy)?))
 }
 
-// A number up to 32,767, with a minus before it or without.
-fn read_shift(word: &[u8]) -> Option<i16>
+/// A number up to 32,767, with a minus before it or without.
+pub fn read_shift(word: &[u8]) -> Option<i16>
     ensures { MatchOption result ((by : ℤ) → ¬ (IsShift word.now by)) (IsShift word.now) }
 {
     match word.split_first() {

@@ -47,7 +47,8 @@ pub const OF_SLOT: &[Form] = &[
     OF_SETTLE,
 ];
 
-const OF_SCREEN: Form = Form {
+/// The lines that a share's owner has too.
+pub const OF_SCREEN: Form = Form {
     keyword: SCREEN,
     kinds: &[Kind::Side, Kind::Side],
     least: 2,
@@ -103,7 +104,8 @@ const OF_FOREIGN: Form = Form {
     least: 2,
 };
 
-const OF_FILL: Form = Form {
+/// The same.
+pub const OF_FILL: Form = Form {
     keyword: FILL,
     kinds: &[
         Kind::Number,
@@ -115,7 +117,8 @@ const OF_FILL: Form = Form {
     least: 5,
 };
 
-const OF_COPY: Form = Form {
+/// The same.
+pub const OF_COPY: Form = Form {
     keyword: COPY,
     kinds: &[
         Kind::Number,
@@ -128,7 +131,8 @@ const OF_COPY: Form = Form {
     least: 6,
 };
 
-const OF_HINT: Form = Form {
+/// The same.
+pub const OF_HINT: Form = Form {
     keyword: HINT,
     kinds: &[
         Kind::Number,

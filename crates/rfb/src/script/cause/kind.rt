@@ -6,6 +6,7 @@ use crate::script::cause::reason::Reason;
 use crate::script::hub::{SHARED, SOLE, read_slot};
 use crate::script::number::{read_count, read_number};
 use crate::script::words::{read_colour, read_encoding, read_format, read_side};
+use crate::sharing::words::read_shift;
 
 // The most hexadecimal digits of foreign bytes.
 const HEX_MAX: usize = 128;
@@ -30,6 +31,10 @@ pub enum Kind {
     Join,
     /// Foreign bytes.
     Hex,
+    /// How far something moves.
+    Shift,
+    /// A viewer of a share.
+    Seat,
 }
 
 /// Which of the words after a keyword is not what it is to be, or that there are too few or too
@@ -59,9 +64,10 @@ fn is_of_kind(word: &[u8], kind: Kind) -> bool {
         Kind::Format => read_format(word).is_some(),
         Kind::Encoding => read_encoding(word).is_some(),
         Kind::Request => word == FULL || word == INCREMENTAL,
-        Kind::Slot => read_slot(word).is_some(),
+        Kind::Slot | Kind::Seat => read_slot(word).is_some(),
         Kind::Join => word == SHARED || word == SOLE,
         Kind::Hex => is_hex(word),
+        Kind::Shift => read_shift(word).is_some(),
     }
 }
 
@@ -86,5 +92,7 @@ pub fn refusal_of(kind: Kind) -> &'static str {
         Kind::Slot => "is no slot: one digit",
         Kind::Join => "is neither `shared` nor `sole`",
         Kind::Hex => "is no 1 to 64 bytes of two hexadecimal digits each",
+        Kind::Shift => "is no number from -32767 to 32767",
+        Kind::Seat => "is no seat from 0 to 7",
     }
 }

@@ -21,6 +21,12 @@ pub enum Reason<'a> {
     TooMany(usize, &'static str),
     /// Only the first number of words follows it, and the second is due.
     TooFew(usize, usize, &'static str),
+    /// A rectangle leaves the screen, whose width and height these are.
+    Outside(u16, u16),
+    /// Only the first number of bytes of pixels follows it, and the second is due.
+    FewPixels(u64, u64),
+    /// As many bytes of pixels follow it, and then no newline.
+    ManyPixels(u64),
 }
 
 impl fmt::Display for Reason<'_> {
@@ -46,6 +52,16 @@ impl fmt::Display for Reason<'_> {
                     f,
                     " has too few words after its {place}: {count} of {least}"
                 )
+            }
+            Reason::Outside(width, height) => write!(
+                f,
+                " has a rectangle that leaves the screen, {width} by {height}"
+            ),
+            Reason::FewPixels(count, due) => {
+                write!(f, ": {count} bytes of pixels follow it, and {due} are due")
+            }
+            Reason::ManyPixels(due) => {
+                write!(f, ": no newline follows its {due} bytes of pixels")
             }
         }
     }

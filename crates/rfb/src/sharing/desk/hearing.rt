@@ -6,7 +6,6 @@ use crate::sharing::desk::Desk;
 use crate::sharing::input::{INPUT, Input};
 use crate::sharing::line::Order;
 use crate::sharing::ready::OWNER;
-use crate::sharing::telling::tell_refusal;
 use mio::Interest;
 use mio::unix::SourceFd;
 use std::io::{ErrorKind, Read, Write};
@@ -80,6 +79,7 @@ impl<
         let mut rest = bytes;
         while !rest.is_empty() && !self.quits {
             let taken = self.reader.feed(rest);
+            self.said.take(&rest[..taken.used]);
             rest = &rest[taken.used..];
             if let Some(order) = taken.order {
                 self.follow(order, options, output, errors)?;
@@ -100,7 +100,9 @@ impl<
             return Ok(());
         };
         if self.guests.is_none() && matches!(order, Order::Refused(_)) {
-            return Err(Failure::BadLine(self.lines.saturating_add(1)));
+            self.lines = self.lines.saturating_add(1);
+            self.explain(errors);
+            return Err(Failure::BadLine(self.lines));
         }
         self.follow(order, options, output, errors)
     }
@@ -115,9 +117,9 @@ impl<
     ) -> Result<(), Failure> {
         self.lines = self.lines.saturating_add(1);
         if let Some(refusal) = self.obey(order, options, output)? {
-            // One that can't be written changes nothing.
-            let _ = tell_refusal(errors, self.lines, refusal);
+            self.report(refusal, errors);
         }
+        self.said.clear();
         Ok(())
     }
 }
