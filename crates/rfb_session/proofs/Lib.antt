@@ -64,3 +64,4 @@ pub mod NetpbmNumberLemmas
 pub mod NetpbmHeadLemmas
 pub mod NetpbmPlacesLemmas
 pub mod NetpbmFileLemmas
+pub mod NetpbmWrittenLemmas

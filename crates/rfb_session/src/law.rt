@@ -28,6 +28,7 @@ ghost use Rattle.rfb_session.specs.InFlight.{AreMade, Flight, Flies, first_fligh
 ghost use Rattle.rfb_session.specs.InFlight.{ReachesViewer, ReachesServer};
 
 pub mod messages;
+pub mod pictures;
 pub mod seats;
 pub mod streams;
 pub mod viewers;

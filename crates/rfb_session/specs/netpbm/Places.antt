@@ -1,6 +1,6 @@
 -- The places of a portable pixmap: row after row from the top, each from the left, and of each the
 -- red, the green and the blue.
-use Rattle.std.specs.Prelude.{◌≡◌, ◌<◌, ◌+◌, ◌*◌, ◌⊎◌, ℕ, List, [], ◌∷◌, length}
+use Rattle.std.specs.Prelude.{◌≡◌, ◌<◌, ◌+◌, ◌*◌, ◌⊎◌, ⊤, ℕ, List, [], ◌∷◌, length}
 use Rattle.rfb_pixel.specs.declared.colour.Colour.{Colour}
 use Rattle.rfb_pixel.specs.Format.{colour_of_bytes}
 use Rattle.rfb_session.specs.declared.netpbm.fault.Flaw.{Flaw}
@@ -42,3 +42,13 @@ abbrev pub HasPlacesFlaw : Sample → ℕ → List ℕ → Flaw → Type 0
 HasPlacesFlaw sample count bytes flaw =
     ((flaw ≡ TooShort) × (length bytes < size_of sample * count))
     ⊎ ((flaw ≡ TooLong) × (size_of sample * count < length bytes))
+
+-- a component has 16 bits
+pub record IsColour (c : Colour) : Type 0 where
+  pub red : c.r < 65536
+  pub green : c.g < 65536
+  pub blue : c.b < 65536
+
+abbrev pub AreColours : List Colour → Type 0
+AreColours [] = ⊤
+AreColours (c ∷ cs) = IsColour c × AreColours cs
