@@ -177,6 +177,22 @@ def a_loop_without_a_connection_is_said():
              b" Too many open files (os error 24)\n" + DEVICE)
 
 
+# ---- scripts that end without a picture
+
+NOT_READY = b"rfb: the viewer has no picture yet: it has one once its handshake is done, which " \
+    b"`settle` delivers\nfault 25 NotReady\n"
+NO_SUCH_SLOT = b"rfb: there is no viewer in the slot that the last line names\n" \
+    b"fault 32 NoSuchSlot\n"
+JOINED = b"hub 2 1\njoin 0 shared rgb888 raw\n"
+
+
+def what_a_script_lacks_is_said():
+    for words in ["script"], ["loop"]:
+        ends([*words, "--explain"], b"screen 2 1\n", 1, b"", NOT_READY)
+    ends(["script", "--explain"], JOINED + b"show 0\n", 1, b"", NOT_READY)
+    ends(["script", "--explain"], JOINED + b"show 1\n", 1, b"", NO_SUCH_SLOT)
+
+
 # ---- viewers that are served
 
 FORMAT_THAT_CANNOT_BE = "the viewer asked for a pixel format that cannot be: "
@@ -220,6 +236,15 @@ def a_screen_for_a_viewer_without_memory_is_said():
         f"rfb: there is no memory for the viewer\n{name} was let go\n").encode())
 
 
+def a_viewer_that_cannot_be_answered_is_said():
+    """Its connection takes the last descriptor, and to write to it takes one more."""
+    port = free_port()
+    run = Run(["serve", "--explain", f"--port={port}"], before=limited(resource.RLIMIT_NOFILE, 5))
+    name, _ = visits(port, b"")
+    run.ends(0, DEVICE, (f"rfb: listening on 127.0.0.1:{port}\n{name} has connected\n"
+                         f"{name} was let go: Too many open files (os error 24)\n").encode())
+
+
 ROWS = [
     what_is_wrong_with_a_handshake_is_said,
     what_is_wrong_with_a_message_is_said,
@@ -230,8 +255,10 @@ ROWS = [
     an_input_that_cannot_be_read_is_said,
     what_a_view_fails_at_is_said,
     a_loop_without_a_connection_is_said,
+    what_a_script_lacks_is_said,
     what_a_client_does_wrong_is_said_and_the_next_has_its_turn,
     a_screen_for_a_viewer_without_memory_is_said,
+    a_viewer_that_cannot_be_answered_is_said,
 ]
 
 
