@@ -1,4 +1,5 @@
-"""Runs of the built program, streams that fail and peers, for `words.py` and `sentences.py`."""
+"""Runs of the built program, streams that fail and peers, for `words.py`, `sentences.py` and
+`shares.py`."""
 
 import contextlib
 import os
@@ -32,6 +33,15 @@ def free_port(host="127.0.0.1"):
     with socket.socket() as taken:
         taken.bind((host, 0))
         return taken.getsockname()[1]
+
+
+def wait_for(is_so, what, limit=20):
+    end = time.time() + limit
+    while time.time() < end:
+        if is_so():
+            return
+        time.sleep(0.005)
+    raise AssertionError(what)
 
 
 class Run:

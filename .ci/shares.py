@@ -18,23 +18,10 @@ import threading
 import time
 import traceback
 
+from calls import free_port, wait_for
+
 PROGRAM = os.path.abspath(sys.argv[1])
 MANY = int(os.environ.get("MANY", "400"))
-
-
-def free_port():
-    with socket.socket() as taken:
-        taken.bind(("127.0.0.1", 0))
-        return taken.getsockname()[1]
-
-
-def wait_for(is_so, what, limit=10):
-    end = time.time() + limit
-    while time.time() < end:
-        if is_so():
-            return
-        time.sleep(0.005)
-    raise AssertionError(what)
 
 
 class Share:

@@ -22,7 +22,7 @@ import time
 from concurrent.futures import ThreadPoolExecutor
 
 from calls import (CLIENT, DEVICE, HELLO, SERVER, SHOWN, TRUNCATED, Run, Server, connected, ends,
-                   failing, folder, free_port, halting, judged, limited, visits)
+                   failing, folder, free_port, halting, judged, limited, visits, wait_for)
 
 # Another address of this machine: all that begin with 127 are.
 OTHER = "127.%d.%d.%d" % tuple(random.randrange(1, 255) for _ in range(3))
@@ -623,15 +623,6 @@ def a_server_that_ends_is_explained():
         server = Server(sent)
         server.shows(["--port", str(server.port), "--explain", *words], status, output,
                      ENDLESS + told)
-
-
-def wait_for(is_so, what, limit=20):
-    end = time.time() + limit
-    while time.time() < end:
-        if is_so():
-            return
-        time.sleep(0.01)
-    raise AssertionError(what)
 
 
 def is_stopped(run):
