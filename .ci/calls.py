@@ -1,8 +1,8 @@
-"""Runs of the built program, streams that fail and peers, for `words.py`, `sentences.py` and
-`shares.py`."""
+"""Runs of the built program, streams that fail and peers, for the scripts beside this one."""
 
 import contextlib
 import os
+import random
 import resource
 import signal
 import socket
@@ -27,6 +27,20 @@ HELLO = b"RFB 003.008\n" + bytes.fromhex(
 # One update: a rectangle of both places, Raw, of the colours (0, 0, 0) and (4, 0, 2).
 SERVER = HELLO + bytes.fromhex("00000001 0000 0000 0002 0001 00000000 00000000 02000400")
 SHOWN = b"P6\n2 1\n65535\n" + bytes.fromhex("000000000000 040400000202")
+# One update more of SERVER: the right place, Raw, of the colour (255, 128, 1).
+MORE = bytes.fromhex("00000001 0001 0000 0001 0001 00000000 0180FF00")
+SHOWN_LATER = b"P6\n2 1\n65535\n" + bytes.fromhex("000000000000 FFFF80800101")
+BLACK = b"P6\n2 1\n65535\n" + bytes(12)
+
+# Another address of this machine: all that begin with 127 are.
+OTHER = "127.%d.%d.%d" % tuple(random.randrange(1, 255) for _ in range(3))
+
+# What is said of a server and of a recording.
+NO_VERSION = b"rfb: in place of a version came `%b`: no server of RFB begins like that\n"
+
+
+def that_is_at(byte, updates=0):
+    return b"rfb: that is at byte %d; whole updates before it: %d\n" % (byte, updates)
 
 
 def free_port(host="127.0.0.1"):

@@ -1,0 +1,208 @@
+#!/usr/bin/env python3
+"""Servers that are viewed: by what they are named, what they are asked, and how they fail.
+
+    .ci/viewed.py PROGRAM..
+
+Each row runs a program beside a server of this file's, on 127.0.0.1 or another address that a
+machine has for itself, and compares its status and both outputs. The last line is 'N passed, M
+failed'.
+"""
+
+import contextlib
+import signal
+import socket
+import struct
+import sys
+import time
+from concurrent.futures import ThreadPoolExecutor
+
+from calls import (BLACK, CLIENT, DEVICE, HELLO, MORE, NO_VERSION, OTHER, SERVER, SHOWN, TRUNCATED,
+                   Run, Server, connected, ends, judged, wait_for)
+
+# ---- servers that are viewed
+
+def a_server_is_named_by_a_word_or_by_its_host_and_its_port():
+    for words, port in (
+            ([OTHER], 5900),
+            ([OTHER + ":0"], 5900),
+            ([OTHER + ":99"], 5999),
+            ([OTHER + "::65535"], 65535),
+            (["--host", OTHER], 5900)):
+        Server(host=OTHER, port=port).shows(words)
+    server = Server(host=OTHER)
+    server.shows(["--host=" + OTHER, f"--port={server.port}"])
+    server = Server()
+    server.shows([f"::{server.port}"])
+    server = Server()
+    server.shows(["--port", str(server.port)])
+    for display in range(10, 100):
+        try:
+            server = Server(port=5900 + display)
+        except OSError:
+            continue
+        server.shows([f":{display}"])
+        break
+
+
+def a_view_asks_for_what_its_words_say():
+    """A version, None, a shared screen, a format, encodings, and a request for both places."""
+    hello, request = CLIENT[:14], CLIENT[14:]
+    rgb888 = bytes.fromhex("00000000 20180001 00FF00FF00FF 100800 000000")
+    bgr233 = bytes.fromhex("00000000 08080001 000700070003 000306 000000")
+    server = Server()
+    raw = bytes.fromhex("02000001 00000000")
+    came = server.shows(["--port", str(server.port)])
+    assert came == hello + rgb888 + raw + request, came
+    server = Server(HELLO)
+    words = [f"--port={server.port}", "--host", "localhost", "--updates=4294967295", "--format",
+             "bgr233", "--encodings", "hextile,raw,hextile,copyrect", "--record", "--partial",
+             "--timeout=4294967295"]
+    four = bytes.fromhex("02000004 00000005 00000000 00000005 00000001")
+    came = server.shows(words, 1, HELLO, TRUNCATED)
+    assert came == hello + bgr233 + four + request, came
+
+
+def a_view_that_is_cut_short_shows_nothing():
+    for count in 0, 45, 68:
+        server = Server(SERVER[:count])
+        server.shows(["--port", str(server.port)], 1, b"", TRUNCATED)
+        server = Server(SERVER[:count])
+        server.shows(["--port", str(server.port), "--record"], 1, SERVER[:count], TRUNCATED)
+    for count, shown in (len(SERVER), SHOWN), (40, b""):
+        server = Server(SERVER[:count])
+        words = ["--port", str(server.port), "--updates", "2", "--partial"]
+        server.shows(words, 1, shown, TRUNCATED)
+
+
+def a_refused_connection_is_tried_again():
+    server = Server(late=1)
+    server.shows(["--port", str(server.port), "--timeout", "5"])
+
+
+ENDLESS = b"rfb: it waits as long as it takes: there is no --timeout\n"
+CONNECTED = b"rfb: connected to rfb, 2 by 1\n"
+UPDATED = CONNECTED + b"rfb: updates so far: 1\n"
+
+
+def a_server_that_ends_is_explained():
+    for words, sent, status, output, told in (
+            ([], SERVER, 0, SHOWN, UPDATED),
+            (["--record"], SERVER, 0, SERVER, UPDATED),
+            ([], HELLO[:-7] + bytes(4), 1, b"",
+             b"rfb: connected to a screen without a name, 2 by 1\n"
+             b"rfb: the server's bytes end too early, after 42 of them\n" + TRUNCATED),
+            ([], b"220 hi\r\n", 1, b"", NO_VERSION % b"220 hi\\x0d\\x0a" + TRUNCATED),
+            (["--record"], b"220 hi\r\n", 1, b"220 hi\r\n",
+             NO_VERSION % b"220 hi\\x0d\\x0a" + TRUNCATED),
+            ([], b"RFB 00", 1, b"",
+             b"rfb: the server's bytes end too early, after 6 of them\n" + TRUNCATED),
+            ([], b"RFB 003.008\n\0" + (3000).to_bytes(4, "big") + b"A" * 3000, 1, b"",
+             b"rfb: the server refuses the connection, and says `" + b"A" * 1024 + b"`\n"
+             b"fault 19 Refused\n")):
+        server = Server(sent)
+        server.shows(["--port", str(server.port), "--explain", *words], status, output,
+                     ENDLESS + told)
+
+
+def is_stopped(run):
+    with open(f"/proc/{run.run.pid}/stat") as stat:
+        return stat.read().rpartition(")")[2].split()[0] == "T"
+
+
+def an_answer_that_cannot_be_sent_is_explained():
+    """The server is gone before its bytes are read: a read has them, and then a write fails."""
+    for words, output in ([], b""), (["--record"], None):
+        with socket.socket() as listener:
+            listener.bind(("127.0.0.1", 0))
+            listener.listen()
+            listener.settimeout(20)
+            port = listener.getsockname()[1]
+            run = Run(["view", "--port", str(port), "--explain", *words])
+            with listener.accept()[0] as line:
+                run.run.send_signal(signal.SIGSTOP)
+                wait_for(lambda: is_stopped(run), "it does not stop")
+                line.sendall(HELLO)
+                # It is reset where it is closed.
+                line.setsockopt(socket.SOL_SOCKET, socket.SO_LINGER, struct.pack("ii", 1, 0))
+        run.run.send_signal(signal.SIGCONT)
+        run.ends(1, output, ENDLESS + CONNECTED + b"rfb: sending to the server failed:"
+                 b" Connection reset by peer (os error 104)\n" + DEVICE)
+
+
+@contextlib.contextmanager
+def waited_for():
+    """A view that waits for a second, and the line to it."""
+    with socket.socket() as listener:
+        listener.bind(("127.0.0.1", 0))
+        listener.listen()
+        listener.settimeout(20)
+        run = Run(["view", "--port", str(listener.getsockname()[1]), "--timeout", "1", "--explain"])
+        with listener.accept()[0] as line:
+            yield run, line
+
+
+def a_server_that_is_too_slow_is_explained():
+    for sent, told in (
+            (b"", b"rfb: the time of --timeout is up: 0 bytes had come\n"),
+            (b"R", b"rfb: the time of --timeout is up: 1 byte had come\n"),
+            (b"+OK\r\n", b"rfb: the time of --timeout is up: 5 bytes had come\n"
+             + NO_VERSION % b"+OK\\x0d\\x0a"),
+            (SERVER[:65], CONNECTED + b"rfb: the time of --timeout is up: 65 bytes had come\n")):
+        with waited_for() as (run, line):
+            line.sendall(sent)
+            run.ends(1, b"", told + DEVICE)
+    # A byte each 0.2 seconds: it does not say that no more came.
+    with waited_for() as (run, line):
+        sent = 0
+        while run.run.poll() is None:
+            with contextlib.suppress(OSError):
+                line.sendall(HELLO[sent:sent + 1])
+                sent += 1
+            time.sleep(0.2)
+        told = [b"rfb: the time of --timeout is up: %d byte%b had come\n"
+                % (count, b"s" * (count != 1)) + DEVICE for count in range(sent + 1)]
+        run.ends(1, b"")
+        assert run.told(2) in told, run.told(2)
+
+
+
+# What a server sends before it is silent, words, what is shown, and what is said before the end.
+SILENT = [
+    (b"", [], b"", b""),
+    (HELLO, [], b"", CONNECTED),
+    (SERVER[:65], [], b"", CONNECTED),
+    (SERVER[:65], ["--partial"], BLACK, CONNECTED),
+    (SERVER, ["--updates=2"], b"", UPDATED),
+    (SERVER + MORE[:18], ["--updates=2", "--partial"], SHOWN, UPDATED),
+    (HELLO, ["--record"], HELLO, CONNECTED),
+]
+
+
+def a_view_of_a_silent_server_ends_when_its_time_is_up():
+    def is_viewed(row):
+        sent, words, shown, told = row
+        begun, server = time.time(), Server(sent, is_silent=True)
+        up = b"rfb: the time of --timeout is up: %d bytes had come\n" % len(sent)
+        server.shows(["--explain", "--timeout=1", f"--port={server.port}", *words], 1, shown,
+                     told + up + DEVICE)
+        lasts = time.time() - begun
+        assert 1 <= lasts < 5, (row, lasts)
+
+    with ThreadPoolExecutor(len(SILENT)) as views:
+        list(views.map(is_viewed, SILENT))
+
+
+ROWS = [
+    a_server_is_named_by_a_word_or_by_its_host_and_its_port,
+    a_view_asks_for_what_its_words_say,
+    a_view_that_is_cut_short_shows_nothing,
+    a_server_that_ends_is_explained,
+    an_answer_that_cannot_be_sent_is_explained,
+    a_server_that_is_too_slow_is_explained,
+    a_refused_connection_is_tried_again,
+    a_view_of_a_silent_server_ends_when_its_time_is_up,
+]
+
+
+if __name__ == "__main__":
+    sys.exit(judged(ROWS, sys.argv[1:]))
