@@ -49,15 +49,6 @@ def free_port(host="127.0.0.1"):
         return taken.getsockname()[1]
 
 
-def wait_for(is_so, what, limit=20):
-    end = time.time() + limit
-    while time.time() < end:
-        if is_so():
-            return
-        time.sleep(0.005)
-    raise AssertionError(what)
-
-
 class Run:
     """A run of the program that has begun. Its input and both outputs are files."""
 
@@ -188,6 +179,22 @@ def connected(port, host="127.0.0.1"):
         except ConnectionRefusedError:
             time.sleep(0.01)
     raise AssertionError(f"nothing listens on {host}, port {port}")
+
+
+@contextlib.contextmanager
+def viewing(*words):
+    """A view of a server that has come to it, and the server's end."""
+    with socket.create_server(("127.0.0.1", 0)) as listener:
+        listener.settimeout(20)
+        run = Run(["view", "--explain", f"--port={listener.getsockname()[1]}", *words])
+        with listener.accept()[0] as line:
+            yield run, line
+
+
+def halts(run):
+    """Stops a run, until it gets SIGCONT."""
+    run.run.send_signal(signal.SIGSTOP)
+    os.waitid(os.P_PID, run.run.pid, os.WSTOPPED | os.WNOWAIT)
 
 
 def breaks(line):

@@ -116,15 +116,12 @@ def a_recording_that_is_played_says_of_what_it_is():
 
 def a_long_recording_is_explained_as_far_as_it_is_kept():
     text = b"\x03\0\0\0" + (17000000).to_bytes(4, "big") + bytes(17000000)
-    run = Run(["play", "--explain"], SERVER + text + b"\xff")
-    run.ends(1, b"")
-    told = run.told(2).split(b"\n", 2)
-    assert told[0] == b"rfb: this is a recording of rfb, 2 by 1", told
-    assert told[1].endswith(b" bytes came, and more are read"), told
-    assert told[2] == (
-        b"rfb: a message has type 255, which no server has in RFC 6143\n"
-        b"rfb: that is after byte 16777216; whole updates up to there: 1\n"
-        + ANOTHER_FORMAT + b"fault 7 UnknownMessage\n"), told
+    ends(["play", "--explain"], SERVER + text + b"\xff", 1, b"",
+         b"rfb: this is a recording of rfb, 2 by 1\n"
+         b"rfb: 16777216 bytes came, and more are read\n"
+         b"rfb: a message has type 255, which no server has in RFC 6143\n"
+         b"rfb: that is after byte 16777216; whole updates up to there: 1\n"
+         + ANOTHER_FORMAT + b"fault 7 UnknownMessage\n")
 
 
 # ---- the lines of a share's owner

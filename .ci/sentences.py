@@ -8,16 +8,13 @@ Each row compares all of standard error. Bytes are made by functions named after
 The last line is 'N passed, M failed'.
 """
 
-import contextlib
-import os
 import resource
-import signal
 import socket
 import struct
 import sys
 
-from calls import (CLIENT, DEVICE, HELLO, SERVER, Run, Server, breaks, ends, failing, folder,
-                   free_port, judged, limited, takes, visits)
+from calls import (CLIENT, DEVICE, HELLO, SERVER, Run, Server, breaks, connected, ends, failing,
+                   folder, free_port, judged, limited, takes, viewing, visits)
 from messages import (VERSION, client_init, hextile, message, rectangle, rre, security,
                       security_of_33, security_result, server_init, set_pixel_format, texted)
 
@@ -109,16 +106,6 @@ def a_screen_without_memory_is_said():
         b"rfb: that is at byte 42; whole updates before it: 0\nfault 30 NoMemory\n")
 
 
-def after_16_megabytes_no_byte_is_named():
-    text = struct.pack(">3xI", 1 << 24) + bytes(1 << 24)
-    ends(["play", "--explain"], message(3, text) + b"M", 1, b"",
-         b"rfb: this is a recording of rfb, 4 by 4\n"
-         b"rfb: 16777216 bytes came, and more are read\n"
-         b"rfb: a message has type 77, which no server has in RFC 6143\n"
-         b"rfb: that is after byte 16777216; whole updates up to there: 1\n" + FORMAT
-         + b"fault 7 UnknownMessage\n")
-
-
 # ---- streams and connections that fail
 
 RESET = b": Connection reset by peer (os error 104)\n"
@@ -144,15 +131,6 @@ def an_input_that_cannot_be_read_is_said():
                 1, b"", told + unread + RESET + DEVICE)
 
 
-@contextlib.contextmanager
-def viewing(*words):
-    """A view of a server that has come to it, and the server's end."""
-    with socket.create_server(("127.0.0.1", 0)) as listener:
-        listener.settimeout(20)
-        run = Run(["view", "--explain", f"--port={listener.getsockname()[1]}", *words])
-        yield run, listener.accept()[0]
-
-
 def what_a_view_fails_at_is_said():
     with viewing() as (run, line):
         line.sendall(HELLO)
@@ -160,14 +138,6 @@ def what_a_view_fails_at_is_said():
         takes(line, 52)
         breaks(line)
         run.ends(1, b"", ENDLESS + VIEWED + b"rfb: reading failed" + RESET + DEVICE)
-    with viewing() as (run, line):
-        # The connection has broken before the viewer writes its version.
-        run.run.send_signal(signal.SIGSTOP)
-        os.waitid(os.P_PID, run.run.pid, os.WSTOPPED | os.WNOWAIT)
-        line.sendall(SERVER)
-        breaks(line)
-        run.run.send_signal(signal.SIGCONT)
-        run.ends(1, b"", ENDLESS + VIEWED + b"rfb: sending to the server failed" + RESET + DEVICE)
 
 
 def a_loop_without_a_connection_is_said():
@@ -251,7 +221,6 @@ ROWS = [
     each_security_type_is_named,
     each_encoding_is_named,
     a_screen_without_memory_is_said,
-    after_16_megabytes_no_byte_is_named,
     an_input_that_cannot_be_read_is_said,
     what_a_view_fails_at_is_said,
     a_loop_without_a_connection_is_said,

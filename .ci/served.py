@@ -17,7 +17,7 @@ import tempfile
 import time
 
 from calls import (CLIENT, DEVICE, HELLO, OTHER, SERVER, SHOWN, Run, connected, ends, free_port,
-                   judged, limited, visits)
+                   halts, judged, limited, visits)
 
 # ---- viewers that are served
 
@@ -113,8 +113,7 @@ def a_viewer_that_takes_nothing_in_time_is_let_go():
 def a_process_that_was_stopped_goes_on():
     def stops(run):
         time.sleep(0.3)
-        run.run.send_signal(signal.SIGSTOP)
-        time.sleep(0.1)
+        halts(run)
         run.run.send_signal(signal.SIGCONT)
         time.sleep(0.3)
 

@@ -18,10 +18,19 @@ import threading
 import time
 import traceback
 
-from calls import free_port, wait_for
+from calls import free_port
 
 PROGRAM = os.path.abspath(sys.argv[1])
 MANY = int(os.environ.get("MANY", "400"))
+
+
+def wait_for(is_so, what, limit=20):
+    end = time.time() + limit
+    while time.time() < end:
+        if is_so():
+            return
+        time.sleep(0.005)
+    raise AssertionError(what)
 
 
 class Share:

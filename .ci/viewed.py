@@ -10,14 +10,12 @@ failed'.
 
 import contextlib
 import signal
-import socket
-import struct
 import sys
 import time
 from concurrent.futures import ThreadPoolExecutor
 
 from calls import (BLACK, CLIENT, DEVICE, HELLO, MORE, NO_VERSION, OTHER, SERVER, SHOWN, TRUNCATED,
-                   Run, Server, connected, ends, judged, wait_for)
+                   Server, breaks, connected, ends, halts, judged, takes, viewing)
 
 # ---- servers that are viewed
 
@@ -104,55 +102,28 @@ def a_server_that_ends_is_explained():
                      ENDLESS + told)
 
 
-def is_stopped(run):
-    with open(f"/proc/{run.run.pid}/stat") as stat:
-        return stat.read().rpartition(")")[2].split()[0] == "T"
-
-
 def an_answer_that_cannot_be_sent_is_explained():
-    """The server is gone before its bytes are read: a read has them, and then a write fails."""
+    """The connection breaks before the viewer reads: a read has bytes, then a write fails."""
     for words, output in ([], b""), (["--record"], None):
-        with socket.socket() as listener:
-            listener.bind(("127.0.0.1", 0))
-            listener.listen()
-            listener.settimeout(20)
-            port = listener.getsockname()[1]
-            run = Run(["view", "--port", str(port), "--explain", *words])
-            with listener.accept()[0] as line:
-                run.run.send_signal(signal.SIGSTOP)
-                wait_for(lambda: is_stopped(run), "it does not stop")
-                line.sendall(HELLO)
-                # It is reset where it is closed.
-                line.setsockopt(socket.SOL_SOCKET, socket.SO_LINGER, struct.pack("ii", 1, 0))
-        run.run.send_signal(signal.SIGCONT)
-        run.ends(1, output, ENDLESS + CONNECTED + b"rfb: sending to the server failed:"
-                 b" Connection reset by peer (os error 104)\n" + DEVICE)
-
-
-@contextlib.contextmanager
-def waited_for():
-    """A view that waits for a second, and the line to it."""
-    with socket.socket() as listener:
-        listener.bind(("127.0.0.1", 0))
-        listener.listen()
-        listener.settimeout(20)
-        run = Run(["view", "--port", str(listener.getsockname()[1]), "--timeout", "1", "--explain"])
-        with listener.accept()[0] as line:
-            yield run, line
+        with viewing(*words) as (run, line):
+            halts(run)
+            line.sendall(HELLO)
+            breaks(line)
+            run.run.send_signal(signal.SIGCONT)
+            run.ends(1, output, ENDLESS + CONNECTED + b"rfb: sending to the server failed:"
+                     b" Connection reset by peer (os error 104)\n" + DEVICE)
 
 
 def a_server_that_is_too_slow_is_explained():
     for sent, told in (
-            (b"", b"rfb: the time of --timeout is up: 0 bytes had come\n"),
             (b"R", b"rfb: the time of --timeout is up: 1 byte had come\n"),
             (b"+OK\r\n", b"rfb: the time of --timeout is up: 5 bytes had come\n"
-             + NO_VERSION % b"+OK\\x0d\\x0a"),
-            (SERVER[:65], CONNECTED + b"rfb: the time of --timeout is up: 65 bytes had come\n")):
-        with waited_for() as (run, line):
+             + NO_VERSION % b"+OK\\x0d\\x0a")):
+        with viewing("--timeout=1") as (run, line):
             line.sendall(sent)
             run.ends(1, b"", told + DEVICE)
     # A byte each 0.2 seconds: it does not say that no more came.
-    with waited_for() as (run, line):
+    with viewing("--timeout=1") as (run, line):
         sent = 0
         while run.run.poll() is None:
             with contextlib.suppress(OSError):
@@ -163,7 +134,6 @@ def a_server_that_is_too_slow_is_explained():
                 % (count, b"s" * (count != 1)) + DEVICE for count in range(sent + 1)]
         run.ends(1, b"")
         assert run.told(2) in told, run.told(2)
-
 
 
 # What a server sends before it is silent, words, what is shown, and what is said before the end.
