@@ -23,7 +23,8 @@ pub struct ServeOptions<'a> {
     pub screen: ScreenChoice<'a>,
     /// How many connections are served, one after another.
     pub connections: u64,
-    /// If there is a number, a client that sends nothing for that many seconds is let go.
+    /// If there is a number, a client that sends nothing for that many seconds is let go, and so is
+    /// one that takes nothing of what is written to it.
     pub timeout: Option<u32>,
 }
 
