@@ -12,7 +12,7 @@ use Rattle.rfb_viewer.specs.declared.viewer.Viewer.{Viewer}
 use Rattle.rfb_viewer.specs.ServerBytes.{ServerAt}
 use Rattle.rfb_viewer.specs.Viewer.{ViewerState}
 use Rattle.rfb_viewer.specs.Calls.{call_refusal, call_refused, request_refused, request_refusal, format_refusal, requested, formatted}
-use Rattle.rfb_viewer.specs.Standing.{StandsFor as ViewerStandsFor, KeepsRest}
+use Rattle.rfb_viewer.specs.Standing.{StandsFor as ViewerStandsFor}
 use Rattle.rfb_session.specs.declared.latest.Latest.{Latest}
 use Rattle.rfb_session.specs.declared.told.Refused.{Refused}
 use Rattle.rfb_session.specs.declared.link.Link.{Link}
@@ -23,7 +23,8 @@ use Rattle.rfb_session.specs.InFlight.{Flight, Flies}
 use Rattle.rfb_session.specs.Network.{Network, IsReached}
 use Rattle.rfb_session.specs.Told.{refused_as}
 use Rattle.rfb_session.specs.LinkStanding.{LinkStandsFor}
-use Rattle.rfb_session.specs.LinkBytes.{OnlySends}
+use Rattle.rfb_session.specs.LinkBytes.{IsCalled, OnlySends, SendsMessage}
+use Rattle.rfb_session.specs.declared.told.Told.{Told}
 use Rattle.rfb_session.proofs.NetworkLemmas.{reached_holds}
 use Rattle.rfb_session.proofs.AnswerLemmas.{to_viewer_stream}
 use Rattle.rfb_session.proofs.SentLemmas.{called_flies, refusal_same}
@@ -62,12 +63,13 @@ flight_of e w n stands = record {
 
 -- it was taken
 taken : (e : Ends) (old new : Link) (n : Network) (refusal : Option CallFault) (v : ViewerState)
-    (message : ClientMessage) (bytes : List ℕ) (stands : LinkStandsFor e n.screen old n.link) →
+    (message : ClientMessage) (bytes : List ℕ) (call : ViewerState → ViewerState)
+    (stands : LinkStandsFor e n.screen old n.link) →
     None ≡ refusal → ViewerStandsFor e.viewing new.viewer v stands.carries.viewer_has →
     Flies e (calls None n.link v message)
     (record (flight_of e old n stands) { server_gets = old.to_server ++ bytes }) →
-    OnlySends old new bytes → Called e old new n refusal v message
-taken e old new n refusal v message bytes stands none viewer_is flies only = (
+    OnlySends call bytes old new → Called e old new n refusal v message
+taken e old new n refusal v message bytes call stands none viewer_is flies only = (
   record n { link = calls None n.link v message },
   (refl, ap (λ (o : Option CallFault). calls o n.link v message) none),
   record {
@@ -116,9 +118,15 @@ message_flies e w n stands v message bytes p reached ready same spelled =
     (stands.carries.viewer_has ++ w.to_viewer) n.link.to_viewer [])
     (sym same) stands.carries.flies.to_viewer) spelled
 
--- a viewer that is the same keeps all
-pub rest_same : (v : Viewer) → KeepsRest v v
-rest_same v = record { fault = refl; reason = refl; made = refl }
+-- a viewer that is the same is called so
+pub called_same : (v : Viewer) → IsCalled (λ s. s) v v
+called_same v = record {
+  stands = λ viewing s prefix stands. stands;
+  picture = refl;
+  damage = refl;
+  ended = refl;
+  rest = record { fault = refl; reason = refl; made = refl };
+}
 
 -- ---- each kind of call
 
@@ -126,15 +134,16 @@ rest_same v = record { fault = refl; reason = refl; made = refl }
 pub request_taken : (e : Ends) (old new : Link) (n : Network) (incremental : Bool) (rect : Rect)
     (bytes : List ℕ) (stands : LinkStandsFor e n.screen old n.link) → IsReached e n →
     None ≡ request_refusal n.link.viewer rect →
-    ViewerStandsFor e.viewing new.viewer (requested n.link.viewer) stands.carries.viewer_has →
     SpellsClientMessage (FramebufferUpdateRequest incremental rect) bytes →
-    OnlySends old new bytes →
+    OnlySends (λ s. requested s) bytes old new →
     Called e old new n (request_refusal n.link.viewer rect) (requested n.link.viewer)
     (FramebufferUpdateRequest incremental rect)
-request_taken e old new n incremental rect bytes stands reached none viewer_is spelled only =
+request_taken e old new n incremental rect bytes stands reached none spelled only =
+    let has = stands.carries in
     let ready = request_ready n.link.viewer.point n.link.viewer.outstanding rect none in
     taken e old new n _ (requested n.link.viewer) (FramebufferUpdateRequest incremental rect) bytes
-    stands none viewer_is
+    (λ s. requested s) stands none
+    (only.viewer.stands e.viewing n.link.viewer has.viewer_has has.viewer_is)
     (message_flies e old n stands (requested n.link.viewer)
     (FramebufferUpdateRequest incremental rect) bytes ready.0 reached ready.1 refl spelled) only
 
@@ -150,30 +159,30 @@ format_same e w n stands reached =
 pub format_taken : (e : Ends) (old new : Link) (n : Network) (form : PixelFormat)
     (bytes : List ℕ) (stands : LinkStandsFor e n.screen old n.link) → IsReached e n →
     None ≡ format_refusal n.link.viewer stands.carries.viewer_has →
-    ViewerStandsFor e.viewing new.viewer (formatted form n.link.viewer)
-    stands.carries.viewer_has →
-    SpellsClientMessage (SetPixelFormat form) bytes → OnlySends old new bytes →
+    SpellsClientMessage (SetPixelFormat form) bytes → OnlySends (λ s. formatted form s) bytes old new →
     Called e old new n (format_refusal n.link.viewer (begun n.link.at_viewer n.link.to_viewer))
     (formatted form n.link.viewer) (SetPixelFormat form)
-format_taken e old new n form bytes stands reached none viewer_is spelled only =
+format_taken e old new n form bytes stands reached none spelled only =
+    let has = stands.carries in
     let phase = (reached_holds e n reached).phase in
     let same = format_same e old n stands reached in
-    taken e old new n _ (formatted form n.link.viewer) (SetPixelFormat form) bytes stands
-    (none ∙ same) viewer_is
+    taken e old new n _ (formatted form n.link.viewer) (SetPixelFormat form) bytes
+    (λ s. formatted form s) stands (none ∙ same)
+    (only.viewer.stands e.viewing n.link.viewer has.viewer_has has.viewer_is)
     (format_flies e n.link (flight_of e old n stands) form bytes phase stands.carries.flies
     (sym none) spelled) only
 
 -- a message that waits for the end of the handshake alone
 pub message_taken : (e : Ends) (old new : Link) (n : Network) (message : ClientMessage)
     (bytes : List ℕ) → LinkStandsFor e n.screen old n.link → IsReached e n →
-    None ≡ call_refusal n.link.viewer → new.viewer ≡ old.viewer →
-    SpellsClientMessage message bytes → OnlySends old new bytes →
+    None ≡ call_refusal n.link.viewer →
+    SpellsClientMessage message bytes → OnlySends (λ s. s) bytes old new →
     Called e old new n (call_refusal n.link.viewer) n.link.viewer message
-message_taken e old new n message bytes stands reached none same spelled only =
+message_taken e old new n message bytes stands reached none spelled only =
+    let has = stands.carries in
     let ready = call_ready n.link.viewer.point none in
-    taken e old new n _ n.link.viewer message bytes stands none
-    (subst (λ (v : Viewer). ViewerStandsFor e.viewing v n.link.viewer stands.carries.viewer_has)
-    (sym same) stands.carries.viewer_is)
+    taken e old new n _ n.link.viewer message bytes (λ s. s) stands none
+    (only.viewer.stands e.viewing n.link.viewer has.viewer_has has.viewer_is)
     (message_flies e old n stands n.link.viewer message bytes ready.0 reached ready.1 refl spelled)
     only
 
@@ -194,3 +203,26 @@ pub is_refusal : (fault : CallFault) (told : Option Refused) → told ≡ refuse
 is_refusal NotReady told is none = cc
 is_refusal Busy told is none = cc
 is_refusal AreaOutside told is none = cc
+
+-- ---- what becomes of the bytes
+
+-- a call that was taken, whose message is the one that is promised
+pub sends_message : (message : ClientMessage) (made bytes : List ℕ) (call : ViewerState → ViewerState)
+    (refusal : Option CallFault) (old new : Link) (told : Told) → told.refused ≡ refused_as refusal →
+    made ≡ bytes → SpellsClientMessage message made → OnlySends call made old new →
+    SendsMessage message bytes call refusal old told new
+sends_message message made bytes call refusal old new told is same spelled only = record {
+  refused = is;
+  sent = λ taken. subst (λ (b : List ℕ). SpellsClientMessage message b × OnlySends call b old new) same
+      (spelled, only);
+}
+
+-- one that was refused
+pub sends_none : (message : ClientMessage) (bytes : List ℕ) (call : ViewerState → ViewerState)
+    (refusal : Option CallFault) (fault : CallFault) (old new : Link) (told : Told) →
+    told.refused ≡ refused_as (Some fault) → Some fault ≡ refusal →
+    SendsMessage message bytes call refusal old told new
+sends_none message bytes call refusal fault old new told answered is = record {
+  refused = answered ∙ ap (λ (o : Option CallFault). refused_as o) is;
+  sent = λ taken. absurd (is_refusal fault told.refused answered taken);
+}

@@ -2,6 +2,7 @@
 use Rattle.std.proofs.Common.{◌≡◌, ℕ, ◌+◌, List, [], ◌∷◌, ◌++◌, Option, refl, sym, ap, ◌∙◌, subst, append_assoc, append-nil, arith}
 use Rattle.rfb_wire.specs.stream.End.{FedBy}
 use Rattle.rfb_session.specs.EngineRun.{Step, Fed, Did, Driven, Runs, Ran, RunsOn, fed_at, fed_in, sent_in, updates_in}
+use Rattle.rfb_session.specs.EngineRun.{AreFed, FeedsOn, TakesNone}
 
 pub counted : (all b m n : ℕ) → all ≡ b + m → all + n ≡ b + (m + n)
 counted all b m n is = omega (arith, is)
@@ -18,6 +19,26 @@ module _ {E A : Type 0} where
   fed_append before (step ∷ more) =
       ap (λ (l : List ℕ). l ++ fed_at step) (fed_append before more)
       ∙ append_assoc (fed_in before) (fed_in more) (fed_at step)
+
+  pub are_fed : (before more : List (Step E A)) → AreFed before → AreFed more → AreFed (more ++ before)
+  are_fed before [] one two = one
+  are_fed before (Fed bytes event ∷ more) one two = are_fed before more one two
+  are_fed before (Did act ∷ more) one two = absurd two
+
+module _ {V : Type 0} where
+  -- an end that had failed took none of some bytes, and then none of more
+  pub takes_none_then : (old mid new : V) (fed sent more_fed more_sent : List ℕ) (n m : ℕ) →
+      TakesNone old fed sent n mid → TakesNone mid more_fed more_sent m new →
+      TakesNone old (fed ++ more_fed) (sent ++ more_sent) (n + m) new
+  takes_none_then old mid new fed sent more_fed more_sent n m one two = record {
+    unfed = ap (λ (l : List ℕ). l ++ more_fed) one.unfed ∙ two.unfed;
+    unsent = ap (λ (l : List ℕ). l ++ more_sent) one.unsent ∙ two.unsent;
+    untold = omega (arith, one.untold, two.untold);
+    same = two.same ∙ one.same;
+  }
+
+  pub takes_none : (end : V) → TakesNone end [] [] 0 end
+  takes_none end = record { unfed = refl; unsent = refl; untold = refl; same = refl }
 
 module _ {V C S P I F E A : Type 0} where
   pub runs_append : (d : Driven V C S P I F E A) (made : C) (s t u : S) (prefix mid rest : List ℕ)
@@ -104,6 +125,34 @@ module _ {V C S P I F E A : Type 0} where
         sent_is = refl;
         updates_are = only_one (d.updates (Fed bytes event));
       }
+
+  -- ---- the same, where nothing but feeding was done
+
+  pub feeds_none : (d : Driven V C S P I F E A) (end : V) → FeedsOn d end [] [] 0 end
+  unfolding ran_none
+  feeds_none d end = λ made s prefix stands. (ran_none d end made s prefix stands, tt)
+
+  pub feeds_then : (d : Driven V C S P I F E A) (old mid new : V) (fed sent more_fed more_sent : List ℕ)
+      (n m : ℕ) → FeedsOn d old fed sent n mid → FeedsOn d mid more_fed more_sent m new →
+      FeedsOn d old (fed ++ more_fed) (sent ++ more_sent) (n + m) new
+  feeds_then d old mid new fed sent more_fed more_sent n m one two = λ made s prefix stands.
+      let a = one made s prefix stands in
+      let b = two made a.0.state a.0.rest a.0.stands in (
+        joined d made s prefix mid new fed sent more_fed more_sent (fed ++ more_fed)
+            (sent ++ more_sent) n m (n + m) refl refl refl a.0 b.0,
+        are_fed a.0.steps b.0.steps a.1 b.1,
+      )
+
+  pub feeds_once : (d : Driven V C S P I F E A) (old new : V) (bytes : List ℕ) (event : Option E) →
+      ((made : C) → FedBy (d.machine made) (d.stands made) old bytes event new) →
+      FeedsOn d old bytes (d.sends (Fed bytes event)) (d.updates (Fed bytes event)) new
+  unfolding ran_fed
+  feeds_once d old new bytes event fed = λ made s prefix stands.
+      (ran_fed d old new bytes event fed made s prefix stands, tt)
+
+  pub feeds_runs : (d : Driven V C S P I F E A) (old new : V) (fed sent : List ℕ) (n : ℕ) →
+      FeedsOn d old fed sent n new → RunsOn d old fed sent n new
+  feeds_runs d old new fed sent n feeds = λ made s prefix stands. (feeds made s prefix stands).0
 
   -- an act
   pub ran_did : (d : Driven V C S P I F E A) (old new : V) (act : A) →

@@ -4,6 +4,7 @@ use Rattle.rfb_pixel.specs.declared.colour.Colour.{Colour}
 use Rattle.rfb_picture.specs.Grid.{Grid, IsGrid}
 use Rattle.rfb_server.specs.declared.session.Session.{Session}
 use Rattle.rfb_server.specs.Following.{Follows}
+use Rattle.rfb_server.specs.Hints.{hints_in}
 use Rattle.rfb_server.specs.Server.{first_server}
 use Rattle.rfb_server.specs.Standing.{SessionStandsFor, serving_with, with_screen}
 use Rattle.rfb_viewer.specs.declared.viewer.Viewer.{Viewer}
@@ -29,10 +30,10 @@ pub fresh_seat : (hub : Hub) (setup : Setup) (session : Session) (viewer : Viewe
     ViewerStandsFor (viewing_with setup.format setup.encodings.items setup.limit setup.shared
     setup.max_places setup.text_limit) viewer first_viewer [] →
     ((e : Ends) (screen : Grid Colour) → AreNew e session viewer screen →
-    LinkStandsFor e screen link (first_link e)) → link.session ≡ session → seat.setup ≡ setup →
+    LinkStandsFor e screen link (first_link e)) → link.session ≡ session → hints_in session ≡ [] → seat.setup ≡ setup →
     seat.link ≡ link → seat.foreign ≡ false → IsFreshSeat hub setup seat
 fresh_seat hub setup session viewer link seat w h name wide high named whole stands follows
-    viewer_is links session_is setup_is link_is ours =
+    viewer_is links session_is unhinted setup_is link_is ours =
     let serves = subst (λ (x : ℕ). (screen : Grid Colour) →
     SessionStandsFor (serving_with hub.offer x hub.screen.height hub.name.items hub.text_limit) screen session
     (with_screen screen (first_server (serving_with hub.offer x hub.screen.height hub.name.items hub.text_limit))) []) wide
@@ -48,6 +49,8 @@ fresh_seat hub setup session viewer link seat w h name wide high named whole sta
       follows = subst (λ (l : Link). Follows hub.screen l.session) (sym link_is)
           (subst (λ (s : Session). Follows hub.screen s) (sym session_is)
           (follows hub.screen whole (sym wide) (sym high)));
+      hints = subst (λ (l : Link). hints_in l.session ≡ []) (sym link_is)
+          (subst (λ (s : Session). hints_in s ≡ []) (sym session_is) unhinted);
       fresh = subst (λ (l : Link). LinkStandsFor (ends_of (serving_in hub) setup) hub.screen l
           (first_link (ends_of (serving_in hub) setup))) (sym link_is)
           (links (ends_of (serving_in hub) setup) hub.screen

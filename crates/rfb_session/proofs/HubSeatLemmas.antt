@@ -11,6 +11,7 @@ use Rattle.rfb_session.specs.declared.told.Delivery.{Delivery}
 use Rattle.rfb_session.specs.declared.told.NoMemory.{NoMemory}
 use Rattle.rfb_session.specs.declared.told.Told.{Told}
 use Rattle.rfb_session.specs.LinkStanding.{LinkDoes, LinkDoesOver, LosesOn}
+use Rattle.rfb_session.specs.Told.{TellsAlone}
 use Rattle.rfb_session.specs.HubSeats.{event_of, LinkActs, LinkHints, SoleAs, SeatDoes}
 
 pub over : (screen : Grid Colour) (old : Link) (event : Event) (told : Told) (new : Link) →
@@ -20,17 +21,18 @@ over screen old event told new does = λ e n made reached on stands. does e n ma
 -- the seat with another link
 pub seat_happens : (screen : Grid Colour) (old : Seat) (event this : SlotEvent) (told : Told)
     (d : Delivery) (new : Link) → event ≡ this → d.told ≡ told →
-    LinkActs screen old.link (event_of this) told new →
+    LinkActs screen old.link (event_of this) told new → TellsAlone (event_of this) told →
     LinkDoesOver screen old.link (event_of this) told new →
     LosesOn old.link (event_of this) told new → LinkHints old.link (event_of this) told new →
     SoleAs old.link (event_of this) d new → (d.sole ≡ true → told.refused ≡ None) →
     (told.refused ≢ None → new ≡ old.link) → SeatDoes screen old event d (record old { link = new })
-seat_happens screen old event this told d new is tells acts does lost hints sole taken kept =
+seat_happens screen old event this told d new is tells acts alone does lost hints sole taken kept =
     subst (λ (ev : SlotEvent). SeatDoes screen old ev d (record old { link = new })) (sym is)
     (record {
       setup_is = refl;
       foreign_is = refl;
       acts = subst (λ (t : Told). LinkActs screen old.link (event_of this) t new) (sym tells) acts;
+      tells = subst (λ (t : Told). TellsAlone (event_of this) t) (sym tells) alone;
       does = subst (λ (t : Told). LinkDoesOver screen old.link (event_of this) t new) (sym tells) does;
       lost = subst (λ (t : Told). LosesOn old.link (event_of this) t new) (sym tells) lost;
       hints = subst (λ (t : Told). LinkHints old.link (event_of this) t new) (sym tells) hints;
@@ -53,14 +55,15 @@ not_refused told new old none some = absurd (some none)
 pub delivered_happens : (screen : Grid Colour) (old : Seat) (event : SlotEvent) (count : ℕ)
     (result : Result Delivery NoMemory) (new : Link) → event ≡ ToServer count →
     IfOk result (λ d. LinkActs screen old.link (event_of (ToServer count)) d.told new) →
+    IfOk result (λ d. TellsAlone (event_of (ToServer count)) d.told) →
     IfOk result (λ d. LinkDoes old.link (event_of (ToServer count)) d.told new) →
     IfOk result (λ d. LosesOn old.link (event_of (ToServer count)) d.told new) →
     ((d : Delivery) → LinkHints old.link (event_of (ToServer count)) d.told new) →
     IfOk result (λ d. SoleAs old.link (event_of (ToServer count)) d new) →
     IfOk result (λ d. d.told.refused ≡ None) →
     IfOk result (λ d. SeatDoes screen old event d (record old { link = new }))
-delivered_happens screen old event count (Ok d) new is acts does lost hints sole taken =
-    seat_happens screen old event (ToServer count) d.told d new is refl acts
+delivered_happens screen old event count (Ok d) new is acts alone does lost hints sole taken =
+    seat_happens screen old event (ToServer count) d.told d new is refl acts alone
     (over screen old.link (event_of (ToServer count)) d.told new does) lost (hints d) sole
     (λ asked. taken) (not_refused d.told new old.link taken)
-delivered_happens screen old event count (Err error) new is acts does lost hints sole taken = tt
+delivered_happens screen old event count (Err error) new is acts alone does lost hints sole taken = tt

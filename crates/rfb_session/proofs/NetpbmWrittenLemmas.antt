@@ -11,7 +11,7 @@ use Rattle.rfb_session.specs.declared.netpbm.head.Sample.TheVariants.{Word}
 use Rattle.rfb_session.specs.netpbm.File.{Spells, front_of, tail_of}
 use Rattle.rfb_session.specs.netpbm.Head.{IsHead}
 use Rattle.rfb_session.specs.netpbm.Number.{AreDigits, BeginsNoDigit, NextNumber, is_blank, value_after, value_of}
-use Rattle.rfb_session.specs.netpbm.Places.{ArePlaces, AreColours, IsColour, colours_of_words, word_of}
+use Rattle.rfb_session.specs.netpbm.Places.{ArePlaces, AreColours, colours_of_words, word_of}
 use Rattle.rfb_session.specs.netpbm.Side.{IsSide}
 
 -- ---- a number

@@ -1,21 +1,24 @@
 -- Bytes that reach the ends of a link, as runs of these ends.
-use Rattle.std.proofs.Common.{◌≡◌, ℕ, ◌+◌, ◌-◌, ◌≤◌, ◌<◌, Bool, true, false, ◌||◌, List, [], ◌++◌, length, take, drop, drop-drop, Option, None, Some, ◌⊎◌, inl, inr, refl, sym, ap, ◌∙◌, subst, append-nil, append_assoc, arith}
+use Rattle.std.proofs.Common.{◌≡◌, ◌≢◌, ℕ, ◌+◌, ◌-◌, ◌≤◌, ◌<◌, Bool, true, false, ◌||◌, List, [], ◌++◌, length, take, drop, drop-drop, Option, None, Some, ◌⊎◌, inl, inr, refl, sym, ap, ◌∙◌, subst, append-nil, append_assoc, arith}
 use Rattle.std.proofs.Math.Seq.{take-add}
 use Rattle.rfb_pixel.specs.declared.colour.Colour.{Colour}
 use Rattle.rfb_picture.specs.Grid.{Grid}
 use Rattle.rfb_wire.specs.stream.End.{FedBy}
 use Rattle.rfb_server.specs.Server.{Serving, server}
-use Rattle.rfb_server.specs.Standing.{SessionStandsFor}
+use Rattle.rfb_server.specs.declared.session.Session.{Session}
+use Rattle.rfb_server.specs.Standing.{SessionStandsFor, session_fault}
 use Rattle.rfb_server.specs.Told.{ServerTold}
 use Rattle.rfb_viewer.specs.Viewer.{Viewing, viewer}
-use Rattle.rfb_viewer.specs.Standing.{StandsFor as ViewerStandsFor}
+use Rattle.rfb_viewer.specs.declared.viewer.Viewer.{Viewer}
+use Rattle.rfb_viewer.specs.Standing.{StandsFor as ViewerStandsFor, fault_of}
 use Rattle.rfb_viewer.specs.Told.{ViewerTold}
 use Rattle.rfb_session.specs.declared.link.Link.{Link}
 use Rattle.rfb_session.specs.InFlight.{viewer_reply, server_reply}
 use Rattle.rfb_session.specs.LinkBytes.{session_driven, IsSole, sole_told, HearsOver, SessionEndsBy, ReachesSession, TellsSole, ViewerEndsBy, ReachesViewer}
-use Rattle.rfb_session.specs.Watching.{viewer_driven, ViewerRuns, ends_told}
+use Rattle.rfb_session.specs.EngineRun.{TakesNone}
+use Rattle.rfb_session.specs.Watching.{viewer_driven, ViewerFeeds, ends_told}
 use Rattle.rfb_session.specs.inside.Delivering.{HasHeard, EndsHearing, HasWatched, EndsWatching}
-use Rattle.rfb_session.proofs.EngineRunLemmas.{ran_none, ran_fed, ran_then}
+use Rattle.rfb_session.proofs.EngineRunLemmas.{feeds_none, feeds_once, feeds_then, takes_none, takes_none_then}
 use Rattle.rfb_session.proofs.DeliveringLemmas.{fed_first}
 
 -- ---- whether a client asks for the screen alone
@@ -35,7 +38,8 @@ pub heard_none : (w : Link) → HasHeard w 0 false w
 heard_none w = record {
   sent = [];
   soles = 0;
-  hears = λ screen. ran_none (session_driven screen) w.session;
+  hears = λ screen. feeds_none (session_driven screen) w.session;
+  failed = λ some. takes_none w.session;
   asked = never_sole;
   gone = refl;
   answered = sym (append-nil w.to_viewer);
@@ -45,24 +49,28 @@ heard_none w = record {
 
 -- one call
 pub heard_once : (old new : Link) (bytes : List ℕ) (count used : ℕ) (sole : Bool) (event : Option ServerTold) →
-    count ≤ length old.to_server → bytes ≡ take count old.to_server → used ≤ length bytes →
+    session_fault old.session ≡ None → count ≤ length old.to_server → bytes ≡ take count old.to_server → used ≤ length bytes →
     ((serving : Serving) (screen : Grid Colour) → FedBy (server serving) (SessionStandsFor serving screen)
     old.session (take used bytes) event new.session) →
     new.viewer ≡ old.viewer → new.to_server ≡ drop used old.to_server →
     new.to_viewer ≡ old.to_viewer ++ server_reply event → new.latest ≡ old.latest → IsSole sole (sole_told event) → HasHeard old used sole new
-heard_once old new bytes count used sole event few is some fed same gets sends latest asked =
+heard_once old new bytes count used sole event going few is some fed same gets sends latest asked =
     let part = fed_first old.to_server bytes count used few is some in
     record {
       sent = server_reply event;
       soles = sole_told event;
       asked = asked;
+      failed = λ some. absurd (some going);
       hears = subst (λ (b : List ℕ). HearsOver old.session b (server_reply event) (sole_told event) new.session) part.1
-          (λ screen. ran_fed (session_driven screen) old.session new.session (take used bytes) event (λ serving. fed serving screen));
+          (λ screen. feeds_once (session_driven screen) old.session new.session (take used bytes) event (λ serving. fed serving screen));
       gone = gets;
       answered = sends;
       viewer = same;
       latest = latest;
     }
+
+still_failed : (old new : Session) → new ≡ old → session_fault old ≢ None → session_fault new ≢ None
+still_failed old new same some = subst (λ (s : Session). session_fault s ≢ None) (sym same) some
 
 -- some, and then some more
 pub heard_more : (a b c : Link) (k j : ℕ) (p q : Bool) → HasHeard a k p b → HasHeard b j q c → HasHeard a (k + j) (p || q) c
@@ -70,9 +78,13 @@ heard_more a b c k j p q one two = record {
   sent = one.sent ++ two.sent;
   soles = one.soles + two.soles;
   asked = sole_sum p q one.soles two.soles one.asked two.asked;
+  failed = λ some. subst (λ (bytes : List ℕ). TakesNone a.session bytes (one.sent ++ two.sent) (one.soles + two.soles) c.session)
+      (sym (take-add k j a.to_server ∙ ap (λ (rest : List ℕ). take k a.to_server ++ take j rest) (sym one.gone)))
+      (takes_none_then a.session b.session c.session (take k a.to_server) one.sent (take j b.to_server) two.sent one.soles two.soles
+      (one.failed some) (two.failed (still_failed a.session b.session (one.failed some).same some)));
   hears = subst (λ (bytes : List ℕ). HearsOver a.session bytes (one.sent ++ two.sent) (one.soles + two.soles) c.session)
       (sym (take-add k j a.to_server ∙ ap (λ (rest : List ℕ). take k a.to_server ++ take j rest) (sym one.gone)))
-      (λ screen. ran_then (session_driven screen) a.session b.session c.session (take k a.to_server) one.sent (take j b.to_server) two.sent one.soles two.soles (one.hears screen) (two.hears screen));
+      (λ screen. feeds_then (session_driven screen) a.session b.session c.session (take k a.to_server) one.sent (take j b.to_server) two.sent one.soles two.soles (one.hears screen) (two.hears screen));
   gone = two.gone ∙ ap (λ (rest : List ℕ). drop j rest) one.gone ∙ drop-drop j k a.to_server;
   answered = two.answered ∙ ap (λ (l : List ℕ). l ++ two.sent) one.answered ∙ append_assoc a.to_viewer one.sent two.sent;
   viewer = two.viewer ∙ one.viewer;
@@ -92,7 +104,9 @@ heard_ends a b c k j p q one two = record {
       ∙ ap (λ (rest : List ℕ). take k a.to_server ++ take j rest) (sym one.gone)
       ∙ ap (λ (rest : List ℕ). take k a.to_server ++ rest) two.bytes_are
       ∙ sym (append_assoc (take k a.to_server) two.fed two.later);
-  hears = λ screen. ran_then (session_driven screen) a.session b.session two.last (take k a.to_server) one.sent two.fed two.sent one.soles two.soles (one.hears screen) (two.hears screen);
+  hears = λ screen. feeds_then (session_driven screen) a.session b.session two.last (take k a.to_server) one.sent two.fed two.sent one.soles two.soles (one.hears screen) (two.hears screen);
+  failed = λ some. takes_none_then a.session b.session two.last (take k a.to_server) one.sent two.fed two.sent one.soles two.soles
+      (one.failed some) (two.failed (still_failed a.session b.session (one.failed some).same some));
   ends = two.ends;
   gone = two.gone ∙ ap (λ (rest : List ℕ). drop j rest) one.gone ∙ drop-drop j k a.to_server;
   answered = two.answered ∙ ap (λ (l : List ℕ). l ++ two.sent) one.answered ∙ append_assoc a.to_viewer one.sent two.sent;
@@ -113,7 +127,8 @@ heard_last old new bytes count is ends same gets sends latest = record {
   asked = never_sole;
   last = old.session;
   bytes_are = sym is;
-  hears = λ screen. ran_none (session_driven screen) old.session;
+  hears = λ screen. feeds_none (session_driven screen) old.session;
+  failed = λ some. takes_none old.session;
   ends = ends;
   gone = gets;
   answered = sends ∙ sym (append-nil old.to_viewer);
@@ -132,6 +147,7 @@ heard_reaches old new count sole (inl all) = record {
   last = new.session;
   bytes_are = sym (append-nil (take count old.to_server));
   hears = all.hears;
+  failed = all.failed;
   ends = inl (refl, refl);
   gone = all.gone;
   answered = all.answered;
@@ -146,6 +162,7 @@ heard_reaches old new count sole (inr ended) = record {
   last = ended.last;
   bytes_are = ended.bytes_are;
   hears = ended.hears;
+  failed = ended.failed;
   ends = inr ended.ends;
   gone = ended.gone;
   answered = ended.answered;
@@ -179,7 +196,8 @@ pub watched_none : (w : Link) → HasWatched w 0 w
 watched_none w = record {
   sent = [];
   updates = 0;
-  watches = ran_none viewer_driven w.viewer;
+  watches = feeds_none viewer_driven w.viewer;
+  failed = λ some. takes_none w.viewer;
   gone = refl;
   answered = sym (append-nil w.to_server);
   session = refl;
@@ -188,32 +206,40 @@ watched_none w = record {
 
 -- one call
 pub watched_once : (old new : Link) (bytes : List ℕ) (count used : ℕ) (event : Option ViewerTold) →
-    count ≤ length old.to_viewer → bytes ≡ take count old.to_viewer → used ≤ length bytes →
+    fault_of old.viewer ≡ None → count ≤ length old.to_viewer → bytes ≡ take count old.to_viewer → used ≤ length bytes →
     ((viewing : Viewing) → FedBy (viewer viewing) (ViewerStandsFor viewing) old.viewer
     (take used bytes) event new.viewer) →
     new.session ≡ old.session → new.to_viewer ≡ drop used old.to_viewer →
     new.to_server ≡ old.to_server ++ viewer_reply event → new.latest ≡ old.latest → HasWatched old used new
-watched_once old new bytes count used event few is some fed same gets sends latest =
+watched_once old new bytes count used event going few is some fed same gets sends latest =
     let part = fed_first old.to_viewer bytes count used few is some in
     record {
       sent = viewer_reply event;
       updates = ends_told event;
-      watches = subst (λ (b : List ℕ). ViewerRuns old.viewer b (viewer_reply event) (ends_told event) new.viewer) part.1
-          (ran_fed viewer_driven old.viewer new.viewer (take used bytes) event fed);
+      failed = λ some. absurd (some going);
+      watches = subst (λ (b : List ℕ). ViewerFeeds old.viewer b (viewer_reply event) (ends_told event) new.viewer) part.1
+          (feeds_once viewer_driven old.viewer new.viewer (take used bytes) event fed);
       gone = gets;
       answered = sends;
       session = same;
       latest = latest;
     }
 
+still_broken : (old new : Viewer) → new ≡ old → fault_of old ≢ None → fault_of new ≢ None
+still_broken old new same some = subst (λ (v : Viewer). fault_of v ≢ None) (sym same) some
+
 -- some, and then some more
 pub watched_more : (a b c : Link) (k j : ℕ) → HasWatched a k b → HasWatched b j c → HasWatched a (k + j) c
 watched_more a b c k j one two = record {
   sent = one.sent ++ two.sent;
   updates = one.updates + two.updates;
-  watches = subst (λ (bytes : List ℕ). ViewerRuns a.viewer bytes (one.sent ++ two.sent) (one.updates + two.updates) c.viewer)
+  failed = λ some. subst (λ (bytes : List ℕ). TakesNone a.viewer bytes (one.sent ++ two.sent) (one.updates + two.updates) c.viewer)
       (sym (take-add k j a.to_viewer ∙ ap (λ (rest : List ℕ). take k a.to_viewer ++ take j rest) (sym one.gone)))
-      (ran_then viewer_driven a.viewer b.viewer c.viewer (take k a.to_viewer) one.sent (take j b.to_viewer) two.sent one.updates two.updates one.watches two.watches);
+      (takes_none_then a.viewer b.viewer c.viewer (take k a.to_viewer) one.sent (take j b.to_viewer) two.sent one.updates two.updates
+      (one.failed some) (two.failed (still_broken a.viewer b.viewer (one.failed some).same some)));
+  watches = subst (λ (bytes : List ℕ). ViewerFeeds a.viewer bytes (one.sent ++ two.sent) (one.updates + two.updates) c.viewer)
+      (sym (take-add k j a.to_viewer ∙ ap (λ (rest : List ℕ). take k a.to_viewer ++ take j rest) (sym one.gone)))
+      (feeds_then viewer_driven a.viewer b.viewer c.viewer (take k a.to_viewer) one.sent (take j b.to_viewer) two.sent one.updates two.updates one.watches two.watches);
   gone = two.gone ∙ ap (λ (rest : List ℕ). drop j rest) one.gone ∙ drop-drop j k a.to_viewer;
   answered = two.answered ∙ ap (λ (l : List ℕ). l ++ two.sent) one.answered ∙ append_assoc a.to_server one.sent two.sent;
   session = two.session ∙ one.session;
@@ -232,7 +258,9 @@ watched_ends a b c k j one two = record {
       ∙ ap (λ (rest : List ℕ). take k a.to_viewer ++ take j rest) (sym one.gone)
       ∙ ap (λ (rest : List ℕ). take k a.to_viewer ++ rest) two.bytes_are
       ∙ sym (append_assoc (take k a.to_viewer) two.fed two.later);
-  watches = ran_then viewer_driven a.viewer b.viewer two.last (take k a.to_viewer) one.sent two.fed two.sent one.updates two.updates one.watches two.watches;
+  watches = feeds_then viewer_driven a.viewer b.viewer two.last (take k a.to_viewer) one.sent two.fed two.sent one.updates two.updates one.watches two.watches;
+  failed = λ some. takes_none_then a.viewer b.viewer two.last (take k a.to_viewer) one.sent two.fed two.sent one.updates two.updates
+      (one.failed some) (two.failed (still_broken a.viewer b.viewer (one.failed some).same some));
   ends = two.ends;
   gone = two.gone ∙ ap (λ (rest : List ℕ). drop j rest) one.gone ∙ drop-drop j k a.to_viewer;
   answered = two.answered ∙ ap (λ (l : List ℕ). l ++ two.sent) one.answered ∙ append_assoc a.to_server one.sent two.sent;
@@ -252,7 +280,8 @@ watched_last old new bytes count is ends same gets sends latest = record {
   updates = 0;
   last = old.viewer;
   bytes_are = sym is;
-  watches = ran_none viewer_driven old.viewer;
+  watches = feeds_none viewer_driven old.viewer;
+  failed = λ some. takes_none old.viewer;
   ends = ends;
   gone = gets;
   answered = sends ∙ sym (append-nil old.to_server);
@@ -271,6 +300,7 @@ watched_reaches old new count (inl all) = record {
   last = new.viewer;
   bytes_are = sym (append-nil (take count old.to_viewer));
   watches = all.watches;
+  failed = all.failed;
   ends = inl (refl, refl);
   gone = all.gone;
   answered = all.answered;
@@ -285,6 +315,7 @@ watched_reaches old new count (inr ended) = record {
   last = ended.last;
   bytes_are = ended.bytes_are;
   watches = ended.watches;
+  failed = ended.failed;
   ends = inr ended.ends;
   gone = ended.gone;
   answered = ended.answered;
@@ -317,6 +348,13 @@ pub heard_tells : (old new : Link) (count : ℕ) (sole : Bool) →
 unfolding heard_reaches
 heard_tells old new count sole (inl all) = (heard_reaches old new count sole (inl all), all.asked)
 heard_tells old new count sole (inr ended) = (heard_reaches old new count sole (inr ended), ended.asked)
+
+-- the client of one that had failed before asks for nothing
+pub deaf_sole : (old new : Link) (count : ℕ) (sole : Bool) → TellsSole old count sole new →
+    session_fault old.session ≢ None → sole ≡ false
+deaf_sole old new count true (reaches, asked) some =
+    absurd (omega (arith, asked.some refl, (reaches.failed some).untold))
+deaf_sole old new count false tells some = refl
 
 -- ---- what is there
 

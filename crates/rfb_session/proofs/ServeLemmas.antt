@@ -10,7 +10,7 @@ use Rattle.rfb_server.specs.declared.fault.ServerFault.{ServerFault}
 use Rattle.rfb_server.specs.declared.fault.ServerFault.TheVariants.{NoMemory}
 use Rattle.rfb_server.specs.declared.event.ServerEvent.{ServerEvent}
 use Rattle.rfb_server.specs.declared.server.Server.{Server}
-use Rattle.rfb_server.specs.Told.{ServerTold, seen}
+use Rattle.rfb_server.specs.Told.{seen}
 use Rattle.rfb_server.specs.Server.{Serving, ServerState, server, AsksMemory}
 use Rattle.rfb_server.specs.Standing.{StandsFor, Draws, Keeps as KeepsServer, with_screen, screen_of, fault_of}
 use Rattle.rfb_server.specs.Failing.{KeepsNotes}
@@ -20,11 +20,11 @@ use Rattle.rfb_session.specs.declared.engine.fault.EngineFault.{EngineFault}
 use Rattle.rfb_session.specs.declared.engine.fault.EngineFault.TheVariants.{Server as ServerEnded, Viewer as ViewerEnded, Truncated, Device, NoMemory as EngineNoMemory}
 use Rattle.rfb_session.specs.Devices.{AppendsBeginning}
 use Rattle.rfb_session.specs.InFlight.{server_reply}
-use Rattle.rfb_session.specs.EngineRun.{Step, Fed, Did}
-use Rattle.rfb_session.specs.ServeEngine.{Composed, Drawn, server_driven, ServerRuns, ServerAct, AreFed, Hears, IsIdle, RunsToIdle, IsHeard, IsUpdated, IsCutOff, IsEnded, StopsHearing}
+use Rattle.rfb_session.specs.EngineRun.{Did}
+use Rattle.rfb_session.specs.ServeEngine.{Composed, Drawn, server_driven, ServerRuns, Hears, IsIdle, RunsToIdle, IsHeard, IsUpdated, IsCutOff, IsEnded, StopsHearing}
 use Rattle.rfb_session.specs.Turns.{IsAnswered, Showing, EndsTurn}
 use Rattle.rfb_session.proofs.WrittenLemmas.{rest_is, then_stopped}
-use Rattle.rfb_session.proofs.EngineRunLemmas.{ran_did, joined}
+use Rattle.rfb_session.proofs.EngineRunLemmas.{ran_did, feeds_none, feeds_then, feeds_once, feeds_runs}
 
 -- ---- when no update is due
 
@@ -143,38 +143,8 @@ updated_of shows old scene before after (suc (suc more)) new last ends = absurd 
 
 -- ---- bytes that are heard
 
-are_fed : (before more : List (Step ServerTold ServerAct)) → AreFed before → AreFed more → AreFed (more ++ before)
-are_fed before [] one two = one
-are_fed before (Fed bytes event ∷ more) one two = are_fed before more one two
-are_fed before (Did act ∷ more) one two = absurd two
-
-hears_none : (old : Server) → Hears old [] [] old
-hears_none old = λ serving s prefix stands. (
-  record {
-    steps = [];
-    state = s;
-    rest = prefix;
-    runs = (refl, refl);
-    stands = stands;
-    fed_is = refl;
-    sent_is = refl;
-    updates_are = refl;
-  },
-  tt,
-)
-
-hears_then : (old mid new : Server) (fed sent more_fed more_sent : List ℕ) → Hears old fed sent mid →
-    Hears mid more_fed more_sent new → Hears old (fed ++ more_fed) (sent ++ more_sent) new
-hears_then old mid new fed sent more_fed more_sent one two = λ serving s prefix stands.
-    let a = one serving s prefix stands in
-    let b = two serving a.0.state a.0.rest a.0.stands in (
-      joined server_driven serving s prefix mid new fed sent more_fed more_sent (fed ++ more_fed)
-          (sent ++ more_sent) 0 0 0 refl refl refl a.0 b.0,
-      are_fed a.0.steps b.0.steps a.1 b.1,
-    )
-
 pub hears_runs : (old new : Server) (fed sent : List ℕ) → Hears old fed sent new → ServerRuns old fed sent 0 new
-hears_runs old new fed sent hears = λ serving s prefix stands. (hears serving s prefix stands).0
+hears_runs old new fed sent hears = feeds_runs server_driven old new fed sent 0 hears
 
 pub heard_of : (old : Server) (bytes : List ℕ) (before after : Option (List ℕ)) (new : Server) →
     IsAnswered old bytes before after new → IsHeard old bytes before after new
@@ -196,29 +166,11 @@ heard_none old bytes before = record {
   fed = [];
   sent = [];
   bytes_are = refl;
-  hears = hears_none old;
+  hears = feeds_none server_driven old;
   wrote = Appends-nil before;
 }
 
 -- one call, which took some bytes
-call_hears : (old new : Server) (bytes : List ℕ) (event : Option ServerTold) →
-    ((serving : Serving) → FedBy (server serving) (StandsFor serving) old bytes event new) →
-    Hears old bytes (server_reply event) new
-call_hears old new bytes event fed = λ serving s prefix stands.
-    let one = fed serving s prefix stands in (
-      record {
-        steps = Fed bytes event ∷ [];
-        state = one.0;
-        rest = one.1;
-        runs = (s, prefix, (refl, refl), one.3);
-        stands = one.2;
-        fed_is = refl;
-        sent_is = refl;
-        updates_are = refl;
-      },
-      tt,
-    )
-
 pub call_heard : (old new : Server) (bytes : List ℕ) (used : ℕ) (event : Option ServerEvent)
     (before after : Option (List ℕ)) (answer : List ℕ) →
     ((serving : Serving) → FedBy (server serving) (StandsFor serving) old (take used bytes) (seen event) new) →
@@ -226,7 +178,7 @@ pub call_heard : (old new : Server) (bytes : List ℕ) (used : ℕ) (event : Opt
     IsAnswered old (take used bytes) before after new
 call_heard old new bytes used event before after answer fed is wrote = record {
   sent = server_reply (seen event);
-  hears = call_hears old new (take used bytes) (seen event) fed;
+  hears = feeds_once server_driven old new (take used bytes) (seen event) fed;
   wrote = subst (λ (l : List ℕ). Appends before after l) is wrote;
 }
 
@@ -240,7 +192,7 @@ call_cut old new bytes used event before after answer fed is begun = record {
   later = drop used bytes;
   sent = server_reply (seen event);
   bytes_are = sym (take-append-drop used bytes);
-  hears = call_hears old new (take used bytes) (seen event) fed;
+  hears = feeds_once server_driven old new (take used bytes) (seen event) fed;
   wrote = subst (λ (l : List ℕ). AppendsBeginning before after l) is begun;
 }
 
@@ -255,7 +207,7 @@ call_ended old new bytes before fault fails refused starved kept = record {
   sent = [];
   last = old;
   bytes_are = refl;
-  hears = hears_none old;
+  hears = feeds_none server_driven old;
   wrote = Appends-nil before;
   ends = record { fails = fails; refused = refused; starved = starved; kept = kept };
 }
@@ -272,7 +224,7 @@ heard_more old bytes rest before mid after last used new was more = record {
       ∙ ap (λ (l : List ℕ). was.fed ++ l) (sym (take-append-drop used rest))
       ∙ sym (append_assoc was.fed (take used rest) (drop used rest))
       ∙ ap (λ (l : List ℕ). (was.fed ++ take used rest) ++ l) (sym (rest_is rest used));
-  hears = hears_then old last new was.fed was.sent (take used rest) more.sent was.hears more.hears;
+  hears = feeds_then server_driven old last new was.fed was.sent (take used rest) more.sent 0 0 was.hears more.hears;
   wrote = Appends-trans before mid after was.sent more.sent was.wrote more.wrote;
 }
 
@@ -309,7 +261,7 @@ hearing_stops old bytes rest before mid after last fb fm failed (ServerEnded fau
   sent = was.sent ++ stops.sent;
   last = stops.last;
   bytes_are = all_parts bytes was.fed rest stops.fed stops.slice was.bytes_are stops.bytes_are;
-  hears = hears_then old last stops.last was.fed was.sent stops.fed stops.sent was.hears stops.hears;
+  hears = feeds_then server_driven old last stops.last was.fed was.sent stops.fed stops.sent 0 0 was.hears stops.hears;
   wrote = Appends-trans before mid after was.sent stops.sent was.wrote stops.wrote;
   ends = stops.ends;
 }
@@ -321,7 +273,7 @@ hearing_stops old bytes rest before mid after last fb fm failed Device new was s
         later = cut.later;
         sent = was.sent ++ cut.sent;
         bytes_are = all_parts bytes was.fed rest cut.fed cut.later was.bytes_are cut.bytes_are;
-        hears = hears_then old last new was.fed was.sent cut.fed cut.sent was.hears cut.hears;
+        hears = feeds_then server_driven old last new was.fed was.sent cut.fed cut.sent 0 0 was.hears cut.hears;
         wrote = begun_after before mid after was.sent cut.sent was.wrote cut.wrote;
       },
     )

@@ -1,6 +1,6 @@
 -- What an engine did with its end: bytes that the end was fed, in turn with acts of the engine's
 -- own, as a list of steps that each further step makes longer.
-use Rattle.std.specs.Prelude.{◌≡◌, ℕ, ◌+◌, List, [], ◌∷◌, ◌++◌, Option}
+use Rattle.std.specs.Prelude.{◌≡◌, ℕ, ◌+◌, List, [], ◌∷◌, ◌++◌, Option, ⊤}
 use Rattle.rfb_wire.specs.stream.End.{Machine, Takes}
 
 -- a step: bytes that the end was fed, with what it told of them; or an act
@@ -26,6 +26,12 @@ module _ {E A : Type 0} where
   abbrev pub fed_in : List (Step E A) → List ℕ
   fed_in [] = []
   fed_in (step ∷ before) = fed_in before ++ fed_at step
+
+  -- steps of which each feeds
+  abbrev pub AreFed : List (Step E A) → Type 0
+  AreFed [] = ⊤
+  AreFed (Fed bytes event ∷ before) = AreFed before
+  AreFed (Did act ∷ before) = ⊥
 
 module _ {V C S P I F E A : Type 0} where
   -- one step, from a state and the bytes that came of the next item to others
@@ -68,3 +74,17 @@ module _ {V C S P I F E A : Type 0} where
   RunsOn d old fed sent updates new =
       (made : C) (s : S) (prefix : List ℕ) → d.stands made old s prefix →
       Ran d made s prefix new fed sent updates
+
+  -- the same, and nothing was done with it but feeding
+  abbrev pub FeedsOn : Driven V C S P I F E A → V → List ℕ → List ℕ → ℕ → V → Type 0
+  FeedsOn d old fed sent updates new =
+      (made : C) (s : S) (prefix : List ℕ) → d.stands made old s prefix →
+      (r : Ran d made s prefix new fed sent updates) × AreFed r.steps
+
+module _ {V : Type 0} where
+  -- an end that had failed before took no byte, sent none and told of nothing
+  pub record TakesNone (old : V) (fed sent : List ℕ) (told : ℕ) (new : V) : Type 0 where
+    pub unfed : fed ≡ []
+    pub unsent : sent ≡ []
+    pub untold : told ≡ 0
+    pub same : new ≡ old

@@ -1,8 +1,9 @@
 -- What a hub is, and what its slots stand for.
-use Rattle.std.specs.Prelude.{◌≡◌, ℕ, ◌≤◌, Bool, false, length, Option, Some, None}
+use Rattle.std.specs.Prelude.{◌≡◌, ℕ, ◌≤◌, Bool, false, [], length, Option, Some, None}
 use Rattle.rfb_pixel.specs.declared.colour.Colour.{Colour}
 use Rattle.rfb_picture.specs.Grid.{Grid}
 use Rattle.rfb_server.specs.Following.{Follows}
+use Rattle.rfb_server.specs.Hints.{hints_in}
 use Rattle.rfb_server.specs.Server.{Serving}
 use Rattle.rfb_server.specs.Standing.{serving_with}
 use Rattle.rfb_session.specs.declared.hub.Hub.{Hub}
@@ -61,11 +62,12 @@ number_in_seat (Some seat) = number_of (server_fault_of seat.link)
 abbrev pub fault_number_in : Hub → ℕ → Option ℕ
 fault_number_in hub k = number_in_seat (seat_in hub k)
 
--- a seat that a viewer of that setup has just taken: two fresh ends over the screen
+-- a seat that a viewer of that setup has just taken: two fresh ends over the screen, and no hint
 pub record IsFreshSeat (hub : Hub) (setup : Setup) (seat : Seat) : Type 0 where
   pub setup_is : seat.setup ≡ setup
   pub ours : seat.foreign ≡ false
   pub follows : Follows hub.screen seat.link.session
+  pub hints : hints_in seat.link.session ≡ []
   pub fresh : LinkStandsFor (ends_of (serving_in hub) setup) hub.screen seat.link
       (first_link (ends_of (serving_in hub) setup))
 

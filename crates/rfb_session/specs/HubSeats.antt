@@ -8,6 +8,7 @@ use Rattle.rfb_server.specs.Following.{Follows, IsSameOutside}
 use Rattle.rfb_server.specs.Hints.{hints_in, with_hint}
 use Rattle.rfb_server.specs.Server.{Serving}
 use Rattle.rfb_server.specs.Standing.{KeepsSession, notes_in}
+use Rattle.rfb_server.specs.Updating.{OwesUpdate}
 use Rattle.rfb_viewer.specs.Standing.{viewing_with}
 use Rattle.rfb_session.specs.declared.event.Event.{Event}
 use Rattle.rfb_session.specs.declared.event.Event.TheVariants.{Request as OfRequest}
@@ -30,7 +31,10 @@ use Rattle.rfb_session.specs.declared.told.Delivery.{Delivery}
 use Rattle.rfb_session.specs.declared.told.Told.{Told}
 use Rattle.rfb_session.specs.Link.{Ends}
 use Rattle.rfb_session.specs.LinkBytes.{ActsOnBytes, ComposesOver, TellsSole}
+use Rattle.rfb_session.specs.LinkBytes.{MovesNone, refusal_on}
 use Rattle.rfb_session.specs.LinkStanding.{LinkDoesOver, LinkStandsFor, LosesOn, ChangesSession}
+use Rattle.rfb_session.specs.LinkStanding.{server_fault_of}
+use Rattle.rfb_session.specs.Told.{TellsAlone}
 use Rattle.rfb_session.specs.LinkStanding.{IsRefusedOn, IsLostOn, ComposesNothingOver}
 use Rattle.rfb_session.specs.Network.{Network}
 use Rattle.rfb_session.specs.World.{HasFewBytes}
@@ -139,6 +143,7 @@ pub record SeatDoes (screen : Grid Colour) (old : Seat) (event : SlotEvent) (d :
   pub foreign_is : new.foreign ≡ old.foreign
   -- what becomes of its ends and of the bytes between them, whatever they are and stand for
   pub acts : LinkActs screen old.link (event_of event) d.told new.link
+  pub tells : TellsAlone (event_of event) d.told
   -- whatever network it stood for, the event is a step of it, and the answer tells so
   pub does : LinkDoesOver screen old.link (event_of event) d.told new.link
   pub lost : LosesOn old.link (event_of event) d.told new.link
@@ -147,12 +152,17 @@ pub record SeatDoes (screen : Grid Colour) (old : Seat) (event : SlotEvent) (d :
   pub taken : d.sole ≡ true → d.told.refused ≡ None
   pub kept : d.told.refused ≢ None → new ≡ old
 
--- a composing where no update is due
+-- a composing where no update is due, or where the session has failed
 abbrev pub IsIdleOn : Grid Colour → Link → Event → Type 0
-IsIdleOn screen link OfComposing = ComposesNothingOver screen link
+IsIdleOn screen link OfComposing =
+    ComposesNothingOver screen link
+    ⊎ ((OwesUpdate screen link.session → ⊥) ⊎ (server_fault_of link ≢ None))
 IsIdleOn screen link event = ⊥
 
--- what takes no memory there
+-- what takes no memory there: a call that is refused, by what the link stands for or by its viewer
+-- alone; bytes for an end that has failed, or none; and a composing of nothing
 pub record SeatSpares (screen : Grid Colour) (seat : Seat) (event : SlotEvent) : Type 0 where
-  pub case : IsRefusedOn seat.link (event_of event)
-      ⊎ (IsLostOn seat.link (event_of event) ⊎ IsIdleOn screen seat.link (event_of event))
+  pub case : (IsRefusedOn seat.link (event_of event)
+      ⊎ (refusal_on seat.link (event_of event) ≢ None))
+      ⊎ ((IsLostOn seat.link (event_of event) ⊎ MovesNone seat.link (event_of event))
+      ⊎ IsIdleOn screen seat.link (event_of event))

@@ -23,7 +23,12 @@ use Rattle.rfb_viewer.specs.declared.fault.ViewerFault.TheVariants.{NoMemory as 
 use Rattle.rfb_viewer.specs.declared.viewer.Viewer.{Viewer}
 use Rattle.rfb_viewer.specs.declared.fault.CallFault.{CallFault}
 use Rattle.rfb_viewer.specs.Refusing.{call_refused_by, request_refused_by, format_refused_by}
-use Rattle.rfb_viewer.specs.Standing.{KeepsRest, picture_of, fault_of}
+use Rattle.rfb_viewer.specs.Calls.{requested, formatted}
+use Rattle.rfb_viewer.specs.Damage.{damage_of, ended_of}
+use Rattle.rfb_viewer.specs.Messages.{format_message, encodings_message, request_message}
+use Rattle.rfb_viewer.specs.Messages.{key_message, pointer_message, text_message}
+use Rattle.rfb_viewer.specs.Standing.{StandsFor as ViewerStandsFor, KeepsRest, picture_of, fault_of}
+use Rattle.rfb_viewer.specs.Viewer.{Viewing, ViewerState}
 use Rattle.rfb_session.specs.declared.event.Event.{Event}
 use Rattle.rfb_session.specs.declared.event.Event.TheVariants.{Request, SetFormat, SetEncodings}
 use Rattle.rfb_session.specs.declared.event.Event.TheVariants.{Key, Pointer, CutText}
@@ -32,33 +37,44 @@ use Rattle.rfb_session.specs.declared.link.Link.{Link}
 use Rattle.rfb_session.specs.declared.told.Told.{Told}
 use Rattle.rfb_session.specs.Told.{refused_as}
 use Rattle.rfb_session.specs.Latest.{composing_in}
-use Rattle.rfb_session.specs.EngineRun.{Step, Fed, Did, Driven, RunsOn}
-use Rattle.rfb_session.specs.Watching.{ViewerRuns, EndsBy}
+use Rattle.rfb_session.specs.EngineRun.{Step, Fed, Did, Driven, FeedsOn, TakesNone}
+use Rattle.rfb_session.specs.Watching.{ViewerFeeds, EndsBy}
 use Rattle.rfb_session.specs.ServeEngine.{ServerAct, Serves, server_sends}
 
 -- ---- calls of the viewer
 
--- these bytes joined those in flight to the session; of the viewer what it shows is as it was, and
--- so are its fault, the server's reason and what it was made with
-pub record OnlySends (old new : Link) (bytes : List ℕ) : Type 0 where
+-- whatever a viewer stood for, it stands for what the call makes of that. What it shows is as it
+-- was, and so are its damage, its fault, the server's reason and what it was made with
+pub record IsCalled (call : ViewerState → ViewerState) (old new : Viewer) : Type 0 where
+  pub stands : (viewing : Viewing) (s : ViewerState) (prefix : List ℕ) →
+      ViewerStandsFor viewing old s prefix → ViewerStandsFor viewing new (call s) prefix
+  pub picture : picture_of new ≡ picture_of old
+  pub damage : damage_of new ≡ damage_of old
+  pub ended : ended_of new ≡ ended_of old
+  pub rest : KeepsRest old new
+
+-- the viewer was called so, and these bytes joined those in flight to the session
+pub record OnlySends (call : ViewerState → ViewerState) (bytes : List ℕ) (old new : Link)
+    : Type 0 where
   pub session : new.session ≡ old.session
-  pub picture : picture_of new.viewer ≡ picture_of old.viewer
-  pub rest : KeepsRest old.viewer new.viewer
+  pub viewer : IsCalled call old.viewer new.viewer
   pub to_server : new.to_server ≡ old.to_server ++ bytes
   pub to_viewer : new.to_viewer ≡ old.to_viewer
   pub latest : new.latest ≡ old.latest
 
--- a call is refused so, or not; one that is not sent the bytes of its message, once
-pub record SendsMessage (message : ClientMessage) (refusal : Option CallFault) (old : Link)
-    (told : Told) (new : Link) : Type 0 where
+-- a call is refused so, or not; one that is not sent these bytes, which spell its message, once
+pub record SendsMessage (message : ClientMessage) (bytes : List ℕ)
+    (call : ViewerState → ViewerState) (refusal : Option CallFault) (old : Link) (told : Told)
+    (new : Link) : Type 0 where
   pub refused : told.refused ≡ refused_as refusal
   pub sent : told.refused ≡ None →
-      (bytes : List ℕ) × SpellsClientMessage message bytes × OnlySends old new bytes
+      SpellsClientMessage message bytes × OnlySends call bytes old new
 
 -- the same of a call that changes nothing of the viewer, and waits for its handshake alone
-abbrev pub SendsPlain : ClientMessage → Link → Told → Link → Type 0
-SendsPlain message old told new =
-    SendsMessage message (call_refused_by old.viewer) old told new × (new.viewer ≡ old.viewer)
+abbrev pub SendsPlain : ClientMessage → List ℕ → Link → Told → Link → Type 0
+SendsPlain message bytes old told new =
+    SendsMessage message bytes (λ s. s) (call_refused_by old.viewer) old told new
+    × (new.viewer ≡ old.viewer)
 
 -- the refusal of a call, by its viewer alone
 abbrev pub refusal_on : Link → Event → Option CallFault
@@ -69,6 +85,12 @@ refusal_on link (Key down key) = call_refused_by link.viewer
 refusal_on link (Pointer buttons x y) = call_refused_by link.viewer
 refusal_on link (CutText text) = call_refused_by link.viewer
 refusal_on link event = None
+
+-- a delivery for which no byte is in flight, or that is of none
+abbrev pub MovesNone : Link → Event → Type 0
+MovesNone link (ToServer count) = min (length link.to_server) count ≡ 0
+MovesNone link (ToViewer count) = min (length link.to_viewer) count ≡ 0
+MovesNone link event = ⊥
 
 -- ---- bytes that reach the session
 
@@ -103,11 +125,11 @@ session_driven screen = record {
   updates = soles_in;
 }
 
--- it was fed these bytes, over whatever screen; those are its answers, and so often its client
--- asked for the screen alone
+-- it was fed these bytes, over whatever screen, and nothing else was done with it; those are its
+-- answers, and so often its client asked for the screen alone
 abbrev pub HearsOver : Session → List ℕ → List ℕ → ℕ → Session → Type 0
 HearsOver old bytes sent soles new =
-    (screen : Grid Colour) → RunsOn (session_driven screen) old bytes sent soles new
+    (screen : Grid Colour) → FeedsOn (session_driven screen) old bytes sent soles new
 
 -- it ended at these bytes, by a fault of theirs; one that had failed before stays as it was
 pub record SessionEndsBy (old : Session) (slice : List ℕ) (new : Session) : Type 0 where
@@ -118,7 +140,8 @@ pub record SessionEndsBy (old : Session) (slice : List ℕ) (new : Session) : Ty
   pub failed : session_fault old ≢ None → new ≡ old
 
 -- the first bytes in flight left the channel. The session was fed them, all or those before the
--- ones that it ended at, and its answers joined the bytes to the viewer; nothing else has changed
+-- ones that it ended at, and its answers joined the bytes to the viewer; nothing else has changed.
+-- One that had failed before took none of them, and its client asked for nothing
 pub record ReachesSession (old : Link) (count : ℕ) (new : Link) : Type 0 where
   pub fed : List ℕ
   pub later : List ℕ
@@ -127,6 +150,7 @@ pub record ReachesSession (old : Link) (count : ℕ) (new : Link) : Type 0 where
   pub last : Session
   pub bytes_are : take count old.to_server ≡ fed ++ later
   pub hears : HearsOver old.session fed sent soles last
+  pub failed : session_fault old.session ≢ None → TakesNone old.session fed sent soles last
   pub ends : ((later ≡ []) × (new.session ≡ last)) ⊎ SessionEndsBy last later new.session
   pub gone : new.to_server ≡ drop count old.to_server
   pub answered : new.to_viewer ≡ old.to_viewer ++ sent
@@ -153,7 +177,8 @@ pub record ReachesViewer (old : Link) (count : ℕ) (new : Link) : Type 0 where
   pub updates : ℕ
   pub last : Viewer
   pub bytes_are : take count old.to_viewer ≡ fed ++ later
-  pub watches : ViewerRuns old.viewer fed sent updates last
+  pub watches : ViewerFeeds old.viewer fed sent updates last
+  pub failed : fault_of old.viewer ≢ None → TakesNone old.viewer fed sent updates last
   pub ends : ((later ≡ []) × (new.viewer ≡ last)) ⊎ ViewerEndsBy last later new.viewer
   pub gone : new.to_viewer ≡ drop count old.to_viewer
   pub answered : new.to_server ≡ old.to_server ++ sent
@@ -192,17 +217,20 @@ pub record SpendsHints (old : Link) (told : Told) (new : Link) : Type 0 where
 -- what an event of the link alone does
 abbrev pub ActsOnBytes : Link → Event → Told → Link → Type 0
 ActsOnBytes old (Request incremental rect) told new =
-    SendsMessage (FramebufferUpdateRequest incremental rect)
-    (request_refused_by old.viewer rect) old told new
+    SendsMessage (FramebufferUpdateRequest incremental rect) (request_message incremental rect)
+    (λ s. requested s) (request_refused_by old.viewer rect) old told new
 ActsOnBytes old (SetFormat format) told new =
-    SendsMessage (SetPixelFormat format) (format_refused_by old.viewer) old told new
+    SendsMessage (SetPixelFormat format) (format_message format)
+    (λ s. formatted format s) (format_refused_by old.viewer) old told new
 ActsOnBytes old (SetEncodings encodings) told new =
     SendsPlain (EncodingsMessage (map (λ encoding. number_of encoding) encodings.items))
-    old told new
-ActsOnBytes old (Key down key) told new = SendsPlain (KeyEvent down key) old told new
+    (encodings_message encodings.items) old told new
+ActsOnBytes old (Key down key) told new =
+    SendsPlain (KeyEvent down key) (key_message down key) old told new
 ActsOnBytes old (Pointer buttons x y) told new =
-    SendsPlain (PointerEvent buttons x y) old told new
-ActsOnBytes old (CutText text) told new = SendsPlain (ClientCutText text.items) old told new
+    SendsPlain (PointerEvent buttons x y) (pointer_message buttons x y) old told new
+ActsOnBytes old (CutText text) told new =
+    SendsPlain (ClientCutText text.items) (text_message text.items) old told new
 ActsOnBytes old (ToServer count) told new =
     (told.moved ≡ min (length old.to_server) count) × ReachesSession old told.moved new
 ActsOnBytes old (ToViewer count) told new =

@@ -1,6 +1,6 @@
 -- What an engine did with a server: bytes that it was fed, updates that it composed, and screens
 -- that it was given.
-use Rattle.std.specs.Prelude.{◌≡◌, ◌≢◌, ℕ, ◌<◌, ◌+◌, ◌-◌, ◌^◌, Bool, false, List, [], ◌∷◌, ◌++◌, length, Option, Some, ⊤}
+use Rattle.std.specs.Prelude.{◌≡◌, ◌≢◌, ℕ, ◌<◌, ◌+◌, ◌-◌, ◌^◌, Bool, false, List, [], ◌++◌, length, Option, Some}
 use Rattle.std.specs.Io.KnownBytes.{Appends, Consumes, IsAtEnd}
 use Rattle.rfb_pixel.specs.declared.colour.Colour.{Colour}
 use Rattle.rfb_picture.specs.Grid.{Grid}
@@ -21,7 +21,7 @@ use Rattle.rfb_session.specs.declared.engine.fault.EngineFault.TheVariants.{Serv
 use Rattle.rfb_session.specs.Devices.{AppendsBeginning}
 use Rattle.rfb_session.specs.InFlight.{server_reply}
 use Rattle.rfb_session.specs.Playing.{most}
-use Rattle.rfb_session.specs.EngineRun.{Step, Fed, Did, Driven, Ran, RunsOn}
+use Rattle.rfb_session.specs.EngineRun.{Step, Fed, Did, Driven, Ran, RunsOn, FeedsOn}
 
 -- an update was composed, which has these bytes; or the screen was drawn on, and looks so
 pub data ServerAct : Type 0 where
@@ -100,17 +100,9 @@ ServerBetween now between =
 
 -- ---- one read
 
--- steps of which each feeds
-abbrev pub AreFed : List (Step ServerTold ServerAct) → Type 0
-AreFed [] = ⊤
-AreFed (Fed bytes event ∷ before) = AreFed before
-AreFed (Did act ∷ before) = ⊥
-
 -- it was fed these bytes, and nothing else was done; those are sent, and it became that one
 abbrev pub Hears : Server → List ℕ → List ℕ → Server → Type 0
-Hears old bytes sent new =
-    (serving : Serving) (s : ServerState) (prefix : List ℕ) → StandsFor serving old s prefix →
-    (r : Ran server_driven serving s prefix new bytes sent 0) × AreFed r.steps
+Hears old bytes sent new = FeedsOn server_driven old bytes sent 0 new
 
 -- all of its bytes were fed, and all answers were written
 pub record IsHeard (old : Server) (bytes : List ℕ) (before after : Option (List ℕ))

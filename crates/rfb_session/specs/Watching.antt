@@ -16,7 +16,7 @@ use Rattle.rfb_viewer.specs.Failing.{KeepsPicture, KeepsReason}
 use Rattle.rfb_viewer.specs.Calls.{request_refusal, requested}
 use Rattle.rfb_viewer.specs.Messages.{request_message}
 use Rattle.rfb_session.specs.InFlight.{viewer_reply}
-use Rattle.rfb_session.specs.EngineRun.{Step, Fed, Did, Driven, RunsOn}
+use Rattle.rfb_session.specs.EngineRun.{Step, Fed, Did, Driven, RunsOn, FeedsOn}
 
 -- what an engine does with a viewer: a request for the area; or none, where the viewer refuses one
 pub data ViewerAct : Type 0 where
@@ -69,6 +69,10 @@ viewer_driven = record {
 -- it was fed these bytes, these are sent, `updates` updates ended, and it became that one
 abbrev pub ViewerRuns : Viewer → List ℕ → List ℕ → ℕ → Viewer → Type 0
 ViewerRuns old fed sent updates new = RunsOn viewer_driven old fed sent updates new
+
+-- the same, and nothing was done with it but feeding
+abbrev pub ViewerFeeds : Viewer → List ℕ → List ℕ → ℕ → Viewer → Type 0
+ViewerFeeds old fed sent updates new = FeedsOn viewer_driven old fed sent updates new
 
 -- a viewer became that one when it was fed these bytes and told this of them
 abbrev pub WasFed : Viewer → List ℕ → Option ViewerTold → Viewer → Type 0

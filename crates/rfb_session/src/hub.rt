@@ -57,7 +57,12 @@ impl Hub {
     ghost use Rattle.rfb_picture.specs.Grid.{Grid, uniform};
     ghost use Rattle.rfb_server.specs.Server.{black};
     ghost use Rattle.rfb_server.specs.Standing.{serving_with};
-    ghost use Rattle.rfb_session.specs.Hub.{IsEmptyHub, serving_in, is_shut};
+    ghost use Rattle.rfb_session.specs.declared.hub.seat.Seat.{Seat};
+    ghost use Rattle.rfb_session.specs.Headline.{due_picture};
+    ghost use Rattle.rfb_session.specs.Hub.{IsEmptyHub, serving_in, seat_in, is_shut};
+    ghost use Rattle.rfb_session.specs.HubSeats.{SeatStandsFor};
+    ghost use Rattle.rfb_session.specs.Link.{Ends};
+    ghost use Rattle.rfb_session.specs.Network.{Network};
     ghost use Rattle.rfb_session.specs.Hub.{HubStands, HasFewHubBytes, shown_in, fault_number_in};
     ghost use Rattle.rfb_session.specs.HubSteps.{HubActs, OthersStay, SlotsDo};
     ghost use Rattle.rfb_session.specs.HubSteps.{HubSteps, NeedsNoMemory, RunsHub};
@@ -158,7 +163,11 @@ impl Hub {
 
     /// What the viewer of a slot shows, or `None` where there is no viewer or no screen yet.
     pub fn picture(&self, slot: u8) -> Option<&Picture<Colour>>
-        ensures { option_copied result ≡ shown_in self.now slot }
+        ensures shown { option_copied result ≡ shown_in self.now slot }
+        // Where nothing is in flight to the viewer, it is what is due.
+        ensures due { (seat : Seat) (e : Ends) (n : Network) →
+            seat_in self.now slot ≡ Some seat → SeatStandsFor e self.now.screen seat n →
+            n.link.to_viewer ≡ [] → option_copied result ≡ due_picture e n.link }
     {
         match seat_of(&self.slots, slot) {
             Some(seat) => seat.link().picture(),

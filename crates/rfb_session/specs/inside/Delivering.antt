@@ -1,7 +1,9 @@
 -- Bytes that are delivered on a link.
-use Rattle.std.specs.Prelude.{◌≡◌, ℕ, Bool, List, ◌++◌, take, drop}
+use Rattle.std.specs.Prelude.{◌≡◌, ◌≢◌, ℕ, Bool, List, ◌++◌, take, drop, None}
 use Rattle.rfb_server.specs.declared.session.Session.{Session}
+use Rattle.rfb_server.specs.Standing.{session_fault}
 use Rattle.rfb_viewer.specs.declared.viewer.Viewer.{Viewer}
+use Rattle.rfb_viewer.specs.Standing.{fault_of}
 use Rattle.rfb_session.specs.declared.link.Link.{Link}
 use Rattle.rfb_session.specs.Link.{Ends, LinkState}
 use Rattle.rfb_session.specs.LinkSteps.{MovesToViewer, MovesToServer}
@@ -9,7 +11,8 @@ use Rattle.rfb_session.specs.LinkStanding.{LinkStandsFor}
 use Rattle.rfb_session.specs.LinkBytes.{HearsOver, IsSole, SessionEndsBy, ViewerEndsBy}
 use Rattle.rfb_session.specs.InFlight.{AreMade}
 use Rattle.rfb_session.specs.Network.{Network, IsReached}
-use Rattle.rfb_session.specs.Watching.{ViewerRuns}
+use Rattle.rfb_session.specs.EngineRun.{TakesNone}
+use Rattle.rfb_session.specs.Watching.{ViewerFeeds}
 
 -- `count` bytes reach the viewer
 abbrev pub DeliversToViewer : Link → ℕ → Link → Type 0
@@ -28,6 +31,8 @@ pub record HasHeard (old : Link) (count : ℕ) (sole : Bool) (new : Link) : Type
   pub sent : List ℕ
   pub soles : ℕ
   pub hears : HearsOver old.session (take count old.to_server) sent soles new.session
+  pub failed : session_fault old.session ≢ None →
+      TakesNone old.session (take count old.to_server) sent soles new.session
   pub asked : IsSole sole soles
   pub gone : new.to_server ≡ drop count old.to_server
   pub answered : new.to_viewer ≡ old.to_viewer ++ sent
@@ -43,6 +48,7 @@ pub record EndsHearing (old : Link) (count : ℕ) (sole : Bool) (new : Link) : T
   pub last : Session
   pub bytes_are : take count old.to_server ≡ fed ++ later
   pub hears : HearsOver old.session fed sent soles last
+  pub failed : session_fault old.session ≢ None → TakesNone old.session fed sent soles last
   pub asked : IsSole sole soles
   pub ends : SessionEndsBy last later new.session
   pub gone : new.to_server ≡ drop count old.to_server
@@ -54,7 +60,9 @@ pub record EndsHearing (old : Link) (count : ℕ) (sole : Bool) (new : Link) : T
 pub record HasWatched (old : Link) (count : ℕ) (new : Link) : Type 0 where
   pub sent : List ℕ
   pub updates : ℕ
-  pub watches : ViewerRuns old.viewer (take count old.to_viewer) sent updates new.viewer
+  pub watches : ViewerFeeds old.viewer (take count old.to_viewer) sent updates new.viewer
+  pub failed : fault_of old.viewer ≢ None →
+      TakesNone old.viewer (take count old.to_viewer) sent updates new.viewer
   pub gone : new.to_viewer ≡ drop count old.to_viewer
   pub answered : new.to_server ≡ old.to_server ++ sent
   pub session : new.session ≡ old.session
@@ -67,7 +75,8 @@ pub record EndsWatching (old : Link) (count : ℕ) (new : Link) : Type 0 where
   pub updates : ℕ
   pub last : Viewer
   pub bytes_are : take count old.to_viewer ≡ fed ++ later
-  pub watches : ViewerRuns old.viewer fed sent updates last
+  pub watches : ViewerFeeds old.viewer fed sent updates last
+  pub failed : fault_of old.viewer ≢ None → TakesNone old.viewer fed sent updates last
   pub ends : ViewerEndsBy last later new.viewer
   pub gone : new.to_viewer ≡ drop count old.to_viewer
   pub answered : new.to_server ≡ old.to_server ++ sent

@@ -1,6 +1,6 @@
 //! Composings of a link.
 
-ghost use Rattle.std.specs.Prelude.{◌≡◌, IfOk, IsOk, None};
+ghost use Rattle.std.specs.Prelude.{◌≡◌, ◌≢◌, IfOk, OnErr, IsOk, None};
 ghost use Rattle.rfb_session.specs.declared.event.Event.TheVariants.{Compose};
 
 use crate::link::Link;
@@ -11,7 +11,8 @@ use rfb_pixel::Colour;
 impl Link {
     ghost use Rattle.rfb_server.specs.Following.{Follows};
     ghost use Rattle.rfb_session.specs.LinkStanding.{LinkDoesOver, session_of_link};
-    ghost use Rattle.rfb_session.specs.LinkStanding.{ComposesNothingOver};
+    ghost use Rattle.rfb_server.specs.Updating.{OwesUpdate};
+    ghost use Rattle.rfb_session.specs.LinkStanding.{ComposesNothingOver, server_fault_of};
     ghost use Rattle.rfb_session.specs.LinkBytes.{ComposesOver, SpendsHints};
     ghost use Rattle.rfb_session.specs.Told.{TellsAlone};
 
@@ -28,6 +29,8 @@ impl Link {
         ensures tells { IfOk result (λ told. TellsAlone Compose told) }
         ensures follows { Follows screen.now (session_of_link self.new) }
         ensures idle { ComposesNothingOver screen.now self.old → IsOk result }
+        ensures due { OnErr result (OwesUpdate screen.now (session_of_link self.old)) }
+        ensures failed { server_fault_of self.old ≢ None → IsOk result }
     {
         self.latest.begin(self.session.asked());
         let composed = self.to_viewer.send_update(&mut self.session, screen)?;

@@ -25,7 +25,7 @@ impl Link {
     ghost use Rattle.rfb_session.specs.LinkStanding.{server_fault_of, viewer_fault_of};
     ghost use Rattle.rfb_session.specs.LinkStanding.{LosesToViewer, LosesToServer};
     ghost use Rattle.rfb_session.specs.LinkStanding.{LosesOn, IsLostOn, FollowsStill};
-    ghost use Rattle.rfb_session.specs.LinkBytes.{ActsOnBytes, TellsSole};
+    ghost use Rattle.rfb_session.specs.LinkBytes.{ActsOnBytes, TellsSole, MovesNone};
     ghost use Rattle.rfb_session.specs.Told.{TellsAlone};
     ghost use Rattle.rfb_session.specs.inside.Delivering.{DeliversToViewer, DeliversToServer};
     ghost use Rattle.rfb_session.specs.inside.Delivering.{HasHeard, EndsHearing};
@@ -39,6 +39,7 @@ impl Link {
         ensures does { IfOk result (λ told. LinkDoes self.old (ToServer count) told self.new) }
         ensures lost { IfOk result (λ told. LosesOn self.old (ToServer count) told self.new) }
         ensures dropped { IsLostOn self.old (ToServer count) → IsOk result }
+        ensures none { MovesNone self.old (ToServer count) → IsOk result }
         ensures taken { IfOk result (λ told. told.refused ≡ None) }
         ensures tells { IfOk result (λ told. TellsAlone (ToServer count) told) }
         ensures follows { FollowsStill self.old self.new }
@@ -54,11 +55,14 @@ impl Link {
             ActsOnBytes self.old (ToServer count) delivery.told self.new) }
         ensures sole { IfOk result (λ delivery.
             TellsSole self.old delivery.told.moved delivery.sole self.new) }
+        ensures failed { server_fault_of self.old ≢ None →
+            IfOk result (λ delivery. delivery.sole ≡ false) }
         ensures does { IfOk result (λ delivery.
             LinkDoes self.old (ToServer count) delivery.told self.new) }
         ensures lost { IfOk result (λ delivery.
             LosesOn self.old (ToServer count) delivery.told self.new) }
         ensures dropped { IsLostOn self.old (ToServer count) → IsOk result }
+        ensures none { MovesNone self.old (ToServer count) → IsOk result }
         ensures taken { IfOk result (λ delivery. delivery.told.refused ≡ None) }
         ensures tells { IfOk result (λ delivery. TellsAlone (ToServer count) delivery.told) }
         ensures follows { FollowsStill self.old self.new }
@@ -80,6 +84,7 @@ impl Link {
         ensures does { IfOk result (λ told. LinkDoes self.old (ToViewer count) told self.new) }
         ensures lost { IfOk result (λ told. LosesOn self.old (ToViewer count) told self.new) }
         ensures dropped { IsLostOn self.old (ToViewer count) → IsOk result }
+        ensures none { MovesNone self.old (ToViewer count) → IsOk result }
         ensures taken { IfOk result (λ told. told.refused ≡ None) }
         ensures tells { IfOk result (λ told. TellsAlone (ToViewer count) told) }
         ensures session { session_of_link self.new ≡ session_of_link self.old }
@@ -99,6 +104,7 @@ impl Link {
             OnOk result (LosesToViewer self.old count self.new) }
         ensures dropped { (fault : ViewerFault) → viewer_fault_of self.old ≡ Some fault →
             fault ≢ ViewerWants → IsOk result }
+        ensures none { count ≡ 0 → IsOk result }
         ensures session { session_of_link self.new ≡ session_of_link self.old }
     {
         let mut left = count;
@@ -151,6 +157,7 @@ impl Link {
             OnOk result (LosesToServer self.old count self.new) }
         ensures dropped { (fault : ServerFault) → server_fault_of self.old ≡ Some fault →
             fault ≢ ServerWants → IsOk result }
+        ensures none { count ≡ 0 → IsOk result }
         ensures follows { FollowsStill self.old self.new }
         ensures hints { hints_in (session_of_link self.new) ≡ hints_in (session_of_link self.old) }
     {

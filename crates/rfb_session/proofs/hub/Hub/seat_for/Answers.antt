@@ -9,5 +9,5 @@ returns c =
     c.width.ensures.value c.height.ensures c.as_slice.ensures.value
     c.width.ensures.whole c.in_ok-session.ensures.stands c.in_ok-session.ensures.follows
     (rw c.setup_of.ensures at c.of-viewer.ensures.stands)
-    c.in_ok-link.ensures.stands c.in_ok-link.ensures.session
+    c.in_ok-link.ensures.stands c.in_ok-link.ensures.session c.in_ok-session.ensures.hints
     (c.new-3.ensures.setup_is ∙ c.setup_of-2.ensures) c.new-3.ensures.link_is c.new-3.ensures.ours

@@ -23,6 +23,8 @@ returns-then-not-composed c =
       tells = (c.told_composed.ensures.moved, c.told_composed.ensures.refused);
       follows = c.send_update.ensures.follows;
       idle = λ none. refl;
+      due = tt;
+      failed = λ some. refl;
     }
   where
     apart : true ≡ false → ⊥

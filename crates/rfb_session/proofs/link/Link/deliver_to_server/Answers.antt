@@ -72,6 +72,7 @@ returns c =
       lost = λ fault is. subst (λ (k : ℕ). LosesToServer c.args.self.now k c.loop-left.self) all
           (was.lost fault is);
       dropped = λ fault is other. refl;
+      none = λ is. refl;
       follows = was.follows;
       hints = was.hints;
     }

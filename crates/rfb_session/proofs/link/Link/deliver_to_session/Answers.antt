@@ -2,7 +2,7 @@ use Rattle.std.proofs.Common.{ℕ, min, sym, ap, ◌∙◌, subst}
 use Rattle.rfb_session.specs.LinkStanding.{LosesToServer}
 use Rattle.rfb_session.specs.LinkBytes.{ReachesSession, TellsSole}
 use Rattle.rfb_session.proofs.DeliveringLemmas.{server_moved}
-use Rattle.rfb_session.proofs.ReachingLemmas.{heard_reaches, heard_tells}
+use Rattle.rfb_session.proofs.ReachingLemmas.{heard_reaches, heard_tells, deaf_sole}
 use Rattle.rfb_session.proofs.link.Link.deliver_to_session.Goals as goal
 
 pub returns-clause-does : goal.returns-clause-does
@@ -26,6 +26,12 @@ returns-clause-sole c =
     subst (λ (k : ℕ). TellsSole c.args.self.now k c.in_ok-sole.sole c.deliver_to_server.new.self)
     (sym c.told_moved.ensures.moved)
     (heard_tells c.args.self.now c.deliver_to_server.new.self c.min-moved.result c.in_ok-sole.sole c.in_ok-sole.ensures.reached)
+
+pub returns-clause-failed : goal.returns-clause-failed
+returns-clause-failed c = λ some.
+    deaf_sole c.args.self.now c.deliver_to_server.new.self c.min-moved.result c.in_ok-sole.sole
+    (heard_tells c.args.self.now c.deliver_to_server.new.self c.min-moved.result c.in_ok-sole.sole c.in_ok-sole.ensures.reached)
+    some
 
 pub returns-clause-lost : goal.returns-clause-lost
 returns-clause-lost c = λ fault is. (

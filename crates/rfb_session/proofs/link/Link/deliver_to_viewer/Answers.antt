@@ -70,5 +70,6 @@ returns c =
       lost = λ fault is. subst (λ (k : ℕ). LosesToViewer c.args.self.now k c.loop-left.self) all
           (was.lost fault is);
       dropped = λ fault is other. refl;
+      none = λ is. refl;
       session = was.session;
     }

@@ -2,6 +2,7 @@ use Rattle.std.proofs.Common.{ℕ, List, ◌++◌, inl, inr, ap, ◌∙◌, refl
 use Rattle.rfb_server.specs.Told.{seen}
 use Rattle.rfb_session.proofs.DeliveringLemmas.{server_delivers, server_never}
 use Rattle.rfb_session.proofs.ReachingLemmas.{heard_once, heard_last, there}
+use Rattle.rfb_session.proofs.ShareSeatLemmas.{not_failed}
 use Rattle.rfb_session.proofs.link.Link.feed_server.Goals as goal
 
 pub returns-in_ok-send-in-Ok-clause-delivered : goal.returns-in_ok-send-in-Ok-clause-delivered
@@ -15,7 +16,8 @@ returns-in_ok-send-in-Ok-clause-delivered c =
 pub returns-in_ok-send-in-Ok-clause-reached : goal.returns-in_ok-send-in-Ok-clause-reached
 returns-in_ok-send-in-Ok-clause-reached c =
     inl (heard_once c.args.self.now _ c.first.result.now c.args.count c.in-Ok.fed.used c.asks_sole.result
-    (seen c.in-Ok.fed.event) c.requires.within c.first.ensures c.in-Ok.ensures.used
+    (seen c.in-Ok.fed.event) (not_failed _ c.args.self.now.session c.feed.new.self c.feed.result c.in-Ok.fed
+    c.feed.ensures.failed c.in-Ok.is) c.requires.within c.first.ensures c.in-Ok.ensures.used
     c.in-Ok.ensures.fed refl c.arrive.ensures
     (c.in_ok-send-in-Ok.ensures.sent
     ∙ ap (λ (b : List ℕ). c.args.self.now.to_viewer ++ b) c.server_reply.ensures) refl c.asks_sole.ensures)

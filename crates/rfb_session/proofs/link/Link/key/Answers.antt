@@ -1,19 +1,20 @@
 use Rattle.std.proofs.Common.{refl, ap, ◌∙◌}
 use Rattle.rfb_wire.specs.ClientMessage.{KeyEvent}
+use Rattle.rfb_viewer.specs.Messages.{key_message}
 use Rattle.rfb_session.specs.Told.{refused_as}
-use Rattle.rfb_session.proofs.CalledLemmas.{message_taken, refused, not_taken, is_refusal, rest_same}
+use Rattle.rfb_session.proofs.CalledLemmas.{message_taken, refused, not_taken, called_same, sends_message, sends_none}
 use Rattle.rfb_session.proofs.link.Link.key.Goals as goal
 
 pub returns-in_ok-send-in-Ok-clause-does : goal.returns-in_ok-send-in-Ok-clause-does
 returns-in_ok-send-in-Ok-clause-does c = λ e n made reached stands.
     let has = stands.carries in
     let is = c.in-Ok.ensures.refusal e.viewing n.link.viewer has.viewer_has has.viewer_is in
-    let one = message_taken e c.args.self.now _ n (KeyEvent c.args.down c.args.key)
-    c.in-Ok.message stands reached is refl c.in-Ok.ensures.spelled
+    let one = message_taken e c.args.self.now _ n
+    (KeyEvent c.args.down c.args.key)
+    c.in-Ok.message stands reached is c.in-Ok.ensures.spelled
     (record {
       session = refl;
-      picture = refl;
-      rest = rest_same c.args.self.now.viewer;
+      viewer = called_same c.args.self.now.viewer;
       to_server = c.in_ok-send-in-Ok.ensures.sent;
       to_viewer = refl;
       latest = refl;
@@ -55,29 +56,26 @@ returns-in_err-send-in-Ok-clause-spared c = λ refused.
 
 pub returns-in_ok-send-in-Ok-clause-bytes : goal.returns-in_ok-send-in-Ok-clause-bytes
 returns-in_ok-send-in-Ok-clause-bytes c = (
-  record {
-    refused = c.told_taken.ensures.refused ∙ ap (λ o. refused_as o) c.in-Ok.ensures.refuses;
-    sent = λ taken. (
-      c.in-Ok.message,
-      c.in-Ok.ensures.spelled,
-      record {
+  sends_message (KeyEvent c.args.down c.args.key)
+      c.in-Ok.message
+      (key_message c.args.down c.args.key) (λ s. s) _ c.args.self.now _ c.told_taken.result
+      (c.told_taken.ensures.refused ∙ ap (λ o. refused_as o) c.in-Ok.ensures.refuses)
+      c.in-Ok.ensures.sent
+      c.in-Ok.ensures.spelled
+      (record {
         session = refl;
-        picture = refl;
-        rest = rest_same c.args.self.now.viewer;
+        viewer = called_same c.args.self.now.viewer;
         to_server = c.in_ok-send-in-Ok.ensures.sent;
         to_viewer = refl;
         latest = refl;
-      },
-    );
-  },
+      }),
   refl,
 )
 
 pub returns-in-Err-clause-bytes : goal.returns-in-Err-clause-bytes
 returns-in-Err-clause-bytes c = (
-  record {
-    refused = c.told_refused.ensures.refused ∙ ap (λ o. refused_as o) c.in-Err.ensures.refuses;
-    sent = λ taken. absurd (is_refusal c.in-Err.fault _ c.told_refused.ensures.refused taken);
-  },
+  sends_none (KeyEvent c.args.down c.args.key)
+      (key_message c.args.down c.args.key) (λ s. s) _ c.in-Err.fault c.args.self.now _ c.told_refused.result
+      c.told_refused.ensures.refused c.in-Err.ensures.refuses,
   refl,
 )

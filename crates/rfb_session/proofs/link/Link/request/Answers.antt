@@ -1,8 +1,9 @@
 use Rattle.std.proofs.Common.{refl, ap, ◌∙◌}
 use Rattle.rfb_wire.specs.ClientMessage.{FramebufferUpdateRequest}
 use Rattle.rfb_viewer.specs.Calls.{requested}
+use Rattle.rfb_viewer.specs.Messages.{request_message}
 use Rattle.rfb_session.specs.Told.{refused_as}
-use Rattle.rfb_session.proofs.CalledLemmas.{request_taken, refused, not_taken, is_refusal}
+use Rattle.rfb_session.proofs.CalledLemmas.{request_taken, refused, not_taken, sends_message, sends_none}
 use Rattle.rfb_session.proofs.link.Link.request.Goals as goal
 
 pub returns-in_ok-send-in-Ok-clause-does : goal.returns-in_ok-send-in-Ok-clause-does
@@ -11,12 +12,16 @@ returns-in_ok-send-in-Ok-clause-does c = λ e n made reached stands.
     let is = c.in-Ok.ensures.refusal e.viewing n.link.viewer has.viewer_has has.viewer_is in
     let one = request_taken e c.args.self.now _ n c.args.incremental c.args.rect c.in-Ok.message
     stands reached is
-    (c.in-Ok.ensures.stands e.viewing n.link.viewer has.viewer_has has.viewer_is)
     c.in-Ok.ensures.spelled
     (record {
       session = refl;
-      picture = c.request.ensures.picture;
-      rest = c.request.ensures.keeps;
+      viewer = (record {
+        stands = c.in-Ok.ensures.stands;
+        picture = c.request.ensures.picture;
+        damage = c.request.ensures.damage;
+        ended = c.request.ensures.ended;
+        rest = c.request.ensures.keeps;
+      });
       to_server = c.in_ok-send-in-Ok.ensures.sent;
       to_viewer = refl;
       latest = refl;
@@ -57,24 +62,27 @@ returns-in_err-send-in-Ok-clause-spared c = λ refused.
     absurd (not_taken _ refused.2 is refused.5)
 
 pub returns-in_ok-send-in-Ok-clause-bytes : goal.returns-in_ok-send-in-Ok-clause-bytes
-returns-in_ok-send-in-Ok-clause-bytes c = record {
-  refused = c.told_taken.ensures.refused ∙ ap (λ o. refused_as o) c.in-Ok.ensures.refuses;
-  sent = λ taken. (
-    c.in-Ok.message,
-    c.in-Ok.ensures.spelled,
-    record {
+returns-in_ok-send-in-Ok-clause-bytes c =
+    sends_message (FramebufferUpdateRequest c.args.incremental c.args.rect) c.in-Ok.message
+    (request_message c.args.incremental c.args.rect) (λ s. requested s) _ c.args.self.now _ c.told_taken.result
+    (c.told_taken.ensures.refused ∙ ap (λ o. refused_as o) c.in-Ok.ensures.refuses)
+    c.in-Ok.ensures.sent c.in-Ok.ensures.spelled
+    (record {
       session = refl;
-      picture = c.request.ensures.picture;
-      rest = c.request.ensures.keeps;
+      viewer = (record {
+        stands = c.in-Ok.ensures.stands;
+        picture = c.request.ensures.picture;
+        damage = c.request.ensures.damage;
+        ended = c.request.ensures.ended;
+        rest = c.request.ensures.keeps;
+      });
       to_server = c.in_ok-send-in-Ok.ensures.sent;
       to_viewer = refl;
       latest = refl;
-    },
-  );
-}
+    })
 
 pub returns-in-Err-clause-bytes : goal.returns-in-Err-clause-bytes
-returns-in-Err-clause-bytes c = record {
-  refused = c.told_refused.ensures.refused ∙ ap (λ o. refused_as o) c.in-Err.ensures.refuses;
-  sent = λ taken. absurd (is_refusal c.in-Err.fault _ c.told_refused.ensures.refused taken);
-}
+returns-in-Err-clause-bytes c =
+    sends_none (FramebufferUpdateRequest c.args.incremental c.args.rect)
+    (request_message c.args.incremental c.args.rect) (λ s. requested s) _ c.in-Err.fault c.args.self.now _ c.told_refused.result
+    c.told_refused.ensures.refused c.in-Err.ensures.refuses

@@ -2,8 +2,9 @@ use Rattle.std.proofs.Common.{ℕ, List, ◌++◌, map, refl, ap, ◌∙◌, sub
 use Rattle.rfb_wire.specs.declared.encoding.Encoding.{Encoding}
 use Rattle.rfb_wire.specs.Encoding.{number_of}
 use Rattle.rfb_wire.specs.ClientMessage.{SetEncodings, SpellsClientMessage}
+use Rattle.rfb_viewer.specs.Messages.{encodings_message}
 use Rattle.rfb_session.specs.Told.{refused_as}
-use Rattle.rfb_session.proofs.CalledLemmas.{message_taken, not_taken, is_refusal, rest_same}
+use Rattle.rfb_session.proofs.CalledLemmas.{message_taken, not_taken, called_same, sends_message, sends_none}
 use Rattle.rfb_session.proofs.link.Link.set_encodings.Goals as goal
 
 pub returns-in_ok-send-in-Ok-clause-does : goal.returns-in_ok-send-in-Ok-clause-does
@@ -15,11 +16,10 @@ returns-in_ok-send-in-Ok-clause-does c = λ e n made reached stands.
     c.copy_of.ensures c.in-Ok.ensures.spelled in
     let one = message_taken e c.args.self.now _ n
     (SetEncodings (map (λ encoding. number_of encoding) c.args.encodings.now.items))
-    c.in-Ok.message.items stands reached is refl spelled
+    c.in-Ok.message.items stands reached is spelled
     (record {
       session = refl;
-      picture = refl;
-      rest = rest_same c.args.self.now.viewer;
+      viewer = called_same c.args.self.now.viewer;
       to_server = c.in_ok-send-in-Ok.ensures.sent
           ∙ ap (λ (b : List ℕ). c.args.self.now.to_server ++ b) c.as_slice.ensures.value;
       to_viewer = refl;
@@ -44,32 +44,29 @@ returns-in_err-send-in-Ok-clause-spared c = λ refused.
 
 pub returns-in_ok-send-in-Ok-clause-bytes : goal.returns-in_ok-send-in-Ok-clause-bytes
 returns-in_ok-send-in-Ok-clause-bytes c = (
-  record {
-    refused = c.told_taken.ensures.refused ∙ ap (λ o. refused_as o) c.in-Ok.ensures.refuses;
-    sent = λ taken. (
-      c.in-Ok.message.items,
-      subst (λ (list : List Encoding). SpellsClientMessage
-          (SetEncodings (map (λ encoding. number_of encoding) list)) c.in-Ok.message.items)
-          c.copy_of.ensures c.in-Ok.ensures.spelled,
-      record {
+  sends_message (SetEncodings (map (λ encoding. number_of encoding) c.args.encodings.now.items))
+      c.in-Ok.message.items
+      (encodings_message c.args.encodings.now.items) (λ s. s) _ c.args.self.now _ c.told_taken.result
+      (c.told_taken.ensures.refused ∙ ap (λ o. refused_as o) c.in-Ok.ensures.refuses)
+      (c.in-Ok.ensures.sent ∙ ap (λ (list : List Encoding). encodings_message list) c.copy_of.ensures)
+      (subst (λ (list : List Encoding). SpellsClientMessage
+      (SetEncodings (map (λ encoding. number_of encoding) list)) c.in-Ok.message.items)
+      c.copy_of.ensures c.in-Ok.ensures.spelled)
+      (record {
         session = refl;
-        picture = refl;
-        rest = rest_same c.args.self.now.viewer;
+        viewer = called_same c.args.self.now.viewer;
         to_server = c.in_ok-send-in-Ok.ensures.sent
             ∙ ap (λ (b : List ℕ). c.args.self.now.to_server ++ b) c.as_slice.ensures.value;
         to_viewer = refl;
         latest = refl;
-      },
-    );
-  },
+      }),
   refl,
 )
 
 pub returns-in-Err-clause-bytes : goal.returns-in-Err-clause-bytes
 returns-in-Err-clause-bytes c = (
-  record {
-    refused = c.told_refused.ensures.refused ∙ ap (λ o. refused_as o) c.in-Err.ensures.refuses;
-    sent = λ taken. absurd (is_refusal c.in-Err.fault _ c.told_refused.ensures.refused taken);
-  },
+  sends_none (SetEncodings (map (λ encoding. number_of encoding) c.args.encodings.now.items))
+      (encodings_message c.args.encodings.now.items) (λ s. s) _ c.in-Err.fault c.args.self.now _ c.told_refused.result
+      c.told_refused.ensures.refused c.in-Err.ensures.refuses,
   refl,
 )

@@ -1,8 +1,9 @@
 use Rattle.std.proofs.Common.{refl, ap, ◌∙◌}
 use Rattle.rfb_wire.specs.ClientMessage.{SetPixelFormat}
 use Rattle.rfb_viewer.specs.Calls.{formatted}
+use Rattle.rfb_viewer.specs.Messages.{format_message}
 use Rattle.rfb_session.specs.Told.{refused_as}
-use Rattle.rfb_session.proofs.CalledLemmas.{format_taken, format_same, refused, not_taken, is_refusal}
+use Rattle.rfb_session.proofs.CalledLemmas.{format_taken, format_same, refused, not_taken, sends_message, sends_none}
 use Rattle.rfb_session.proofs.link.Link.set_format.Goals as goal
 
 pub returns-in_ok-send-in-Ok-clause-does : goal.returns-in_ok-send-in-Ok-clause-does
@@ -11,12 +12,16 @@ returns-in_ok-send-in-Ok-clause-does c = λ e n made reached stands.
     let here = c.in-Ok.ensures.refusal e.viewing n.link.viewer has.viewer_has has.viewer_is in
     let is = here ∙ format_same e c.args.self.now n stands reached in
     let one = format_taken e c.args.self.now _ n c.args.format c.in-Ok.message stands reached here
-    (c.in-Ok.ensures.stands e.viewing n.link.viewer has.viewer_has has.viewer_is)
     c.in-Ok.ensures.spelled
     (record {
       session = refl;
-      picture = c.set_format.ensures.picture;
-      rest = c.set_format.ensures.keeps;
+      viewer = (record {
+        stands = c.in-Ok.ensures.stands;
+        picture = c.set_format.ensures.picture;
+        damage = c.set_format.ensures.damage;
+        ended = c.set_format.ensures.ended;
+        rest = c.set_format.ensures.keeps;
+      });
       to_server = c.in_ok-send-in-Ok.ensures.sent;
       to_viewer = refl;
       latest = refl;
@@ -59,24 +64,27 @@ returns-in_err-send-in-Ok-clause-spared c = λ refused.
     absurd (not_taken _ refused.2 is refused.5)
 
 pub returns-in_ok-send-in-Ok-clause-bytes : goal.returns-in_ok-send-in-Ok-clause-bytes
-returns-in_ok-send-in-Ok-clause-bytes c = record {
-  refused = c.told_taken.ensures.refused ∙ ap (λ o. refused_as o) c.in-Ok.ensures.refuses;
-  sent = λ taken. (
-    c.in-Ok.message,
-    c.in-Ok.ensures.spelled,
-    record {
+returns-in_ok-send-in-Ok-clause-bytes c =
+    sends_message (SetPixelFormat c.args.format) c.in-Ok.message
+    (format_message c.args.format) (λ s. formatted c.args.format s) _ c.args.self.now _ c.told_taken.result
+    (c.told_taken.ensures.refused ∙ ap (λ o. refused_as o) c.in-Ok.ensures.refuses)
+    c.in-Ok.ensures.sent c.in-Ok.ensures.spelled
+    (record {
       session = refl;
-      picture = c.set_format.ensures.picture;
-      rest = c.set_format.ensures.keeps;
+      viewer = (record {
+        stands = c.in-Ok.ensures.stands;
+        picture = c.set_format.ensures.picture;
+        damage = c.set_format.ensures.damage;
+        ended = c.set_format.ensures.ended;
+        rest = c.set_format.ensures.keeps;
+      });
       to_server = c.in_ok-send-in-Ok.ensures.sent;
       to_viewer = refl;
       latest = refl;
-    },
-  );
-}
+    })
 
 pub returns-in-Err-clause-bytes : goal.returns-in-Err-clause-bytes
-returns-in-Err-clause-bytes c = record {
-  refused = c.told_refused.ensures.refused ∙ ap (λ o. refused_as o) c.in-Err.ensures.refuses;
-  sent = λ taken. absurd (is_refusal c.in-Err.fault _ c.told_refused.ensures.refused taken);
-}
+returns-in-Err-clause-bytes c =
+    sends_none (SetPixelFormat c.args.format)
+    (format_message c.args.format) (λ s. formatted c.args.format s) _ c.in-Err.fault c.args.self.now _ c.told_refused.result
+    c.told_refused.ensures.refused c.in-Err.ensures.refuses
