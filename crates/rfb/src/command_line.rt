@@ -74,9 +74,9 @@ rfb: encodings are raw, copyrect, rre and hextile: one to four of them, with a c
 ///
 /// - 0: the work is done. Help and the version count as work, and go to `output`.
 /// - 1: it failed, and a line on `errors` says why. Nothing was written to `output`, unless writing
-///   there is what failed: then a beginning of what was to be written. What `serve` and `view
-///   --record` write as they go stays. With `--partial` the picture of what came by an early end is
-///   written.
+///   there is what failed: then a beginning of what was to be written. What `serve`, `share` and
+///   `view --record` write as they go stays. With `--partial` the picture of what came by an early
+///   end is written.
 /// - 2: the words ask for nothing that there is, and `errors` has a text that says so.
 ///
 /// `output` is flushed before the status is chosen. A write to `errors` that fails changes nothing.
