@@ -32,6 +32,17 @@ MORE = bytes.fromhex("00000001 0001 0000 0001 0001 00000000 0180FF00")
 SHOWN_LATER = b"P6\n2 1\n65535\n" + bytes.fromhex("000000000000 FFFF80800101")
 BLACK = b"P6\n2 1\n65535\n" + bytes(12)
 
+# A script that fills the left place of two, and its picture.
+SCRIPT = b"""screen 2 1
+fill 0 0 1 1 FF8001
+settle
+request full 0 0 2 1
+settle
+compose
+settle
+"""
+FILLED = b"P6\n2 1\n65535\n" + bytes.fromhex("FFFF80800101 000000000000")
+
 # Another address of this machine: all that begin with 127 are.
 OTHER = "127.%d.%d.%d" % tuple(random.randrange(1, 255) for _ in range(3))
 
@@ -50,18 +61,20 @@ def free_port(host="127.0.0.1"):
 
 
 class Run:
-    """A run of the program that has begun. Its input and both outputs are files."""
+    """A run of the program that has begun. Its input and outputs are files, or what is named."""
 
     program = None
     begun = []
 
-    def __init__(self, words, given=b"", errors=None, before=None, room=None, source=None):
+    def __init__(self, words, given=b"", errors=None, before=None, room=None, source=None,
+                 output=None):
         self.files = [tempfile.TemporaryFile() for _ in range(3)]
         self.files[0].write(given)
         self.files[0].seek(0)
         self.words = words
         self.run = subprocess.Popen([self.program, *words], stdin=source or self.files[0],
-                                    stdout=self.files[1], stderr=errors or self.files[2],
+                                    stdout=output or self.files[1],
+                                    stderr=errors or self.files[2],
                                     preexec_fn=before, cwd=room)
         self.begun.append(self)
 

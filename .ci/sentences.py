@@ -4,8 +4,8 @@
     .ci/sentences.py PROGRAM..
 
 Each row compares all of standard error. Bytes are made by functions named after the messages of RFC
-6143. Sentences that .ci/language.py, .ci/words.py and the calls of .ci/program show are not here.
-The last line is 'N passed, M failed'.
+6143. Sentences that .ci/language.py, .ci/words.py, .ci/files.py and the calls of .ci/program show
+are not here. The last line is 'N passed, M failed'.
 """
 
 import resource

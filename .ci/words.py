@@ -1,33 +1,19 @@
 #!/usr/bin/env python3
-"""The words of the command line, and the files and streams that they name.
+"""The words of the command line, and standard input and output where they fail.
 
     .ci/words.py PROGRAM..
 
 Each row runs a program, and compares its status and both outputs with what docs/PROTOCOL.md and the
-help say. Files are in a folder of its own; files and streams fail where the system is told to let
-them. The last line is 'N passed, M failed'.
+help say. Streams fail where the system is told to let them. The last line is 'N passed, M failed'.
 """
 
 import os
 import resource
 import socket
 import sys
-import tempfile
 
-from calls import (BLACK, DEVICE, HELLO, SERVER, SHOWN, Run, ends, failing, folder, free_port,
+from calls import (BLACK, DEVICE, FILLED, HELLO, SCRIPT, SERVER, SHOWN, Run, ends, failing, folder,
                    halting, judged, limited, that_is_at)
-
-# A script that fills the left place of two, and its picture.
-SCRIPT = b"""screen 2 1
-fill 0 0 1 1 FF8001
-settle
-request full 0 0 2 1
-settle
-compose
-settle
-"""
-FILLED = b"P6\n2 1\n65535\n" + bytes.fromhex("FFFF80800101 000000000000")
-
 
 # ---- words
 
@@ -154,68 +140,6 @@ def what_is_first_wrong_with_a_picture_is_reported():
              f"bad picture {number}: {SENTENCES[number]}\n".encode())
 
 
-# ---- files
-
-def a_file_is_written_whole_or_not_at_all():
-    with tempfile.TemporaryDirectory() as room:
-        script, picture, link = (os.path.join(room, name) for name in ("script", "picture", "link"))
-
-        def holds(path, wanted, count):
-            with open(path, "rb") as file:
-                assert file.read() == wanted, path
-            assert len(os.listdir(room)) == count, os.listdir(room)
-
-        def reads(text):
-            with open(script, "wb") as file:
-                file.write(text)
-
-        reads(SCRIPT)
-        # A new file, and then one in its place. Standard input is not looked at.
-        for words in (["script", "-i", script, "-o", picture],
-                      ["loop", "--output=" + picture, "-i" + script]):
-            ends(words, b"settle\n", 0)
-            holds(picture, FILLED, 2)
-        # Where it fails, what was there stays.
-        reads(b"screen 2 1\n")
-        ends(["script", "-i", script, "-o", picture], b"", 1, b"", b"fault 25 NotReady\n")
-        holds(picture, FILLED, 2)
-        # What a link leads to is written in the same way.
-        os.symlink(picture, link)
-        for words in ["script", "-i", script], ["play", "-i", "/no"], ["view", f"::{free_port()}"]:
-            Run([*words, "-o", link]).ends(1, b"")
-            holds(picture, FILLED, 3)
-        reads(b"screen 1 1\nsettle\n")
-        ends(["script", "--input", script, "-o=" + link], b"", 0)
-        assert os.path.islink(link)
-        holds(picture, b"P6\n1 1\n65535\n" + bytes(6), 3)
-        # A line is no name of standard output.
-        Run(["script", "--output", "-"], SCRIPT, room=room).ends(0, b"", b"")
-        holds(os.path.join(room, "-"), FILLED, 4)
-
-
-def a_file_that_cannot_be_had_is_a_fault_of_a_device():
-    for words in (["script", "-i", "/no/such/file"], ["play", "-i", "/"],
-                  ["script", "-o", "/no/such/file"], ["script", "-o", "/"],
-                  ["script", "-o", "/dev/full"], ["script", "-o", ""]):
-        ends(words, SCRIPT, 1, b"", DEVICE)
-
-
-def a_terminal_gets_no_picture_by_its_name():
-    here, there = os.openpty()
-    path = os.ttyname(there)
-    for words, given in (["script"], SCRIPT), (["play"], SERVER):
-        ends([*words, "-o", path], given, 1, b"", DEVICE)
-        ends([*words, "--explain", "-o", path], given, 1, b"", b"rfb: cannot write %s: it is a"
-             b" terminal, which shows no picture and no recording\n" % path.encode() + DEVICE)
-    os.set_blocking(here, False)
-    try:
-        assert os.read(here, 100) == b""
-    except BlockingIOError:
-        pass
-    os.close(here)
-    os.close(there)
-
-
 # ---- streams that fail
 
 def an_output_that_fails_is_reported_after_the_refusals():
@@ -303,9 +227,6 @@ ROWS = [
     words_that_there_are_not,
     help_is_printed_once,
     what_is_first_wrong_with_a_picture_is_reported,
-    a_file_is_written_whole_or_not_at_all,
-    a_file_that_cannot_be_had_is_a_fault_of_a_device,
-    a_terminal_gets_no_picture_by_its_name,
     an_output_that_fails_is_reported_after_the_refusals,
     an_input_that_fails_is_reported_and_nothing_runs,
     what_came_before_an_input_failed_is_shown_if_it_is_wanted,
