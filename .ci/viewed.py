@@ -9,13 +9,18 @@ failed'.
 """
 
 import contextlib
+import os
+import resource
+import shutil
 import signal
+import subprocess
 import sys
+import tempfile
 import time
 from concurrent.futures import ThreadPoolExecutor
 
 from calls import (BLACK, CLIENT, DEVICE, HELLO, MORE, NO_VERSION, OTHER, SERVER, SHOWN, TRUNCATED,
-                   Server, breaks, connected, ends, halts, judged, takes, viewing)
+                   Run, Server, breaks, connected, ends, free_port, halts, judged, takes, viewing)
 
 # ---- servers that are viewed
 
@@ -75,6 +80,50 @@ def a_view_that_is_cut_short_shows_nothing():
 def a_refused_connection_is_tried_again():
     server = Server(late=1)
     server.shows(["--port", str(server.port), "--timeout", "5"])
+
+
+def a_refused_connection_rests_before_it_is_tried_again():
+    """All of a second it is refused, which takes next to none of a processor's time."""
+    def taken():
+        used = resource.getrusage(resource.RUSAGE_CHILDREN)
+        return used.ru_utime + used.ru_stime
+
+    before = taken()
+    ends(["view", f"::{free_port()}", "--timeout=1"], b"", 1, b"", DEVICE)
+    assert taken() - before < 0.3, taken() - before
+
+
+# A host with two addresses, of which nothing listens at the first.
+TWO_ADDRESSES = r"""
+#define _GNU_SOURCE
+#include <dlfcn.h>
+#include <netdb.h>
+typedef int look(const char *, const char *, const struct addrinfo *, struct addrinfo **);
+int getaddrinfo(const char *name, const char *port, const struct addrinfo *wanted,
+                struct addrinfo **found) {
+    look *next = (look *)dlsym(RTLD_NEXT, "getaddrinfo");
+    struct addrinfo *last;
+    int failed = next("FIRST", port, wanted, found);
+    if (failed) return failed;
+    for (last = *found; last->ai_next; last = last->ai_next);
+    return next("127.0.0.1", port, wanted, &last->ai_next);
+}
+"""
+
+
+def each_address_of_a_host_is_tried():
+    if not shutil.which("cc"):
+        print("no C compiler: no host has two addresses")
+        return
+    with tempfile.TemporaryDirectory() as room:
+        source, made = os.path.join(room, "two.c"), os.path.join(room, "two.so")
+        with open(source, "w") as file:
+            file.write(TWO_ADDRESSES.replace("FIRST", OTHER))
+        subprocess.run(["cc", "-shared", "-fPIC", "-o", made, source, "-ldl"], check=True)
+        for late, *more in (0,), (0, "--timeout=5"), (0.3, "--timeout=5"):
+            server = Server(late=late)
+            words = ["view", "--host=two.invalid", f"--port={server.port}", *more]
+            Run(words, before=lambda: os.environ.update(LD_PRELOAD=made)).ends(0, SHOWN, b"")
 
 
 ENDLESS = b"rfb: it waits as long as it takes: there is no --timeout\n"
@@ -170,6 +219,8 @@ ROWS = [
     an_answer_that_cannot_be_sent_is_explained,
     a_server_that_is_too_slow_is_explained,
     a_refused_connection_is_tried_again,
+    a_refused_connection_rests_before_it_is_tried_again,
+    each_address_of_a_host_is_tried,
     a_view_of_a_silent_server_ends_when_its_time_is_up,
 ]
 
