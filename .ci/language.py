@@ -544,6 +544,24 @@ def a_bad_script_is_explained():
         yield script, 1, b"", f"rfb: line {line} of the script{cause}\n" + bad(line)
 
 
+def a_screen_has_a_usual_size():
+    """And a script as many lines as it needs."""
+    fills = "fill 0 0 1 1 000000\n" * 20000
+    asked = "settle\nrequest full 0 0 {0} {1}\nsettle\ncompose\nsettle\n"
+    for w, h in (1920, 1080), (640, 480):
+        yield (f"screen {w} {h}\n{fills}fill 0 0 {w} {h} FF8001\n" + asked.format(w, h), 0,
+               ppm(w, h, ORANGE * (w * h)), "")
+
+
+def a_hub_has_a_usual_size():
+    whole = [line for slot in range(8) for line in (
+        f"at {slot} settle", f"at {slot} request full 0 0 640 480", f"at {slot} settle",
+        f"at {slot} compose", f"at {slot} settle")]
+    joins = [f"join {slot} shared rgb888 raw" for slot in range(8)]
+    yield ("\n".join(["hub 640 480", "fill 0 0 640 480 FF8001", *joins, *whole, "show 7\n"]), 0,
+           ppm(640, 480, ORANGE * (640 * 480)), "")
+
+
 # The rows, and the words with which each is run.
 SCRIPT, LOOP = ["script"], ["loop"]
 ROWS = [
@@ -565,6 +583,8 @@ ROWS = [
     (a_slot_without_a_picture_shows_none, SCRIPT),
     (a_viewer_that_joins_again_has_nothing_of_the_one_before, SCRIPT),
     (a_drawing_and_a_hint_reach_each_session, SCRIPT),
+    (a_screen_has_a_usual_size, SCRIPT, LOOP),
+    (a_hub_has_a_usual_size, SCRIPT),
     (a_bad_line_is_explained, ["script", "--explain"]),
     (a_bad_line_of_a_hub_is_explained, ["script", "--explain"]),
     (a_bad_script_is_explained, ["--explain", "script"], ["--explain", "loop"]),
@@ -596,7 +616,7 @@ def main(programs):
                     says = wrong(program, words, *row)
                     passed, failed = passed + (not says), failed + bool(says)
                     if says:
-                        print(f"{program}, {rows.__name__}, {words[-1]} of {row[0]!r}: {says}")
+                        print(f"{program}, {rows.__name__}, {words[-1]} of {row[0][:500]!r}: {says}")
     print(f"{passed} passed, {failed} failed")
     return failed != 0 or passed == 0
 

@@ -84,10 +84,13 @@ def each_line_of_serve_is_of_a_connection_of_its_own():
         told += own + b"connected\n" + own + b"left; updates sent: 1, in all so far: %d\n" % turn
     run.ends(0, b"ok 1\n" * 3)
     assert run.told(2).split(b"\n", 1)[1] == told, run.told(2)
-    # With no descriptor to be had no connection is accepted.
+    # With no descriptor to be had no connection is accepted, and each is told a tenth of a second
+    # later.
+    begun = time.time()
     run = Run(["serve", "--explain", "--port", str(free_port()), "--connections", "3"],
               before=limited(resource.RLIMIT_NOFILE, 4))
     run.ends(0, DEVICE * 3)
+    assert time.time() - begun >= 0.3, time.time() - begun
     refused = b"rfb: a connection could not be accepted: Too many open files (os error 24)\n"
     assert run.told(2).split(b"\n", 1)[1] == refused * 3, run.told(2)
 
@@ -201,6 +204,50 @@ def a_picture_is_read_once_for_all_viewers():
         run.ends(0, b"ok 1\nok 1\n", b"")
 
 
+# The sides of a usual screen.
+WIDE, HIGH = 1920, 1080
+
+
+def doubled(data):
+    """Components of a byte, each 257 times as much in two."""
+    both = bytearray(2 * len(data))
+    both[0::2] = both[1::2] = data
+    return bytes(both)
+
+
+def is_viewed(port, places):
+    """A view of a screen of usual size shows these places, three bytes each."""
+    head = b"P6\n%d %d\n65535\n" % (WIDE, HIGH)
+    ends(["view", f"::{port}", "--timeout=20"], b"", 0, head + doubled(places))
+
+
+def a_picture_of_a_usual_size_is_shown():
+    data = os.urandom(3 * WIDE * HIGH)
+    with tempfile.TemporaryDirectory() as room:
+        path = os.path.join(room, "picture")
+        for largest, samples in (255, data), (65535, doubled(data)):
+            with open(path, "wb") as picture:
+                picture.write(b"P6\n%d %d\n%d\n" % (WIDE, HIGH, largest) + samples)
+            port = free_port()
+            run = Run(["serve", f"--port={port}", "--picture", path])
+            is_viewed(port, data)
+            run.ends(0, b"ok 1\n", b"")
+
+
+def a_scene_of_a_usual_size_is_shown():
+    """At (x, y) red is 4x, green 4y and blue 2(x+y), each modulo 256."""
+    red, blue = (bytes(by * x & 255 for x in range(WIDE + HIGH)) for by in (4, 2))
+    places = bytearray(3 * WIDE * HIGH)
+    for y in range(HIGH):
+        row = bytearray(3 * WIDE)
+        row[0::3], row[1::3], row[2::3] = red[:WIDE], red[y:y + 1] * WIDE, blue[y:y + WIDE]
+        places[3 * WIDE * y:3 * WIDE * (y + 1)] = row
+    port = free_port()
+    run = Run(["serve", f"--port={port}", f"--width={WIDE}", f"--height={HIGH}"])
+    is_viewed(port, places)
+    run.ends(0, b"ok 1\n", b"")
+
+
 ROWS = [
     a_screen_has_the_sides_that_are_given,
     what_is_listened_on_is_what_is_named,
@@ -212,6 +259,8 @@ ROWS = [
     a_client_is_let_go_once_it_sends_nothing_in_the_time,
     what_cannot_be_listened_on_is_said,
     a_picture_is_read_once_for_all_viewers,
+    a_picture_of_a_usual_size_is_shown,
+    a_scene_of_a_usual_size_is_shown,
 ]
 
 
