@@ -126,8 +126,8 @@ class Viewer:
         self.shown = bytearray(self.width * self.height * 4)
         return self
 
-    def ask(self, incremental=1):
-        self.send(struct.pack(">BBHHHH", 3, incremental, 0, 0, self.width, self.height))
+    def ask(self, incremental=1, area=None):
+        self.send(struct.pack(">BBHHHH", 3, incremental, *area or (0, 0, self.width, self.height)))
 
     def update(self):
         """Takes an update, and returns the encodings of its rectangles."""
@@ -375,6 +375,52 @@ def a_stuck_viewer_holds_nobody_up(width=512, height=384, frames=30):
     return f"{frames} frames at seven viewers in {taken:.2f} s"
 
 
+# What a viewer does that waits for what changes, and the line of its end by docs/PROTOCOL.md.
+FAULTS = [
+    (lambda bad: bad.send(b"\x63"), b"fault 7 UnknownMessage"),
+    (lambda bad: bad.send(bytes(4) + bytes.fromhex("18 18 00 01 00FF00FF00FF 100800 000000")),
+     b"fault 1 BadBits"),
+    (lambda bad: bad.close(reset=True), b"fault 29 Device"),
+    (lambda bad: bad.stream.shutdown(socket.SHUT_WR), b"ok"),
+]
+
+
+def a_faulty_viewer_ends_alone():
+    """Seven others wait for what changes of a screen that scrolls, before its end and after."""
+    width, height, frames = 160, 120, 12
+    for seat, (fails, told) in zip((0, 2, 5, 7), FAULTS):
+        share = Share()
+        share.say(f"screen {width} {height}\n")
+        eight = viewers(share, 8)
+        for viewer in eight:
+            viewer.ask(0)
+            viewer.update()
+        bad = eight[seat]
+        others = {place: viewer for place, viewer in enumerate(eight) if place != seat}
+        bad.ask()
+        screen = bytes(4 * width * (height - frames))
+        for frame in range(frames):
+            if frame == 4:
+                fails(bad)
+            for viewer in others.values():
+                viewer.ask()
+            row = os.urandom(3 * width)
+            share.say(f"scroll 0 0 {width} {height} 0 -1\npixels 0 {height - 1} {width} 1\n".encode()
+                      + row + b"\n")
+            for viewer in others.values():
+                viewer.update()
+                viewer.sees(width - 1, height - 1, tuple(row[-3:]))
+            screen += b"".join(row[x:x + 3][::-1] + b"\0" for x in range(0, len(row), 3))
+        share.tells(b"leave %d %b" % (seat, told))
+        assert all(viewer.shown == screen for viewer in others.values()), told
+        assert share.output.count(b"\nleave ") == 1, share.output
+        # Each of the others still has the seat that it had.
+        for place, viewer in others.items():
+            viewer.send(struct.pack(">BBHI", 4, 1, 0, 100 + place))
+            share.tells(b"key %d down %d" % (place, 100 + place))
+        share.quits()
+
+
 def a_flood_of_requests_is_answered_by_few_updates():
     share = Share()
     share.say("screen 320 240\n")
@@ -454,6 +500,67 @@ def many_come_one_after_another():
     return f"{MANY} connections; KiB and descriptors at a quarter, half and all: {figures}"
 
 
+def what_is_long_or_wide_is_taken_whole():
+    """A name of 255 bytes, of which a longer one is cut; a text; and the pixels of a screen."""
+    for name in "n" * 255, "m" * 300:
+        share = Share("--name", name)
+        share.say("screen 4096 1\n")
+        viewer = Viewer(share).hello()
+        assert viewer.name == name[:255].encode() and (viewer.width, viewer.height) == (4096, 1)
+        share.quits()
+    width, height = 1920, 1080
+    share = Share()
+    share.say(f"screen {width} {height}\n")
+    viewer = Viewer(share).hello()
+    for text in os.urandom(1024), os.urandom(100000):
+        viewer.send(struct.pack(">BxxxI", 6, len(text)) + text)
+        share.tells(b"text 0 " + text[:1024].hex().encode())
+    viewer.ask(0)
+    viewer.update()
+    viewer.ask()
+    places = os.urandom(3 * width * height)
+    share.say(f"pixels 0 0 {width} {height}\n".encode() + places + b"\n")
+    viewer.update()
+    for of_pixel, of_place in (2, 0), (1, 1), (0, 2):
+        assert viewer.shown[of_pixel::4] == places[of_place::3]
+    share.quits()
+
+
+def kept_of(width, height, seats):
+    """The KiB that a share keeps by its types: six bytes for each place of its screen; and for each
+    viewer a pixel of four bytes there, and at most eight bits."""
+    return width * height * (6 + 5 * seats) >> 10
+
+
+def an_update_that_was_written_is_kept_no_more():
+    """Neither a large one nor those of eight viewers."""
+    told = []
+    for side, count in (4096, 1), (2048, 8):
+        share = Share()
+        share.say(f"screen {side} {side}\n")
+        all_viewers = viewers(share, count)
+        before = share.memory()
+        # One place alone.
+        last = side - 1
+        share.say(f"fill {last} {last} 1 1 ff8001\n")
+        for viewer in all_viewers:
+            viewer.ask(0, (last, last, 1, 1))
+            viewer.update()
+            assert viewer.at(last, last) == (255, 128, 1)
+            viewer.ask(0)
+            viewer.update()
+            assert viewer.at(0, 0) == (0, 0, 0) and viewer.at(last, last) == (255, 128, 1)
+        # Once each has a key of its own, the share has been told that all is written.
+        for seat, viewer in enumerate(all_viewers):
+            viewer.send(struct.pack(">BBHI", 4, 1, 0, 65 + seat))
+            share.tells(b"key %d down %d" % (seat, 65 + seat))
+        after = share.memory()
+        told.append(f"{before} and {after}, {kept_of(side, side, count)} by its types")
+        assert after < kept_of(side, side, count) + 32768, told
+        share.quits()
+    return f"KiB before and after whole updates: {'; '.join(told)}"
+
+
 def idle():
     share = Share()
     share.say("screen 1920 1080\n")
@@ -491,9 +598,10 @@ def video(width=640, height=480, frames=30):
 ROWS = [each_line_draws_and_each_event_is_reported, a_scroll_is_sent_as_a_copy,
         the_end_of_input_leaves_the_screen, the_last_line_may_lack_its_newline,
         a_last_line_that_is_bad_is_explained, a_ninth_is_let_go_and_sole_use_ends_the_others,
-        a_stuck_viewer_holds_nobody_up,
+        a_stuck_viewer_holds_nobody_up, a_faulty_viewer_ends_alone,
         a_flood_of_requests_is_answered_by_few_updates, a_client_may_send_a_byte_at_a_time,
-        clients_leave_in_the_middle_of_an_update, many_come_one_after_another]
+        clients_leave_in_the_middle_of_an_update, many_come_one_after_another,
+        what_is_long_or_wide_is_taken_whole, an_update_that_was_written_is_kept_no_more]
 
 
 def main():
