@@ -8,18 +8,17 @@ some rounds, less those of fewer, over the difference. Needs valgrind. The clien
 `.ci/shares.py`.
 """
 
-import importlib.util
 import os
 import re
 import subprocess
 import sys
 import threading
 
+sys.path.insert(0, os.path.join(os.path.dirname(os.path.abspath(__file__)), "..", ".ci"))
+import shares
+
 PROGRAM = os.path.abspath(sys.argv[1])
 ROUNDS = (50, 250)
-spec = importlib.util.spec_from_file_location("shares", os.path.join(os.path.dirname(__file__), "..", ".ci", "shares.py"))
-shares = importlib.util.module_from_spec(spec)
-spec.loader.exec_module(shares)
 
 
 class Counted(shares.Share):
