@@ -132,6 +132,21 @@ def what_stands_where_a_part_would_is_left_alone():
             assert os.path.islink(part) and os.path.islink(second) and len(os.listdir(room)) == 5
 
 
+def what_is_no_regular_file_is_written_where_it_is():
+    with tempfile.TemporaryDirectory() as room:
+        link, end, pipe = (os.path.join(room, name) for name in ("link", "end", "pipe"))
+        os.symlink(end, link)
+        ends(["play", "-o", link], SERVER, 0)
+        assert os.path.islink(link) and is_held(end, SHOWN)
+        os.mkfifo(pipe)
+        here = os.open(pipe, os.O_RDONLY | os.O_NONBLOCK)
+        ends(["play", "-o", pipe], SERVER, 0)
+        came = os.read(here, 1000)
+        os.close(here)
+        assert came == SHOWN and stat.S_ISFIFO(os.lstat(pipe).st_mode), came
+        assert sorted(os.listdir(room)) == ["end", "link", "pipe"], os.listdir(room)
+
+
 # An update of SERVER's screen after its first: both places, and the left one's pixel has come. What
 # is shown then.
 HALF = bytes.fromhex("00000001 0000 0000 0002 0001 00000000 0180FF00 0180")
@@ -258,6 +273,7 @@ ROWS = [
     a_file_is_written_whole_or_not_at_all,
     a_file_in_place_of_another_has_its_permissions,
     what_stands_where_a_part_would_is_left_alone,
+    what_is_no_regular_file_is_written_where_it_is,
     what_came_by_an_early_end_is_kept_in_a_file_if_it_is_wanted,
     a_reset_connection_is_an_early_end,
     a_file_that_cannot_be_had_is_a_fault_of_a_device,
