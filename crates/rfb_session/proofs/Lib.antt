@@ -48,6 +48,7 @@ pub mod VerdictLemmas
 pub mod ShownLemmas
 pub mod LossLemmas
 pub mod WrittenLemmas
+pub mod WireLemmas
 pub mod WrittenLaws
 pub mod PixmapLemmas
 pub mod EngineRunLemmas
@@ -58,8 +59,10 @@ pub mod ServeLemmas
 pub mod ServeLaws
 pub mod ServingLemmas
 pub mod TurnLemmas
+pub mod ServeOrderLemmas
 pub mod ViewLemmas
 pub mod LookLemmas
+pub mod ViewOrderLemmas
 pub mod NetpbmNumberLemmas
 pub mod NetpbmHeadLemmas
 pub mod NetpbmPlacesLemmas

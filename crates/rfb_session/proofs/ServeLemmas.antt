@@ -1,7 +1,6 @@
 -- What an engine does with a server, call by call.
 use Rattle.std.proofs.Common.{◌≡◌, ◌≢◌, ℕ, zero, suc, ◌+◌, ◌-◌, ◌*◌, ◌&&◌, Bool, true, false, List, [], ◌∷◌, ◌++◌, Option, Some, length, take, drop, refl, sym, ap, ◌∙◌, subst, append_assoc, append-nil, take-append-drop, slice_index_or, replicate}
 use Rattle.std.specs.Io.KnownBytes.{Appends}
-use Rattle.std.proofs.KnownBytes.{Appends-nil, Appends-trans}
 use Rattle.rfb_pixel.specs.declared.colour.Colour.{Colour}
 use Rattle.rfb_picture.specs.Grid.{Grid, uniform, at_or}
 use Rattle.rfb_picture.specs.Area.{Places, nothing, asked_at}
@@ -18,12 +17,13 @@ use Rattle.rfb_server.specs.Composing.{Composes}
 use Rattle.rfb_server.specs.Updating.{Updates, StaysUnsent}
 use Rattle.rfb_session.specs.declared.engine.fault.EngineFault.{EngineFault}
 use Rattle.rfb_session.specs.declared.engine.fault.EngineFault.TheVariants.{Server as ServerEnded, Viewer as ViewerEnded, Truncated, Device, NoMemory as EngineNoMemory}
-use Rattle.rfb_session.specs.Devices.{AppendsBeginning}
 use Rattle.rfb_session.specs.InFlight.{server_reply}
 use Rattle.rfb_session.specs.EngineRun.{Did}
-use Rattle.rfb_session.specs.ServeEngine.{Composed, Drawn, server_driven, ServerRuns, Hears, IsIdle, RunsToIdle, IsHeard, IsUpdated, IsCutOff, IsEnded, StopsHearing}
-use Rattle.rfb_session.specs.Turns.{IsAnswered, Showing, EndsTurn}
-use Rattle.rfb_session.proofs.WrittenLemmas.{rest_is, then_stopped}
+use Rattle.rfb_session.specs.ServeEngine.{Composed, Drawn, server_driven, ServerRuns, Hears, IsIdle, RunsToIdle, IsHeard, IsUpdated, IsCutOff, IsEnded, IsEndedBy, StopsHearing}
+use Rattle.rfb_session.specs.Turns.{IsAnswered, IsAnsweredBy, Showing, EndsTurn}
+use Rattle.rfb_session.specs.Wire.{Writing, by_bytes}
+use Rattle.rfb_session.proofs.WrittenLemmas.{rest_is}
+use Rattle.rfb_session.proofs.WireLemmas.{Joins, bytes_join}
 use Rattle.rfb_session.proofs.EngineRunLemmas.{ran_did, feeds_none, feeds_then, feeds_once, feeds_runs}
 
 -- ---- when no update is due
@@ -127,7 +127,7 @@ drawn_idle old mid new out after updates none draws = λ serving s prefix stands
 
 -- a turn's end is an update or none
 pub updated_of : {X : Type 0} (shows : Showing X) (old : Server) (scene : X) (before after : Option (List ℕ))
-    (updates : ℕ) (new : Server) (last : X) → EndsTurn shows old scene before after updates new last →
+    (updates : ℕ) (new : Server) (last : X) → EndsTurn by_bytes shows old scene before after updates new last →
     IsUpdated old before after updates new
 updated_of shows old scene before after zero new last ends = record {
   sent = [];
@@ -154,129 +154,164 @@ heard_of old bytes before after new answered = record {
   wrote = answered.wrote;
 }
 
-pub record Heard (old : Server) (bytes rest : List ℕ) (before after : Option (List ℕ)) (now : Server) : Type 0 where
-  pub fed : List ℕ
-  pub sent : List ℕ
-  pub bytes_are : bytes ≡ fed ++ rest
-  pub hears : Hears old fed sent now
-  pub wrote : Appends before after sent
-
-pub heard_none : (old : Server) (bytes : List ℕ) (before : Option (List ℕ)) → Heard old bytes bytes before before old
-heard_none old bytes before = record {
-  fed = [];
-  sent = [];
-  bytes_are = refl;
-  hears = feeds_none server_driven old;
-  wrote = Appends-nil before;
-}
-
--- one call, which took some bytes
-pub call_heard : (old new : Server) (bytes : List ℕ) (used : ℕ) (event : Option ServerEvent)
-    (before after : Option (List ℕ)) (answer : List ℕ) →
-    ((serving : Serving) → FedBy (server serving) (StandsFor serving) old (take used bytes) (seen event) new) →
-    answer ≡ server_reply (seen event) → Appends before after answer →
-    IsAnswered old (take used bytes) before after new
-call_heard old new bytes used event before after answer fed is wrote = record {
-  sent = server_reply (seen event);
-  hears = feeds_once server_driven old new (take used bytes) (seen event) fed;
-  wrote = subst (λ (l : List ℕ). Appends before after l) is wrote;
-}
-
-pub call_cut : (old new : Server) (bytes : List ℕ) (used : ℕ) (event : Option ServerEvent)
-    (before after : Option (List ℕ)) (answer : List ℕ) →
-    ((serving : Serving) → FedBy (server serving) (StandsFor serving) old (take used bytes) (seen event) new) →
-    answer ≡ server_reply (seen event) → AppendsBeginning before after answer →
-    IsCutOff old bytes before after new
-call_cut old new bytes used event before after answer fed is begun = record {
-  fed = take used bytes;
-  later = drop used bytes;
-  sent = server_reply (seen event);
-  bytes_are = sym (take-append-drop used bytes);
-  hears = feeds_once server_driven old new (take used bytes) (seen event) fed;
-  wrote = subst (λ (l : List ℕ). AppendsBeginning before after l) is begun;
-}
-
-pub call_ended : (old new : Server) (bytes : List ℕ) (before : Option (List ℕ)) (fault : ServerFault) →
-    fault_of new ≡ Some fault →
-    (fault ≢ NoMemory → (serving : Serving) → RefusedBy (server serving) (StandsFor serving) old bytes fault) →
-    (fault ≡ NoMemory → (serving : Serving) → RunsOutBy (server serving) AsksMemory (StandsFor serving) old bytes) →
-    KeepsNotes fault old bytes new → IsEnded old bytes before before fault new
-call_ended old new bytes before fault fails refused starved kept = record {
-  fed = [];
-  slice = bytes;
-  sent = [];
-  last = old;
-  bytes_are = refl;
-  hears = feeds_none server_driven old;
-  wrote = Appends-nil before;
-  ends = record { fails = fails; refused = refused; starved = starved; kept = kept };
-}
-
--- calls one after another
-pub heard_more : (old : Server) (bytes rest : List ℕ) (before mid after : Option (List ℕ)) (last : Server)
-    (used : ℕ) (new : Server) → Heard old bytes rest before mid last →
-    IsAnswered last (take used rest) mid after new →
-    Heard old bytes (take (length rest - used) (drop used rest)) before after new
-heard_more old bytes rest before mid after last used new was more = record {
-  fed = was.fed ++ take used rest;
-  sent = was.sent ++ more.sent;
-  bytes_are = was.bytes_are
-      ∙ ap (λ (l : List ℕ). was.fed ++ l) (sym (take-append-drop used rest))
-      ∙ sym (append_assoc was.fed (take used rest) (drop used rest))
-      ∙ ap (λ (l : List ℕ). (was.fed ++ take used rest) ++ l) (sym (rest_is rest used));
-  hears = feeds_then server_driven old last new was.fed was.sent (take used rest) more.sent 0 0 was.hears more.hears;
-  wrote = Appends-trans before mid after was.sent more.sent was.wrote more.wrote;
-}
-
-pub heard_all : (old : Server) (bytes rest : List ℕ) (before after : Option (List ℕ)) (now : Server) →
-    Heard old bytes rest before after now → rest ≡ [] → IsAnswered old bytes before after now
-heard_all old bytes rest before after now was none = record {
-  sent = was.sent;
-  hears = subst (λ (l : List ℕ). Hears old l was.sent now)
-      (sym (was.bytes_are ∙ ap (λ (l : List ℕ). was.fed ++ l) none ∙ append-nil was.fed)) was.hears;
-  wrote = was.wrote;
-}
-
--- a beginning of an answer was written after the others
-pub begun_after : (before mid after : Option (List ℕ)) (sent answer : List ℕ) → Appends before mid sent →
-    AppendsBeginning mid after answer → AppendsBeginning before after (sent ++ answer)
-begun_after before mid after sent answer wrote begun =
-    then_stopped before mid after (sent ++ answer) answer
-    (record { done = sent; parts = refl; appended = wrote }) begun
+module _ {D : Type 0} where
+  pub record HeardBy (writing : Writing D) (old : Server) (bytes rest : List ℕ) (before after : D) (now : Server) : Type 0 where
+    pub fed : List ℕ
+    pub sent : List ℕ
+    pub bytes_are : bytes ≡ fed ++ rest
+    pub hears : Hears old fed sent now
+    pub wrote : writing.all before after sent
 
 all_parts : (bytes fed rest more slice : List ℕ) → bytes ≡ fed ++ rest → rest ≡ more ++ slice →
     bytes ≡ (fed ++ more) ++ slice
 all_parts bytes fed rest more slice is parts =
     is ∙ ap (λ (l : List ℕ). fed ++ l) parts ∙ sym (append_assoc fed more slice)
 
--- why it stops after calls
+-- however bytes are written
+module _ {D : Type 0} (writing : Writing D) (joins : Joins writing) where
+  pub hears_no_byte : (old : Server) (bytes : List ℕ) (before : D) → HeardBy writing old bytes bytes before before old
+  hears_no_byte old bytes before = record {
+    fed = [];
+    sent = [];
+    bytes_are = refl;
+    hears = feeds_none server_driven old;
+    wrote = joins.none before;
+  }
+
+  pub hears_call : (old new : Server) (bytes : List ℕ) (used : ℕ) (event : Option ServerEvent)
+      (before after : D) (answer : List ℕ) →
+      ((serving : Serving) → FedBy (server serving) (StandsFor serving) old (take used bytes) (seen event) new) →
+      answer ≡ server_reply (seen event) → writing.all before after answer →
+      IsAnsweredBy writing old (take used bytes) before after new
+  hears_call old new bytes used event before after answer fed is wrote = record {
+    sent = server_reply (seen event);
+    hears = feeds_once server_driven old new (take used bytes) (seen event) fed;
+    wrote = subst (λ (l : List ℕ). writing.all before after l) is wrote;
+  }
+
+  pub call_cut : (old new : Server) (bytes : List ℕ) (used : ℕ) (event : Option ServerEvent)
+      (before after : D) (answer : List ℕ) →
+      ((serving : Serving) → FedBy (server serving) (StandsFor serving) old (take used bytes) (seen event) new) →
+      answer ≡ server_reply (seen event) → writing.some before after answer →
+      IsCutOff writing old bytes before after new
+  call_cut old new bytes used event before after answer fed is begun = record {
+    fed = take used bytes;
+    later = drop used bytes;
+    sent = server_reply (seen event);
+    bytes_are = sym (take-append-drop used bytes);
+    hears = feeds_once server_driven old new (take used bytes) (seen event) fed;
+    wrote = subst (λ (l : List ℕ). writing.some before after l) is begun;
+  }
+
+  pub call_ends : (old new : Server) (bytes : List ℕ) (before : D) (fault : ServerFault) →
+      fault_of new ≡ Some fault →
+      (fault ≢ NoMemory → (serving : Serving) → RefusedBy (server serving) (StandsFor serving) old bytes fault) →
+      (fault ≡ NoMemory → (serving : Serving) → RunsOutBy (server serving) AsksMemory (StandsFor serving) old bytes) →
+      KeepsNotes fault old bytes new → IsEndedBy writing old bytes before before fault new
+  call_ends old new bytes before fault fails refused starved kept = record {
+    fed = [];
+    slice = bytes;
+    sent = [];
+    last = old;
+    bytes_are = refl;
+    hears = feeds_none server_driven old;
+    wrote = joins.none before;
+    ends = record { fails = fails; refused = refused; starved = starved; kept = kept };
+  }
+
+  -- calls one after another
+  pub hears_more : (old : Server) (bytes rest : List ℕ) (before mid after : D) (last : Server)
+      (used : ℕ) (new : Server) → HeardBy writing old bytes rest before mid last →
+      IsAnsweredBy writing last (take used rest) mid after new →
+      HeardBy writing old bytes (take (length rest - used) (drop used rest)) before after new
+  hears_more old bytes rest before mid after last used new was more = record {
+    fed = was.fed ++ take used rest;
+    sent = was.sent ++ more.sent;
+    bytes_are = was.bytes_are
+        ∙ ap (λ (l : List ℕ). was.fed ++ l) (sym (take-append-drop used rest))
+        ∙ sym (append_assoc was.fed (take used rest) (drop used rest))
+        ∙ ap (λ (l : List ℕ). (was.fed ++ take used rest) ++ l) (sym (rest_is rest used));
+    hears = feeds_then server_driven old last new was.fed was.sent (take used rest) more.sent 0 0 was.hears more.hears;
+    wrote = joins.then before mid after was.sent more.sent was.wrote more.wrote;
+  }
+
+  pub hears_whole : (old : Server) (bytes rest : List ℕ) (before after : D) (now : Server) →
+      HeardBy writing old bytes rest before after now → rest ≡ [] →
+      IsAnsweredBy writing old bytes before after now
+  hears_whole old bytes rest before after now was none = record {
+    sent = was.sent;
+    hears = subst (λ (l : List ℕ). Hears old l was.sent now)
+        (sym (was.bytes_are ∙ ap (λ (l : List ℕ). was.fed ++ l) none ∙ append-nil was.fed)) was.hears;
+    wrote = was.wrote;
+  }
+
+  -- why it stops after calls
+  pub hears_until : (old : Server) (bytes rest : List ℕ) (before mid after : D) (last : Server)
+      (failed_before failed_mid failed : ℕ) (fault : EngineFault) (new : Server) →
+      HeardBy writing old bytes rest before mid last → failed_mid ≡ failed_before →
+      StopsHearing writing last rest mid after failed_mid failed fault new →
+      StopsHearing writing old bytes before after failed_before failed fault new
+  hears_until old bytes rest before mid after last fb fm failed (ServerEnded fault) new was same stops = record {
+    fed = was.fed ++ stops.fed;
+    slice = stops.slice;
+    sent = was.sent ++ stops.sent;
+    last = stops.last;
+    bytes_are = all_parts bytes was.fed rest stops.fed stops.slice was.bytes_are stops.bytes_are;
+    hears = feeds_then server_driven old last stops.last was.fed was.sent stops.fed stops.sent 0 0 was.hears stops.hears;
+    wrote = joins.then before mid after was.sent stops.sent was.wrote stops.wrote;
+    ends = stops.ends;
+  }
+  hears_until old bytes rest before mid after last fb fm failed Device new was same stops =
+      let cut = stops.1 in (
+        subst (λ (k : ℕ). failed ≡ k + 1) same stops.0,
+        record {
+          fed = was.fed ++ cut.fed;
+          later = cut.later;
+          sent = was.sent ++ cut.sent;
+          bytes_are = all_parts bytes was.fed rest cut.fed cut.later was.bytes_are cut.bytes_are;
+          hears = feeds_then server_driven old last new was.fed was.sent cut.fed cut.sent 0 0 was.hears cut.hears;
+          wrote = joins.stops before mid after was.sent cut.sent was.wrote cut.wrote;
+        },
+      )
+  hears_until old bytes rest before mid after last fb fm failed (ViewerEnded fault) new was same stops = stops
+  hears_until old bytes rest before mid after last fb fm failed Truncated new was same stops = stops
+  hears_until old bytes rest before mid after last fb fm failed EngineNoMemory new was same stops = stops
+
+-- ---- the same by what is known of the bytes
+
+abbrev pub Heard : Server → List ℕ → List ℕ → Option (List ℕ) → Option (List ℕ) → Server → Type 0
+Heard old bytes rest before after now = HeardBy by_bytes old bytes rest before after now
+
+pub heard_none : (old : Server) (bytes : List ℕ) (before : Option (List ℕ)) → Heard old bytes bytes before before old
+heard_none = hears_no_byte by_bytes bytes_join
+
+pub call_heard : (old new : Server) (bytes : List ℕ) (used : ℕ) (event : Option ServerEvent)
+    (before after : Option (List ℕ)) (answer : List ℕ) →
+    ((serving : Serving) → FedBy (server serving) (StandsFor serving) old (take used bytes) (seen event) new) →
+    answer ≡ server_reply (seen event) → Appends before after answer →
+    IsAnswered old (take used bytes) before after new
+call_heard = hears_call by_bytes bytes_join
+
+pub call_ended : (old new : Server) (bytes : List ℕ) (before : Option (List ℕ)) (fault : ServerFault) →
+    fault_of new ≡ Some fault →
+    (fault ≢ NoMemory → (serving : Serving) → RefusedBy (server serving) (StandsFor serving) old bytes fault) →
+    (fault ≡ NoMemory → (serving : Serving) → RunsOutBy (server serving) AsksMemory (StandsFor serving) old bytes) →
+    KeepsNotes fault old bytes new → IsEnded old bytes before before fault new
+call_ended = call_ends by_bytes bytes_join
+
+pub heard_more : (old : Server) (bytes rest : List ℕ) (before mid after : Option (List ℕ)) (last : Server)
+    (used : ℕ) (new : Server) → Heard old bytes rest before mid last →
+    IsAnswered last (take used rest) mid after new →
+    Heard old bytes (take (length rest - used) (drop used rest)) before after new
+heard_more = hears_more by_bytes bytes_join
+
+pub heard_all : (old : Server) (bytes rest : List ℕ) (before after : Option (List ℕ)) (now : Server) →
+    Heard old bytes rest before after now → rest ≡ [] → IsAnswered old bytes before after now
+heard_all = hears_whole by_bytes bytes_join
+
 pub hearing_stops : (old : Server) (bytes rest : List ℕ) (before mid after : Option (List ℕ)) (last : Server)
     (failed_before failed_mid failed : ℕ) (fault : EngineFault) (new : Server) →
     Heard old bytes rest before mid last → failed_mid ≡ failed_before →
-    StopsHearing last rest mid after failed_mid failed fault new →
-    StopsHearing old bytes before after failed_before failed fault new
-hearing_stops old bytes rest before mid after last fb fm failed (ServerEnded fault) new was same stops = record {
-  fed = was.fed ++ stops.fed;
-  slice = stops.slice;
-  sent = was.sent ++ stops.sent;
-  last = stops.last;
-  bytes_are = all_parts bytes was.fed rest stops.fed stops.slice was.bytes_are stops.bytes_are;
-  hears = feeds_then server_driven old last stops.last was.fed was.sent stops.fed stops.sent 0 0 was.hears stops.hears;
-  wrote = Appends-trans before mid after was.sent stops.sent was.wrote stops.wrote;
-  ends = stops.ends;
-}
-hearing_stops old bytes rest before mid after last fb fm failed Device new was same stops =
-    let cut = stops.1 in (
-      subst (λ (k : ℕ). failed ≡ k + 1) same stops.0,
-      record {
-        fed = was.fed ++ cut.fed;
-        later = cut.later;
-        sent = was.sent ++ cut.sent;
-        bytes_are = all_parts bytes was.fed rest cut.fed cut.later was.bytes_are cut.bytes_are;
-        hears = feeds_then server_driven old last new was.fed was.sent cut.fed cut.sent 0 0 was.hears cut.hears;
-        wrote = begun_after before mid after was.sent cut.sent was.wrote cut.wrote;
-      },
-    )
-hearing_stops old bytes rest before mid after last fb fm failed (ViewerEnded fault) new was same stops = stops
-hearing_stops old bytes rest before mid after last fb fm failed Truncated new was same stops = stops
-hearing_stops old bytes rest before mid after last fb fm failed EngineNoMemory new was same stops = stops
+    StopsHearing by_bytes last rest mid after failed_mid failed fault new →
+    StopsHearing by_bytes old bytes before after failed_before failed fault new
+hearing_stops = hears_until by_bytes bytes_join

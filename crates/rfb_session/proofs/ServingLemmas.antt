@@ -7,11 +7,13 @@ use Rattle.rfb_session.specs.declared.engine.fault.EngineFault.{EngineFault}
 use Rattle.rfb_session.specs.declared.engine.fault.EngineFault.TheVariants.{Server as ServerEnded, Viewer as ViewerEnded, Truncated, Device, NoMemory as EngineNoMemory}
 use Rattle.rfb_session.specs.Devices.{AppendsBeginning}
 use Rattle.rfb_session.specs.Playing.{most}
+use Rattle.rfb_session.specs.Wire.{by_bytes}
 use Rattle.rfb_session.specs.ServeEngine.{server_driven, ServerRuns, RunsToIdle, KeepsIdle, RunsFromIdle, IsHeard, IsUpdated, StopsHearing, StopsUpdating, AllServed, ServedSome, StopsServing}
 use Rattle.rfb_session.proofs.WrittenLemmas.{whole_beginning}
 use Rattle.rfb_session.proofs.PlayLemmas.{none_left}
 use Rattle.rfb_session.proofs.EngineRunLemmas.{none_more, joined, ran_none}
-use Rattle.rfb_session.proofs.ServeLemmas.{begun_after, hears_runs, composed_runs, kept_runs}
+use Rattle.rfb_session.proofs.WireLemmas.{begun_after}
+use Rattle.rfb_session.proofs.ServeLemmas.{hears_runs, composed_runs, kept_runs}
 
 -- ---- all reads
 
@@ -171,7 +173,7 @@ one_of_two r s w x v a b c = omega (arith, a, b, c)
 pub hearing_fails : (unread mid left before w after : Option (List ℕ)) (old : Server) (reads told : ℕ) (last : Server)
     (bytes : List ℕ) (failing failed_read stuck failed_mid failed : ℕ) (fault : EngineFault) (new : Server) →
     ServedSoFar unread mid before w old reads told last → Consumes mid left bytes → failed_read ≡ failing →
-    failed_mid ≡ stuck → StopsHearing last bytes w after failed_mid failed fault new →
+    failed_mid ≡ stuck → StopsHearing by_bytes last bytes w after failed_mid failed fault new →
     StopsServing unread left failing failed_read before after stuck failed [] old fault new
 hearing_fails unread mid left before w after old reads told last bytes fr fs st fm failed (ServerEnded fault) new was more same none stops = record {
   fed = was.fed ++ stops.fed;
@@ -209,7 +211,7 @@ hearing_fails unread mid left before w after old reads told last bytes fr fs st 
 pub updating_fails : (unread mid left before w x after : Option (List ℕ)) (old : Server) (reads told : ℕ)
     (last heard : Server) (bytes : List ℕ) (failing failed_read stuck failed_mid failed : ℕ) (fault : EngineFault) (new : Server) →
     ServedSoFar unread mid before w old reads told last → Consumes mid left bytes → IsHeard last bytes w x heard →
-    failed_read ≡ failing → failed_mid ≡ stuck → StopsUpdating heard x after failed_mid failed fault new →
+    failed_read ≡ failing → failed_mid ≡ stuck → StopsUpdating by_bytes heard x after failed_mid failed fault new →
     StopsServing unread left failing failed_read before after stuck failed [] old fault new
 updating_fails unread mid left before w x after old reads told last heard bytes fr fs st fm failed Device new was more h same none stops = (
   one_of_two fr fs fm failed st same none stops.0,

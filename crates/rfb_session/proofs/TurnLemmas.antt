@@ -14,7 +14,7 @@ pub few_taken : (n : ℕ) (buf : List ℕ) → n ≤ length buf → length buf �
 few_taken n buf within size = omega (arith, within, size, length-take-le n buf within)
 
 -- what holds of the updates of a turn, if it is one
-turned_by : (turned : Option ℕ) (more : ℕ) (Holds : ℕ → Type 0) → turned ≡ Some more → IfSome turned Holds → Holds more
+pub turned_by : (turned : Option ℕ) (more : ℕ) (Holds : ℕ → Type 0) → turned ≡ Some more → IfSome turned Holds → Holds more
 turned_by turned more Holds is holds = subst (λ (o : Option ℕ). IfSome o Holds) is holds
 
 -- a composing of nothing appends nothing, whatever was there
@@ -39,12 +39,10 @@ module _ {X : Type 0} where
   pub turns_more : (shows : Showing X) (unread mid left before w after : Option (List ℕ)) (old : Server) (scene : X)
       (told : ℕ) (last : Server) (last_scene : X) (more now : ℕ) (new : Server) (new_scene : X) →
       TakesTurns shows unread mid before w old scene told last last_scene →
-      (turned : Option ℕ) → turned ≡ Some more →
-      IfSome turned (λ n. Turns shows mid left last last_scene w after n new new_scene) →
+      Turns shows mid left last last_scene w after more new new_scene →
       now ≡ min (told + more) (2 ^ 64 - 1) →
       TakesTurns shows unread left before after old scene now new new_scene
-  turns_more shows unread mid left before w after old scene told last last_scene more now new new_scene was turned some holds is =
-      let one = turned_by turned more (λ n. Turns shows mid left last last_scene w after n new new_scene) some holds in
+  turns_more shows unread mid left before w after old scene told last last_scene more now new new_scene was one is =
       record {
         reads = one.bytes ∷ was.reads;
         updates = was.updates + more;
@@ -94,11 +92,10 @@ module _ {X : Type 0} where
   -- what was served so far, and a turn more
   pub served_more : (shows : Showing X) (unread mid left before w after : Option (List ℕ)) (old : Server) (reads told : ℕ)
       (last : Server) (last_scene : X) (more now : ℕ) (new : Server) (new_scene : X) →
-      ServedSoFar unread mid before w old reads told last → (turned : Option ℕ) → turned ≡ Some more →
-      IfSome turned (λ n. Turns shows mid left last last_scene w after n new new_scene) →
+      ServedSoFar unread mid before w old reads told last →
+      Turns shows mid left last last_scene w after more new new_scene →
       now ≡ min (told + more) (2 ^ 64 - 1) → ServedSoFar unread left before after old (reads + 1) now new
-  served_more shows unread mid left before w after old reads told last last_scene more now new new_scene was turned some holds is =
-      let one = turned_by turned more (λ n. Turns shows mid left last last_scene w after n new new_scene) some holds in
+  served_more shows unread mid left before w after old reads told last last_scene more now new new_scene was one is =
       let turn = one.turn in
       serving_more unread mid left before w turn.answered after old reads told last turn.heard one.bytes more now new
       was one.read turn.some (heard_of last one.bytes w turn.answered turn.heard turn.hears)

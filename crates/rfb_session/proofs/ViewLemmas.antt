@@ -1,7 +1,6 @@
 -- What an engine does with a viewer that it asks for updates, call by call.
 use Rattle.std.proofs.Common.{◌≡◌, ℕ, zero, suc, ◌+◌, ◌<◌, Bool, true, List, [], ◌∷◌, ◌++◌, Option, Some, None, IfSome, Result, Ok, Err, OnOk, OnErr, take, drop, refl, sym, ap, ◌∙◌, subst, append-nil, take-append-drop, inl, inr, arith}
 use Rattle.std.specs.Io.KnownBytes.{Appends}
-use Rattle.std.proofs.KnownBytes.{Appends-trans}
 use Rattle.rfb_pixel.specs.declared.colour.Colour.{Colour}
 use Rattle.rfb_picture.specs.Grid.{Grid}
 use Rattle.rfb_picture.specs.declared.rect.Rect.{Rect}
@@ -19,10 +18,11 @@ use Rattle.rfb_session.specs.EngineRun.{Step, Fed, Did}
 use Rattle.rfb_session.specs.Watching.{ViewerAct, Asked, PassedOver, whole_area, viewer_driven, ends_told, WasFed}
 use Rattle.rfb_session.specs.ViewEngine.{due_after, due, AsksInTurn, RunsInTurn, KeepsLast}
 use Rattle.rfb_session.specs.Looking.{AsksForScreen, HasAsked, IsCutInAsking, due_until, IsAnswered, IsCutInAnswer, Looks, IsLookCutOff}
-use Rattle.rfb_session.proofs.WrittenLemmas.{whole_beginning, no_beginning}
+use Rattle.rfb_session.specs.Wire.{Writing}
+use Rattle.rfb_session.proofs.WrittenLemmas.{whole_beginning}
 use Rattle.rfb_session.proofs.EngineRunLemmas.{joined, only_one}
 use Rattle.rfb_session.proofs.ShownLemmas.{shown_whole}
-use Rattle.rfb_session.proofs.ServeLemmas.{begun_after}
+use Rattle.rfb_session.proofs.WireLemmas.{Joins}
 
 -- ---- runs with requests in turn
 
@@ -193,121 +193,121 @@ turn_as : (old new : Viewer) (fed sent : List ℕ) (n : ℕ) (one two : Option B
 turn_as old new fed sent n one two is runs =
     subst (λ (asks : Option Bool). RunsInTurn old fed sent n asks new) is runs
 
--- the last update that is looked for has ended
-pub answer_ends : (old : Viewer) (event : Option ViewerTold) (left : ℕ)
-    (before after : Option (List ℕ)) (reply : List ℕ) → reply ≡ viewer_reply event →
-    Appends before after reply → 0 < left → left ≡ ends_told event + 0 →
-    IsAnswered old event left 0 before after old
-answer_ends old event left before after reply is wrote some counted = record {
-  sent = viewer_reply event;
-  counted = counted;
-  runs = λ first bytes fed. turn_as first old bytes (viewer_reply event) (ends_told event)
-      (due_after event) (Some true) (due_at_end event (omega (arith, some, counted)))
-      (fed_turn first old bytes event fed);
-  wrote = subst (λ (l : List ℕ). Appends before after l) is wrote;
-}
+-- however bytes are written
+module _ {D : Type 0} (writing : Writing D) (joins : Joins writing) where
+  -- the last update that is looked for has ended
+  pub answer_ends : (old : Viewer) (event : Option ViewerTold) (left : ℕ)
+      (before after : D) (reply : List ℕ) → reply ≡ viewer_reply event →
+      writing.all before after reply → 0 < left → left ≡ ends_told event + 0 →
+      IsAnswered writing old event left 0 before after old
+  answer_ends old event left before after reply is wrote some counted = record {
+    sent = viewer_reply event;
+    counted = counted;
+    runs = λ first bytes fed. turn_as first old bytes (viewer_reply event) (ends_told event)
+        (due_after event) (Some true) (due_at_end event (omega (arith, some, counted)))
+        (fed_turn first old bytes event fed);
+    wrote = subst (λ (l : List ℕ). writing.all before after l) is wrote;
+  }
 
--- no request is due
-pub answer_rests : (old : Viewer) (event : Option ViewerTold) (left fewer : ℕ)
-    (before after : Option (List ℕ)) (reply : List ℕ) → reply ≡ viewer_reply event →
-    Appends before after reply → due_after event ≡ None → 0 < fewer →
-    left ≡ ends_told event + fewer → IsAnswered old event left fewer before after old
-answer_rests old event left fewer before after reply is wrote none some counted = record {
-  sent = viewer_reply event;
-  counted = counted;
-  runs = λ first bytes fed. turn_as first old bytes (viewer_reply event) (ends_told event)
-      (due_after event) (due_until fewer) (none ∙ sym (until_some fewer some))
-      (fed_turn first old bytes event fed);
-  wrote = subst (λ (l : List ℕ). Appends before after l) is wrote;
-}
+  -- no request is due
+  pub answer_rests : (old : Viewer) (event : Option ViewerTold) (left fewer : ℕ)
+      (before after : D) (reply : List ℕ) → reply ≡ viewer_reply event →
+      writing.all before after reply → due_after event ≡ None → 0 < fewer →
+      left ≡ ends_told event + fewer → IsAnswered writing old event left fewer before after old
+  answer_rests old event left fewer before after reply is wrote none some counted = record {
+    sent = viewer_reply event;
+    counted = counted;
+    runs = λ first bytes fed. turn_as first old bytes (viewer_reply event) (ends_told event)
+        (due_after event) (due_until fewer) (none ∙ sym (until_some fewer some))
+        (fed_turn first old bytes event fed);
+    wrote = subst (λ (l : List ℕ). writing.all before after l) is wrote;
+  }
 
--- one was due and made
-pub answer_asks : (old new : Viewer) (event : Option ViewerTold) (incremental : Bool)
-    (left fewer : ℕ) (before mid after : Option (List ℕ)) (reply : List ℕ) →
-    reply ≡ viewer_reply event → Appends before mid reply → due_after event ≡ Some incremental →
-    HasAsked incremental old mid after new → 0 < fewer → left ≡ ends_told event + fewer →
-    IsAnswered old event left fewer before after new
-answer_asks old new event incremental left fewer before mid after reply is wrote due_is asked some counted = record {
-  sent = viewer_reply event ++ asked.sent;
-  counted = counted;
-  runs = λ first bytes fed. turn_as first new bytes (viewer_reply event ++ asked.sent)
-      (ends_told event) None (due_until fewer) (sym (until_some fewer some))
-      (asked_turn first old new bytes asked.sent event incremental fed due_is asked.asks);
-  wrote = Appends-trans before mid after (viewer_reply event) asked.sent
-      (subst (λ (l : List ℕ). Appends before mid l) is wrote) asked.wrote;
-}
+  -- one was due and made
+  pub answer_asks : (old new : Viewer) (event : Option ViewerTold) (incremental : Bool)
+      (left fewer : ℕ) (before mid after : D) (reply : List ℕ) →
+      reply ≡ viewer_reply event → writing.all before mid reply → due_after event ≡ Some incremental →
+      HasAsked writing incremental old mid after new → 0 < fewer → left ≡ ends_told event + fewer →
+      IsAnswered writing old event left fewer before after new
+  answer_asks old new event incremental left fewer before mid after reply is wrote due_is asked some counted = record {
+    sent = viewer_reply event ++ asked.sent;
+    counted = counted;
+    runs = λ first bytes fed. turn_as first new bytes (viewer_reply event ++ asked.sent)
+        (ends_told event) None (due_until fewer) (sym (until_some fewer some))
+        (asked_turn first old new bytes asked.sent event incremental fed due_is asked.asks);
+    wrote = joins.then before mid after (viewer_reply event) asked.sent
+        (subst (λ (l : List ℕ). writing.all before mid l) is wrote) asked.wrote;
+  }
 
--- the answer was not written whole
-pub answer_cut : (old : Viewer) (event : Option ViewerTold) (before after : Option (List ℕ))
-    (reply : List ℕ) → reply ≡ viewer_reply event → AppendsBeginning before after reply →
-    IsCutInAnswer old event before after old
-answer_cut old event before after reply is begun = record {
-  sent = viewer_reply event;
-  asks = due_after event;
-  runs = λ first bytes fed. fed_turn first old bytes event fed;
-  wrote = subst (λ (l : List ℕ). AppendsBeginning before after l) is begun;
-}
+  -- the answer was not written whole
+  pub answer_cut : (old : Viewer) (event : Option ViewerTold) (before after : D)
+      (reply : List ℕ) → reply ≡ viewer_reply event → writing.some before after reply →
+      IsCutInAnswer writing old event before after old
+  answer_cut old event before after reply is begun = record {
+    sent = viewer_reply event;
+    asks = due_after event;
+    runs = λ first bytes fed. fed_turn first old bytes event fed;
+    wrote = subst (λ (l : List ℕ). writing.some before after l) is begun;
+  }
 
--- or the request was not
-pub request_cut : (old new : Viewer) (event : Option ViewerTold) (incremental : Bool)
-    (before mid after : Option (List ℕ)) (reply : List ℕ) → reply ≡ viewer_reply event →
-    Appends before mid reply → due_after event ≡ Some incremental →
-    IsCutInAsking incremental old mid after new → IsCutInAnswer old event before after new
-request_cut old new event incremental before mid after reply is wrote due_is asked = record {
-  sent = viewer_reply event ++ asked.sent;
-  asks = None;
-  runs = λ first bytes fed.
-      asked_turn first old new bytes asked.sent event incremental fed due_is asked.asks;
-  wrote = begun_after before mid after (viewer_reply event) asked.sent
-      (subst (λ (l : List ℕ). Appends before mid l) is wrote) asked.wrote;
-}
+  -- or the request was not
+  pub request_cut : (old new : Viewer) (event : Option ViewerTold) (incremental : Bool)
+      (before mid after : D) (reply : List ℕ) → reply ≡ viewer_reply event →
+      writing.all before mid reply → due_after event ≡ Some incremental →
+      IsCutInAsking writing incremental old mid after new → IsCutInAnswer writing old event before after new
+  request_cut old new event incremental before mid after reply is wrote due_is asked = record {
+    sent = viewer_reply event ++ asked.sent;
+    asks = None;
+    runs = λ first bytes fed.
+        asked_turn first old new bytes asked.sent event incremental fed due_is asked.asks;
+    wrote = joins.stops before mid after (viewer_reply event) asked.sent
+        (subst (λ (l : List ℕ). writing.all before mid l) is wrote) asked.wrote;
+  }
 
--- ---- one call
+  pub call_looks : (old mid new : Viewer) (bytes : List ℕ) (event : Option ViewerTold) (left fewer : ℕ)
+      (before after : D) (blank copied : Option (List ℕ)) → WasFed old bytes event mid →
+      Appends blank copied bytes → IsAnswered writing mid event left fewer before after new →
+      Looks writing old bytes left fewer before after blank copied new
+  call_looks old mid new bytes event left fewer before after blank copied fed kept answered = record {
+    sent = answered.sent;
+    updates = ends_told event;
+    counted = answered.counted;
+    runs = answered.runs old bytes fed;
+    wrote = answered.wrote;
+    kept = kept;
+  }
 
-pub call_looks : (old mid new : Viewer) (bytes : List ℕ) (event : Option ViewerTold) (left fewer : ℕ)
-    (before after blank copied : Option (List ℕ)) → WasFed old bytes event mid →
-    Appends blank copied bytes → IsAnswered mid event left fewer before after new →
-    Looks old bytes left fewer before after blank copied new
-call_looks old mid new bytes event left fewer before after blank copied fed kept answered = record {
-  sent = answered.sent;
-  updates = ends_told event;
-  counted = answered.counted;
-  runs = answered.runs old bytes fed;
-  wrote = answered.wrote;
-  kept = kept;
-}
+  pub call_unanswered : (old mid new : Viewer) (bytes : List ℕ) (used : ℕ) (event : Option ViewerTold)
+      (before after : D) (blank copied : Option (List ℕ)) → WasFed old (take used bytes) event mid →
+      Appends blank copied (take used bytes) → IsCutInAnswer writing mid event before after new →
+      IsLookCutOff writing old bytes before after blank copied new
+  call_unanswered old mid new bytes used event before after blank copied fed kept cut = record {
+    fed = take used bytes;
+    later = drop used bytes;
+    sent = cut.sent;
+    updates = ends_told event;
+    asks = cut.asks;
+    bytes_are = sym (take-append-drop used bytes);
+    runs = cut.runs old (take used bytes) fed;
+    wrote = cut.wrote;
+    kept = whole_beginning blank copied (take used bytes) kept;
+  }
 
-pub call_unanswered : (old mid new : Viewer) (bytes : List ℕ) (used : ℕ) (event : Option ViewerTold)
-    (before after blank copied : Option (List ℕ)) → WasFed old (take used bytes) event mid →
-    Appends blank copied (take used bytes) → IsCutInAnswer mid event before after new →
-    IsLookCutOff old bytes before after blank copied new
-call_unanswered old mid new bytes used event before after blank copied fed kept cut = record {
-  fed = take used bytes;
-  later = drop used bytes;
-  sent = cut.sent;
-  updates = ends_told event;
-  asks = cut.asks;
-  bytes_are = sym (take-append-drop used bytes);
-  runs = cut.runs old (take used bytes) fed;
-  wrote = cut.wrote;
-  kept = whole_beginning blank copied (take used bytes) kept;
-}
-
-pub call_unkept : (old mid : Viewer) (bytes : List ℕ) (used : ℕ) (event : Option ViewerTold)
-    (before blank copied : Option (List ℕ)) → WasFed old (take used bytes) event mid →
-    AppendsBeginning blank copied (take used bytes) →
-    IsLookCutOff old bytes before before blank copied mid
-call_unkept old mid bytes used event before blank copied fed kept = record {
-  fed = take used bytes;
-  later = drop used bytes;
-  sent = viewer_reply event;
-  updates = ends_told event;
-  asks = due_after event;
-  bytes_are = sym (take-append-drop used bytes);
-  runs = fed_turn old mid (take used bytes) event fed;
-  wrote = no_beginning before (viewer_reply event);
-  kept = kept;
-}
+  pub call_unkept : (old mid : Viewer) (bytes : List ℕ) (used : ℕ) (event : Option ViewerTold)
+      (before : D) (blank copied : Option (List ℕ)) → WasFed old (take used bytes) event mid →
+      AppendsBeginning blank copied (take used bytes) →
+      IsLookCutOff writing old bytes before before blank copied mid
+  call_unkept old mid bytes used event before blank copied fed kept = record {
+    fed = take used bytes;
+    later = drop used bytes;
+    sent = viewer_reply event;
+    updates = ends_told event;
+    asks = due_after event;
+    bytes_are = sym (take-append-drop used bytes);
+    runs = fed_turn old mid (take used bytes) event fed;
+    wrote = joins.nothing before (viewer_reply event);
+    kept = kept;
+  }
 
 same_sum : (w a b : ℕ) → b ≡ a → w + b ≡ w + a
 same_sum w a b is = omega (arith, is)

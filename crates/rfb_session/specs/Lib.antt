@@ -9,6 +9,7 @@ pub mod Carrying
 pub mod Latest
 pub mod LinkStanding
 pub mod Devices
+pub mod Wire
 pub mod Pixmap
 pub mod EngineRun
 pub mod Watching
@@ -33,7 +34,9 @@ pub mod ShareSteps
 pub mod ShareLives
 pub mod ShareViewers
 pub mod Turns
+pub mod ServeOrder
 pub mod ViewEngine
 pub mod Looking
+pub mod ViewOrder
 pub mod netpbm
 pub mod inside

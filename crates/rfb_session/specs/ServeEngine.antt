@@ -22,6 +22,7 @@ use Rattle.rfb_session.specs.Devices.{AppendsBeginning}
 use Rattle.rfb_session.specs.InFlight.{server_reply}
 use Rattle.rfb_session.specs.Playing.{most}
 use Rattle.rfb_session.specs.EngineRun.{Step, Fed, Did, Driven, Ran, RunsOn, FeedsOn}
+use Rattle.rfb_session.specs.Wire.{Writing, by_bytes}
 
 -- an update was composed, which has these bytes; or the screen was drawn on, and looks so
 pub data ServerAct : Type 0 where
@@ -111,37 +112,44 @@ pub record IsHeard (old : Server) (bytes : List ℕ) (before after : Option (Lis
   pub runs : ServerRuns old bytes sent 0 new
   pub wrote : Appends before after sent
 
--- some of them were fed, and an answer was not written whole
-pub record IsCutOff (old : Server) (bytes : List ℕ) (before after : Option (List ℕ))
-    (new : Server) : Type 0 where
-  pub fed : List ℕ
-  pub later : List ℕ
-  pub sent : List ℕ
-  pub bytes_are : bytes ≡ fed ++ later
-  pub hears : Hears old fed sent new
-  pub wrote : AppendsBeginning before after sent
+module _ {D : Type 0} where
+  -- some of them were fed, and an answer was not written whole
+  pub record IsCutOff (writing : Writing D) (old : Server) (bytes : List ℕ) (before after : D)
+      (new : Server) : Type 0 where
+    pub fed : List ℕ
+    pub later : List ℕ
+    pub sent : List ℕ
+    pub bytes_are : bytes ≡ fed ++ later
+    pub hears : Hears old fed sent new
+    pub wrote : writing.some before after sent
 
--- some of them were fed, all answers were written, and the server ended at the others
-pub record IsEnded (old : Server) (bytes : List ℕ) (before after : Option (List ℕ))
-    (fault : ServerFault) (new : Server) : Type 0 where
-  pub fed : List ℕ
-  pub slice : List ℕ
-  pub sent : List ℕ
-  pub last : Server
-  pub bytes_are : bytes ≡ fed ++ slice
-  pub hears : Hears old fed sent last
-  pub wrote : Appends before after sent
-  pub ends : ServerEndsBy fault last slice new
+  -- some of them were fed, all answers were written, and the server ended at the others
+  pub record IsEndedBy (writing : Writing D) (old : Server) (bytes : List ℕ) (before after : D)
+      (fault : ServerFault) (new : Server) : Type 0 where
+    pub fed : List ℕ
+    pub slice : List ℕ
+    pub sent : List ℕ
+    pub last : Server
+    pub bytes_are : bytes ≡ fed ++ slice
+    pub hears : Hears old fed sent last
+    pub wrote : writing.all before after sent
+    pub ends : ServerEndsBy fault last slice new
 
-abbrev pub StopsHearing : Server → List ℕ → Option (List ℕ) → Option (List ℕ) → ℕ → ℕ →
-    EngineFault → Server → Type 0
-StopsHearing old bytes before after failed_before failed (ServerEnded fault) new =
-    IsEnded old bytes before after fault new
-StopsHearing old bytes before after failed_before failed Device new =
-    (failed ≡ failed_before + 1) × IsCutOff old bytes before after new
-StopsHearing old bytes before after failed_before failed (Viewer fault) new = ⊥
-StopsHearing old bytes before after failed_before failed Truncated new = ⊥
-StopsHearing old bytes before after failed_before failed NoMemory new = ⊥
+  -- why hearing stops; a failure was counted
+  abbrev pub StopsHearing : Writing D → Server → List ℕ → D → D → ℕ → ℕ → EngineFault → Server →
+      Type 0
+  StopsHearing writing old bytes before after failed_before failed (ServerEnded fault) new =
+      IsEndedBy writing old bytes before after fault new
+  StopsHearing writing old bytes before after failed_before failed Device new =
+      (failed ≡ failed_before + 1) × IsCutOff writing old bytes before after new
+  StopsHearing writing old bytes before after failed_before failed (Viewer fault) new = ⊥
+  StopsHearing writing old bytes before after failed_before failed Truncated new = ⊥
+  StopsHearing writing old bytes before after failed_before failed NoMemory new = ⊥
+
+-- the same, by what is known of the bytes that were written
+abbrev pub IsEnded : Server → List ℕ → Option (List ℕ) → Option (List ℕ) → ServerFault → Server →
+    Type 0
+IsEnded old bytes before after fault new = IsEndedBy by_bytes old bytes before after fault new
 
 -- `updates` updates were composed, one or none, and written; and none is due then
 pub record IsUpdated (old : Server) (before after : Option (List ℕ)) (updates : ℕ)
@@ -152,16 +160,16 @@ pub record IsUpdated (old : Server) (before after : Option (List ℕ)) (updates 
 
 -- one was composed and not written whole; or one was due and there was no memory for it, and
 -- nothing has changed
-abbrev pub StopsUpdating : Server → Option (List ℕ) → Option (List ℕ) → ℕ → ℕ → EngineFault →
+abbrev pub StopsUpdating : {D : Type 0} → Writing D → Server → D → D → ℕ → ℕ → EngineFault →
     Server → Type 0
-StopsUpdating old before after failed_before failed Device new =
+StopsUpdating writing old before after failed_before failed Device new =
     (failed ≡ failed_before + 1) × (sent : List ℕ) × Updates old new [] sent
-    × AppendsBeginning before after sent
-StopsUpdating old before after failed_before failed NoMemory new =
-    WasDue old × KeepsAll old new × Appends before after []
-StopsUpdating old before after failed_before failed (ServerEnded fault) new = ⊥
-StopsUpdating old before after failed_before failed (Viewer fault) new = ⊥
-StopsUpdating old before after failed_before failed Truncated new = ⊥
+    × writing.some before after sent
+StopsUpdating writing old before after failed_before failed NoMemory new =
+    WasDue old × KeepsAll old new × writing.all before after []
+StopsUpdating writing old before after failed_before failed (ServerEnded fault) new = ⊥
+StopsUpdating writing old before after failed_before failed (Viewer fault) new = ⊥
+StopsUpdating writing old before after failed_before failed Truncated new = ⊥
 
 -- ---- all reads
 

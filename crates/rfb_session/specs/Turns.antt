@@ -12,63 +12,69 @@ use Rattle.rfb_session.specs.declared.engine.fault.EngineFault.TheVariants.{Trun
 use Rattle.rfb_session.specs.Devices.{AppendsBeginning}
 use Rattle.rfb_session.specs.Playing.{most}
 use Rattle.rfb_session.specs.ServeEngine.{Hears, IsGreeting, StopsHearing, StopsUpdating}
+use Rattle.rfb_session.specs.Wire.{Writing, by_bytes}
 
 -- ---- one turn
-
--- it was fed these bytes, nothing else was done, and all answers were written
-pub record IsAnswered (old : Server) (bytes : List ℕ) (before after : Option (List ℕ))
-    (new : Server) : Type 0 where
-  pub sent : List ℕ
-  pub hears : Hears old bytes sent new
-  pub wrote : Appends before after sent
 
 -- what a scene may do: as it stands, of a screen, which it makes that one, and how it stands then
 abbrev pub Showing : Type 0 → Type 1
 Showing X = X → Grid Colour → Grid Colour → X → Type 0
 
-module _ {X : Type 0} where
+module _ {D : Type 0} where
+  -- it was fed these bytes, nothing else was done, and all answers were written
+  pub record IsAnsweredBy (writing : Writing D) (old : Server) (bytes : List ℕ) (before after : D)
+      (new : Server) : Type 0 where
+    pub sent : List ℕ
+    pub hears : Hears old bytes sent new
+    pub wrote : writing.all before after sent
+
+-- the same, by what is known of the bytes that were written
+abbrev pub IsAnswered : Server → List ℕ → Option (List ℕ) → Option (List ℕ) → Server → Type 0
+IsAnswered old bytes before after new = IsAnsweredBy by_bytes old bytes before after new
+
+module _ {D X : Type 0} where
   -- an update was composed and written; and then the scene drew, once
-  pub record UpdatesAndDraws (shows : Showing X) (old : Server) (scene : X)
-      (before after : Option (List ℕ)) (new : Server) (last : X) : Type 0 where
+  pub record UpdatesAndDraws (writing : Writing D) (shows : Showing X) (old : Server) (scene : X)
+      (before after : D) (new : Server) (last : X) : Type 0 where
     pub bytes : List ℕ
     pub composed : Server
     pub updates : Updates old composed [] bytes
-    pub wrote : Appends before after bytes
+    pub wrote : writing.all before after bytes
     pub draws : Draws (screen_of new) composed new
     pub shown : shows scene (screen_of composed) (screen_of new) last
 
   -- none was due; nothing was written, and the scene did not draw
-  pub record StaysIdle (old : Server) (scene : X) (before after : Option (List ℕ)) (new : Server)
-      (last : X) : Type 0 where
+  pub record StaysIdle (writing : Writing D) (old : Server) (scene : X) (before after : D)
+      (new : Server) (last : X) : Type 0 where
     pub unsent : StaysUnsent old new [] []
-    pub wrote : Appends before after []
+    pub wrote : writing.all before after []
     pub undrawn : last ≡ scene
 
   -- how a turn ends, by the number of its updates
-  abbrev pub EndsTurn : Showing X → Server → X → Option (List ℕ) → Option (List ℕ) → ℕ → Server →
-      X → Type 0
-  EndsTurn shows old scene before after zero new last =
-      StaysIdle old scene before after new last
-  EndsTurn shows old scene before after (suc zero) new last =
-      UpdatesAndDraws shows old scene before after new last
-  EndsTurn shows old scene before after (suc (suc more)) new last = ⊥
+  abbrev pub EndsTurn : Writing D → Showing X → Server → X → D → D → ℕ → Server → X → Type 0
+  EndsTurn writing shows old scene before after zero new last =
+      StaysIdle writing old scene before after new last
+  EndsTurn writing shows old scene before after (suc zero) new last =
+      UpdatesAndDraws writing shows old scene before after new last
+  EndsTurn writing shows old scene before after (suc (suc more)) new last = ⊥
 
   -- a turn: what one read gave was heard and answered, and then came the end
-  pub record IsTurn (shows : Showing X) (old : Server) (scene : X) (bytes : List ℕ)
-      (before after : Option (List ℕ)) (updates : ℕ) (new : Server) (last : X) : Type 0 where
+  pub record IsTurn (writing : Writing D) (shows : Showing X) (old : Server) (scene : X)
+      (bytes : List ℕ) (before after : D) (updates : ℕ) (new : Server) (last : X) : Type 0 where
     pub some : 0 < length bytes
     pub few : length bytes ≤ 4096
     pub heard : Server
-    pub answered : Option (List ℕ)
-    pub hears : IsAnswered old bytes before answered heard
-    pub ends : EndsTurn shows heard scene answered after updates new last
+    pub answered : D
+    pub hears : IsAnsweredBy writing old bytes before answered heard
+    pub ends : EndsTurn writing shows heard scene answered after updates new last
 
+module _ {X : Type 0} where
   -- the same of the next bytes of a source
   pub record Turns (shows : Showing X) (unread left : Option (List ℕ)) (old : Server) (scene : X)
       (before after : Option (List ℕ)) (updates : ℕ) (new : Server) (last : X) : Type 0 where
     pub bytes : List ℕ
     pub read : Consumes unread left bytes
-    pub turn : IsTurn shows old scene bytes before after updates new last
+    pub turn : IsTurn by_bytes shows old scene bytes before after updates new last
 
   -- the source has ended, and nothing was done
   pub record TurnsNoMore (unread left : Option (List ℕ)) (old : Server) (scene : X)
@@ -89,12 +95,12 @@ pub data StopsTurn (unread left : Option (List ℕ)) (failing failed : ℕ)
       stopped ≡ stuck → new ≡ old →
       StopsTurn unread left failing failed before after stuck stopped old fault new
   FailsToHear : (bytes : List ℕ) → Consumes unread left bytes → length bytes ≤ 4096 →
-      failed ≡ failing → StopsHearing old bytes before after stuck stopped fault new →
+      failed ≡ failing → StopsHearing by_bytes old bytes before after stuck stopped fault new →
       StopsTurn unread left failing failed before after stuck stopped old fault new
   FailsToUpdate : (bytes : List ℕ) → Consumes unread left bytes → length bytes ≤ 4096 →
       failed ≡ failing → (heard : Server) → (answered : Option (List ℕ)) →
       IsAnswered old bytes before answered heard →
-      StopsUpdating heard answered after stuck stopped fault new →
+      StopsUpdating by_bytes heard answered after stuck stopped fault new →
       StopsTurn unread left failing failed before after stuck stopped old fault new
 
 -- ---- all turns
@@ -113,7 +119,8 @@ module _ {X : Type 0} where
   AreTurns shows old scene before (bytes ∷ reads) updates now last after =
       (mid : Server) × (mid_scene : X) × (written : Option (List ℕ)) × (fewer : ℕ) × (more : ℕ)
       × AreTurns shows old scene before reads fewer mid mid_scene written
-      × IsTurn shows mid mid_scene bytes written after more now last × (updates ≡ fewer + more)
+      × IsTurn by_bytes shows mid mid_scene bytes written after more now last
+      × (updates ≡ fewer + more)
 
   -- turns over all that was read
   pub record TakesTurns (shows : Showing X) (unread left before after : Option (List ℕ))

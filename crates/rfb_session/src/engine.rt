@@ -1,10 +1,12 @@
 //! Engines: one end of a connection, run over any reader and writer until its input ends.
 
+mod apart;
 mod device;
 mod failure;
 mod fault;
 mod lent;
 mod nowhere;
+mod pair;
 mod pixmap;
 mod playing;
 mod playing_some;
@@ -15,7 +17,9 @@ mod tally;
 mod tests;
 mod viewing;
 mod whole_write;
+mod wire;
 
+pub use apart::{serve, view, view_recording};
 pub use device::{Sink, Source};
 pub use fault::{Device, EngineFault};
 pub use lent::Lent;
@@ -23,10 +27,11 @@ pub use pixmap::ppm;
 pub use playing::play;
 pub use playing_some::play_some;
 pub use scene::Scene;
-pub use serving::serve;
+pub use serving::serve_over;
 pub use tally::Tally;
-pub use viewing::{view, view_recording};
+pub use viewing::view_over;
 pub use whole_write::send;
+pub use wire::Wire;
 
 // How many bytes one read of a client asks for.
 const READ_SIZE: usize = 4096;

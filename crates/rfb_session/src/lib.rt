@@ -8,8 +8,8 @@
 //! # What to begin with
 //!
 //! - One end over a reader and a writer: `serve` with a `Scene` that draws, `view` with a number of
-//!   updates, `play` of what a server sent. Each takes a `Source` and a `Sink`, reads 4,096 bytes
-//!   at most at once, and writes all that is owed before it reads again.
+//!   updates, `play` of what a server sent. Each takes a `Source` and a `Sink`, or as `serve_over`
+//!   and `view_over` a `Wire`, and writes all that is owed before it reads again.
 //! - Both ends in one process: `World::new` of a server and a viewer, then `step` or `run`.
 //! - One screen and up to eight viewers: `Hub::new`, a `Join` for each viewer, then `step` or
 //!   `run`. A slot's events are `Of(slot, ..)`; drawings are everyone's.
@@ -41,8 +41,8 @@ mod told;
 mod world;
 
 pub use engine::{
-    Device, EngineFault, Lent, Scene, Sink, Source, Tally, play, play_some, ppm, send, serve, view,
-    view_recording,
+    Device, EngineFault, Lent, Scene, Sink, Source, Tally, Wire, play, play_some, ppm, send, serve,
+    serve_over, view, view_over, view_recording,
 };
 pub use event::Event;
 pub use hub::Hub;

@@ -1,113 +1,130 @@
-//! A reader that looks, at each call, how much was written by then.
+//! Engines over a wire that holds its history: what is read and what is written, in order.
+
+ghost use Rattle.std.specs.Prelude.{◌≡◌, None};
+ghost use Rattle.rfb_session.specs.Wire.{Tells};
 
 use super::devices::Recolouring;
 use super::streams::{CLIENT, HANDSHAKE, UPDATE};
 use super::{joined, server_of_two_places, viewer_in};
-use crate::engine::{EngineFault, Tally, serve, view};
+use crate::engine::nowhere::Nowhere;
+use crate::engine::{Wire, serve_over, view_over};
 use rfb_pixel::Format;
 use std::alloc::{AllocError, Global};
-use std::cell::Cell;
 use std::io;
-use std::io::{ErrorKind, Read, Write};
+use std::io::ErrorKind;
 
-// How many bytes must be written before a read, from each of these reads on.
-type Owed = [(usize, usize); 5];
+// How many bytes a server reads, and how many it writes then, by RFC 6143: its version; the security
+// types; SecurityResult; ServerInit; and an update.
+const SERVER_TURNS: [(usize, usize); 5] = [(0, 12), (12, 2), (1, 4), (1, 27), (10, 24)];
 
-// What the server owes a client whose bytes come one by one.
-const OWED_BY_SERVER: &Owed = &[(0, 12), (12, 14), (13, 18), (14, 45), (24, 69)];
+// The same of a viewer: its version; the security type; ClientInit; its format, its encodings and a
+// request; and nothing after the last update that it asks for.
+const VIEWER_TURNS: [(usize, usize); 5] = [(12, 12), (2, 1), (4, 1), (27, 38), (24, 0)];
 
-// What the viewer owes a server.
-const OWED_BY_VIEWER: &Owed = &[(0, 0), (12, 12), (14, 13), (18, 14), (45, 52)];
-
-// Gives one byte a call, and fails where less was written before than is owed then.
+// Gives one byte a read and takes one a write. Of each it notes whether it was written.
 #[derive(Drop)]
-struct Expecting<'a> {
-    bytes: &'a [u8],
-    owed: &'a Owed,
-    reads: usize,
-    had: &'a Cell<usize>,
+struct Talk<'a> {
+    unread: &'a [u8],
+    history: Vec<bool>,
+    failed_reads: u64,
+    failed_writes: u64,
 }
 
-impl Read for Expecting<'_> {
+impl Wire for Talk<'_> {
+    ghost known = { λ t. record {
+      unread = None;
+      written = None;
+      failed_reads = t.failed_reads;
+      failed_writes = t.failed_writes;
+      lent = None;
+    } };
+
+    ghost steps = { λ old step new. Tells step
+        (record {
+          unread = None;
+          written = None;
+          failed_reads = old.failed_reads;
+          failed_writes = old.failed_writes;
+          lent = None;
+        })
+        (record {
+          unread = None;
+          written = None;
+          failed_reads = new.failed_reads;
+          failed_writes = new.failed_writes;
+          lent = None;
+        }) };
+
     fn read(&mut self, buf: &mut [u8]) -> io::Result<usize> {
-        let mut length = 0;
-        for (from, owed) in self.owed {
-            if *from <= self.reads {
-                length = *owed;
-            }
+        if self.unread.is_empty() {
+            return Ok(0);
         }
-        if self.had.get() != length {
-            return Err(io::Error::from(ErrorKind::TimedOut));
+        if self.history.push(false).is_err() {
+            self.failed_reads += 1;
+            return Err(io::Error::from(ErrorKind::OutOfMemory));
         }
-        self.reads = self.reads.saturating_add(1);
-        let count = buf.len().min(1);
-        self.bytes.read(&mut buf[..count])
+        buf[0] = self.unread[0];
+        self.unread = &self.unread[1..];
+        Ok(1)
+    }
+
+    fn write(&mut self, _buf: &[u8]) -> io::Result<usize> {
+        if self.history.push(true).is_err() {
+            self.failed_writes += 1;
+            return Err(io::Error::from(ErrorKind::OutOfMemory));
+        }
+        Ok(1)
+    }
+
+    ghost tells = { λ old new step told. told };
+}
+
+fn talking(alloc: Global, unread: &[u8]) -> Talk<'_>
+    ensures reads { result.failed_reads ≡ 0 }
+    ensures writes { result.failed_writes ≡ 0 }
+{
+    Talk {
+        unread,
+        history: Vec::new(alloc),
+        failed_reads: 0,
+        failed_writes: 0,
     }
 }
 
-// Takes all bytes, and counts them.
-#[derive(Drop)]
-struct Counting<'a> {
-    had: &'a Cell<usize>,
-}
-
-impl Write for Counting<'_> {
-    fn write(&mut self, buf: &[u8]) -> io::Result<usize> {
-        self.had.set(self.had.get().saturating_add(buf.len()));
-        Ok(buf.len())
+// The history of these turns.
+fn history(alloc: Global, turns: &[(usize, usize)]) -> Result<Vec<bool>, AllocError> {
+    let mut history = Vec::new(alloc);
+    for (read, written) in turns {
+        for _ in 0..*read {
+            history.push(false)?;
+        }
+        for _ in 0..*written {
+            history.push(true)?;
+        }
     }
-
-    fn flush(&mut self) -> io::Result<()> {
-        Ok(())
-    }
-}
-
-fn served(alloc: Global) -> Result<Result<u64, EngineFault>, AllocError> {
-    let had = Cell::new(0);
-    let mut server = server_of_two_places(alloc)?;
-    let mut source = Tally::new(Expecting {
-        bytes: CLIENT,
-        owed: OWED_BY_SERVER,
-        reads: 0,
-        had: &had,
-    });
-    let mut sink = Tally::new(Counting { had: &had });
-    let mut scene = Recolouring { drawings: 0 };
-    let answer = serve(alloc, &mut source, &mut sink, &mut server, &mut scene);
-    drop(server);
-    Ok(answer)
+    Ok(history)
 }
 
 #[test]
 fn a_server_has_answered_before_each_read(rt: HostRuntime) -> Result<(), AllocError> {
-    let answer = served(rt.alloc())?;
+    let mut wire = talking(rt.alloc(), CLIENT);
+    let mut server = server_of_two_places(rt.alloc())?;
+    let mut scene = Recolouring { drawings: 0 };
+    let answer = serve_over(rt.alloc(), &mut wire, &mut server, &mut scene);
+    let expected = history(rt.alloc(), &SERVER_TURNS)?;
     assert_eq!(rt; answer, Ok(1));
+    assert!(rt; wire.history.as_slice() == expected.as_slice());
     Ok(())
-}
-
-fn viewed(alloc: Global, bytes: &[u8]) -> Result<u32, EngineFault> {
-    let had = Cell::new(0);
-    let mut viewer = viewer_in(alloc, Format::rgb888());
-    let mut source = Tally::new(Expecting {
-        bytes,
-        owed: OWED_BY_VIEWER,
-        reads: 0,
-        had: &had,
-    });
-    let answer = view(
-        &mut source,
-        &mut Tally::new(Counting { had: &had }),
-        &mut viewer,
-        1,
-    );
-    drop(viewer);
-    answer
 }
 
 #[test]
 fn a_viewer_has_answered_and_asked_before_each_read(rt: HostRuntime) -> Result<(), AllocError> {
     let bytes = joined(rt.alloc(), &[HANDSHAKE, UPDATE])?;
-    let answer = viewed(rt.alloc(), &bytes);
+    let mut wire = talking(rt.alloc(), &bytes);
+    let mut viewer = viewer_in(rt.alloc(), Format::rgb888());
+    let answer = view_over(&mut wire, &mut Nowhere, &mut viewer, 1);
+    let expected = history(rt.alloc(), &VIEWER_TURNS)?;
     assert_eq!(rt; answer, Ok(1));
+    assert!(rt; wire.history.as_slice() == expected.as_slice());
     Ok(())
 }

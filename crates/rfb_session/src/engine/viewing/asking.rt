@@ -7,32 +7,35 @@ ghost use Rattle.rfb_viewer.specs.Viewer.{Viewing, ViewerState};
 ghost use Rattle.rfb_session.specs.Looking.{HasAsked, IsAnswered, IsCutInAnswer, IsCutInAsking};
 ghost use Rattle.rfb_session.specs.ViewEngine.{due_after};
 ghost use Rattle.rfb_session.specs.Watching.{ends_told, whole_area};
+ghost use Rattle.rfb_session.specs.Wire.{by_steps};
 
-use crate::engine::device::Sink;
 use crate::engine::fault::Device;
-use crate::engine::whole_write::send;
+use crate::engine::whole_write::send_over;
+use crate::engine::wire::Wire;
 use crate::reply::viewer_reply;
 use rfb_picture::Rect;
 use rfb_viewer::{Viewer, ViewerEvent};
 
 // Writes what a viewer answers and the request that is due then, unless no further update is looked
 // for; and tells how many are.
-pub(super) fn answer<W: Sink>(
+pub(super) fn answer<W: Wire>(
     event: &Option<ViewerEvent>,
     left: u32,
-    sink: &mut W,
+    wire: &mut W,
     viewer: &mut Viewer,
 ) -> Result<u32, Device>
-    requires countable { W.failed sink.old < 2 ^ 64 - 1 }
+    requires countable { (W.known wire.old).failed_writes < 2 ^ 64 - 1 }
     requires wanted { 0 < left }
-    ensures answered { IfOk result (λ fewer. IsAnswered viewer.old (seen event.now) left fewer
-        (W.written sink.old) (W.written sink.new) viewer.new) }
-    ensures stopped { OnErr result (IsCutInAnswer viewer.old (seen event.now)
-        (W.written sink.old) (W.written sink.new) viewer.new) }
-    ensures none_failed { OnOk result (W.failed sink.new ≡ W.failed sink.old) }
-    ensures one_failed { OnErr result (W.failed sink.new ≡ W.failed sink.old + 1) }
+    ensures answered { IfOk result (λ fewer. IsAnswered (by_steps W.steps)
+        viewer.old (seen event.now) left fewer wire.old wire.new viewer.new) }
+    ensures stopped { OnErr result (IsCutInAnswer (by_steps W.steps)
+        viewer.old (seen event.now) wire.old wire.new viewer.new) }
+    ensures none_failed { OnOk result
+        ((W.known wire.new).failed_writes ≡ (W.known wire.old).failed_writes) }
+    ensures one_failed { OnErr result
+        ((W.known wire.new).failed_writes ≡ (W.known wire.old).failed_writes + 1) }
 {
-    match send(viewer_reply(event), sink) {
+    match send_over(viewer_reply(event), wire) {
         Ok(()) => {}
         Err(_) => return Err(Device),
     }
@@ -41,7 +44,7 @@ pub(super) fn answer<W: Sink>(
         return Ok(0);
     }
     match due(event) {
-        Some(incremental) => match ask(incremental, sink, viewer) {
+        Some(incremental) => match ask(incremental, wire, viewer) {
             Ok(()) => Ok(fewer),
             Err(_) => Err(Device),
         },
@@ -51,18 +54,20 @@ pub(super) fn answer<W: Sink>(
 
 // Asks for the whole screen, and writes the request. Where the viewer refuses it there is nothing
 // to write.
-fn ask<W: Sink>(incremental: bool, sink: &mut W, viewer: &mut Viewer) -> Result<(), Device>
-    requires countable { W.failed sink.old < 2 ^ 64 - 1 }
-    ensures asked { OnOk result (HasAsked incremental viewer.old
-        (W.written sink.old) (W.written sink.new) viewer.new) }
-    ensures stopped { OnErr result (IsCutInAsking incremental viewer.old
-        (W.written sink.old) (W.written sink.new) viewer.new) }
-    ensures none_failed { OnOk result (W.failed sink.new ≡ W.failed sink.old) }
-    ensures one_failed { OnErr result (W.failed sink.new ≡ W.failed sink.old + 1) }
+fn ask<W: Wire>(incremental: bool, wire: &mut W, viewer: &mut Viewer) -> Result<(), Device>
+    requires countable { (W.known wire.old).failed_writes < 2 ^ 64 - 1 }
+    ensures asked { OnOk result (HasAsked (by_steps W.steps) incremental
+        viewer.old wire.old wire.new viewer.new) }
+    ensures stopped { OnErr result (IsCutInAsking (by_steps W.steps) incremental
+        viewer.old wire.old wire.new viewer.new) }
+    ensures none_failed { OnOk result
+        ((W.known wire.new).failed_writes ≡ (W.known wire.old).failed_writes) }
+    ensures one_failed { OnErr result
+        ((W.known wire.new).failed_writes ≡ (W.known wire.old).failed_writes + 1) }
 {
     let area = screen(viewer);
     match viewer.request(incremental, area) {
-        Ok(request) => send(&request, sink),
+        Ok(request) => send_over(&request, wire),
         Err(_) => Ok(()),
     }
 }

@@ -1,13 +1,15 @@
 -- The first of the bytes were fed, and all answers to them were written.
 use Rattle.std.proofs.Common.{◌≡◌, length}
-use Rattle.rfb_session.proofs.ServeLemmas.{Heard}
+use Rattle.rfb_session.specs.Wire.{by_steps}
+use Rattle.rfb_session.proofs.ServeLemmas.{HeardBy}
 use Rattle.rfb_session.proofs.engine.serving.hear.Given as goal
 
 abbrev pub invariant-loop-rest : goal.invariant-loop-rest
 invariant-loop-rest g l = record {
-  heard : Heard l.fn.server l.bytes l.rest (g.W.Sink.written l.initial.sink)
-      (g.W.Sink.written l.sink) l.server;
-  none_failed : g.W.Sink.failed l.sink ≡ g.W.Sink.failed l.initial.sink;
+  heard : HeardBy (by_steps g.W.Wire.steps) l.fn.server l.bytes l.rest l.initial.wire l.wire
+      l.server;
+  none_failed : (g.W.Wire.known l.wire).failed_writes
+      ≡ (g.W.Wire.known l.initial.wire).failed_writes;
 }
 
 abbrev pub decreases-loop-rest : goal.decreases-loop-rest

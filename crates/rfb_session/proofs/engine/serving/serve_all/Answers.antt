@@ -1,85 +1,129 @@
-use Rattle.std.proofs.Common.{◌∙◌, refl, rules}
+use Rattle.std.proofs.Common.{◌∙◌, ℕ, refl, rules, arith}
+use Rattle.rfb_session.specs.ServeOrder.{TurnOver}
 use Rattle.rfb_session.proofs.ServingLemmas.{serving_none, serving_out}
-use Rattle.rfb_session.proofs.TurnLemmas.{turns_none, turns_more, turns_end, turns_stop, served_more, served_end, served_stop}
+use Rattle.rfb_session.proofs.ServeOrderLemmas.{end_known, none_failed_then, order_ends, order_more, order_none, order_out, order_stops, stop_known, turn_known}
+use Rattle.rfb_session.proofs.TurnLemmas.{turned_by, turns_none, turns_more, turns_end, turns_stop, served_more, served_end, served_stop}
 use Rattle.rfb_session.proofs.engine.serving.serve_all.Goals as goal
 
 pub loop-turn-init : goal.loop-turn-init
-loop-turn-init g c = record {
-  served = serving_none (g.R.Source.unread c.args.source.now) (g.W.Sink.written c.args.sink.now)
-      c.args.server.now;
-  turns = turns_none g.S.Scene.shows (g.R.Source.unread c.args.source.now)
-      (g.W.Sink.written c.args.sink.now) c.args.server.now c.args.scene.now;
-  none_unread = refl;
-  none_unwritten = refl;
-}
+loop-turn-init g c =
+    let old = g.W.Wire.known c.args.wire.now in
+    record {
+      order = order_none g.W.Wire.steps g.S.Scene.shows c.args.wire.now c.args.server.now
+          c.args.scene.now;
+      served = serving_none old.unread old.written c.args.server.now;
+      turns = turns_none g.S.Scene.shows old.unread old.written c.args.server.now
+          c.args.scene.now;
+      none_failed = (refl, refl, refl);
+    }
 
-pub returns-in-Ok-None-clause-served : goal.returns-in-Ok-None-clause-served
-returns-in-Ok-None-clause-served g c =
+pub turn-requires : goal.turn-requires
+turn-requires g c =
     let l = c.loop-turn in
-    served_end (g.R.Source.unread c.args.source.now) (g.R.Source.unread l.source)
-    (g.R.Source.unread c.turn.new.source) (g.W.Sink.written c.args.sink.now)
-    (g.W.Sink.written l.sink) (g.W.Sink.written c.turn.new.sink) c.args.server.now l._turn
-    l.updates l.server l.scene c.turn.new.server c.turn.new.scene l.invariant.served
-    (c.in-Ok-None.ensures.ended (search rules))
+    record {
+      readable = omega (arith, c.requires.readable, l.invariant.none_failed.0);
+      writable = omega (arith, c.requires.writable, l.invariant.none_failed.1);
+    }
 
-pub returns-in-Ok-None-clause-turns : goal.returns-in-Ok-None-clause-turns
-returns-in-Ok-None-clause-turns g c =
+pub returns-in-Ok-None : goal.returns-in-Ok-None
+returns-in-Ok-None g c =
     let l = c.loop-turn in
-    turns_end g.S.Scene.shows (g.R.Source.unread c.args.source.now) (g.R.Source.unread l.source)
-    (g.R.Source.unread c.turn.new.source) (g.W.Sink.written c.args.sink.now)
-    (g.W.Sink.written l.sink) (g.W.Sink.written c.turn.new.sink) c.args.server.now
-    c.args.scene.now l.updates l.server l.scene c.turn.new.server c.turn.new.scene
-    l.invariant.turns (c.in-Ok-None.ensures.ended (search rules))
+    let old = g.W.Wire.known c.args.wire.now in
+    let mid = g.W.Wire.known l.wire in
+    let new = g.W.Wire.known c.turn.new.wire in
+    let ended = c.in-Ok-None.ensures.ended (search rules) in
+    let end = end_known g.W.Wire.steps g.W.Wire.known g.met.W.Wire.tells l.wire l.server l.scene
+    c.turn.new.wire c.turn.new.server c.turn.new.scene ended in
+    let none = none_failed_then old mid new l.invariant.none_failed end.0 in
+    record {
+      in_order = order_ends g.W.Wire.steps g.S.Scene.shows c.args.wire.now c.args.server.now
+          c.args.scene.now l._turn l.updates l.wire l.server l.scene c.turn.new.wire
+          c.turn.new.server c.turn.new.scene l.invariant.order ended;
+      stopped_in_order = tt;
+      served = served_end old.unread mid.unread new.unread old.written mid.written new.written
+          c.args.server.now l._turn l.updates l.server l.scene c.turn.new.server
+          c.turn.new.scene l.invariant.served end.1;
+      turns = turns_end g.S.Scene.shows old.unread mid.unread new.unread old.written mid.written
+          new.written c.args.server.now c.args.scene.now l.updates l.server l.scene
+          c.turn.new.server c.turn.new.scene l.invariant.turns end.1;
+      none_failed = (none.0, none.1);
+      stopped = tt;
+      in_turn = tt;
+      same_references = none.2;
+    }
 
-pub returns-in-Err-clause-stopped : goal.returns-in-Err-clause-stopped
-returns-in-Err-clause-stopped g c =
+pub returns-in-Err : goal.returns-in-Err
+returns-in-Err g c =
     let l = c.loop-turn in
-    served_stop (g.R.Source.unread c.args.source.now) (g.R.Source.unread l.source)
-    (g.R.Source.unread c.turn.new.source) (g.W.Sink.written c.args.sink.now)
-    (g.W.Sink.written l.sink) (g.W.Sink.written c.turn.new.sink)
-    (g.R.Source.failed c.args.source.now) (g.R.Source.failed l.source)
-    (g.R.Source.failed c.turn.new.source) (g.W.Sink.failed c.args.sink.now)
-    (g.W.Sink.failed l.sink) (g.W.Sink.failed c.turn.new.sink) c.args.server.now l._turn
-    l.updates l.server c.in-Err.fault c.turn.new.server l.invariant.served
-    l.invariant.none_unread l.invariant.none_unwritten c.in-Err.ensures.stopped
-
-pub returns-in-Err-clause-in_turn : goal.returns-in-Err-clause-in_turn
-returns-in-Err-clause-in_turn g c =
-    let l = c.loop-turn in
-    turns_stop g.S.Scene.shows (g.R.Source.unread c.args.source.now) (g.R.Source.unread l.source)
-    (g.R.Source.unread c.turn.new.source) (g.W.Sink.written c.args.sink.now)
-    (g.W.Sink.written l.sink) (g.W.Sink.written c.turn.new.sink)
-    (g.R.Source.failed c.args.source.now) (g.R.Source.failed l.source)
-    (g.R.Source.failed c.turn.new.source) (g.W.Sink.failed c.args.sink.now)
-    (g.W.Sink.failed l.sink) (g.W.Sink.failed c.turn.new.sink) c.args.server.now
-    c.args.scene.now l.updates l.server l.scene c.in-Err.fault c.turn.new.server
-    c.turn.new.scene l.invariant.turns l.invariant.none_unread l.invariant.none_unwritten
-    c.in-Err.ensures.undrawn c.in-Err.ensures.stopped
+    let old = g.W.Wire.known c.args.wire.now in
+    let mid = g.W.Wire.known l.wire in
+    let new = g.W.Wire.known c.turn.new.wire in
+    let none = l.invariant.none_failed in
+    let stop = stop_known g.W.Wire.steps g.W.Wire.known g.met.W.Wire.tells l.wire c.turn.new.wire
+    l.server c.in-Err.fault c.turn.new.server c.in-Err.ensures.stopped in
+    record {
+      in_order = tt;
+      stopped_in_order = order_stops g.W.Wire.steps g.W.Wire.known g.S.Scene.shows c.args.wire.now
+          c.args.server.now c.args.scene.now l._turn l.updates l.wire l.server l.scene
+          c.in-Err.fault c.turn.new.wire c.turn.new.server c.turn.new.scene l.invariant.order
+          c.in-Err.ensures.undrawn c.in-Err.ensures.stopped;
+      served = tt;
+      turns = tt;
+      none_failed = tt;
+      stopped = served_stop old.unread mid.unread new.unread old.written mid.written new.written
+          old.failed_reads mid.failed_reads new.failed_reads old.failed_writes
+          mid.failed_writes new.failed_writes c.args.server.now l._turn l.updates l.server
+          c.in-Err.fault c.turn.new.server l.invariant.served none.0 none.1 stop.1;
+      in_turn = turns_stop g.S.Scene.shows old.unread mid.unread new.unread old.written
+          mid.written new.written old.failed_reads mid.failed_reads new.failed_reads
+          old.failed_writes mid.failed_writes new.failed_writes c.args.server.now
+          c.args.scene.now l.updates l.server l.scene c.in-Err.fault c.turn.new.server
+          c.turn.new.scene l.invariant.turns none.0 none.1 c.in-Err.ensures.undrawn stop.1;
+      same_references = stop.0 ∙ none.2;
+    }
 
 pub loop-turn-preserved : goal.loop-turn-preserved
 loop-turn-preserved g c =
     let l = c.loop-turn in
+    let old = g.W.Wire.known c.args.wire.now in
+    let mid = g.W.Wire.known l.wire in
+    let new = g.W.Wire.known c.turn.new.wire in
+    let over = turned_by c.in-Ok-Some.field-0 c.in-Ok-Some.more
+    (λ (n : ℕ). TurnOver g.W.Wire.steps g.S.Scene.shows l.wire l.server l.scene n c.turn.new.wire
+    c.turn.new.server c.turn.new.scene) c.in-Ok-Some.field-0-is c.in-Ok-Some.ensures.turned in
+    let turn = turn_known g.W.Wire.steps g.W.Wire.known g.met.W.Wire.tells g.S.Scene.shows l.wire
+    l.server l.scene c.in-Ok-Some.more c.turn.new.wire c.turn.new.server c.turn.new.scene over in
     record {
-      served = served_more g.S.Scene.shows (g.R.Source.unread c.args.source.now)
-          (g.R.Source.unread l.source) (g.R.Source.unread c.turn.new.source)
-          (g.W.Sink.written c.args.sink.now) (g.W.Sink.written l.sink)
-          (g.W.Sink.written c.turn.new.sink) c.args.server.now l._turn l.updates l.server l.scene
+      order = order_more g.W.Wire.steps g.S.Scene.shows c.args.wire.now c.args.server.now
+          c.args.scene.now l._turn l.updates l.wire l.server l.scene c.in-Ok-Some.more
+          c.saturating_add-updates.result c.turn.new.wire c.turn.new.server c.turn.new.scene
+          l.invariant.order over c.saturating_add-updates.ensures;
+      served = served_more g.S.Scene.shows old.unread mid.unread new.unread old.written
+          mid.written new.written c.args.server.now l._turn l.updates l.server l.scene
           c.in-Ok-Some.more c.saturating_add-updates.result c.turn.new.server c.turn.new.scene
-          l.invariant.served c.in-Ok-Some.field-0 c.in-Ok-Some.field-0-is c.in-Ok-Some.ensures.turned c.saturating_add-updates.ensures;
-      turns = turns_more g.S.Scene.shows (g.R.Source.unread c.args.source.now)
-          (g.R.Source.unread l.source) (g.R.Source.unread c.turn.new.source)
-          (g.W.Sink.written c.args.sink.now) (g.W.Sink.written l.sink)
-          (g.W.Sink.written c.turn.new.sink) c.args.server.now c.args.scene.now l.updates l.server
-          l.scene c.in-Ok-Some.more c.saturating_add-updates.result c.turn.new.server
-          c.turn.new.scene l.invariant.turns c.in-Ok-Some.field-0 c.in-Ok-Some.field-0-is c.in-Ok-Some.ensures.turned
-          c.saturating_add-updates.ensures;
-      none_unread = c.in-Ok-Some.ensures.none_failed.0 ∙ l.invariant.none_unread;
-      none_unwritten = c.in-Ok-Some.ensures.none_failed.1 ∙ l.invariant.none_unwritten;
+          l.invariant.served turn.1 c.saturating_add-updates.ensures;
+      turns = turns_more g.S.Scene.shows old.unread mid.unread new.unread old.written mid.written
+          new.written c.args.server.now c.args.scene.now l.updates l.server l.scene
+          c.in-Ok-Some.more c.saturating_add-updates.result c.turn.new.server c.turn.new.scene
+          l.invariant.turns turn.1 c.saturating_add-updates.ensures;
+      none_failed = none_failed_then old mid new l.invariant.none_failed turn.0;
     }
+
+pub returns-clause-in_order : goal.returns-clause-in_order
+returns-clause-in_order g c =
+    let l = c.loop-turn in
+    order_out g.W.Wire.steps g.S.Scene.shows c.args.wire.now c.args.server.now c.args.scene.now
+    l._turn l.updates l.wire l.server l.scene l.invariant.order (search rules)
 
 pub returns-clause-served : goal.returns-clause-served
 returns-clause-served g c =
     let l = c.loop-turn in
-    serving_out (g.R.Source.unread c.args.source.now) (g.R.Source.unread l.source)
-    (g.W.Sink.written c.args.sink.now) (g.W.Sink.written l.sink) c.args.server.now l._turn
-    l.updates l.server l.invariant.served (search rules)
+    let old = g.W.Wire.known c.args.wire.now in
+    let now = g.W.Wire.known l.wire in
+    serving_out old.unread now.unread old.written now.written c.args.server.now l._turn l.updates
+    l.server l.invariant.served (search rules)
+
+pub returns-clause-none_failed : goal.returns-clause-none_failed
+returns-clause-none_failed g c =
+    let none = c.loop-turn.invariant.none_failed in
+    (none.0, none.1)

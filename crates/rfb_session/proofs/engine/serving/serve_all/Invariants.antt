@@ -1,17 +1,19 @@
--- What was read was fed and answered by turns, no update is due, and nothing has failed.
-use Rattle.std.proofs.Common.{◌≡◌}
+-- What was read was fed and answered by turns, in order; no update is due, and nothing has failed.
 use Rattle.rfb_session.specs.Turns.{TakesTurns}
 use Rattle.rfb_session.proofs.ServingLemmas.{ServedSoFar}
+use Rattle.rfb_session.proofs.ServeOrderLemmas.{InOrderSoFar, NoneFailed}
 use Rattle.rfb_session.proofs.engine.serving.serve_all.Given as goal
 
 abbrev pub invariant-loop-turn : goal.invariant-loop-turn
-invariant-loop-turn g l = record {
-  served : ServedSoFar (g.R.Source.unread l.initial.source) (g.R.Source.unread l.source)
-      (g.W.Sink.written l.initial.sink) (g.W.Sink.written l.sink) l.fn.server l._turn l.updates
-      l.server;
-  turns : TakesTurns g.S.Scene.shows (g.R.Source.unread l.initial.source)
-      (g.R.Source.unread l.source) (g.W.Sink.written l.initial.sink) (g.W.Sink.written l.sink)
-      l.fn.server l.fn.scene l.updates l.server l.scene;
-  none_unread : g.R.Source.failed l.source ≡ g.R.Source.failed l.initial.source;
-  none_unwritten : g.W.Sink.failed l.sink ≡ g.W.Sink.failed l.initial.sink;
-}
+invariant-loop-turn g l =
+    let old = g.W.Wire.known l.initial.wire in
+    let now = g.W.Wire.known l.wire in
+    record {
+      order : InOrderSoFar g.W.Wire.steps g.S.Scene.shows l.initial.wire l.fn.server l.fn.scene
+          l._turn l.updates l.wire l.server l.scene;
+      served : ServedSoFar old.unread now.unread old.written now.written l.fn.server l._turn
+          l.updates l.server;
+      turns : TakesTurns g.S.Scene.shows old.unread now.unread old.written now.written l.fn.server
+          l.fn.scene l.updates l.server l.scene;
+      none_failed : NoneFailed old now;
+    }

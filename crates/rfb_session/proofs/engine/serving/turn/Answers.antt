@@ -1,15 +1,34 @@
-use Rattle.std.proofs.Common.{◌≡◌, ◌<◌, ℕ, take, length, subst, rules}
-use Rattle.rfb_session.specs.ServeEngine.{StopsUpdating}
-use Rattle.rfb_session.specs.Turns.{FailsToHear, FailsToUpdate}
+use Rattle.std.proofs.Common.{◌≡◌, ◌<◌, take, length, refl, rules, arith}
+use Rattle.rfb_session.specs.ServeOrder.{MissesRead, StopsInHearing, StopsInUpdating}
+use Rattle.rfb_session.specs.Wire.{Came}
 use Rattle.rfb_session.proofs.PlayLemmas.{some_taken}
 use Rattle.rfb_session.proofs.TurnLemmas.{few_taken}
 use Rattle.rfb_session.proofs.engine.serving.turn.Goals as goal
 
+pub returns-in_default-clause-stopped : goal.returns-in_default-clause-stopped
+returns-in_default-clause-stopped g c = MissesRead refl c.in_default.ensures.stepped refl
+
+pub hear-requires : goal.hear-requires
+hear-requires g c =
+    let some : 0 < c.in-Ok.count = search rules in
+    let told = g.met.W.Wire.tells c.args.wire.now c.read.new.self
+    (Came (take c.in-Ok.count c.read.new.buf)) (c.in-Ok.ensures.stepped.0 some) in
+    omega (arith, told.0.1, c.requires.writable)
+
+pub update-requires : goal.update-requires
+update-requires g c =
+    let some : 0 < c.in-Ok.count = search rules in
+    let told = g.met.W.Wire.tells c.args.wire.now c.read.new.self
+    (Came (take c.in-Ok.count c.read.new.buf)) (c.in-Ok.ensures.stepped.0 some) in
+    omega (arith, told.0.1, c.in-Ok-hear.ensures.none_failed, c.requires.writable)
+
 pub returns-in-Err-clause-stopped : goal.returns-in-Err-clause-stopped
 returns-in-Err-clause-stopped g c =
     let size : length c.read.new.buf ≡ 4096 = search rules in
-    FailsToHear (take c.in-Ok.count c.read.new.buf) c.in-Ok.ensures.bytes.0
-    (few_taken c.in-Ok.count c.read.new.buf (search rules) size) c.in-Ok.ensures.count c.in-Err.ensures.stopped
+    let some : 0 < c.in-Ok.count = search rules in
+    StopsInHearing (take c.in-Ok.count c.read.new.buf) c.read.new.self
+    (c.in-Ok.ensures.stepped.0 some)
+    (few_taken c.in-Ok.count c.read.new.buf (search rules) size) c.in-Err.ensures.stopped
 
 pub returns-in-Ok-update-clause-turned : goal.returns-in-Ok-update-clause-turned
 returns-in-Ok-update-clause-turned g c =
@@ -17,12 +36,13 @@ returns-in-Ok-update-clause-turned g c =
     let some : 0 < c.in-Ok.count = search rules in
     record {
       bytes = take c.in-Ok.count c.read.new.buf;
-      read = c.in-Ok.ensures.bytes.0;
+      came = c.read.new.self;
+      read = c.in-Ok.ensures.stepped.0 some;
       turn = record {
         some = some_taken c.in-Ok.count c.read.new.buf some (search rules);
         few = few_taken c.in-Ok.count c.read.new.buf (search rules) size;
         heard = c.hear.new.server;
-        answered = g.W.Sink.written c.hear.new.sink;
+        answered = c.hear.new.wire;
         hears = c.in-Ok-hear.ensures.answered;
         ends = c.in-Ok-update.ensures.updated;
       };
@@ -31,10 +51,8 @@ returns-in-Ok-update-clause-turned g c =
 pub returns-in-Err-update-clause-stopped : goal.returns-in-Err-update-clause-stopped
 returns-in-Err-update-clause-stopped g c =
     let size : length c.read.new.buf ≡ 4096 = search rules in
-    FailsToUpdate (take c.in-Ok.count c.read.new.buf) c.in-Ok.ensures.bytes.0
-    (few_taken c.in-Ok.count c.read.new.buf (search rules) size) c.in-Ok.ensures.count c.hear.new.server
-    (g.W.Sink.written c.hear.new.sink) c.in-Ok-hear.ensures.answered
-    (subst (λ (k : ℕ). StopsUpdating c.hear.new.server (g.W.Sink.written c.hear.new.sink)
-    (g.W.Sink.written c.update.new.sink) k (g.W.Sink.failed c.update.new.sink)
-    c.in-Err-update.fault c.update.new.server) c.in-Ok-hear.ensures.none_failed
-    c.in-Err-update.ensures.stopped)
+    let some : 0 < c.in-Ok.count = search rules in
+    StopsInUpdating (take c.in-Ok.count c.read.new.buf) c.read.new.self
+    (c.in-Ok.ensures.stepped.0 some)
+    (few_taken c.in-Ok.count c.read.new.buf (search rules) size) c.hear.new.server
+    c.hear.new.wire c.in-Ok-hear.ensures.answered c.in-Err-update.ensures.stopped

@@ -1,12 +1,14 @@
 use Rattle.std.proofs.Common.{◌<◌, ◌+◌, ◌∙◌, refl, arith, rules}
-use Rattle.std.proofs.lemmas.Grind.{common_steps}
+use Rattle.rfb_session.specs.Wire.{by_steps}
 use Rattle.rfb_session.proofs.LookLemmas.{looking_none, looking_more, looking_stops}
+use Rattle.rfb_session.proofs.WireLemmas.{steps_join}
 use Rattle.rfb_session.proofs.engine.viewing.look.Goals as goal
 
 pub loop-left-init : goal.loop-left-init
 loop-left-init g c = record {
-  looks = looking_none c.args.viewer.now c.args.bytes.now c.args.before
-      (g.W.Sink.written c.args.sink.now) (g.K.Sink.written c.args.kept.now) c.requires.wanted;
+  looks = looking_none (by_steps g.W.Wire.steps) (steps_join g.W.Wire.steps) c.args.viewer.now
+      c.args.bytes.now c.args.before c.args.wire.now (g.K.Sink.written c.args.kept.now)
+      c.requires.wanted;
   none_unwritten = refl;
   none_unkept = refl;
   same_reference = refl;
@@ -17,9 +19,9 @@ loop-left-preserved g c =
     let l = c.loop-left in
     let some : 0 < l.left = search rules in
     record {
-      looks = looking_more c.args.viewer.now c.args.bytes.now l.rest.now c.args.before l.left
-          c.in-Ok.fewer (g.W.Sink.written c.args.sink.now) (g.W.Sink.written l.sink)
-          (g.W.Sink.written c.look_once.new.sink) (g.K.Sink.written c.args.kept.now)
+      looks = looking_more (by_steps g.W.Wire.steps) (steps_join g.W.Wire.steps)
+          c.args.viewer.now c.args.bytes.now l.rest.now c.args.before l.left c.in-Ok.fewer
+          c.args.wire.now l.wire c.look_once.new.wire (g.K.Sink.written c.args.kept.now)
           (g.K.Sink.written l.kept) (g.K.Sink.written c.look_once.new.kept) l.viewer
           c.in-Ok.used c.look_once.new.viewer l.invariant.looks some c.in-Ok.ensures.looked;
       none_unwritten = c.in-Ok.ensures.none_failed.0 ∙ l.invariant.none_unwritten;
@@ -31,16 +33,13 @@ pub returns-in-Err-clause-stopped : goal.returns-in-Err-clause-stopped
 returns-in-Err-clause-stopped g c =
     let l = c.loop-left in
     let some : 0 < l.left = search rules in
-    looking_stops c.args.viewer.now c.args.bytes.now l.rest.now c.args.before l.left
-    (g.W.Sink.written c.args.sink.now) (g.W.Sink.written l.sink)
-    (g.W.Sink.written c.look_once.new.sink) (g.K.Sink.written c.args.kept.now)
-    (g.K.Sink.written l.kept) (g.K.Sink.written c.look_once.new.kept) l.viewer
-    (g.W.Sink.failed c.args.sink.now + g.K.Sink.failed c.args.kept.now)
-    (g.W.Sink.failed l.sink + g.K.Sink.failed l.kept)
-    (g.W.Sink.failed c.look_once.new.sink + g.K.Sink.failed c.look_once.new.kept)
+    looking_stops (by_steps g.W.Wire.steps) (steps_join g.W.Wire.steps) c.args.viewer.now
+    c.args.bytes.now l.rest.now c.args.before l.left c.args.wire.now l.wire c.look_once.new.wire
+    (g.K.Sink.written c.args.kept.now) (g.K.Sink.written l.kept)
+    (g.K.Sink.written c.look_once.new.kept) l.viewer
+    ((g.W.Wire.known c.args.wire.now).failed_writes + g.K.Sink.failed c.args.kept.now)
+    ((g.W.Wire.known l.wire).failed_writes + g.K.Sink.failed l.kept)
+    ((g.W.Wire.known c.look_once.new.wire).failed_writes + g.K.Sink.failed c.look_once.new.kept)
     c.in-Err.fault c.look_once.new.viewer l.invariant.looks some
     (omega (arith, l.invariant.none_unwritten, l.invariant.none_unkept))
     c.in-Err.ensures.stopped
-
-pub returns-else-not-is_empty-clause-looked : goal.returns-else-not-is_empty-clause-looked
-returns-else-not-is_empty-clause-looked g c = grind (arith, common_steps)

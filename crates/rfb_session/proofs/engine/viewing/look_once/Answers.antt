@@ -1,33 +1,35 @@
 use Rattle.std.proofs.Common.{[], refl, take, arith}
 use Rattle.std.proofs.KnownBytes.{Appends-nil}
 use Rattle.rfb_viewer.specs.Told.{seen}
+use Rattle.rfb_session.specs.Wire.{Nothing, by_steps}
 use Rattle.rfb_session.proofs.ViewLemmas.{turn_none, call_looks, call_unanswered, call_unkept, kept_last}
+use Rattle.rfb_session.proofs.WireLemmas.{steps_join}
 use Rattle.rfb_session.proofs.engine.viewing.look_once.Goals as goal
 
 pub returns-in-Ok-answer-clause-looked : goal.returns-in-Ok-answer-clause-looked
 returns-in-Ok-answer-clause-looked g c =
-    call_looks c.args.viewer.now c.feed.new.self c.answer.new.viewer
-    (take c.in-Ok.fed.used c.args.bytes.now) (seen c.in-Ok.fed.event) c.args.left
-    c.in-Ok-answer.fewer (g.W.Sink.written c.args.sink.now) (g.W.Sink.written c.answer.new.sink)
+    call_looks (by_steps g.W.Wire.steps) (steps_join g.W.Wire.steps) c.args.viewer.now
+    c.feed.new.self c.answer.new.viewer (take c.in-Ok.fed.used c.args.bytes.now)
+    (seen c.in-Ok.fed.event) c.args.left c.in-Ok-answer.fewer c.args.wire.now c.answer.new.wire
     (g.K.Sink.written c.args.kept.now) (g.K.Sink.written c.send.new.sink) c.in-Ok.ensures.fed
     c.in-Ok-send.ensures.done c.in-Ok-answer.ensures.answered
 
 pub returns-in-Ok-send-clause-stopped : goal.returns-in-Ok-send-clause-stopped
 returns-in-Ok-send-clause-stopped g c = (
   omega (arith, c.in-Err-answer.ensures.one_failed, c.in-Ok-send.ensures.none_failed),
-  call_unanswered c.args.viewer.now c.feed.new.self c.answer.new.viewer c.args.bytes.now
-      c.in-Ok.fed.used (seen c.in-Ok.fed.event) (g.W.Sink.written c.args.sink.now)
-      (g.W.Sink.written c.answer.new.sink) (g.K.Sink.written c.args.kept.now)
-      (g.K.Sink.written c.send.new.sink) c.in-Ok.ensures.fed c.in-Ok-send.ensures.done
-      c.in-Err-answer.ensures.stopped,
+  call_unanswered (by_steps g.W.Wire.steps) (steps_join g.W.Wire.steps) c.args.viewer.now
+      c.feed.new.self c.answer.new.viewer c.args.bytes.now c.in-Ok.fed.used
+      (seen c.in-Ok.fed.event) c.args.wire.now c.answer.new.wire
+      (g.K.Sink.written c.args.kept.now) (g.K.Sink.written c.send.new.sink) c.in-Ok.ensures.fed
+      c.in-Ok-send.ensures.done c.in-Err-answer.ensures.stopped,
 )
 
 pub returns-in-Ok-clause-stopped : goal.returns-in-Ok-clause-stopped
 returns-in-Ok-clause-stopped g c = (
   omega (arith, c.in-Err-send.ensures.one_failed),
-  call_unkept c.args.viewer.now c.feed.new.self c.args.bytes.now c.in-Ok.fed.used
-      (seen c.in-Ok.fed.event) (g.W.Sink.written c.args.sink.now)
-      (g.K.Sink.written c.args.kept.now) (g.K.Sink.written c.send.new.sink)
+  call_unkept (by_steps g.W.Wire.steps) (steps_join g.W.Wire.steps) c.args.viewer.now
+      c.feed.new.self c.args.bytes.now c.in-Ok.fed.used (seen c.in-Ok.fed.event)
+      c.args.wire.now (g.K.Sink.written c.args.kept.now) (g.K.Sink.written c.send.new.sink)
       c.in-Ok.ensures.fed c.in-Err-send.ensures.stopped,
 )
 
@@ -40,13 +42,13 @@ returns-clause-stopped g c = record {
   last = c.args.viewer.now;
   bytes_are = refl;
   runs = turn_none c.args.viewer.now;
-  wrote = Appends-nil (g.W.Sink.written c.args.sink.now);
+  wrote = Nothing;
   kept = (
     g.K.Sink.written c.args.kept.now,
     Appends-nil (g.K.Sink.written c.args.kept.now),
     kept_last c.send-in-Err.result (g.K.Sink.written c.args.kept.now)
         (g.K.Sink.written c.send-in-Err.new.sink) c.args.bytes.now
-        (g.W.Sink.failed c.args.sink.now) (g.K.Sink.failed c.args.kept.now)
+        (g.W.Wire.known c.args.wire.now).failed_writes (g.K.Sink.failed c.args.kept.now)
         (g.K.Sink.failed c.send-in-Err.new.sink) c.send-in-Err.ensures.done
         c.send-in-Err.ensures.stopped c.send-in-Err.ensures.none_failed
         c.send-in-Err.ensures.one_failed,

@@ -1,0 +1,188 @@
+use Rattle.std.proofs.Common.{◌∙◌, List, ℕ, Option, refl, sym, subst, arith}
+use Rattle.rfb_session.specs.ServeEngine.{AllServed, ServedSome, StopsServing}
+use Rattle.rfb_session.specs.ServeOrder.{AfterTurns, AtTheEnd, Ungreeted}
+use Rattle.rfb_session.specs.Turns.{InTurn, StopsInTurn, TakesTurns, TooEarly, Unheard}
+use Rattle.rfb_session.proofs.ServeOrderLemmas.{as_before}
+use Rattle.rfb_session.proofs.ServingLemmas.{front_all, front_stops, unheard}
+use Rattle.rfb_session.proofs.TurnLemmas.{greeted_stops}
+use Rattle.rfb_session.proofs.WireLemmas.{all_known, some_known}
+use Rattle.rfb_session.proofs.engine.serving.serve_over.Goals as goal
+
+pub serve_all-requires : goal.serve_all-requires
+serve_all-requires g c =
+    let greeted = all_known g.W.Wire.steps g.W.Wire.known g.met.W.Wire.tells c.args.wire.now
+    c.send_over.new.wire c.greeting-greeting.result c.in-Ok.ensures.done in
+    record {
+      readable = omega (arith, c.requires.readable, greeted.0.1);
+      writable = omega (arith, c.requires.writable, greeted.2);
+    }
+
+-- the greeting was not written whole
+pub returns-in-Err : goal.returns-in-Err
+returns-in-Err g c =
+    let old = g.W.Wire.known c.args.wire.now in
+    let new = g.W.Wire.known c.send_over.new.wire in
+    let cut = some_known g.W.Wire.steps g.W.Wire.known g.met.W.Wire.tells c.args.wire.now
+    c.send_over.new.wire c.greeting-greeting.result c.in-Err.ensures.stopped in
+    record {
+      in_order = tt;
+      stopped_in_order = Ungreeted refl c.greeting-greeting.result c.greeting-greeting.ensures
+          c.in-Err.ensures.stopped refl refl;
+      served = tt;
+      turns = tt;
+      between = tt;
+      none_failed = tt;
+      stopped = record {
+        greeting = c.greeting-greeting.result;
+        greeting_is = c.greeting-greeting.ensures;
+        goes_on = (
+          omega (arith, c.in-Err.ensures.one_failed, cut.0.1),
+          subst (λ (u : Option (List ℕ)). ServedSome old.unread u old.written new.written
+              c.greeting-greeting.result c.args.server.now c.args.server.now) (sym cut.0.0)
+              (unheard old.unread old.written new.written c.greeting-greeting.result
+              c.args.server.now cut.1),
+        );
+      };
+      in_turn = Unheard refl c.greeting-greeting.result c.greeting-greeting.ensures cut.1 cut.0.0
+          refl refl;
+      same_references = cut.0.2;
+    }
+
+pub returns-then-between : goal.returns-then-between
+returns-then-between g c =
+    let old = g.W.Wire.known c.args.wire.now in
+    let mid = g.W.Wire.known c.send_over.new.wire in
+    let new = g.W.Wire.known c.serve_all.new.wire in
+    let greeted = all_known g.W.Wire.steps g.W.Wire.known g.met.W.Wire.tells c.args.wire.now
+    c.send_over.new.wire c.greeting-greeting.result c.in-Ok.ensures.done in
+    let all = c.in-Ok-serve_all.ensures in
+    record {
+      in_order = record {
+        greeting = c.greeting-greeting.result;
+        greeting_is = c.greeting-greeting.ensures;
+        greeted = c.send_over.new.wire;
+        wrote = c.in-Ok.ensures.done;
+        goes_on = all.in_order;
+      };
+      stopped_in_order = tt;
+      served = record {
+        greeting = c.greeting-greeting.result;
+        greeting_is = c.greeting-greeting.ensures;
+        goes_on = as_before old mid greeted.0 (λ (u : Option (List ℕ)) (n : ℕ). AllServed u
+            new.unread old.written new.written c.greeting-greeting.result c.args.server.now
+            c.in-Ok-serve_all.updates c.serve_all.new.server)
+            (front_all mid.unread new.unread old.written mid.written new.written
+            c.greeting-greeting.result c.args.server.now c.in-Ok-serve_all.updates
+            c.serve_all.new.server greeted.1 all.served);
+      };
+      turns = record {
+        greeting = c.greeting-greeting.result;
+        greeting_is = c.greeting-greeting.ensures;
+        greeted = mid.written;
+        wrote = greeted.1;
+        turns = as_before old mid greeted.0 (λ (u : Option (List ℕ)) (n : ℕ). TakesTurns
+            g.S.Scene.shows u new.unread mid.written new.written c.args.server.now
+            c.args.scene.now c.in-Ok-serve_all.updates c.serve_all.new.server
+            c.serve_all.new.scene) all.turns;
+      };
+      between = λ serving s prefix stands.
+          sym c.if-between.true ∙ c.between.ensures.value serving s prefix stands;
+      none_failed = (all.none_failed.0 ∙ greeted.0.1, all.none_failed.1 ∙ greeted.2);
+      stopped = tt;
+      in_turn = tt;
+      same_references = all.same_references ∙ greeted.0.2;
+    }
+
+pub returns-else-between : goal.returns-else-between
+returns-else-between g c =
+    let old = g.W.Wire.known c.args.wire.now in
+    let mid = g.W.Wire.known c.send_over.new.wire in
+    let new = g.W.Wire.known c.serve_all.new.wire in
+    let greeted = all_known g.W.Wire.steps g.W.Wire.known g.met.W.Wire.tells c.args.wire.now
+    c.send_over.new.wire c.greeting-greeting.result c.in-Ok.ensures.done in
+    let all = c.in-Ok-serve_all.ensures in
+    record {
+      in_order = tt;
+      stopped_in_order = AtTheEnd refl c.in-Ok-serve_all.updates (record {
+        greeting = c.greeting-greeting.result;
+        greeting_is = c.greeting-greeting.ensures;
+        greeted = c.send_over.new.wire;
+        wrote = c.in-Ok.ensures.done;
+        goes_on = all.in_order;
+      });
+      served = tt;
+      turns = tt;
+      between = tt;
+      none_failed = tt;
+      stopped = record {
+        greeting = c.greeting-greeting.result;
+        greeting_is = c.greeting-greeting.ensures;
+        goes_on = (
+          c.in-Ok-serve_all.updates,
+          as_before old mid greeted.0 (λ (u : Option (List ℕ)) (n : ℕ). AllServed u
+              new.unread old.written new.written c.greeting-greeting.result
+              c.args.server.now c.in-Ok-serve_all.updates c.serve_all.new.server)
+              (front_all mid.unread new.unread old.written mid.written new.written
+              c.greeting-greeting.result c.args.server.now c.in-Ok-serve_all.updates
+              c.serve_all.new.server greeted.1 all.served),
+          λ serving s prefix stands.
+              sym c.if-between.false ∙ c.between.ensures.value serving s prefix stands,
+        );
+      };
+      in_turn = TooEarly refl c.in-Ok-serve_all.updates (record {
+        greeting = c.greeting-greeting.result;
+        greeting_is = c.greeting-greeting.ensures;
+        greeted = mid.written;
+        wrote = greeted.1;
+        turns = as_before old mid greeted.0 (λ (u : Option (List ℕ)) (n : ℕ). TakesTurns
+            g.S.Scene.shows u new.unread mid.written new.written c.args.server.now
+            c.args.scene.now c.in-Ok-serve_all.updates c.serve_all.new.server
+            c.serve_all.new.scene) all.turns;
+      });
+      same_references = all.same_references ∙ greeted.0.2;
+    }
+
+pub returns-in-Err-serve_all : goal.returns-in-Err-serve_all
+returns-in-Err-serve_all g c =
+    let old = g.W.Wire.known c.args.wire.now in
+    let mid = g.W.Wire.known c.send_over.new.wire in
+    let new = g.W.Wire.known c.serve_all.new.wire in
+    let greeted = all_known g.W.Wire.steps g.W.Wire.known g.met.W.Wire.tells c.args.wire.now
+    c.send_over.new.wire c.greeting-greeting.result c.in-Ok.ensures.done in
+    let all = c.in-Err-serve_all.ensures in
+    record {
+      in_order = tt;
+      stopped_in_order = AfterTurns (record {
+        greeting = c.greeting-greeting.result;
+        greeting_is = c.greeting-greeting.ensures;
+        greeted = c.send_over.new.wire;
+        wrote = c.in-Ok.ensures.done;
+        goes_on = all.stopped_in_order;
+      });
+      served = tt;
+      turns = tt;
+      between = tt;
+      none_failed = tt;
+      stopped = record {
+        greeting = c.greeting-greeting.result;
+        greeting_is = c.greeting-greeting.ensures;
+        goes_on = as_before old mid greeted.0 (λ (u : Option (List ℕ)) (n : ℕ). StopsServing u
+            new.unread n new.failed_reads old.written new.written old.failed_writes
+            new.failed_writes c.greeting-greeting.result c.args.server.now
+            c.in-Err-serve_all.fault c.serve_all.new.server)
+            (front_stops mid.unread new.unread mid.failed_reads new.failed_reads old.written
+            mid.written new.written old.failed_writes mid.failed_writes
+            new.failed_writes c.greeting-greeting.result c.args.server.now
+            c.in-Err-serve_all.fault c.serve_all.new.server greeted.1 greeted.2 all.stopped);
+      };
+      in_turn = InTurn c.greeting-greeting.result c.greeting-greeting.ensures mid.written greeted.1
+          (as_before old mid greeted.0 (λ (u : Option (List ℕ)) (n : ℕ). StopsInTurn
+          g.S.Scene.shows u new.unread n new.failed_reads mid.written new.written
+          old.failed_writes new.failed_writes c.args.server.now c.args.scene.now
+          c.in-Err-serve_all.fault c.serve_all.new.server c.serve_all.new.scene)
+          (greeted_stops g.S.Scene.shows mid.unread new.unread mid.failed_reads new.failed_reads
+          mid.written new.written old.failed_writes mid.failed_writes new.failed_writes
+          c.args.server.now c.args.scene.now c.in-Err-serve_all.fault c.serve_all.new.server
+          c.serve_all.new.scene greeted.2 all.in_turn));
+      same_references = all.same_references ∙ greeted.0.2;
+    }

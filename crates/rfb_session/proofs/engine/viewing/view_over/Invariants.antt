@@ -1,0 +1,22 @@
+-- What was read was fed, kept and answered, in order; updates are looked for, and nothing has failed.
+use Rattle.std.proofs.Common.{◌≡◌, length}
+use Rattle.rfb_session.specs.ViewOrder.{LooksOver}
+use Rattle.rfb_session.proofs.LookLemmas.{ViewedSoFar}
+use Rattle.rfb_session.proofs.ServeOrderLemmas.{NoneFailed}
+use Rattle.rfb_session.proofs.engine.viewing.view_over.Given as goal
+
+abbrev pub invariant-loop-turn : goal.invariant-loop-turn
+invariant-loop-turn g l =
+    let old = g.W.Wire.known l.initial.wire in
+    let now = g.W.Wire.known l.wire in
+    record {
+      order : LooksOver g.W.Wire.steps l.initial.wire (g.K.Sink.written l.initial.kept) l.fn.viewer
+          l.updates l._turn l.left l.wire (g.K.Sink.written l.kept) l.viewer;
+      viewed : ViewedSoFar old.unread now.unread old.written now.written
+          (g.K.Sink.written l.initial.kept) (g.K.Sink.written l.kept) l.fn.viewer l._turn
+          l.updates l.left l.viewer;
+      none_failed : NoneFailed old now;
+      none_unkept : g.K.Sink.failed l.kept ≡ g.K.Sink.failed l.initial.kept;
+      same_reference : g.K.Sink.reference l.kept ≡ g.K.Sink.reference l.initial.kept;
+      size : length l.part ≡ 32768;
+    }
