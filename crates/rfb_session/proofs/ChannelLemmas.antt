@@ -1,5 +1,5 @@
 -- An update after other bytes stands after those of them that are still in flight.
-use Rattle.std.proofs.Common.{◌≡◌, ℕ, ◌≤◌, min, List, ◌++◌, length, drop, length-append, ap, ◌∙◌, arith}
+use Rattle.std.proofs.Common.{◌≡◌, ℕ, ◌≤◌, List, ◌++◌, length, drop, ap, ◌∙◌}
 use Rattle.std.proofs.lemmas.List.{drop-append-le}
 use Rattle.rfb_pixel.specs.declared.colour.Colour.{Colour}
 use Rattle.rfb_picture.specs.Grid.{Grid}
@@ -7,18 +7,15 @@ use Rattle.rfb_server.specs.declared.session.Session.{Session}
 use Rattle.rfb_server.specs.Updating.{SendsUpdate}
 
 -- bytes that joined others stand after those that are left of these
-pub rest_of : (all more bytes : List ℕ) (k j : ℕ) → k ≤ length all → j ≡ min k (length more) →
-    more ≡ all ++ bytes → drop j more ≡ drop k all ++ bytes
-rest_of all more bytes k j within least is =
-    let long = ap (λ (q : List ℕ). length q) is ∙ length-append all bytes in
-    let same : j ≡ k = omega (arith, long) in
-    ap (λ (i : ℕ). drop i more) same ∙ ap (λ (q : List ℕ). drop k q) is
-    ∙ drop-append-le k all bytes within
+pub rest_of : (all more bytes : List ℕ) (k : ℕ) → k ≤ length all → more ≡ all ++ bytes →
+    drop k more ≡ drop k all ++ bytes
+rest_of all more bytes k within is =
+    ap (λ (q : List ℕ). drop k q) is ∙ drop-append-le k all bytes within
 
-pub updates_rest : (screen : Grid Colour) (old new : Session) (all more : List ℕ) (k j : ℕ) →
-    k ≤ length all → j ≡ min k (length more) → SendsUpdate screen old new all more →
-    SendsUpdate screen old new (drop k all) (drop j more)
-updates_rest screen old new all more k j within least updates = record {
+pub updates_rest : (screen : Grid Colour) (old new : Session) (all more : List ℕ) (k : ℕ) →
+    k ≤ length all → SendsUpdate screen old new all more →
+    SendsUpdate screen old new (drop k all) (drop k more)
+updates_rest screen old new all more k within updates = record {
   fault_is = updates.fault_is;
   made_is = updates.made_is;
   sent = λ serving s prefix stands.
@@ -29,7 +26,7 @@ updates_rest screen old new all more k j within least updates = record {
         bytes = one.bytes;
         copies = one.copies;
         blocks = one.blocks;
-        appended = rest_of all more one.bytes k j within least one.appended;
+        appended = rest_of all more one.bytes k within one.appended;
         composes = one.composes;
         used = one.used;
         stands = one.stands;

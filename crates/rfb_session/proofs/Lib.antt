@@ -30,6 +30,7 @@ pub mod SlotLemmas
 pub mod FollowLemmas
 pub mod ShareRoomLemmas
 pub mod ShareSeatLemmas
+pub mod ShareMemoryLemmas
 pub mod ShareLifeLemmas
 pub mod ShareLemmas
 pub mod ShareLawLemmas

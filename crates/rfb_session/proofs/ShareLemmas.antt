@@ -82,6 +82,7 @@ fresh_in share session seat w h name wide high named whole stands follows hints 
           (serves share.screen);
       greets = seated.greets
           ∙ ap (λ hello. version_text hello.offer) (serves share.screen).setup_is;
+      memory = seated.memory;
       follows = subst (λ (s : Session). Follows share.screen s) (sym seated.session_is)
           (follows share.screen whole (sym wide) (sym high));
       hints = ap (λ (s : Session). hints_in s) seated.session_is ∙ hints;

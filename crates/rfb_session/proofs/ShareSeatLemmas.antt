@@ -29,7 +29,7 @@ use Rattle.rfb_session.specs.declared.share.waiting.Waiting.{Waiting}
 use Rattle.rfb_session.specs.declared.share.waiting.Waiting.TheVariants.{Answers, Update}
 use Rattle.rfb_session.specs.InFlight.{server_reply}
 use Rattle.rfb_session.specs.ShareRoom.{kept_in, answers_in, answers_left, AnswersFit}
-use Rattle.rfb_session.specs.ShareRoom.{HasRoomForAnswers}
+use Rattle.rfb_session.specs.ShareRoom.{HasRoomForAnswers, memory_of}
 use Rattle.rfb_session.specs.ShareSeats.{IsFresh, Hears, waiting_in, is_update, holds_update}
 use Rattle.rfb_session.proofs.ShareRoomLemmas.{fewer_left}
 
@@ -280,6 +280,7 @@ heard_answer old new answers later bytes told was is written more going fed made
           ∙ ap (λ (xs : List ℕ). drop old.written xs ++ server_reply told) (sym kept);
       update = ap (λ (w : Waiting). holds_update w) is ∙ sym none;
       quiet = λ some. absurd (is_not_both (is_update old) none some);
+      memory = ap (λ (w : Waiting). memory_of w) is ∙ sym (ap (λ (w : Waiting). memory_of w) was);
       made = made;
       hints = hints;
     }
@@ -303,6 +304,7 @@ heard_after old new bytes told is written none going fed made hints =
           ∙ ap (λ (xs : List ℕ). waiting_in old ++ xs) (sym none);
       update = ap (λ (w : Waiting). holds_update w) is;
       quiet = λ some. same;
+      memory = ap (λ (w : Waiting). memory_of w) is;
       made = made;
       hints = hints;
     }

@@ -10,7 +10,7 @@ use Rattle.rfb_server.specs.Server.{Serving, first_server}
 use Rattle.rfb_server.specs.Standing.{SessionStandsFor, serving_with, session_fault, with_screen}
 use Rattle.rfb_session.specs.declared.share.Share.{Share}
 use Rattle.rfb_session.specs.declared.share.seat.ShareSeat.{ShareSeat}
-use Rattle.rfb_session.specs.ShareSeats.{session_at, waiting_in, is_update}
+use Rattle.rfb_session.specs.ShareSeats.{session_at, waiting_in, is_update, memory_at}
 use Rattle.rfb_session.specs.Slots.{seat_at, is_taken}
 
 -- the seat of number k, where it is taken
@@ -60,10 +60,11 @@ abbrev pub fault_in : Share → ℕ → Option ServerFault
 fault_in share k = fault_for (seat_in share k)
 
 -- a seat that has just been taken: a session over the screen that was fed nothing and follows it,
--- and its greeting, RFC 6143 section 7.1.1
+-- and its greeting, RFC 6143 section 7.1.1, for which no memory is taken
 pub record IsFreshIn (share : Share) (seat : ShareSeat) : Type 0 where
   pub fresh : SessionStandsFor (serving_in share) (screen_of share) (session_at seat)
       (with_screen (screen_of share) (first_server (serving_in share))) []
   pub greets : waiting_in seat ≡ version_text share.offer
+  pub memory : memory_at seat ≡ 0
   pub follows : Follows (screen_of share) (session_at seat)
   pub hints : hints_in (session_at seat) ≡ []

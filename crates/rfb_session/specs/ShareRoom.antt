@@ -1,6 +1,7 @@
 -- The room that a seat has for the answers of its session, RFC 6143 sections 7.1 and 7.3.2: there
 -- is always enough.
 use Rattle.std.specs.Prelude.{◌≡◌, ℕ, ◌+◌, ◌≤◌, List, length, None}
+use Rattle.std.specs.Vec.{vec_capacity}
 use Rattle.rfb_pixel.specs.declared.colour.Colour.{Colour}
 use Rattle.rfb_picture.specs.Grid.{Grid}
 use Rattle.rfb_wire.specs.stream.Sequel.{First, Second}
@@ -16,6 +17,11 @@ use Rattle.rfb_session.specs.declared.share.waiting.Waiting.TheVariants.{Answers
 abbrev pub kept_in : Waiting → List ℕ
 kept_in (Answers answers) = answers.items
 kept_in (Update bytes) = bytes.items
+
+-- how many bytes of memory are taken for them: none for answers, which lie in the seat itself
+abbrev pub memory_of : Waiting → ℕ
+memory_of (Answers answers) = 0
+memory_of (Update bytes) = vec_capacity bytes
 
 -- how many of them are answers
 abbrev pub answers_in : Waiting → ℕ

@@ -26,7 +26,7 @@ use Rattle.rfb_session.specs.declared.share.seat.ShareSeat.{ShareSeat}
 use Rattle.rfb_session.specs.declared.share.waiting.Waiting.{Waiting}
 use Rattle.rfb_session.specs.declared.share.waiting.Waiting.TheVariants.{Answers, Update}
 use Rattle.rfb_session.specs.InFlight.{server_reply}
-use Rattle.rfb_session.specs.ShareRoom.{kept_in}
+use Rattle.rfb_session.specs.ShareRoom.{kept_in, memory_of}
 
 -- ---- what a seat has
 
@@ -45,22 +45,27 @@ holds_update (Update bytes) = true
 abbrev pub is_update : ShareSeat → Bool
 is_update seat = holds_update seat.waiting
 
+-- the memory that is taken for them
+abbrev pub memory_at : ShareSeat → ℕ
+memory_at seat = memory_of seat.waiting
+
 -- a session that was fed nothing, whose name has at most 255 bytes
 abbrev pub IsFresh : Session → Type 0
 IsFresh session =
     (serving : Serving) × (length serving.hello.name ≤ 255) × ((screen : Grid Colour) →
     SessionStandsFor serving screen session (with_screen screen (first_server serving)) [])
 
--- it has that session, and the session's greeting waits
+-- it has that session, and the session's greeting waits, for which no memory is taken
 pub record IsSeatOf (session : Session) (seat : ShareSeat) : Type 0 where
   pub session_is : session_at seat ≡ session
   pub greets : waiting_in seat ≡ version_text (session_serving session).hello.offer
+  pub memory : memory_at seat ≡ 0
 
 -- ---- bytes of its viewer's
 
 -- its session, which has not failed, was fed them, whatever it stands for over whatever screen, and
--- told that of them; its answer, if that is one, waits after what waited. Where an update waits
--- there is none
+-- told that of them; its answer, if that is one, waits after what waited, and no memory is taken
+-- for it. Where an update waits there is none
 pub record Hears (bytes : List ℕ) (told : Option ServerTold) (old new : ShareSeat) : Type 0 where
   pub going : session_fault (session_at old) ≡ None
   pub fed : (serving : Serving) (screen : Grid Colour) →
@@ -69,6 +74,7 @@ pub record Hears (bytes : List ℕ) (told : Option ServerTold) (old new : ShareS
   pub waits : waiting_in new ≡ waiting_in old ++ server_reply told
   pub update : is_update new ≡ is_update old
   pub quiet : is_update old ≡ true → waiting_in new ≡ waiting_in old
+  pub memory : memory_at new ≡ memory_at old
   pub made : session_serving (session_at new) ≡ session_serving (session_at old)
   pub hints : hints_in (session_at new) ≡ hints_in (session_at old)
 
@@ -77,31 +83,37 @@ pub record Ends (bytes : List ℕ) (fault : ServerFault) (old new : ShareSeat) :
   pub fails : session_fault (session_at new) ≡ Some fault
   pub ends : EndsAs (session_at old) bytes fault (session_at new)
   pub waits : waiting_in new ≡ waiting_in old
+  pub memory : memory_at new ≡ memory_at old
   pub made : session_serving (session_at new) ≡ session_serving (session_at old)
   pub failed : (before : ServerFault) → session_fault (session_at old) ≡ Some before → new ≡ old
 
 -- ---- bytes that are written
 
--- the first `count` bytes that wait are written, or all; its session is as it was
+-- the first `count` bytes that wait are written, or all, and where none waits any more the memory
+-- that was taken for them is given back; its session is as it was
 pub record WritesAt (count : ℕ) (old new : ShareSeat) : Type 0 where
   pub waits : waiting_in new ≡ drop count (waiting_in old)
+  pub memory : memory_at new ≤ memory_at old
+  pub freed : waiting_in new ≡ [] → memory_at new ≡ 0
   pub session : session_at new ≡ session_at old
 
 -- ---- composing
 
--- nothing waited, and an update of the screen does, which has at most the room that composing
--- reserves
+-- nothing waited, and an update of the screen does; memory is taken for it, at most the room that
+-- composing reserves
 pub record Sends (screen : Grid Colour) (old new : ShareSeat) : Type 0 where
   pub going : session_fault (session_at old) ≡ None
   pub written : waiting_in old ≡ []
   pub update : SendsUpdate screen (session_at old) (session_at new) [] (waiting_in new)
   pub room : length (waiting_in new) ≤ update_room (session_at old)
+  pub memory : memory_at new ≤ update_room (session_at old)
   pub spent : hints_in (session_at new) ≡ []
 
--- nothing waited, none was due, and nothing waits
+-- nothing waited, none was due, nothing waits, and no memory is taken
 pub record SendsNone (screen : Grid Colour) (old new : ShareSeat) : Type 0 where
   pub written : waiting_in old ≡ []
   pub none : OwesNone screen (session_at old) (session_at new) [] (waiting_in new)
+  pub memory : memory_at new ≡ memory_at old
   pub hints : hints_in (session_at new) ≡ hints_in (session_at old)
 
 -- earlier bytes wait, and nothing has changed
@@ -115,12 +127,13 @@ ComposesAt screen NotDue old new = SendsNone screen old new
 ComposesAt screen Waits old new = StillWaits old new
 ComposesAt screen NoSuchSeat old new = ⊥
 
--- nothing waited, an update was due for which there was no memory, and nothing waits
+-- nothing waited, an update was due for which there was no memory; nothing waits, and none is taken
 pub record WantsRoom (screen : Grid Colour) (old new : ShareSeat) : Type 0 where
   pub written : waiting_in old ≡ []
   pub due : OwesUpdate screen (session_at old)
   pub kept : KeepsSession (session_at old) (session_at new)
   pub waits : waiting_in new ≡ []
+  pub memory : memory_at new ≡ memory_at old
   pub hints : hints_in (session_at new) ≡ hints_in (session_at old)
 
 -- ---- drawings and hints
@@ -129,6 +142,7 @@ pub record WantsRoom (screen : Grid Colour) (old new : ShareSeat) : Type 0 where
 pub record KeepsShareSeat (old new : ShareSeat) : Type 0 where
   pub waits : waiting_in new ≡ waiting_in old
   pub update : is_update new ≡ is_update old
+  pub memory : memory_at new ≡ memory_at old
   pub session : KeepsSession (session_at old) (session_at new)
 
 -- its session was notified that the screen is drawn on inside the rectangle

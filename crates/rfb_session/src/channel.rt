@@ -1,7 +1,8 @@
 //! The bytes in flight one way.
 
 ghost use Rattle.std.specs.Prelude.{◌≡◌, ◌≤◌, ◌++◌, ℕ, List, [], length, take, drop};
-ghost use Rattle.std.specs.Prelude.{◌≢◌, true, false, None, Ok, IfOk, OnOk, OnErr};
+ghost use Rattle.std.specs.Prelude.{◌≢◌, ◌+◌, true, false, None, Ok, IfOk, OnOk, OnErr};
+ghost use Rattle.std.specs.Vec.{vec_capacity};
 
 use rfb_picture::Picture;
 use rfb_pixel::Colour;
@@ -10,24 +11,24 @@ use rfb_viewer::{TextFault, Viewer};
 use std::alloc::{AllocError, Global};
 use std::marker::Model;
 
-/// Bytes that were sent and have not arrived, in order. They arrive where they lie; once the last
-/// of them has arrived their memory is given back.
+/// Bytes that were sent and have not arrived, in order. They arrive where they lie. Of the bytes
+/// that it keeps at most half have arrived; once the last of them has, their memory is given back.
 #[derive(Debug, Drop)]
 pub(crate) struct Channel {
     alloc: Global,
     bytes: Vec<u8>,
-    // How many of them have arrived.
+    // How many of those kept have arrived.
     arrived: usize,
 }
 
 impl Model for Channel {
-    ghost use Rattle.std.specs.Prelude.{ℕ, ◌≤◌, List, drop, length};
+    ghost use Rattle.std.specs.Prelude.{ℕ, ◌+◌, ◌≤◌, List, drop, length};
 
     ghost Value = { List ℕ };
 
     ghost view = { λ c. drop c.arrived c.bytes.items };
 
-    ghost invariant = { λ c. c.arrived ≤ length c.bytes.items };
+    ghost invariant = { λ c. c.arrived + c.arrived ≤ length c.bytes.items };
 }
 
 impl Channel {
@@ -74,11 +75,7 @@ impl Channel {
         requires { count ≤ length self.old }
         ensures { self.new ≡ drop count self.old }
     {
-        self.arrived += count;
-        if self.arrived == self.bytes.len() {
-            self.bytes = Vec::new(self.alloc);
-            self.arrived = 0;
-        }
+        self.arrived = let_go(self.alloc, &mut self.bytes, self.arrived + count);
     }
 
     /// These bytes are in flight too, after the others. Where there is no memory nothing changes.
@@ -86,9 +83,7 @@ impl Channel {
         ensures sent { OnOk result (self.new ≡ self.old ++ bytes.now) }
         ensures kept { OnErr result (self.new ≡ self.old) }
     {
-        self.make_room();
-        self.bytes.extend_from_slice(bytes)?;
-        Ok(())
+        self.bytes.extend_from_slice(bytes)
     }
 
     /// The update that a session composes over the screen is in flight too, if it composes one.
@@ -111,10 +106,7 @@ impl Channel {
         ensures hints { IfOk result (λ did. did ≡ false →
             hints_in session.new ≡ hints_in session.old) }
     {
-        self.make_room();
-        let did = session.compose(screen, &mut self.bytes)?;
-        self.arrived = self.arrived.min(self.bytes.len());
-        Ok(did)
+        session.compose(screen, &mut self.bytes)
     }
 
     /// The message of a text that a viewer cuts is in flight too. Where the viewer refuses it, or
@@ -129,23 +121,29 @@ impl Channel {
             → StandsFor viewing viewer.now s prefix → text_refusal_of result ≡ call_refusal s }
         ensures refuses { text_refusal_of result ≡ call_refused_by viewer.now }
     {
-        self.make_room();
-        match viewer.cut_text(text, &mut self.bytes) {
-            Ok(()) => Ok(()),
-            Err(fault) => Err(fault),
-        }
+        viewer.cut_text(text, &mut self.bytes)
     }
+}
 
-    // Room of bytes that have arrived is taken for others, once they are as many as those that are
-    // in flight.
-    fn make_room(&mut self)
-        ensures { self.new ≡ self.old }
-    {
-        let in_flight = self.len();
-        if self.arrived >= in_flight {
-            self.bytes.copy_within(self.arrived.., 0);
-            self.bytes.truncate(in_flight);
-            self.arrived = 0;
-        }
+// Lets go of the first bytes, which have arrived, as many as `arrived` says: their room is taken for
+// others, once they are as many as those in flight, and where none is in flight the memory is given
+// back. It tells how many of them are kept.
+fn let_go(alloc: Global, bytes: &mut Vec<u8>, arrived: usize) -> usize
+    requires within { arrived ≤ length bytes.old.items }
+    ensures same { drop result bytes.new.items ≡ drop arrived bytes.old.items }
+    ensures few { result + result ≤ length bytes.new.items }
+    ensures room { vec_capacity bytes.new ≤ vec_capacity bytes.old }
+    ensures freed { arrived ≡ length bytes.old.items → vec_capacity bytes.new ≡ 0 }
+{
+    let in_flight = bytes.len() - arrived;
+    if in_flight == 0 {
+        *bytes = Vec::new(alloc);
+        return 0;
     }
+    if arrived < in_flight {
+        return arrived;
+    }
+    bytes.copy_within(arrived.., 0);
+    bytes.truncate(in_flight);
+    0
 }

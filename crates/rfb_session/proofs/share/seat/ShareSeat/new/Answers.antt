@@ -30,4 +30,5 @@ returns c =
           (c.greeting.ensures fresh.0 nowhere (with_screen nowhere (first_server fresh.0)) []
           (fresh.2 nowhere))
           ∙ ap (λ (setup : ServerSetup). version_text setup.offer) (sym (fresh.2 nowhere).setup_is);
+      memory = refl;
     }

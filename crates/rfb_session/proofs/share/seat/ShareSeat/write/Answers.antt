@@ -1,7 +1,14 @@
+use Rattle.std.proofs.Common.{length, refl, ap, arith}
 use Rattle.rfb_session.proofs.ShareSeatLemmas.{fits_empty}
+use Rattle.rfb_session.proofs.ShareMemoryLemmas.{writes_some}
 use Rattle.rfb_session.proofs.share.seat.ShareSeat.write.Goals as goal
 
 pub invariant_of-self-2-clause-roomy : goal.invariant_of-self-2-clause-roomy
 invariant_of-self-2-clause-roomy c =
     let s = c.args.self.now in
     fits_empty s.session s.waiting c.new.result c.new.ensures s.roomy
+
+pub returns-then-count-kept : goal.returns-then-count-kept
+returns-then-count-kept c =
+    let long = ap (λ xs. length xs) c.kept-kept.ensures in
+    writes_some _ _ _ refl refl refl (omega (arith, long))
