@@ -37,6 +37,7 @@ pub mod ShareLawLemmas
 pub mod ShareViewerLemmas
 pub mod ShareUpdateLemmas
 pub mod ShareCallLemmas
+pub mod ShareBesideLemmas
 pub mod HubSeatLemmas
 pub mod HubSlotLemmas
 pub mod HubStepLemmas

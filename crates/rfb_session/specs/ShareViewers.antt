@@ -39,6 +39,12 @@ abbrev pub Watches : Ends → Share → ℕ → Viewer → List ℕ → List ℕ
 Watches e share k viewer to_server on_way =
     (n : Network) × IsWatchedBy e share k viewer to_server on_way n
 
+-- whoever is the viewer of the seat, and whatever is between the two: they stand for a network after
+-- a call as they did before it
+abbrev pub StaysWatched : Share → ℕ → Share → Type 0
+StaysWatched old k new = (e : Ends) (viewer : Viewer) (to_server on_way : List ℕ) →
+    Watches e old k viewer to_server on_way → Watches e new k viewer to_server on_way
+
 -- ---- calls of the viewer that are not refused
 
 -- a request

@@ -1,11 +1,13 @@
 //! Laws of a share's seat whose viewer is this project's, with nothing to run: what it comes to
 //! show, whatever is drawn and whatever other viewers do.
 
-ghost use Rattle.std.specs.Prelude.{◌≡◌, ◌≢◌, ℕ, Bool, List, [], ◌++◌, take, Option, Some, None};
+ghost use Rattle.std.specs.Prelude.{◌≡◌, ◌≢◌, ℕ, Bool, false, nat_eq, List, [], ◌++◌, take};
+ghost use Rattle.std.specs.Prelude.{Option, Some, None};
 ghost use Rattle.rfb_pixel.specs.declared.colour.Colour.{Colour};
 ghost use Rattle.rfb_pixel.specs.Format.{PixelFormat};
 ghost use Rattle.rfb_picture.specs.declared.rect.Rect.{Rect};
 ghost use Rattle.rfb_picture.specs.Grid.{Grid};
+ghost use Rattle.rfb_picture.specs.Places.{has_bit};
 ghost use Rattle.rfb_wire.specs.ClientMessage.{ClientMessage, SetPixelFormat};
 ghost use Rattle.rfb_wire.specs.ClientMessage.{FramebufferUpdateRequest, SpellsClientMessage};
 ghost use Rattle.rfb_wire.specs.stream.End.{FedBy};
@@ -22,6 +24,7 @@ ghost use Rattle.rfb_session.specs.declared.share.Share.{Share};
 ghost use Rattle.rfb_session.specs.declared.share.event.Composing.{Composing};
 ghost use Rattle.rfb_session.specs.declared.share.event.Drawing.{Drawing};
 ghost use Rattle.rfb_session.specs.declared.share.event.Heard.{Heard};
+ghost use Rattle.rfb_session.specs.declared.share.event.ShareFault.{ShareFault};
 ghost use Rattle.rfb_session.specs.declared.share.event.ShareFault.TheVariants.{Session};
 ghost use Rattle.rfb_session.specs.Headline.{IsHeadline, due_picture};
 ghost use Rattle.rfb_session.specs.InFlight.{AreMade, viewer_reply};
@@ -29,14 +32,15 @@ ghost use Rattle.rfb_session.specs.Link.{Ends};
 ghost use Rattle.rfb_session.specs.Network.{Network};
 ghost use Rattle.rfb_session.specs.Share.{screen_of, serving_in, waits_at, fault_in};
 ghost use Rattle.rfb_session.specs.ShareSteps.{JoinsAs, IsInside, DrawsOn, ReceivesAs, RefusesAs};
-ghost use Rattle.rfb_session.specs.ShareSteps.{WritesAs, ComposesAs};
-ghost use Rattle.rfb_session.specs.ShareViewers.{IsWatchedBy, Watches, Requests, AsksFormat};
-ghost use Rattle.rfb_session.specs.ShareViewers.{MaySend, plain_message};
+ghost use Rattle.rfb_session.specs.ShareSteps.{WritesAs, ComposesAs, WantsRoomAs, LeavesAs};
+ghost use Rattle.rfb_session.specs.ShareViewers.{IsWatchedBy, Watches, StaysWatched};
+ghost use Rattle.rfb_session.specs.ShareViewers.{Requests, AsksFormat, MaySend, plain_message};
 
 /// A fresh viewer at a seat that was just taken, and the bytes between the two, stand for a fresh
 /// link over the share's screen. Each call of the share's goes on as a link does: a drawing, bytes
-/// of the viewer's that are received there, bytes that are written, a composing. And where nothing
-/// but the viewer's own bytes reaches the seat, its session refuses none of them.
+/// of the viewer's that are received there, bytes that are written, a composing, also one for which
+/// memory is wanting. And where nothing but the viewer's own bytes reaches the seat, its session
+/// refuses none of them.
 pub fn a_seat_goes_on_as_a_link()
     ensures joined { (e : Ends) (old new : Share) (joined : Option ℕ) (k : ℕ) (viewer : Viewer) →
         e.serving ≡ serving_in old → ViewerStandsFor e.viewing viewer first_viewer [] →
@@ -60,10 +64,32 @@ pub fn a_seat_goes_on_as_a_link()
     ensures composed { (e : Ends) (old new : Share) (k : ℕ) (told : Composing) (viewer : Viewer)
         (to_server on_way : List ℕ) → ComposesAs old k told new →
         Watches e old k viewer to_server on_way → Watches e new k viewer to_server on_way }
+    ensures wanted { (old new : Share) (k : ℕ) → WantsRoomAs old k new → StaysWatched old k new }
 {}
 
-/// So does each call of the viewer's that is not refused, a request, a format, and what changes
-/// nothing of it; and so do bytes that reach it.
+/// A call of another seat leaves such a seat and its viewer what they were: that a viewer joins
+/// there or leaves, bytes that are received there, taken or refused, bytes that are written, a
+/// composing. But a viewer that asks for the screen alone empties it, and it is reported then.
+pub fn a_seat_goes_on_beside_others()
+    ensures joined { (old new : Share) (joined : Option ℕ) (k : ℕ) → JoinsAs old joined new →
+        StaysWatched old k new }
+    ensures left { (old new : Share) (j k : ℕ) (taken : Bool) → nat_eq k j ≡ false →
+        LeavesAs old j taken new → StaysWatched old k new }
+    ensures received { (old new : Share) (j k : ℕ) (bytes : List ℕ) (told : Heard) →
+        nat_eq k j ≡ false → has_bit told.ended k ≡ false → ReceivesAs old j bytes told new →
+        StaysWatched old k new }
+    ensures refused { (old new : Share) (j k : ℕ) (bytes : List ℕ) (fault : ShareFault) →
+        nat_eq k j ≡ false → RefusesAs old j bytes fault new → StaysWatched old k new }
+    ensures written { (old new : Share) (j k count : ℕ) → nat_eq k j ≡ false →
+        WritesAs old j count new → StaysWatched old k new }
+    ensures composed { (old new : Share) (j k : ℕ) (told : Composing) → nat_eq k j ≡ false →
+        ComposesAs old j told new → StaysWatched old k new }
+    ensures wanted { (old new : Share) (j k : ℕ) → nat_eq k j ≡ false →
+        WantsRoomAs old j new → StaysWatched old k new }
+{}
+
+/// Each call of the viewer's that is not refused goes on as a link does too, a request, a format,
+/// and what changes nothing of it; and so do bytes that reach it.
 pub fn a_viewer_of_a_seat_goes_on_as_a_link()
     ensures shown { (e : Ends) (share : Share) (k : ℕ) (old new : Viewer) (bytes later : List ℕ)
         (event : Option ViewerTold) (to_server on_way : List ℕ) → AreMade e →

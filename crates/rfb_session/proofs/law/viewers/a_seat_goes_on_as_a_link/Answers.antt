@@ -1,6 +1,7 @@
 use Rattle.rfb_session.proofs.ShareViewerLemmas.{watched_joined, watched_drawn, watched_received}
 use Rattle.rfb_session.proofs.ShareViewerLemmas.{watched_never, watched_written}
 use Rattle.rfb_session.proofs.ShareUpdateLemmas.{watched_composed}
+use Rattle.rfb_session.proofs.ShareBesideLemmas.{watched_wanted}
 use Rattle.rfb_session.proofs.law.viewers.a_seat_goes_on_as_a_link.Goals as goal
 
 pub returns : goal.returns
@@ -17,4 +18,5 @@ returns c = record {
       watched_written e old new k count viewer to_server on_way writes w;
   composed = λ e old new k told viewer to_server on_way composes w.
       watched_composed e old new k told viewer to_server on_way composes w;
+  wanted = λ old new k wants. watched_wanted old new k wants;
 }
