@@ -1,18 +1,19 @@
 -- Room for the rectangles of an update, cell by cell.
-use Rattle.std.proofs.Common.{◌≡◌, ℕ, zero, suc, ◌+◌, ◌-◌, ◌*◌, ◌<◌, ◌≤◌, Bool, true, false, nat_eq, nat_lt, if◌then◌else◌, refl, ap, subst, ◌∙◌, arith, inl, inr, add-one}
+use Rattle.std.proofs.Common.{◌≡◌, ℕ, zero, suc, ◌+◌, ◌-◌, ◌*◌, ◌<◌, ◌≤◌, ◌&&◌, Bool, true, false, nat_eq, nat_lt, Option, Some, None, is_some, if◌then◌else◌, refl, ap, subst, ◌∙◌, arith, inl, inr, add-one}
 use Rattle.std.specs.Int.{div_ceil}
 use Rattle.std.proofs.lemmas.Bool.{cases_eq, cases_lt, both_ways}
 use Rattle.std.proofs.lemmas.Bool.Decides.{nat_tests}
 use Rattle.std.proofs.Math.Nat.{mul-le-mul_right, mul-le-mul_left}
-use Rattle.std.proofs.lemmas.Nat.{mul-le}
-use Rattle.rfb_server.specs.Room.{GrowsWithin}
+use Rattle.rfb_server.specs.Room.{GrowsWithin, sum_below, some_below, has_asked, cell_room}
 use Rattle.rfb_pixel.specs.Format.{PixelFormat, size_of}
 use Rattle.rfb_picture.specs.declared.rect.Rect.{Rect}
 use Rattle.rfb_picture.specs.Rect.{contains}
-use Rattle.rfb_picture.specs.Box.{IsTight}
+use Rattle.rfb_picture.specs.Area.{Places, asked_at}
+use Rattle.rfb_picture.specs.Box.{IsTight, IsClear, IsBox, HasBox, is_in}
+use Rattle.rfb_picture.specs.Grid.{Grid}
 use Rattle.rfb_picture.proofs.GridLaws.{contains_true, contains_row}
 use Rattle.rfb_server.specs.Cells.{cell_of, IsCell}
-use Rattle.rfb_server.specs.inside.Sends.{sum_below, IsCost, AreCosts}
+use Rattle.rfb_server.specs.inside.Sends.{IsCost, AreCosts, may_need}
 
 -- ---- sums
 
@@ -137,6 +138,14 @@ module _ (width height across : ℕ) (p : ℕ → ℕ → Bool) (form : PixelFor
       let bytes : r.h * r.w * size_of form ≤ other.h * other.w * size_of form = mul-le-mul_right (size_of form) all in
       omega arith
 
+  -- a cell in which no place is such costs nothing, so any number is enough
+  pub cost_nothing : (cost n : ℕ) (other cell : Rect) → IsCell width height across n other → IsCell width height across n cell →
+      IsClear p other.x (other.x + other.w) other.y (other.y + other.h) → IsCost p form cell cost
+  cost_nothing cost n other cell that is none = λ r tight a b c d.
+      let (j, inside, here) = tight.left in
+      let (x0, x1, y0, y1) = contains_true other r.x j (edge n cell other r r.x j is that a b c d inside) in
+      absurd (both_ways (p r.x j) (none r.x j (omega arith) (omega arith) (omega arith) (omega arith)) here)
+
   -- where all cells cost nothing no place is such
   pub none_without_room : (cost : ℕ → ℕ) (n : ℕ) (cell : Rect) (x y : ℕ) → AreCosts width height across p form n cost → sum_below cost n ≤ 0 →
       cell_of across x y < n → IsCell width height across (cell_of across x y) cell → contains cell x y ≡ true → p x y ≡ true → ⊥
@@ -175,28 +184,60 @@ few_cells w h a b =
 
 -- ---- how much room there is at most
 
--- a cell has at most 4,096 places
-pub whole_cell : (w h size : ℕ) → w ≤ 64 → h ≤ 64 → 12 + h * w * size ≤ 12 + 4096 * size
-whole_cell w h size wide high =
-    let places : h * w ≤ 64 * 64 = mul-le h w 64 64 high wide in
-    let pixels : h * w * size ≤ 4096 * size = mul-le (h * w) size 4096 size places (omega arith) in
-    omega (arith, pixels)
+-- a cell more costs at most what it may
+pub one_cell_more : (most : ℕ → ℕ) (at index room cost : ℕ) → at ≤ index → room ≤ sum_below most at → cost ≤ most index →
+    room + cost ≤ sum_below most (index + 1)
+one_cell_more most at index room cost after before one =
+    let order = sum_order most at index after in
+    let more = sum_more most index in
+    omega (arith, order, more, before, one)
 
--- a cell more costs at most as much as one
-pub one_cell_more : (at index each room cost : ℕ) → at ≤ index → room ≤ at * each → cost ≤ each →
-    room + cost ≤ (index + 1) * each
-one_cell_more at index each room cost after most one =
-    let less : (at + 1) * each ≤ (index + 1) * each = mul-le (at + 1) each (index + 1) each (omega arith) (omega arith) in
-    let sum : (at + 1) * each ≡ at * each + each = omega arith in
-    omega (arith, less, sum, most, one)
-
-pub all_cells : (at all each room : ℕ) → at ≤ all → room ≤ at * each → room ≤ all * each
-all_cells at all each room within most =
-    let less : at * each ≤ all * each = mul-le at each all each within (omega arith) in
-    omega (arith, less, most)
+pub all_cells : (most : ℕ → ℕ) (at all room : ℕ) → at ≤ all → room ≤ sum_below most at → room ≤ sum_below most all
+all_cells most at all room within before = omega (arith, sum_order most at all within, before)
 
 -- the head of an update, its copies and its cells
 pub room_within : (old len usable room most new : ℕ) → usable ≤ 16 → room ≤ most →
     GrowsWithin old (len + (4 + 16 * usable + room)) new → GrowsWithin old (len + (260 + most)) new
 room_within old len usable room most new few cells (inl twice) = inl twice
 room_within old len usable room most new few cells (inr needed) = inr (omega (arith, few, cells, needed))
+
+-- ---- whether a place of a cell is asked
+
+-- it is so of one of the first numbers, where it is so of that one
+some_at : (p : ℕ → Bool) (n i : ℕ) → i < n → p i ≡ true → some_below p n ≡ true
+some_at p zero i l here = absurd (omega arith)
+some_at p (suc n) i l here =
+    elim (cases_lt i n) [
+      | inl less ↦ let before : some_below p n ≡ true = some_at p n i less here in rw before refl
+      | inr more ↦
+          let e : i ≡ n = omega arith in
+          let last : p n ≡ true = subst (λ (k : ℕ). p k ≡ true) e here in
+          grind (arith, nat_tests)
+    ]
+
+-- a place of a cell that has a box is asked
+pub box_asked : (area : Places) (cell box : Rect) → IsBox (asked_at area) cell box → has_asked area cell ≡ true
+box_asked area cell box is =
+    let (j, inside, here) = is.tight.left in
+    let (x0, x1, y0, y1) = contains_true box box.x j inside in
+    let (l, r, t, b) = is.within in
+    let x_is : box.x ≡ cell.x + (box.x - cell.x) = omega arith in
+    let y_is : j ≡ cell.y + (j - cell.y) = omega arith in
+    some_at (λ j. some_below (λ i. asked_at area (cell.x + i) (cell.y + j)) cell.w) cell.h (j - cell.y) (omega arith)
+    (some_at (λ i. asked_at area (cell.x + i) (cell.y + (j - cell.y))) cell.w (box.x - cell.x) (omega arith)
+    (subst (λ (x : ℕ). asked_at area x (cell.y + (j - cell.y)) ≡ true) x_is (subst (λ (y : ℕ). asked_at area box.x y ≡ true) y_is here)))
+
+-- where the asked places of a cell have a box, its room is that of all of it
+pub room_asked : (form : PixelFormat) (area : Places) (cell : Rect) (found : Option Rect) → HasBox (asked_at area) cell found →
+    is_some found ≡ true → cell_room form area cell ≡ 12 + cell.h * cell.w * size_of form
+room_asked form area cell None box e = absurd cc
+room_asked form area cell (Some r) box e = rw (box_asked area cell r box) refl
+
+-- where they have none, no place of it is marked and asked
+pub none_asked : (marks : Grid Bool) (area : Places) (cell : Rect) (found : Option Rect) → HasBox (asked_at area) cell found →
+    is_some found ≡ false → IsClear (may_need marks area) cell.x (cell.x + cell.w) cell.y (cell.y + cell.h)
+none_asked marks area cell (Some r) box e = absurd cc
+none_asked marks area cell None box e = λ x y a b c d. by (is_in marks x y) (asked_at area x y) (box x y a b c d)
+  where
+    by : (marked asked : Bool) → asked ≡ false → (marked && asked) ≡ false
+    by marked asked not_asked = grind (arith, nat_tests)

@@ -2,7 +2,7 @@
 
 ghost use Rattle.std.specs.Prelude.{◌≡◌, ◌*◌, ◌≤◌, ◌<◌};
 ghost use Rattle.std.specs.Int.{div_ceil};
-ghost use Rattle.rfb_server.specs.Cells.{IsCell};
+ghost use Rattle.rfb_server.specs.Cells.{IsCell, cell_at};
 
 use rfb_picture::Rect;
 
@@ -14,7 +14,8 @@ pub(crate) fn cell_at(width: u16, height: u16, index: usize) -> Rect
     requires columns { width ≤ 4096 }
     requires rows { height ≤ 4096 }
     requires index { index < div_ceil width 64 * div_ceil height 64 }
-    ensures { IsCell width height (div_ceil width 64) index result }
+    ensures cell { IsCell width height (div_ceil width 64) index result }
+    ensures value { result ≡ cell_at width height index }
 {
     let across = usize::from(width.div_ceil(SIDE));
     let x = (index % across) as u16 * SIDE;

@@ -1,5 +1,5 @@
 -- Composing, cell by cell: what the rectangles so far are, and what they leave known.
-use Rattle.std.specs.Prelude.{◌≡◌, ℕ, zero, suc, ◌+◌, ◌*◌, ◌<◌, ◌≤◌, ◌&&◌, Bool, List, [], ◌++◌, length, map, true, false, Option, Some, None, MatchOption, if◌then◌else◌}
+use Rattle.std.specs.Prelude.{◌≡◌, ℕ, ◌+◌, ◌*◌, ◌<◌, ◌≤◌, ◌&&◌, Bool, List, [], ◌++◌, length, map, true, false, Option, Some, None, MatchOption, if◌then◌else◌}
 use Rattle.std.specs.Int.{div_ceil}
 use Rattle.rfb_pixel.specs.declared.colour.Colour.{Colour}
 use Rattle.rfb_pixel.specs.Format.{PixelFormat, size_of}
@@ -19,6 +19,7 @@ use Rattle.rfb_server.specs.Request.{wanted, recorded, is_asked, is_whole}
 use Rattle.rfb_server.specs.inside.Needs.{HasBox, needs_of}
 use Rattle.rfb_server.specs.inside.Rectangle.{IsCoded}
 use Rattle.rfb_server.specs.Cells.{cell_of, IsCell}
+use Rattle.rfb_server.specs.Room.{sum_below}
 use Rattle.rfb_server.specs.Composing.{Part, sent_as, between, may_send, IsForPixels, is_in_some, IsPlace, HaveTheirData, AreBlocksOf, AreBoxes}
 
 -- ---- one rectangle
@@ -111,11 +112,6 @@ pub record AppendsCells (across n : ℕ) (screen : Grid Colour) (old new : Sessi
   pub sent : Sends across n (state_of screen old) new.known parts bytes
 
 -- ---- room
-
--- the sum of the first costs
-abbrev pub sum_below : (ℕ → ℕ) → ℕ → ℕ
-sum_below cost zero = 0
-sum_below cost (suc n) = sum_below cost n + cost n
 
 -- the place is marked and asked: no other can need sending
 abbrev pub may_need : Grid Bool → Places → ℕ → ℕ → Bool

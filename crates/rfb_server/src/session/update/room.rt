@@ -2,8 +2,9 @@
 
 ghost use Rattle.std.specs.Prelude.{ℕ, ◌+◌, ◌*◌, ◌≤◌};
 ghost use Rattle.std.specs.Int.{div_ceil};
+ghost use Rattle.rfb_picture.specs.Grid.{Holds};
 ghost use Rattle.rfb_server.specs.Cells.{IsCell};
-ghost use Rattle.rfb_server.specs.Room.{cell_room};
+ghost use Rattle.rfb_server.specs.Room.{cell_room, cells_room};
 ghost use Rattle.rfb_server.specs.inside.Sends.{IsCostIn, IsEnough, HasNext, AreLimits};
 
 use crate::cells::cell_at;
@@ -29,8 +30,9 @@ impl Session {
             (div_ceil self.now.known.width 64 * div_ceil self.now.known.height 64) result.bytes }
         ensures limits { AreLimits self.now result.first result.end }
         ensures bound { result.bytes ≤ 4096 * 16396 }
-        ensures most { result.bytes ≤ div_ceil self.now.known.width 64
-            * div_ceil self.now.known.height 64 * cell_room self.now.format }
+        ensures most { result.bytes
+            ≤ cells_room self.now.known.width self.now.known.height self.now.format self.now.area
+            (div_ceil self.now.known.width 64 * div_ceil self.now.known.height 64) }
     {
         let width = self.known.width();
         let height = self.known.height();
@@ -72,16 +74,21 @@ impl Session {
         self.marks.next_open_of_both(self.area.asked(), from)
     }
 
-    // How many bytes a rectangle in the cell takes at most: as many as all of the cell.
+    // How many bytes a rectangle in the cell takes at most: as many as all of the cell, and none
+    // where no place of it is asked.
     fn cost_of(&self, cell: Rect) -> usize
+        requires held { Holds self.now.known cell }
         requires sides { (cell.w ≤ 64) × (cell.h ≤ 64) }
         ensures enough { (across n : ℕ) (other : Rect)
             → IsCell self.now.known.width self.now.known.height across n cell
             → IsCell self.now.known.width self.now.known.height across n other
             → IsCostIn self.now other result }
         ensures bound { result ≤ 16396 }
-        ensures most { result ≤ cell_room self.now.format }
+        ensures most { result ≤ cell_room self.now.format self.now.area cell }
     {
+        if self.area.bounds_in(cell).is_none() {
+            return 0;
+        }
         let places = usize::from(cell.h) * usize::from(cell.w);
         RECT_HEAD_SIZE + places * self.format.size()
     }

@@ -2,11 +2,15 @@ use Rattle.std.proofs.Common.{◌≡◌, ◌+◌, ◌*◌, ◌≤◌, ℕ, arith
 use Rattle.std.specs.Int.{div_ceil}
 use Rattle.rfb_picture.specs.declared.rect.Rect.{Rect}
 use Rattle.rfb_server.specs.declared.session.Session.{Session}
-use Rattle.rfb_server.specs.Cells.{IsCell}
+use Rattle.rfb_server.specs.Cells.{IsCell, cell_at}
 use Rattle.rfb_server.specs.Room.{cell_room}
 use Rattle.rfb_server.specs.inside.Sends.{may_need, IsCost, IsEnough, NoneMayNeed}
 use Rattle.rfb_server.proofs.RoomLemmas.{costs_none, costs_more, costs_skip, cut, sum_cut, with_cost, sum_with, few_cells, one_cell_more, all_cells}
 use Rattle.rfb_server.proofs.session.Session.room.Goals as goal
+
+-- the room of a cell
+abbrev room_in : Session → ℕ → ℕ
+room_in s i = cell_room s.format s.area (cell_at s.known.width s.known.height i)
 
 -- no cell has been looked at
 enough_none : (s : Session) → IsEnough s (div_ceil s.known.width 64) 0 0
@@ -42,7 +46,7 @@ loop-index-init c =
     let first = c.in-Some.first in
     let next = c.in-Some.ensures in
     let cost = c.cost_of-bytes.result in
-    let here : IsCell s.known.width s.known.height (div_ceil s.known.width 64) first c.cell_at.result = rw (c.width-width.ensures.value, c.height-height.ensures) at c.cell_at.ensures in
+    let here : IsCell s.known.width s.known.height (div_ceil s.known.width 64) first c.cell_at.result = rw (c.width-width.ensures.value, c.height-height.ensures) at c.cell_at.ensures.cell in
     let cells = few_cells s.known.width s.known.height s.alike.columns s.alike.rows in
     let alone : 0 + cost ≡ cost = omega arith in
     record {
@@ -52,7 +56,7 @@ loop-index-init c =
       within = omega (arith, next.is_cell);
       few = omega (arith, next.is_cell, cells);
       bound = omega (arith, c.cost_of-bytes.ensures.bound);
-      most = rw alone at (one_cell_more 0 first (cell_room s.format) 0 cost next.after (omega arith) c.cost_of-bytes.ensures.most);
+      most = rw alone at (one_cell_more (room_in s) 0 first 0 cost next.after (omega arith) (rw (c.cell_at.ensures.value, c.width-width.ensures.value, c.height-height.ensures) at c.cost_of-bytes.ensures.most));
     }
 
 pub loop-index-preserved : goal.loop-index-preserved
@@ -62,7 +66,7 @@ loop-index-preserved c =
     let index = c.in-Some-next_cell.index in
     let next = c.in-Some-next_cell.ensures in
     let cost = c.cost_of-bytes-in-Some-next_cell.result in
-    let here : IsCell s.known.width s.known.height (div_ceil s.known.width 64) index c.cell_at-in-Some-next_cell.result = rw (c.width-width.ensures.value, c.height-height.ensures) at c.cell_at-in-Some-next_cell.ensures in
+    let here : IsCell s.known.width s.known.height (div_ceil s.known.width 64) index c.cell_at-in-Some-next_cell.result = rw (c.width-width.ensures.value, c.height-height.ensures) at c.cell_at-in-Some-next_cell.ensures.cell in
     let cells = few_cells s.known.width s.known.height s.alike.columns s.alike.rows in
     record {
       enough = enough_more s l.end index l.bytes cost next.after next.none (λ cell is. c.cost_of-bytes-in-Some-next_cell.ensures.enough (div_ceil s.known.width 64) index cell here is) l.invariant.enough;
@@ -71,7 +75,8 @@ loop-index-preserved c =
       within = omega (arith, next.is_cell);
       few = omega (arith, next.is_cell, cells);
       bound = omega (arith, next.after, c.cost_of-bytes-in-Some-next_cell.ensures.bound, l.invariant.bound);
-      most = one_cell_more l.end index (cell_room s.format) l.bytes cost next.after l.invariant.most c.cost_of-bytes-in-Some-next_cell.ensures.most;
+      most = one_cell_more (room_in s) l.end index l.bytes cost next.after l.invariant.most
+          (rw (c.cell_at-in-Some-next_cell.ensures.value, c.width-width.ensures.value, c.height-height.ensures) at c.cost_of-bytes-in-Some-next_cell.ensures.most);
     }
 
 pub returns-clause-enough : goal.returns-clause-enough
@@ -92,7 +97,7 @@ pub returns-clause-most : goal.returns-clause-most
 returns-clause-most c =
     let s = c.args.self.now in
     let l = c.loop-index in
-    all_cells l.end (div_ceil s.known.width 64 * div_ceil s.known.height 64) (cell_room s.format) l.bytes l.invariant.within l.invariant.most
+    all_cells (room_in s) l.end (div_ceil s.known.width 64 * div_ceil s.known.height 64) l.bytes l.invariant.within l.invariant.most
 
 pub returns-in_default-clause-enough : goal.returns-in_default-clause-enough
 returns-in_default-clause-enough c =

@@ -1,6 +1,6 @@
 use Rattle.std.proofs.Common.{◌<◌, ◌≤◌, ◌*◌, ◌-◌}
 use Rattle.std.specs.Int.{div_ceil}
-use Rattle.rfb_server.specs.Room.{cell_room}
+use Rattle.rfb_server.specs.Room.{cells_room}
 use Rattle.rfb_server.specs.inside.Sends.{IsEnough, NoneMayNeed}
 use Rattle.rfb_server.proofs.session.Session.room.Given as goal
 
@@ -13,7 +13,7 @@ invariant-loop-index l = record {
   within : l.end ≤ div_ceil l.self.known.width 64 * div_ceil l.self.known.height 64;
   few : l.end ≤ 4096;
   bound : l.bytes ≤ l.end * 16396;
-  most : l.bytes ≤ l.end * cell_room l.self.format;
+  most : l.bytes ≤ cells_room l.self.known.width l.self.known.height l.self.format l.self.area l.end;
 }
 
 abbrev pub decreases-loop-index : goal.decreases-loop-index

@@ -27,7 +27,7 @@ send_cell-sent-requires-clause-room c =
     let enough = c.requires.room.1 in
     let index = c.in-Some.index in
     let next = c.in-Some.ensures in
-    let here : IsCell s.known.width s.known.height (div_ceil s.known.width 64) index c.cell_at.result = rw (c.width-width.ensures.value, c.height-height.ensures) at c.cell_at.ensures in
+    let here : IsCell s.known.width s.known.height (div_ceil s.known.width 64) index c.cell_at.result = rw (c.width-width.ensures.value, c.height-height.ensures) at c.cell_at.ensures.cell in
     let below : index < div_ceil s.known.width 64 * div_ceil s.known.height 64 =
     rw (← same_wide c.args.screen.now s l.self c.requires.about l.invariant.about, ← same_high c.args.screen.now s l.self c.requires.about l.invariant.about) next.is_cell in
     let cost : IsCost (may_need s.marks s.area) s.format c.cell_at.result (enough.cost index) = enough.costs index c.cell_at.result below here in
@@ -44,7 +44,7 @@ loop-index-preserved c =
     let index = c.in-Some.index in
     let across : ℕ = div_ceil s.known.width 64 in
     let next = c.in-Some.ensures in
-    let here : IsCell s.known.width s.known.height (div_ceil s.known.width 64) index c.cell_at.result = rw (c.width-width.ensures.value, c.height-height.ensures) at c.cell_at.ensures in
+    let here : IsCell s.known.width s.known.height (div_ceil s.known.width 64) index c.cell_at.result = rw (c.width-width.ensures.value, c.height-height.ensures) at c.cell_at.ensures.cell in
     let below : index < div_ceil s.known.width 64 * div_ceil s.known.height 64 =
     rw (← same_wide c.args.screen.now s l.self c.requires.about l.invariant.about, ← same_high c.args.screen.now s l.self c.requires.about l.invariant.about) next.is_cell in
     let cells = few_cells s.known.width s.known.height s.alike.columns s.alike.rows in
