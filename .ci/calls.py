@@ -195,11 +195,12 @@ def connected(port, host="127.0.0.1"):
 
 
 @contextlib.contextmanager
-def viewing(*words):
+def viewing(*words, output=None):
     """A view of a server that has come to it, and the server's end."""
     with socket.create_server(("127.0.0.1", 0)) as listener:
         listener.settimeout(20)
-        run = Run(["view", "--explain", f"--port={listener.getsockname()[1]}", *words])
+        run = Run(["view", "--explain", f"--port={listener.getsockname()[1]}", *words],
+                  output=output)
         with listener.accept()[0] as line:
             yield run, line
 

@@ -240,16 +240,23 @@ def a_terminal_gets_no_picture_by_its_name():
 
 
 def a_terminal_gets_no_byte_of_a_server():
+    """Not where its first byte comes alone either, and nothing that a terminal acts on."""
     here, there = os.openpty()
     tty.setraw(there)
     os.set_blocking(here, False)
-    for words in ["--record"], []:
-        server = Server(SERVER)
-        run = Run(["view", f"::{server.port}", *words], output=there)
-        run.ends(1, None, DEVICE)
-        with contextlib.suppress(BlockingIOError):
-            came = os.read(here, 1000)
-            assert not came, (words, came)
+    for sent in SERVER, b"\x1b]0;owned\x07\x1b[2J\n":
+        for first in 0, 1, 3:
+            for words in ["--record"], []:
+                with viewing(*words, output=there) as (run, line):
+                    line.sendall(sent[:first])
+                    time.sleep(0.02 * first)
+                    with contextlib.suppress(OSError):
+                        line.sendall(sent[first:])
+                        line.shutdown(socket.SHUT_WR)
+                    run.ends(1)
+    with contextlib.suppress(BlockingIOError):
+        came = os.read(here, 1000)
+        assert not came, came
     os.close(here)
     os.close(there)
 

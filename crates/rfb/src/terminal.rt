@@ -32,11 +32,28 @@ impl<'a, W, E> Shown<'a, W, E> {
     }
 }
 
+// Whether bytes begin a picture or a recording, be it by a part of its first word, or are no text.
+// A server may send its first byte alone, or what means something to a terminal.
+fn is_unshowable(bytes: &[u8]) -> bool {
+    let is_part = !bytes.is_empty() && RECORDING.starts_with(bytes);
+    bytes.starts_with(PICTURE) || bytes.starts_with(RECORDING) || is_part || !is_text(bytes)
+}
+
+// Whether these are printable ASCII characters and newlines.
+fn is_text(bytes: &[u8]) -> bool {
+    for byte in bytes {
+        if *byte != b'\n' && !matches!(*byte, b' '..=b'~') {
+            return false;
+        }
+    }
+    true
+}
+
 impl<W: Write, E: Write> Write for Shown<'_, W, E> {
-    /// Writes to a terminal what does not begin as a picture or a recording does. Else it is an
-    /// error of the kind `InvalidInput`.
+    /// Writes to a terminal text that does not begin as a picture or a recording does. Else it is
+    /// an error of the kind `InvalidInput`.
     fn write(&mut self, buf: &[u8]) -> io::Result<usize> {
-        if self.is_terminal && (buf.starts_with(PICTURE) || buf.starts_with(RECORDING)) {
+        if self.is_terminal && is_unshowable(buf) {
             let _ = writeln!(self.notes, "{REFUSAL}");
             return Err(io::Error::from(ErrorKind::InvalidInput));
         }
