@@ -6,7 +6,8 @@ use Rattle.rfb_viewer.specs.declared.viewer.Viewer.{Viewer}
 use Rattle.rfb_session.specs.declared.engine.fault.EngineFault.{EngineFault}
 use Rattle.rfb_session.specs.declared.engine.fault.EngineFault.TheVariants as ends
 use Rattle.rfb_session.specs.Devices.{AppendsBeginning}
-use Rattle.rfb_session.specs.ViewEngine.{KeepsLast, StopsViewing}
+use Rattle.rfb_session.specs.ViewEngine.{KeepsFirst, KeepsLast, StopsViewing}
+use Rattle.rfb_session.specs.Wire.{by_bytes}
 use Rattle.rfb.specs.declared.fault.Fault.{Fault}
 use Rattle.rfb.specs.declared.fault.Failure.{Failure}
 use Rattle.rfb.specs.declared.fault.Failure.TheVariants as failure
@@ -58,6 +59,25 @@ last_flushed : (a b c : Option (List ℕ)) (slice : List ℕ) (failing failed : 
 last_flushed a b c slice failing failed (inl all) kept = inl (all.0, Appends-kept a b c slice all.1 kept)
 last_flushed a b c slice failing failed (inr some) kept = inr (some.0, beginning_flushed a b c slice some.1 kept)
 
+first_flushed : (old : Viewer) (fed : List ℕ) (before after blank mid copied : Option (List ℕ)) →
+    KeepsFirst by_bytes old fed before after blank mid → Keeps mid copied →
+    KeepsFirst by_bytes old fed before after blank copied
+first_flushed old fed before after blank mid copied (inl all) kept =
+    inl (Appends-kept blank mid copied fed all kept)
+first_flushed old fed before after blank mid copied (inr some) kept = inr (record {
+  earlier = some.earlier;
+  part = some.part;
+  sent = some.sent;
+  updates = some.updates;
+  last = some.last;
+  mid = some.mid;
+  fed_is = some.fed_is;
+  runs = some.runs;
+  wrote = some.wrote;
+  kept = some.kept;
+  begun = beginning_flushed some.mid mid copied some.part some.begun kept;
+})
+
 viewing_flushed : (unread left before after blank mid copied : Option (List ℕ)) (failing failed : ℕ) (old : Viewer)
     (updates : ℕ) (fault : EngineFault) (new : Viewer) →
     StopsViewing unread left before after blank mid failing failed old updates fault new → Keeps mid copied →
@@ -85,6 +105,7 @@ viewing_flushed unread left before after blank mid copied failing failed old upd
     runs = some.1.runs;
     wrote = some.1.wrote;
     kept = beginning_flushed blank mid copied some.1.fed some.1.kept kept;
+    first = first_flushed old some.1.fed before after blank mid copied some.1.first kept;
   },
 )
 viewing_flushed unread left before after blank mid copied failing failed old updates (ends.Viewer fault) new until kept = record {

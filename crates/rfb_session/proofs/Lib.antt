@@ -51,6 +51,7 @@ pub mod ShownLemmas
 pub mod LossLemmas
 pub mod WrittenLemmas
 pub mod WireLemmas
+pub mod FailedLemmas
 pub mod WrittenLaws
 pub mod PixmapLemmas
 pub mod EngineRunLemmas

@@ -1,11 +1,11 @@
 -- What an engine does with a viewer that it asks for updates, read by read.
-use Rattle.std.proofs.Common.{◌≡◌, ℕ, ◌+◌, ◌-◌, ◌^◌, ◌<◌, ◌≤◌, Bool, true, List, [], ◌++◌, Option, Some, None, Result, Ok, Err, IfErr, length, take, drop, refl, sym, ap, ◌∙◌, subst, append_assoc, append-nil, take-append-drop, length-append, length-take-le, arith}
+use Rattle.std.proofs.Common.{◌≡◌, ℕ, ◌+◌, ◌-◌, ◌^◌, ◌<◌, ◌≤◌, Bool, true, List, [], ◌++◌, Option, Some, None, Result, Ok, Err, IfErr, length, take, drop, refl, sym, ap, ◌∙◌, subst, append_assoc, append-nil, take-append-drop, length-append, length-take-le, arith, inl, inr}
 use Rattle.std.specs.Io.KnownBytes.{Consumes, Keeps, IsAtEnd}
 use Rattle.std.proofs.KnownBytes.{Appends-nil, Appends-trans, Consumes-nil, Consumes-trans, Consumes-kept}
 use Rattle.rfb_viewer.specs.declared.viewer.Viewer.{Viewer}
 use Rattle.rfb_session.specs.declared.engine.fault.EngineFault.{EngineFault}
 use Rattle.rfb_session.specs.declared.engine.fault.EngineFault.TheVariants.{Server as ServerEnded, Viewer as ViewerEnded, Truncated, Device, NoMemory as EngineNoMemory}
-use Rattle.rfb_session.specs.ViewEngine.{RunsInTurn, HasViewed, HasMissed, ViewedSome, StopsViewing, KeepsLast}
+use Rattle.rfb_session.specs.ViewEngine.{RunsInTurn, HasViewed, HasMissed, ViewedSome, StopsViewing, KeepsLast, KeepsFirst}
 use Rattle.rfb_session.specs.Looking.{due_until, Looks, HasLooked, StopsLooking}
 use Rattle.rfb_session.proofs.WrittenLemmas.{rest_is, whole_beginning}
 use Rattle.rfb_session.proofs.PlayLemmas.{none_left}
@@ -63,6 +63,28 @@ module _ {D : Type 0} (writing : Writing D) (joins : Joins writing) where
     wrote = joins.then before w after was.sent more.sent was.wrote more.wrote;
     kept = Appends-trans blank k copied fed bytes was.kept more.kept;
   }
+
+  -- what is kept first of more bytes
+  pub first_then : (old last : Viewer) (fed more : List ℕ) (left mid : ℕ) (before w after : D)
+      (blank k copied : Option (List ℕ)) → Looks writing old fed left mid before w blank k last → 0 < mid →
+      KeepsFirst writing last more w after k copied →
+      KeepsFirst writing old (fed ++ more) before after blank copied
+  first_then old last fed more left mid before w after blank k copied was some (inl all) =
+      inl (Appends-trans blank k copied fed more was.kept all)
+  first_then old last fed more left mid before w after blank k copied was some (inr part) = inr (record {
+    earlier = fed ++ part.earlier;
+    part = part.part;
+    sent = was.sent ++ part.sent;
+    updates = was.updates + part.updates;
+    last = part.last;
+    mid = part.mid;
+    fed_is = ap (λ (l : List ℕ). fed ++ l) part.fed_is ∙ sym (append_assoc fed part.earlier part.part);
+    runs = turn_then old last part.last fed was.sent part.earlier part.sent was.updates part.updates None
+        (open_turn old last fed was.sent was.updates mid some was.runs) part.runs;
+    wrote = joins.then before w after was.sent part.sent was.wrote part.wrote;
+    kept = Appends-trans blank k part.mid fed part.earlier was.kept part.kept;
+    begun = part.begun;
+  })
 
   pub looking_none : (old : Viewer) (bytes : List ℕ) (left : ℕ) (before : D) (blank : Option (List ℕ)) →
       0 < left → LooksSoFar writing old bytes bytes left left before before blank blank old
@@ -141,6 +163,8 @@ module _ {D : Type 0} (writing : Writing D) (joins : Joins writing) where
               cut.runs;
           wrote = joins.stops before w after was.looks.sent cut.sent was.looks.wrote cut.wrote;
           kept = begun_after blank k copied was.fed cut.fed was.looks.kept cut.kept;
+          first = first_then old last was.fed cut.fed left mid before w after blank k copied was.looks
+              some cut.first;
         },
       )
   looking_stops old bytes rest left mid before w after blank k copied last fb fm failed (ServerEnded fault) new was some same stops = absurd stops
@@ -280,6 +304,7 @@ viewing_unread unread mid left before after blank copied old reads asked fewer n
   runs = was.looks.runs;
   wrote = whole_beginning before after was.looks.sent was.looks.wrote;
   kept = whole_beginning blank copied was.fed was.looks.kept;
+  first = inl was.looks.kept;
 }
 
 -- it stopped within a read
@@ -326,6 +351,8 @@ looking_fails unread mid left before w after blank k copied old reads asked stil
             cut.runs;
         wrote = begun_after before w after was.looks.sent cut.sent was.looks.wrote cut.wrote;
         kept = begun_after blank k copied was.fed cut.fed was.looks.kept cut.kept;
+        first = first_then by_bytes bytes_join old last was.fed cut.fed asked still before w after blank k
+            copied was.looks was.going cut.first;
       },
     )
 looking_fails unread mid left before w after blank k copied old reads asked still last bytes fb failed fa af (ServerEnded fault) new was more same counted stops = absurd stops

@@ -1,6 +1,7 @@
 -- What an engine does with a viewer that it asks for updates, call by call.
 use Rattle.std.proofs.Common.{◌≡◌, ℕ, zero, suc, ◌+◌, ◌<◌, Bool, true, List, [], ◌∷◌, ◌++◌, Option, Some, None, IfSome, Result, Ok, Err, OnOk, OnErr, take, drop, refl, sym, ap, ◌∙◌, subst, append-nil, take-append-drop, inl, inr, arith}
 use Rattle.std.specs.Io.KnownBytes.{Appends}
+use Rattle.std.proofs.KnownBytes.{Appends-nil}
 use Rattle.rfb_pixel.specs.declared.colour.Colour.{Colour}
 use Rattle.rfb_picture.specs.Grid.{Grid}
 use Rattle.rfb_picture.specs.declared.rect.Rect.{Rect}
@@ -291,6 +292,7 @@ module _ {D : Type 0} (writing : Writing D) (joins : Joins writing) where
     runs = cut.runs old (take used bytes) fed;
     wrote = cut.wrote;
     kept = whole_beginning blank copied (take used bytes) kept;
+    first = inl kept;
   }
 
   pub call_unkept : (old mid : Viewer) (bytes : List ℕ) (used : ℕ) (event : Option ViewerTold)
@@ -307,6 +309,19 @@ module _ {D : Type 0} (writing : Writing D) (joins : Joins writing) where
     runs = fed_turn old mid (take used bytes) event fed;
     wrote = joins.nothing before (viewer_reply event);
     kept = kept;
+    first = inr (record {
+      earlier = [];
+      part = take used bytes;
+      sent = [];
+      updates = 0;
+      last = old;
+      mid = blank;
+      fed_is = refl;
+      runs = turn_none old;
+      wrote = joins.none before;
+      kept = Appends-nil blank;
+      begun = kept;
+    });
   }
 
 same_sum : (w a b : ℕ) → b ≡ a → w + b ≡ w + a

@@ -1,12 +1,13 @@
 -- What is known of a wire after a read of a viewer's engine, and reads in order.
-use Rattle.std.proofs.Common.{◌≡◌, ℕ, ◌+◌, List, Option, ◌∙◌, subst}
+use Rattle.std.proofs.Common.{◌≡◌, ℕ, ◌+◌, ◌-◌, ◌^◌, ◌<◌, ◌≤◌, ◌⊎◌, List, Option, length, refl, ◌∙◌, subst, inl, inr}
 use Rattle.std.specs.Io.KnownBytes.{Consumes}
 use Rattle.rfb_viewer.specs.declared.viewer.Viewer.{Viewer}
 use Rattle.rfb_session.specs.declared.engine.fault.EngineFault.{EngineFault}
 use Rattle.rfb_session.specs.declared.engine.fault.EngineFault.TheVariants.{Server as ServerEnded, Viewer as ViewerEnded, Truncated, Device, NoMemory}
 use Rattle.rfb_session.specs.Looking.{HasLooked, StopsLooking}
-use Rattle.rfb_session.specs.ViewOrder.{LookOver}
-use Rattle.rfb_session.specs.Wire.{Came, Known, KeepsReads, Stepping, by_bytes, by_steps}
+use Rattle.rfb_session.specs.ViewEngine.{KeepsFirst}
+use Rattle.rfb_session.specs.ViewOrder.{LookOver, LooksOver, StopsLookOver, EndsTooEarly, MissesLook, StopsInLooking, StopsViewInOrder}
+use Rattle.rfb_session.specs.Wire.{Came, Ended, Missed, Known, KeepsReads, Stepping, by_bytes, by_steps}
 use Rattle.rfb_session.proofs.ServeOrderLemmas.{NoneFailed, Quiet, came_first}
 use Rattle.rfb_session.proofs.WireLemmas.{Telling, all_known, some_known}
 
@@ -34,6 +35,24 @@ module _ {W : Type 0} (steps : Stepping W) (known : W → Known) (tells : Tellin
           };
         },
       )
+
+  first_known : (old : Viewer) (fed : List ℕ) (a b : W) (blank copied : Option (List ℕ)) →
+      KeepsFirst (by_steps steps) old fed a b blank copied →
+      KeepsFirst by_bytes old fed (known a).written (known b).written blank copied
+  first_known old fed a b blank copied (inl all) = inl all
+  first_known old fed a b blank copied (inr part) = inr (record {
+    earlier = part.earlier;
+    part = part.part;
+    sent = part.sent;
+    updates = part.updates;
+    last = part.last;
+    mid = part.mid;
+    fed_is = part.fed_is;
+    runs = part.runs;
+    wrote = (all_known steps known tells a b part.sent part.wrote).1;
+    kept = part.kept;
+    begun = part.begun;
+  })
 
   pub stops_known : (old : Viewer) (bytes : List ℕ) (a b : W) (blank copied : Option (List ℕ)) (n m : ℕ)
       (fault : EngineFault) (new : Viewer) →
@@ -72,6 +91,7 @@ module _ {W : Type 0} (steps : Stepping W) (known : W → Known) (tells : Tellin
             runs = cut.runs;
             wrote = wrote.1;
             kept = cut.kept;
+            first = first_known old cut.fed a b blank copied cut.first;
           },
         ),
       )
@@ -112,3 +132,44 @@ module _ {W : Type 0} (steps : Stepping W) (known : W → Known) (tells : Tellin
             (subst (λ (k : ℕ). StopsLooking by_bytes old bytes (known came).written (known b).written blank
             copied (k + n) m fault new) told.0.1 one.1),
       )
+
+-- ---- why it stops, after reads in order
+
+module _ {W : Type 0} (steps : Stepping W) (known : W → Known) (before mid : W) (blank kept : Option (List ℕ))
+    (old now : Viewer) (updates count left : ℕ)
+    (so_far : LooksOver steps before blank old updates count left mid kept now) (going : 0 < left) where
+  view_stops : (fault : EngineFault) (after : W) (copied : Option (List ℕ)) (failing failed : ℕ) (new : Viewer) →
+      StopsLookOver steps known count mid kept failing now fault after copied failed new →
+      StopsViewInOrder steps known before blank failing old updates fault after copied failed new
+  view_stops fault after copied failing failed new stops = record {
+    count = count;
+    left = left;
+    going = going;
+    mid = mid;
+    kept = kept;
+    between = now;
+    looks = so_far;
+    stops = stops;
+  }
+
+  pub view_misses : (after : W) (failing failed : ℕ) → steps mid Missed after →
+      StopsViewInOrder steps known before blank failing old updates Device after kept failed now
+  view_misses after failing failed step =
+      view_stops Device after kept failing failed now (MissesLook refl step refl refl)
+
+  pub view_ends : (after : W) (failing failed : ℕ) →
+      steps mid Ended after ⊎ ((2 ^ 64 - 1 ≤ count) × (after ≡ mid)) →
+      StopsViewInOrder steps known before blank failing old updates Truncated after kept failed now
+  view_ends after failing failed ended =
+      view_stops Truncated after kept failing failed now (EndsTooEarly refl ended refl refl)
+
+  pub view_cut : (came after : W) (bytes : List ℕ) (fault : EngineFault) (copied : Option (List ℕ))
+      (failing failing_mid failed : ℕ) (new : Viewer) → steps mid (Came bytes) came → length bytes ≤ 32768 →
+      failing_mid ≡ failing →
+      StopsLooking (by_steps steps) now bytes came after kept copied ((known came).failed_writes + failing_mid)
+      ((known after).failed_writes + failed) fault new →
+      StopsViewInOrder steps known before blank failing old updates fault after copied failed new
+  view_cut came after bytes fault copied failing failing_mid failed new step few same stops =
+      view_stops fault after copied failing failed new (StopsInLooking bytes came step few
+      (subst (λ (n : ℕ). StopsLooking (by_steps steps) now bytes came after kept copied
+      ((known came).failed_writes + n) ((known after).failed_writes + failed) fault new) same stops))

@@ -10,6 +10,7 @@ pub mod Latest
 pub mod LinkStanding
 pub mod Devices
 pub mod Wire
+pub mod Failed
 pub mod Pixmap
 pub mod EngineRun
 pub mod Watching

@@ -11,7 +11,7 @@ use Rattle.rfb_session.specs.declared.engine.fault.EngineFault.TheVariants.{Serv
 use Rattle.rfb_session.specs.Devices.{AppendsBeginning}
 use Rattle.rfb_session.specs.EngineRun.{Did}
 use Rattle.rfb_session.specs.Watching.{ViewerAct, Asks, viewer_sends, ends_told, WasFed, EndsBy}
-use Rattle.rfb_session.specs.ViewEngine.{is_incremental, RunsInTurn, KeepsUntil}
+use Rattle.rfb_session.specs.ViewEngine.{is_incremental, RunsInTurn, KeepsFirst, KeepsUntil}
 use Rattle.rfb_session.specs.Wire.{Writing}
 
 -- a request for the whole screen, made or passed over between two items, and what is sent for it
@@ -92,6 +92,7 @@ module _ {D : Type 0} where
     pub runs : RunsInTurn old fed sent updates asks new
     pub wrote : writing.some before after sent
     pub kept : AppendsBeginning blank copied fed
+    pub first : KeepsFirst writing old fed before after blank copied
 
   -- some were fed, all answers were written, and the viewer ended at the others
   pub record IsLookEnded (writing : Writing D) (old : Viewer) (bytes : List ℕ) (before after : D)

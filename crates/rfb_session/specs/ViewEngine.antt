@@ -12,6 +12,7 @@ use Rattle.rfb_session.specs.declared.engine.fault.EngineFault.TheVariants.{Serv
 use Rattle.rfb_session.specs.Devices.{AppendsBeginning}
 use Rattle.rfb_session.specs.EngineRun.{Step, Fed, Did, Ran}
 use Rattle.rfb_session.specs.Watching.{ViewerAct, Asked, PassedOver, viewer_driven, EndsBy}
+use Rattle.rfb_session.specs.Wire.{Writing, by_bytes}
 
 -- ---- requests in turn
 
@@ -78,6 +79,30 @@ pub record HasMissed (unread left before after blank copied : Option (List ℕ))
   pub wrote : Appends before after sent
   pub kept : Appends blank copied fed
 
+module _ {D : Type 0} where
+  -- a beginning of the last part was kept, and what was written is all that is sent for the bytes
+  -- before it
+  pub record KeepsPart (writing : Writing D) (old : Viewer) (fed : List ℕ) (before after : D)
+      (blank copied : Option (List ℕ)) : Type 0 where
+    pub earlier : List ℕ
+    pub part : List ℕ
+    pub sent : List ℕ
+    pub updates : ℕ
+    pub last : Viewer
+    pub mid : Option (List ℕ)
+    pub fed_is : fed ≡ earlier ++ part
+    pub runs : RunsInTurn old earlier sent updates None last
+    pub wrote : writing.all before after sent
+    pub kept : Appends blank mid earlier
+    pub begun : AppendsBeginning mid copied part
+
+  -- what it was fed is kept before what is sent for it is written: all of that was kept, or nothing
+  -- was written for the part that was not
+  abbrev pub KeepsFirst : Writing D → Viewer → List ℕ → D → D → Option (List ℕ) →
+      Option (List ℕ) → Type 0
+  KeepsFirst writing old fed before after blank copied =
+      Appends blank copied fed ⊎ KeepsPart writing old fed before after blank copied
+
 -- it was fed the first bytes of what was read; beginnings of what is sent and of what it was fed
 -- were written and kept
 pub record ViewedSome (unread left before after blank copied : Option (List ℕ)) (old new : Viewer)
@@ -91,6 +116,7 @@ pub record ViewedSome (unread left before after blank copied : Option (List ℕ)
   pub runs : RunsInTurn old fed sent updates asks new
   pub wrote : AppendsBeginning before after sent
   pub kept : AppendsBeginning blank copied fed
+  pub first : KeepsFirst by_bytes old fed before after blank copied
 
 -- the bytes that it ended at were kept, all of them; or a beginning, where a write of them failed,
 -- which was counted

@@ -23,6 +23,7 @@ pub use apart::{serve, view, view_recording};
 pub use device::{Sink, Source};
 pub use fault::{Device, EngineFault};
 pub use lent::Lent;
+pub use nowhere::Nowhere;
 pub use pixmap::ppm;
 pub use playing::play;
 pub use playing_some::play_some;

@@ -41,8 +41,8 @@ mod told;
 mod world;
 
 pub use engine::{
-    Device, EngineFault, Lent, Scene, Sink, Source, Tally, Wire, play, play_some, ppm, send, serve,
-    serve_over, view, view_over, view_recording,
+    Device, EngineFault, Lent, Nowhere, Scene, Sink, Source, Tally, Wire, play, play_some, ppm,
+    send, serve, serve_over, view, view_over, view_recording,
 };
 pub use event::Event;
 pub use hub::Hub;

@@ -2,6 +2,9 @@
 
 ghost use Rattle.std.specs.Prelude.{◌≡◌, ◌≤◌, ◌<◌, ◌+◌, ◌-◌, ◌^◌, true, None};
 ghost use Rattle.std.specs.Prelude.{IfOk, IfErr, OnOk};
+ghost use Rattle.rfb_server.specs.Standing.{fault_of as fault_of_server};
+ghost use Rattle.rfb_viewer.specs.Standing.{fault_of as fault_of_viewer};
+ghost use Rattle.rfb_session.specs.Failed.{StaysUnfed};
 ghost use Rattle.rfb_session.specs.ServeEngine.{AllServed, GoesOn, ServerBetween, StopsServing};
 ghost use Rattle.rfb_session.specs.Turns.{GreetsAndTurns, StopsByTurns};
 ghost use Rattle.rfb_session.specs.ViewEngine.{HasViewed, StopsViewing};
@@ -49,6 +52,10 @@ pub fn serve<R: Source, W: Sink, S: Scene>(
         (R.unread source.old) (R.unread source.new) (R.failed source.old) (R.failed source.new)
         (W.written sink.old) (W.written sink.new) (W.failed sink.old) (W.failed sink.new)
         server.old scene.old fault server.new scene.new) }
+    // Of a server that had failed.
+    ensures failed { StaysUnfed (λ f. EngineFault.Server f) (Err EngineFault.Truncated)
+        (fault_of_server server.old) (R.unread source.old) (R.unread source.new)
+        server.old result server.new }
 {
     let mut wire = Pair { source, sink };
     serve_over(alloc, &mut wire, server, scene)
@@ -78,12 +85,16 @@ pub fn view<R: Source, W: Sink>(
         (R.unread source.old) (R.unread source.new) (W.written sink.old) (W.written sink.new)
         None None (R.failed source.old + W.failed sink.old)
         (R.failed source.new + W.failed sink.new) viewer.old updates fault viewer.new) }
+    // Of a viewer that had failed.
+    ensures failed { StaysUnfed (λ f. EngineFault.Viewer f) (Err EngineFault.Truncated)
+        (fault_of_viewer viewer.old) (R.unread source.old) (R.unread source.new)
+        viewer.old result viewer.new }
 {
     view_recording(source, sink, &mut Nowhere, viewer, updates)
 }
 
 /// `view` that also writes to `kept` the server's bytes as they came, those that the viewer was fed
-/// and no others. So `play` of them ends as this does. Where the server does wrong, the bytes of
+/// and no others, and before it answers them. So `play` of them ends as this does. Where the server does wrong, the bytes of
 /// that read after the others are there too, unless writing them fails.
 pub fn view_recording<R: Source, W: Sink, K: Sink>(
     source: &mut R,
@@ -109,6 +120,10 @@ pub fn view_recording<R: Source, W: Sink, K: Sink>(
         (R.failed source.new + W.failed sink.new + K.failed kept.new)
         viewer.old updates fault viewer.new) }
     ensures same_reference { K.reference kept.new ≡ K.reference kept.old }
+    // Of a viewer that had failed.
+    ensures failed { StaysUnfed (λ f. EngineFault.Viewer f) (Err EngineFault.Truncated)
+        (fault_of_viewer viewer.old) (R.unread source.old) (R.unread source.new)
+        viewer.old result viewer.new }
 {
     let mut wire = Pair { source, sink };
     view_over(&mut wire, kept, viewer, updates)

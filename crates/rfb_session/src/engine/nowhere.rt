@@ -5,9 +5,9 @@ ghost use Rattle.std.specs.Prelude.{None};
 use crate::engine::device::Sink;
 use std::io;
 
-// Takes all bytes, and tells none of them.
+/// A sink that takes all bytes, and tells none of them.
 #[derive(Drop)]
-pub(crate) struct Nowhere;
+pub struct Nowhere;
 
 impl Sink for Nowhere {
     ghost written = { λ n. None };

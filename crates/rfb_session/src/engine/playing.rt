@@ -1,9 +1,12 @@
 //! Recorded bytes of a server, played to a viewer.
 
-ghost use Rattle.std.specs.Prelude.{◌≡◌, ◌<◌, ◌+◌, ◌-◌, ◌^◌, min, true, IfOk, IfErr, OnOk};
+ghost use Rattle.std.specs.Prelude.{◌≡◌, ◌<◌, ◌+◌, ◌-◌, ◌^◌, length, min, true, IfOk, IfErr, OnOk};
+ghost use Rattle.rfb_wire.specs.stream.End.{StaysFailed};
+ghost use Rattle.rfb_session.specs.Failed.{StaysUnfed};
 ghost use Rattle.rfb_session.specs.Playing.{AllPlayed, StopsPlaying};
 ghost use Rattle.rfb_session.specs.Verdict.{JudgesAll};
 ghost use Rattle.rfb_session.specs.Watching.{EndsWithin, IsWatched, StandsBetween, ends_told};
+ghost use Rattle.rfb_viewer.specs.Standing.{fault_of};
 ghost use Rattle.rfb_viewer.specs.Told.{seen};
 
 use crate::engine::UPDATE_READ_SIZE;
@@ -24,6 +27,9 @@ pub fn play<R: Source>(source: &mut R, viewer: &mut Viewer) -> Result<u64, Engin
     ensures stopped { IfErr result (λ fault. StopsPlaying
         (R.unread source.old) (R.unread source.new) (R.failed source.old) (R.failed source.new)
         viewer.old fault viewer.new) }
+    // Of a viewer that had failed.
+    ensures failed { StaysUnfed (λ f. EngineFault.Viewer f) (Err EngineFault.Truncated) (fault_of viewer.old)
+        (R.unread source.old) (R.unread source.new) viewer.old result viewer.new }
     // All of the bytes are answered by their verdict.
     ensures verdict { JudgesAll (R.unread source.old) (R.failed source.old) (R.failed source.new)
         viewer.old result viewer.new }
@@ -47,6 +53,8 @@ fn feed_all<R: Source>(source: &mut R, viewer: &mut Viewer) -> Result<u64, Engin
     ensures stopped { IfErr result (λ fault. StopsPlaying
         (R.unread source.old) (R.unread source.new) (R.failed source.old) (R.failed source.new)
         viewer.old fault viewer.new) }
+    ensures failed { StaysUnfed (λ f. EngineFault.Viewer f) (Ok 0) (fault_of viewer.old)
+        (R.unread source.old) (R.unread source.new) viewer.old result viewer.new }
 {
     let mut part = [0; UPDATE_READ_SIZE];
     let mut updates = 0;
@@ -71,6 +79,8 @@ fn watch(bytes: &[u8], viewer: &mut Viewer, before: u64) -> Result<u64, ViewerFa
     ensures watched { IfOk result (λ updates.
         IsWatched viewer.old bytes.now before updates viewer.new) }
     ensures stopped { IfErr result (λ fault. EndsWithin viewer.old bytes.now fault viewer.new) }
+    ensures failed { 0 < length bytes.now →
+        StaysFailed (fault_of viewer.old) viewer.old result viewer.new }
 {
     let mut rest = bytes;
     let mut updates = before;

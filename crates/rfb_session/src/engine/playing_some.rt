@@ -2,6 +2,9 @@
 
 ghost use Rattle.std.specs.Prelude.{◌≡◌, ◌≤◌, ◌<◌, ◌-◌, ◌^◌, length, take, true};
 ghost use Rattle.std.specs.Prelude.{IfOk, IfErr, OnOk};
+ghost use Rattle.rfb_viewer.specs.Standing.{fault_of};
+ghost use Rattle.rfb_wire.specs.stream.End.{StaysFailed};
+ghost use Rattle.rfb_session.specs.Failed.{StaysUnfed};
 ghost use Rattle.rfb_session.specs.Playing.{AllPlayed};
 ghost use Rattle.rfb_session.specs.PlayingSome.{IsWatchedFirst, PlayedFirst, StopsPlayingSome};
 ghost use Rattle.rfb_session.specs.PlayingSome.{WasCounted};
@@ -32,6 +35,9 @@ pub fn play_some<R: Source>(
     ensures stopped { IfErr result (λ fault. StopsPlayingSome
         (R.unread source.old) (R.unread source.new) (R.failed source.old) (R.failed source.new)
         viewer.old updates fault viewer.new) }
+    // Of a viewer that had failed.
+    ensures failed { StaysUnfed (λ f. EngineFault.Viewer f) (Err EngineFault.Truncated) (fault_of viewer.old)
+        (R.unread source.old) (R.unread source.new) viewer.old result viewer.new }
 {
     match feed_some(source, viewer, updates) {
         Ok(told) => {
@@ -61,6 +67,8 @@ fn feed_some<R: Source>(
     ensures stopped { IfErr result (λ fault. StopsPlayingSome
         (R.unread source.old) (R.unread source.new) (R.failed source.old) (R.failed source.new)
         viewer.old enough fault viewer.new) }
+    ensures failed { StaysUnfed (λ f. EngineFault.Viewer f) (Ok 0) (fault_of viewer.old)
+        (R.unread source.old) (R.unread source.new) viewer.old result viewer.new }
 {
     let mut part = [0; UPDATE_READ_SIZE];
     let mut updates = 0;
@@ -99,6 +107,8 @@ fn watch_some(
     ensures first { IfOk result (λ told. told ≡ enough →
         IsWatchedFirst viewer.old bytes.now before enough viewer.new) }
     ensures stopped { IfErr result (λ fault. EndsWithin viewer.old bytes.now fault viewer.new) }
+    ensures failed { 0 < length bytes.now →
+        StaysFailed (fault_of viewer.old) viewer.old result viewer.new }
 {
     let mut rest = bytes;
     let mut updates = before;
@@ -125,6 +135,7 @@ fn watch_once(bytes: &[u8], viewer: &mut Viewer, before: u64) -> Result<(usize, 
     ensures counted { IfOk result (λ told. WasCounted
         viewer.old (take told.0 bytes.now) before told.1 viewer.new) }
     ensures ends { IfErr result (λ fault. EndsBy fault viewer.old bytes.now viewer.new) }
+    ensures failed { StaysFailed (fault_of viewer.old) viewer.old result viewer.new }
 {
     match viewer.feed(bytes) {
         Ok(fed) => Ok((fed.used, count(&fed.event, before))),

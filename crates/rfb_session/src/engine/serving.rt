@@ -2,6 +2,8 @@
 
 ghost use Rattle.std.specs.Prelude.{◌≡◌, ◌<◌, ◌+◌, ◌-◌, ◌^◌, ◌≤◌, [], length, take, true, false, None};
 ghost use Rattle.std.specs.Prelude.{IfOk, IfErr, IfSome, OnOk, OnErr};
+ghost use Rattle.rfb_server.specs.Standing.{fault_of};
+ghost use Rattle.rfb_session.specs.Failed.{FailsAgain, StaysUnfed};
 ghost use Rattle.rfb_session.specs.ServeEngine.{AllServed, GoesOn, ServerBetween};
 ghost use Rattle.rfb_session.specs.ServeEngine.{StopsHearing, StopsServing, StopsUpdating};
 ghost use Rattle.rfb_session.specs.ServeOrder.{ServesInOrder, StopsAfterTurns, StopsInOrder};
@@ -19,9 +21,8 @@ use crate::reply::server_reply;
 use rfb_server::Server;
 use std::alloc::Global;
 
-/// `serve` over a wire: it has written its greeting before it reads, and all that a read asks for
-/// before it reads again, the answers and then the update. That is so of all turns but the one in
-/// which it stops.
+/// `serve` over a wire. It has written its greeting before it reads, and all that a read asks for
+/// before it reads again: the answers, and then the update. Only its last turn may stop before that.
 pub fn serve_over<W: Wire, S: Scene>(
     alloc: Global,
     wire: &mut W,
@@ -61,6 +62,8 @@ pub fn serve_over<W: Wire, S: Scene>(
         (W.known wire.old).written (W.known wire.new).written
         (W.known wire.old).failed_writes (W.known wire.new).failed_writes
         server.old scene.old fault server.new scene.new) }
+    ensures failed { StaysUnfed (λ f. EngineFault.Server f) (Err EngineFault.Truncated) (fault_of server.old)
+        (W.known wire.old).unread (W.known wire.new).unread server.old result server.new }
     ensures same_references { (W.known wire.new).lent ≡ (W.known wire.old).lent }
 {
     let greeting = server.greeting();
@@ -116,6 +119,8 @@ fn serve_all<W: Wire, S: Scene>(
         (W.known wire.old).written (W.known wire.new).written
         (W.known wire.old).failed_writes (W.known wire.new).failed_writes
         server.old scene.old fault server.new scene.new) }
+    ensures failed { StaysUnfed (λ f. EngineFault.Server f) (Ok 0) (fault_of server.old)
+        (W.known wire.old).unread (W.known wire.new).unread server.old result server.new }
     ensures same_references { (W.known wire.new).lent ≡ (W.known wire.old).lent }
 {
     let mut part = [0; READ_SIZE];
@@ -150,6 +155,8 @@ fn turn<W: Wire, S: Scene>(
     ensures stopped { IfErr result (λ fault. StopsTurnOver W.steps W.known
         wire.old server.old fault wire.new server.new) }
     ensures undrawn { OnErr result (scene.new ≡ scene.old) }
+    ensures failed { StaysUnfed (λ f. EngineFault.Server f) (Ok None) (fault_of server.old)
+        (W.known wire.old).unread (W.known wire.new).unread server.old result server.new }
 {
     let Ok(count) = wire.read(part) else {
         return Err(EngineFault::Device);
@@ -177,6 +184,8 @@ fn hear<W: Wire>(bytes: &[u8], wire: &mut W, server: &mut Server) -> Result<(), 
     ensures stopped { IfErr result (λ fault. StopsHearing (by_steps W.steps)
         server.old bytes.now wire.old wire.new
         (W.known wire.old).failed_writes (W.known wire.new).failed_writes fault server.new) }
+    ensures failed { 0 < length bytes.now → FailsAgain (λ f. EngineFault.Server f)
+        (fault_of server.old) server.old result server.new }
 {
     let mut rest = bytes;
     while !rest.is_empty() {
@@ -188,8 +197,7 @@ fn hear<W: Wire>(bytes: &[u8], wire: &mut W, server: &mut Server) -> Result<(), 
     Ok(())
 }
 
-// Feeds a server of these bytes what it takes at once, writes its answer, and tells how many it
-// took.
+// Feeds a server what it takes of these bytes at once, answers, and tells how many that were.
 fn hear_some<W: Wire>(bytes: &[u8], wire: &mut W, server: &mut Server) -> Result<usize, EngineFault>
     requires countable { (W.known wire.old).failed_writes < 2 ^ 64 - 1 }
     requires some { 0 < length bytes.now }
@@ -201,6 +209,8 @@ fn hear_some<W: Wire>(bytes: &[u8], wire: &mut W, server: &mut Server) -> Result
     ensures stopped { IfErr result (λ fault. StopsHearing (by_steps W.steps)
         server.old bytes.now wire.old wire.new
         (W.known wire.old).failed_writes (W.known wire.new).failed_writes fault server.new) }
+    ensures failed { FailsAgain (λ f. EngineFault.Server f)
+        (fault_of server.old) server.old result server.new }
 {
     match server.feed(bytes) {
         Ok(fed) => match send_over(server_reply(&fed.event), wire) {
@@ -211,8 +221,7 @@ fn hear_some<W: Wire>(bytes: &[u8], wire: &mut W, server: &mut Server) -> Result
     }
 }
 
-// Composes an update, if one is due, writes it and has the scene draw; and tells how many there
-// were, one or none.
+// Composes an update, if one is due, writes it and has the scene draw: one update, or none.
 fn update<W: Wire, S: Scene>(
     out: &mut Vec<u8>,
     wire: &mut W,

@@ -2,6 +2,8 @@
 
 ghost use Rattle.std.specs.Prelude.{◌≡◌, ◌≤◌, ◌<◌, ◌+◌, ◌-◌, ◌^◌, length, take};
 ghost use Rattle.std.specs.Prelude.{IfOk, IfErr, OnOk};
+ghost use Rattle.rfb_viewer.specs.Standing.{fault_of};
+ghost use Rattle.rfb_session.specs.Failed.{FailsAgain, StaysUnfed};
 ghost use Rattle.rfb_session.specs.Looking.{HasLooked, Looks, StopsLooking};
 ghost use Rattle.rfb_session.specs.ViewEngine.{HasViewed, StopsViewing};
 ghost use Rattle.rfb_session.specs.ViewOrder.{StopsViewInOrder, ViewsInOrder};
@@ -17,9 +19,9 @@ use crate::engine::wire::Wire;
 use asking::answer;
 use rfb_viewer::Viewer;
 
-/// `view_recording` over a wire: it has written all that a read asks for before it reads again, the
-/// viewer's answers and the requests that were due. That is so of all reads but the one in which it
-/// stops.
+/// `view_recording` over a wire. It has written all that a read asks for before it reads again: the
+/// viewer's answers, and the requests that were due. Only its last turn may stop before that. A
+/// `kept` of `Nowhere` makes no recording.
 pub fn view_over<W: Wire, K: Sink>(
     wire: &mut W,
     kept: &mut K,
@@ -55,6 +57,9 @@ pub fn view_over<W: Wire, K: Sink>(
         ((W.known wire.new).failed_reads + (W.known wire.new).failed_writes + K.failed kept.new)
         viewer.old updates fault viewer.new) }
     ensures same_reference { K.reference kept.new ≡ K.reference kept.old }
+    ensures failed { StaysUnfed (λ f. EngineFault.Viewer f) (Err EngineFault.Truncated)
+        (fault_of viewer.old) (W.known wire.old).unread (W.known wire.new).unread
+        viewer.old result viewer.new }
     ensures same_references { (W.known wire.new).lent ≡ (W.known wire.old).lent }
 {
     let mut part = [0; UPDATE_READ_SIZE];
@@ -97,6 +102,8 @@ fn look<W: Wire, K: Sink>(
         wire.old wire.new (K.written kept.old) (K.written kept.new)
         ((W.known wire.old).failed_writes + K.failed kept.old)
         ((W.known wire.new).failed_writes + K.failed kept.new) fault viewer.new) }
+    ensures failed { 0 < length bytes.now → FailsAgain (λ f. EngineFault.Viewer f)
+        (fault_of viewer.old) viewer.old result viewer.new }
     ensures same_reference { K.reference kept.new ≡ K.reference kept.old }
 {
     let mut rest = bytes;
@@ -137,6 +144,8 @@ fn look_once<W: Wire, K: Sink>(
         wire.old wire.new (K.written kept.old) (K.written kept.new)
         ((W.known wire.old).failed_writes + K.failed kept.old)
         ((W.known wire.new).failed_writes + K.failed kept.new) fault viewer.new) }
+    ensures failed { FailsAgain (λ f. EngineFault.Viewer f)
+        (fault_of viewer.old) viewer.old result viewer.new }
     ensures same_reference { K.reference kept.new ≡ K.reference kept.old }
 {
     match viewer.feed(bytes) {

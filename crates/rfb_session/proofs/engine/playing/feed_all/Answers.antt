@@ -1,5 +1,9 @@
-use Rattle.std.proofs.Common.{◌≡◌, ◌∙◌, ◌<◌, ℕ, take, length, refl, subst, arith, rules}
+use Rattle.std.proofs.Common.{◌≡◌, ◌∙◌, ◌<◌, ℕ, take, length, refl, subst, arith, rules, Ok, ap, inl, inr}
 use Rattle.std.specs.Io.KnownBytes.{Consumes}
+use Rattle.std.proofs.KnownBytes.{Consumes-nil}
+use Rattle.rfb_viewer.specs.declared.viewer.Viewer.{Viewer}
+use Rattle.rfb_viewer.specs.Standing.{fault_of}
+use Rattle.rfb_session.proofs.FailedLemmas.{no_answer, none_kept, none_then, some_turns, told_as}
 use Rattle.rfb_session.proofs.PlayLemmas.{reading_none, reading_more, reading_stops, reading_ends, reading_out, reading_until, some_taken}
 use Rattle.rfb_session.proofs.engine.playing.feed_all.Goals as goal
 
@@ -8,6 +12,7 @@ loop-turn-init g c = record {
   reading = reading_none (g.R.Source.unread c.args.source.now) c.args.viewer.now;
   none_failed = refl;
   size = refl;
+  failed = λ f is. (refl, refl, refl, Consumes-nil (g.R.Source.unread c.args.source.now));
 }
 
 pub returns-in_default-clause-stopped : goal.returns-in_default-clause-stopped
@@ -54,6 +59,11 @@ loop-turn-preserved g c =
           c.in-Ok-watch.ensures.watched;
       none_failed = c.in-Ok.ensures.count ∙ l.invariant.none_failed;
       size = size;
+      failed = λ f is.
+          let again = c.in-Ok-watch.ensures.failed
+          (some_taken c.in-Ok.count c.read.new.buf some (search rules)) f
+          (ap (λ (v : Viewer). fault_of v) (l.invariant.failed f is).2 ∙ is) in
+          absurd (no_answer c.in-Ok-watch.more f again.0);
     }
 
 pub returns-clause-played : goal.returns-clause-played
@@ -61,3 +71,45 @@ returns-clause-played g c =
     let l = c.loop-turn in
     reading_out (g.R.Source.unread c.args.source.now) (g.R.Source.unread l.source)
     c.args.viewer.now l._turn l.updates l.viewer l.invariant.reading (search rules)
+
+pub returns-in_default-clause-failed : goal.returns-in_default-clause-failed
+returns-in_default-clause-failed g c = λ f is.
+    let l = c.loop-turn in
+    let was = l.invariant.failed f is in (
+      was.2,
+      inr (
+        none_kept (g.R.Source.unread c.args.source.now) (g.R.Source.unread l.source)
+            (g.R.Source.unread c.read.new.self) was.3 c.in_default.ensures.bytes,
+        inl refl,
+      ),
+    )
+
+pub returns-then-count-eq0-clause-failed : goal.returns-then-count-eq0-clause-failed
+returns-then-count-eq0-clause-failed g c = λ f is.
+    let l = c.loop-turn in
+    let mid = g.R.Source.unread l.source in
+    let new = g.R.Source.unread c.read.new.self in
+    let none : c.in-Ok.count ≡ 0 = search rules in
+    let was = l.invariant.failed f is in (
+      was.2,
+      inr (
+        none_then (g.R.Source.unread c.args.source.now) mid new was.3
+            (subst (λ (n : ℕ). Consumes mid new (take n c.read.new.buf)) none c.in-Ok.ensures.bytes.0),
+        inr (ap (λ (n : ℕ). Ok n) was.1),
+      ),
+    )
+
+pub returns-in-Err-clause-failed : goal.returns-in-Err-clause-failed
+returns-in-Err-clause-failed g c = λ f is.
+    let l = c.loop-turn in
+    let some : 0 < c.in-Ok.count = search rules in
+    let was = l.invariant.failed f is in
+    let again = c.in-Err.ensures.failed
+    (some_taken c.in-Ok.count c.read.new.buf some (search rules)) f
+    (ap (λ (v : Viewer). fault_of v) was.2 ∙ is) in
+    (again.1 ∙ was.2, inl (told_as f c.in-Err.fault again.0))
+
+pub returns-clause-failed : goal.returns-clause-failed
+returns-clause-failed g c = λ f is.
+    let l = c.loop-turn in
+    absurd (some_turns l._turn (l.invariant.failed f is).0 (search rules))

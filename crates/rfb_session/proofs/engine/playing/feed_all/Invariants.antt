@@ -1,5 +1,8 @@
 -- What was read was fed, and no read has failed.
-use Rattle.std.proofs.Common.{◌≡◌, length}
+use Rattle.std.proofs.Common.{◌≡◌, length, Some, []}
+use Rattle.std.specs.Io.KnownBytes.{Consumes}
+use Rattle.rfb_viewer.specs.declared.fault.ViewerFault.{ViewerFault}
+use Rattle.rfb_viewer.specs.Standing.{fault_of}
 use Rattle.rfb_session.proofs.PlayLemmas.{Reading}
 use Rattle.rfb_session.proofs.engine.playing.feed_all.Given as goal
 
@@ -9,4 +12,7 @@ invariant-loop-turn g l = record {
       l._turn l.updates l.viewer;
   none_failed : g.R.Source.failed l.source ≡ g.R.Source.failed l.initial.source;
   size : length l.part ≡ 32768;
+  failed : (f : ViewerFault) → fault_of l.fn.viewer ≡ Some f → (l._turn ≡ 0) × (l.updates ≡ 0)
+      × (l.viewer ≡ l.fn.viewer)
+      × Consumes (g.R.Source.unread l.initial.source) (g.R.Source.unread l.source) [];
 }

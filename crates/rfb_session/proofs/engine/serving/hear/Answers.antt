@@ -1,5 +1,9 @@
-use Rattle.std.proofs.Common.{◌∙◌, refl, rules}
+use Rattle.std.proofs.Common.{◌≡◌, ◌∙◌, List, ℕ, ap, arith, length, refl, rules}
+use Rattle.rfb_server.specs.declared.server.Server.{Server}
+use Rattle.rfb_server.specs.Standing.{fault_of}
+use Rattle.rfb_session.specs.declared.engine.fault.EngineFault.TheVariants.{Server as ServerEnded}
 use Rattle.rfb_session.specs.Wire.{by_steps}
+use Rattle.rfb_session.proofs.FailedLemmas.{err_as, no_answer}
 use Rattle.rfb_session.proofs.WrittenLemmas.{empty_rest}
 use Rattle.rfb_session.proofs.WireLemmas.{steps_join}
 use Rattle.rfb_session.proofs.ServeLemmas.{hears_no_byte, hears_more, hears_whole, hears_until}
@@ -10,6 +14,7 @@ loop-rest-init g c = record {
   heard = hears_no_byte (by_steps g.W.Wire.steps) (steps_join g.W.Wire.steps) c.args.server.now
       c.args.bytes.now c.args.wire.now;
   none_failed = refl;
+  failed = λ f is. (refl, refl);
 }
 
 pub loop-rest-preserved : goal.loop-rest-preserved
@@ -20,6 +25,10 @@ loop-rest-preserved g c =
           c.args.bytes.now l.rest.now c.args.wire.now l.wire c.hear_some.new.wire l.server
           c.in-Ok.used c.hear_some.new.server l.invariant.heard c.in-Ok.ensures.answered;
       none_failed = c.in-Ok.ensures.none_failed ∙ l.invariant.none_failed;
+      failed = λ f is.
+          let again = c.in-Ok.ensures.failed f
+          (ap (λ (v : Server). fault_of v) (l.invariant.failed f is).1 ∙ is) in
+          absurd (no_answer c.in-Ok.used (ServerEnded f) again.0);
     }
 
 pub returns-clause-answered : goal.returns-clause-answered
@@ -37,3 +46,17 @@ returns-in-Err-clause-stopped g c =
     (g.W.Wire.known c.args.wire.now).failed_writes (g.W.Wire.known l.wire).failed_writes
     (g.W.Wire.known c.hear_some.new.wire).failed_writes c.in-Err.fault c.hear_some.new.server
     l.invariant.heard l.invariant.none_failed c.in-Err.ensures.stopped
+
+pub returns-clause-failed : goal.returns-clause-failed
+returns-clause-failed g c = λ some f is.
+    let l = c.loop-rest in
+    let none : length l.rest.now ≡ 0 = search rules in
+    let all = (l.invariant.failed f is).0 in
+    absurd (omega (arith, some, none, ap (λ (xs : List ℕ). length xs) all))
+
+pub returns-in-Err-clause-failed : goal.returns-in-Err-clause-failed
+returns-in-Err-clause-failed g c = λ some f is.
+    let l = c.loop-rest in
+    let was = l.invariant.failed f is in
+    let again = c.in-Err.ensures.failed f (ap (λ (v : Server). fault_of v) was.1 ∙ is) in
+    (err_as (ServerEnded f) c.in-Err.fault again.0, again.1 ∙ was.1)

@@ -1,5 +1,7 @@
 -- The first of the bytes were fed, and all answers to them were written.
-use Rattle.std.proofs.Common.{◌≡◌, length}
+use Rattle.std.proofs.Common.{◌≡◌, Some, length}
+use Rattle.rfb_server.specs.declared.fault.ServerFault.{ServerFault}
+use Rattle.rfb_server.specs.Standing.{fault_of}
 use Rattle.rfb_session.specs.Wire.{by_steps}
 use Rattle.rfb_session.proofs.ServeLemmas.{HeardBy}
 use Rattle.rfb_session.proofs.engine.serving.hear.Given as goal
@@ -10,6 +12,8 @@ invariant-loop-rest g l = record {
       l.server;
   none_failed : (g.W.Wire.known l.wire).failed_writes
       ≡ (g.W.Wire.known l.initial.wire).failed_writes;
+  failed : (f : ServerFault) → fault_of l.fn.server ≡ Some f →
+      (l.rest ≡ l.bytes) × (l.server ≡ l.fn.server);
 }
 
 abbrev pub decreases-loop-rest : goal.decreases-loop-rest

@@ -1,9 +1,18 @@
-use Rattle.std.proofs.Common.{◌∙◌, ℕ, refl, rules, arith}
+use Rattle.std.proofs.Common.{◌∙◌, ℕ, refl, rules, arith, ◌≡◌, None, Ok, Option, Some, Result, ap, inr}
+use Rattle.std.proofs.KnownBytes.{Consumes-nil}
+use Rattle.rfb_server.specs.declared.server.Server.{Server}
+use Rattle.rfb_server.specs.Standing.{fault_of}
+use Rattle.rfb_session.specs.declared.engine.fault.EngineFault.{EngineFault}
+use Rattle.rfb_session.specs.declared.engine.fault.EngineFault.TheVariants.{Server as ServerEnded}
 use Rattle.rfb_session.specs.ServeOrder.{TurnOver}
+use Rattle.rfb_session.proofs.FailedLemmas.{none_then, not_fed, some_turns, unfed_then}
 use Rattle.rfb_session.proofs.ServingLemmas.{serving_none, serving_out}
 use Rattle.rfb_session.proofs.ServeOrderLemmas.{end_known, none_failed_then, order_ends, order_more, order_none, order_out, order_stops, stop_known, turn_known}
 use Rattle.rfb_session.proofs.TurnLemmas.{turned_by, turns_none, turns_more, turns_end, turns_stop, served_more, served_end, served_stop}
 use Rattle.rfb_session.proofs.engine.serving.serve_all.Goals as goal
+
+none_some : (n : ℕ) (r : Result (Option ℕ) EngineFault) → r ≡ Ok None → r ≡ Ok (Some n) → ⊥
+none_some n r one two = absurd cc
 
 pub loop-turn-init : goal.loop-turn-init
 loop-turn-init g c =
@@ -15,6 +24,7 @@ loop-turn-init g c =
       turns = turns_none g.S.Scene.shows old.unread old.written c.args.server.now
           c.args.scene.now;
       none_failed = (refl, refl, refl);
+      failed = λ f is. (refl, refl, refl, Consumes-nil old.unread);
     }
 
 pub turn-requires : goal.turn-requires
@@ -49,6 +59,14 @@ returns-in-Ok-None g c =
       none_failed = (none.0, none.1);
       stopped = tt;
       in_turn = tt;
+      failed = λ f is.
+          let was = l.invariant.failed f is in (
+            ended.1 ∙ was.2,
+            inr (
+              none_then old.unread mid.unread new.unread was.3 end.1.read,
+              inr (ap (λ (n : ℕ). Ok n) was.1),
+            ),
+          );
       same_references = none.2;
     }
 
@@ -79,6 +97,13 @@ returns-in-Err g c =
           old.failed_writes mid.failed_writes new.failed_writes c.args.server.now
           c.args.scene.now l.updates l.server l.scene c.in-Err.fault c.turn.new.server
           c.turn.new.scene l.invariant.turns none.0 none.1 c.in-Err.ensures.undrawn stop.1;
+      failed = λ f is.
+          let was = l.invariant.failed f is in
+          let again = c.in-Err.ensures.failed f (ap (λ (v : Server). fault_of v) was.2 ∙ is) in (
+            again.0 ∙ was.2,
+            unfed_then (ServerEnded f) c.in-Err.fault None (Ok 0) old.unread mid.unread new.unread
+                was.3 again.1,
+          );
       same_references = stop.0 ∙ none.2;
     }
 
@@ -107,6 +132,12 @@ loop-turn-preserved g c =
           c.in-Ok-Some.more c.saturating_add-updates.result c.turn.new.server c.turn.new.scene
           l.invariant.turns turn.1 c.saturating_add-updates.ensures;
       none_failed = none_failed_then old mid new l.invariant.none_failed turn.0;
+      failed = λ f is.
+          let was = l.invariant.failed f is in
+          let again = c.turn.ensures.failed f (ap (λ (v : Server). fault_of v) was.2 ∙ is) in
+          absurd (not_fed (ServerEnded f) (Ok None) mid.unread new.unread c.turn.result
+          (Some c.in-Ok-Some.more) (c.in-Ok-Some.is ∙ ap (λ (o : Option ℕ). Ok o) c.in-Ok-Some.field-0-is)
+          (none_some c.in-Ok-Some.more (Ok None) refl) again.1);
     }
 
 pub returns-clause-in_order : goal.returns-clause-in_order
@@ -127,3 +158,8 @@ pub returns-clause-none_failed : goal.returns-clause-none_failed
 returns-clause-none_failed g c =
     let none = c.loop-turn.invariant.none_failed in
     (none.0, none.1)
+
+pub returns-clause-failed : goal.returns-clause-failed
+returns-clause-failed g c = λ f is.
+    let l = c.loop-turn in
+    absurd (some_turns l._turn (l.invariant.failed f is).0 (search rules))

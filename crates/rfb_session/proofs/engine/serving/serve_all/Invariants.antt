@@ -1,4 +1,8 @@
 -- What was read was fed and answered by turns, in order; no update is due, and nothing has failed.
+use Rattle.std.proofs.Common.{◌≡◌, Some, []}
+use Rattle.std.specs.Io.KnownBytes.{Consumes}
+use Rattle.rfb_server.specs.declared.fault.ServerFault.{ServerFault}
+use Rattle.rfb_server.specs.Standing.{fault_of}
 use Rattle.rfb_session.specs.Turns.{TakesTurns}
 use Rattle.rfb_session.proofs.ServingLemmas.{ServedSoFar}
 use Rattle.rfb_session.proofs.ServeOrderLemmas.{InOrderSoFar, NoneFailed}
@@ -16,4 +20,6 @@ invariant-loop-turn g l =
       turns : TakesTurns g.S.Scene.shows old.unread now.unread old.written now.written l.fn.server
           l.fn.scene l.updates l.server l.scene;
       none_failed : NoneFailed old now;
+      failed : (f : ServerFault) → fault_of l.fn.server ≡ Some f → (l._turn ≡ 0) × (l.updates ≡ 0)
+          × (l.server ≡ l.fn.server) × Consumes old.unread now.unread [];
     }

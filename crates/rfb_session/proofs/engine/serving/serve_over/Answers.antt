@@ -1,12 +1,23 @@
-use Rattle.std.proofs.Common.{◌∙◌, List, ℕ, Option, refl, sym, subst, arith}
+use Rattle.std.proofs.Common.{◌∙◌, List, ℕ, Option, refl, sym, subst, arith, ◌≢◌, Bool, Err, None, Ok, Some, ap, false, inl, inr, true, ◌≡◌}
+use Rattle.rfb_server.specs.declared.fault.ServerFault.{ServerFault}
+use Rattle.rfb_server.specs.declared.server.Server.{Server}
+use Rattle.rfb_server.specs.Standing.{fault_of}
+use Rattle.rfb_session.specs.declared.engine.fault.EngineFault.TheVariants.{Server as ServerEnded, Truncated}
 use Rattle.rfb_session.specs.ServeEngine.{AllServed, ServedSome, StopsServing}
 use Rattle.rfb_session.specs.ServeOrder.{AfterTurns, AtTheEnd, Ungreeted}
 use Rattle.rfb_session.specs.Turns.{InTurn, StopsInTurn, TakesTurns, TooEarly, Unheard}
+use Rattle.rfb_session.proofs.FailedLemmas.{none_read, unfed_then, unread_then}
 use Rattle.rfb_session.proofs.ServeOrderLemmas.{as_before}
 use Rattle.rfb_session.proofs.ServingLemmas.{front_all, front_stops, unheard}
 use Rattle.rfb_session.proofs.TurnLemmas.{greeted_stops}
 use Rattle.rfb_session.proofs.WireLemmas.{all_known, some_known}
 use Rattle.rfb_session.proofs.engine.serving.serve_over.Goals as goal
+
+never_both : (b : Bool) → b ≡ true → b ≡ false → ⊥
+never_both b is not = absurd cc
+
+has_failed : (fault : Option ServerFault) (f : ServerFault) → fault ≡ Some f → fault ≢ None
+has_failed fault f is none = absurd cc
 
 pub serve_all-requires : goal.serve_all-requires
 serve_all-requires g c =
@@ -45,6 +56,7 @@ returns-in-Err g c =
       };
       in_turn = Unheard refl c.greeting-greeting.result c.greeting-greeting.ensures cut.1 cut.0.0
           refl refl;
+      failed = λ f is. (refl, inr (none_read old.unread new.unread cut.0.0, inl refl));
       same_references = cut.0.2;
     }
 
@@ -90,6 +102,11 @@ returns-then-between g c =
       none_failed = (all.none_failed.0 ∙ greeted.0.1, all.none_failed.1 ∙ greeted.2);
       stopped = tt;
       in_turn = tt;
+      failed = λ f is.
+          let still = all.failed f is in
+          absurd (never_both c.between.result c.if-between.true
+          (c.between.ensures.failed (has_failed (fault_of c.serve_all.new.server) f
+          (ap (λ (v : Server). fault_of v) still.0 ∙ is))));
       same_references = all.same_references ∙ greeted.0.2;
     }
 
@@ -139,6 +156,15 @@ returns-else-between g c =
             c.args.scene.now c.in-Ok-serve_all.updates c.serve_all.new.server
             c.serve_all.new.scene) all.turns;
       });
+      failed = λ f is.
+          let still = all.failed f is in (
+            still.0,
+            inr (
+              unread_then (ServerEnded f) (Ok 0) old.unread mid.unread new.unread
+                  c.in-Ok-serve_all.updates (none_read old.unread mid.unread greeted.0.0) still.1,
+              inr refl,
+            ),
+          );
       same_references = all.same_references ∙ greeted.0.2;
     }
 
@@ -184,5 +210,11 @@ returns-in-Err-serve_all g c =
           mid.written new.written old.failed_writes mid.failed_writes new.failed_writes
           c.args.server.now c.args.scene.now c.in-Err-serve_all.fault c.serve_all.new.server
           c.serve_all.new.scene greeted.2 all.in_turn));
+      failed = λ f is.
+          let still = all.failed f is in (
+            still.0,
+            unfed_then (ServerEnded f) c.in-Err-serve_all.fault 0 (Err Truncated) old.unread
+                mid.unread new.unread (none_read old.unread mid.unread greeted.0.0) still.1,
+          );
       same_references = all.same_references ∙ greeted.0.2;
     }

@@ -1,6 +1,9 @@
-use Rattle.std.proofs.Common.{◌≡◌, ◌<◌, take, length, refl, rules, arith}
+use Rattle.std.proofs.Common.{◌≡◌, ◌<◌, take, length, refl, rules, arith, inl, inr}
+use Rattle.std.proofs.KnownBytes.{Consumes-nil}
+use Rattle.rfb_session.specs.declared.engine.fault.EngineFault.TheVariants.{Server as ServerEnded}
 use Rattle.rfb_session.specs.ServeOrder.{MissesRead, StopsInHearing, StopsInUpdating}
-use Rattle.rfb_session.specs.Wire.{Came}
+use Rattle.rfb_session.specs.Wire.{Came, Ended, Missed}
+use Rattle.rfb_session.proofs.FailedLemmas.{err_as, no_answer, none_kept}
 use Rattle.rfb_session.proofs.PlayLemmas.{some_taken}
 use Rattle.rfb_session.proofs.TurnLemmas.{few_taken}
 use Rattle.rfb_session.proofs.engine.serving.turn.Goals as goal
@@ -56,3 +59,38 @@ returns-in-Err-update-clause-stopped g c =
     (c.in-Ok.ensures.stepped.0 some)
     (few_taken c.in-Ok.count c.read.new.buf (search rules) size) c.hear.new.server
     c.hear.new.wire c.in-Ok-hear.ensures.answered c.in-Err-update.ensures.stopped
+
+pub returns-in_default-clause-failed : goal.returns-in_default-clause-failed
+returns-in_default-clause-failed g c = λ f is.
+    let told = g.met.W.Wire.tells c.args.wire.now c.read.new.self Missed c.in_default.ensures.stepped in
+    let old = g.W.Wire.known c.args.wire.now in
+    let new = g.W.Wire.known c.read.new.self in
+    (refl, inr (none_kept old.unread old.unread new.unread (Consumes-nil old.unread) told.1, inl refl))
+
+pub returns-then-count-eq0-clause-failed : goal.returns-then-count-eq0-clause-failed
+returns-then-count-eq0-clause-failed g c = λ f is.
+    let none : c.in-Ok.count ≡ 0 = search rules in
+    let told = g.met.W.Wire.tells c.args.wire.now c.read.new.self Ended
+    (c.in-Ok.ensures.stepped.1 none) in
+    (refl, inr (told.1, inr refl))
+
+pub returns-in-Err-clause-failed : goal.returns-in-Err-clause-failed
+returns-in-Err-clause-failed g c = λ f is.
+    let some : 0 < c.in-Ok.count = search rules in
+    let again = c.in-Err.ensures.failed
+    (some_taken c.in-Ok.count c.read.new.buf some (search rules)) f is in
+    (again.1, inl (err_as (ServerEnded f) c.in-Err.fault again.0))
+
+pub returns-in-Ok-update-clause-failed : goal.returns-in-Ok-update-clause-failed
+returns-in-Ok-update-clause-failed g c = λ f is.
+    let some : 0 < c.in-Ok.count = search rules in
+    let again = c.in-Ok-hear.ensures.failed
+    (some_taken c.in-Ok.count c.read.new.buf some (search rules)) f is in
+    absurd (no_answer tt (ServerEnded f) again.0)
+
+pub returns-in-Err-update-clause-failed : goal.returns-in-Err-update-clause-failed
+returns-in-Err-update-clause-failed g c = λ f is.
+    let some : 0 < c.in-Ok.count = search rules in
+    let again = c.in-Ok-hear.ensures.failed
+    (some_taken c.in-Ok.count c.read.new.buf some (search rules)) f is in
+    absurd (no_answer tt (ServerEnded f) again.0)

@@ -1,5 +1,9 @@
-use Rattle.std.proofs.Common.{◌<◌, ◌+◌, ◌∙◌, refl, arith, rules}
+use Rattle.std.proofs.Common.{◌<◌, ◌+◌, ◌∙◌, refl, arith, rules, ap}
+use Rattle.rfb_viewer.specs.declared.viewer.Viewer.{Viewer}
+use Rattle.rfb_viewer.specs.Standing.{fault_of}
+use Rattle.rfb_session.specs.declared.engine.fault.EngineFault.TheVariants.{Viewer as ViewerEnded}
 use Rattle.rfb_session.specs.Wire.{by_steps}
+use Rattle.rfb_session.proofs.FailedLemmas.{err_as, no_answer}
 use Rattle.rfb_session.proofs.LookLemmas.{looking_none, looking_more, looking_stops}
 use Rattle.rfb_session.proofs.WireLemmas.{steps_join}
 use Rattle.rfb_session.proofs.engine.viewing.look.Goals as goal
@@ -12,6 +16,7 @@ loop-left-init g c = record {
   none_unwritten = refl;
   none_unkept = refl;
   same_reference = refl;
+  failed = λ f is. (refl, refl, refl);
 }
 
 pub loop-left-preserved : goal.loop-left-preserved
@@ -27,6 +32,10 @@ loop-left-preserved g c =
       none_unwritten = c.in-Ok.ensures.none_failed.0 ∙ l.invariant.none_unwritten;
       none_unkept = c.in-Ok.ensures.none_failed.1 ∙ l.invariant.none_unkept;
       same_reference = c.look_once.ensures.same_reference ∙ l.invariant.same_reference;
+      failed = λ f is.
+          let again = c.in-Ok.ensures.failed f
+          (ap (λ (v : Viewer). fault_of v) (l.invariant.failed f is).2 ∙ is) in
+          absurd (no_answer (c.in-Ok.used, c.in-Ok.fewer) (ViewerEnded f) again.0);
     }
 
 pub returns-in-Err-clause-stopped : goal.returns-in-Err-clause-stopped
@@ -43,3 +52,10 @@ returns-in-Err-clause-stopped g c =
     c.in-Err.fault c.look_once.new.viewer l.invariant.looks some
     (omega (arith, l.invariant.none_unwritten, l.invariant.none_unkept))
     c.in-Err.ensures.stopped
+
+pub returns-in-Err-clause-failed : goal.returns-in-Err-clause-failed
+returns-in-Err-clause-failed g c = λ some f is.
+    let l = c.loop-left in
+    let was = l.invariant.failed f is in
+    let again = c.in-Err.ensures.failed f (ap (λ (v : Viewer). fault_of v) was.2 ∙ is) in
+    (err_as (ViewerEnded f) c.in-Err.fault again.0, again.1 ∙ was.2)

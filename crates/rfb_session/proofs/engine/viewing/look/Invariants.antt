@@ -1,5 +1,7 @@
 -- The first of the bytes were fed and kept, and all answers to them were written.
-use Rattle.std.proofs.Common.{◌≡◌, length}
+use Rattle.std.proofs.Common.{◌≡◌, length, Some}
+use Rattle.rfb_viewer.specs.declared.fault.ViewerFault.{ViewerFault}
+use Rattle.rfb_viewer.specs.Standing.{fault_of}
 use Rattle.rfb_session.specs.Wire.{by_steps}
 use Rattle.rfb_session.proofs.LookLemmas.{LooksSoFar}
 use Rattle.rfb_session.proofs.engine.viewing.look.Given as goal
@@ -13,6 +15,8 @@ invariant-loop-left g l = record {
       ≡ (g.W.Wire.known l.initial.wire).failed_writes;
   none_unkept : g.K.Sink.failed l.kept ≡ g.K.Sink.failed l.initial.kept;
   same_reference : g.K.Sink.reference l.kept ≡ g.K.Sink.reference l.initial.kept;
+  failed : (f : ViewerFault) → fault_of l.fn.viewer ≡ Some f →
+      (l.rest ≡ l.bytes) × (l.left ≡ l.before) × (l.viewer ≡ l.fn.viewer);
 }
 
 abbrev pub decreases-loop-left : goal.decreases-loop-left

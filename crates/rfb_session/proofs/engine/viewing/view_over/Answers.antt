@@ -1,12 +1,17 @@
-use Rattle.std.proofs.Common.{◌≡◌, ◌∙◌, ◌<◌, ◌≤◌, ◌+◌, ◌-◌, ◌^◌, ℕ, List, Option, take, length, refl, sym, subst, inl, inr, arith, rules}
-use Rattle.rfb_session.specs.Looking.{HasLooked, StopsLooking}
+use Rattle.std.proofs.Common.{◌≡◌, ◌∙◌, ◌<◌, ◌≤◌, ◌+◌, ◌-◌, ◌^◌, ℕ, List, Option, take, length, refl, sym, subst, inl, inr, arith, rules, ap}
+use Rattle.std.proofs.KnownBytes.{Consumes-nil}
+use Rattle.rfb_viewer.specs.declared.viewer.Viewer.{Viewer}
+use Rattle.rfb_viewer.specs.Standing.{fault_of}
+use Rattle.rfb_session.specs.declared.engine.fault.EngineFault.TheVariants.{Viewer as ViewerEnded}
+use Rattle.rfb_session.specs.Looking.{HasLooked}
 use Rattle.rfb_session.specs.ViewEngine.{HasMissed, ViewedSome}
-use Rattle.rfb_session.specs.ViewOrder.{EndsTooEarly, LookOver, MissesLook, NextLook, NoLook, StopsInLooking}
+use Rattle.rfb_session.specs.ViewOrder.{LookOver, NextLook, NoLook}
 use Rattle.rfb_session.specs.Wire.{Came, Ended, Missed, by_steps}
+use Rattle.rfb_session.proofs.FailedLemmas.{err_as, no_answer, none_kept, none_then, some_turns}
 use Rattle.rfb_session.proofs.PlayLemmas.{some_taken}
 use Rattle.rfb_session.proofs.LookLemmas.{few_taken, viewing_none, viewing_more, viewing_ends, viewing_misses, viewing_out, viewing_unread, looking_fails}
 use Rattle.rfb_session.proofs.ServeOrderLemmas.{none_failed_then}
-use Rattle.rfb_session.proofs.ViewOrderLemmas.{cut_known, look_known}
+use Rattle.rfb_session.proofs.ViewOrderLemmas.{cut_known, look_known, view_cut, view_ends, view_misses}
 use Rattle.rfb_session.proofs.engine.viewing.view_over.Goals as goal
 
 pub loop-turn-init : goal.loop-turn-init
@@ -20,6 +25,7 @@ loop-turn-init g c =
       none_unkept = refl;
       same_reference = refl;
       size = refl;
+      failed = λ f is. (refl, refl, Consumes-nil old.unread);
     }
 
 pub read-requires : goal.read-requires
@@ -53,16 +59,11 @@ returns-in_default g c =
     let told = g.met.W.Wire.tells l.wire c.read.new.self Missed c.in_default.ensures.stepped in
     record {
       in_order = tt;
-      stopped_in_order = record {
-        count = l._turn;
-        left = l.left;
-        going = l.invariant.viewed.going;
-        mid = l.wire;
-        kept = g.K.Sink.written l.kept;
-        between = l.viewer;
-        looks = l.invariant.order;
-        stops = MissesLook refl c.in_default.ensures.stepped refl refl;
-      };
+      stopped_in_order = view_misses g.W.Wire.steps g.W.Wire.known c.args.wire.now l.wire
+          (g.K.Sink.written c.args.kept.now) (g.K.Sink.written l.kept) c.args.viewer.now l.viewer
+          c.args.updates l._turn l.left l.invariant.order l.invariant.viewed.going
+          c.read.new.self (g.K.Sink.failed c.args.kept.now) (g.K.Sink.failed l.kept)
+          c.in_default.ensures.stepped;
       told = tt;
       viewed = tt;
       none_failed = tt;
@@ -75,6 +76,9 @@ returns-in_default g c =
             (g.K.Sink.written c.args.kept.now) (g.K.Sink.written l.kept) c.args.viewer.now
             l._turn c.args.updates l.left l.viewer l.invariant.viewed told.1),
       );
+      failed = λ f is.
+          let was = l.invariant.failed f is in
+          (was.1, inr (none_kept old.unread mid.unread new.unread was.2 told.1, inl refl));
       same_reference = l.invariant.same_reference;
       same_references = told.0.2 ∙ none.2;
     }
@@ -91,16 +95,10 @@ returns-then-count-eq0 g c =
     let told = g.met.W.Wire.tells l.wire c.read.new.self Ended step in
     record {
       in_order = tt;
-      stopped_in_order = record {
-        count = l._turn;
-        left = l.left;
-        going = l.invariant.viewed.going;
-        mid = l.wire;
-        kept = g.K.Sink.written l.kept;
-        between = l.viewer;
-        looks = l.invariant.order;
-        stops = EndsTooEarly refl (inl step) refl refl;
-      };
+      stopped_in_order = view_ends g.W.Wire.steps g.W.Wire.known c.args.wire.now l.wire
+          (g.K.Sink.written c.args.kept.now) (g.K.Sink.written l.kept) c.args.viewer.now l.viewer
+          c.args.updates l._turn l.left l.invariant.order l.invariant.viewed.going
+          c.read.new.self (g.K.Sink.failed c.args.kept.now) (g.K.Sink.failed l.kept) (inl step);
       told = tt;
       viewed = tt;
       none_failed = tt;
@@ -110,6 +108,9 @@ returns-then-count-eq0 g c =
           (viewing_misses old.unread mid.unread new.unread old.written mid.written
           (g.K.Sink.written c.args.kept.now) (g.K.Sink.written l.kept) c.args.viewer.now
           l._turn c.args.updates l.left l.viewer l.invariant.viewed told.1 told.3);
+      failed = λ f is.
+          let was = l.invariant.failed f is in
+          (was.1, inr (none_then old.unread mid.unread new.unread was.2 told.1, inr refl));
       same_reference = l.invariant.same_reference;
       same_references = told.0.2 ∙ l.invariant.none_failed.2;
     }
@@ -160,6 +161,10 @@ returns-in-Ok-eq0 g c =
         c.in-Ok-eq0.ensures.none_failed.1 ∙ l.invariant.none_unkept,
       );
       stopped = tt;
+      failed = λ f is.
+          let again = c.in-Ok-eq0.ensures.failed over.some f
+          (ap (λ (v : Viewer). fault_of v) (l.invariant.failed f is).1 ∙ is) in
+          absurd (no_answer c.in-Ok-eq0.field-0 (ViewerEnded f) again.0);
       same_reference = c.look.ensures.same_reference ∙ l.invariant.same_reference;
       same_references = all.2;
     }
@@ -182,23 +187,14 @@ returns-in-Err g c =
     c.in-Err.ensures.stopped in
     record {
       in_order = tt;
-      stopped_in_order = record {
-        count = l._turn;
-        left = l.left;
-        going = l.invariant.viewed.going;
-        mid = l.wire;
-        kept = g.K.Sink.written l.kept;
-        between = l.viewer;
-        looks = l.invariant.order;
-        stops = StopsInLooking (take c.in-Ok.count c.read.new.buf) c.read.new.self step
-            (few_taken c.in-Ok.count c.read.new.buf (search rules) size)
-            (subst (λ (n : ℕ). StopsLooking (by_steps g.W.Wire.steps) l.viewer
-            (take c.in-Ok.count c.read.new.buf) c.read.new.self c.look.new.wire
-            (g.K.Sink.written l.kept) (g.K.Sink.written c.look.new.kept)
-            ((g.W.Wire.known c.read.new.self).failed_writes + n)
-            (new.failed_writes + g.K.Sink.failed c.look.new.kept) c.in-Err.fault
-            c.look.new.viewer) l.invariant.none_unkept c.in-Err.ensures.stopped);
-      };
+      stopped_in_order = view_cut g.W.Wire.steps g.W.Wire.known c.args.wire.now l.wire
+          (g.K.Sink.written c.args.kept.now) (g.K.Sink.written l.kept) c.args.viewer.now l.viewer
+          c.args.updates l._turn l.left l.invariant.order l.invariant.viewed.going
+          c.read.new.self c.look.new.wire (take c.in-Ok.count c.read.new.buf) c.in-Err.fault
+          (g.K.Sink.written c.look.new.kept) (g.K.Sink.failed c.args.kept.now)
+          (g.K.Sink.failed l.kept) (g.K.Sink.failed c.look.new.kept) c.look.new.viewer step
+          (few_taken c.in-Ok.count c.read.new.buf (search rules) size) l.invariant.none_unkept
+          c.in-Err.ensures.stopped;
       told = tt;
       viewed = tt;
       none_failed = tt;
@@ -213,6 +209,12 @@ returns-in-Err g c =
           c.in-Err.fault c.look.new.viewer l.invariant.viewed cut.2
           (λ same. omega (arith, same, cut.0, none.0, none.1, l.invariant.none_unkept))
           (λ one. omega (arith, one, cut.0, none.0, none.1, l.invariant.none_unkept)) cut.3;
+      failed = λ f is.
+          let was = l.invariant.failed f is in
+          let again = c.in-Err.ensures.failed
+          (some_taken c.in-Ok.count c.read.new.buf some (search rules)) f
+          (ap (λ (v : Viewer). fault_of v) was.1 ∙ is) in
+          (again.1 ∙ was.1, inl (err_as (ViewerEnded f) c.in-Err.fault again.0));
       same_reference = c.look.ensures.same_reference ∙ l.invariant.same_reference;
       same_references = cut.1 ∙ none.2;
     }
@@ -252,6 +254,10 @@ loop-turn-preserved g c =
       none_unkept = c.in-Ok-look.ensures.none_failed.1 ∙ l.invariant.none_unkept;
       same_reference = c.look.ensures.same_reference ∙ l.invariant.same_reference;
       size = size;
+      failed = λ f is.
+          let again = c.in-Ok-look.ensures.failed over.some f
+          (ap (λ (v : Viewer). fault_of v) (l.invariant.failed f is).1 ∙ is) in
+          absurd (no_answer c.in-Ok-look.fewer (ViewerEnded f) again.0);
     }
 
 pub returns : goal.returns
@@ -262,22 +268,17 @@ returns g c =
     let out : 2 ^ 64 - 1 ≤ l._turn = search rules in
     record {
       in_order = tt;
-      stopped_in_order = record {
-        count = l._turn;
-        left = l.left;
-        going = l.invariant.viewed.going;
-        mid = l.wire;
-        kept = g.K.Sink.written l.kept;
-        between = l.viewer;
-        looks = l.invariant.order;
-        stops = EndsTooEarly refl (inr (out, refl)) refl refl;
-      };
+      stopped_in_order = view_ends g.W.Wire.steps g.W.Wire.known c.args.wire.now l.wire
+          (g.K.Sink.written c.args.kept.now) (g.K.Sink.written l.kept) c.args.viewer.now l.viewer
+          c.args.updates l._turn l.left l.invariant.order l.invariant.viewed.going
+          l.wire (g.K.Sink.failed c.args.kept.now) (g.K.Sink.failed l.kept) (inr (out, refl));
       told = tt;
       viewed = tt;
       none_failed = tt;
       stopped = viewing_out old.unread now.unread old.written now.written
           (g.K.Sink.written c.args.kept.now) (g.K.Sink.written l.kept) c.args.viewer.now
           l._turn c.args.updates l.left l.viewer l.invariant.viewed out;
+      failed = λ f is. absurd (some_turns l._turn (l.invariant.failed f is).0 out);
       same_reference = l.invariant.same_reference;
       same_references = l.invariant.none_failed.2;
     }

@@ -1,5 +1,8 @@
 -- What was read was fed, kept and answered, in order; updates are looked for, and nothing has failed.
-use Rattle.std.proofs.Common.{◌≡◌, length}
+use Rattle.std.proofs.Common.{◌≡◌, Some, [], length}
+use Rattle.std.specs.Io.KnownBytes.{Consumes}
+use Rattle.rfb_viewer.specs.declared.fault.ViewerFault.{ViewerFault}
+use Rattle.rfb_viewer.specs.Standing.{fault_of}
 use Rattle.rfb_session.specs.ViewOrder.{LooksOver}
 use Rattle.rfb_session.proofs.LookLemmas.{ViewedSoFar}
 use Rattle.rfb_session.proofs.ServeOrderLemmas.{NoneFailed}
@@ -19,4 +22,6 @@ invariant-loop-turn g l =
       none_unkept : g.K.Sink.failed l.kept ≡ g.K.Sink.failed l.initial.kept;
       same_reference : g.K.Sink.reference l.kept ≡ g.K.Sink.reference l.initial.kept;
       size : length l.part ≡ 32768;
+      failed : (f : ViewerFault) → fault_of l.fn.viewer ≡ Some f → (l._turn ≡ 0)
+          × (l.viewer ≡ l.fn.viewer) × Consumes old.unread now.unread [];
     }
