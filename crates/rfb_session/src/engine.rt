@@ -1,4 +1,7 @@
 //! Engines: one end of a connection, run over any reader and writer until its input ends.
+//!
+//! `serve` reads 4,096 bytes at most at once, since a client sends little. `view` and `play` read
+//! 32,768: updates are long, and a piece that two reads cut costs more than a whole one.
 
 mod apart;
 mod device;
@@ -37,6 +40,5 @@ pub use wire::Wire;
 // How many bytes one read of a client asks for.
 const READ_SIZE: usize = 4096;
 
-// How many bytes one read of a server asks for. Its updates are long, and a piece that two reads cut
-// costs more than a whole one.
+// How many bytes one read of a server, or of a recording, asks for.
 const UPDATE_READ_SIZE: usize = 32_768;

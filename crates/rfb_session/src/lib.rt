@@ -22,7 +22,7 @@
 //! | Bytes | Go |
 //! |---|---|
 //! | that an end sends | into flight; `ToServer` and `ToViewer` deliver as many of them as they name |
-//! | of an engine's end | to its `Sink`, in order |
+//! | of an engine's end | to its `Sink` or its `Wire`, in order |
 //! | of a `Foreign` event | into flight to the session of a slot, whoever sent them |
 #![tactic(auto)]
 
