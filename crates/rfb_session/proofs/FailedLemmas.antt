@@ -1,5 +1,6 @@
 -- Engines of an end that had failed before.
-use Rattle.std.proofs.Common.{◌≡◌, ◌≤◌, ◌-◌, ◌^◌, ℕ, List, [], Option, Result, Ok, Err, ◌⊎◌, inl, inr, ap, sym, ◌∙◌, subst, arith}
+use Rattle.std.proofs.Common.{◌≡◌, ◌≤◌, ◌-◌, ◌^◌, ℕ, List, [], Option, Result, Ok, Err, ◌⊎◌, inl}
+use Rattle.std.proofs.Common.{inr, ap, sym, ◌∙◌, subst, arith}
 use Rattle.std.specs.Io.KnownBytes.{Consumes, Keeps}
 use Rattle.std.proofs.KnownBytes.{Consumes-nil, Consumes-trans, Consumes-kept}
 use Rattle.rfb_viewer.specs.declared.fault.ViewerFault.{ViewerFault}
@@ -21,12 +22,14 @@ no_answer a e is = absurd cc
 
 module _ {A : Type 0} where
   -- how an engine of an end that had failed may answer
-  abbrev pub Unfed : EngineFault → Result A EngineFault → Option (List ℕ) → Option (List ℕ) → Result A EngineFault → Type 0
+  abbrev pub Unfed : EngineFault → Result A EngineFault → Option (List ℕ) → Option (List ℕ) → Result A EngineFault
+      → Type 0
   Unfed own ended unread left result =
       (result ≡ Err own) ⊎ (Consumes unread left [] × ((result ≡ Err Device) ⊎ (result ≡ ended)))
 
   -- it is no other answer
-  pub not_fed : (own : EngineFault) (ended : Result A EngineFault) (unread left : Option (List ℕ)) (r : Result A EngineFault) (a : A) →
+  pub not_fed : (own : EngineFault) (ended : Result A EngineFault) (unread left : Option (List ℕ))
+      (r : Result A EngineFault) (a : A) →
       r ≡ Ok a → (ended ≡ Ok a → ⊥) → Unfed own ended unread left r → ⊥
   not_fed own ended unread left r a is not (inl e) = absurd (one e)
     where
@@ -60,7 +63,8 @@ module _ {A B : Type 0} where
       never : fails_with A fault ≡ Ok a → ⊥
       never e = absurd cc
 
-pub unread_then : {A : Type 0} (own : EngineFault) (ended : Result A EngineFault) (old mid new : Option (List ℕ)) (a : A) →
+pub unread_then : {A : Type 0} (own : EngineFault) (ended : Result A EngineFault) (old mid new : Option (List ℕ))
+    (a : A) →
     Consumes old mid [] → Unfed own ended mid new (Ok a) → Consumes old new []
 unread_then own ended old mid new a none (inl e) = absurd (never e)
   where

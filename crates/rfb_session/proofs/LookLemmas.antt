@@ -1,11 +1,15 @@
 -- What an engine does with a viewer that it asks for updates, read by read.
-use Rattle.std.proofs.Common.{◌≡◌, ℕ, ◌+◌, ◌-◌, ◌^◌, ◌<◌, ◌≤◌, Bool, true, List, [], ◌++◌, Option, Some, None, Result, Ok, Err, IfErr, length, take, drop, refl, sym, ap, ◌∙◌, subst, append_assoc, append-nil, take-append-drop, length-append, length-take-le, arith, inl, inr}
+use Rattle.std.proofs.Common.{◌≡◌, ℕ, ◌+◌, ◌-◌, ◌^◌, ◌<◌, ◌≤◌, Bool, true, List, [], ◌++◌, Option}
+use Rattle.std.proofs.Common.{Some, None, Result, Ok, Err, IfErr, length, take, drop, refl, sym, ap}
+use Rattle.std.proofs.Common.{◌∙◌, subst, append_assoc, append-nil, take-append-drop, length-append}
+use Rattle.std.proofs.Common.{length-take-le, arith, inl, inr}
 use Rattle.std.specs.Io.KnownBytes.{Consumes, Keeps, IsAtEnd}
 use Rattle.std.proofs.KnownBytes.{Appends-nil, Appends-trans, Consumes-nil, Consumes-trans, Consumes-kept}
 use Rattle.rfb_viewer.specs.declared.viewer.Viewer.{Viewer}
 use Rattle.rfb_session.specs.declared.engine.fault.EngineFault.{EngineFault}
 use Rattle.rfb_session.specs.declared.engine.fault.EngineFault.TheVariants.{Server as ServerEnded, Viewer as ViewerEnded, Truncated, Device, NoMemory as EngineNoMemory}
-use Rattle.rfb_session.specs.ViewEngine.{RunsInTurn, HasViewed, HasMissed, ViewedSome, StopsViewing, KeepsLast, KeepsFirst}
+use Rattle.rfb_session.specs.ViewEngine.{RunsInTurn, HasViewed, HasMissed, ViewedSome, StopsViewing}
+use Rattle.rfb_session.specs.ViewEngine.{KeepsLast, KeepsFirst}
 use Rattle.rfb_session.specs.Looking.{due_until, Looks, HasLooked, StopsLooking}
 use Rattle.rfb_session.proofs.WrittenLemmas.{rest_is, whole_beginning}
 use Rattle.rfb_session.proofs.PlayLemmas.{none_left}
@@ -129,24 +133,25 @@ module _ {D : Type 0} (writing : Writing D) (joins : Joins writing) where
       LooksSoFar writing old bytes rest left mid before w blank k last → 0 < mid → failed_mid ≡ failing →
       StopsLooking writing last rest w after k copied failed_mid failed fault new →
       StopsLooking writing old bytes before after blank copied failing failed fault new
-  looking_stops old bytes rest left mid before w after blank k copied last fb fm failed (ViewerEnded fault) new was some same stops = record {
-    fed = was.fed ++ stops.fed;
-    slice = stops.slice;
-    sent = was.looks.sent ++ stops.sent;
-    updates = was.looks.updates + stops.updates;
-    last = stops.last;
-    bytes_are = all_parts bytes was.fed rest stops.fed stops.slice was.bytes_are stops.bytes_are;
-    runs = turn_then old last stops.last was.fed was.looks.sent stops.fed stops.sent
-        was.looks.updates stops.updates None
-        (open_turn old last was.fed was.looks.sent was.looks.updates mid some was.looks.runs) stops.runs;
-    wrote = joins.then before w after was.looks.sent stops.sent was.looks.wrote stops.wrote;
-    kept = (
-      stops.kept.0,
-      Appends-trans blank k stops.kept.0 was.fed stops.fed was.looks.kept stops.kept.1,
-      subst (λ (n : ℕ). KeepsLast stops.kept.0 copied stops.slice n failed) same stops.kept.2,
-    );
-    ends = stops.ends;
-  }
+  looking_stops old bytes rest left mid before w after blank k copied last fb fm failed (ViewerEnded fault) new was
+      some same stops = record {
+        fed = was.fed ++ stops.fed;
+        slice = stops.slice;
+        sent = was.looks.sent ++ stops.sent;
+        updates = was.looks.updates + stops.updates;
+        last = stops.last;
+        bytes_are = all_parts bytes was.fed rest stops.fed stops.slice was.bytes_are stops.bytes_are;
+        runs = turn_then old last stops.last was.fed was.looks.sent stops.fed stops.sent
+            was.looks.updates stops.updates None
+            (open_turn old last was.fed was.looks.sent was.looks.updates mid some was.looks.runs) stops.runs;
+        wrote = joins.then before w after was.looks.sent stops.sent was.looks.wrote stops.wrote;
+        kept = (
+          stops.kept.0,
+          Appends-trans blank k stops.kept.0 was.fed stops.fed was.looks.kept stops.kept.1,
+          subst (λ (n : ℕ). KeepsLast stops.kept.0 copied stops.slice n failed) same stops.kept.2,
+        );
+        ends = stops.ends;
+      }
   looking_stops old bytes rest left mid before w after blank k copied last fb fm failed Device new was some same stops =
       let cut = stops.1 in (
         subst (λ (n : ℕ). failed ≡ n + 1) same stops.0,
@@ -167,9 +172,12 @@ module _ {D : Type 0} (writing : Writing D) (joins : Joins writing) where
               some cut.first;
         },
       )
-  looking_stops old bytes rest left mid before w after blank k copied last fb fm failed (ServerEnded fault) new was some same stops = absurd stops
-  looking_stops old bytes rest left mid before w after blank k copied last fb fm failed Truncated new was some same stops = absurd stops
-  looking_stops old bytes rest left mid before w after blank k copied last fb fm failed EngineNoMemory new was some same stops = absurd stops
+  looking_stops old bytes rest left mid before w after blank k copied last fb fm failed (ServerEnded fault) new was
+      some same stops = absurd stops
+  looking_stops old bytes rest left mid before w after blank k copied last fb fm failed Truncated new was some same
+      stops = absurd stops
+  looking_stops old bytes rest left mid before w after blank k copied last fb fm failed EngineNoMemory new was some
+      same stops = absurd stops
 
 -- ---- all reads
 

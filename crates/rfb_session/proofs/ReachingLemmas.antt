@@ -1,5 +1,7 @@
 -- Bytes that reach the ends of a link, as runs of these ends.
-use Rattle.std.proofs.Common.{◌≡◌, ◌≢◌, ℕ, ◌+◌, ◌-◌, ◌≤◌, ◌<◌, Bool, true, false, ◌||◌, List, [], ◌++◌, length, take, drop, drop-drop, Option, None, Some, ◌⊎◌, inl, inr, refl, sym, ap, ◌∙◌, subst, append-nil, append_assoc, arith}
+use Rattle.std.proofs.Common.{◌≡◌, ◌≢◌, ℕ, ◌+◌, ◌-◌, ◌≤◌, ◌<◌, Bool, true, false, ◌||◌, List, []}
+use Rattle.std.proofs.Common.{◌++◌, length, take, drop, drop-drop, Option, None, Some, ◌⊎◌, inl}
+use Rattle.std.proofs.Common.{inr, refl, sym, ap, ◌∙◌, subst, append-nil, append_assoc, arith}
 use Rattle.std.proofs.Math.Seq.{take-add}
 use Rattle.rfb_pixel.specs.declared.colour.Colour.{Colour}
 use Rattle.rfb_picture.specs.Grid.{Grid}
@@ -49,7 +51,8 @@ heard_none w = record {
 
 -- one call
 pub heard_once : (old new : Link) (bytes : List ℕ) (count used : ℕ) (sole : Bool) (event : Option ServerTold) →
-    session_fault old.session ≡ None → count ≤ length old.to_server → bytes ≡ take count old.to_server → used ≤ length bytes →
+    session_fault old.session ≡ None → count ≤ length old.to_server → bytes ≡ take count old.to_server → used ≤
+    length bytes →
     ((serving : Serving) (screen : Grid Colour) → FedBy (server serving) (SessionStandsFor serving screen)
     old.session (take used bytes) event new.session) →
     new.viewer ≡ old.viewer → new.to_server ≡ drop used old.to_server →
@@ -62,7 +65,8 @@ heard_once old new bytes count used sole event going few is some fed same gets s
       asked = asked;
       failed = λ some. absurd (some going);
       hears = subst (λ (b : List ℕ). HearsOver old.session b (server_reply event) (sole_told event) new.session) part.1
-          (λ screen. feeds_once (session_driven screen) old.session new.session (take used bytes) event (λ serving. fed serving screen));
+          (λ screen. feeds_once (session_driven screen) old.session new.session (take used bytes) event
+          (λ serving. fed serving screen));
       gone = gets;
       answered = sends;
       viewer = same;
@@ -78,13 +82,16 @@ heard_more a b c k j p q one two = record {
   sent = one.sent ++ two.sent;
   soles = one.soles + two.soles;
   asked = sole_sum p q one.soles two.soles one.asked two.asked;
-  failed = λ some. subst (λ (bytes : List ℕ). TakesNone a.session bytes (one.sent ++ two.sent) (one.soles + two.soles) c.session)
+  failed = λ some. subst (λ (bytes : List ℕ). TakesNone a.session bytes (one.sent ++ two.sent)
+      (one.soles + two.soles) c.session)
       (sym (take-add k j a.to_server ∙ ap (λ (rest : List ℕ). take k a.to_server ++ take j rest) (sym one.gone)))
-      (takes_none_then a.session b.session c.session (take k a.to_server) one.sent (take j b.to_server) two.sent one.soles two.soles
+      (takes_none_then a.session b.session c.session (take k a.to_server) one.sent (take j b.to_server) two.sent
+      one.soles two.soles
       (one.failed some) (two.failed (still_failed a.session b.session (one.failed some).same some)));
   hears = subst (λ (bytes : List ℕ). HearsOver a.session bytes (one.sent ++ two.sent) (one.soles + two.soles) c.session)
       (sym (take-add k j a.to_server ∙ ap (λ (rest : List ℕ). take k a.to_server ++ take j rest) (sym one.gone)))
-      (λ screen. feeds_then (session_driven screen) a.session b.session c.session (take k a.to_server) one.sent (take j b.to_server) two.sent one.soles two.soles (one.hears screen) (two.hears screen));
+      (λ screen. feeds_then (session_driven screen) a.session b.session c.session (take k a.to_server) one.sent
+      (take j b.to_server) two.sent one.soles two.soles (one.hears screen) (two.hears screen));
   gone = two.gone ∙ ap (λ (rest : List ℕ). drop j rest) one.gone ∙ drop-drop j k a.to_server;
   answered = two.answered ∙ ap (λ (l : List ℕ). l ++ two.sent) one.answered ∙ append_assoc a.to_viewer one.sent two.sent;
   viewer = two.viewer ∙ one.viewer;
@@ -104,8 +111,10 @@ heard_ends a b c k j p q one two = record {
       ∙ ap (λ (rest : List ℕ). take k a.to_server ++ take j rest) (sym one.gone)
       ∙ ap (λ (rest : List ℕ). take k a.to_server ++ rest) two.bytes_are
       ∙ sym (append_assoc (take k a.to_server) two.fed two.later);
-  hears = λ screen. feeds_then (session_driven screen) a.session b.session two.last (take k a.to_server) one.sent two.fed two.sent one.soles two.soles (one.hears screen) (two.hears screen);
-  failed = λ some. takes_none_then a.session b.session two.last (take k a.to_server) one.sent two.fed two.sent one.soles two.soles
+  hears = λ screen. feeds_then (session_driven screen) a.session b.session two.last (take k a.to_server) one.sent
+      two.fed two.sent one.soles two.soles (one.hears screen) (two.hears screen);
+  failed = λ some. takes_none_then a.session b.session two.last (take k a.to_server) one.sent two.fed two.sent
+      one.soles two.soles
       (one.failed some) (two.failed (still_failed a.session b.session (one.failed some).same some));
   ends = two.ends;
   gone = two.gone ∙ ap (λ (rest : List ℕ). drop j rest) one.gone ∙ drop-drop j k a.to_server;
@@ -217,7 +226,8 @@ watched_once old new bytes count used event going few is some fed same gets send
       sent = viewer_reply event;
       updates = ends_told event;
       failed = λ some. absurd (some going);
-      watches = subst (λ (b : List ℕ). ViewerFeeds old.viewer b (viewer_reply event) (ends_told event) new.viewer) part.1
+      watches = subst (λ (b : List ℕ). ViewerFeeds old.viewer b (viewer_reply event) (ends_told event) new.viewer)
+          part.1
           (feeds_once viewer_driven old.viewer new.viewer (take used bytes) event fed);
       gone = gets;
       answered = sends;
@@ -233,13 +243,17 @@ pub watched_more : (a b c : Link) (k j : ℕ) → HasWatched a k b → HasWatche
 watched_more a b c k j one two = record {
   sent = one.sent ++ two.sent;
   updates = one.updates + two.updates;
-  failed = λ some. subst (λ (bytes : List ℕ). TakesNone a.viewer bytes (one.sent ++ two.sent) (one.updates + two.updates) c.viewer)
+  failed = λ some. subst (λ (bytes : List ℕ). TakesNone a.viewer bytes (one.sent ++ two.sent)
+      (one.updates + two.updates) c.viewer)
       (sym (take-add k j a.to_viewer ∙ ap (λ (rest : List ℕ). take k a.to_viewer ++ take j rest) (sym one.gone)))
-      (takes_none_then a.viewer b.viewer c.viewer (take k a.to_viewer) one.sent (take j b.to_viewer) two.sent one.updates two.updates
+      (takes_none_then a.viewer b.viewer c.viewer (take k a.to_viewer) one.sent (take j b.to_viewer) two.sent
+      one.updates two.updates
       (one.failed some) (two.failed (still_broken a.viewer b.viewer (one.failed some).same some)));
-  watches = subst (λ (bytes : List ℕ). ViewerFeeds a.viewer bytes (one.sent ++ two.sent) (one.updates + two.updates) c.viewer)
+  watches = subst (λ (bytes : List ℕ). ViewerFeeds a.viewer bytes (one.sent ++ two.sent)
+      (one.updates + two.updates) c.viewer)
       (sym (take-add k j a.to_viewer ∙ ap (λ (rest : List ℕ). take k a.to_viewer ++ take j rest) (sym one.gone)))
-      (feeds_then viewer_driven a.viewer b.viewer c.viewer (take k a.to_viewer) one.sent (take j b.to_viewer) two.sent one.updates two.updates one.watches two.watches);
+      (feeds_then viewer_driven a.viewer b.viewer c.viewer (take k a.to_viewer) one.sent (take j b.to_viewer)
+      two.sent one.updates two.updates one.watches two.watches);
   gone = two.gone ∙ ap (λ (rest : List ℕ). drop j rest) one.gone ∙ drop-drop j k a.to_viewer;
   answered = two.answered ∙ ap (λ (l : List ℕ). l ++ two.sent) one.answered ∙ append_assoc a.to_server one.sent two.sent;
   session = two.session ∙ one.session;
@@ -258,8 +272,10 @@ watched_ends a b c k j one two = record {
       ∙ ap (λ (rest : List ℕ). take k a.to_viewer ++ take j rest) (sym one.gone)
       ∙ ap (λ (rest : List ℕ). take k a.to_viewer ++ rest) two.bytes_are
       ∙ sym (append_assoc (take k a.to_viewer) two.fed two.later);
-  watches = feeds_then viewer_driven a.viewer b.viewer two.last (take k a.to_viewer) one.sent two.fed two.sent one.updates two.updates one.watches two.watches;
-  failed = λ some. takes_none_then a.viewer b.viewer two.last (take k a.to_viewer) one.sent two.fed two.sent one.updates two.updates
+  watches = feeds_then viewer_driven a.viewer b.viewer two.last (take k a.to_viewer) one.sent two.fed two.sent
+      one.updates two.updates one.watches two.watches;
+  failed = λ some. takes_none_then a.viewer b.viewer two.last (take k a.to_viewer) one.sent two.fed two.sent
+      one.updates two.updates
       (one.failed some) (two.failed (still_broken a.viewer b.viewer (one.failed some).same some));
   ends = two.ends;
   gone = two.gone ∙ ap (λ (rest : List ℕ). drop j rest) one.gone ∙ drop-drop j k a.to_viewer;

@@ -19,7 +19,9 @@ use Rattle.rfb_session.specs.declared.engine.fault.EngineFault.{EngineFault}
 use Rattle.rfb_session.specs.declared.engine.fault.EngineFault.TheVariants.{Server as ServerEnded, Viewer as ViewerEnded, Truncated, Device, NoMemory as EngineNoMemory}
 use Rattle.rfb_session.specs.InFlight.{server_reply}
 use Rattle.rfb_session.specs.EngineRun.{Did}
-use Rattle.rfb_session.specs.ServeEngine.{Composed, Drawn, server_driven, ServerRuns, Hears, IsIdle, RunsToIdle, IsHeard, IsUpdated, IsCutOff, IsEnded, IsEndedBy, StopsHearing}
+use Rattle.rfb_session.specs.ServeEngine.{Composed, Drawn, server_driven, ServerRuns, Hears, IsIdle}
+use Rattle.rfb_session.specs.ServeEngine.{RunsToIdle, IsHeard, IsUpdated, IsCutOff, IsEnded}
+use Rattle.rfb_session.specs.ServeEngine.{IsEndedBy, StopsHearing}
 use Rattle.rfb_session.specs.Turns.{IsAnswered, IsAnsweredBy, Showing, EndsTurn}
 use Rattle.rfb_session.specs.Wire.{Writing, by_bytes}
 use Rattle.rfb_session.proofs.WrittenLemmas.{rest_is}
@@ -155,7 +157,8 @@ heard_of old bytes before after new answered = record {
 }
 
 module _ {D : Type 0} where
-  pub record HeardBy (writing : Writing D) (old : Server) (bytes rest : List ℕ) (before after : D) (now : Server) : Type 0 where
+  pub record HeardBy (writing : Writing D) (old : Server) (bytes rest : List ℕ) (before after : D) (now : Server) :
+      Type 0 where
     pub fed : List ℕ
     pub sent : List ℕ
     pub bytes_are : bytes ≡ fed ++ rest
@@ -257,7 +260,8 @@ module _ {D : Type 0} (writing : Writing D) (joins : Joins writing) where
     sent = was.sent ++ stops.sent;
     last = stops.last;
     bytes_are = all_parts bytes was.fed rest stops.fed stops.slice was.bytes_are stops.bytes_are;
-    hears = feeds_then server_driven old last stops.last was.fed was.sent stops.fed stops.sent 0 0 was.hears stops.hears;
+    hears = feeds_then server_driven old last stops.last was.fed was.sent stops.fed stops.sent 0 0 was.hears
+        stops.hears;
     wrote = joins.then before mid after was.sent stops.sent was.wrote stops.wrote;
     ends = stops.ends;
   }

@@ -1,13 +1,20 @@
 -- What is known of a wire after a turn of a server's engine.
-use Rattle.std.proofs.Common.{◌≡◌, ℕ, zero, suc, ◌+◌, ◌-◌, ◌^◌, ◌≤◌, min, List, [], Option, refl, sym, ◌∙◌, subst, inl, inr}
+use Rattle.std.proofs.Common.{◌≡◌, ℕ, zero, suc, ◌+◌, ◌-◌, ◌^◌, ◌≤◌, min, List, [], Option, refl}
+use Rattle.std.proofs.Common.{sym, ◌∙◌, subst, inl, inr}
 use Rattle.std.specs.Io.KnownBytes.{Consumes}
 use Rattle.rfb_server.specs.declared.server.Server.{Server}
 use Rattle.rfb_session.specs.declared.engine.fault.EngineFault.{EngineFault}
-use Rattle.rfb_session.specs.declared.engine.fault.EngineFault.TheVariants.{Server as ServerEnded, Viewer as ViewerEnded, Truncated, Device, NoMemory}
+use Rattle.rfb_session.specs.declared.engine.fault.EngineFault.TheVariants.{Server as ServerEnded}
+use Rattle.rfb_session.specs.declared.engine.fault.EngineFault.TheVariants.{Viewer as ViewerEnded}
+use Rattle.rfb_session.specs.declared.engine.fault.EngineFault.TheVariants.{Truncated, Device}
+use Rattle.rfb_session.specs.declared.engine.fault.EngineFault.TheVariants.{NoMemory}
 use Rattle.rfb_session.specs.Playing.{most}
 use Rattle.rfb_session.specs.ServeEngine.{StopsHearing, StopsUpdating}
-use Rattle.rfb_session.specs.ServeOrder.{TurnOver, TurnsOver, NoTurn, NextTurn, TurnsToEnd, StopsTurnOver, MissesRead, StopsInHearing, StopsInUpdating, StopsAfterTurns}
-use Rattle.rfb_session.specs.Turns.{Showing, IsAnswered, IsAnsweredBy, EndsTurn, Turns, TurnsNoMore, StopsTurn, FailsToRead, FailsToHear, FailsToUpdate}
+use Rattle.rfb_session.specs.ServeOrder.{TurnOver, TurnsOver, NoTurn, NextTurn, TurnsToEnd}
+use Rattle.rfb_session.specs.ServeOrder.{StopsTurnOver, MissesRead, StopsInHearing, StopsInUpdating}
+use Rattle.rfb_session.specs.ServeOrder.{StopsAfterTurns}
+use Rattle.rfb_session.specs.Turns.{Showing, IsAnswered, IsAnsweredBy, EndsTurn, Turns, TurnsNoMore}
+use Rattle.rfb_session.specs.Turns.{StopsTurn, FailsToRead, FailsToHear, FailsToUpdate}
 use Rattle.rfb_session.specs.Wire.{Came, Ended, Missed, Known, KeepsReads, Stepping, by_bytes, by_steps}
 use Rattle.rfb_session.proofs.ServingLemmas.{goes_on}
 use Rattle.rfb_session.proofs.WireLemmas.{Telling, keeps_then, all_known, some_known}
@@ -248,7 +255,8 @@ module _ {W X : Type 0} where
   }
 
   pub order_stops : (steps : Stepping W) (known : W → Known) (shows : Showing X) (before : W) (old : Server) (scene : X)
-      (turns told : ℕ) (mid : W) (between : Server) (then : X) (fault : EngineFault) (after : W) (new : Server) (last : X) →
+      (turns told : ℕ) (mid : W) (between : Server) (then : X) (fault : EngineFault) (after : W) (new : Server)
+      (last : X) →
       InOrderSoFar steps shows before old scene turns told mid between then → last ≡ then →
       StopsTurnOver steps known mid between fault after new →
       StopsAfterTurns steps known shows before old scene fault after new last

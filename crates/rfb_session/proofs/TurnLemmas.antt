@@ -14,7 +14,8 @@ pub few_taken : (n : ℕ) (buf : List ℕ) → n ≤ length buf → length buf �
 few_taken n buf within size = omega (arith, within, size, length-take-le n buf within)
 
 -- what holds of the updates of a turn, if it is one
-pub turned_by : (turned : Option ℕ) (more : ℕ) (Holds : ℕ → Type 0) → turned ≡ Some more → IfSome turned Holds → Holds more
+pub turned_by : (turned : Option ℕ) (more : ℕ) (Holds : ℕ → Type 0) → turned ≡ Some more → IfSome turned Holds →
+    Holds more
 turned_by turned more Holds is holds = subst (λ (o : Option ℕ). IfSome o Holds) is holds
 
 -- a composing of nothing appends nothing, whatever was there

@@ -3,10 +3,14 @@ use Rattle.std.proofs.Common.{◌≡◌, ℕ, ◌+◌, ◌-◌, ◌^◌, ◌<◌
 use Rattle.std.specs.Io.KnownBytes.{Consumes}
 use Rattle.rfb_viewer.specs.declared.viewer.Viewer.{Viewer}
 use Rattle.rfb_session.specs.declared.engine.fault.EngineFault.{EngineFault}
-use Rattle.rfb_session.specs.declared.engine.fault.EngineFault.TheVariants.{Server as ServerEnded, Viewer as ViewerEnded, Truncated, Device, NoMemory}
+use Rattle.rfb_session.specs.declared.engine.fault.EngineFault.TheVariants.{Server as ServerEnded}
+use Rattle.rfb_session.specs.declared.engine.fault.EngineFault.TheVariants.{Viewer as ViewerEnded}
+use Rattle.rfb_session.specs.declared.engine.fault.EngineFault.TheVariants.{Truncated, Device}
+use Rattle.rfb_session.specs.declared.engine.fault.EngineFault.TheVariants.{NoMemory}
 use Rattle.rfb_session.specs.Looking.{HasLooked, StopsLooking}
 use Rattle.rfb_session.specs.ViewEngine.{KeepsFirst}
-use Rattle.rfb_session.specs.ViewOrder.{LookOver, LooksOver, StopsLookOver, EndsTooEarly, MissesLook, StopsInLooking, StopsViewInOrder}
+use Rattle.rfb_session.specs.ViewOrder.{LookOver, LooksOver, StopsLookOver, EndsTooEarly}
+use Rattle.rfb_session.specs.ViewOrder.{MissesLook, StopsInLooking, StopsViewInOrder}
 use Rattle.rfb_session.specs.Wire.{Came, Ended, Missed, Known, KeepsReads, Stepping, by_bytes, by_steps}
 use Rattle.rfb_session.proofs.ServeOrderLemmas.{NoneFailed, Quiet, came_first}
 use Rattle.rfb_session.proofs.WireLemmas.{Telling, all_known, some_known}

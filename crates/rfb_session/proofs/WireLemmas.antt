@@ -1,9 +1,11 @@
 -- What was written to a wire, step by step, and what is known of it then.
-use Rattle.std.proofs.Common.{◌≡◌, ℕ, ◌-◌, List, [], ◌++◌, Option, take, drop, length, refl, sym, ap, ◌∙◌, subst, append_assoc, append-nil, inl, inr, take-append-drop}
+use Rattle.std.proofs.Common.{◌≡◌, ℕ, ◌-◌, List, [], ◌++◌, Option, take, drop, length, refl, sym}
+use Rattle.std.proofs.Common.{ap, ◌∙◌, subst, append_assoc, append-nil, inl, inr, take-append-drop}
 use Rattle.std.specs.Io.KnownBytes.{Appends}
 use Rattle.std.proofs.KnownBytes.{Appends-nil, Appends-trans}
 use Rattle.rfb_session.specs.Devices.{AppendsBeginning, AppendsUpTo}
-use Rattle.rfb_session.specs.Wire.{WireStep, Went, Refused, Known, KeepsReads, Tells, Stepping, Sends, Nothing, Then, SendsSome, Writing, by_bytes, by_steps}
+use Rattle.rfb_session.specs.Wire.{WireStep, Went, Refused, Known, KeepsReads, Tells, Stepping}
+use Rattle.rfb_session.specs.Wire.{Sends, Nothing, Then, SendsSome, Writing, by_bytes, by_steps}
 use Rattle.rfb_session.proofs.WrittenLemmas.{rest_is, then_stopped, no_beginning}
 
 -- ---- how writings follow one another

@@ -95,8 +95,8 @@ pub fn view<R: Source, W: Sink>(
 }
 
 /// `view` that also writes to `kept` the server's bytes as they came, those that the viewer was fed
-/// and no others, and before it answers them. So `play` of them ends as this does. Where the server does wrong, the bytes of
-/// that read after the others are there too, unless writing them fails.
+/// and no others, and before it answers them. So `play` of them ends as this does. Where the server
+/// does wrong, the bytes of that read after the others are there too, unless writing them fails.
 pub fn view_recording<R: Source, W: Sink, K: Sink>(
     source: &mut R,
     sink: &mut W,

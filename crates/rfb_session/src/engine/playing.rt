@@ -28,8 +28,9 @@ pub fn play<R: Source>(source: &mut R, viewer: &mut Viewer) -> Result<u64, Engin
         (R.unread source.old) (R.unread source.new) (R.failed source.old) (R.failed source.new)
         viewer.old fault viewer.new) }
     // Of a viewer that had failed.
-    ensures failed { StaysUnfed (λ f. EngineFault.Viewer f) (Err EngineFault.Truncated) (fault_of viewer.old)
-        (R.unread source.old) (R.unread source.new) viewer.old result viewer.new }
+    ensures failed { StaysUnfed (λ f. EngineFault.Viewer f) (Err EngineFault.Truncated)
+        (fault_of viewer.old) (R.unread source.old) (R.unread source.new)
+        viewer.old result viewer.new }
     // All of the bytes are answered by their verdict.
     ensures verdict { JudgesAll (R.unread source.old) (R.failed source.old) (R.failed source.new)
         viewer.old result viewer.new }

@@ -36,8 +36,9 @@ pub fn play_some<R: Source>(
         (R.unread source.old) (R.unread source.new) (R.failed source.old) (R.failed source.new)
         viewer.old updates fault viewer.new) }
     // Of a viewer that had failed.
-    ensures failed { StaysUnfed (λ f. EngineFault.Viewer f) (Err EngineFault.Truncated) (fault_of viewer.old)
-        (R.unread source.old) (R.unread source.new) viewer.old result viewer.new }
+    ensures failed { StaysUnfed (λ f. EngineFault.Viewer f) (Err EngineFault.Truncated)
+        (fault_of viewer.old) (R.unread source.old) (R.unread source.new)
+        viewer.old result viewer.new }
 {
     match feed_some(source, viewer, updates) {
         Ok(told) => {

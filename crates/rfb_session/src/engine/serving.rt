@@ -62,8 +62,9 @@ pub fn serve_over<W: Wire, S: Scene>(
         (W.known wire.old).written (W.known wire.new).written
         (W.known wire.old).failed_writes (W.known wire.new).failed_writes
         server.old scene.old fault server.new scene.new) }
-    ensures failed { StaysUnfed (λ f. EngineFault.Server f) (Err EngineFault.Truncated) (fault_of server.old)
-        (W.known wire.old).unread (W.known wire.new).unread server.old result server.new }
+    ensures failed { StaysUnfed (λ f. EngineFault.Server f) (Err EngineFault.Truncated)
+        (fault_of server.old) (W.known wire.old).unread (W.known wire.new).unread
+        server.old result server.new }
     ensures same_references { (W.known wire.new).lent ≡ (W.known wire.old).lent }
 {
     let greeting = server.greeting();

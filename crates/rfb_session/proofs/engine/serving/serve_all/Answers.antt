@@ -7,8 +7,11 @@ use Rattle.rfb_session.specs.declared.engine.fault.EngineFault.TheVariants.{Serv
 use Rattle.rfb_session.specs.ServeOrder.{TurnOver}
 use Rattle.rfb_session.proofs.FailedLemmas.{none_then, not_fed, some_turns, unfed_then}
 use Rattle.rfb_session.proofs.ServingLemmas.{serving_none, serving_out}
-use Rattle.rfb_session.proofs.ServeOrderLemmas.{end_known, none_failed_then, order_ends, order_more, order_none, order_out, order_stops, stop_known, turn_known}
-use Rattle.rfb_session.proofs.TurnLemmas.{turned_by, turns_none, turns_more, turns_end, turns_stop, served_more, served_end, served_stop}
+use Rattle.rfb_session.proofs.ServeOrderLemmas.{end_known, none_failed_then, order_ends, order_more}
+use Rattle.rfb_session.proofs.ServeOrderLemmas.{order_none, order_out, order_stops, stop_known}
+use Rattle.rfb_session.proofs.ServeOrderLemmas.{turn_known}
+use Rattle.rfb_session.proofs.TurnLemmas.{turned_by, turns_none, turns_more, turns_end, turns_stop}
+use Rattle.rfb_session.proofs.TurnLemmas.{served_more, served_end, served_stop}
 use Rattle.rfb_session.proofs.engine.serving.serve_all.Goals as goal
 
 none_some : (n : ℕ) (r : Result (Option ℕ) EngineFault) → r ≡ Ok None → r ≡ Ok (Some n) → ⊥

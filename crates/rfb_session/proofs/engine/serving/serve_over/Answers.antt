@@ -1,4 +1,5 @@
-use Rattle.std.proofs.Common.{◌∙◌, List, ℕ, Option, refl, sym, subst, arith, ◌≢◌, Bool, Err, None, Ok, Some, ap, false, inl, inr, true, ◌≡◌}
+use Rattle.std.proofs.Common.{◌∙◌, List, ℕ, Option, refl, sym, subst, arith, ◌≢◌, Bool, Err, None}
+use Rattle.std.proofs.Common.{Ok, Some, ap, false, inl, inr, true, ◌≡◌}
 use Rattle.rfb_server.specs.declared.fault.ServerFault.{ServerFault}
 use Rattle.rfb_server.specs.declared.server.Server.{Server}
 use Rattle.rfb_server.specs.Standing.{fault_of}

@@ -1,4 +1,5 @@
-use Rattle.std.proofs.Common.{◌≡◌, ◌∙◌, ◌<◌, ◌≤◌, ◌+◌, ◌-◌, ◌^◌, ℕ, List, Option, take, length, refl, sym, subst, inl, inr, arith, rules, ap}
+use Rattle.std.proofs.Common.{◌≡◌, ◌∙◌, ◌<◌, ◌≤◌, ◌+◌, ◌-◌, ◌^◌, ℕ, List, Option, take, length}
+use Rattle.std.proofs.Common.{refl, sym, subst, inl, inr, arith, rules, ap}
 use Rattle.std.proofs.KnownBytes.{Consumes-nil}
 use Rattle.rfb_viewer.specs.declared.viewer.Viewer.{Viewer}
 use Rattle.rfb_viewer.specs.Standing.{fault_of}
@@ -9,7 +10,9 @@ use Rattle.rfb_session.specs.ViewOrder.{LookOver, NextLook, NoLook}
 use Rattle.rfb_session.specs.Wire.{Came, Ended, Missed, by_steps}
 use Rattle.rfb_session.proofs.FailedLemmas.{err_as, no_answer, none_kept, none_then, some_turns}
 use Rattle.rfb_session.proofs.PlayLemmas.{some_taken}
-use Rattle.rfb_session.proofs.LookLemmas.{few_taken, viewing_none, viewing_more, viewing_ends, viewing_misses, viewing_out, viewing_unread, looking_fails}
+use Rattle.rfb_session.proofs.LookLemmas.{few_taken, viewing_none, viewing_more, viewing_ends}
+use Rattle.rfb_session.proofs.LookLemmas.{viewing_misses, viewing_out, viewing_unread}
+use Rattle.rfb_session.proofs.LookLemmas.{looking_fails}
 use Rattle.rfb_session.proofs.ServeOrderLemmas.{none_failed_then}
 use Rattle.rfb_session.proofs.ViewOrderLemmas.{cut_known, look_known, view_cut, view_ends, view_misses}
 use Rattle.rfb_session.proofs.engine.viewing.view_over.Goals as goal

@@ -16,7 +16,8 @@ loop-rest-preserved g c =
     record {
       sent = part_sent g.W.Wire.steps c.args.wire.now l.wire c.write.new.self c.args.bytes.now l.rest.now
           c.in-Ok.sent l.invariant.sent step;
-      none_failed = (g.met.W.Wire.tells l.wire c.write.new.self (Went (take c.in-Ok.sent l.rest.now)) step).2 ∙ l.invariant.none_failed;
+      none_failed = (g.met.W.Wire.tells l.wire c.write.new.self (Went (take c.in-Ok.sent l.rest.now)) step).2 ∙
+          l.invariant.none_failed;
     }
 
 pub returns-in_default-clause-stopped : goal.returns-in_default-clause-stopped

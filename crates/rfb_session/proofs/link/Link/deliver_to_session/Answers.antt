@@ -25,12 +25,14 @@ pub returns-clause-sole : goal.returns-clause-sole
 returns-clause-sole c =
     subst (λ (k : ℕ). TellsSole c.args.self.now k c.in_ok-sole.sole c.deliver_to_server.new.self)
     (sym c.told_moved.ensures.moved)
-    (heard_tells c.args.self.now c.deliver_to_server.new.self c.min-moved.result c.in_ok-sole.sole c.in_ok-sole.ensures.reached)
+    (heard_tells c.args.self.now c.deliver_to_server.new.self c.min-moved.result c.in_ok-sole.sole
+    c.in_ok-sole.ensures.reached)
 
 pub returns-clause-failed : goal.returns-clause-failed
 returns-clause-failed c = λ some.
     deaf_sole c.args.self.now c.deliver_to_server.new.self c.min-moved.result c.in_ok-sole.sole
-    (heard_tells c.args.self.now c.deliver_to_server.new.self c.min-moved.result c.in_ok-sole.sole c.in_ok-sole.ensures.reached)
+    (heard_tells c.args.self.now c.deliver_to_server.new.self c.min-moved.result c.in_ok-sole.sole
+    c.in_ok-sole.ensures.reached)
     some
 
 pub returns-clause-lost : goal.returns-clause-lost

@@ -75,7 +75,8 @@ returns-in_ok-send-in-Ok-clause-bytes c = (
 pub returns-in-Err-clause-bytes : goal.returns-in-Err-clause-bytes
 returns-in-Err-clause-bytes c = (
   sends_none (PointerEvent c.args.buttons c.args.x c.args.y)
-      (pointer_message c.args.buttons c.args.x c.args.y) (λ s. s) _ c.in-Err.fault c.args.self.now _ c.told_refused.result
+      (pointer_message c.args.buttons c.args.x c.args.y) (λ s. s) _ c.in-Err.fault c.args.self.now _
+      c.told_refused.result
       c.told_refused.ensures.refused c.in-Err.ensures.refuses,
   refl,
 )

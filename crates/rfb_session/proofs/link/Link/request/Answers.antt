@@ -84,5 +84,6 @@ returns-in_ok-send-in-Ok-clause-bytes c =
 pub returns-in-Err-clause-bytes : goal.returns-in-Err-clause-bytes
 returns-in-Err-clause-bytes c =
     sends_none (FramebufferUpdateRequest c.args.incremental c.args.rect)
-    (request_message c.args.incremental c.args.rect) (λ s. requested s) _ c.in-Err.fault c.args.self.now _ c.told_refused.result
+    (request_message c.args.incremental c.args.rect) (λ s. requested s) _ c.in-Err.fault c.args.self.now _
+    c.told_refused.result
     c.told_refused.ensures.refused c.in-Err.ensures.refuses

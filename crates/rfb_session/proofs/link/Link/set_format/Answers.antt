@@ -86,5 +86,6 @@ returns-in_ok-send-in-Ok-clause-bytes c =
 pub returns-in-Err-clause-bytes : goal.returns-in-Err-clause-bytes
 returns-in-Err-clause-bytes c =
     sends_none (SetPixelFormat c.args.format)
-    (format_message c.args.format) (λ s. formatted c.args.format s) _ c.in-Err.fault c.args.self.now _ c.told_refused.result
+    (format_message c.args.format) (λ s. formatted c.args.format s) _ c.in-Err.fault c.args.self.now _
+    c.told_refused.result
     c.told_refused.ensures.refused c.in-Err.ensures.refuses
