@@ -38,6 +38,9 @@ const ORANGE_OF_565: Colour = Colour {
 
 const BLACK: Colour = Colour { r: 0, g: 0, b: 0 };
 
+// The longest name that a screen may have, so that some answers are long.
+const NAME: [u8; 255] = [b'n'; 255];
+
 // What a viewer is made with that takes these encodings.
 fn setup(format: Format, encodings: ArrayVec<Encoding, 4>, shared: bool) -> Setup {
     Setup {
@@ -59,7 +62,7 @@ fn raw() -> ArrayVec<Encoding, 4> {
 fn hub_of(alloc: Global, width: u16) -> Result<Hub, AllocError>
     requires { width ≤ 4096 }
 {
-    Hub::new(alloc, width, 1, b"rfb", Version::V38, 16)
+    Hub::new(alloc, width, 1, &NAME, Version::V38, 16)
 }
 
 // What an event is answered; `None` is want of memory.
