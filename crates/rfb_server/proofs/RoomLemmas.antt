@@ -227,17 +227,38 @@ box_asked area cell box is =
     (some_at (λ i. asked_at area (cell.x + i) (cell.y + (j - cell.y))) cell.w (box.x - cell.x) (omega arith)
     (subst (λ (x : ℕ). asked_at area x (cell.y + (j - cell.y)) ≡ true) x_is (subst (λ (y : ℕ). asked_at area box.x y ≡ true) y_is here)))
 
--- where the asked places of a cell have a box, its room is that of all of it
-pub room_asked : (form : PixelFormat) (area : Places) (cell : Rect) (found : Option Rect) → HasBox (asked_at area) cell found →
-    is_some found ≡ true → cell_room form area cell ≡ 12 + cell.h * cell.w * size_of form
-room_asked form area cell None box e = absurd cc
-room_asked form area cell (Some r) box e = rw (box_asked area cell r box) refl
+-- where the asked places of a cell have a box, one is; and where they have none, none is
+pub found_asked : (area : Places) (cell : Rect) (found : Option Rect) → HasBox (asked_at area) cell found →
+    is_some found ≡ true → has_asked area cell ≡ true
+found_asked area cell None box e = absurd cc
+found_asked area cell (Some r) box e = box_asked area cell r box
 
--- where they have none, no place of it is marked and asked
-pub none_asked : (marks : Grid Bool) (area : Places) (cell : Rect) (found : Option Rect) → HasBox (asked_at area) cell found →
-    is_some found ≡ false → IsClear (may_need marks area) cell.x (cell.x + cell.w) cell.y (cell.y + cell.h)
-none_asked marks area cell (Some r) box e = absurd cc
-none_asked marks area cell None box e = λ x y a b c d. by (is_in marks x y) (asked_at area x y) (box x y a b c d)
+pub unfound_asked : (area : Places) (cell : Rect) (found : Option Rect) → HasBox (asked_at area) cell found →
+    is_some found ≡ false → IsClear (asked_at area) cell.x (cell.x + cell.w) cell.y (cell.y + cell.h)
+unfound_asked area cell (Some r) box e = absurd cc
+unfound_asked area cell None box e = box
+
+-- its first place is
+pub corner_asked : (area : Places) (cell : Rect) → 0 < cell.w → 0 < cell.h →
+    asked_at area cell.x cell.y ≡ true → has_asked area cell ≡ true
+corner_asked area cell wide high here =
+    let x_is : cell.x ≡ cell.x + 0 = omega arith in
+    let y_is : cell.y ≡ cell.y + 0 = omega arith in
+    some_at (λ j. some_below (λ i. asked_at area (cell.x + i) (cell.y + j)) cell.w) cell.h 0 high
+    (some_at (λ i. asked_at area (cell.x + i) (cell.y + 0)) cell.w 0 wide
+    (subst (λ (x : ℕ). asked_at area x (cell.y + 0) ≡ true) x_is
+    (subst (λ (y : ℕ). asked_at area cell.x y ≡ true) y_is here)))
+
+-- where one is, the room of the cell is that of all of it
+pub room_asked : (form : PixelFormat) (area : Places) (cell : Rect) → has_asked area cell ≡ true →
+    cell_room form area cell ≡ 12 + cell.h * cell.w * size_of form
+room_asked form area cell asked = rw asked refl
+
+-- where none is, no place of it is marked and asked
+pub none_asked : (marks : Grid Bool) (area : Places) (cell : Rect) →
+    IsClear (asked_at area) cell.x (cell.x + cell.w) cell.y (cell.y + cell.h) →
+    IsClear (may_need marks area) cell.x (cell.x + cell.w) cell.y (cell.y + cell.h)
+none_asked marks area cell clear = λ x y a b c d. by (is_in marks x y) (asked_at area x y) (clear x y a b c d)
   where
     by : (marked asked : Bool) → asked ≡ false → (marked && asked) ≡ false
     by marked asked not_asked = grind (arith, nat_tests)

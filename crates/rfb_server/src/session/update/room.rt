@@ -1,10 +1,12 @@
 //! How much room the cells of an update take.
 
-ghost use Rattle.std.specs.Prelude.{ℕ, ◌+◌, ◌*◌, ◌≤◌};
+ghost use Rattle.std.specs.Prelude.{◌≡◌, ℕ, ◌+◌, ◌*◌, ◌≤◌, true, false};
 ghost use Rattle.std.specs.Int.{div_ceil};
+ghost use Rattle.rfb_picture.specs.Area.{asked_at};
+ghost use Rattle.rfb_picture.specs.Box.{IsClear};
 ghost use Rattle.rfb_picture.specs.Grid.{Holds};
 ghost use Rattle.rfb_server.specs.Cells.{IsCell};
-ghost use Rattle.rfb_server.specs.Room.{cell_room, cells_room};
+ghost use Rattle.rfb_server.specs.Room.{cell_room, cells_room, has_asked};
 ghost use Rattle.rfb_server.specs.inside.Sends.{IsCostIn, IsEnough, HasNext, AreLimits};
 
 use crate::cells::cell_at;
@@ -86,10 +88,23 @@ impl Session {
         ensures bound { result ≤ 16396 }
         ensures most { result ≤ cell_room self.now.format self.now.area cell }
     {
-        if self.area.bounds_in(cell).is_none() {
+        if !self.has_asked(cell) {
             return 0;
         }
         let places = usize::from(cell.h) * usize::from(cell.w);
         RECT_HEAD_SIZE + places * self.format.size()
+    }
+
+    // Whether a place of the cell is asked. Its first one is, where all of the screen is.
+    fn has_asked(&self, cell: Rect) -> bool
+        requires held { Holds self.now.known cell }
+        ensures some { result ≡ true → has_asked self.now.area cell ≡ true }
+        ensures none { result ≡ false → IsClear (asked_at self.now.area)
+            cell.x (cell.x + cell.w) cell.y (cell.y + cell.h) }
+    {
+        if cell.w > 0 && cell.h > 0 && self.area.is_asked(cell.x, cell.y) {
+            return true;
+        }
+        self.area.bounds_in(cell).is_some()
     }
 }
