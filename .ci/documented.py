@@ -35,7 +35,7 @@ PROGRAM = os.path.abspath(sys.argv[1])
 # What begins so is no command for a shell, or has another in its place.
 EXCEPTIONS = (
     # The lines of a library's owner, which are Rattle.
-    (r"(?s)let mut rest = came;.*", None),
+    (r"(?s)(let mut rest = came;|for \(seat, bytes\) in came).*", None),
     # It proves and builds the program, which is there already.
     (r"\(cd crates/rfb && rt run -- (.*?)\)", r"rfb \1"),
 )

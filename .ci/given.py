@@ -114,13 +114,13 @@ def a_recording_that_is_played_says_of_what_it_is():
             ends(["play", "--explain", *words], given, 0, shown, told % (name, updates))
 
 
-def a_long_recording_is_explained_as_far_as_it_is_kept():
+def a_long_recording_is_explained_to_its_last_byte():
     text = b"\x03\0\0\0" + (17000000).to_bytes(4, "big") + bytes(17000000)
     ends(["play", "--explain"], SERVER + text + b"\xff", 1, b"",
          b"rfb: this is a recording of rfb, 2 by 1\n"
          b"rfb: 16777216 bytes came, and more are read\n"
          b"rfb: a message has type 255, which no server has in RFC 6143\n"
-         b"rfb: that is after byte 16777216; whole updates up to there: 1\n"
+         b"rfb: that is at byte %d; whole updates before it: 1\n" % (len(SERVER + text) + 1)
          + ANOTHER_FORMAT + b"fault 7 UnknownMessage\n")
 
 
@@ -236,7 +236,7 @@ ROWS = [
     a_bad_recording_is_explained,
     a_refusal_is_explained_by_its_reason_alone,
     a_recording_that_is_played_says_of_what_it_is,
-    a_long_recording_is_explained_as_far_as_it_is_kept,
+    a_long_recording_is_explained_to_its_last_byte,
     an_owners_line_says_what_its_words_say,
     an_owners_last_line_may_lack_its_newline,
     an_owners_bad_line_is_explained,

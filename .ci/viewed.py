@@ -159,7 +159,7 @@ def an_answer_that_cannot_be_sent_is_explained():
             line.sendall(HELLO)
             breaks(line)
             run.run.send_signal(signal.SIGCONT)
-            run.ends(1, output, ENDLESS + CONNECTED + b"rfb: sending to the server failed:"
+            run.ends(1, output, ENDLESS + b"rfb: sending to the server failed:"
                      b" Connection reset by peer (os error 104)\n" + DEVICE)
 
 

@@ -4,8 +4,9 @@
     bench/share.py crates/rfb/out/rfb
 
 One place changes, and each viewer that has asked gets its update and asks again: the instructions of
-some rounds, less those of fewer, over the difference. Needs valgrind. The clients are those of
-`.ci/shares.py`.
+some rounds, less those of fewer, over the difference. Frames of `pixels` beside eight viewers that
+have not asked, of three less of one, over the places of two. Needs valgrind. The clients are those
+of `.ci/shares.py`.
 """
 
 import os
@@ -72,6 +73,20 @@ def a_round(count, stuck=False, width=1920, height=1080):
     return (many - few) / (ROUNDS[1] - ROUNDS[0])
 
 
+def frames(count, width=1920, height=1080):
+    """Frames of different bytes, read, drawn and marked for eight viewers."""
+    share = Counted()
+    share.say(f"screen {width} {height}\n")
+    shares.viewers(share, 8)
+    for k in range(count):
+        share.say(f"pixels 0 0 {width} {height}\n")
+        share.say(bytes((place + 7 * k) & 255 for place in range(3 * width)) * height + b"\n")
+    return share.instructions()
+
+
+places = 2 * 1920 * 1080
+print(f"pixels, eight viewers: {(frames(3) - frames(1)) / places:.2f} instructions a place",
+      flush=True)
 for count in (0, 1, 8):
     print(f"one place changes, {count} viewers: {a_round(count):,.0f} instructions", flush=True)
 for stuck in (False, True):

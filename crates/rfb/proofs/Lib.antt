@@ -28,4 +28,3 @@ pub mod OwnerEndLemmas
 pub mod OwnerLineLemmas
 pub mod OwnerReaderLemmas
 pub mod OwnerStageLemmas
-pub mod SharedLemmas

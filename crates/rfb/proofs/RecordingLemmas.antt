@@ -1,5 +1,9 @@
 -- A recording that was played, from its parts.
-use Rattle.std.proofs.Common.{◌≡◌, ◌⊎◌, ap, sym, subst, inl, inr, ℕ, Bool, true, false, refl, [], ◌∷◌, List, Option, OnOk, OnErr, IfErr, Result, Ok, Err}
+use Rattle.std.proofs.Common.{◌≡◌, ◌≤◌, ◌<◌, ◌⊎◌, ap, sym, subst, inl, inr, ℕ, Bool, true, false, refl, [], ◌∷◌}
+use Rattle.std.proofs.Common.{List, Option, Some, None, OnOk, OnErr, IfErr, IfOk, Result, Ok, Err, arith}
+use Rattle.rfb_session.specs.Playing.{AllPlayed}
+use Rattle.rfb_session.specs.PlayingSome.{AreEnough, AreFewer, AreNoMore, PlayedFirst, StopsPlayingUpTo}
+use Rattle.rfb_session.specs.Watching.{StandsBetween}
 use Rattle.rfb_wire.specs.declared.encoding.Encoding.TheVariants.{Raw}
 use Rattle.rfb_viewer.specs.declared.viewer.Viewer.{Viewer}
 use Rattle.rfb_session.specs.declared.engine.fault.EngineFault.{EngineFault}
@@ -121,3 +125,70 @@ leaves_early options read before after first last fault fresh stops (inr (is, be
     begun = begun;
   },
 ))
+
+-- ---- all updates, or so many
+
+fewer_or_enough : (told enough : ℕ) → told ≤ enough → (told < enough) ⊎ (told ≡ enough)
+fewer_or_enough told enough few = search (arith, few)
+
+watched_so : (enough : Option ℕ) (read left : Option (List ℕ)) (old : Viewer) (r : Result ℕ EngineFault)
+    (new : Viewer) →
+    IfOk r (λ told. AreNoMore enough told) →
+    IfOk r (λ told. AreEnough enough told → PlayedFirst read left old told new) →
+    IfOk r (λ told. AreFewer enough told → AllPlayed read left old told new) →
+    IfOk r (λ told. AreFewer enough told → StandsBetween new true) →
+    IfOk r (λ told. Watches enough read old told new)
+watched_so enough read left old (Err fault) new few first played between = tt
+watched_so None read left old (Ok told) new few first played between = record {
+  left = left;
+  played = played tt;
+  between = between tt;
+}
+watched_so (Some enough) read left old (Ok told) new few first played between =
+    either (fewer_or_enough told enough few)
+  where
+    either : (told < enough) ⊎ (told ≡ enough) → Watches (Some enough) read old told new
+    either (inl fewer) = inr (
+      fewer,
+      record { left = left; played = played fewer; between = between fewer },
+    )
+    either (inr same) = inl (
+      same,
+      record {
+        left = left;
+        played = subst (λ (n : ℕ). PlayedFirst read left old n new) same (first same);
+      },
+    )
+
+stopped_so : (enough : Option ℕ) (read left : Option (List ℕ)) (failed : ℕ) (old : Viewer)
+    (r : Result ℕ EngineFault) (new : Viewer) →
+    IfErr r (λ fault. StopsPlayingUpTo enough read left 0 failed old fault new) →
+    IfErr r (λ fault. StopsWatching enough read old fault new)
+stopped_so enough read left failed old (Ok told) new stops = tt
+stopped_so None read left failed old (Err fault) new stops =
+    record { left = left; failed = failed; stopped = stops }
+stopped_so (Some enough) read left failed old (Err fault) new stops =
+    record { left = left; failed = failed; stopped = stops }
+
+-- from an engine over a source that had not failed before
+pub watches : (enough wide : Option ℕ) (read unread left : Option (List ℕ)) (old : Viewer)
+    (r : Result ℕ EngineFault) (new : Viewer) → wide ≡ enough → unread ≡ read →
+    IfOk r (λ told. AreNoMore wide told) →
+    IfOk r (λ told. AreEnough wide told → PlayedFirst unread left old told new) →
+    IfOk r (λ told. AreFewer wide told → AllPlayed unread left old told new) →
+    IfOk r (λ told. AreFewer wide told → StandsBetween new true) →
+    IfOk r (λ told. Watches enough read old told new)
+watches enough wide read unread left old r new same there few first played between =
+    subst (λ (e : Option ℕ). IfOk r (λ told. Watches e read old told new)) same
+    (subst (λ (u : Option (List ℕ)). IfOk r (λ told. Watches wide u old told new)) there
+    (watched_so wide unread left old r new few first played between))
+
+pub stops_watching : (enough wide : Option ℕ) (read unread left : Option (List ℕ)) (failing failed : ℕ)
+    (old : Viewer) (r : Result ℕ EngineFault) (new : Viewer) → wide ≡ enough → unread ≡ read → failing ≡ 0 →
+    IfErr r (λ fault. StopsPlayingUpTo wide unread left failing failed old fault new) →
+    IfErr r (λ fault. StopsWatching enough read old fault new)
+stops_watching enough wide read unread left failing failed old r new same there none stops =
+    subst (λ (e : Option ℕ). IfErr r (λ fault. StopsWatching e read old fault new)) same
+    (subst (λ (u : Option (List ℕ)). IfErr r (λ fault. StopsWatching wide u old fault new)) there
+    (stopped_so wide unread left failed old r new
+    (subst (λ (n : ℕ). IfErr r (λ fault. StopsPlayingUpTo wide unread left n failed old fault new)) none stops)))

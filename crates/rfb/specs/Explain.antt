@@ -1,16 +1,26 @@
--- Readers that are listened to, and a writer that is spoken to.
+-- Readers that are listened to, a writer, and what a watcher notes.
+use Rattle.std.specs.Prelude.{◌≡◌, ◌+◌, ◌-◌, ◌^◌, min, true}
+use Rattle.rfb_session.specs.Watcher.{Listening, Greeted, Updated}
 use Rattle.rfb.specs.declared.explain.hearing.Hearing.{Hearing}
-use Rattle.rfb.specs.declared.explain.hearing.Speaking.{Speaking}
 use Rattle.rfb.specs.declared.explain.keeping.Reading.{Reading}
+use Rattle.rfb.specs.declared.explain.keeping.Writing.{Writing}
+use Rattle.rfb.specs.declared.explain.telling.Telling.{Telling}
 
 -- that reader itself
 abbrev pub heard_by : {R N : Type 0} → Hearing R N → R
 heard_by hearing = hearing.reader
 
--- that writer itself
-abbrev pub spoken_to : {W : Type 0} → Speaking W → W
-spoken_to speaking = speaking.writer
-
 -- the reader that is read
 abbrev pub read_by : {R : Type 0} → Reading R → R
 read_by reading = reading.reader
+
+-- the writer that is written to
+abbrev pub written_by : {W : Type 0} → Writing W → W
+written_by writing = writing.writer
+
+-- it notes that the handshake is done, and counts updates
+abbrev pub Tells : {N : Type 0} → Listening (Telling N)
+Tells old (Greeted width height name) new =
+    (new.is_ready ≡ true) × (new.updates ≡ old.updates)
+Tells old (Updated now) new =
+    (new.is_ready ≡ old.is_ready) × (new.updates ≡ min (old.updates + 1) (2 ^ 64 - 1))

@@ -11,16 +11,18 @@ mod hearing;
 mod keeping;
 mod naming;
 mod placing;
+mod telling;
 
 use crate::fault::{Failure, Fault};
 pub use escaped::Escaped;
 pub use failing::{tell_client, tell_server};
-pub use heard::{Heard, Origin};
-pub use hearing::{Hearing, Speaking, tell_played, tell_updates};
+pub use heard::Heard;
+pub use hearing::{Hearing, Shared, tell_played};
 pub use keeping::{Reading, Writing};
 pub use placing::tell_place;
 use std::io;
 use std::io::Write;
+pub use telling::{Origin, Telling};
 
 const NOT_READY: &str = "\
 rfb: the viewer has no picture yet: it has one once its handshake is done, which `settle` delivers";

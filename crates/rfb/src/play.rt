@@ -8,24 +8,22 @@ ghost use Rattle.rfb.specs.Recording.{BeginsPicture, FailsToPlay, IsFresh, Leave
 ghost use Rattle.rfb_wire.specs.declared.encoding.Encoding.TheVariants.{Raw};
 ghost use Rattle.rfb.specs.Recording.{EndsShown, MayWritePicture, is_end, shows_end};
 ghost use Rattle.rfb.specs.Recording.{WritesPicture, Watches, StopsWatching};
-ghost use Rattle.rfb.specs.Recording.{WatchesAll, StopsWatchingAll, WatchesSome, StopsWatchingSome};
 
 mod options;
 pub mod words;
 
-use crate::explain::{Heard, Hearing, Notes, Origin, tell_place, tell_played, tell_server};
+use crate::explain::{
+    Heard, Hearing, Notes, Origin, Shared, Telling, tell_place, tell_played, tell_server,
+};
 use crate::fault::{Failure, Fault};
 use crate::playing::{fresh_viewer, only_raw};
 use crate::writing::write_ppm;
 pub use options::PlayOptions;
-use rfb_session::{EngineFault, Tally};
+use rfb_session::{EngineFault, Tally, Watcher, play_watched};
 use rfb_viewer::Viewer;
 use std::alloc::Global;
-use std::cell::Cell;
+use std::cell::RefCell;
 use std::io::{Read, Write};
-
-// How many bytes of a recording are kept, to find where it goes wrong.
-const RECORDING_ROOM: usize = 16_777_216;
 
 /// Plays what `input` has, the bytes of a server, to a fresh viewer that takes pixels of
 /// `options.format`, up to the end of the last update that is asked for, or all of it. Then it
@@ -49,21 +47,8 @@ pub fn play_recording<R: Read, W: Write, E: Write>(
         (R.remaining input.old) (W.contents output.old) (W.contents output.new)) }
 {
     let mut viewer = fresh_viewer(alloc, options.format, only_raw());
-    let room = if notes.are_wanted() {
-        RECORDING_ROOM
-    } else {
-        0
-    };
-    let mut heard = Heard::new(alloc, room, Origin::Recording);
-    let done = play_to(
-        alloc,
-        options,
-        input,
-        &mut viewer,
-        &mut heard,
-        output,
-        notes,
-    );
+    let mut heard = Heard::new(alloc, notes.are_wanted(), Origin::Recording);
+    let done = play_to(options, input, &mut viewer, &mut heard, output, notes);
     drop(heard);
     drop(viewer);
     done
@@ -71,7 +56,6 @@ pub fn play_recording<R: Read, W: Write, E: Write>(
 
 // The same with this fresh viewer, and with room for what is read.
 fn play_to<R: Read, W: Write, E: Write>(
-    alloc: Global,
     options: PlayOptions,
     input: &mut R,
     viewer: &mut Viewer,
@@ -89,21 +73,19 @@ fn play_to<R: Read, W: Write, E: Write>(
     ensures left { OnErr result (LeavesRecording options
         (R.remaining input.old) (W.contents output.old) (W.contents output.new)) }
 {
-    match watch_heard(input, viewer, options.updates, heard, notes) {
+    let wanted = options.updates;
+    let is_partial = options.is_partial;
+    match watch_heard(wanted, input, viewer, heard, notes) {
         Ok(_updates) => show(viewer, output),
-        Err(fault) => {
-            tell_server(fault, viewer.reason(), heard, notes);
-            tell_place(alloc, options.format, fault, heard, notes);
-            Err(show_early(viewer, options.is_partial, fault, output))
-        }
+        Err(fault) => Err(show_early(viewer, is_partial, fault, output)),
     }
 }
 
-// Feeds a viewer as `watch` does, keeps the first bytes of what it reads, and tells how it went.
+// Feeds a viewer as `watch` does, and tells how it goes.
 fn watch_heard<R: Read, N: Write>(
+    updates: Option<u32>,
     input: &mut R,
     viewer: &mut Viewer,
-    updates: Option<u32>,
     heard: &mut Heard,
     notes: &mut N,
 ) -> Result<u64, EngineFault>
@@ -113,61 +95,49 @@ fn watch_heard<R: Read, N: Write>(
     ensures stopped { IfErr result (λ fault.
         StopsWatching updates (R.remaining input.old) viewer.old fault viewer.new) }
 {
-    let none = Cell::new(0);
-    let mut hearing = Hearing::new(input, heard, &none, notes);
-    let ended = watch(&mut hearing, viewer, updates);
-    drop(hearing);
-    tell_all(&ended, notes);
+    let shared = RefCell::new(&mut *notes);
+    let mut telling = Telling::new(Origin::Recording, Shared::new(&shared));
+    let hearing = Hearing::new(input, heard, Shared::new(&shared));
+    let ended = watch(hearing, viewer, updates, &mut telling);
+    let (is_ready, whole) = telling.heard();
+    drop(telling);
+    drop(shared);
+    match &ended {
+        Ok(updates) => tell_played(*updates, notes),
+        Err(fault) => {
+            tell_server(*fault, viewer.reason(), heard, notes);
+            tell_place(*fault, viewer.taken(), whole, is_ready, notes);
+        }
+    }
     ended
 }
 
-// Says how many updates there were in all.
-fn tell_all<N: Write>(ended: &Result<u64, EngineFault>, notes: &mut N) {
-    if let Ok(updates) = ended {
-        tell_played(*updates, notes);
-    }
-}
-
-// Feeds a viewer what `input` has, until `updates` updates ended or all is fed, and returns how
+// Feeds a viewer what `reader` has, until `updates` updates ended or all is fed, and returns how
 // many ended.
-fn watch<R: Read>(
-    input: &mut R,
+fn watch<R: Read + Drop, A: Watcher>(
+    reader: R,
     viewer: &mut Viewer,
     updates: Option<u32>,
+    watcher: &mut A,
 ) -> Result<u64, EngineFault>
     requires some { IfSome updates (λ count. 1 ≤ count) }
     ensures watched { IfOk result (λ told.
-        Watches updates (R.remaining input.old) viewer.old told viewer.new) }
+        Watches updates (R.remaining reader) viewer.old told viewer.new) }
     ensures stopped { IfErr result (λ fault.
-        StopsWatching updates (R.remaining input.old) viewer.old fault viewer.new) }
+        StopsWatching updates (R.remaining reader) viewer.old fault viewer.new) }
+{
+    let mut source = Tally::new(reader);
+    play_watched(&mut source, viewer, wide(updates), watcher)
+}
+
+// The same number.
+fn wide(updates: Option<u32>) -> Option<u64>
+    ensures { result ≡ updates }
 {
     match updates {
-        Some(count) => watch_some(input, viewer, count),
-        None => watch_all(input, viewer),
+        Some(count) => Some(u64::from(count)),
+        None => None,
     }
-}
-
-// Feeds a viewer what `input` has, until `updates` updates ended, or all of it if fewer do.
-fn watch_some<R: Read>(input: &mut R, viewer: &mut Viewer, updates: u32) -> Result<u64, EngineFault>
-    requires some { 1 ≤ updates }
-    ensures watched { IfOk result (λ told.
-        WatchesSome updates (R.remaining input.old) viewer.old told viewer.new) }
-    ensures stopped { IfErr result (λ fault.
-        StopsWatchingSome updates (R.remaining input.old) viewer.old fault viewer.new) }
-{
-    let mut source = Tally::new(input);
-    rfb_session::play_some(&mut source, viewer, u64::from(updates))
-}
-
-// Feeds a viewer all that `input` has.
-fn watch_all<R: Read>(input: &mut R, viewer: &mut Viewer) -> Result<u64, EngineFault>
-    ensures watched { IfOk result (λ told.
-        WatchesAll (R.remaining input.old) viewer.old told viewer.new) }
-    ensures stopped { IfErr result (λ fault.
-        StopsWatchingAll (R.remaining input.old) viewer.old fault viewer.new) }
-{
-    let mut source = Tally::new(input);
-    rfb_session::play(&mut source, viewer)
 }
 
 /// After an engine that ended with this fault, writes the picture of what has come, if that is

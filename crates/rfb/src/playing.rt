@@ -14,9 +14,9 @@ use crate::script::{Screen, Step, Wants};
 use arrayvec::ArrayVec;
 use rfb_hello::Version;
 use rfb_pixel::Format;
-use rfb_server::Server;
+use rfb_server::{Server, ServerSetup};
 use rfb_session::{Event, NoMemory, Refused, World};
-use rfb_viewer::Viewer;
+use rfb_viewer::{Viewer, ViewerSetup};
 use rfb_wire::Encoding;
 use std::alloc::{AllocError, Global};
 
@@ -48,23 +48,29 @@ pub fn fresh_world(alloc: Global, screen: Screen, wants: &Option<Wants>) -> Resu
 pub fn fresh_server(alloc: Global, screen: Screen) -> Result<Server, AllocError>
     ensures { IfOk result (λ server. IsFreshServer screen server) }
 {
-    let (width, height) = (screen.width, screen.height);
-    Server::new(alloc, width, height, b"rfb", Version::V38, TEXT_LIMIT)
+    let setup = ServerSetup {
+        width: screen.width,
+        height: screen.height,
+        name: b"rfb",
+        offer: Version::V38,
+        text_limit: TEXT_LIMIT,
+    };
+    Server::of(alloc, setup)
 }
 
 /// A viewer of version 3.8 that asks for a shared screen, in these encodings, the best first.
 pub fn fresh_viewer(alloc: Global, format: Format, encodings: ArrayVec<Encoding, 4>) -> Viewer
     ensures { IsFresh format encodings.items result }
 {
-    Viewer::new(
-        alloc,
+    let setup = ViewerSetup {
         format,
         encodings,
-        Version::V38,
-        true,
-        MAX_PLACES,
-        TEXT_LIMIT,
-    )
+        limit: Version::V38,
+        shared: true,
+        max_places: MAX_PLACES,
+        text_limit: TEXT_LIMIT,
+    };
+    Viewer::of(alloc, setup)
 }
 
 /// The format and the encodings of the viewer.

@@ -11,23 +11,21 @@ mod options;
 pub mod words;
 
 use crate::explain::{
-    Heard, Hearing, Notes, Origin, Speaking, tell_server, tell_unreached, tell_unsent, tell_updates,
+    Heard, Hearing, Notes, Origin, Shared, Telling, Writing, tell_server, tell_unreached,
+    tell_unsent,
 };
 use crate::fault::{Failure, Fault};
 use crate::play::{show, show_early};
 use crate::playing::fresh_viewer;
 use crate::reaching::{Patient, connect};
 pub use options::{Sight, ViewOptions};
-use rfb_session::{EngineFault, Lent, Sink, Tally, view_recording};
+use rfb_session::{EngineFault, Lent, Nowhere, Pair, Sink, Tally, Watcher, view_watched};
 use rfb_viewer::Viewer;
 use std::alloc::Global;
-use std::cell::Cell;
+use std::cell::RefCell;
 use std::io::{Read, Write};
 use std::net::{Net, OpenStream};
 use std::time::Clock;
-
-// How many bytes of a server are kept, for what they tell of it.
-const ROOM: usize = 1024;
 
 const ENDLESS: &str = "rfb: it waits as long as it takes: there is no --timeout";
 
@@ -112,8 +110,7 @@ fn view_over<R: Read + Drop, V: Write + Drop, W: Write, E: Write>(
     let is_recorded = sight.is_recorded;
     let is_partial = sight.is_partial;
     let mut viewer = fresh_viewer(alloc, sight.wants.format, sight.wants.encodings);
-    let room = if notes.are_wanted() { ROOM } else { 0 };
-    let mut heard = Heard::new(alloc, room, Origin::Connection);
+    let mut heard = Heard::new(alloc, notes.are_wanted(), Origin::Connection);
     // Each arm lets go of what it made by calls: what an arm's end lets go is proved field by field.
     if is_recorded {
         let ended = record(
@@ -129,7 +126,15 @@ fn view_over<R: Read + Drop, V: Write + Drop, W: Write, E: Write>(
         drop(viewer);
         return ended;
     }
-    match watch_heard(reader, writer, &mut viewer, updates, &mut heard, notes) {
+    match watch_heard(
+        reader,
+        writer,
+        &mut Nowhere,
+        &mut viewer,
+        updates,
+        &mut heard,
+        notes,
+    ) {
         Ok(_updates) => {
             let shown = show(&viewer, output);
             drop(heard);
@@ -147,55 +152,64 @@ fn view_over<R: Read + Drop, V: Write + Drop, W: Write, E: Write>(
 }
 
 // Runs a viewer as `watch` does, and tells how it goes.
-fn watch_heard<R: Read + Drop, V: Write + Drop, N: Write>(
+fn watch_heard<R: Read + Drop, V: Write + Drop, K: Sink, N: Write>(
     reader: R,
     writer: V,
+    kept: &mut K,
     viewer: &mut Viewer,
     updates: u32,
     heard: &mut Heard,
     notes: &mut N,
 ) -> Result<u32, EngineFault>
     requires some { 1 ≤ updates }
+    requires unfailed { K.failed kept.old ≡ 0 }
     ensures saw { IfOk result (λ told.
-        Saw (R.remaining reader) (V.contents writer) None None viewer.old updates viewer.new) }
+        Saw (R.remaining reader) (V.contents writer) (K.written kept.old) (K.written kept.new)
+        viewer.old updates viewer.new) }
     ensures stopped { IfErr result (λ fault.
-        StopsSeeing (R.remaining reader) (V.contents writer) None None viewer.old updates fault
-        viewer.new) }
+        StopsSeeing (R.remaining reader) (V.contents writer) (K.written kept.old)
+        (K.written kept.new) viewer.old updates fault viewer.new) }
+    ensures same_reference { K.reference kept.new ≡ K.reference kept.old }
 {
     let mut unsent = None;
-    let counted = Cell::new(0);
-    let hearing = Hearing::new(reader, heard, &counted, notes);
-    let speaking = Speaking::new(writer, &counted, &mut unsent);
-    let ended = watch(hearing, speaking, viewer, updates);
+    let shared = RefCell::new(&mut *notes);
+    let mut telling = Telling::new(Origin::Connection, Shared::new(&shared));
+    let hearing = Hearing::new(reader, heard, Shared::new(&shared));
+    let writing = Writing::new(writer, &mut unsent);
+    let ended = watch(hearing, writing, kept, viewer, updates, &mut telling);
+    drop(telling);
+    drop(shared);
     tell_unsent(&unsent, notes);
-    tell_all(&ended, notes);
     ended
 }
 
-// Says how many updates there were in all.
-fn tell_all<N: Write>(ended: &Result<u32, EngineFault>, notes: &mut N) {
-    if let Ok(updates) = ended {
-        let _ = tell_updates(*updates, 0, notes);
-    }
-}
-
-// Runs a viewer until `updates` updates ended.
-fn watch<R: Read + Drop, V: Write + Drop>(
+// Runs a viewer until `updates` updates ended, with what it is fed in a sink that has not failed
+// before.
+fn watch<R: Read + Drop, V: Write + Drop, K: Sink, A: Watcher>(
     reader: R,
     writer: V,
+    kept: &mut K,
     viewer: &mut Viewer,
     updates: u32,
+    watcher: &mut A,
 ) -> Result<u32, EngineFault>
     requires some { 1 ≤ updates }
+    requires unfailed { K.failed kept.old ≡ 0 }
     ensures saw { IfOk result (λ told.
-        Saw (R.remaining reader) (V.contents writer) None None viewer.old updates viewer.new) }
+        Saw (R.remaining reader) (V.contents writer) (K.written kept.old) (K.written kept.new)
+        viewer.old updates viewer.new) }
     ensures stopped { IfErr result (λ fault.
-        StopsSeeing (R.remaining reader) (V.contents writer) None None viewer.old updates fault
-        viewer.new) }
+        StopsSeeing (R.remaining reader) (V.contents writer) (K.written kept.old)
+        (K.written kept.new) viewer.old updates fault viewer.new) }
+    ensures same_reference { K.reference kept.new ≡ K.reference kept.old }
 {
     let mut source = Tally::new(reader);
     let mut sink = Tally::new(writer);
-    rfb_session::view(&mut source, &mut sink, viewer, updates)
+    let mut wire = Pair {
+        source: &mut source,
+        sink: &mut sink,
+    };
+    view_watched(&mut wire, kept, viewer, updates, watcher)
 }
 
 // The same, and writes what the viewer is fed. All of it goes out, however it ends.
@@ -216,7 +230,7 @@ fn record<R: Read + Drop, V: Write + Drop, W: Write, N: Write>(
         (R.remaining reader) (V.contents writer) (W.contents output.old) (W.contents output.new)
         viewer.old updates failure viewer.new) }
 {
-    match record_heard(reader, writer, viewer, updates, output, heard, notes) {
+    match record_fed(reader, writer, viewer, updates, output, heard, notes) {
         Ok(_updates) => match output.flush() {
             Ok(()) => Ok(()),
             Err(error) => Err(Failure::Fault(Fault::from(error))),
@@ -229,8 +243,8 @@ fn record<R: Read + Drop, V: Write + Drop, W: Write, N: Write>(
     }
 }
 
-// Runs a viewer as `watch_and_keep` does, and tells how it goes.
-fn record_heard<R: Read + Drop, V: Write + Drop, W: Write, N: Write>(
+// Runs a viewer until `updates` updates ended, and writes what it is fed.
+fn record_fed<R: Read + Drop, V: Write + Drop, W: Write, N: Write>(
     reader: R,
     writer: V,
     viewer: &mut Viewer,
@@ -247,55 +261,6 @@ fn record_heard<R: Read + Drop, V: Write + Drop, W: Write, N: Write>(
         StopsSeeing (R.remaining reader) (V.contents writer) (W.contents output.old)
         (W.contents output.new) viewer.old updates fault viewer.new) }
 {
-    let mut unsent = None;
-    let counted = Cell::new(0);
-    let hearing = Hearing::new(reader, heard, &counted, notes);
-    let speaking = Speaking::new(writer, &counted, &mut unsent);
-    let ended = watch_and_keep(hearing, speaking, viewer, updates, output);
-    tell_unsent(&unsent, notes);
-    tell_all(&ended, notes);
-    ended
-}
-
-// Runs a viewer until `updates` updates ended, and writes what it is fed.
-fn watch_and_keep<R: Read + Drop, V: Write + Drop, W: Write>(
-    reader: R,
-    writer: V,
-    viewer: &mut Viewer,
-    updates: u32,
-    output: &mut W,
-) -> Result<u32, EngineFault>
-    requires some { 1 ≤ updates }
-    ensures saw { IfOk result (λ told.
-        Saw (R.remaining reader) (V.contents writer) (W.contents output.old)
-        (W.contents output.new) viewer.old updates viewer.new) }
-    ensures stopped { IfErr result (λ fault.
-        StopsSeeing (R.remaining reader) (V.contents writer) (W.contents output.old)
-        (W.contents output.new) viewer.old updates fault viewer.new) }
-{
     let mut kept = Lent::new(output);
-    watch_into(reader, writer, &mut kept, viewer, updates)
-}
-
-// The same, with what it is fed in a sink that has not failed before.
-fn watch_into<R: Read + Drop, V: Write + Drop, K: Sink>(
-    reader: R,
-    writer: V,
-    kept: &mut K,
-    viewer: &mut Viewer,
-    updates: u32,
-) -> Result<u32, EngineFault>
-    requires some { 1 ≤ updates }
-    requires unfailed { K.failed kept.old ≡ 0 }
-    ensures saw { IfOk result (λ told.
-        Saw (R.remaining reader) (V.contents writer) (K.written kept.old) (K.written kept.new)
-        viewer.old updates viewer.new) }
-    ensures stopped { IfErr result (λ fault.
-        StopsSeeing (R.remaining reader) (V.contents writer) (K.written kept.old)
-        (K.written kept.new) viewer.old updates fault viewer.new) }
-    ensures same_reference { K.reference kept.new ≡ K.reference kept.old }
-{
-    let mut source = Tally::new(reader);
-    let mut sink = Tally::new(writer);
-    view_recording(&mut source, &mut sink, kept, viewer, updates)
+    watch_heard(reader, writer, &mut kept, viewer, updates, heard, notes)
 }

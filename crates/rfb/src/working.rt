@@ -74,7 +74,7 @@ where
         }
         Ok(mut target) => {
             let mut unsaved = None;
-            let mut file = Writing::new(&mut target.file, &mut unsaved);
+            let mut file = Writing::lent(&mut target.file, &mut unsaved);
             let ended = work_from(rt, task, from, explains, input, &mut file, errors);
             let mut notes = Notes::new(errors, explains);
             if let Some(error) = &unsaved {

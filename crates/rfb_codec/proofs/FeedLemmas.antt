@@ -1,5 +1,7 @@
 -- A slice of a rectangle's data, taken step by step.
-use Rattle.std.proofs.Common.{◌≡◌, ℕ, ◌+◌, ◌-◌, ◌*◌, ◌/◌, ◌%◌, ◌<◌, ◌==◌, ◌||◌, ◌&&◌, nat_lt, List, [], ◌∷◌, ◌++◌, Bool, true, false, if◌then◌else◌, length, take, drop, refl, sym, subst, ◌∙◌, ap, append-nil, append_assoc, arith, length-drop, take-append-drop}
+use Rattle.std.proofs.Common.{◌≡◌, ℕ, ◌+◌, ◌-◌, ◌*◌, ◌/◌, ◌%◌, ◌<◌, ◌≤◌, ◌==◌, ◌||◌, ◌&&◌, nat_lt, List, []}
+use Rattle.std.proofs.Common.{◌∷◌, ◌++◌, Bool, true, false, if◌then◌else◌, length, take, drop, refl, sym, subst}
+use Rattle.std.proofs.Common.{◌∙◌, ap, append-nil, append_assoc, arith, length-drop, take-append-drop}
 use Rattle.std.proofs.lemmas.List.{take_all}
 use Rattle.std.proofs.lemmas.Bool.Decides.{nat_tests}
 use Rattle.rfb_pixel.specs.declared.colour.Colour.{Colour}
@@ -9,10 +11,11 @@ use Rattle.rfb_picture.specs.Rect.{contains}
 use Rattle.rfb_picture.specs.Grid.{Grid, IsGrid, grid, by_index, changed}
 use Rattle.rfb_wire.specs.declared.encoding.Encoding.{Encoding}
 use Rattle.rfb_wire.specs.declared.encoding.Encoding.TheVariants.{Raw, CopyRect, Rre, Hextile}
-use Rattle.rfb_wire.specs.stream.Reading.{Bad}
+use Rattle.rfb_wire.specs.stream.Reading.{More, Bad}
 use Rattle.rfb_wire.proofs.stream_laws.FeedLaws.{take_add}
 use Rattle.rfb_wire.proofs.stream_laws.ReadingLaws.{reads_bad}
 use Rattle.rfb_codec.specs.declared.fault.PaintFault.{PaintFault}
+use Rattle.rfb_codec.specs.declared.fault.Flaw.{Flaw}
 use Rattle.rfb_codec.specs.declared.painter.stage.Stage.{Stage}
 use Rattle.rfb_codec.specs.declared.painter.stage.Stage.TheVariants.{BeforeSource, Copied, InPixels, BeforeHead, InSubrects, InTiles, InRawTile}
 use Rattle.rfb_codec.specs.RectData.{data_says, rect_data}
@@ -21,7 +24,7 @@ use Rattle.rfb_codec.specs.Hextile.{tile_count, tile_width, tile_height}
 use Rattle.rfb_codec.specs.Stage.{encoding_at, is_ended, is_sound, StandsAt, IsRefused}
 use Rattle.rfb_codec.specs.declared.painter.rectangle.Rectangle.{Rectangle}
 use Rattle.rfb_codec.specs.inside.Step.{stage_of, GoesOn, Stops, Reaches, Breaks}
-use Rattle.rfb_codec.specs.UnderWay.{Paints, Waits, Refuses}
+use Rattle.rfb_codec.specs.UnderWay.{Paints, Waits, Refuses, ShowsWith}
 use Rattle.rfb_codec.proofs.RectDataLaws.{rect_data_reads}
 use Rattle.rfb_codec.proofs.VerdictLemmas.{whole_under, stage_ended, stage_waits}
 
@@ -93,15 +96,36 @@ pub fed_more : (f : PixelFormat) (rect : Rect) (first stage next : Stage) (none 
 fed_more f rect first stage next none pending rest old picture new i n bytes slice is one two = λ before body stands.
     subst (λ (ys : List ℕ). StandsAt f rect next rest new before ys) (slices i n body bytes slice is) (two before (body ++ take i bytes) (one before body stands))
 
-pub stopped : (f : PixelFormat) (rect : Rect) (first stage : Stage) (none pending : List ℕ) (old picture new : Grid Colour) (i : ℕ) (bytes slice : List ℕ) (fault : PaintFault) → slice ≡ drop i bytes → encoding_at stage ≡ encoding_at first → GoesOn f rect first none old (take i bytes) stage pending picture → Stops f rect stage pending picture slice new fault → Stops f rect first none old bytes new fault
-stopped f rect first stage none pending old picture new i bytes slice fault is same one two = λ before body stands.
-    let r = two before (body ++ take i bytes) (one before body stands) in
+pub stopped : (f : PixelFormat) (rect : Rect) (first stage : Stage) (none pending : List ℕ)
+    (old picture new : Grid Colour) (i : ℕ) (bytes slice : List ℕ) (flaw : Flaw) → slice ≡ drop i bytes →
+    encoding_at stage ≡ encoding_at first → GoesOn f rect first none old (take i bytes) stage pending picture →
+    Stops f rect stage pending picture slice new flaw → Stops f rect first none old bytes new
+    (record { used = i + flaw.used; fault = flaw.fault })
+stopped f rect first stage none pending old picture new i bytes slice flaw is same one two = λ before body stands.
+    let w = two before (body ++ take i bytes) (one before body stands) in
+    let r = w.refused in
+    let used = w.last in
     let left : length slice ≡ length bytes - i = ap length is ∙ length-drop i bytes in
     let below = r.within in
     let last : i + (r.n + 1) ≡ i + r.n + 1 = omega arith in
-    let bad = subst (λ (ys : List ℕ). rect_data f before.width before.height rect (encoding_at stage) ys ≡ Bad fault) (slices i (r.n + 1) body bytes slice is ∙ ap (λ (n : ℕ). body ++ take n bytes) last) r.bad in
+    let bad = subst (λ (ys : List ℕ). rect_data f before.width before.height rect
+    (encoding_at stage) ys ≡ Bad flaw.fault) (slices i (r.n + 1) body bytes slice is ∙ ap (λ
+    (n : ℕ). body ++ take n bytes) last) r.bad in
     let shows = subst (λ (ys : List ℕ). ShowsFront f rect (encoding_at stage) before ys r.pending new) (slices i r.n body bytes slice is) r.shows in
-    record { n = i + r.n; pending = r.pending; within = omega (arith, left, below); bad = rw same at bad; shows = rw same at shows }
+    let waits = subst (λ (ys : List ℕ). rect_data f before.width before.height rect (encoding_at stage) ys ≡ More)
+    (slices i r.n body bytes slice is) w.waits in
+    record {
+      refused = record {
+        n = i + r.n;
+        pending = r.pending;
+        within = omega
+            (arith, left, below);
+        bad = rw same at bad;
+        shows = rw same at shows;
+      };
+      last = omega (arith, used);
+      waits = rw same at waits;
+    }
 
 -- ---- the same of steps
 
@@ -118,9 +142,16 @@ module _ (r : Rectangle) (first : Stage) (none : List ℕ) (old : Grid Colour) w
     height = two.height ∙ one.height;
   }
 
-  pub breaks_later : (stage : Stage) (pending rest : List ℕ) (picture new : Grid Colour) (i : ℕ) (bytes slice : List ℕ) (fault : PaintFault) → slice ≡ drop i bytes → Reaches r first none old (take i bytes) stage pending picture → Breaks r stage pending picture slice fault rest new → Breaks r first none old bytes fault rest new
-  breaks_later stage pending rest picture new i bytes slice fault is one two = record {
-    stops = stopped r.format r.rect first stage none pending old picture new i bytes slice fault is one.same one.goes_on two.stops;
+  pub breaks_later : (stage : Stage) (pending rest : List ℕ) (picture new : Grid Colour) (i : ℕ)
+      (bytes slice : List ℕ) (flaw : Flaw) → slice ≡ drop i bytes → Reaches r first none old
+      (take i bytes) stage pending picture → Breaks r stage pending picture slice flaw rest new →
+      Breaks r first none old bytes (record { used = i + flaw.used; fault = flaw.fault }) rest new
+  breaks_later stage pending rest picture new i bytes slice flaw is one two = record {
+    some = let some = two.some in omega (arith, some);
+    within = let some = two.some in let within = two.within in let left : length slice ≡ length bytes - i = ap
+        length is ∙ length-drop i bytes in omega (arith, some, within, left);
+    stops = stopped r.format r.rect first stage none pending old picture new i bytes slice flaw is one.same
+        one.goes_on two.stops;
     emptied = two.emptied;
     width = two.width ∙ one.width;
     height = two.height ∙ one.height;
@@ -150,15 +181,33 @@ feed_waits f rect stage next pending rest old new used bytes all ended sound sam
     let waits = stage_waits f rect next rest new before (body ++ bytes) ended sound there in
     (rw same at waits, there)
 
-pub feed_refuses : (f : PixelFormat) (rect : Rect) (stage : Stage) (pending : List ℕ) (old new : Grid Colour) (bytes : List ℕ) (fault : PaintFault) → Stops f rect stage pending old bytes new fault → Refuses (record { rect = rect; form = f; stage = stage; pending = pending }) old bytes new fault
-feed_refuses f rect stage pending old new bytes fault stops = λ before body stands.
-    let r = stops before body stands in
-    (refuses_all f rect (encoding_at stage) before body bytes fault new r, r)
+pub feed_refuses : (f : PixelFormat) (rect : Rect) (stage : Stage) (pending : List ℕ) (old new : Grid Colour)
+    (bytes : List ℕ) (flaw : Flaw) → Stops f rect stage pending old bytes new flaw → Refuses
+    (record { rect = rect; form = f; stage = stage; pending = pending }) old bytes new flaw.fault
+feed_refuses f rect stage pending old new bytes flaw stops = λ before body stands.
+    let r = (stops before body stands).refused in
+    (refuses_all f rect (encoding_at stage) before body bytes flaw.fault new r, r)
+
+pub feed_shows : (f : PixelFormat) (rect : Rect) (stage : Stage) (pending : List ℕ) (old new : Grid Colour)
+    (bytes : List ℕ) (flaw : Flaw) → 0 < flaw.used → flaw.used ≤ length bytes →
+    Stops f rect stage pending old bytes new flaw → ShowsWith
+    (record { rect = rect; form = f; stage = stage; pending = pending }) old bytes flaw
+feed_shows f rect stage pending old new bytes flaw some within stops = λ before body stands.
+    let w = stops before body stands in
+    let last = w.last in
+    let read = λ (n : ℕ). rect_data f before.width before.height rect (encoding_at stage) (body ++ take n bytes) in
+    let first : w.refused.n ≡ flaw.used - 1 = omega (arith, last) in
+    record {
+      some = some;
+      within = within;
+      waits = subst (λ (n : ℕ). read n ≡ More) first w.waits;
+      bad = subst (λ (n : ℕ). read n ≡ Bad flaw.fault) (sym last) w.refused.bad;
+    }
 
 -- with nothing pending a stage is as sound as before
 pub sound_empty : (f : PixelFormat) (rect : Rect) (stage : Stage) (n : ℕ) → is_sound f rect stage n ≡ true → is_sound f rect stage 0 ≡ true
 sound_empty f rect BeforeSource n e = refl
-sound_empty f rect Copied n e = refl
+sound_empty f rect (Copied x y) n e = refl
 sound_empty f rect (InPixels at) n e = fewer n (size_of f) (rect.w == 0 || nat_lt at.x rect.w) e
   where
     fewer : (n s : ℕ) (b : Bool) → (nat_lt n s && b) ≡ true → (nat_lt 0 s && b) ≡ true

@@ -76,7 +76,7 @@ few_tiles f w h tiles (mask ∷ rest) begins = let fewer = begins.0 in omega (ar
 pub kept_is_pending : (f : PixelFormat) (rect : Rect) (stage : Stage) (pending : List ℕ) (now before : Grid Colour) (body : List ℕ) → StandsAt f rect stage pending now before body → data_pending f rect (encoding_at stage) body ≡ length pending
 unfolding data_pending
 kept_is_pending f rect BeforeSource pending now before body s = rw s.spelled.0 (short_is (length pending) 4 0 s.spelled.1)
-kept_is_pending f rect Copied pending now before body (x, y, s) =
+kept_is_pending f rect (Copied x y) pending now before body s =
     let size = s.spelled.1.size in
     long_is (length body) 4 0 (omega (arith, size)) ∙ sym (ap length s.spelled.0)
 kept_is_pending f rect (InPixels at) pending now before body (pixels, s) = pixels_pending f _ _ pixels pending body s.spelled
@@ -113,7 +113,11 @@ kept_is_pending f rect (InRawTile tile seen at) pending now before body (tiles, 
 -- what they stand for is shown
 pub stands_shows : (f : PixelFormat) (rect : Rect) (stage : Stage) (pending : List ℕ) (now before : Grid Colour) (body : List ℕ) → StandsAt f rect stage pending now before body → ShowsFront f rect (encoding_at stage) before body pending now
 stands_shows f rect BeforeSource pending now before body s = record { front = NoSource; encoding_is = refl; shown_is = s }
-stands_shows f rect Copied pending now before body (x, y, s) = record { front = TheSource x y; encoding_is = refl; shown_is = s }
+stands_shows f rect (Copied x y) pending now before body s = record {
+  front = TheSource x y;
+  encoding_is = refl;
+  shown_is = s;
+}
 stands_shows f rect (InPixels at) pending now before body (pixels, s) = record { front = SomePixels (places_before rect.w at) pixels; encoding_is = refl; shown_is = s }
 stands_shows f rect BeforeHead pending now before body s = record { front = NoHead; encoding_is = refl; shown_is = s }
 stands_shows f rect (InSubrects left) pending now before body (background, subs, s) = record { front = SomeParts (length subs + left) background subs; encoding_is = refl; shown_is = s }

@@ -75,7 +75,7 @@ module _ (f : PixelFormat) (rect : Rect) (pending : List ℕ) where
   pub joined : (stage : Stage) → is_ended rect stage ≡ false → is_sound f rect stage (length pending) ≡ true → length pending + 1 < piece_size f stage pending → Joins f rect stage pending
   joined BeforeSource left sound short = λ byte picture before body s.
       let l = long byte in record { spelled = (ap (λ (ys : List ℕ). ys ++ byte ∷ []) s.spelled.0, omega (arith, l)); shows = s.shows }
-  joined Copied left sound short = absurd (omega arith)
+  joined (Copied x y) left sound short = absurd (omega arith)
   joined (InPixels at) left sound short = λ byte picture before body stands.
       let l = long byte in
       let inside = inside_row (length pending) (size_of f) at.x at.y rect.w rect.h left sound in
@@ -103,7 +103,7 @@ more_sound n s b short e = grind (arith, nat_tests)
 
 pub joined_sound : (f : PixelFormat) (rect : Rect) (stage : Stage) (pending : List ℕ) → is_sound f rect stage (length pending) ≡ true → length pending + 1 < piece_size f stage pending → piece_size f stage pending ≤ 1536 → is_sound f rect stage (length pending + 1) ≡ true
 joined_sound f rect BeforeSource pending sound short few = grind (arith, nat_tests)
-joined_sound f rect Copied pending sound short few = absurd (omega arith)
+joined_sound f rect (Copied x y) pending sound short few = absurd (omega arith)
 joined_sound f rect (InPixels at) pending sound short few = more_sound (length pending) (size_of f) (rect.w == 0 || nat_lt at.x rect.w) short sound
 joined_sound f rect BeforeHead pending sound short few = grind (arith, nat_tests)
 joined_sound f rect (InSubrects left) pending sound short few = grind (arith, nat_tests)

@@ -1,6 +1,7 @@
 pub mod PixelLaws
 pub mod PixelLemmas
 pub mod BlockLemmas
+mod BytesLemmas
 mod StandardFacts
 mod UpdateFacts
 mod EffectFacts
@@ -58,6 +59,8 @@ pub mod TakeTileLemmas
 pub mod RawTileLemmas
 pub mod RectangleLemmas
 pub mod TileFaultLemmas
+mod TileOutsideLemmas
+mod TileRefusalLemmas
 pub mod TakePartLemmas
 pub mod LeastLemmas
 pub mod JoinLemmas

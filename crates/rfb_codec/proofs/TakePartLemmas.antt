@@ -1,5 +1,8 @@
 -- A source, RRE's head and its subrectangles, taken at their last bytes.
-use Rattle.std.proofs.Common.{◌≡◌, ℕ, ◌+◌, ◌-◌, ◌<◌, List, [], ◌∷◌, ◌++◌, length, take, drop, refl, sym, subst, ◌∙◌, ap, append-nil, append_assoc, arith, length-append, length-take-le}
+use Rattle.std.proofs.Common.{◌≡◌, ℕ, ◌+◌, ◌-◌, ◌<◌, ◌==◌, nat_lt, true, false, List, [], ◌∷◌, ◌++◌, length}
+use Rattle.std.proofs.Common.{take, drop, refl, sym, subst, ◌∙◌, ap, append-nil, append_assoc, arith}
+use Rattle.std.proofs.Common.{length-append, length-take-le}
+use Rattle.std.proofs.lemmas.Bool.Decides.{nat_tests}
 use Rattle.byteorder.specs.Endian.{big_number}
 use Rattle.rfb_pixel.specs.declared.colour.Colour.{Colour}
 use Rattle.rfb_pixel.specs.Format.{PixelFormat, size_of, colour_of, pixel_number}
@@ -15,17 +18,18 @@ use Rattle.rfb_wire.proofs.stream_laws.RepeatLaws.{listed_from, listed_to}
 use Rattle.rfb_codec.specs.declared.subrect.Subrect.{Subrect}
 use Rattle.rfb_codec.specs.declared.fault.PaintFault.{PaintFault}
 use Rattle.rfb_codec.specs.declared.fault.PaintFault.TheVariants.{SubrectOutside, SourceOutside}
-use Rattle.rfb_codec.specs.declared.painter.stage.Stage.TheVariants.{InSubrects}
+use Rattle.rfb_codec.specs.declared.painter.stage.Stage.TheVariants.{BeforeSource, InSubrects}
 use Rattle.rfb_codec.specs.Rre.{SpellsInside, subrect_of}
 use Rattle.rfb_codec.specs.RectData.{FaultsData, moved_to, rect_data}
 use Rattle.rfb_codec.specs.Front.{NoSource, NoHead, SomeParts, Shows}
-use Rattle.rfb_codec.specs.inside.Step.{moved_into}
-use Rattle.rfb_codec.specs.Stage.{StandsAt, IsRefused}
+use Rattle.rfb_codec.specs.inside.Step.{moved_into, IsRefusedWith}
+use Rattle.rfb_codec.specs.Stage.{StandsAt}
 use Rattle.rfb_codec.proofs.HextileEncodeLemmas.{listed_more}
 use Rattle.rfb_pixel.proofs.FormatLaws.{pixel_number-take}
 use Rattle.rfb_codec.proofs.PaintRreLemmas.{over_filled}
 use Rattle.rfb_codec.proofs.RreLaws.{subrect_spelled}
 use Rattle.rfb_codec.proofs.RectDataLaws.{rect_data_reads}
+use Rattle.rfb_codec.proofs.VerdictLemmas.{stage_waits}
 
 -- ---- a fault
 
@@ -45,21 +49,44 @@ front_short k n pending bytes xs is within size =
 
 -- ---- CopyRect
 
-pub source_refused : (f : PixelFormat) (rect : Rect) (pending bytes xs : List ℕ) (k x y : ℕ) (now before : Grid Colour) (body : List ℕ) → Shows f rect NoSource pending now before body → k < length bytes → xs ≡ pending ++ take (k + 1) bytes → length xs ≡ 4 → u16_at 0 xs ≡ x → u16_at 2 xs ≡ y → (IsOnScreen now.width now.height (moved_to x y rect) → ⊥) → IsRefused f rect CopyRect before body bytes SourceOutside now
-source_refused f rect pending bytes xs k x y now before body s within is size x_is y_is off =
+pub source_refused : (f : PixelFormat) (rect : Rect) (pending bytes xs : List ℕ) (used k x y : ℕ)
+    (now before : Grid Colour) (body : List ℕ) → Shows f rect NoSource pending now before body →
+    k < length bytes → xs ≡ pending ++ take (k + 1) bytes → length xs ≡ 4 → u16_at 0 xs ≡ x → u16_at 2 xs ≡ y →
+    (IsOnScreen now.width now.height (moved_to x y rect) → ⊥) → used ≡ k + 1 →
+    IsRefusedWith f rect CopyRect before body bytes (record { used = used; fault = SourceOutside }) now
+source_refused f rect pending bytes xs used k x y now before body s within is size x_is y_is off last =
     let whole : body ++ take (k + 1) bytes ≡ xs = ap (λ (ys : List ℕ). ys ++ take (k + 1) bytes) s.spelled.0 ∙ sym is in
     let off' : IsOnScreen before.width before.height (moved_to x y rect) → ⊥ = subst (λ (g : Grid Colour). IsOnScreen g.width g.height (moved_to x y rect) → ⊥) s.shows off in
     let short = front_short k 3 pending bytes xs is within size in
+    let shown : Shows f rect NoSource (pending ++ take k bytes) now before
+    (body ++ take k bytes) = record {
+      spelled = (
+        ap (λ (ys : List ℕ). ys ++ take k bytes) s.spelled.0,
+        omega
+            (arith, short),
+      );
+      shows = s.shows;
+    } in
     record {
-      n = k;
-      pending = pending ++ take k bytes;
-      within = within;
-      bad = rw whole (data_bad f rect CopyRect before xs SourceOutside (refl, record { x = x; y = y; spelled = record { size = size; x_is = x_is; y_is = y_is }; outside = off' }));
-      shows = record {
-        front = NoSource;
-        encoding_is = refl;
-        shown_is = record { spelled = (ap (λ (ys : List ℕ). ys ++ take k bytes) s.spelled.0, omega (arith, short)); shows = s.shows };
+      refused = record {
+        n = k;
+        pending = pending ++ take k bytes;
+        within = within;
+        bad = rw whole (data_bad f rect CopyRect before xs SourceOutside (
+          refl,
+          record {
+            x = x;
+            y = y;
+            spelled = record { size = size; x_is = x_is; y_is = y_is };
+            outside =
+                off';
+          },
+        ));
+        shows = record { front = NoSource; encoding_is = refl; shown_is = shown };
       };
+      last = last;
+      waits = stage_waits f rect BeforeSource (pending ++ take k bytes) now before (body ++ take k bytes) refl
+          (let three = short in grind (arith, nat_tests)) shown;
     }
 
 -- ---- RRE
@@ -140,9 +167,13 @@ subrect_waits f rect left pending more xs now before body some is short (backgro
     )
 
 -- one that leaves the rectangle
-pub subrect_refused : (f : PixelFormat) (rect : Rect) (left k : ℕ) (pending bytes xs : List ℕ) (now before : Grid Colour) (body : List ℕ) → 0 < left → k < length bytes → xs ≡ pending ++ take (k + 1) bytes → length xs ≡ size_of f + 8 → (IsOnScreen rect.w rect.h (subrect_of f xs).rect → ⊥) → StandsAt f rect (InSubrects left) pending now before body → IsRefused f rect Rre before body bytes SubrectOutside now
+pub subrect_refused : (f : PixelFormat) (rect : Rect) (left used k : ℕ) (pending bytes xs : List ℕ)
+    (now before : Grid Colour) (body : List ℕ) → 0 < left → k < length bytes → xs ≡ pending ++ take
+    (k + 1) bytes → length xs ≡ size_of f + 8 → (IsOnScreen rect.w rect.h (subrect_of f xs).rect → ⊥) →
+    StandsAt f rect (InSubrects left) pending now before body → used ≡ k + 1 →
+    IsRefusedWith f rect Rre before body bytes (record { used = used; fault = SubrectOutside }) now
 unfolding subrect_waits
-subrect_refused f rect left k pending bytes xs now before body some within is size off (background, subs, s) =
+subrect_refused f rect left used k pending bytes xs now before body some within is size off (background, subs, s) last =
     let p = s.spelled in
     let whole : body ++ take (k + 1) bytes ≡ p.head ++ (p.list ++ xs) =
     ap (λ (ys : List ℕ). ys ++ take (k + 1) bytes) p.whole ∙ append_assoc p.head (p.list ++ pending) (take (k + 1) bytes)
@@ -150,26 +181,42 @@ subrect_refused f rect left k pending bytes xs now before body some within is si
     let short = front_short k (size_of f + 7) pending bytes xs is within (size ∙ omega arith) in
     let waits = subrect_waits f rect left pending (take k bytes) (pending ++ take k bytes) now before body some refl (omega (arith, short)) (background, subs, s) in
     record {
-      n = k;
-      pending = pending ++ take k bytes;
-      within = within;
-      bad = rw whole (data_bad f rect Rre before (p.head ++ (p.list ++ xs)) SubrectOutside (
-        refl,
-        record {
-          count = length subs + left;
-          background = background;
-          subs = subs;
-          outside = subrect_of f xs;
-          head = p.head;
-          list = p.list;
-          last = xs;
-          whole = refl;
-          head_is = p.head_is;
-          fewer = omega arith;
-          listed = p.listed;
-          last_is = subrect_spelled f xs size;
-          leaves = off;
-        },
-      ));
-      shows = record { front = SomeParts (length subs + left) waits.0 waits.1; encoding_is = refl; shown_is = waits.2 };
+      refused = record {
+        n = k;
+        pending = pending ++ take k bytes;
+        within = within;
+        bad = rw whole (data_bad f rect Rre before (p.head ++ (p.list ++ xs)) SubrectOutside (
+          refl,
+          record {
+            count = length subs + left;
+            background = background;
+            subs = subs;
+            outside = subrect_of f xs;
+            head = p.head;
+            list = p.list;
+            last = xs;
+            whole = refl;
+            head_is = p.head_is;
+            fewer = omega arith;
+            listed = p.listed;
+            last_is = subrect_spelled f xs size;
+            leaves = off;
+          },
+        ));
+        shows = record {
+          front = SomeParts (length subs + left) waits.0 waits.1;
+          encoding_is = refl;
+          shown_is =
+              waits.2;
+        };
+      };
+      last = last;
+      waits = stage_waits f rect (InSubrects left) (pending ++ take k bytes) now before (body ++ take k bytes)
+          (is_some left some) (few (length (pending ++ take k bytes)) (size_of f + 8) (omega (arith, short))) waits;
     }
+  where
+    is_some : (n : ℕ) → 0 < n → (n == 0) ≡ false
+    is_some n e = grind (arith, nat_tests)
+
+    few : (n m : ℕ) → n < m → nat_lt n m ≡ true
+    few n m e = grind (arith, nat_tests)

@@ -13,6 +13,7 @@ use Rattle.rfb_wire.specs.stream.Reading.{Next, More, Got}
 use Rattle.rfb_wire.specs.RectHead.{IsOnScreen}
 use Rattle.rfb_wire.specs.declared.encoding.Encoding.TheVariants.{Hextile}
 use Rattle.rfb_codec.specs.declared.fault.PaintFault.{PaintFault}
+use Rattle.rfb_codec.specs.declared.fault.Flaw.{Flaw}
 use Rattle.rfb_codec.specs.declared.hextile.paint.tile_read.TileRead.{TileRead}
 use Rattle.rfb_codec.specs.declared.hextile.paint.tile_read.Seen.{Seen}
 use Rattle.rfb_codec.specs.declared.painter.stage.Step.{Step}
@@ -40,7 +41,10 @@ pub some_before : (seen : Seen) → (tiles : List Tile) × Sees tiles seen
 some_before seen = (PlainTile seen.background seen.foreground [] ∷ [], record { background = refl; foreground = refl })
 
 -- what a reading gives of a tile of that size it gives of the rectangle's next
-pub told_next : (f : PixelFormat) (w h n tw th : ℕ) (tiles : List Tile) (bytes : List ℕ) (result : Result (Option TileRead) PaintFault) → length tiles ≡ n → tw ≡ tile_width w n → th ≡ tile_height w h n → TellsTile f tw th bytes result (tile_after f tw th tiles bytes) → TellsTile f (tile_width w n) (tile_height w h n) bytes result (next_tile f w h tiles bytes)
+pub told_next : (f : PixelFormat) (w h n tw th : ℕ) (tiles : List Tile) (bytes : List ℕ) (result : Result
+    (Option TileRead) Flaw) → length tiles ≡ n → tw ≡ tile_width w n → th ≡ tile_height w h n →
+    TellsTile f tw th bytes result (tile_after f tw th tiles bytes) → TellsTile f (tile_width w n)
+    (tile_height w h n) bytes result (next_tile f w h tiles bytes)
 told_next f w h n tw th tiles bytes result number wide high told = rw number (rw (wide, high) at told)
 
 -- a tile that is read whole, from its own bytes
@@ -107,7 +111,10 @@ draws_next f rect places n read bytes seen next old new is columns rows whole ba
     (more, draws f rect n tiles (tile_of_read f (tile_width rect.w n) (tile_height rect.w rect.h n) read bytes) old new before number columns' rows' whole was (drawn' tiles more))
 
 -- what was read of it lies there
-pub good_tile : (f : PixelFormat) (rect : Rect) (n tw th : ℕ) (bytes : List ℕ) (result : Result (Option TileRead) PaintFault) (next : Next Tile PaintFault) → tw ≡ tile_width rect.w n → th ≡ tile_height rect.w rect.h n → TellsTile f tw th bytes result next → IfOk result (λ told. IfSome told (λ read. IsGoodTile f rect n read bytes))
+pub good_tile : (f : PixelFormat) (rect : Rect) (n tw th : ℕ) (bytes : List ℕ) (result : Result
+    (Option TileRead) Flaw) (next : Next Tile PaintFault) → tw ≡ tile_width rect.w n →
+    th ≡ tile_height rect.w rect.h n → TellsTile f tw th bytes result next → IfOk result (λ told. IfSome told
+    (λ read. IsGoodTile f rect n read bytes))
 good_tile f rect n tw th bytes (Ok None) next wide high told = tt
 good_tile f rect n tw th bytes (Ok (Some read)) next wide high told = let told' = rw (wide, high) at told in record { lies = told'.1; inside = told'.2 }
 good_tile f rect n tw th bytes (Err fault) next wide high told = tt

@@ -105,7 +105,7 @@ after_fault f w h mask false true fault bytes (inr (b, first, others, whole, is,
 
 -- ---- a tile's layout
 
-abbrev layout_says : PixelFormat → ℕ → ℕ → List Tile → Says Tile PaintFault
+abbrev pub layout_says : PixelFormat → ℕ → ℕ → List Tile → Says Tile PaintFault
 layout_says f w h before = record { item = SpellsTile f w h before; fault = FaultsMask before }
 
 abbrev mask_says : List Tile → Says ℕ PaintFault
@@ -134,7 +134,8 @@ layout_same f w h before = record { item = item; fault = fault; item_back = item
     fault_back : (g : PaintFault) (bytes : List ℕ) → FaultsMask before g bytes → (layout_parts f w h before).fault g bytes
     fault_back g bytes s = inl (s.one, s.bad)
 
-layout_reads : (f : PixelFormat) (w h : ℕ) (before : List Tile) → Reads (tile_layout f w h before) (layout_says f w h before)
+pub layout_reads : (f : PixelFormat) (w h : ℕ) (before : List Tile) → Reads (tile_layout f w h before)
+    (layout_says f w h before)
 layout_reads f w h before =
     same_reads (tile_layout f w h before) (layout_parts f w h before) (layout_says f w h before) (layout_same f w h before)
     (then_reads (checked 1 (λ bytes. mask_fault before (u8_at 0 bytes)) (u8_at 0)) (λ mask. after_mask f w h mask (is_raw mask) (subrects_colored mask)) (mask_says before) (λ mask. parts_after f w h mask (is_raw mask) (subrects_colored mask))

@@ -17,6 +17,7 @@ use Rattle.rfb_wire.proofs.stream_laws.ReadingLaws.{each_waits, many_waits}
 use Rattle.rfb_wire.proofs.stream_laws.RepeatLaws.{valued_reads}
 use Rattle.rfb_codec.specs.declared.fault.PaintFault.{PaintFault}
 use Rattle.rfb_codec.specs.declared.subrect.Subrect.{Subrect}
+use Rattle.rfb_codec.specs.declared.hextile.paint.tile_read.Seen.{Seen}
 use Rattle.rfb_codec.specs.declared.painter.stage.Place.{Place}
 use Rattle.rfb_codec.specs.declared.painter.stage.Stage.{Stage}
 use Rattle.rfb_codec.specs.declared.painter.stage.Stage.TheVariants.{BeforeSource, Copied, InPixels, BeforeHead, InSubrects, InTiles, InRawTile}
@@ -27,9 +28,9 @@ use Rattle.rfb_codec.specs.Tile.{Tile}
 use Rattle.rfb_codec.specs.Hextile.{tile_count, tile_width, tile_height, SpellsNextTile, pixel_of_tiles, hextile}
 use Rattle.rfb_codec.specs.Hextile.{next_tile}
 use Rattle.rfb_codec.specs.inside.TileRead.{all_tiles}
-use Rattle.rfb_codec.specs.RectData.{RectData, Pixels, Source, SpellsData, rect_data, painted}
+use Rattle.rfb_codec.specs.RectData.{RectData, Pixels, Source, SpellsData, rect_data, painted, source_in}
 use Rattle.rfb_codec.specs.Front.{SomePixels, SpellsPixels, BeginsTile, tiles_over, Shows}
-use Rattle.rfb_codec.specs.Stage.{places_before, encoding_at, is_ended, is_sound, StandsAt}
+use Rattle.rfb_codec.specs.Stage.{places_before, copied_from, encoding_at, is_ended, is_sound, StandsAt}
 use Rattle.rfb_codec.proofs.PixelLaws.{sized-drawn}
 use Rattle.rfb_codec.proofs.PaintLemmas.{over_drawn}
 use Rattle.rfb_codec.proofs.PaintRawLemmas.{raw_short}
@@ -104,16 +105,31 @@ tiles_ended f w h tiles (mask ∷ rest) begins all = absurd (omega (arith, begin
 
 pub whole_under : (f : PixelFormat) (rect : Rect) (stage : Stage) (pending : List ℕ) (now before : Grid Colour) (body : List ℕ) → IsGrid now → StandsAt f rect stage pending now before body → IsGrid before
 whole_under f rect BeforeSource pending now before body whole s = subst (λ (g : Grid Colour). IsGrid g) s.shows whole
-whole_under f rect Copied pending now before body whole (x, y, s) = whole_before _ before (subst (λ (g : Grid Colour). IsGrid g) s.shows whole)
+whole_under f rect (Copied x y) pending now before body whole s = whole_before _ before (subst (λ
+    (g : Grid Colour). IsGrid g) s.shows whole)
 whole_under f rect (InPixels at) pending now before body whole (pixels, s) = whole_before _ before (subst (λ (g : Grid Colour). IsGrid g) s.shows whole)
 whole_under f rect BeforeHead pending now before body whole s = subst (λ (g : Grid Colour). IsGrid g) s.shows whole
 whole_under f rect (InSubrects left) pending now before body whole (background, subs, s) = whole_before _ before (subst (λ (g : Grid Colour). IsGrid g) s.shows whole)
 whole_under f rect (InTiles tile seen) pending now before body whole (tiles, number, sees, s) = whole_before _ before (subst (λ (g : Grid Colour). IsGrid g) s.shows whole)
 whole_under f rect (InRawTile tile seen at) pending now before body whole (tiles, pixels, number, sees, s) = whole_before _ before (whole_before _ _ (subst (λ (g : Grid Colour). IsGrid g) s.shows whole))
 
+-- once the data have ended, what was copied from is the source that they name
+pub ended_source : (f : PixelFormat) (rect : Rect) (stage : Stage) (pending : List ℕ) (now before : Grid Colour)
+    (body : List ℕ) → is_ended rect stage ≡ true →
+    StandsAt f rect stage pending now before body → copied_from stage ≡ source_in (encoding_at stage) body
+ended_source f rect BeforeSource pending now before body e s = cc
+ended_source f rect (Copied x y) pending now before body e s =
+    let named = s.spelled.1 in
+    rw (named.x_is, named.y_is) refl
+ended_source f rect (InPixels at) pending now before body e s = refl
+ended_source f rect BeforeHead pending now before body e s = refl
+ended_source f rect (InSubrects left) pending now before body e s = refl
+ended_source f rect (InTiles tile seen) pending now before body e s = refl
+ended_source f rect (InRawTile tile seen at) pending now before body e s = refl
+
 pub stage_ended : (f : PixelFormat) (rect : Rect) (stage : Stage) (pending : List ℕ) (now before : Grid Colour) (body : List ℕ) → IsGrid before → is_ended rect stage ≡ true → StandsAt f rect stage pending now before body → HasEnded f rect (encoding_at stage) pending now before body
 stage_ended f rect BeforeSource pending now before body whole e s = cc
-stage_ended f rect Copied pending now before body whole e (x, y, s) = record {
+stage_ended f rect (Copied x y) pending now before body whole e s = record {
   contents = Source x y;
   read = data_got f rect CopyRect before body body (Source x y) refl (s.spelled.1, s.spelled.2);
   shows = s.shows;
@@ -189,9 +205,20 @@ fewer_bytes f all count pixels pending body s less =
     let short = s.short in
     omega (arith, long, next, size, short)
 
+-- tiles that are not all there
+pub tiles_are_awaited : (f : PixelFormat) (rect : Rect) (tile : ℕ) (seen : Seen) (pending : List ℕ)
+    (now before : Grid Colour) (body : List ℕ) → tile < tile_count rect.w rect.h → StandsAt f rect
+    (InTiles tile seen) pending now before body → rect_data f before.width before.height rect Hextile body ≡ More
+tiles_are_awaited f rect tile seen pending now before body less (tiles, number, sees, s) =
+    let p = s.spelled in
+    let fewer : length tiles < tile_count rect.w rect.h = omega (arith, less, number) in
+    rw p.whole (hextile_data f before.width before.height rect (p.front ++ pending)
+    (tiles_wait f rect.w rect.h tiles p.front pending p.spelled fewer
+    (begun f rect.w rect.h tiles pending p.begins)))
+
 pub stage_waits : (f : PixelFormat) (rect : Rect) (stage : Stage) (pending : List ℕ) (now before : Grid Colour) (body : List ℕ) → is_ended rect stage ≡ false → is_sound f rect stage (length pending) ≡ true → StandsAt f rect stage pending now before body → rect_data f before.width before.height rect (encoding_at stage) body ≡ More
 stage_waits f rect BeforeSource pending now before body e sound s = rw s.spelled.0 (source_data f before.width before.height rect pending s.spelled.1)
-stage_waits f rect Copied pending now before body e sound s = cc
+stage_waits f rect (Copied x y) pending now before body e sound s = cc
 stage_waits f rect (InPixels at) pending now before body e sound (pixels, s) =
     let left = one_left rect.w rect.h at.x at.y (length pending) (size_of f) e sound in
     let inside = run_within rect.w rect.h at.x at.y 1 left.0 left.1 in
@@ -201,10 +228,8 @@ stage_waits f rect (InSubrects left) pending now before body e sound (background
     let p = s.spelled in
     let some = not_zero left e in
     rw p.whole (rre_data f before.width before.height rect (p.head ++ (p.list ++ pending)) (rre_waits f rect.w rect.h (length subs + left) background subs p.head p.list pending p.head_is p.listed (omega (arith, some)) p.short))
-stage_waits f rect (InTiles tile seen) pending now before body e sound (tiles, number, sees, s) =
-    let p = s.spelled in
-    let fewer : length tiles < tile_count rect.w rect.h = let less = lt_is (tile_count rect.w rect.h) tile e in omega (arith, less, number) in
-    rw p.whole (hextile_data f before.width before.height rect (p.front ++ pending) (tiles_wait f rect.w rect.h tiles p.front pending p.spelled fewer (begun f rect.w rect.h tiles pending p.begins)))
+stage_waits f rect (InTiles tile seen) pending now before body e sound stands =
+    tiles_are_awaited f rect tile seen pending now before body (lt_is (tile_count rect.w rect.h) tile e) stands
 stage_waits f rect (InRawTile tile seen at) pending now before body e sound (tiles, pixels, number, sees, s) =
     let p = s.spelled in
     let w = tile_width rect.w (length tiles) in

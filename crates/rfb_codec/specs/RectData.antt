@@ -32,6 +32,13 @@ pub record SpellsSource (x y : ℕ) (bytes : List ℕ) : Type 0 where
   pub x_is : u16_at 0 bytes ≡ x
   pub y_is : u16_at 2 bytes ≡ y
 
+-- the corner that the data of this encoding name to copy from, if they do
+abbrev pub source_in : Encoding → List ℕ → Option (ℕ × ℕ)
+source_in Raw bytes = None
+source_in CopyRect bytes = Some (u16_at 0 bytes, u16_at 2 bytes)
+source_in Rre bytes = None
+source_in Hextile bytes = None
+
 -- a rectangle of the same size with another corner
 abbrev pub moved_to : ℕ → ℕ → Rect → Rect
 moved_to x y rect = record rect { x = x; y = y }

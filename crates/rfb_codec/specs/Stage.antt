@@ -1,5 +1,6 @@
 -- How far a painter has come: what its stage, its pending bytes and the picture stand for.
-use Rattle.std.specs.Prelude.{◌≡◌, ℕ, ◌+◌, ◌*◌, ◌<◌, ◌&&◌, ◌||◌, ◌==◌, nat_le, nat_lt, Bool, true, false, List, ◌++◌, length, take}
+use Rattle.std.specs.Prelude.{◌≡◌, ℕ, ◌+◌, ◌*◌, ◌<◌, ◌&&◌, ◌||◌, ◌==◌, nat_le, nat_lt, Bool, true, false, List}
+use Rattle.std.specs.Prelude.{◌++◌, length, take, Option, Some, None}
 use Rattle.rfb_pixel.specs.declared.colour.Colour.{Colour}
 use Rattle.rfb_pixel.specs.Format.{PixelFormat, size_of}
 use Rattle.rfb_picture.specs.declared.rect.Rect.{Rect}
@@ -24,12 +25,22 @@ places_before width at = at.y * width + at.x
 
 abbrev pub encoding_at : Stage → Encoding
 encoding_at BeforeSource = CopyRect
-encoding_at Copied = CopyRect
+encoding_at (Copied x y) = CopyRect
 encoding_at (InPixels at) = Raw
 encoding_at BeforeHead = Rre
 encoding_at (InSubrects left) = Rre
 encoding_at (InTiles tile seen) = Hextile
 encoding_at (InRawTile tile seen at) = Hextile
+
+-- the corner that was copied from, if one was
+abbrev pub copied_from : Stage → Option (ℕ × ℕ)
+copied_from BeforeSource = None
+copied_from (Copied x y) = Some (x, y)
+copied_from (InPixels at) = None
+copied_from BeforeHead = None
+copied_from (InSubrects left) = None
+copied_from (InTiles tile seen) = None
+copied_from (InRawTile tile seen at) = None
 
 -- the last colours that the tiles specified
 pub record Sees (before : List Tile) (seen : Seen) : Type 0 where
@@ -41,8 +52,8 @@ pub record Sees (before : List Tile) (seen : Seen) : Type 0 where
 abbrev pub StandsAt : PixelFormat → Rect → Stage → List ℕ → Grid Colour → Grid Colour → List ℕ →
     Type 0
 StandsAt f rect BeforeSource pending now before body = Shows f rect NoSource pending now before body
-StandsAt f rect Copied pending now before body =
-    (x y : ℕ) × Shows f rect (TheSource x y) pending now before body
+StandsAt f rect (Copied x y) pending now before body =
+    Shows f rect (TheSource x y) pending now before body
 StandsAt f rect (InPixels at) pending now before body =
     (pixels : List ℕ)
     × Shows f rect (SomePixels (places_before rect.w at) pixels) pending now before body
@@ -61,7 +72,7 @@ StandsAt f rect (InRawTile tile seen at) pending now before body =
 -- the data have ended
 abbrev pub is_ended : Rect → Stage → Bool
 is_ended rect BeforeSource = false
-is_ended rect Copied = true
+is_ended rect (Copied x y) = true
 is_ended rect (InPixels at) = rect.w == 0 || nat_le rect.h at.y
 is_ended rect BeforeHead = false
 is_ended rect (InSubrects left) = left == 0
@@ -75,7 +86,7 @@ is_inside width height at = nat_lt at.x width && nat_lt at.y height
 -- fewer bytes are pending than the piece under way has, and a place under way is one
 abbrev pub is_sound : PixelFormat → Rect → Stage → ℕ → Bool
 is_sound f rect BeforeSource pending = nat_lt pending 4
-is_sound f rect Copied pending = pending == 0
+is_sound f rect (Copied x y) pending = pending == 0
 is_sound f rect (InPixels at) pending =
     nat_lt pending (size_of f) && (rect.w == 0 || nat_lt at.x rect.w)
 is_sound f rect BeforeHead pending = nat_lt pending (4 + size_of f)

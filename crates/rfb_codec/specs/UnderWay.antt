@@ -6,12 +6,14 @@ use Rattle.rfb_pixel.specs.Format.{PixelFormat}
 use Rattle.rfb_picture.specs.declared.rect.Rect.{Rect}
 use Rattle.rfb_picture.specs.Grid.{Grid}
 use Rattle.rfb_wire.specs.stream.Reading.{More, Got, Bad}
+use Rattle.rfb_wire.specs.stream.Placing.{FaultsWith}
 use Rattle.rfb_codec.specs.declared.fault.PaintFault.{PaintFault}
+use Rattle.rfb_codec.specs.declared.fault.Flaw.{Flaw}
 use Rattle.rfb_codec.specs.declared.painter.stage.Stage.{Stage}
-use Rattle.rfb_codec.specs.RectData.{RectData, painted}
+use Rattle.rfb_codec.specs.RectData.{RectData, painted, source_in}
 use Rattle.rfb_codec.specs.Painter.{Painting, data_of}
 use Rattle.rfb_codec.specs.Front.{ShowsFront}
-use Rattle.rfb_codec.specs.Stage.{StandsAt, IsRefused, encoding_at}
+use Rattle.rfb_codec.specs.Stage.{StandsAt, IsRefused, copied_from, encoding_at}
 
 -- what a `Painter` paints, how far the data have come, and the bytes of the piece under way
 pub record UnderWay : Type 0 where
@@ -38,6 +40,12 @@ Paints p picture bytes next now =
     (now ≡ painted p.form p.rect contents before)
     × (next.pending ≡ [])
 
+-- the corner that was copied from is the one that the data with these bytes name
+abbrev pub CopiesFrom : UnderWay → Grid Colour → List ℕ → UnderWay → Type 0
+CopiesFrom p picture bytes next =
+    (before : Grid Colour) (body : List ℕ) → StandsFor p picture before body →
+    copied_from next.stage ≡ source_in (encoding_at p.stage) (body ++ bytes)
+
 -- with the bytes the data are not whole, and painter and picture stand for them
 abbrev pub Waits : UnderWay → Grid Colour → List ℕ → UnderWay → Grid Colour → Type 0
 Waits p picture bytes next now =
@@ -50,6 +58,12 @@ Refuses p picture bytes now fault =
     (before : Grid Colour) (body : List ℕ) → StandsFor p picture before body →
     (data_of (painting p) before (body ++ bytes) ≡ Bad fault) ×
     IsRefused p.form p.rect (encoding_at p.stage) before body bytes fault now
+
+-- they show it with that byte, and without it the data wait for more
+abbrev pub ShowsWith : UnderWay → Grid Colour → List ℕ → Flaw → Type 0
+ShowsWith p picture bytes flaw =
+    (before : Grid Colour) (body : List ℕ) → StandsFor p picture before body →
+    FaultsWith (λ more. data_of (painting p) before (body ++ more)) bytes flaw.used flaw.fault
 
 -- ---- what a painter stands for is shown
 

@@ -23,5 +23,15 @@ pub enum PaintFault {
     SourceOutside,
 }
 
+/// With which byte a fault came.
+#[derive(Clone, Copy, Debug, PartialEq, Eq)]
+pub struct Flaw {
+    /// How many of the bytes, from the first on, show it: the last of them is the first byte with
+    /// which they do.
+    pub used: usize,
+    /// What is wrong there.
+    pub fault: PaintFault,
+}
+
 #[cfg(test)]
 mod tests;

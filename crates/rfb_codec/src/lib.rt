@@ -16,7 +16,7 @@
 //!
 //! 1. `Painter::new` once its head is read: where it lies, its encoding, the format in force.
 //! 2. `feed` with each slice and the picture, until it is done. What it did not use is of the next
-//!    rectangle.
+//!    rectangle. `take` does the same, and a fault tells its byte.
 //!
 //! | Bytes | Go to |
 //! |---|---|
@@ -32,6 +32,7 @@ mod fault;
 mod hextile;
 pub mod law;
 mod painter;
+mod pixels;
 mod raw;
 mod rre;
 mod subrect;
@@ -41,8 +42,9 @@ mod tests;
 pub use block::{Block, PLACES, SIDE};
 pub use codec::Codec;
 pub use copy_rect::spell_source;
-pub use fault::PaintFault;
+pub use fault::{Flaw, PaintFault};
 pub use hextile::Hextile;
 pub use painter::{Painted, Painter};
+pub use pixels::{paint_bytes, paint_pixels};
 pub use raw::Raw;
 pub use rre::Rre;

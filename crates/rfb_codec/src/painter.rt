@@ -3,8 +3,9 @@
 ghost use Rattle.std.specs.Prelude.{◌≡◌, ◌<◌, ◌≤◌, [], length, take, true, false, IfOk, IfErr};
 ghost use Rattle.rfb_pixel.specs.declared.colour.Colour.{Colour};
 ghost use Rattle.rfb_picture.specs.Grid.{Grid, Holds};
-ghost use Rattle.rfb_codec.specs.UnderWay.{painting, StandsFor, Paints, Waits, Refuses};
-ghost use Rattle.rfb_codec.specs.Stage.{encoding_at, is_ended};
+ghost use Rattle.rfb_codec.specs.UnderWay.{painting, StandsFor, Paints, CopiesFrom, Waits, Refuses};
+ghost use Rattle.rfb_codec.specs.UnderWay.{ShowsWith};
+ghost use Rattle.rfb_codec.specs.Stage.{copied_from, encoding_at, is_ended};
 ghost use Rattle.rfb_codec.specs.inside.Step.{stage_of};
 
 pub mod fill;
@@ -14,7 +15,7 @@ mod pieces;
 pub mod rectangle;
 pub mod stage;
 
-use crate::fault::PaintFault;
+use crate::fault::{Flaw, PaintFault};
 use crate::hextile::NOTHING;
 use arrayvec::ArrayVec;
 use gather::Pending;
@@ -109,9 +110,47 @@ impl Painter {
         // what it makes of the picture
         ensures done { IfOk result (λ answer. answer.done ≡ true →
             Paints self.old picture.old (take answer.used bytes.now) self.new picture.new) }
+        ensures copied { IfOk result (λ answer. answer.done ≡ true →
+            CopiesFrom self.old picture.old (take answer.used bytes.now) self.new) }
         ensures more { IfOk result (λ answer. answer.done ≡ false →
             Waits self.old picture.old bytes.now self.new picture.new) }
         ensures fault { IfErr result (Refuses self.old picture.old bytes.now picture.new) }
+        // what stays
+        ensures rect { self.new.rect ≡ self.old.rect }
+        ensures form { self.new.form ≡ self.old.form }
+        ensures encoding { encoding_at self.new.stage ≡ encoding_at self.old.stage }
+        ensures width { picture.new.width ≡ picture.old.width }
+        ensures height { picture.new.height ≡ picture.old.height }
+    {
+        match self.take(bytes, picture) {
+            Ok(painted) => Ok(painted),
+            Err(flaw) => Err(flaw.fault),
+        }
+    }
+
+    /// As `feed`, and a fault says with which byte it came.
+    pub fn take(&mut self, bytes: &[u8], picture: &mut Picture<Colour>) -> Result<Painted, Flaw>
+        requires { Holds picture.old self.old.rect }
+        // how much was taken
+        ensures used { IfOk result (λ answer. answer.used ≤ length bytes.now) }
+        ensures some { IfOk result (λ answer. is_ended self.old.rect self.old.stage ≡ false →
+            0 < length bytes.now → 0 < answer.used) }
+        ensures all { IfOk result (λ answer. answer.done ≡ false → answer.used ≡ length bytes.now) }
+        ensures ended { IfOk result (λ answer.
+            answer.done ≡ is_ended self.new.rect self.new.stage) }
+        // what it makes of the picture
+        ensures done { IfOk result (λ answer. answer.done ≡ true →
+            Paints self.old picture.old (take answer.used bytes.now) self.new picture.new) }
+        ensures copied { IfOk result (λ answer. answer.done ≡ true →
+            CopiesFrom self.old picture.old (take answer.used bytes.now) self.new) }
+        ensures more { IfOk result (λ answer. answer.done ≡ false →
+            Waits self.old picture.old bytes.now self.new picture.new) }
+        ensures fault { IfErr result (λ flaw.
+            Refuses self.old picture.old bytes.now picture.new flaw.fault) }
+        // with which byte a fault comes
+        ensures with { IfErr result (λ flaw. ShowsWith self.old picture.old bytes.now flaw) }
+        ensures begun { IfErr result (λ flaw. 0 < flaw.used) }
+        ensures within { IfErr result (λ flaw. flaw.used ≤ length bytes.now) }
         // what stays
         ensures rect { self.new.rect ≡ self.old.rect }
         ensures form { self.new.form ≡ self.old.form }
@@ -146,6 +185,17 @@ impl Painter {
         ensures { result ≡ self.now.rect }
     {
         self.rectangle.rect
+    }
+
+    /// The corner of what a CopyRect, section 7.7.2, was copied from, its column and its row, once
+    /// it is painted. Of other encodings there is none.
+    pub fn copied_from(&self) -> Option<(u16, u16)>
+        ensures { result ≡ copied_from self.now.stage }
+    {
+        match self.stage {
+            Stage::Copied { x, y } => Some((x, y)),
+            _ => None,
+        }
     }
 
     /// How many bytes of the piece under way are kept. The mask of a raw tile is not among them.

@@ -72,18 +72,26 @@ numbers_in bytes long fit k below =
     ∙ two (drop (2 * k) bytes) (omega (arith, length-drop (2 * k) bytes))
 
 -- a lane of sixteen of the eight pixels' bytes
-lane : (from : ℕ) (bytes : List ℕ) (i : ℕ) → length bytes ≡ 32 → from + 16 ≤ 32 → i < 16 →
+lane : (from : ℕ) (bytes : List ℕ) (i : ℕ) → from + 16 ≤ length bytes → i < 16 →
     get_or (take 16 (drop from bytes) ++ take 16 (drop from bytes)) i 0 ≡ get_or bytes (from + i) 0
-lane from bytes i long within low =
+lane from bytes i within low =
     let sixteen = take 16 (drop from bytes) in
-    let front : length sixteen ≡ 16 = length-take-le 16 (drop from bytes) (omega (arith, long, length-drop from bytes)) in
+    let front : length sixteen ≡ 16 = length-take-le 16 (drop from bytes) (omega
+    (arith, within, length-drop from bytes)) in
     get_or_append_left sixteen sixteen 0 i (omega (arith, front, low)) ∙ get_or-take 16 (drop from bytes) i 0 low ∙ get_or-drop from bytes i 0
 
 -- a component that has a byte twice
+pub twice_in : (from : ℕ) (bytes : List ℕ) (i n : ℕ) → from + 16 ≤ length bytes → i < 16 →
+    n ≡ little_number 2 (get_or (take 16 (drop from bytes) ++ take 16 (drop from bytes)) i 0 ∷ get_or (take 16
+    (drop from bytes) ++ take 16 (drop from bytes)) i 0 ∷ []) →
+    n ≡ 257 * get_or bytes (from + i) 0
+twice_in from bytes i n within low is = omega (arith, is, lane from bytes i within low)
+
+-- the same where there are 32 of them
 pub twice : (from : ℕ) (bytes : List ℕ) (i n : ℕ) → length bytes ≡ 32 → from + 16 ≤ 32 → i < 16 →
     n ≡ little_number 2 (get_or (take 16 (drop from bytes) ++ take 16 (drop from bytes)) i 0 ∷ get_or (take 16 (drop from bytes) ++ take 16 (drop from bytes)) i 0 ∷ []) →
     n ≡ 257 * get_or bytes (from + i) 0
-twice from bytes i n long within low is = omega (arith, is, lane from bytes i long within low)
+twice from bytes i n long within = twice_in from bytes i n (rw long within)
 
 -- three components are the colour of the pixel whose bytes they have
 pub shown : (bytes : List ℕ) (at r g b : ℕ) → ((i : ℕ) → Fits w8 (get_or bytes i 0)) →

@@ -1,3 +1,4 @@
+pub mod Bytes
 pub mod Channel
 pub mod Format
 pub mod Reading

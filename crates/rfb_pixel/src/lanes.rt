@@ -1,18 +1,22 @@
 //! Eight pixels of a row at once, in the formats that most viewers ask for.
 
-ghost use Rattle.std.specs.Prelude.{◌≡◌, ℕ, length, slice_index_or};
+ghost use Rattle.std.specs.Prelude.{◌≡◌, ◌*◌, ◌<◌, ℕ, drop, length, slice_index};
+ghost use Rattle.byteorder.specs.Endian.{little_number};
 ghost use Rattle.rfb_pixel.specs.declared.colour.Colour.{Colour};
 ghost use Rattle.rfb_pixel.specs.inside.Lanes.{colours_in};
 
 use crate::colour::Colour;
+use std::simd::{u8x16, u16x8};
 
 mod bgr233;
 mod rgb565;
 mod rgb888;
+mod widening;
 
 pub use bgr233::unpack_eight_bgr233;
 pub use rgb565::{pack_eight_rgb565, unpack_eight_rgb565};
 pub use rgb888::{pack_eight_rgb888, unpack_eight_rgb888};
+pub use widening::widen_eight;
 
 /// How many pixels are taken at once.
 pub const LANES: usize = 8;
@@ -46,6 +50,14 @@ fn write_eight(x: [u16; 8], y: [u16; 8], z: [u16; 8], colours: &mut [Colour])
     colours[5] = colour(y[7], z[0], z[1]);
     colours[6] = colour(z[2], z[3], z[4]);
     colours[7] = colour(z[5], z[6], z[7]);
+}
+
+// Eight components of two bytes each, the lower byte first.
+#[inline(always)]
+fn components_of(bytes: u8x16) -> [u16; 8]
+    ensures { (k : ℕ) → k < 8 → slice_index result k ≡ little_number 2 (drop (2 * k) bytes) }
+{
+    u16x8::from_le_bytes(bytes).to_array()
 }
 
 // The prover reads from its contract that a component read of an array is one.

@@ -7,6 +7,7 @@
 //! maps are not known here.
 #![tactic(auto)]
 
+mod bytes;
 mod channel;
 mod colour;
 mod fault;
@@ -14,6 +15,7 @@ mod format;
 mod lanes;
 mod rows;
 
+pub use bytes::colours_of_bytes;
 pub use colour::Colour;
 pub use fault::FormatFault;
 pub use format::{FORMAT_SIZE, Format};

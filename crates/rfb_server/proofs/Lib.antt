@@ -3,6 +3,7 @@ pub mod ServerParts
 pub mod RecordLemmas
 pub mod ComposingLaws
 pub mod FollowingLaws
+pub mod DrawingLaws
 pub mod MarksLemmas
 pub mod GreetLemmas
 pub mod AskingLemmas

@@ -14,7 +14,8 @@ use Rattle.rfb_server.specs.declared.session.Session.{Session}
 use Rattle.rfb_server.specs.Request.{wanted_at}
 use Rattle.rfb_server.specs.inside.Marks.{AreAlike}
 use Rattle.rfb_server.specs.Following.{IsCaughtUp, IsSameOutside, Follows}
-use Rattle.rfb_server.specs.inside.Sessions.{IsMarked, KeepsUp}
+use Rattle.rfb_server.specs.declared.hint.Hint.{Hint}
+use Rattle.rfb_server.specs.inside.Sessions.{IsMarked, IsHinted, KeepsUp}
 
 -- more marks are of the same places
 pub alike_marked : (known : Grid (Option ℕ)) (area : Places) (marks now : Grid Bool) (rect : Rect) →
@@ -104,6 +105,19 @@ follows_drawn old new before after rect marked follows whole outside =
       caught_up = rw (marked.same.known, marked.same.area, marked.same.format)
           (caught_drawn before after old.known old.area old.format old.marks new.marks rect old.alike follows.alike
           outside marked.marks follows.caught_up);
+    }
+
+-- so does one that was given a hint beside
+pub follows_hinted : (old new : Session) (hint : Hint) (screen : Grid Colour) → IsHinted hint old new →
+    Follows screen old → Follows screen new
+follows_hinted old new hint screen hinted follows =
+    record {
+      whole = follows.whole;
+      alike = record {
+        columns = follows.alike.columns ∙ (rw (hinted.same.known) refl);
+        rows = follows.alike.rows ∙ (rw (hinted.same.known) refl);
+      };
+      caught_up = rw (hinted.same.known, hinted.same.area, hinted.same.format, hinted.marks) follows.caught_up;
     }
 
 -- whatever it is fed, it follows

@@ -21,7 +21,7 @@ use Rattle.rfb_server.specs.Hints.{hints_in}
 use Rattle.rfb_server.specs.Using.{AreUsed, usable}
 use Rattle.rfb_server.specs.inside.Sends.{state_of}
 use Rattle.rfb_server.specs.inside.Composed.{is_ready, IsAwaited, HasComposed, StaysIdle}
-use Rattle.rfb_server.specs.Updating.{SendsUpdate, OwesUpdate, OwesNone}
+use Rattle.rfb_server.specs.Updating.{SendsUpdate, OwesUpdate, OwesNone, NoneDue}
 use Rattle.rfb_server.proofs.ServerLaws.{session_over, same_notes}
 
 -- a session that is ready stands between messages, or in one
@@ -133,15 +133,33 @@ keeps_session old new same = record {
   stands = λ serving screen s prefix stands. stands_same serving screen old new s prefix same stands;
 }
 
+same_back : (old new : Session) → IsSame old new → IsSame new old
+same_back old new same = record {
+  hello = sym same.hello;
+  progress = sym same.progress;
+  text_limit = sym same.text_limit;
+  format = sym same.format;
+  encodings = sym same.encodings;
+  known = sym same.known;
+  area = sym same.area;
+}
+
+idle_none : (screen : Grid Colour) (old new : Session) (before after : List ℕ) →
+    StaysIdle screen old new before after → NoneDue screen old
+idle_none screen old new before after idle = λ serving s prefix stands due.
+    let ready = ready_point serving old.hello old.progress s.point prefix due.ready stands.progress_is in
+    idle.not_due ready (subst (λ (t : ServerState). IsDue t) (state_is serving screen old s prefix ready stands) due)
+
 -- so is one that stays idle
 pub owes_none : (screen : Grid Colour) (old new : Session) (before after : List ℕ) →
     StaysIdle screen old new before after → OwesNone screen old new before after
 owes_none screen old new before after idle = record {
   appended = idle.appended;
   kept = keeps_session old new idle.same;
-  not_due = λ serving s prefix stands due.
-      let ready = ready_point serving old.hello old.progress s.point prefix due.ready stands.progress_is in
-      idle.not_due ready (subst (λ (t : ServerState). IsDue t) (state_is serving screen old s prefix ready stands) due);
+  not_due = idle_none screen old new before after idle;
+  still = λ serving s prefix stands.
+      idle_none screen old new before after idle serving s prefix
+      (stands_same serving screen new old s prefix (same_back old new idle.same) stands);
 }
 
 -- an update that is awaited is owed

@@ -6,6 +6,7 @@ pub mod Encodings
 pub mod Server
 pub mod Request
 pub mod Cells
+pub mod Drawing
 pub mod Composing
 pub mod Progress
 pub mod Following

@@ -42,13 +42,18 @@ abbrev pub OwesUpdate : Grid Colour → Session → Type 0
 OwesUpdate screen old = (serving : Serving) (s : ServerState) (prefix : List ℕ) →
     SessionStandsFor serving screen old s prefix → IsDue s
 
--- no update was due over the screen, and nothing has changed
+-- none is due, whatever the session stands for over the screen
+abbrev pub NoneDue : Grid Colour → Session → Type 0
+NoneDue screen session = (serving : Serving) (s : ServerState) (prefix : List ℕ) →
+    SessionStandsFor serving screen session s prefix → IsDue s → ⊥
+
+-- no update was due over the screen, nothing has changed, and none is due now
 pub record OwesNone (screen : Grid Colour) (old new : Session) (before after : List ℕ)
     : Type 0 where
   pub appended : after ≡ before
   pub kept : KeepsSession old new
-  pub not_due : (serving : Serving) (s : ServerState) (prefix : List ℕ) →
-      SessionStandsFor serving screen old s prefix → IsDue s → ⊥
+  pub not_due : NoneDue screen old
+  pub still : NoneDue screen new
 
 -- ---- a server
 

@@ -10,8 +10,8 @@
 //! 2. `greeting` is sent before all else.
 //! 3. What came of the client goes to `feed`, until all of it is used. It gives one event a call:
 //!    the bytes of its `reply` are sent; keys, the pointer and texts are the owner's.
-//! 4. `fill`, `put`, `put_rows`, `copy` and `scroll` draw, at any time. `hint` says that a
-//!    rectangle looks as another did, so a copy may be sent for it.
+//! 4. `draw` draws, at any time, and so do `fill`, `put`, `put_rows`, `copy` and `scroll`. `hint`
+//!    says that a rectangle looks as another did, so a copy may be sent for it.
 //! 5. `compose`, once all that came was fed, appends an update where the client asked for places
 //!    that it lacks. It is sent after the replies.
 //! 6. An error of `feed` is the last of the connection: nothing is sent any more, and every later
@@ -23,7 +23,7 @@
 //! | of the client, in any slices | `feed` |
 //!
 //! `Session` is a server without its screen, which its calls are lent. Several of them show one
-//! screen: `drawn` notifies each where it is drawn on, before the screen changes.
+//! screen: of a `Drawing` each is told, `notified`, and the screen is drawn on once, `draw_on`.
 #![tactic(auto)]
 
 mod cells;
@@ -40,7 +40,7 @@ mod server;
 mod session;
 mod setup;
 
-pub use drawing::row_area;
+pub use drawing::{Drawing, Notice};
 pub use event::{MAX_REPLY, ServerEvent};
 pub use fault::{Outside, ServerFault};
 pub use hint::MAX_HINTS;

@@ -1,7 +1,7 @@
 //! All of a server but its screen.
 
-ghost use Rattle.std.specs.Prelude.{◌≡◌, ◌≤◌, ◌<◌, ◌↔◌, ℕ, List, [], length, true};
-ghost use Rattle.std.specs.Prelude.{IfOk, OnOk, OnErr, IsErr};
+ghost use Rattle.std.specs.Prelude.{◌≡◌, ◌≤◌, ◌<◌, ℕ, List, [], length, true};
+ghost use Rattle.std.specs.Prelude.{IfOk};
 ghost use Rattle.rfb_picture.specs.Grid.{Holds};
 ghost use Rattle.rfb_server.specs.inside.Marks.{AreAlike};
 ghost use Rattle.rfb_server.specs.Progress.{is_partial};
@@ -10,8 +10,8 @@ mod input;
 mod places;
 mod update;
 
+use crate::drawing::Notice;
 use crate::encodings::EncodingList;
-use crate::fault::Outside;
 use crate::hint::{Hint, MAX_HINTS};
 use crate::record::Record;
 use crate::session::input::progress::Progress;
@@ -49,12 +49,12 @@ pub struct Session {
 impl Session {
     ghost use Rattle.rfb_pixel.specs.declared.colour.Colour.{Colour};
     ghost use Rattle.rfb_picture.specs.Grid.{Grid, IsGrid};
-    ghost use Rattle.rfb_codec.specs.Effect.{IsAlike};
     ghost use Rattle.rfb_server.specs.Server.{Serving, ServerState, first_server};
     ghost use Rattle.rfb_server.specs.Standing.{SessionStandsFor, serving_with, with_screen};
-    ghost use Rattle.rfb_server.specs.Standing.{KeepsSession, HoldsBoth, notes_in};
+    ghost use Rattle.rfb_server.specs.Standing.{KeepsSession, notes_in};
     ghost use Rattle.rfb_server.specs.Following.{Follows, IsSameOutside};
-    ghost use Rattle.rfb_server.specs.Hints.{hints_in, with_hint};
+    ghost use Rattle.rfb_server.specs.Hints.{hints_in};
+    ghost use Rattle.rfb_server.specs.Drawing.{with_hint_of};
     ghost use Rattle.rfb_hello.specs.Version.{version_text};
     ghost use Rattle.rfb_server.specs.Record.{ShowsKnown, TellsKnown};
     ghost use Rattle.rfb_server.specs.inside.Sessions.{IsMarked, IsHinted};
@@ -99,17 +99,20 @@ impl Session {
         })
     }
 
-    /// Notes that the screen is to be drawn on inside the rectangle, which lies on it, or was just
-    /// drawn on there. Whatever is drawn inside it, the session follows the screen again; while
-    /// nothing is, it does too.
-    pub fn drawn(&mut self, rect: Rect)
-        requires held { Holds (notes_in self.old).known rect }
+    /// Takes what it is told of a drawing (`Drawing::notice`), before the screen changes or after.
+    /// It marks where, and keeps the hint: the last sixteen are kept until an update is composed.
+    /// Whatever is drawn there, it follows the screen again; while nothing is, it does too.
+    pub fn notified(&mut self, notice: &Notice)
+        requires held { Holds (notes_in self.old).known notice.now.area }
         ensures follows { (before after : Grid Colour) → Follows before self.old → IsGrid after
-            → IsSameOutside rect before after → Follows after self.new }
+            → IsSameOutside notice.now.area before after → Follows after self.new }
         ensures kept { KeepsSession self.old self.new }
-        ensures hints { hints_in self.new ≡ hints_in self.old }
+        ensures hints { hints_in self.new ≡ with_hint_of notice.now.hint (hints_in self.old) }
     {
-        self.mark(rect);
+        self.mark(notice.area);
+        if let Some(hint) = notice.hint {
+            self.keep_hint(hint);
+        }
     }
 
     // Marks the rectangle, which lies on the screen.
@@ -118,33 +121,6 @@ impl Session {
         ensures { IsMarked rect self.old self.new }
     {
         self.marks.add(rect);
-    }
-
-    /// Says that the rectangle `dst` of the screen looks as the one of its size at (`sx`, `sy`) did
-    /// when it was last sent, so that the viewer may be sent a copy in place of its pixels. Nothing
-    /// rests on it, and nothing else changes. The last sixteen are kept until an update is
-    /// composed. One that leaves the screen is refused.
-    pub fn hint(&mut self, dst: Rect, sx: u16, sy: u16) -> Result<(), Outside>
-        ensures refused { (screen : Grid Colour) → IsAlike screen (notes_in self.old).known
-            → (IsErr result ↔ (HoldsBoth screen dst sx sy → ⊥)) }
-        ensures same { OnErr result (self.new ≡ self.old) }
-        ensures follows { (screen : Grid Colour) → Follows screen self.old
-            → Follows screen self.new }
-        ensures kept { KeepsSession self.old self.new }
-        ensures hints { OnOk result (hints_in self.new
-            ≡ with_hint (record { to = dst; sx = sx; sy = sy }) (hints_in self.old)) }
-    {
-        let source = Rect {
-            x: sx,
-            y: sy,
-            ..dst
-        };
-        let places = self.known.pixels();
-        if !places.holds(dst) || !places.holds(source) {
-            return Err(Outside);
-        }
-        self.keep_hint(Hint { to: dst, sx, sy });
-        Ok(())
     }
 
     // Keeps a hint; the oldest of sixteen is dropped for it.

@@ -11,6 +11,7 @@ mod long_streams;
 mod memory;
 mod model;
 mod one_viewer;
+mod pixels;
 mod requests;
 mod rows;
 mod scene;

@@ -6,6 +6,13 @@ use Rattle.rfb_wire.specs.ClientMessage.{ClientMessage, SetPixelFormat, Framebuf
 use Rattle.rfb_wire.specs.stream.Sequel.{First, Second}
 use Rattle.rfb_wire.specs.stream.Grammar.{ReadsAll}
 use Rattle.rfb_codec.specs.UpdateStream.{UpdatePoint}
+use Rattle.rfb_viewer.specs.declared.call.Call.{Call}
+use Rattle.rfb_viewer.specs.declared.call.Call.TheVariants.{Request as RequestCall}
+use Rattle.rfb_viewer.specs.declared.call.Call.TheVariants.{SetFormat as FormatCall}
+use Rattle.rfb_viewer.specs.declared.call.Call.TheVariants.{SetEncodings as EncodingsCall}
+use Rattle.rfb_viewer.specs.declared.call.Call.TheVariants.{Key as KeyCall, Pointer as PointerCall}
+use Rattle.rfb_viewer.specs.declared.call.Call.TheVariants.{CutText as TextCall}
+use Rattle.rfb_viewer.specs.Call.{message_of, message_bytes, refusal_for, called}
 use Rattle.rfb_viewer.specs.declared.fault.CallFault.{CallFault}
 use Rattle.rfb_viewer.specs.declared.fault.CallFault.TheVariants.{NotReady, Busy, AreaOutside}
 use Rattle.rfb_viewer.specs.declared.viewer.Viewer.{Viewer}
@@ -24,6 +31,7 @@ use Rattle.rfb_session.specs.Network.{Network, IsReached}
 use Rattle.rfb_session.specs.Told.{refused_as}
 use Rattle.rfb_session.specs.LinkStanding.{LinkStandsFor}
 use Rattle.rfb_session.specs.LinkBytes.{IsCalled, OnlySends, SendsMessage}
+use Rattle.rfb_session.specs.LinkCalls.{refusal_at}
 use Rattle.rfb_session.specs.declared.told.Told.{Told}
 use Rattle.rfb_session.proofs.NetworkLemmas.{reached_holds}
 use Rattle.rfb_session.proofs.AnswerLemmas.{to_viewer_stream}
@@ -125,7 +133,7 @@ called_same v = record {
   picture = refl;
   damage = refl;
   ended = refl;
-  rest = record { fault = refl; reason = refl; made = refl };
+  rest = record { fault = refl; reason = refl; made = refl; taken = refl };
 }
 
 -- ---- each kind of call
@@ -185,6 +193,45 @@ message_taken e old new n message bytes stands reached none spelled only =
     (only.viewer.stands e.viewing n.link.viewer has.viewer_has has.viewer_is)
     (message_flies e old n stands n.link.viewer message bytes ready.0 reached ready.1 refl spelled)
     only
+
+-- ---- whichever it is
+
+-- it is refused by what the viewer has of an item as by the items in flight
+pub refusal_there : (e : Ends) (w : Link) (n : Network) (call : Call)
+    (stands : LinkStandsFor e n.screen w n.link) → IsReached e n →
+    refusal_for n.link.viewer stands.carries.viewer_has call ≡ refusal_at n.link call
+refusal_there e w n (RequestCall incremental rect) stands reached = refl
+refusal_there e w n (FormatCall format) stands reached = format_same e w n stands reached
+refusal_there e w n (EncodingsCall encodings) stands reached = refl
+refusal_there e w n (KeyCall down key) stands reached = refl
+refusal_there e w n (PointerCall buttons x y) stands reached = refl
+refusal_there e w n (TextCall text) stands reached = refl
+
+pub call_taken : (e : Ends) (old new : Link) (n : Network) (call : Call)
+    (stands : LinkStandsFor e n.screen old n.link) → IsReached e n →
+    None ≡ refusal_for n.link.viewer stands.carries.viewer_has call →
+    SpellsClientMessage (message_of call) (message_bytes call) →
+    OnlySends (λ s. called call s) (message_bytes call) old new →
+    Called e old new n (refusal_at n.link call) (called call n.link.viewer) (message_of call)
+call_taken e old new n (RequestCall incremental rect) stands reached none spelled only =
+    request_taken e old new n incremental rect _ stands reached none spelled only
+call_taken e old new n (FormatCall format) stands reached none spelled only =
+    format_taken e old new n format _ stands reached none spelled only
+call_taken e old new n (EncodingsCall encodings) stands reached none spelled only =
+    message_taken e old new n _ _ stands reached none spelled only
+call_taken e old new n (KeyCall down key) stands reached none spelled only =
+    message_taken e old new n _ _ stands reached none spelled only
+call_taken e old new n (PointerCall buttons x y) stands reached none spelled only =
+    message_taken e old new n _ _ stands reached none spelled only
+call_taken e old new n (TextCall text) stands reached none spelled only =
+    message_taken e old new n _ _ stands reached none spelled only
+
+pub call_refused_there : (e : Ends) (old new : Link) (n : Network) (call : Call) (fault : CallFault)
+    (stands : LinkStandsFor e n.screen old n.link) → IsReached e n →
+    Some fault ≡ refusal_for n.link.viewer stands.carries.viewer_has call → IsSameLink old new →
+    Called e old new n (refusal_at n.link call) (called call n.link.viewer) (message_of call)
+call_refused_there e old new n call fault stands reached some same =
+    refused e old new n _ _ _ fault stands (some ∙ refusal_there e old n call stands reached) same
 
 -- ---- what is refused
 

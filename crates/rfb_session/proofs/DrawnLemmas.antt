@@ -1,11 +1,9 @@
 -- Drawings on the screen of a world.
-use Rattle.std.proofs.Common.{◌≡◌, ◌≢◌, ℕ, ◌<◌, ◌≤◌, ◌+◌, true, false, Option, Some, None, ◌⊎◌, inl, inr, ◌↔◌, Result, Ok, Err, IsErr, refl, sym, ap, ◌∙◌, subst, arith}
-use Rattle.std.proofs.lemmas.Bool.{cases_lt}
+use Rattle.std.proofs.Common.{◌≡◌, ◌≢◌, Option, Some, None, inl, inr, refl, sym, ap, ◌∙◌, subst}
 use Rattle.rfb_pixel.specs.declared.colour.Colour.{Colour}
-use Rattle.rfb_picture.specs.declared.rect.Rect.{Rect}
-use Rattle.rfb_picture.specs.Grid.{Grid, Holds}
-use Rattle.rfb_server.specs.declared.fault.Outside.{Outside as OutsideFault}
-use Rattle.rfb_server.specs.Standing.{HoldsBoth, KeepsSession}
+use Rattle.rfb_picture.specs.Grid.{Grid}
+use Rattle.rfb_server.specs.Drawing.{Stroke, IsInside, drawn_by, hint_of}
+use Rattle.rfb_server.specs.Standing.{KeepsSession}
 use Rattle.rfb_server.proofs.ServerLaws.{session_over}
 use Rattle.rfb_session.specs.declared.told.Refused.{Refused}
 use Rattle.rfb_session.specs.declared.told.Refused.TheVariants.{Outside}
@@ -15,32 +13,9 @@ use Rattle.rfb_session.specs.Latest.{composing_in}
 use Rattle.rfb_session.specs.declared.link.Link.{Link}
 use Rattle.rfb_session.specs.Link.{Ends, LinkState}
 use Rattle.rfb_session.specs.LinkStanding.{LinkStandsFor, ChangesSession}
-use Rattle.rfb_session.specs.Network.{Network, Draws}
-use Rattle.rfb_session.specs.Told.{RefusesUnless, refused_by}
-use Rattle.rfb_session.specs.World.{StandsFor, GivesScreen, DrawsOnBytes}
-
--- whether a rectangle lies on the screen is one or the other
-pub held_or_not : (rect : Rect) (g : Grid Colour) → Holds g rect ⊎ (Holds g rect → ⊥)
-held_or_not rect g = by (cases_lt g.width (rect.x + rect.w)) (cases_lt g.height (rect.y + rect.h))
-  where
-    by : ((g.width < rect.x + rect.w) ⊎ (rect.x + rect.w ≤ g.width)) →
-        ((g.height < rect.y + rect.h) ⊎ (rect.y + rect.h ≤ g.height)) →
-        Holds g rect ⊎ (Holds g rect → ⊥)
-    by (inl wide) down = inr (λ held. absurd (omega (arith, wide, held.0)))
-    by (inr across) (inl high) = inr (λ held. absurd (omega (arith, high, held.1)))
-    by (inr across) (inr down) = inl (across, down)
-
-pub both_held_or_not : (rect : Rect) (sx sy : ℕ) (g : Grid Colour) →
-    HoldsBoth g rect sx sy ⊎ (HoldsBoth g rect sx sy → ⊥)
-both_held_or_not rect sx sy g =
-    by (held_or_not rect g) (held_or_not (record rect { x = sx; y = sy }) g)
-  where
-    by : (Holds g rect ⊎ (Holds g rect → ⊥)) →
-        (Holds g (record rect { x = sx; y = sy }) ⊎ (Holds g (record rect { x = sx; y = sy }) → ⊥)) →
-        HoldsBoth g rect sx sy ⊎ (HoldsBoth g rect sx sy → ⊥)
-    by (inr not) source = inr (λ both. not both.0)
-    by (inl held) (inr not) = inr (λ both. not both.1)
-    by (inl held) (inl source) = inl (held, source)
+use Rattle.rfb_session.specs.Network.{Network, Strokes}
+use Rattle.rfb_session.specs.Told.{RefusesUnless}
+use Rattle.rfb_session.specs.World.{StandsFor, GivesScreen, DrawsOnBytes, DrawsWorld, hints_in}
 
 -- a link whose session was notified, over another screen
 pub link_drawn : (e : Ends) (before after : Grid Colour) (old new : Link) (l : LinkState) →
@@ -71,24 +46,23 @@ drawn_stands e old new n screen stands gives closed =
       link_is = link_drawn e n.screen screen old.link new.link n.link stands.link_is gives.others gives.session;
     }
 
--- a drawing on the screen, where all that it needs lies on it
-pub drawn_does : (old new : World) (told : Told)
-    (Inside : Grid Colour → Type 0) (draw : Grid Colour → Grid Colour) →
-    DrawsOnBytes (Inside old.screen) (draw old.screen) old told new →
+-- a drawing on the screen
+pub drawn_does : (old new : World) (told : Told) (s : Stroke) →
+    DrawsOnBytes (IsInside old.screen s) (drawn_by s old.screen) old told new →
     (told.refused ≢ None → new ≡ old) → new.closed ≡ old.closed →
     (e : Ends) (n : Network) → StandsFor e old n →
-    (m : Network) × Draws (Inside n.screen) (draw n.screen) n m
-    × RefusesUnless (Inside n.screen) told.refused × StandsFor e new m
-drawn_does old new told Inside draw (inl (inside, taken), gives) kept closed e n stands =
-    let here : Inside n.screen = subst Inside (sym stands.screen_is) inside in
-    let is : draw n.screen ≡ draw old.screen = ap draw stands.screen_is in (
-      record n { screen = draw old.screen },
+    (m : Network) × Strokes s n m × RefusesUnless (IsInside n.screen s) told.refused × StandsFor e new m
+drawn_does old new told s (inl (inside, taken), gives) kept closed e n stands =
+    let here : IsInside n.screen s = subst (λ (g : Grid Colour). IsInside g s) (sym stands.screen_is) inside in
+    let is : drawn_by s n.screen ≡ drawn_by s old.screen = ap (λ (g : Grid Colour). drawn_by s g) stands.screen_is in (
+      record n { screen = drawn_by s old.screen },
       inl (here, ap (λ (g : Grid Colour). record n { screen = g }) (sym is)),
       inl (here, taken),
-      drawn_stands e old new n (draw old.screen) stands (gives taken) closed,
+      drawn_stands e old new n (drawn_by s old.screen) stands (gives taken) closed,
     )
-drawn_does old new told Inside draw (inr (outside, refused), gives) kept closed e n stands =
-    let away : Inside n.screen → ⊥ = λ inside. outside (subst Inside stands.screen_is inside) in (
+drawn_does old new told s (inr (outside, refused), gives) kept closed e n stands =
+    let away : IsInside n.screen s → ⊥ = λ inside. outside (subst (λ
+    (g : Grid Colour). IsInside g s) stands.screen_is inside) in (
       n,
       inr (away, refl),
       inr (away, refused),
@@ -98,38 +72,14 @@ drawn_does old new told Inside draw (inr (outside, refused), gives) kept closed 
     some : (o : Option Refused) → o ≡ Some Outside → o ≢ None
     some o is none = cc
 
--- a hint changes nothing of the network
-pub hinted_does : (old new : World) (told : Told) (Inside : Grid Colour → Type 0) →
-    DrawsOnBytes (Inside old.screen) old.screen old told new →
-    (told.refused ≢ None → new ≡ old) → new.closed ≡ old.closed →
-    (e : Ends) (n : Network) → StandsFor e old n →
-    RefusesUnless (Inside n.screen) told.refused × StandsFor e new n
-hinted_does old new told Inside (inl (inside, taken), gives) kept closed e n stands = (
-  inl (subst Inside (sym stands.screen_is) inside, taken),
-  subst (λ (g : Grid Colour). StandsFor e new (record n { screen = g })) (sym stands.screen_is)
-      (drawn_stands e old new n old.screen stands (gives taken) closed),
-)
-hinted_does old new told Inside (inr (outside, refused), gives) kept closed e n stands =
-    let away : Inside n.screen → ⊥ = λ inside. outside (subst Inside stands.screen_is inside) in (
-      inr (away, refused),
-      subst (λ (w : World). StandsFor e w n) (sym (kept (some told.refused refused))) stands,
-    )
+-- the hints of a drawing that gives none
+pub same_hints : (old new : World) (told : Told) (s : Stroke) → DrawsWorld old s told new → hint_of s ≡ None →
+    hints_in new ≡ hints_in old
+same_hints old new told s draws none = by draws.acts.0
   where
-    some : (o : Option Refused) → o ≡ Some Outside → o ≢ None
-    some o is none = cc
-
--- whether a hint lies on the screen, as its link tells
-pub hint_acts : (old new : World) (told : Told) (result : Result (Unit {0}) OutsideFault) (Inside : Grid Colour → Type 0) →
-    ((g : Grid Colour) → Inside g ⊎ (Inside g → ⊥)) →
-    (IsErr result ↔ (Inside old.screen → ⊥)) → told.refused ≡ refused_by result →
-    GivesScreen old.screen old new → DrawsOnBytes (Inside old.screen) old.screen old told new
-hint_acts old new told (Err fault) Inside whether iff refused gives =
-    (inr (iff.0 refl, refused), λ none. gives)
-hint_acts old new told (Ok done) Inside whether iff refused gives = by (whether old.screen)
-  where
-    not_err : false ≡ true → ⊥
-    not_err e = cc
-
-    by : (Inside old.screen ⊎ (Inside old.screen → ⊥)) → DrawsOnBytes (Inside old.screen) old.screen old told new
-    by (inl inside) = (inl (inside, refused), λ none. gives)
-    by (inr outside) = absurd (not_err (iff.1 outside))
+    by : RefusesUnless (IsInside old.screen s) told.refused → hints_in new ≡ hints_in old
+    by (inl (inside, taken)) = draws.hints taken ∙ (rw none refl)
+    by (inr (outside, refused)) = ap (λ (w : World). hints_in w) (draws.kept (λ none. some told.refused refused none))
+      where
+        some : (o : Option Refused) → o ≡ Some Outside → o ≡ None → ⊥
+        some o is none = cc

@@ -5,12 +5,12 @@ use Rattle.std.specs.Option.{ForSome}
 use Rattle.std.proofs.lemmas.Bool.{cases_eq}
 use Rattle.rfb_pixel.specs.declared.colour.Colour.{Colour}
 use Rattle.rfb_picture.specs.declared.rect.Rect.{Rect}
-use Rattle.rfb_picture.specs.Rect.{contains}
-use Rattle.rfb_picture.specs.Grid.{Grid, IsGrid, Holds, changed}
+use Rattle.rfb_picture.specs.Grid.{Grid, IsGrid, Holds}
 use Rattle.rfb_server.specs.declared.session.Session.{Session}
 use Rattle.rfb_server.specs.Following.{Follows, IsSameOutside}
 use Rattle.rfb_server.specs.Standing.{notes_in}
-use Rattle.rfb_server.proofs.FollowingLaws.{follows_changed}
+use Rattle.rfb_server.specs.Drawing.{Stroke, drawn_by, area_of}
+use Rattle.rfb_server.proofs.DrawingLaws.{follows_stroke}
 use Rattle.rfb_session.specs.Slots.{seat_at, OnSlot}
 use Rattle.rfb_session.proofs.SlotLemmas.{not_both, on_seat, each_seat, all_seats, seat_set_same}
 use Rattle.rfb_session.proofs.SlotLemmas.{seat_set_other, other}
@@ -36,32 +36,19 @@ module _ {X : Type 0} where
   all_about session screen slots rect follow held = λ k d within seat is.
       held_known screen (session seat) rect (follow k d within seat is) held
 
-  -- what each of them followed is drawn on in a rectangle, of which it was notified
-  pub all_drawn : (session : X → Session) (R : X → X → Type 0) (screen after : Grid Colour)
-      (old new : List (Option X)) (rect : Rect) (f : ℕ → ℕ → Colour → Colour) →
+  -- each of them was told of a drawing on the screen that it followed
+  pub all_notified : (session : X → Session) (R : X → X → Type 0) (screen : Grid Colour)
+      (old new : List (Option X)) (s : Stroke) →
       ((a b : X) → R a b → (before later : Grid Colour) → Follows before (session a) →
-      IsGrid later → IsSameOutside rect before later → Follows later (session b)) →
+      IsGrid later → IsSameOutside (area_of s) before later → Follows later (session b)) →
       AllFollow session screen old →
-      ((k : ℕ) → OnSlot R (seat_at k old) (seat_at k new)) → after ≡ changed f screen →
-      ((x y : ℕ) (c : Colour) → contains rect x y ≡ false → f x y c ≡ c) →
-      AllFollow session after new
-  all_drawn session R screen after old new rect f told follow drawn is outside =
-      all_seats (λ seat. Follows after (session seat)) new (λ k seat there.
+      ((k : ℕ) → OnSlot R (seat_at k old) (seat_at k new)) → AllFollow session (drawn_by s screen) new
+  all_notified session R screen old new s told follow drawn =
+      all_seats (λ seat. Follows (drawn_by s screen) (session seat)) new (λ k seat there.
       let one = on_seat R (seat_at k old) (seat_at k new) seat (drawn k) there in
-      follows_changed (session one.0) (session seat) screen after rect f
+      follows_stroke s (session one.0) (session seat) screen
       (each_seat (λ s. Follows screen (session s)) old follow k one.0 one.1)
-      (told one.0 seat one.2) is outside)
-
-  -- each of them goes on to follow what it followed
-  pub all_still : (session : X → Session) (R : X → X → Type 0) (screen : Grid Colour)
-      (old new : List (Option X)) →
-      ((a b : X) → R a b → Follows screen (session a) → Follows screen (session b)) →
-      AllFollow session screen old →
-      ((k : ℕ) → OnSlot R (seat_at k old) (seat_at k new)) → AllFollow session screen new
-  all_still session R screen old new still follow changes =
-      all_seats (λ seat. Follows screen (session seat)) new (λ k seat there.
-      let one = on_seat R (seat_at k old) (seat_at k new) seat (changes k) there in
-      still one.0 seat one.2 (each_seat (λ s. Follows screen (session s)) old follow k one.0 one.1))
+      (told one.0 seat one.2))
 
   -- one slot is set
   pub all_set : (session : X → Session) (screen : Grid Colour) (slots : List (Option X)) (i : ℕ)

@@ -1,96 +1,43 @@
 -- What an event makes of a world, from what it makes of the screen and the link.
-use Rattle.std.proofs.Common.{◌≡◌, ◌≢◌, ℕ, None, ◌⊎◌, inl, inr, Result, Ok, Err, IfOk, IsOk, refl, sym, subst}
+use Rattle.std.proofs.Common.{◌≡◌, ℕ, false, None, ◌⊎◌, inl, inr, Result, Ok, Err, IfOk, IsOk, refl, sym, subst}
 use Rattle.rfb_pixel.specs.declared.colour.Colour.{Colour}
-use Rattle.rfb_picture.specs.declared.rect.Rect.{Rect}
-use Rattle.rfb_picture.specs.Grid.{Grid, Holds, filled, copied}
+use Rattle.rfb_picture.specs.Grid.{Grid}
 use Rattle.rfb_server.specs.Composing.{IsDue}
-use Rattle.rfb_server.specs.Standing.{HoldsBoth}
+use Rattle.rfb_server.specs.Drawing.{Stroke, IsInside}
+use Rattle.rfb_viewer.specs.declared.call.Call.{Call}
 use Rattle.rfb_session.specs.declared.event.Event.{Event}
-use Rattle.rfb_session.specs.declared.event.Event.TheVariants.{Fill, Copy, Hint, Compose}
+use Rattle.rfb_session.specs.declared.event.Event.TheVariants.{Compose}
 use Rattle.rfb_session.specs.declared.told.NoMemory.{NoMemory}
 use Rattle.rfb_session.specs.declared.told.Told.{Told}
 use Rattle.rfb_session.specs.declared.world.World.{World}
 use Rattle.rfb_session.specs.Link.{Ends, server_of}
+use Rattle.rfb_session.specs.LinkCalls.{DoesCall, CallsOnBytes, IsRefusedCall}
 use Rattle.rfb_session.specs.LinkStanding.{LinkStandsFor, LinkDoes, LinkDoesOver, LosesOn, ComposesNothingOver}
-use Rattle.rfb_session.specs.Network.{Network, Draws, Steps}
+use Rattle.rfb_session.specs.Network.{Network, Steps, Strokes}
 use Rattle.rfb_session.specs.Told.{RefusesUnless, Tells, TellsAlone}
-use Rattle.rfb_session.specs.World.{Acts, HintsAs, DrawsOnBytes, IsDrawing, IsRefused, IsLost, ComposesNothing, hints_in}
-use Rattle.rfb_session.specs.inside.Happening.{Happens, TakesNoMemory, TellsDrawing}
-use Rattle.rfb_session.proofs.DrawnLemmas.{drawn_does, hinted_does}
+use Rattle.rfb_session.specs.World.{Acts, HintsAs, DrawsWorld, IsDrawing, IsRefused, IsLost, ComposesNothing, hints_in}
+use Rattle.rfb_session.specs.inside.Happening.{Happens, TakesNoMemory}
+use Rattle.rfb_session.proofs.EventCallLemmas.{IsEventOf, does_event, refused_event}
 use Rattle.rfb_session.proofs.WorldLemmas.{link_does, link_does_over}
 
 -- ---- drawings
 
-pub filled_happens : (old new : World) (event : Event) (rect : Rect) (colour : Colour) (told : Told) →
-    event ≡ Fill rect colour →
-    DrawsOnBytes (Holds old.screen rect) (filled rect colour old.screen) old told new →
-    TellsDrawing old told new → hints_in new ≡ hints_in old → (told.refused ≢ None → new ≡ old) →
-    Happens old event told new
-filled_happens old new event rect colour told is acts tells hints kept =
-    subst (λ (ev : Event). Happens old ev told new) (sym is)
-    (record {
-      does = λ e n made reached stands.
-          let one = drawn_does old new told (λ g. Holds g rect) (λ g. filled rect colour g) acts kept tells.closed e n stands in
-          (one.0, one.1, record { moved = tells.moved; refused = one.2; composed = tells.composed }, one.3);
-      acts = acts;
-      tells = (tells.moved, tells.composed);
-      lost = record { link = tt; closed = tells.closed };
-      hints = hints;
-    })
-
--- the same where the event is known by what it does: its name would name a vector
-pub put_happens : (old new : World) (event this : Event) (told : Told) (row : Rect) (draw : Grid Colour → Grid Colour) →
-    event ≡ this →
-    ((e : Ends) (n m : Network) → Draws (Holds n.screen row) (draw n.screen) n m →
-    RefusesUnless (Holds n.screen row) told.refused → Steps e n this m × Tells e n this told) →
-    DrawsOnBytes (Holds old.screen row) (draw old.screen) old told new →
+-- an event that is one: it is known by what it does, since its name would name a vector
+pub drawing_happens : (old new : World) (event this : Event) (told : Told) (s : Stroke) → event ≡ this →
+    DrawsWorld old s told new →
+    ((e : Ends) (n m : Network) → Strokes s n m → Steps e n this m) →
+    ((e : Ends) (n : Network) → RefusesUnless (IsInside n.screen s) told.refused → Tells e n this told) →
     Acts old this told new → TellsAlone this told → LosesOn old.link this told new.link →
-    HintsAs old this told new → new.closed ≡ old.closed → (told.refused ≢ None → new ≡ old) →
-    Happens old event told new
-put_happens old new event this told row draw is steps draws acts tells loses hints closed kept =
+    HintsAs old this told new → Happens old event told new
+drawing_happens old new event this told s is draws steps tells acts alone loses hints =
     subst (λ (ev : Event). Happens old ev told new) (sym is)
     (record {
       does = λ e n made reached stands.
-          let one = drawn_does old new told (λ g. Holds g row) draw draws kept closed e n stands in
-          let step = steps e n one.0 one.1 one.2 in
-          (one.0, step.0, step.1, one.3);
+          let one = draws.does e n stands in
+          (one.0, steps e n one.0 one.1, tells e n one.2, one.3);
       acts = acts;
-      tells = tells;
-      lost = record { link = loses; closed = closed };
-      hints = hints;
-    })
-
-pub copied_happens : (old new : World) (event : Event) (rect : Rect) (sx sy : ℕ) (told : Told) →
-    event ≡ Copy rect sx sy →
-    DrawsOnBytes (HoldsBoth old.screen rect sx sy) (copied rect sx sy old.screen) old told new →
-    TellsDrawing old told new → hints_in new ≡ hints_in old → (told.refused ≢ None → new ≡ old) →
-    Happens old event told new
-copied_happens old new event rect sx sy told is acts tells hints kept =
-    subst (λ (ev : Event). Happens old ev told new) (sym is)
-    (record {
-      does = λ e n made reached stands.
-          let one = drawn_does old new told (λ g. HoldsBoth g rect sx sy) (λ g. copied rect sx sy g) acts kept tells.closed e n stands in
-          (one.0, one.1, record { moved = tells.moved; refused = one.2; composed = tells.composed }, one.3);
-      acts = acts;
-      tells = (tells.moved, tells.composed);
-      lost = record { link = tt; closed = tells.closed };
-      hints = hints;
-    })
-
-pub hinted_happens : (old new : World) (event : Event) (rect : Rect) (sx sy : ℕ) (told : Told) →
-    event ≡ Hint rect sx sy →
-    DrawsOnBytes (HoldsBoth old.screen rect sx sy) old.screen old told new →
-    TellsDrawing old told new → HintsAs old (Hint rect sx sy) told new → (told.refused ≢ None → new ≡ old) →
-    Happens old event told new
-hinted_happens old new event rect sx sy told is acts tells hints kept =
-    subst (λ (ev : Event). Happens old ev told new) (sym is)
-    (record {
-      does = λ e n made reached stands.
-          let one = hinted_does old new told (λ g. HoldsBoth g rect sx sy) acts kept tells.closed e n stands in
-          (n, refl, record { moved = tells.moved; refused = one.0; composed = tells.composed }, one.1);
-      acts = acts;
-      tells = (tells.moved, tells.composed);
-      lost = record { link = tt; closed = tells.closed };
+      tells = alone;
+      lost = record { link = loses; closed = draws.closed };
       hints = hints;
     })
 
@@ -113,6 +60,26 @@ called_happens old new event this (Ok told) is does acts tells lost hints screen
       hints = hints told;
     })
 called_happens old new event this (Err error) is does acts tells lost hints screens closed = tt
+
+-- a call of the viewer's
+pub call_happens : (old new : World) (event this : Event) (call : Call)
+    (result : Result Told NoMemory) → event ≡ this → IsEventOf this call →
+    IfOk result (λ told. DoesCall old.link call told new.link) →
+    IfOk result (λ told. CallsOnBytes old.link call told new.link) →
+    IfOk result (λ told. (told.moved ≡ 0) × (told.composed ≡ false)) → hints_in new ≡ hints_in old →
+    new.screen ≡ old.screen → new.closed ≡ old.closed →
+    IfOk result (λ told. Happens old event told new)
+call_happens old new event this call (Ok told) is of does bytes tells hints screens closed =
+    subst (λ (ev : Event). Happens old ev told new) (sym is)
+    (record {
+      does = link_does old new this told (does_event this call old.link told new.link of tells does)
+          screens closed;
+      acts = of.world_acts old told new screens (of.acts old.link told new.link bytes);
+      tells = of.tells told tells;
+      lost = record { link = of.lost old.link told new.link; closed = closed };
+      hints = of.world_hints old told new hints;
+    })
+call_happens old new event this call (Err error) is of does bytes tells hints screens closed = tt
 
 -- a composing
 pub composed_happens : (old new : World) (event : Event) (result : Result Told NoMemory) →
@@ -150,6 +117,16 @@ is_sure world event this result is draws refuses loses composes free =
     by (inr (inl refused)) = refuses refused
     by (inr (inr (inl lost))) = loses lost
     by (inr (inr (inr none))) = composes none
+
+-- a call that is refused
+pub call_is_sure : (world : World) (event this : Event) (call : Call)
+    (result : Result Told NoMemory) → event ≡ this → IsEventOf this call →
+    (IsRefusedCall world.link call → IsOk result) → TakesNoMemory world event → IsOk result
+call_is_sure world event this call result is of spared =
+    is_sure world event this result is (λ drawing. absurd (of.no_drawing drawing))
+    (λ refused. spared (refused_event this call world.link of
+    (refused.0, refused.1, refused.2, refused.3, refused.4.link_is, refused.5)))
+    (λ lost. absurd (of.not_lost world.link lost)) (λ none. absurd (of.not_composing world none))
 
 -- where a world composes nothing, its link composes nothing over its screen
 pub nothing_over : (world : World) → ComposesNothing world Compose → ComposesNothingOver world.screen world.link

@@ -12,7 +12,7 @@ use Rattle.rfb_viewer.specs.Viewer.{first_viewer}
 use Rattle.rfb_viewer.specs.Standing.{StandsFor as ViewerStandsFor, viewing_with}
 use Rattle.rfb_session.specs.declared.hub.Hub.{Hub}
 use Rattle.rfb_viewer.specs.declared.setup.ViewerSetup.{ViewerSetup as Setup}
-use Rattle.rfb_session.specs.declared.hub.seat.Seat.{Seat}
+use Rattle.rfb_session.specs.declared.hub.seat.HubSeat.{HubSeat}
 use Rattle.rfb_session.specs.declared.link.Link.{Link}
 use Rattle.rfb_session.specs.Hub.{serving_in, IsFreshSeat}
 use Rattle.rfb_session.specs.HubSeats.{ends_of}
@@ -20,7 +20,7 @@ use Rattle.rfb_session.specs.Link.{Ends, first_link}
 use Rattle.rfb_session.specs.LinkStanding.{LinkStandsFor, AreNew}
 
 pub fresh_seat : (hub : Hub) (setup : Setup) (session : Session) (viewer : Viewer) (link : Link)
-    (seat : Seat) (w h : ℕ) (name : List ℕ) → w ≡ hub.screen.width → h ≡ hub.screen.height →
+    (seat : HubSeat) (w h : ℕ) (name : List ℕ) → w ≡ hub.screen.width → h ≡ hub.screen.height →
     name ≡ hub.name.items → IsGrid hub.screen →
     ((screen : Grid Colour) → SessionStandsFor (serving_with hub.offer w h name hub.text_limit)
     screen session (with_screen screen

@@ -3,6 +3,7 @@ use Rattle.std.proofs.Common.{◌≡◌, ◌≢◌, ◌⊎◌, ℕ, Bool, true, 
 use Rattle.std.proofs.lemmas.Bool.{cases_eq}
 use Rattle.rfb_pixel.specs.declared.colour.Colour.{Colour}
 use Rattle.rfb_picture.specs.Grid.{Grid}
+use Rattle.rfb_server.specs.Drawing.{Stroke, notice_of, Fill as OneFill, Copy as OneCopy, Hint as OneHint}
 use Rattle.rfb_server.specs.Server.{Serving}
 use Rattle.rfb_server.proofs.ServerLaws.{session_going}
 use Rattle.rfb_viewer.proofs.ViewerLaws.{viewer_going}
@@ -13,10 +14,12 @@ use Rattle.rfb_session.specs.declared.hub.event.HubEvent.TheVariants.{Fill, Put,
 use Rattle.rfb_session.specs.declared.hub.event.HubFault.TheVariants.{Outside}
 use Rattle.rfb_session.specs.declared.hub.event.HubTold.{HubTold}
 use Rattle.rfb_viewer.specs.declared.setup.ViewerSetup.{ViewerSetup as Setup}
-use Rattle.rfb_session.specs.declared.hub.seat.Seat.{Seat}
+use Rattle.rfb_session.specs.declared.hub.seat.HubSeat.{HubSeat}
 use Rattle.rfb_session.specs.Hub.{seat_in, serving_in, IsFreshSeat, Each, HubStands, IsEmptyHub}
-use Rattle.rfb_session.specs.HubSeats.{event_of, ends_of, KeepsSeat, IsDrawnOn, IsHintedOn, SeatStandsFor, SeatDoes}
-use Rattle.rfb_session.specs.HubSteps.{DrawsHub, JoinsAs, Beyond, Taken, Joined, LeavesAs, NoneLeft, Left, ForeignAs, NoneFed, Fed, HappensAs, NoneThere, Happened, SlotSteps, HubSteps, RunsHub}
+use Rattle.rfb_session.specs.HubSeats.{event_of, ends_of, KeepsSeat, IsNotifiedOn, SeatStandsFor, SeatDoes}
+use Rattle.rfb_session.specs.HubSteps.{DrawsHub, GivesHub, JoinsAs, Beyond, Taken, Joined, LeavesAs, NoneLeft}
+use Rattle.rfb_session.specs.HubSteps.{Left, ForeignAs, NoneFed, Fed, HappensAs, NoneThere, Happened, SlotSteps}
+use Rattle.rfb_session.specs.HubSteps.{HubSteps, RunsHub}
 use Rattle.rfb_session.specs.Slots.{OnSlot, StaysUnless}
 use Rattle.rfb_session.specs.InFlight.{AreMade}
 use Rattle.rfb_session.specs.Link.{Ends, first_link}
@@ -25,36 +28,36 @@ use Rattle.rfb_session.specs.Network.{Network, IsReached}
 use Rattle.rfb_session.proofs.HubSlotLemmas.{some_fault}
 use Rattle.rfb_session.proofs.SlotLemmas.{one_seat, not_both, not_clear, other, on_seat}
 use Rattle.rfb_session.proofs.NetworkLemmas.{first_reached}
-use Rattle.rfb_session.proofs.WorldLemmas.{reached_step}
+use Rattle.rfb_session.proofs.WorldLemmas.{reached_step, reached_stroke}
 
 -- ---- where a seat comes from
 
 -- it was there, with the same setup and no foreign bytes; or it is fresh
-abbrev CameFrom : Hub → ℕ → Hub → Seat → Type 0
+abbrev CameFrom : Hub → ℕ → Hub → HubSeat → Type 0
 CameFrom old k new b =
-    ((a : Seat) × (seat_in old k ≡ Some a) × (b.setup ≡ a.setup) × (a.foreign ≡ false))
+    ((a : HubSeat) × (seat_in old k ≡ Some a) × (b.setup ≡ a.setup) × (a.foreign ≡ false))
     ⊎ (IsFreshSeat old b.setup b × (new.screen ≡ old.screen))
 
 -- where nothing has changed
-unchanged : (old new : Hub) (k : ℕ) (b : Seat) → new ≡ old → seat_in new k ≡ Some b →
+unchanged : (old new : Hub) (k : ℕ) (b : HubSeat) → new ≡ old → seat_in new k ≡ Some b →
     b.foreign ≡ false → CameFrom old k new b
 unchanged old new k b is there ours =
     inl (b, sym (ap (λ (h : Hub). seat_in h k) is) ∙ there, refl, ours)
 
 -- a slot that stayed
-stayed : (old new : Hub) (k : ℕ) (b : Seat) (flag : Bool) →
+stayed : (old new : Hub) (k : ℕ) (b : HubSeat) (flag : Bool) →
     StaysUnless flag (seat_in old k) (seat_in new k) → seat_in new k ≡ Some b →
     b.foreign ≡ false → CameFrom old k new b
 stayed old new k b true stays there ours = absurd (not_both (seat_in new k) b there (stays.0 refl))
 stayed old new k b false stays there ours = inl (b, sym (stays.1 refl) ∙ there, refl, ours)
 
-kept_seat : (old new : Hub) (k : ℕ) (a b : Seat) → KeepsSeat a b → seat_in old k ≡ Some a →
+kept_seat : (old new : Hub) (k : ℕ) (a b : HubSeat) → KeepsSeat a b → seat_in old k ≡ Some a →
     b.foreign ≡ false → CameFrom old k new b
 kept_seat old new k a b keeps was ours = inl (a, was, keeps.setup_is, sym keeps.foreign_is ∙ ours)
 
-drawn_from : (old new : Hub) (k : ℕ) (b : Seat) (told : HubTold) (Inside : Type 0)
-    (screen : Grid Colour) (R : Seat → Seat → Type 0) → ((x y : Seat) → R x y → KeepsSeat x y) →
-    DrawsHub Inside screen told new → (told.refused ≢ None → new ≡ old) →
+drawn_from : (old new : Hub) (k : ℕ) (b : HubSeat) (told : HubTold) (Inside : Type 0)
+    (screen : Grid Colour) (R : HubSeat → HubSeat → Type 0) → ((x y : HubSeat) → R x y → KeepsSeat x y) →
+    GivesHub Inside screen told new → (told.refused ≢ None → new ≡ old) →
     (told.refused ≡ None → OnSlot R (seat_in old k) (seat_in new k)) → seat_in new k ≡ Some b →
     b.foreign ≡ false → CameFrom old k new b
 drawn_from old new k b told Inside screen R keeps acts kept marks there ours = by acts.case
@@ -68,17 +71,20 @@ drawn_from old new k b told Inside screen R keeps acts kept marks there ours = b
         unchanged old new k b (kept (some_fault told.refused Outside refused)) there ours
 
 came : (old new : Hub) (event : HubEvent) (told : HubTold) → HubSteps old event told new → (k : ℕ)
-    (b : Seat) → seat_in new k ≡ Some b → b.foreign ≡ false → CameFrom old k new b
+    (b : HubSeat) → seat_in new k ≡ Some b → b.foreign ≡ false → CameFrom old k new b
 came old new (Fill rect colour) told s k b there ours =
-    drawn_from old new k b told _ _ (λ x y. IsDrawnOn rect x y) (λ x y is. is.keeps) s.acts s.kept
+    drawn_from old new k b told _ _ (λ x y. IsNotifiedOn (notice_of (OneFill rect colour)) x y)
+    (λ x y is. is.keeps) s.acts s.kept
     (s.others k tt) there ours
 came old new (Put x y row) told s k b there ours =
     drawn_from old new k b told _ _ _ (λ v w is. is.keeps) s.acts s.kept (s.others k tt) there ours
 came old new (Copy rect sx sy) told s k b there ours =
-    drawn_from old new k b told _ _ (λ x y. IsDrawnOn rect x y) (λ x y is. is.keeps) s.acts s.kept
+    drawn_from old new k b told _ _ (λ x y. IsNotifiedOn (notice_of (OneCopy rect sx sy)) x y)
+    (λ x y is. is.keeps) s.acts s.kept
     (s.others k tt) there ours
 came old new (Hint rect sx sy) told s k b there ours =
-    drawn_from old new k b told _ _ (λ x y. IsHintedOn rect sx sy x y) (λ x y is. is.keeps) s.acts
+    drawn_from old new k b told _ _ (λ x y. IsNotifiedOn (notice_of (OneHint rect sx sy)) x y)
+    (λ x y is. is.keeps) s.acts
     s.kept (s.others k tt) there ours
 came old new (Join j setup) told s k b there ours = by s.acts.2 (cases_eq k j)
   where
@@ -92,7 +98,7 @@ came old new (Join j setup) told s k b there ours = by s.acts.2 (cases_eq k j)
         let same : seat ≡ b =
         one_seat (seat_in new k) seat b (ap (λ (i : ℕ). seat_in new i) own ∙ now) there in
         let here : IsFreshSeat old setup b =
-        subst (λ (x : Seat). IsFreshSeat old setup x) same fresh in
+        subst (λ (x : HubSeat). IsFreshSeat old setup x) same fresh in
         inr (subst (λ (x : Setup). IsFreshSeat old x b) (sym here.setup_is) here, s.acts.0)
 came old new (Leave j) told s k b there ours = by s.acts.2 (cases_eq k j)
   where
@@ -111,7 +117,7 @@ came old new (Of j event) told s k b there ours = by s.acts.1 (cases_eq k j)
     by (Happened a c d was now does tells ends) (inl own) =
         let same : c ≡ b =
         one_seat (seat_in new k) c b (ap (λ (i : ℕ). seat_in new i) own ∙ now) there in
-        let one = subst (λ (x : Seat). SeatDoes old.screen a event d x) same does in
+        let one = subst (λ (x : HubSeat). SeatDoes old.screen a event d x) same does in
         inl (a, ap (λ (i : ℕ). seat_in old i) own ∙ was, one.setup_is, sym one.foreign_is ∙ ours)
 came old new (Foreign j bytes) told s k b there ours = by s.acts.2 (cases_eq k j)
   where
@@ -122,7 +128,7 @@ came old new (Foreign j bytes) told s k b there ours = by s.acts.2 (cases_eq k j
     by (Fed a c was taken now feeds) (inl own) =
         let same : c ≡ b =
         one_seat (seat_in new k) c b (ap (λ (i : ℕ). seat_in new i) own ∙ now) there in
-        absurd (not_clear c.foreign feeds.foreign (ap (λ (x : Seat). x.foreign) same ∙ ours))
+        absurd (not_clear c.foreign feeds.foreign (ap (λ (x : HubSeat). x.foreign) same ∙ ours))
 
 -- ---- what is reached
 
@@ -143,7 +149,7 @@ reached_slot e n m (Of j event) k r step = by (cases_eq k j)
 
 -- ---- one step
 
-abbrev Found : Ends → Grid Colour → Seat → Type 0
+abbrev Found : Ends → Grid Colour → HubSeat → Type 0
 Found e screen b = (n : Network) × IsReached e n × SeatStandsFor e screen b n × Unit {0}
 
 pub stands_step : (old new : Hub) (event : HubEvent) (told : HubTold) →
@@ -152,7 +158,7 @@ stands_step old new event told s stands = λ k b there ours made.
     by k b there ours (came old new event told s k b there ours)
     (subst (λ (v : Serving). AreMade (ends_of v b.setup)) s.made made)
   where
-    by : (k : ℕ) (b : Seat) → seat_in new k ≡ Some b → b.foreign ≡ false → CameFrom old k new b →
+    by : (k : ℕ) (b : HubSeat) → seat_in new k ≡ Some b → b.foreign ≡ false → CameFrom old k new b →
         AreMade (ends_of (serving_in old) b.setup) →
         Found (ends_of (serving_in new) b.setup) new.screen b
     by k b there ours (inl (a, was, setup, free)) made =
@@ -167,6 +173,40 @@ stands_step old new event told s stands = λ k b there ours made.
     by k b there ours (inr (fresh, screens)) made =
         let e = ends_of (serving_in old) b.setup in
         subst (λ (v : Serving). Found (ends_of v b.setup) new.screen b) (sym s.made) (
+          record { screen = old.screen; link = first_link e },
+          first_reached e old.screen refl refl,
+          record {
+            ours = fresh.ours;
+            screen_is = sym screens;
+            link_is = fresh.fresh;
+          },
+          tt,
+        )
+
+-- after a drawing
+pub stands_drawn : (old new : Hub) (s : Stroke) (told : HubTold) → DrawsHub old s told new → HubStands old →
+    HubStands new
+stands_drawn old new s told d stands = λ k b there ours made.
+    by k b there ours
+    (drawn_from old new k b told _ _ (λ x y. IsNotifiedOn (notice_of s) x y) (λ x y is. is.keeps) d.acts d.kept
+    (λ taken. d.slots taken k) there ours)
+    (subst (λ (v : Serving). AreMade (ends_of v b.setup)) d.made made)
+  where
+    by : (k : ℕ) (b : HubSeat) → seat_in new k ≡ Some b → b.foreign ≡ false → CameFrom old k new b →
+        AreMade (ends_of (serving_in old) b.setup) →
+        Found (ends_of (serving_in new) b.setup) new.screen b
+    by k b there ours (inl (a, was, setup, free)) made =
+        let e = ends_of (serving_in old) b.setup in
+        let before = subst (λ (x : Setup). AreMade (ends_of (serving_in old) x) →
+        (n : Network) × IsReached (ends_of (serving_in old) x) n
+        × SeatStandsFor (ends_of (serving_in old) x) old.screen a n × Unit {0}) (sym setup)
+        (stands k a was free) made in
+        let one = d.does k a b was there e before.0 before.2 in
+        subst (λ (v : Serving). Found (ends_of v b.setup) new.screen b) (sym d.made)
+        (one.0, reached_stroke e before.0 one.0 s before.1 one.1, one.2, tt)
+    by k b there ours (inr (fresh, screens)) made =
+        let e = ends_of (serving_in old) b.setup in
+        subst (λ (v : Serving). Found (ends_of v b.setup) new.screen b) (sym d.made) (
           record { screen = old.screen; link = first_link e },
           first_reached e old.screen refl refl,
           record {
@@ -192,14 +232,14 @@ runs_more old mid new (first ∷ events) event told (next, one, steps, rest) ste
     (next, one, steps, runs_more next mid new events event told rest step)
 
 -- what holds of all that is reached holds of each slot
-pub each_holds : (hub : Hub) (Holds : Ends → Seat → Network → Type 0) → HubStands hub →
-    ((e : Ends) (seat : Seat) (n : Network) → IsReached e n → SeatStandsFor e hub.screen seat n →
+pub each_holds : (hub : Hub) (Holds : Ends → HubSeat → Network → Type 0) → HubStands hub →
+    ((e : Ends) (seat : HubSeat) (n : Network) → IsReached e n → SeatStandsFor e hub.screen seat n →
     Holds e seat n) → Each hub Holds
 each_holds hub Holds stands holds = λ k seat there ours made.
     let one = stands k seat there ours made in
     (one.0, one.1, one.2, holds _ seat one.0 one.1 one.2)
 
-pub none_failed : (e : Ends) (screen : Grid Colour) (seat : Seat) (n : Network) →
+pub none_failed : (e : Ends) (screen : Grid Colour) (seat : HubSeat) (n : Network) →
     SeatStandsFor e screen seat n →
     (server_fault_of seat.link ≡ None) × (viewer_fault_of seat.link ≡ None)
 none_failed e screen seat n stands = (

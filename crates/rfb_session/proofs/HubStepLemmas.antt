@@ -12,7 +12,7 @@ use Rattle.rfb_session.specs.declared.hub.event.HubFault.TheVariants.{NoSuchSlot
 use Rattle.rfb_session.specs.declared.hub.event.HubTold.{HubTold}
 use Rattle.rfb_viewer.specs.declared.setup.ViewerSetup.{ViewerSetup as Setup}
 use Rattle.rfb_session.specs.declared.hub.event.SlotEvent.{SlotEvent}
-use Rattle.rfb_session.specs.declared.hub.seat.Seat.{Seat}
+use Rattle.rfb_session.specs.declared.hub.seat.HubSeat.{HubSeat}
 use Rattle.rfb_session.specs.declared.told.Delivery.{Delivery}
 use Rattle.rfb_session.specs.declared.told.Refused.{Refused}
 use Rattle.rfb_session.specs.declared.told.Told.{Told}
@@ -36,17 +36,17 @@ as_before old new k is = ap (λ (h : Hub). seat_in h k) is
 -- ---- slots that an event is not of
 
 -- where none is reported as emptied, a slot that is as it was stays
-pub stays_mere : (told : HubTold) (k : ℕ) (a b : Option Seat) → IsMere told → b ≡ a →
+pub stays_mere : (told : HubTold) (k : ℕ) (a b : Option HubSeat) → IsMere told → b ≡ a →
     StaysUnless (has_bit told.ended k) a b
 stays_mere told k a b mere same =
     let clear : has_bit told.ended k ≡ false = ap (λ (n : ℕ). has_bit n k) mere.ended ∙ no_bit k in
     (λ set. absurd (not_clear _ set clear), λ not_set. same)
 
 -- a seat that is as it was stands for what it did
-pub stands_still : (e : Ends) (old new : Hub) (a b : Seat) (n : Network) → new.screen ≡ old.screen →
+pub stands_still : (e : Ends) (old new : Hub) (a b : HubSeat) (n : Network) → new.screen ≡ old.screen →
     b ≡ a → SeatStandsFor e old.screen a n → SeatStandsFor e new.screen b n
 stands_still e old new a b n screens same stands =
-    subst (λ (s : Seat). SeatStandsFor e new.screen s n) (sym same)
+    subst (λ (s : HubSeat). SeatStandsFor e new.screen s n) (sym same)
     (record {
       ours = stands.ours;
       screen_is = stands.screen_is ∙ sym screens;
@@ -57,7 +57,7 @@ stands_still e old new a b n screens same stands =
 pub mere_does : (old new : Hub) (event : HubEvent) (told : HubTold) →
     ((e : Ends) (n : Network) (k : ℕ) → SlotSteps e n event k n) →
     ((e : Ends) (n : Network) (k : ℕ) → SlotTells e n event k told) → new.screen ≡ old.screen →
-    ((k : ℕ) (a b : Seat) → seat_in old k ≡ Some a → seat_in new k ≡ Some b → b.foreign ≡ false →
+    ((k : ℕ) (a b : HubSeat) → seat_in old k ≡ Some a → seat_in new k ≡ Some b → b.foreign ≡ false →
     b ≡ a) → SlotsDo old event told new
 mere_does old new event told steps tells screens same = λ k a b was is ours e n made reached stands. (
   n,
@@ -83,11 +83,11 @@ join_steps old new j setup told mere screens made closed joins others kept = rec
   kept = kept;
 }
   where
-    still : (k : ℕ) (a b : Seat) → seat_in old k ≡ Some a → seat_in new k ≡ Some b → new ≡ old → b ≡ a
+    still : (k : ℕ) (a b : HubSeat) → seat_in old k ≡ Some a → seat_in new k ≡ Some b → new ≡ old → b ≡ a
     still k a b was is unchanged =
         one_seat (seat_in old k) b a (sym (as_before old new k unchanged) ∙ is) was
 
-    same : (k : ℕ) (a b : Seat) → seat_in old k ≡ Some a → seat_in new k ≡ Some b →
+    same : (k : ℕ) (a b : HubSeat) → seat_in old k ≡ Some a → seat_in new k ≡ Some b →
         JoinsAs old j setup told new → ((k ≡ j) ⊎ (k ≢ j)) → b ≡ a
     same k a b was is what (inr differ) =
         one_seat (seat_in old k) b a (sym (others k (other k j differ)) ∙ is) was
@@ -114,7 +114,7 @@ leave_steps old new j told mere screens made closed leaves others kept = record 
   kept = kept;
 }
   where
-    same : (k : ℕ) (a b : Seat) → seat_in old k ≡ Some a → seat_in new k ≡ Some b →
+    same : (k : ℕ) (a b : HubSeat) → seat_in old k ≡ Some a → seat_in new k ≡ Some b →
         LeavesAs old j told new → ((k ≡ j) ⊎ (k ≢ j)) → b ≡ a
     same k a b was is what (inr differ) =
         one_seat (seat_in old k) b a (sym (others k (other k j differ)) ∙ is) was
@@ -130,7 +130,7 @@ pub foreign_steps : (old new : Hub) (event : HubEvent) (j : ℕ) (bytes : List �
     IsMere told → new.screen ≡ old.screen → serving_in new ≡ serving_in old →
     new.closed ≡ old.closed → ForeignAs old j bytes told new → HubActs old event told new →
     ((k : ℕ) → IsOther event k → nat_eq k j ≡ false) →
-    ((k : ℕ) (a b : Option Seat) → StaysUnless (has_bit told.ended k) a b → StaysAs event told k a b) →
+    ((k : ℕ) (a b : Option HubSeat) → StaysUnless (has_bit told.ended k) a b → StaysAs event told k a b) →
     ((e : Ends) (n : Network) (k : ℕ) → SlotSteps e n event k n) →
     ((e : Ends) (n : Network) (k : ℕ) → SlotTells e n event k told) →
     ((k : ℕ) → nat_eq k j ≡ false → seat_in new k ≡ seat_in old k) →
@@ -145,7 +145,7 @@ foreign_steps old new event j bytes told mere screens made closed feeds acts bes
   kept = kept;
 }
   where
-    same : (k : ℕ) (a b : Seat) → seat_in old k ≡ Some a → seat_in new k ≡ Some b →
+    same : (k : ℕ) (a b : HubSeat) → seat_in old k ≡ Some a → seat_in new k ≡ Some b →
         b.foreign ≡ false → ForeignAs old j bytes told new → ((k ≡ j) ⊎ (k ≢ j)) → b ≡ a
     same k a b was is ours what (inr differ) =
         one_seat (seat_in old k) b a (sym (others k (other k j differ)) ∙ is) was
@@ -154,7 +154,7 @@ foreign_steps old new event j bytes told mere screens made closed feeds acts bes
     same k a b was is ours (Fed c d there taken now feeds) (inl own) =
         let here : seat_in new k ≡ Some d = ap (λ (i : ℕ). seat_in new i) own ∙ now in
         absurd (not_clear d.foreign feeds.foreign
-        (ap (λ (s : Seat). s.foreign) (one_seat (seat_in new k) d b here is) ∙ ours))
+        (ap (λ (s : HubSeat). s.foreign) (one_seat (seat_in new k) d b here is) ∙ ours))
 
 -- ---- an event of a slot
 
@@ -189,7 +189,7 @@ none_there old new j event told fault mere is none refused = record {
 }
 
 -- the network that the seat of the event's own slot stands for afterwards
-pub own_does : (e : Ends) (old new : Hub) (event : SlotEvent) (d : Delivery) (a b : Seat) (n : Network) →
+pub own_does : (e : Ends) (old new : Hub) (event : SlotEvent) (d : Delivery) (a b : HubSeat) (n : Network) →
     new.screen ≡ old.screen → SeatDoes old.screen a event d b → AreMade e → IsReached e n →
     b.foreign ≡ false → SeatStandsFor e old.screen a n →
     (m : Network) × Steps e n (event_of event) m × Tells e n (event_of event) d.told
@@ -207,7 +207,7 @@ own_does e old new event d a b n screens does made reached ours stands =
     )
 
 pub happened_steps : (old new : Hub) (j : ℕ) (event : SlotEvent) (told : HubTold) (d : Delivery)
-    (a b : Seat) → seat_in old j ≡ Some a → seat_in new j ≡ Some b →
+    (a b : HubSeat) → seat_in old j ≡ Some a → seat_in new j ≡ Some b →
     SeatDoes old.screen a event d b → TellsFor d.told told → EndsAs d.sole j old told →
     new.screen ≡ old.screen → serving_in new ≡ serving_in old → new.closed ≡ old.closed →
     ((k : ℕ) → nat_eq k j ≡ false →
@@ -223,12 +223,12 @@ happened_steps old new j event told d a b was is does tells ends screens made cl
   kept = kept;
 }
   where
-    left : (k : ℕ) (c f : Seat) → seat_in old k ≡ Some c → seat_in new k ≡ Some f →
+    left : (k : ℕ) (c f : HubSeat) → seat_in old k ≡ Some c → seat_in new k ≡ Some f →
         (flag : Bool) → StaysUnless flag (seat_in old k) (seat_in new k) → f ≡ c
     left k c f before now true stays = absurd (not_both (seat_in new k) f now (stays.0 refl))
     left k c f before now false stays = one_seat (seat_in old k) f c (sym (stays.1 refl) ∙ now) before
 
-    by : (k : ℕ) (c f : Seat) → seat_in old k ≡ Some c → seat_in new k ≡ Some f → f.foreign ≡ false →
+    by : (k : ℕ) (c f : HubSeat) → seat_in old k ≡ Some c → seat_in new k ≡ Some f → f.foreign ≡ false →
         (e : Ends) (n : Network) → AreMade e → IsReached e n → SeatStandsFor e old.screen c n →
         ((k ≡ j) ⊎ (k ≢ j)) →
         (m : Network) × SlotSteps e n (Of j event) k m × SlotTells e n (Of j event) k told
@@ -237,12 +237,12 @@ happened_steps old new j event told d a b was is does tells ends screens made cl
         let first : c ≡ a = one_seat (seat_in old k) c a before (ap (λ (i : ℕ). seat_in old i) own ∙ was) in
         let last : f ≡ b = one_seat (seat_in new k) f b now (ap (λ (i : ℕ). seat_in new i) own ∙ is) in
         let one = own_does e old new event d a b n screens does fit reached
-        (sym (ap (λ (s : Seat). s.foreign) last) ∙ ours)
-        (subst (λ (s : Seat). SeatStandsFor e old.screen s n) first stands) in (
+        (sym (ap (λ (s : HubSeat). s.foreign) last) ∙ ours)
+        (subst (λ (s : HubSeat). SeatStandsFor e old.screen s n) first stands) in (
           one.0,
           (λ same. one.1, λ differ. absurd (apart k j differ own)),
           (λ same. (d.told, one.2, tells)),
-          subst (λ (s : Seat). SeatStandsFor e new.screen s one.0) (sym last) one.3,
+          subst (λ (s : HubSeat). SeatStandsFor e new.screen s one.0) (sym last) one.3,
         )
     by k c f before now ours e n fit reached stands (inr differ) = (
       n,

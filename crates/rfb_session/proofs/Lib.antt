@@ -20,6 +20,7 @@ pub mod ReachingLemmas
 pub mod ChannelLemmas
 pub mod DrawnLemmas
 pub mod DrawnLaws
+pub mod EventCallLemmas
 pub mod HappeningLemmas
 pub mod ComposedLemmas
 pub mod CalledLemmas
@@ -27,12 +28,14 @@ pub mod SizeLemmas
 pub mod RunLemmas
 pub mod RunLaws
 pub mod SlotLemmas
+mod SeatsLemmas
 pub mod FollowLemmas
 pub mod ShareRoomLemmas
 pub mod ShareSeatLemmas
 pub mod ShareMemoryLemmas
 pub mod ShareLifeLemmas
 pub mod ShareLemmas
+mod ShareWorkLemmas
 pub mod ShareLawLemmas
 pub mod ShareViewerLemmas
 pub mod ShareUpdateLemmas
@@ -66,6 +69,7 @@ pub mod ServeOrderLemmas
 pub mod ViewLemmas
 pub mod LookLemmas
 pub mod ViewOrderLemmas
+pub mod WatcherLemmas
 pub mod NetpbmNumberLemmas
 pub mod NetpbmHeadLemmas
 pub mod NetpbmPlacesLemmas

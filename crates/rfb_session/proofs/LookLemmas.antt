@@ -11,6 +11,7 @@ use Rattle.rfb_session.specs.declared.engine.fault.EngineFault.TheVariants.{Serv
 use Rattle.rfb_session.specs.ViewEngine.{RunsInTurn, HasViewed, HasMissed, ViewedSome, StopsViewing}
 use Rattle.rfb_session.specs.ViewEngine.{KeepsLast, KeepsFirst}
 use Rattle.rfb_session.specs.Looking.{due_until, Looks, HasLooked, StopsLooking}
+use Rattle.rfb_session.specs.Watcher.{EndsLooking, EndsViewing}
 use Rattle.rfb_session.proofs.WrittenLemmas.{rest_is, whole_beginning}
 use Rattle.rfb_session.proofs.PlayLemmas.{none_left}
 use Rattle.rfb_session.specs.Wire.{Writing, by_bytes}
@@ -24,7 +25,7 @@ open_turn : (old now : Viewer) (fed sent : List ℕ) (n fewer : ℕ) → 0 < few
 open_turn old now fed sent n fewer some runs =
     subst (λ (asks : Option Bool). RunsInTurn old fed sent n asks now) (until_some fewer some) runs
 
-more_counted : (left n mid m fewer : ℕ) → left ≡ n + mid → mid ≡ m + fewer → left ≡ (n + m) + fewer
+pub more_counted : (left n mid m fewer : ℕ) → left ≡ n + mid → mid ≡ m + fewer → left ≡ (n + m) + fewer
 more_counted left n mid m fewer was is = omega (arith, was, is)
 
 all_parts : (bytes fed rest more slice : List ℕ) → bytes ≡ fed ++ rest → rest ≡ more ++ slice →
@@ -258,7 +259,7 @@ viewing_ends unread mid left before w after blank k copied old reads asked still
       kept = all.kept;
     }
 
-fewer_than : (asked n fewer : ℕ) → asked ≡ n + fewer → 0 < fewer → n < asked
+pub fewer_than : (asked n fewer : ℕ) → asked ≡ n + fewer → 0 < fewer → n < asked
 fewer_than asked n fewer is some = omega (arith, is, some)
 
 -- the bytes ended before it did
@@ -377,6 +378,23 @@ stops_as unread left before after blank copied old asked failing failed fa af fa
     subst (λ (n : ℕ). StopsViewing unread left before after blank copied n af old asked fault new) was
     (subst (λ (n : ℕ). StopsViewing unread left before after blank copied failing n old asked fault new)
     is stops)
+
+-- a fault of a read is told of all alike
+pub still_looked : (left before n m : ℕ) (later : List ℕ) (last : Viewer) (fault : EngineFault) (new : Viewer) →
+    EndsLooking left (Err fault) new n later last → EndsLooking before (Err fault) new m later last
+still_looked left before n m later last (ViewerEnded fault) new ends = ends
+still_looked left before n m later last Device new ends = ends
+still_looked left before n m later last Truncated new ends = absurd ends
+still_looked left before n m later last (ServerEnded fault) new ends = absurd ends
+still_looked left before n m later last EngineNoMemory new ends = absurd ends
+
+pub then_viewed : (left asked n m : ℕ) (later : List ℕ) (last : Viewer) (fault : EngineFault) (new : Viewer) →
+    EndsLooking left (Err fault) new n later last → EndsViewing asked (Err fault) new m later last
+then_viewed left asked n m later last (ViewerEnded fault) new ends = ends
+then_viewed left asked n m later last Device new ends = ends
+then_viewed left asked n m later last Truncated new ends = absurd ends
+then_viewed left asked n m later last (ServerEnded fault) new ends = absurd ends
+then_viewed left asked n m later last EngineNoMemory new ends = absurd ends
 
 -- where the answer is an error, what follows of what it says of each
 pub err_each : {A E : Type 0} (r : Result A E) (P Q : E → Type 0) → ((e : E) → P e → Q e) →

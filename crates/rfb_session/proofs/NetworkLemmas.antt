@@ -1,5 +1,5 @@
 -- Every step of a world keeps what holds of its link; so it holds of all that is reached.
-use Rattle.std.proofs.Common.{◌≡◌, ℕ, List, [], ◌∷◌, map, None, inl, inr, refl, sym, ap, ◌∙◌, subst}
+use Rattle.std.proofs.Common.{◌≡◌, ℕ, [], map, None, inl, inr, refl, sym, ap, ◌∙◌, subst}
 use Rattle.rfb_pixel.specs.declared.colour.Colour.{Colour}
 use Rattle.rfb_picture.specs.Grid.{Grid, changed}
 use Rattle.rfb_wire.specs.ClientMessage.{SetEncodings as EncodingsMessage, KeyEvent, PointerEvent, ClientCutText}
@@ -8,12 +8,14 @@ use Rattle.rfb_wire.specs.stream.Sequel.{First, Second}
 use Rattle.rfb_codec.specs.UpdateStream.{UpdatePoint}
 use Rattle.rfb_hello.specs.ServerHandshake.{ServerPoint}
 use Rattle.rfb_viewer.specs.ServerBytes.{ServerAt}
+use Rattle.rfb_server.specs.Drawing.{Stroke, drawn_by}
+use Rattle.rfb_server.proofs.DrawingLaws.{width_drawn, height_drawn}
 use Rattle.rfb_session.specs.declared.event.Event.{Event}
 use Rattle.rfb_session.specs.declared.event.Event.TheVariants.{Fill, Put, Copy, Hint, Request, SetFormat, SetEncodings, Key, Pointer, CutText, Compose, ToServer, ToViewer}
 use Rattle.rfb_session.specs.Link.{Ends, LinkState, first_link}
 use Rattle.rfb_session.specs.LinkSteps.{LinkEvent, Request as OfRequest, SetFormat as OfFormat, SetEncodings as OfEncodings, Key as OfKey, Pointer as OfPointer, CutText as OfText, Compose as OfComposing, ToServer as OfServer, ToViewer as OfViewer, LinkSteps, begun}
 use Rattle.rfb_session.specs.Headline.{IsHeadline}
-use Rattle.rfb_session.specs.Network.{Network, Draws, OnLink, Steps, StepsAll, IsReached}
+use Rattle.rfb_session.specs.Network.{Network, Draws, OnLink, Steps, Strokes, Leads, Still, Then, IsReached}
 use Rattle.rfb_session.proofs.QueueLemmas.{uniform_at, none_unasked}
 use Rattle.rfb_session.proofs.PhaseLemmas.{Core, core, Phase, Greeting, Versioned, Typed, Choosing37, Choosing38, Chosen, Sharing, Begun, Named, Idling, Asking, Held, Sent}
 use Rattle.rfb_session.proofs.HoldsLemmas.{Holds, holds_to_viewer, holds_to_server}
@@ -123,11 +125,20 @@ step_holds e old new Compose h step = on_link e OfComposing old new h step
 step_holds e old new (ToServer count) h step = on_link e (OfServer count) old new h step
 step_holds e old new (ToViewer count) h step = on_link e (OfViewer count) old new h step
 
-steps_hold : (e : Ends) (old new : Network) (events : List Event) → NetworkHolds e old →
-    StepsAll e old events new → NetworkHolds e new
-steps_hold e old new [] h is = subst (λ (n : Network). NetworkHolds e n) (sym is) h
-steps_hold e old new (event ∷ events) h (mid, step, steps) =
-    steps_hold e mid new events (step_holds e old mid event h step) steps
+stroke_holds : (e : Ends) (s : Stroke) (old new : Network) → NetworkHolds e old → Strokes s old new → NetworkHolds e new
+stroke_holds e s old new h (inl (inside, is)) =
+    subst (λ (n : Network). NetworkHolds e n) (sym is)
+    (drawn_holds e old.screen (drawn_by s old.screen) (core old.link)
+    (width_drawn s old.screen) (height_drawn s old.screen) h)
+stroke_holds e s old new h (inr (outside, is)) =
+    subst (λ (n : Network). NetworkHolds e n) (sym is) h
+
+leads_hold : (e : Ends) (old new : Network) → Leads e old new → NetworkHolds e old → NetworkHolds e new
+leads_hold e old new Still h = h
+leads_hold e old new (Then mid now leads (inl (event, step))) h = step_holds e mid new event
+    (leads_hold e old mid leads h) step
+leads_hold e old new (Then mid now leads (inr (s, step))) h = stroke_holds e s mid new
+    (leads_hold e old mid leads h) step
 
 pub reached_holds : (e : Ends) (n : Network) → IsReached e n → Holds e n.screen (core n.link)
 reached_holds e n r =
@@ -135,7 +146,7 @@ reached_holds e n r =
     let fresh : NetworkHolds e r.first =
     subst (λ (l : LinkState). Holds e r.first.screen (core l)) (sym first.link)
     (first_holds e r.first.screen first.width first.height) in
-    steps_hold e r.first n r.events fresh r.steps
+    leads_hold e r.first n r.leads fresh
 
 apart : (vp : ServerPoint) (p : UpdatePoint) (at : ServerAt) → at ≡ First vp → at ≡ Second p → ⊥
 apart vp p at one two = cc
@@ -182,6 +193,5 @@ first_reached e screen wide high =
     record {
       first = record { screen = screen; link = first_link e };
       is_first = record { width = wide; height = high; link = refl };
-      events = [];
-      steps = refl;
+      leads = Still;
     }

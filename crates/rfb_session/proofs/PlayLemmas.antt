@@ -1,21 +1,14 @@
 -- Bytes that an engine feeds a viewer, read by read and call by call.
-use Rattle.std.proofs.Common.{◌≡◌, ◌≢◌, ℕ, ◌+◌, ◌-◌, ◌^◌, ◌<◌, ◌≤◌, min, List, [], ◌++◌, Option, Some, None, length, length-take-le, take, drop, refl, sym, ap, ◌∙◌, subst, append_assoc, append-nil, take-append-drop, length-append, arith}
+use Rattle.std.proofs.Common.{◌≡◌, ℕ, ◌+◌, ◌-◌, ◌^◌, ◌<◌, ◌≤◌, min, List, [], ◌++◌, Option, Some, None, length}
+use Rattle.std.proofs.Common.{length-take-le, take, refl, sym, ap, ◌∙◌, subst, append_assoc, append-nil}
+use Rattle.std.proofs.Common.{length-append, arith}
 use Rattle.std.specs.Io.KnownBytes.{Consumes, Keeps, IsAtEnd}
 use Rattle.std.proofs.KnownBytes.{Consumes-nil, Consumes-trans, Consumes-kept}
-use Rattle.rfb_wire.specs.stream.End.{FedBy, RefusedBy, RunsOutBy}
 use Rattle.rfb_viewer.specs.declared.fault.ViewerFault.{ViewerFault}
-use Rattle.rfb_viewer.specs.declared.fault.ViewerFault.TheVariants.{NoMemory}
-use Rattle.rfb_viewer.specs.declared.event.ViewerEvent.{ViewerEvent}
 use Rattle.rfb_viewer.specs.declared.viewer.Viewer.{Viewer}
-use Rattle.rfb_viewer.specs.Told.{seen}
-use Rattle.rfb_viewer.specs.Viewer.{Viewing, viewer, AsksMemory}
-use Rattle.rfb_viewer.specs.Standing.{StandsFor, fault_of}
-use Rattle.rfb_viewer.specs.Failing.{KeepsPicture, KeepsReason}
-use Rattle.rfb_session.specs.InFlight.{viewer_reply}
-use Rattle.rfb_session.specs.Watching.{viewer_driven, ViewerRuns, EndsWithin, IsWatched, ends_told}
+use Rattle.rfb_session.specs.Watching.{viewer_driven, ViewerRuns, EndsWithin, IsWatched}
 use Rattle.rfb_session.specs.Playing.{most, Played, AllPlayed, PlayedUntil}
-use Rattle.rfb_session.proofs.WrittenLemmas.{rest_is}
-use Rattle.rfb_session.proofs.EngineRunLemmas.{ran_none, ran_then, ran_fed}
+use Rattle.rfb_session.proofs.EngineRunLemmas.{ran_none, ran_then}
 
 -- ---- one read
 
@@ -35,7 +28,7 @@ counts_on : (before n m told now : ℕ) → told ≡ min (before + n) (2 ^ 64 - 
     now ≡ min (told + m) (2 ^ 64 - 1) → now ≡ min (before + (n + m)) (2 ^ 64 - 1)
 counts_on before n m told now was is = omega (arith, was, is)
 
-goes_on : (n m told now : ℕ) → told ≡ min n (2 ^ 64 - 1) → now ≡ min (told + m) (2 ^ 64 - 1) →
+pub goes_on : (n m told now : ℕ) → told ≡ min n (2 ^ 64 - 1) → now ≡ min (told + m) (2 ^ 64 - 1) →
     now ≡ min (n + m) (2 ^ 64 - 1)
 goes_on n m told now was is = omega (arith, was, is)
 
@@ -50,25 +43,6 @@ watched_none old bytes before few = record {
   runs = ran_none viewer_driven old;
 }
 
-pub watched_more : (old : Viewer) (bytes : List ℕ) (before : ℕ) (rest : List ℕ) (told : ℕ)
-    (mid : Viewer) (used : ℕ) (event : Option ViewerEvent) (new : Viewer) (now : ℕ) →
-    Watched old bytes before rest told mid →
-    ((viewing : Viewing) → FedBy (viewer viewing) (StandsFor viewing) mid (take used rest) (seen event) new) →
-    now ≡ min (told + ends_told (seen event)) (2 ^ 64 - 1) →
-    Watched old bytes before (take (length rest - used) (drop used rest)) now new
-watched_more old bytes before rest told mid used event new now was fed is = record {
-  fed = was.fed ++ take used rest;
-  sent = was.sent ++ viewer_reply (seen event);
-  updates = was.updates + ends_told (seen event);
-  bytes_are = was.bytes_are ∙ ap (λ (l : List ℕ). was.fed ++ l) (sym (take-append-drop used rest))
-      ∙ sym (append_assoc was.fed (take used rest) (drop used rest))
-      ∙ ap (λ (l : List ℕ). (was.fed ++ take used rest) ++ l) (sym (rest_is rest used));
-  told_is = counts_on before was.updates (ends_told (seen event)) told now was.told_is is;
-  runs = ran_then viewer_driven old mid new was.fed was.sent (take used rest)
-      (viewer_reply (seen event)) was.updates (ends_told (seen event)) was.runs
-      (ran_fed viewer_driven mid new (take used rest) (seen event) fed);
-}
-
 pub watched_all : (old : Viewer) (bytes : List ℕ) (before : ℕ) (rest : List ℕ) (told : ℕ)
     (now : Viewer) → Watched old bytes before rest told now → rest ≡ [] →
     IsWatched old bytes before told now
@@ -78,30 +52,6 @@ watched_all old bytes before rest told now was none = record {
   told_is = was.told_is;
   runs = subst (λ (l : List ℕ). ViewerRuns old l was.sent was.updates now)
       (sym (was.bytes_are ∙ ap (λ (l : List ℕ). was.fed ++ l) none ∙ append-nil was.fed)) was.runs;
-}
-
-pub watched_until : (old : Viewer) (bytes : List ℕ) (before : ℕ) (rest : List ℕ) (told : ℕ)
-    (last : Viewer) (fault : ViewerFault) (new : Viewer) → Watched old bytes before rest told last →
-    fault_of new ≡ Some fault →
-    (fault ≢ NoMemory → (viewing : Viewing) → RefusedBy (viewer viewing) (StandsFor viewing) last rest fault) →
-    (fault ≡ NoMemory → (viewing : Viewing) → RunsOutBy (viewer viewing) (AsksMemory viewing) (StandsFor viewing) last rest) →
-    (fault_of last ≡ None → KeepsPicture fault last rest new) →
-    (fault_of last ≡ None → KeepsReason fault last rest new) → EndsWithin old bytes fault new
-watched_until old bytes before rest told last fault new was fails refused starved picture reason = record {
-  fed = was.fed;
-  slice = rest;
-  sent = was.sent;
-  updates = was.updates;
-  last = last;
-  bytes_are = was.bytes_are;
-  runs = was.runs;
-  ends = record {
-    fails = fails;
-    refused = refused;
-    starved = starved;
-    picture = picture;
-    reason = reason;
-  };
 }
 
 -- ---- all reads

@@ -1,5 +1,5 @@
 -- Runs of a world: step after step, and what holds after them.
-use Rattle.std.proofs.Common.{List, [], ◌∷◌, ◌++◌, refl, subst}
+use Rattle.std.proofs.Common.{List, [], ◌∷◌, ◌++◌, refl, sym, subst}
 use Rattle.rfb_server.proofs.ServerLaws.{session_going}
 use Rattle.rfb_viewer.proofs.ViewerLaws.{viewer_going}
 use Rattle.rfb_session.specs.declared.event.Event.{Event}
@@ -8,26 +8,17 @@ use Rattle.rfb_session.specs.declared.world.World.{World}
 use Rattle.rfb_session.specs.Link.{Ends}
 use Rattle.rfb_session.specs.Network.{Network, StepsAll, IsReached}
 use Rattle.rfb_session.specs.World.{StandsFor, Does, Reaches, NeitherFailed}
-use Rattle.rfb_session.proofs.WorldLemmas.{steps_last}
+use Rattle.rfb_session.proofs.WorldLemmas.{reached_step, steps_last}
 
 -- a network, and nothing said of it
 abbrev pub Any : Ends → Network → Type 0
 Any e n = Unit {0}
 
-steps_append : (e : Ends) (a b c : Network) (xs ys : List Event) → StepsAll e a xs b →
-    StepsAll e b ys c → StepsAll e a (xs ++ ys) c
-steps_append e a b c [] ys is steps = subst (λ (n : Network). StepsAll e n ys c) is steps
-steps_append e a b c (event ∷ xs) ys (mid, one, more) steps =
-    (mid, one, steps_append e mid b c xs ys more steps)
-
 pub reached_more : (e : Ends) (n m : Network) (events : List Event) → IsReached e n →
     StepsAll e n events m → IsReached e m
-reached_more e n m events r steps = record {
-  first = r.first;
-  is_first = r.is_first;
-  events = r.events ++ events;
-  steps = steps_append e r.first n m r.events events r.steps steps;
-}
+reached_more e n m [] r is = subst (λ (x : Network). IsReached e x) (sym is) r
+reached_more e n m (event ∷ events) r (mid, one, more) =
+    reached_more e mid m events (reached_step e n mid event r one) more
 
 pub run_none : (w : World) → Reaches w [] w Any
 run_none w = λ e n made reached stands. (n, refl, stands, tt)

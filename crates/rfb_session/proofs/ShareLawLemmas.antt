@@ -8,16 +8,15 @@ use Rattle.rfb_session.specs.declared.share.Share.{Share}
 use Rattle.rfb_session.specs.declared.share.event.Composing.{Composing}
 use Rattle.rfb_session.specs.declared.share.event.Composing.TheVariants.{Composed, NotDue, Waiting}
 use Rattle.rfb_session.specs.declared.share.event.Composing.TheVariants.{NoSuchSeat}
-use Rattle.rfb_session.specs.declared.share.event.Drawing.{Drawing}
-use Rattle.rfb_session.specs.declared.share.event.Drawing.TheVariants.{Fill, Put, Copy, Hint}
 use Rattle.rfb_session.specs.declared.share.event.Heard.{Heard}
 use Rattle.rfb_session.specs.declared.share.event.ShareFault.{ShareFault}
 use Rattle.rfb_session.specs.declared.share.seat.ShareSeat.{ShareSeat}
 use Rattle.rfb_session.specs.Share.{seat_in, screen_of, serving_in, waits_at, waiting_for}
 use Rattle.rfb_session.specs.ShareLives.{Lives, LivesAt, GoesOn}
-use Rattle.rfb_session.specs.ShareSeats.{waiting_in, ComposesAt, KeepsShareSeat, WritesAt}
+use Rattle.rfb_session.specs.ShareSeats.{waiting_in, ComposesAt, WritesAt, IsNotifiedIn}
 use Rattle.rfb_session.specs.ShareSlots.{ComposesIn, WantsRoomIn}
-use Rattle.rfb_session.specs.ShareSteps.{JoinsAs, Full, Joined, DrawsOn, IsToldOf, ReceivesAs}
+use Rattle.rfb_server.specs.Drawing.{Stroke, notice_of}
+use Rattle.rfb_session.specs.ShareSteps.{JoinsAs, Full, Joined, DrawsOn, ReceivesAs}
 use Rattle.rfb_session.specs.ShareSteps.{RefusesAs, NoneHeard, SeatEnded, WritesAs, ComposesAs}
 use Rattle.rfb_session.specs.ShareSteps.{WantsRoomAs, KeepsScreen}
 use Rattle.rfb_session.specs.Slots.{OnSlot}
@@ -65,20 +64,14 @@ joined_lives old new joined k (Joined j told within free first seat there fresh 
     one : (o : Option ℕ) → o ≡ Some j → o ≡ Some k → j ≡ k
     one o some other = cc
 
--- a drawing and a hint leave what waits, and all that the session stands for
-pub told_keeps : (drawing : Drawing) (a b : ShareSeat) → IsToldOf drawing a b → KeepsShareSeat a b
-told_keeps (Fill rect colour) a b told = told.keeps
-told_keeps (Put x y row) a b told = told.keeps
-told_keeps (Copy rect sx sy) a b told = told.keeps
-told_keeps (Hint rect sx sy) a b told = told.keeps
-
-pub drawn_lives : (serving : Serving) (old new : Share) (drawing : Drawing) (k : ℕ)
-    (heard taken : List ℕ) → DrawsOn old drawing new → LivesAt serving old k heard taken →
+-- a drawing leaves what waits, and all that the session stands for
+pub drawn_lives : (serving : Serving) (old new : Share) (s : Stroke) (k : ℕ)
+    (heard taken : List ℕ) → DrawsOn old s new → LivesAt serving old k heard taken →
     LivesAt serving new k heard taken
-drawn_lives serving old new drawing k heard taken draws was =
-    let one = became (λ a b. IsToldOf drawing a b) (seat_in old k) (seat_in new k) was.seat
+drawn_lives serving old new s k heard taken draws was =
+    let one = became (λ a b. IsNotifiedIn (notice_of s) a b) (seat_in old k) (seat_in new k) was.seat
     (draws.seats k) was.there in
-    let keeps = told_keeps drawing was.seat one.0 one.2 in
+    let keeps = one.2.keeps in
     record {
       seat = one.0;
       there = one.1;

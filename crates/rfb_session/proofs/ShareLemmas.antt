@@ -168,3 +168,15 @@ received_as old new k bytes used heard told (Some x) (Some y) hears was is some 
       others = others;
       keeps = keeps;
     }
+
+-- ---- the place of a seat is its number
+
+pub refused_there : (old new : Share) (place k : ℕ) (bytes : List ℕ) (fault : ShareFault) →
+    place ≡ k → RefusesAs old place bytes fault new → RefusesAs old k bytes fault new
+refused_there old new place k bytes fault is refuses =
+    subst (λ (n : ℕ). RefusesAs old n bytes fault new) is refuses
+
+pub received_there : (old new : Share) (place k : ℕ) (bytes : List ℕ) (heard : Heard) →
+    place ≡ k → ReceivesAs old place bytes heard new → ReceivesAs old k bytes heard new
+received_there old new place k bytes heard is receives =
+    subst (λ (n : ℕ). ReceivesAs old n bytes heard new) is receives

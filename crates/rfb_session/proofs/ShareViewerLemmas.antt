@@ -18,11 +18,7 @@ use Rattle.rfb_viewer.specs.declared.viewer.Viewer.{Viewer}
 use Rattle.rfb_viewer.specs.Standing.{StandsFor as ViewerStandsFor}
 use Rattle.rfb_viewer.specs.Told.{ViewerTold}
 use Rattle.rfb_viewer.specs.Viewer.{first_viewer, viewer as viewer_end}
-use Rattle.rfb_session.specs.declared.event.Event.TheVariants.{Fill as OfFill, Put as OfPut}
-use Rattle.rfb_session.specs.declared.event.Event.TheVariants.{Copy as OfCopy, Hint as OfHint}
 use Rattle.rfb_session.specs.declared.share.Share.{Share}
-use Rattle.rfb_session.specs.declared.share.event.Drawing.{Drawing}
-use Rattle.rfb_session.specs.declared.share.event.Drawing.TheVariants.{Fill, Put, Copy, Hint}
 use Rattle.rfb_session.specs.declared.share.event.Heard.{Heard}
 use Rattle.rfb_session.specs.declared.share.event.ShareFault.TheVariants.{Session as OfSession}
 use Rattle.rfb_session.specs.declared.share.seat.ShareSeat.{ShareSeat}
@@ -30,21 +26,21 @@ use Rattle.rfb_session.specs.Carrying.{Carries}
 use Rattle.rfb_session.specs.InFlight.{AreMade, Flies, first_flight, server_reply, viewer_reply}
 use Rattle.rfb_session.specs.Link.{Ends, first_link}
 use Rattle.rfb_session.specs.LinkStanding.{ServesOver}
-use Rattle.rfb_session.specs.Network.{Network, IsReached}
+use Rattle.rfb_session.specs.Network.{Network}
 use Rattle.rfb_session.specs.Share.{seat_in, screen_of, serving_in, waits_at, waiting_for}
-use Rattle.rfb_session.specs.ShareSeats.{waiting_in, WritesAt}
-use Rattle.rfb_session.specs.ShareSteps.{JoinsAs, Full, Joined, DrawsOn, IsInside, IsToldOf}
+use Rattle.rfb_session.specs.ShareSeats.{waiting_in, WritesAt, IsNotifiedIn}
+use Rattle.rfb_server.specs.Drawing.{Stroke, IsInside, drawn_by, notice_of}
+use Rattle.rfb_session.specs.ShareSteps.{JoinsAs, Full, Joined, DrawsOn}
 use Rattle.rfb_session.specs.ShareSteps.{ReceivesAs, RefusesAs, NoneHeard, SeatEnded, WritesAs}
-use Rattle.rfb_session.specs.ShareSteps.{drawn_by}
 use Rattle.rfb_session.specs.ShareViewers.{IsWatchedBy, Watches}
 use Rattle.rfb_session.proofs.CarryLemmas.{viewer_fed, server_fed, server_keeps}
 use Rattle.rfb_session.proofs.DeliveringLemmas.{server_reached, viewer_reached}
 use Rattle.rfb_session.proofs.FlightLemmas.{first_flies}
 use Rattle.rfb_session.proofs.MoveLemmas.{viewer_flight, server_flight}
 use Rattle.rfb_session.proofs.NetworkLemmas.{first_reached, reached_holds}
-use Rattle.rfb_session.proofs.ShareLawLemmas.{became, told_keeps}
+use Rattle.rfb_session.proofs.ShareLawLemmas.{became}
 use Rattle.rfb_session.proofs.SlotLemmas.{one_seat, not_both}
-use Rattle.rfb_session.proofs.WorldLemmas.{reached_step}
+use Rattle.rfb_session.proofs.WorldLemmas.{reached_stroke}
 
 -- what is carried between a session and a viewer
 abbrev pub Between : Ends → Network → Session → Viewer → List ℕ → List ℕ → Type 0
@@ -111,40 +107,25 @@ watched_joined e old new joined k viewer made fresh
 
 -- ---- drawings
 
--- a drawing of the share's is one of the network's
-drawn_reached : (e : Ends) (drawing : Drawing) (n : Network) (screen : Grid Colour) →
-    IsInside n.screen drawing → screen ≡ drawn_by drawing n.screen → IsReached e n →
-    IsReached e (record n { screen = screen })
-drawn_reached e (Fill rect colour) n screen inside is reached =
-    reached_step e n (record n { screen = screen }) (OfFill rect colour) reached
-    (inl (inside, ap (λ (g : Grid Colour). record n { screen = g }) is))
-drawn_reached e (Put x y row) n screen inside is reached =
-    reached_step e n (record n { screen = screen }) (OfPut x y row) reached
-    (inl (inside, ap (λ (g : Grid Colour). record n { screen = g }) is))
-drawn_reached e (Copy rect sx sy) n screen inside is reached =
-    reached_step e n (record n { screen = screen }) (OfCopy rect sx sy) reached
-    (inl (inside, ap (λ (g : Grid Colour). record n { screen = g }) is))
-drawn_reached e (Hint rect sx sy) n screen inside is reached =
-    reached_step e n (record n { screen = screen }) (OfHint rect sx sy) reached
-    (ap (λ (g : Grid Colour). record n { screen = g }) is)
-
-pub watched_drawn : (e : Ends) (old new : Share) (drawing : Drawing) (k : ℕ) (viewer : Viewer)
-    (to_server on_way : List ℕ) → IsInside (screen_of old) drawing → DrawsOn old drawing new →
+pub watched_drawn : (e : Ends) (old new : Share) (s : Stroke) (k : ℕ) (viewer : Viewer)
+    (to_server on_way : List ℕ) → IsInside (screen_of old) s → DrawsOn old s new →
     Watches e old k viewer to_server on_way → Watches e new k viewer to_server on_way
-watched_drawn e old new drawing k viewer to_server on_way inside draws (n, w) =
-    let one = became (λ a b. IsToldOf drawing a b) (seat_in old k) (seat_in new k) w.seat
+watched_drawn e old new s k viewer to_server on_way inside draws (n, w) =
+    let one = became (λ a b. IsNotifiedIn (notice_of s) a b) (seat_in old k) (seat_in new k) w.seat
     (draws.seats k) w.there in
-    let keeps = told_keeps drawing w.seat one.0 one.2 in
+    let keeps = one.2.keeps in
     let had = w.carries in (
       record n { screen = screen_of new },
       record {
         seat = one.0;
         there = one.1;
         screen_is = refl;
-        reached = drawn_reached e drawing n (screen_of new)
-            (subst (λ (g : Grid Colour). IsInside g drawing) (sym w.screen_is) inside)
-            (draws.screen ∙ ap (λ (g : Grid Colour). drawn_by drawing g) (sym w.screen_is))
-            w.reached;
+        reached = reached_stroke e n (record n { screen = screen_of new }) s w.reached
+            (inl (
+              subst (λ (g : Grid Colour). IsInside g s) (sym w.screen_is) inside,
+              ap (λ (g : Grid Colour). record n { screen = g })
+                  (draws.screen ∙ ap (λ (g : Grid Colour). drawn_by s g) (sym w.screen_is)),
+            ));
         carries = to_viewer_same e (record n { screen = screen_of new }) one.0.session viewer
             to_server (on_way ++ waiting_in w.seat) (on_way ++ waiting_in one.0)
             (ap (λ (q : List ℕ). on_way ++ q) keeps.waits)

@@ -127,7 +127,7 @@ asked_turn first old new bytes sent event incremental fed is asks = λ viewing s
 due_at_end : (event : Option ViewerTold) → 0 < ends_told event → due_after event ≡ Some true
 due_at_end None some = absurd (omega (arith, some))
 due_at_end (Some (Reply bytes)) some = absurd (omega (arith, some))
-due_at_end (Some (Ready bytes name name_length)) some = absurd (omega (arith, some))
+due_at_end (Some (Ready bytes width height name name_length)) some = absurd (omega (arith, some))
 due_at_end (Some UpdateDone) some = refl
 due_at_end (Some Bell) some = absurd (omega (arith, some))
 due_at_end (Some (CutText kept text_length)) some = absurd (omega (arith, some))

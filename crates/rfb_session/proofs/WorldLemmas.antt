@@ -1,9 +1,10 @@
 -- What is reached by events, and a fresh world.
-use Rattle.std.proofs.Common.{◌≡◌, List, [], ◌∷◌, ◌++◌, false, refl, sym, subst, ◌∙◌}
+use Rattle.std.proofs.Common.{◌≡◌, List, [], ◌∷◌, ◌++◌, false, inl, inr, refl, sym, subst, ◌∙◌}
 use Rattle.rfb_pixel.specs.declared.colour.Colour.{Colour}
 use Rattle.rfb_picture.specs.Grid.{Grid}
 use Rattle.rfb_server.specs.declared.server.Server.{Server}
 use Rattle.rfb_server.specs.declared.session.Session.{Session}
+use Rattle.rfb_server.specs.Drawing.{Stroke}
 use Rattle.rfb_server.specs.Server.{first_server}
 use Rattle.rfb_server.specs.Standing.{SessionStandsFor, with_screen, screen_of, session_of}
 use Rattle.rfb_server.proofs.ServerLaws.{session_over}
@@ -12,7 +13,7 @@ use Rattle.rfb_session.specs.declared.event.Event.{Event}
 use Rattle.rfb_session.specs.declared.told.Told.{Told}
 use Rattle.rfb_session.specs.declared.world.World.{World}
 use Rattle.rfb_session.specs.Link.{Ends, first_link}
-use Rattle.rfb_session.specs.Network.{Network, Steps, StepsAll, IsReached}
+use Rattle.rfb_session.specs.Network.{Network, Steps, StepsAll, Strokes, Then, IsReached}
 use Rattle.rfb_session.specs.LinkStanding.{LinkStandsFor, AreNew, LinkDoes, LinkDoesOver}
 use Rattle.rfb_session.specs.World.{StandsFor, AreFresh, Does, first_network}
 
@@ -31,8 +32,14 @@ pub reached_step : (e : Ends) (old new : Network) (event : Event) → IsReached 
 reached_step e old new event r step = record {
   first = r.first;
   is_first = r.is_first;
-  events = r.events ++ event ∷ [];
-  steps = steps_last e r.first old new r.events event r.steps step;
+  leads = Then old new r.leads (inl (event, step));
+}
+
+pub reached_stroke : (e : Ends) (old new : Network) (s : Stroke) → IsReached e old → Strokes s old new → IsReached e new
+reached_stroke e old new s r step = record {
+  first = r.first;
+  is_first = r.is_first;
+  leads = Then old new r.leads (inr (s, step));
 }
 
 -- ---- a world

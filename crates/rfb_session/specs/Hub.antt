@@ -10,7 +10,7 @@ use Rattle.rfb_session.specs.declared.hub.Hub.{Hub}
 use Rattle.rfb_session.specs.declared.hub.event.HubEvent.{HubEvent}
 use Rattle.rfb_session.specs.declared.hub.event.HubEvent.TheVariants.{Of, Foreign}
 use Rattle.rfb_viewer.specs.declared.setup.ViewerSetup.{ViewerSetup as Setup}
-use Rattle.rfb_session.specs.declared.hub.seat.Seat.{Seat}
+use Rattle.rfb_session.specs.declared.hub.seat.HubSeat.{HubSeat}
 use Rattle.rfb_session.specs.Link.{Ends, first_link}
 use Rattle.rfb_session.specs.LinkStanding.{LinkStandsFor, server_fault_of, viewer_fault_of}
 use Rattle.rfb_session.specs.LinkStanding.{number_of}
@@ -24,7 +24,7 @@ use Rattle.rfb_session.specs.Slots.{seat_at}
 -- ---- what a hub is
 
 -- the seat of slot k, where it is taken
-abbrev pub seat_in : Hub → ℕ → Option Seat
+abbrev pub seat_in : Hub → ℕ → Option HubSeat
 seat_in hub k = seat_at k hub.slots
 
 -- what its sessions are made with
@@ -47,7 +47,7 @@ HasFewHubBytes (Foreign k bytes) = length bytes.items ≤ 1048576
 HasFewHubBytes event = Unit {0}
 
 -- what the viewer of a seat shows, where there is one with a screen
-abbrev pub shown_by_seat : Option Seat → Option (Grid Colour)
+abbrev pub shown_by_seat : Option HubSeat → Option (Grid Colour)
 shown_by_seat None = None
 shown_by_seat (Some seat) = shown_on seat.link
 
@@ -55,7 +55,7 @@ abbrev pub shown_in : Hub → ℕ → Option (Grid Colour)
 shown_in hub k = shown_by_seat (seat_in hub k)
 
 -- the number of the fault that the session of a seat has failed with
-abbrev pub number_in_seat : Option Seat → Option ℕ
+abbrev pub number_in_seat : Option HubSeat → Option ℕ
 number_in_seat None = None
 number_in_seat (Some seat) = number_of (server_fault_of seat.link)
 
@@ -63,7 +63,7 @@ abbrev pub fault_number_in : Hub → ℕ → Option ℕ
 fault_number_in hub k = number_in_seat (seat_in hub k)
 
 -- a seat that a viewer of that setup has just taken: two fresh ends over the screen, and no hint
-pub record IsFreshSeat (hub : Hub) (setup : Setup) (seat : Seat) : Type 0 where
+pub record IsFreshSeat (hub : Hub) (setup : Setup) (seat : HubSeat) : Type 0 where
   pub setup_is : seat.setup ≡ setup
   pub ours : seat.foreign ≡ false
   pub follows : Follows hub.screen seat.link.session
@@ -75,9 +75,9 @@ pub record IsFreshSeat (hub : Hub) (setup : Setup) (seat : Seat) : Type 0 where
 
 -- each seat to which no foreign bytes came, and whose viewer admits the screen, stands over the
 -- screen for a network that was reached from a fresh one, and of which that holds
-abbrev pub Each : Hub → (Ends → Seat → Network → Type 0) → Type 0
+abbrev pub Each : Hub → (Ends → HubSeat → Network → Type 0) → Type 0
 Each hub Holds =
-    (k : ℕ) (seat : Seat) → seat_in hub k ≡ Some seat → seat.foreign ≡ false →
+    (k : ℕ) (seat : HubSeat) → seat_in hub k ≡ Some seat → seat.foreign ≡ false →
     AreMade (ends_of (serving_in hub) seat.setup) →
     (n : Network) × IsReached (ends_of (serving_in hub) seat.setup) n
     × SeatStandsFor (ends_of (serving_in hub) seat.setup) hub.screen seat n

@@ -1,13 +1,13 @@
 -- A seat at a hub: what it is made with, and what becomes of it.
 use Rattle.std.specs.Prelude.{◌≡◌, ◌≢◌, ◌⊎◌, ℕ, true, false, List, [], ◌++◌, None}
 use Rattle.rfb_pixel.specs.declared.colour.Colour.{Colour}
-use Rattle.rfb_picture.specs.declared.rect.Rect.{Rect}
-use Rattle.rfb_picture.specs.Grid.{Grid, IsGrid, Holds}
-use Rattle.rfb_codec.specs.RectData.{moved_to}
+use Rattle.rfb_picture.specs.Grid.{Grid, IsGrid}
 use Rattle.rfb_server.specs.Following.{Follows, IsSameOutside}
-use Rattle.rfb_server.specs.Hints.{hints_in, with_hint}
+use Rattle.rfb_server.specs.Hints.{hints_in}
 use Rattle.rfb_server.specs.Server.{Serving}
-use Rattle.rfb_server.specs.Standing.{KeepsSession, notes_in}
+use Rattle.rfb_server.specs.declared.drawing.notice.Notice.{Notice}
+use Rattle.rfb_server.specs.Drawing.{area_told, hint_told, with_hint_of}
+use Rattle.rfb_server.specs.Standing.{KeepsSession}
 use Rattle.rfb_server.specs.Updating.{OwesUpdate}
 use Rattle.rfb_viewer.specs.Standing.{viewing_with}
 use Rattle.rfb_session.specs.declared.event.Event.{Event}
@@ -25,7 +25,7 @@ use Rattle.rfb_session.specs.declared.hub.event.SlotEvent.TheVariants.{Request, 
 use Rattle.rfb_session.specs.declared.hub.event.SlotEvent.TheVariants.{SetEncodings, Key, Pointer}
 use Rattle.rfb_session.specs.declared.hub.event.SlotEvent.TheVariants.{CutText, Compose, ToServer}
 use Rattle.rfb_session.specs.declared.hub.event.SlotEvent.TheVariants.{ToViewer}
-use Rattle.rfb_session.specs.declared.hub.seat.Seat.{Seat}
+use Rattle.rfb_session.specs.declared.hub.seat.HubSeat.{HubSeat}
 use Rattle.rfb_session.specs.declared.link.Link.{Link}
 use Rattle.rfb_session.specs.declared.told.Delivery.{Delivery}
 use Rattle.rfb_session.specs.declared.told.Told.{Told}
@@ -50,13 +50,13 @@ ends_of serving setup = record {
 }
 
 -- of a fresh seat, which a viewer of that setup took
-pub record IsSeated (setup : Setup) (link : Link) (seat : Seat) : Type 0 where
+pub record IsSeated (setup : Setup) (link : Link) (seat : HubSeat) : Type 0 where
   pub setup_is : seat.setup ≡ setup
   pub link_is : seat.link ≡ link
   pub ours : seat.foreign ≡ false
 
 -- a seat that its own viewer's bytes alone reached stands over a screen for a network
-pub record SeatStandsFor (e : Ends) (screen : Grid Colour) (seat : Seat) (n : Network)
+pub record SeatStandsFor (e : Ends) (screen : Grid Colour) (seat : HubSeat) (n : Network)
     : Type 0 where
   pub ours : seat.foreign ≡ false
   pub screen_is : n.screen ≡ screen
@@ -65,34 +65,22 @@ pub record SeatStandsFor (e : Ends) (screen : Grid Colour) (seat : Seat) (n : Ne
 -- ---- drawings and hints
 
 -- all but its session is as it was, and that has nothing new but its marks and hints
-pub record KeepsSeat (old new : Seat) : Type 0 where
+pub record KeepsSeat (old new : HubSeat) : Type 0 where
   pub setup_is : new.setup ≡ old.setup
   pub foreign_is : new.foreign ≡ old.foreign
   pub link : ChangesSession old.link new.link
   pub session : KeepsSession old.link.session new.link.session
 
--- its session was notified that the screen is drawn on inside the rectangle
-pub record IsDrawnOn (rect : Rect) (old new : Seat) : Type 0 where
-  pub keeps : KeepsSeat old new
-  pub hints : hints_in new.link.session ≡ hints_in old.link.session
-  pub follows : (before after : Grid Colour) → Follows before old.link.session → IsGrid after →
-      IsSameOutside rect before after → Follows after new.link.session
-
--- both rectangles of a hint lie on the screens that its session is about
-pub record IsHintable (rect : Rect) (sx sy : ℕ) (seat : Seat) : Type 0 where
-  pub target : Holds (notes_in seat.link.session).known rect
-  pub source : Holds (notes_in seat.link.session).known (moved_to sx sy rect)
-
--- its session got the hint that the rectangle looks as the one of its size at (sx, sy) did
-pub record IsHintedOn (rect : Rect) (sx sy : ℕ) (old new : Seat) : Type 0 where
+-- its session was told of a drawing, and of its hint; nothing else that it has has changed
+pub record IsNotifiedOn (notice : Notice) (old new : HubSeat) : Type 0 where
   pub keeps : KeepsSeat old new
   pub hints : hints_in new.link.session
-      ≡ with_hint (record { to = rect; sx = sx; sy = sy }) (hints_in old.link.session)
-  pub follows : (screen : Grid Colour) → Follows screen old.link.session →
-      Follows screen new.link.session
+      ≡ with_hint_of (hint_told notice) (hints_in old.link.session)
+  pub follows : (before after : Grid Colour) → Follows before old.link.session → IsGrid after →
+      IsSameOutside (area_told notice) before after → Follows after new.link.session
 
 -- bytes that no viewer sent joined those in flight to the session
-pub record TakesForeign (bytes : List ℕ) (old new : Seat) : Type 0 where
+pub record TakesForeign (bytes : List ℕ) (old new : HubSeat) : Type 0 where
   pub setup_is : new.setup ≡ old.setup
   pub foreign : new.foreign ≡ true
   pub to_server : new.link.to_server ≡ old.link.to_server ++ bytes
@@ -137,8 +125,8 @@ SoleAs old (OfServer count) d new = TellsSole old d.told.moved d.sole new
 SoleAs old event d new = d.sole ≡ false
 
 -- all that becomes of the seat
-pub record SeatDoes (screen : Grid Colour) (old : Seat) (event : SlotEvent) (d : Delivery)
-    (new : Seat) : Type 0 where
+pub record SeatDoes (screen : Grid Colour) (old : HubSeat) (event : SlotEvent) (d : Delivery)
+    (new : HubSeat) : Type 0 where
   pub setup_is : new.setup ≡ old.setup
   pub foreign_is : new.foreign ≡ old.foreign
   -- what becomes of its ends and of the bytes between them, whatever they are and stand for
@@ -161,7 +149,7 @@ IsIdleOn screen link event = ⊥
 
 -- what takes no memory there: a call that is refused, by what the link stands for or by its viewer
 -- alone; bytes for an end that has failed, or none; and a composing of nothing
-pub record SeatSpares (screen : Grid Colour) (seat : Seat) (event : SlotEvent) : Type 0 where
+pub record SeatSpares (screen : Grid Colour) (seat : HubSeat) (event : SlotEvent) : Type 0 where
   pub case : (IsRefusedOn seat.link (event_of event)
       ⊎ (refusal_on seat.link (event_of event) ≢ None))
       ⊎ ((IsLostOn seat.link (event_of event) ⊎ MovesNone seat.link (event_of event))

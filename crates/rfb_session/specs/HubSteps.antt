@@ -5,6 +5,9 @@ use Rattle.rfb_pixel.specs.declared.colour.Colour.{Colour}
 use Rattle.rfb_picture.specs.Grid.{Grid, Holds, filled, copied, with_row, uniform}
 use Rattle.rfb_picture.specs.Places.{has_bit}
 use Rattle.rfb_hello.specs.declared.version.Version.TheVariants.{V38}
+use Rattle.rfb_server.specs.Drawing.{Stroke, IsInside, drawn_by, notice_of}
+use Rattle.rfb_server.specs.Drawing.{Fill as OneFill, Put as OnePut, Copy as OneCopy}
+use Rattle.rfb_server.specs.Drawing.{Hint as OneHint}
 use Rattle.rfb_server.specs.Server.{black}
 use Rattle.rfb_server.specs.Standing.{row_from, HoldsBoth, serving_with}
 use Rattle.rfb_session.specs.declared.event.Event.TheVariants.{Fill as OfFill, Put as OfPut}
@@ -18,17 +21,17 @@ use Rattle.rfb_session.specs.declared.hub.event.HubFault.TheVariants.{NoSuchSlot
 use Rattle.rfb_session.specs.declared.hub.event.HubTold.{HubTold}
 use Rattle.rfb_viewer.specs.declared.setup.ViewerSetup.{ViewerSetup as Setup}
 use Rattle.rfb_session.specs.declared.hub.event.SlotEvent.{SlotEvent}
-use Rattle.rfb_session.specs.declared.hub.seat.Seat.{Seat}
+use Rattle.rfb_session.specs.declared.hub.seat.HubSeat.{HubSeat}
 use Rattle.rfb_session.specs.declared.told.Delivery.{Delivery}
 use Rattle.rfb_session.specs.declared.told.Told.{Told}
 use Rattle.rfb_session.specs.Hub.{seat_in, serving_in, IsFreshSeat, IsEmptyHub, AllHeadlines}
-use Rattle.rfb_session.specs.HubSeats.{event_of, SeatDoes, SeatStandsFor, TakesForeign, IsDrawnOn}
-use Rattle.rfb_session.specs.HubSeats.{IsHintedOn}
+use Rattle.rfb_session.specs.HubSeats.{event_of, SeatDoes, SeatStandsFor, TakesForeign}
+use Rattle.rfb_session.specs.HubSeats.{IsNotifiedOn}
 use Rattle.rfb_session.specs.HubSlots.{SparesIn}
 use Rattle.rfb_session.specs.HubTelling.{IsMere, TellsFor}
 use Rattle.rfb_session.specs.InFlight.{AreMade}
 use Rattle.rfb_session.specs.Link.{Ends}
-use Rattle.rfb_session.specs.Network.{Network, Steps, IsReached}
+use Rattle.rfb_session.specs.Network.{Network, Steps, Strokes, IsReached}
 use Rattle.rfb_session.specs.Played.{name}
 use Rattle.rfb_session.specs.Slots.{is_taken, OnSlot, StaysUnless}
 use Rattle.rfb_session.specs.Told.{Tells}
@@ -36,7 +39,7 @@ use Rattle.rfb_session.specs.Told.{Tells}
 -- ---- the screen, and the event's own slot
 
 -- a drawing gives the screen what it says where all that it needs lies on it, and else is refused
-pub record DrawsHub (Inside : Type 0) (screen : Grid Colour) (told : HubTold) (new : Hub)
+pub record GivesHub (Inside : Type 0) (screen : Grid Colour) (told : HubTold) (new : Hub)
     : Type 0 where
   pub case : (Inside × (told.refused ≡ None) × (new.screen ≡ screen))
       ⊎ ((Inside → ⊥) × (told.refused ≡ Some Outside))
@@ -45,22 +48,22 @@ pub record DrawsHub (Inside : Type 0) (screen : Grid Colour) (told : HubTold) (n
 -- a viewer takes an empty slot; that there is no such slot is judged before that it is taken
 pub data JoinsAs (old : Hub) (k : ℕ) (setup : Setup) (told : HubTold) (new : Hub) : Type 0 where
   Beyond : 7 < k → told.refused ≡ Some NoSuchSlot → JoinsAs old k setup told new
-  Taken : k ≤ 7 → (seat : Seat) → seat_in old k ≡ Some seat → told.refused ≡ Some SlotTaken →
+  Taken : k ≤ 7 → (seat : HubSeat) → seat_in old k ≡ Some seat → told.refused ≡ Some SlotTaken →
       JoinsAs old k setup told new
-  Joined : k ≤ 7 → seat_in old k ≡ None → told.refused ≡ None → (seat : Seat) →
+  Joined : k ≤ 7 → seat_in old k ≡ None → told.refused ≡ None → (seat : HubSeat) →
       seat_in new k ≡ Some seat → IsFreshSeat old setup seat → JoinsAs old k setup told new
 
 -- the viewer of a slot goes
 pub data LeavesAs (old : Hub) (k : ℕ) (told : HubTold) (new : Hub) : Type 0 where
   NoneLeft : seat_in old k ≡ None → told.refused ≡ Some NoSuchSlot → LeavesAs old k told new
-  Left : (seat : Seat) → seat_in old k ≡ Some seat → told.refused ≡ None →
+  Left : (seat : HubSeat) → seat_in old k ≡ Some seat → told.refused ≡ None →
       seat_in new k ≡ None → LeavesAs old k told new
 
 -- bytes that no viewer sent are in flight to the session of a slot
 pub data ForeignAs (old : Hub) (k : ℕ) (bytes : List ℕ) (told : HubTold) (new : Hub)
     : Type 0 where
   NoneFed : seat_in old k ≡ None → told.refused ≡ Some NoSuchSlot → ForeignAs old k bytes told new
-  Fed : (a b : Seat) → seat_in old k ≡ Some a → told.refused ≡ None → seat_in new k ≡ Some b →
+  Fed : (a b : HubSeat) → seat_in old k ≡ Some a → told.refused ≡ None → seat_in new k ≡ Some b →
       TakesForeign bytes a b → ForeignAs old k bytes told new
 
 -- the slots that are reported as emptied: all others that are taken, where a client asked for the
@@ -74,20 +77,20 @@ pub data HappensAs (old : Hub) (k : ℕ) (event : SlotEvent) (told : HubTold) (n
     : Type 0 where
   NoneThere : seat_in old k ≡ None → told.refused ≡ Some NoSuchSlot → IsMere told →
       HappensAs old k event told new
-  Happened : (a b : Seat) → (d : Delivery) → seat_in old k ≡ Some a → seat_in new k ≡ Some b →
+  Happened : (a b : HubSeat) → (d : Delivery) → seat_in old k ≡ Some a → seat_in new k ≡ Some b →
       SeatDoes old.screen a event d b → TellsFor d.told told → EndsAs d.sole k old told →
       HappensAs old k event told new
 
 abbrev pub HubActs : Hub → HubEvent → HubTold → Hub → Type 0
 HubActs old (Fill rect colour) told new =
-    DrawsHub (Holds old.screen rect) (filled rect colour old.screen) told new
+    GivesHub (Holds old.screen rect) (filled rect colour old.screen) told new
 HubActs old (Put x y row) told new =
-    DrawsHub (Holds old.screen (row_from x y (length row.items)))
+    GivesHub (Holds old.screen (row_from x y (length row.items)))
     (with_row x y row.items old.screen) told new
 HubActs old (Copy rect sx sy) told new =
-    DrawsHub (HoldsBoth old.screen rect sx sy) (copied rect sx sy old.screen) told new
+    GivesHub (HoldsBoth old.screen rect sx sy) (copied rect sx sy old.screen) told new
 HubActs old (Hint rect sx sy) told new =
-    DrawsHub (HoldsBoth old.screen rect sx sy) old.screen told new
+    GivesHub (HoldsBoth old.screen rect sx sy) old.screen told new
 HubActs old (Join k setup) told new =
     (new.screen ≡ old.screen) × IsMere told × JoinsAs old k setup told new
 HubActs old (Leave k) told new = (new.screen ≡ old.screen) × IsMere told × LeavesAs old k told new
@@ -108,15 +111,15 @@ IsOther event k = Unit {0}
 -- what an event makes of a slot that it is not of: a drawing marks its session, a hint reaches it;
 -- else, where it is not reported as emptied, its session, its viewer, the bytes in flight and the
 -- latest composing are what they were
-abbrev pub StaysAs : HubEvent → HubTold → ℕ → Option Seat → Option Seat → Type 0
+abbrev pub StaysAs : HubEvent → HubTold → ℕ → Option HubSeat → Option HubSeat → Type 0
 StaysAs (Fill rect colour) told k old new =
-    told.refused ≡ None → OnSlot (λ a b. IsDrawnOn rect a b) old new
+    told.refused ≡ None → OnSlot (λ a b. IsNotifiedOn (notice_of (OneFill rect colour)) a b) old new
 StaysAs (Put x y row) told k old new =
-    told.refused ≡ None → OnSlot (λ a b. IsDrawnOn (row_from x y (length row.items)) a b) old new
+    told.refused ≡ None → OnSlot (λ a b. IsNotifiedOn (notice_of (OnePut x y row.items)) a b) old new
 StaysAs (Copy rect sx sy) told k old new =
-    told.refused ≡ None → OnSlot (λ a b. IsDrawnOn rect a b) old new
+    told.refused ≡ None → OnSlot (λ a b. IsNotifiedOn (notice_of (OneCopy rect sx sy)) a b) old new
 StaysAs (Hint rect sx sy) told k old new =
-    told.refused ≡ None → OnSlot (λ a b. IsHintedOn rect sx sy a b) old new
+    told.refused ≡ None → OnSlot (λ a b. IsNotifiedOn (notice_of (OneHint rect sx sy)) a b) old new
 StaysAs event told k old new = StaysUnless (has_bit told.ended k) old new
 
 abbrev pub OthersStay : Hub → HubEvent → HubTold → Hub → Type 0
@@ -145,7 +148,7 @@ SlotTells e old event k told = Unit {0}
 -- a seat that was there and is, and to which no foreign bytes came
 abbrev pub SlotsDo : Hub → HubEvent → HubTold → Hub → Type 0
 SlotsDo old event told new =
-    (k : ℕ) (a b : Seat) → seat_in old k ≡ Some a → seat_in new k ≡ Some b → b.foreign ≡ false →
+    (k : ℕ) (a b : HubSeat) → seat_in old k ≡ Some a → seat_in new k ≡ Some b → b.foreign ≡ false →
     (e : Ends) (n : Network) → AreMade e → IsReached e n → SeatStandsFor e old.screen a n →
     (m : Network) × SlotSteps e n event k m × SlotTells e n event k told
     × SeatStandsFor e new.screen b m
@@ -161,6 +164,19 @@ pub record HubSteps (old : Hub) (event : HubEvent) (told : HubTold) (new : Hub) 
   pub others : OthersStay old event told new
   -- the networks that its slots stand for
   pub does : SlotsDo old event told new
+  pub kept : told.refused ≢ None → new ≡ old
+
+-- a drawing gives the screen what it says, and each session is told; of each network that a slot
+-- stands for it is one too
+pub record DrawsHub (old : Hub) (s : Stroke) (told : HubTold) (new : Hub) : Type 0 where
+  pub made : serving_in new ≡ serving_in old
+  pub closed : new.closed ≡ old.closed
+  pub acts : GivesHub (IsInside old.screen s) (drawn_by s old.screen) told new
+  pub slots : told.refused ≡ None → (k : ℕ) →
+      OnSlot (λ a b. IsNotifiedOn (notice_of s) a b) (seat_in old k) (seat_in new k)
+  pub does : (k : ℕ) (a b : HubSeat) → seat_in old k ≡ Some a → seat_in new k ≡ Some b →
+      (e : Ends) (n : Network) → SeatStandsFor e old.screen a n →
+      (m : Network) × Strokes s n m × SeatStandsFor e new.screen b m
   pub kept : told.refused ≢ None → new ≡ old
 
 -- the steps of events one after another
@@ -181,7 +197,7 @@ HubPlayed width height events hub =
 
 -- a drawing, a hint, a leaving; what is refused; and what takes no memory in its slot
 abbrev pub NeedsNoMemory : Hub → HubEvent → Type 0
-NeedsNoMemory hub (Join k setup) = (7 < k) ⊎ ((seat : Seat) × (seat_in hub k ≡ Some seat))
+NeedsNoMemory hub (Join k setup) = (7 < k) ⊎ ((seat : HubSeat) × (seat_in hub k ≡ Some seat))
 NeedsNoMemory hub (Of k event) = SparesIn hub.screen (seat_in hub k) event
 NeedsNoMemory hub (Foreign k bytes) = seat_in hub k ≡ None
 NeedsNoMemory hub event = Unit {0}

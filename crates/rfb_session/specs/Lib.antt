@@ -19,9 +19,11 @@ pub mod Verdict
 pub mod PlayingSome
 pub mod ServeEngine
 pub mod LinkBytes
+pub mod LinkCalls
 pub mod World
 pub mod Played
 pub mod Slots
+pub mod Seats
 pub mod HubSeats
 pub mod HubSlots
 pub mod HubTelling
@@ -30,6 +32,7 @@ pub mod HubSteps
 pub mod ShareRoom
 pub mod ShareSeats
 pub mod ShareSlots
+pub mod ShareWork
 pub mod Share
 pub mod ShareSteps
 pub mod ShareLives
@@ -38,6 +41,7 @@ pub mod Turns
 pub mod ServeOrder
 pub mod ViewEngine
 pub mod Looking
+pub mod Watcher
 pub mod ViewOrder
 pub mod netpbm
 pub mod inside

@@ -44,7 +44,7 @@ use Rattle.rfb_session.specs.ServeEngine.{ServerAct, Serves, server_sends}
 -- ---- calls of the viewer
 
 -- whatever a viewer stood for, it stands for what the call makes of that. What it shows is as it
--- was, and so are its damage, its fault, the server's reason and what it was made with
+-- was, and so are its damage, its fault, the server's reason, what it was made with and its count
 pub record IsCalled (call : ViewerState → ViewerState) (old new : Viewer) : Type 0 where
   pub stands : (viewing : Viewing) (s : ViewerState) (prefix : List ℕ) →
       ViewerStandsFor viewing old s prefix → ViewerStandsFor viewing new (call s) prefix

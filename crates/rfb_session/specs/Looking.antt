@@ -1,5 +1,5 @@
 -- One read of an engine that asks its viewer for updates: calls, and requests after them.
-use Rattle.std.specs.Prelude.{◌≡◌, ℕ, zero, suc, ◌<◌, ◌+◌, Bool, true, List, [], ◌++◌, Option, Some, None}
+use Rattle.std.specs.Prelude.{◌≡◌, ℕ, zero, suc, ◌<◌, ◌+◌, Bool, true, List, [], ◌++◌, Option, Some, None, ◌⊎◌}
 use Rattle.std.specs.Io.KnownBytes.{Appends}
 use Rattle.rfb_viewer.specs.declared.fault.ViewerFault.{ViewerFault}
 use Rattle.rfb_viewer.specs.declared.viewer.Viewer.{Viewer}
@@ -22,6 +22,11 @@ pub record AsksForScreen (incremental : Bool) (old : Viewer) (sent : List ℕ)
   pub sent_is : sent ≡ viewer_sends (Did act)
   pub asked : (viewing : Viewing) (s : ViewerState) → StandsFor viewing old s [] →
       (t : ViewerState) × Asks s act t × StandsFor viewing new t []
+
+-- the same, or nothing was asked
+abbrev pub MayAsk : Viewer → Viewer → Type 0
+MayAsk old new =
+    (new ≡ old) ⊎ ((incremental : Bool) × (sent : List ℕ) × AsksForScreen incremental old sent new)
 
 module _ {D : Type 0} where
   -- it was written; or a beginning of it was

@@ -2,6 +2,7 @@
 use Rattle.std.specs.Prelude.{◌≡◌, List, [], ◌∷◌, length, ◌⊎◌}
 use Rattle.rfb_pixel.specs.declared.colour.Colour.{Colour}
 use Rattle.rfb_picture.specs.Grid.{Grid, Holds, filled, copied, with_row}
+use Rattle.rfb_server.specs.Drawing.{Stroke, IsInside, drawn_by}
 use Rattle.rfb_server.specs.Standing.{row_from, HoldsBoth}
 use Rattle.rfb_session.specs.declared.event.Event.{Event}
 use Rattle.rfb_session.specs.declared.event.Event.TheVariants.{Fill, Put, Copy, Hint, Request}
@@ -50,6 +51,10 @@ Steps e old Compose new = OnLink e OfComposing old new
 Steps e old (ToServer count) new = OnLink e (OfServer count) old new
 Steps e old (ToViewer count) new = OnLink e (OfViewer count) old new
 
+-- a drawing of the owner's that is no event; a hint changes nothing
+abbrev pub Strokes : Stroke → Network → Network → Type 0
+Strokes s old new = Draws (IsInside old.screen s) (drawn_by s old.screen) old new
+
 -- ---- runs
 
 -- the steps of events one after another
@@ -65,9 +70,17 @@ pub record IsFirst (e : Ends) (n : Network) : Type 0 where
   pub height : n.screen.height ≡ e.serving.hello.height
   pub link : n.link ≡ first_link e
 
--- some events lead there from a fresh world
+-- one thing happens: an event, or a drawing
+abbrev pub Moves : Ends → Network → Network → Type 0
+Moves e old new = ((event : Event) × Steps e old event new) ⊎ ((s : Stroke) × Strokes s old new)
+
+-- such things lead from one network to another
+pub data Leads (e : Ends) (old : Network) : Network → Type 0 where
+  Still : Leads e old old
+  Then : (mid new : Network) → Leads e old mid → Moves e mid new → Leads e old new
+
+-- some events and drawings lead there from a fresh world
 pub record IsReached (e : Ends) (n : Network) : Type 0 where
   pub first : Network
   pub is_first : IsFirst e first
-  pub events : List Event
-  pub steps : StepsAll e first events n
+  pub leads : Leads e first n

@@ -1,12 +1,12 @@
 -- The first updates of a server's recorded bytes, played to a viewer.
-use Rattle.std.specs.Prelude.{◌≡◌, ℕ, ◌<◌, ◌+◌, ◌-◌, ◌^◌, min, false, List, ◌++◌, Option, Some}
+use Rattle.std.specs.Prelude.{◌≡◌, ℕ, ◌<◌, ◌≤◌, ◌+◌, ◌-◌, ◌^◌, min, false, List, ◌++◌, Option, Some, None, ⊤}
 use Rattle.std.specs.Io.KnownBytes.{Consumes}
 use Rattle.rfb_viewer.specs.declared.viewer.Viewer.{Viewer}
 use Rattle.rfb_viewer.specs.Told.{ViewerTold, UpdateDone}
 use Rattle.rfb_session.specs.declared.engine.fault.EngineFault.{EngineFault}
 use Rattle.rfb_session.specs.declared.engine.fault.EngineFault.TheVariants.{Server, Viewer as ViewerEnded, Truncated, Device, NoMemory}
 use Rattle.rfb_session.specs.Watching.{ViewerRuns, WasFed, StandsBetween, ends_told}
-use Rattle.rfb_session.specs.Playing.{Played, AllPlayed, PlayedUntil}
+use Rattle.rfb_session.specs.Playing.{Played, AllPlayed, PlayedUntil, StopsPlaying}
 
 -- it was fed these bytes, and the update that they end, if they do, was counted after those before
 pub record WasCounted (old : Viewer) (bytes : List ℕ) (before told : ℕ) (new : Viewer)
@@ -55,3 +55,31 @@ StopsPlayingSome unread left failed_before failed old enough (ViewerEnded fault)
     PlayedUntil unread left old fault new
 StopsPlayingSome unread left failed_before failed old enough (Server fault) new = ⊥
 StopsPlayingSome unread left failed_before failed old enough NoMemory new = ⊥
+
+-- ---- all updates, or so many
+
+-- they are fewer than are enough, at most as many, just as many, or at least; where no number is
+-- given none are enough
+abbrev pub AreFewer : Option ℕ → ℕ → Type 0
+AreFewer None told = ⊤
+AreFewer (Some enough) told = told < enough
+
+abbrev pub AreNoMore : Option ℕ → ℕ → Type 0
+AreNoMore None told = ⊤
+AreNoMore (Some enough) told = told ≤ enough
+
+abbrev pub AreEnough : Option ℕ → ℕ → Type 0
+AreEnough None told = ⊥
+AreEnough (Some enough) told = told ≡ enough
+
+abbrev pub AreNoFewer : Option ℕ → ℕ → Type 0
+AreNoFewer None told = ⊥
+AreNoFewer (Some enough) told = enough ≤ told
+
+-- why it stops
+abbrev pub StopsPlayingUpTo : Option ℕ → Option (List ℕ) → Option (List ℕ) → ℕ → ℕ → Viewer →
+    EngineFault → Viewer → Type 0
+StopsPlayingUpTo None unread left failed_before failed old fault new =
+    StopsPlaying unread left failed_before failed old fault new
+StopsPlayingUpTo (Some enough) unread left failed_before failed old fault new =
+    StopsPlayingSome unread left failed_before failed old enough fault new

@@ -2,19 +2,19 @@
 use Rattle.std.specs.Prelude.{◌≡◌, ℕ, ◌≤◌, Bool, true, false, List, [], ◌++◌, drop, length, Option}
 use Rattle.std.specs.Prelude.{None, Some}
 use Rattle.rfb_pixel.specs.declared.colour.Colour.{Colour}
-use Rattle.rfb_picture.specs.declared.rect.Rect.{Rect}
-use Rattle.rfb_picture.specs.Grid.{Grid, IsGrid, Holds}
-use Rattle.rfb_codec.specs.RectData.{moved_to}
+use Rattle.rfb_picture.specs.Grid.{Grid, IsGrid}
 use Rattle.rfb_wire.specs.stream.End.{FedBy}
 use Rattle.rfb_hello.specs.Version.{version_text}
 use Rattle.rfb_server.specs.declared.fault.ServerFault.{ServerFault}
 use Rattle.rfb_server.specs.declared.session.Session.{Session}
 use Rattle.rfb_server.specs.Failing.{EndsAs}
 use Rattle.rfb_server.specs.Following.{Follows, IsSameOutside}
-use Rattle.rfb_server.specs.Hints.{hints_in, with_hint}
+use Rattle.rfb_server.specs.Hints.{hints_in}
 use Rattle.rfb_server.specs.Room.{update_room}
 use Rattle.rfb_server.specs.Server.{Serving, server, first_server}
-use Rattle.rfb_server.specs.Standing.{SessionStandsFor, session_fault, session_serving, notes_in}
+use Rattle.rfb_server.specs.declared.drawing.notice.Notice.{Notice}
+use Rattle.rfb_server.specs.Drawing.{area_told, hint_told, with_hint_of}
+use Rattle.rfb_server.specs.Standing.{SessionStandsFor, session_fault, session_serving}
 use Rattle.rfb_server.specs.Standing.{KeepsSession, with_screen}
 use Rattle.rfb_server.specs.Told.{ServerTold}
 use Rattle.rfb_server.specs.Updating.{SendsUpdate, OwesUpdate, OwesNone}
@@ -129,6 +129,7 @@ ComposesAt screen NoSuchSeat old new = ⊥
 
 -- nothing waited, an update was due for which there was no memory; nothing waits, and none is taken
 pub record WantsRoom (screen : Grid Colour) (old new : ShareSeat) : Type 0 where
+  pub going : session_fault (session_at old) ≡ None
   pub written : waiting_in old ≡ []
   pub due : OwesUpdate screen (session_at old)
   pub kept : KeepsSession (session_at old) (session_at new)
@@ -145,22 +146,10 @@ pub record KeepsShareSeat (old new : ShareSeat) : Type 0 where
   pub memory : memory_at new ≡ memory_at old
   pub session : KeepsSession (session_at old) (session_at new)
 
--- its session was notified that the screen is drawn on inside the rectangle
-pub record IsMarkedIn (rect : Rect) (old new : ShareSeat) : Type 0 where
-  pub keeps : KeepsShareSeat old new
-  pub hints : hints_in (session_at new) ≡ hints_in (session_at old)
-  pub follows : (before after : Grid Colour) → Follows before (session_at old) → IsGrid after →
-      IsSameOutside rect before after → Follows after (session_at new)
-
--- both rectangles of a hint lie on the screens that its session is about
-pub record CanBeTold (rect : Rect) (sx sy : ℕ) (seat : ShareSeat) : Type 0 where
-  pub target : Holds (notes_in (session_at seat)).known rect
-  pub source : Holds (notes_in (session_at seat)).known (moved_to sx sy rect)
-
--- its session got the hint that the rectangle looks as the one of its size at (sx, sy) did
-pub record IsTold (rect : Rect) (sx sy : ℕ) (old new : ShareSeat) : Type 0 where
+-- its session was told of a drawing, and of its hint; nothing else that it has has changed
+pub record IsNotifiedIn (notice : Notice) (old new : ShareSeat) : Type 0 where
   pub keeps : KeepsShareSeat old new
   pub hints : hints_in (session_at new)
-      ≡ with_hint (record { to = rect; sx = sx; sy = sy }) (hints_in (session_at old))
-  pub follows : (screen : Grid Colour) → Follows screen (session_at old) →
-      Follows screen (session_at new)
+      ≡ with_hint_of (hint_told notice) (hints_in (session_at old))
+  pub follows : (before after : Grid Colour) → Follows before (session_at old) → IsGrid after →
+      IsSameOutside (area_told notice) before after → Follows after (session_at new)

@@ -1,17 +1,15 @@
 -- What the calls of a share make of it: of the screen, of the seat that a call is of, and of the
 -- others.
-use Rattle.std.specs.Prelude.{◌≡◌, ℕ, ◌<◌, Bool, true, false, ◌&&◌, not, nat_eq, List, length, take}
+use Rattle.std.specs.Prelude.{◌≡◌, ℕ, ◌<◌, Bool, true, false, ◌&&◌, not, nat_eq, List, [], length, take}
 use Rattle.std.specs.Prelude.{Option, Some, None}
-use Rattle.rfb_pixel.specs.declared.colour.Colour.{Colour}
-use Rattle.rfb_picture.specs.Grid.{Grid, Holds, filled, copied, with_row}
 use Rattle.rfb_picture.specs.Places.{has_bit}
 use Rattle.rfb_server.specs.declared.fault.ServerFault.{ServerFault}
-use Rattle.rfb_server.specs.Standing.{row_from, HoldsBoth}
+use Rattle.rfb_server.specs.Drawing.{Stroke, drawn_by, notice_of}
 use Rattle.rfb_server.specs.Told.{ServerTold, Reply, Ready, Key, Pointer, CutText}
 use Rattle.rfb_session.specs.declared.share.Share.{Share}
 use Rattle.rfb_session.specs.declared.share.event.Composing.{Composing}
-use Rattle.rfb_session.specs.declared.share.event.Drawing.{Drawing}
-use Rattle.rfb_session.specs.declared.share.event.Drawing.TheVariants.{Fill, Put, Copy, Hint}
+use Rattle.rfb_session.specs.declared.share.event.Composing.TheVariants.{NotDue}
+use Rattle.rfb_session.specs.declared.share.event.Composing.TheVariants.{NoSuchSeat as NoneSeated}
 use Rattle.rfb_session.specs.declared.share.event.Heard.{Heard}
 use Rattle.rfb_session.specs.declared.share.event.SeatEvent.{SeatEvent}
 use Rattle.rfb_session.specs.declared.share.event.SeatEvent.TheVariants.{Ready as ReadyEvent}
@@ -21,8 +19,8 @@ use Rattle.rfb_session.specs.declared.share.event.SeatEvent.TheVariants.{CutText
 use Rattle.rfb_session.specs.declared.share.event.ShareFault.{ShareFault}
 use Rattle.rfb_session.specs.declared.share.event.ShareFault.TheVariants.{NoSuchSeat, Session}
 use Rattle.rfb_session.specs.declared.share.seat.ShareSeat.{ShareSeat}
-use Rattle.rfb_session.specs.Share.{seat_in, screen_of, serving_in, IsFreshIn, AllTaken}
-use Rattle.rfb_session.specs.ShareSeats.{Hears, Ends, WritesAt, IsMarkedIn, IsTold}
+use Rattle.rfb_session.specs.Share.{seat_in, screen_of, serving_in, waits_at, IsFreshIn, AllTaken}
+use Rattle.rfb_session.specs.ShareSeats.{Hears, Ends, WritesAt, IsNotifiedIn}
 use Rattle.rfb_session.specs.ShareSlots.{ComposesIn, WantsRoomIn}
 use Rattle.rfb_session.specs.Slots.{is_taken, OnSlot, StaysUnless}
 
@@ -44,31 +42,11 @@ pub record KeepsAll (old new : Share) : Type 0 where
 
 -- ---- drawings and hints
 
--- all that a drawing needs lies on the screen
-abbrev pub IsInside : Grid Colour → Drawing → Type 0
-IsInside screen (Fill rect colour) = Holds screen rect
-IsInside screen (Put x y row) = Holds screen (row_from x y (length row.items))
-IsInside screen (Copy rect sx sy) = HoldsBoth screen rect sx sy
-IsInside screen (Hint rect sx sy) = HoldsBoth screen rect sx sy
-
--- the screen that it leaves
-abbrev pub drawn_by : Drawing → Grid Colour → Grid Colour
-drawn_by (Fill rect colour) screen = filled rect colour screen
-drawn_by (Put x y row) screen = with_row x y row.items screen
-drawn_by (Copy rect sx sy) screen = copied rect sx sy screen
-drawn_by (Hint rect sx sy) screen = screen
-
--- the session of a seat was notified of it
-abbrev pub IsToldOf : Drawing → ShareSeat → ShareSeat → Type 0
-IsToldOf (Fill rect colour) old new = IsMarkedIn rect old new
-IsToldOf (Put x y row) old new = IsMarkedIn (row_from x y (length row.items)) old new
-IsToldOf (Copy rect sx sy) old new = IsMarkedIn rect old new
-IsToldOf (Hint rect sx sy) old new = IsTold rect sx sy old new
-
--- the screen is drawn on, and each session was notified; nothing else has changed
-pub record DrawsOn (old : Share) (drawing : Drawing) (new : Share) : Type 0 where
-  pub screen : screen_of new ≡ drawn_by drawing (screen_of old)
-  pub seats : (k : ℕ) → OnSlot (λ a b. IsToldOf drawing a b) (seat_in old k) (seat_in new k)
+-- the screen is drawn on, and each session was told; nothing else has changed
+pub record DrawsOn (old : Share) (s : Stroke) (new : Share) : Type 0 where
+  pub screen : screen_of new ≡ drawn_by s (screen_of old)
+  pub seats : (k : ℕ) →
+      OnSlot (λ a b. IsNotifiedIn (notice_of s) a b) (seat_in old k) (seat_in new k)
   pub made : serving_in new ≡ serving_in old
 
 -- ---- viewers that come and go
@@ -172,3 +150,17 @@ pub record WantsRoomAs (old : Share) (k : ℕ) (new : Share) : Type 0 where
   pub seat : WantsRoomIn (screen_of old) (seat_in old k) (seat_in new k)
   pub keeps : KeepsScreen old new
   pub others : OthersKept old k new
+
+-- ---- work
+
+-- a composing that finds nothing to do: no update is due, or there is no viewer
+abbrev pub IsIdle : Composing → Type 0
+IsIdle NotDue = Unit {0}
+IsIdle NoneSeated = Unit {0}
+IsIdle told = ⊥
+
+-- a seat has no work: nothing waits there, and composing would find nothing to do
+pub record HasNoWork (share : Share) (k : ℕ) : Type 0 where
+  pub written : waits_at share k ≡ []
+  pub idle : (told : Composing) (new : Share) → ComposesAs share k told new → IsIdle told
+  pub spared : (new : Share) → WantsRoomAs share k new → ⊥

@@ -21,7 +21,7 @@ use Rattle.rfb_session.specs.Wire.{Writing, by_bytes}
 abbrev pub due_after : Option ViewerTold → Option Bool
 due_after None = None
 due_after (Some (Reply bytes)) = None
-due_after (Some (Ready bytes name name_length)) = Some false
+due_after (Some (Ready bytes width height name name_length)) = Some false
 due_after (Some UpdateDone) = Some true
 due_after (Some Bell) = None
 due_after (Some (CutText kept text_length)) = None

@@ -45,7 +45,7 @@ viewer_sends (Did (PassedOver incremental)) = []
 abbrev pub ends_told : Option ViewerTold → ℕ
 ends_told None = 0
 ends_told (Some (Reply bytes)) = 0
-ends_told (Some (Ready bytes name name_length)) = 0
+ends_told (Some (Ready bytes width height name name_length)) = 0
 ends_told (Some UpdateDone) = 1
 ends_told (Some Bell) = 0
 ends_told (Some (CutText kept text_length)) = 0

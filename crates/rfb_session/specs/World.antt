@@ -1,11 +1,12 @@
 -- What a `World` stands for: a screen, and a link over it.
-use Rattle.std.specs.Prelude.{◌≡◌, ◌≤◌, Bool, true, false, List, [], length, Option, None, Some}
+use Rattle.std.specs.Prelude.{◌≡◌, ◌≢◌, ◌≤◌, Bool, true, false, List, [], length, Option, None, Some}
 use Rattle.rfb_pixel.specs.declared.colour.Colour.{Colour}
 use Rattle.rfb_picture.specs.Grid.{Grid, Holds, filled, copied, with_row}
 use Rattle.rfb_server.specs.declared.fault.ServerFault.{ServerFault}
 use Rattle.rfb_server.specs.declared.server.Server.{Server}
 use Rattle.rfb_server.specs.declared.hint.Hint.{Hint as ServerHint}
 use Rattle.rfb_server.specs.Hints.{hints_in as hints_of_session, with_hint}
+use Rattle.rfb_server.specs.Drawing.{Stroke, IsInside, drawn_by, hint_of, with_hint_of}
 use Rattle.rfb_server.specs.Server.{first_server}
 use Rattle.rfb_server.specs.Composing.{IsDue}
 use Rattle.rfb_server.specs.Standing.{StandsFor as ServerStandsFor, with_screen, row_from}
@@ -25,7 +26,7 @@ use Rattle.rfb_session.specs.LinkStanding.{LinkStandsFor, server_fault_of, viewe
 use Rattle.rfb_session.specs.LinkStanding.{shown_on, LosesOn, IsLostOn, ChangesSession}
 use Rattle.rfb_session.specs.LinkBytes.{ActsOnBytes, ComposesOver}
 use Rattle.rfb_session.specs.InFlight.{AreMade}
-use Rattle.rfb_session.specs.Network.{Network, Steps, StepsAll, IsReached}
+use Rattle.rfb_session.specs.Network.{Network, Steps, StepsAll, Strokes, IsReached}
 use Rattle.rfb_session.specs.Told.{RefusesAs, RefusesUnless, Tells}
 
 -- ---- what a world is
@@ -106,6 +107,18 @@ pub record GivesScreen (screen : Grid Colour) (old new : World) : Type 0 where
 abbrev pub DrawsOnBytes : Type 0 → Grid Colour → World → Told → World → Type 0
 DrawsOnBytes Inside screen old told new =
     RefusesUnless Inside told.refused × (told.refused ≡ None → GivesScreen screen old new)
+
+-- a drawing is one of each network that the world stood for; the answer tells whether it is refused
+pub record DrawsWorld (old : World) (s : Stroke) (told : Told) (new : World) : Type 0 where
+  pub acts : DrawsOnBytes (IsInside old.screen s) (drawn_by s old.screen) old told new
+  pub does : (e : Ends) (n : Network) → StandsFor e old n →
+      (m : Network) × Strokes s n m × RefusesUnless (IsInside n.screen s) told.refused
+      × StandsFor e new m
+  pub moved : told.moved ≡ 0
+  pub composed : told.composed ≡ false
+  pub hints : told.refused ≡ None → hints_in new ≡ with_hint_of (hint_of s) (hints_in old)
+  pub kept : told.refused ≢ None → new ≡ old
+  pub closed : new.closed ≡ old.closed
 
 abbrev pub Acts : World → Event → Told → World → Type 0
 Acts old (Fill rect colour) told new =

@@ -7,7 +7,7 @@ ghost use Rattle.std.specs.Vec.{vec_capacity};
 use rfb_picture::Picture;
 use rfb_pixel::Colour;
 use rfb_server::Session;
-use rfb_viewer::{TextFault, Viewer};
+use rfb_viewer::{AppendFault, Call, Viewer};
 use std::alloc::{AllocError, Global};
 use std::marker::Model;
 
@@ -32,16 +32,16 @@ impl Model for Channel {
 }
 
 impl Channel {
-    ghost use Rattle.rfb_wire.specs.ClientMessage.{SpellsClientMessage, ClientCutText};
+    ghost use Rattle.rfb_wire.specs.ClientMessage.{SpellsClientMessage};
     ghost use Rattle.rfb_viewer.specs.Viewer.{Viewing, ViewerState};
     ghost use Rattle.rfb_viewer.specs.Standing.{StandsFor};
-    ghost use Rattle.rfb_viewer.specs.Messages.{text_message};
-    ghost use Rattle.rfb_viewer.specs.Calls.{call_refusal, text_refusal_of};
-    ghost use Rattle.rfb_viewer.specs.Refusing.{call_refused_by};
+    ghost use Rattle.rfb_viewer.specs.Call.{append_refusal_of, called, is_noted, message_bytes};
+    ghost use Rattle.rfb_viewer.specs.Call.{message_of, refusal_for, refused_by, text_in};
     ghost use Rattle.rfb_server.specs.Following.{Follows};
     ghost use Rattle.rfb_server.specs.Hints.{hints_in};
     ghost use Rattle.rfb_server.specs.Standing.{session_fault};
     ghost use Rattle.rfb_server.specs.Updating.{SendsUpdate, OwesUpdate, OwesNone};
+    ghost use Rattle.rfb_session.specs.LinkBytes.{IsCalled};
     ghost use Rattle.rfb_session.specs.inside.Room.{IsSameSize};
 
     /// A channel with nothing in flight. It takes no memory.
@@ -109,19 +109,27 @@ impl Channel {
         session.compose(screen, &mut self.bytes)
     }
 
-    /// The message of a text that a viewer cuts is in flight too. Where the viewer refuses it, or
-    /// there is no memory, nothing changes.
-    pub(crate) fn send_text(&mut self, viewer: &Viewer, text: &[u8]) -> Result<(), TextFault>
-        requires few { length text.now ≤ 1048576 }
-        ensures sent { OnOk result (self.new ≡ self.old ++ text_message text.now) }
+    /// The message of a viewer's call is in flight too. Where the viewer refuses it, or there is no
+    /// memory, nothing changes.
+    pub(crate) fn send_call(
+        &mut self,
+        viewer: &mut Viewer,
+        call: &Call<'_>,
+    ) -> Result<(), AppendFault>
+        requires few { length (text_in call.now) ≤ 1048576 }
+        ensures sent { OnOk result (self.new ≡ self.old ++ message_bytes call.now) }
         ensures spelled { OnOk result
-            (SpellsClientMessage (ClientCutText text.now) (text_message text.now)) }
+            (SpellsClientMessage (message_of call.now) (message_bytes call.now)) }
         ensures kept { OnErr result (self.new ≡ self.old) }
         ensures refusal { (viewing : Viewing) (s : ViewerState) (prefix : List ℕ)
-            → StandsFor viewing viewer.now s prefix → text_refusal_of result ≡ call_refusal s }
-        ensures refuses { text_refusal_of result ≡ call_refused_by viewer.now }
+            → StandsFor viewing viewer.old s prefix
+            → append_refusal_of result ≡ refusal_for s prefix call.now }
+        ensures refuses { append_refusal_of result ≡ refused_by viewer.old call.now }
+        ensures called { OnOk result (IsCalled (λ s. called call.now s) viewer.old viewer.new) }
+        ensures same { OnErr result (viewer.new ≡ viewer.old) }
+        ensures unnoted { is_noted call.now ≡ false → viewer.new ≡ viewer.old }
     {
-        viewer.cut_text(text, &mut self.bytes)
+        viewer.append(call, &mut self.bytes)
     }
 }
 

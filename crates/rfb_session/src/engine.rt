@@ -12,13 +12,13 @@ mod nowhere;
 mod pair;
 mod pixmap;
 mod playing;
-mod playing_some;
 mod scene;
 mod serving;
 mod tally;
 #[cfg(test)]
 mod tests;
 mod viewing;
+mod watcher;
 mod whole_write;
 mod wire;
 
@@ -27,13 +27,14 @@ pub use device::{Sink, Source};
 pub use fault::{Device, EngineFault};
 pub use lent::Lent;
 pub use nowhere::Nowhere;
+pub use pair::Pair;
 pub use pixmap::ppm;
-pub use playing::play;
-pub use playing_some::play_some;
+pub use playing::{play, play_some, play_watched};
 pub use scene::Scene;
 pub use serving::serve_over;
 pub use tally::Tally;
-pub use viewing::view_over;
+pub use viewing::{view_over, view_watched};
+pub use watcher::{Unwatched, Watcher};
 pub use whole_write::send;
 pub use wire::Wire;
 

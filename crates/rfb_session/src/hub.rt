@@ -17,13 +17,14 @@ mod telling;
 mod tests;
 
 use crate::hub::event::{HubEvent, HubTold};
-use crate::hub::seat::Seat;
+use crate::hub::seat::HubSeat;
 use crate::slots::{SLOTS, seat_of};
 use crate::told::NoMemory;
 use arrayvec::ArrayVec;
 use rfb_hello::Version;
 use rfb_picture::Picture;
 use rfb_pixel::Colour;
+use rfb_server::{Drawing, ServerSetup as HubSetup};
 use std::alloc::{AllocError, Global};
 
 /// The longest name of a screen, in bytes.
@@ -42,7 +43,7 @@ pub struct Hub {
     name: ArrayVec<u8, NAME_LIMIT>,
     offer: Version,
     text_limit: u32,
-    slots: [Option<Seat>; SLOTS],
+    slots: [Option<HubSeat>; SLOTS],
     // After want of memory, for good.
     closed: bool,
     ghost eight: { length slots ≡ 8 },
@@ -57,7 +58,7 @@ impl Hub {
     ghost use Rattle.rfb_picture.specs.Grid.{Grid, uniform};
     ghost use Rattle.rfb_server.specs.Server.{black};
     ghost use Rattle.rfb_server.specs.Standing.{serving_with};
-    ghost use Rattle.rfb_session.specs.declared.hub.seat.Seat.{Seat};
+    ghost use Rattle.rfb_session.specs.declared.hub.seat.HubSeat.{HubSeat};
     ghost use Rattle.rfb_session.specs.Headline.{due_picture};
     ghost use Rattle.rfb_session.specs.Hub.{IsEmptyHub, serving_in, seat_in, is_shut};
     ghost use Rattle.rfb_session.specs.HubSeats.{SeatStandsFor};
@@ -67,6 +68,7 @@ impl Hub {
     ghost use Rattle.rfb_session.specs.HubSteps.{HubActs, OthersStay, SlotsDo};
     ghost use Rattle.rfb_session.specs.HubSteps.{HubSteps, NeedsNoMemory, RunsHub};
     ghost use Rattle.rfb_session.specs.Hub.{NoneFailed, AllShowKnown, AllShowLatest, AllHeadlines};
+    ghost use Rattle.rfb_session.specs.Slots.{is_taken};
 
     /// A hub with a black screen and eight empty slots. Each session offers versions up to `offer`,
     /// names the screen, and keeps at most `text_limit` bytes of each text that its viewer cuts.
@@ -99,6 +101,29 @@ impl Hub {
             slots: [None, None, None, None, None, None, None, None],
             closed: false,
         })
+    }
+
+    /// A hub as `new` makes it, of these.
+    pub fn of(alloc: Global, setup: HubSetup) -> Result<Hub, AllocError>
+        requires columns { setup.width ≤ 4096 }
+        requires rows { setup.height ≤ 4096 }
+        requires name { length setup.name.now ≤ 255 }
+        ensures empty { IfOk result (λ hub. IsEmptyHub hub) }
+        ensures screen { let setup = setup.entry in
+            IfOk result (λ hub. hub.screen ≡ uniform setup.width setup.height black) }
+        ensures made { let setup = setup.entry in IfOk result (λ hub. serving_in hub
+            ≡ serving_with setup.offer setup.width setup.height setup.name.now setup.text_limit) }
+        ensures open { IfOk result (λ hub. is_shut hub ≡ false) }
+        ensures stands { IfOk result HubStands }
+    {
+        Hub::new(
+            alloc,
+            setup.width,
+            setup.height,
+            setup.name,
+            setup.offer,
+            setup.text_limit,
+        )
     }
 
     /// What an event is, happens, and it tells how many bytes it moved, its refusal, whether an
@@ -165,7 +190,7 @@ impl Hub {
     pub fn picture(&self, slot: u8) -> Option<&Picture<Colour>>
         ensures shown { option_copied result ≡ shown_in self.now slot }
         // Where nothing is in flight to the viewer, it is what is due.
-        ensures due { (seat : Seat) (e : Ends) (n : Network) →
+        ensures due { (seat : HubSeat) (e : Ends) (n : Network) →
             seat_in self.now slot ≡ Some seat → SeatStandsFor e self.now.screen seat n →
             n.link.to_viewer ≡ [] → option_copied result ≡ due_picture e n.link }
     {
@@ -173,6 +198,13 @@ impl Hub {
             Some(seat) => seat.link().picture(),
             None => None,
         }
+    }
+
+    /// Whether a viewer sits in the slot.
+    pub fn is_taken(&self, slot: u8) -> bool
+        ensures { result ≡ is_taken (seat_in self.now slot) }
+    {
+        seat_of(&self.slots, slot).is_some()
     }
 
     /// The number of the fault that the session of a slot has failed with, if it has.
@@ -192,10 +224,10 @@ impl Hub {
         ensures spared { NeedsNoMemory self.old event.now → IsOk result }
     {
         match event {
-            HubEvent::Fill(rect, colour) => Ok(self.fill(*rect, *colour)),
-            HubEvent::Put(x, y, row) => Ok(self.put(*x, *y, row)),
-            HubEvent::Copy(rect, sx, sy) => Ok(self.copy(*rect, *sx, *sy)),
-            HubEvent::Hint(rect, sx, sy) => Ok(self.hint(*rect, *sx, *sy)),
+            HubEvent::Fill(rect, colour) => Ok(self.drawn(&Drawing::Fill(*rect, *colour))),
+            HubEvent::Put(x, y, row) => Ok(self.drawn(&Drawing::Put(*x, *y, row))),
+            HubEvent::Copy(rect, sx, sy) => Ok(self.drawn(&Drawing::Copy(*rect, *sx, *sy))),
+            HubEvent::Hint(rect, sx, sy) => Ok(self.drawn(&Drawing::Hint(*rect, *sx, *sy))),
             HubEvent::Join(slot, setup) => self.join(*slot, setup),
             HubEvent::Leave(slot) => Ok(self.leave(*slot)),
             HubEvent::Of(slot, event) => self.of_slot(*slot, event),

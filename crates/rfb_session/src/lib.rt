@@ -9,11 +9,12 @@
 //!
 //! - One end over a reader and a writer: `serve` with a `Scene` that draws, `view` with a number of
 //!   updates, `play` of what a server sent. Each takes a `Source` and a `Sink`, or as `serve_over`
-//!   and `view_over` a `Wire`, and writes all that is owed before it reads again.
+//!   and `view_over` a `Wire`, and writes all that is owed before it reads again. A `Watcher` hears
+//!   how it goes: `view_watched`, `play_watched`.
 //! - Both ends in one process: `World::new` of a server and a viewer, then `step` or `run`.
-//! - One screen and up to eight viewers: `Hub::new`, a `Join` for each viewer, then `step` or
+//! - One screen and up to eight viewers: `Hub::of`, a `Join` for each viewer, then `step` or
 //!   `run`. A slot's events are `Of(slot, ..)`; drawings are everyone's.
-//! - One screen and up to eight viewers elsewhere: `Share::new`, `join` for each, `received` with
+//! - One screen and up to eight viewers elsewhere: `Share::of`, `join` for each, `received` with
 //!   what came, `to_write` for what waits. It has the servers' ends alone, and knows no socket.
 //! - Pictures and files: `ppm` writes a picture as PPM, and `netpbm::read_ppm` reads one.
 //! - `Link` is a session and a viewer with the bytes in flight, over a screen that it is lent at
@@ -35,23 +36,29 @@ pub mod law;
 mod link;
 pub mod netpbm;
 mod reply;
+mod seat;
+mod seats;
 mod share;
 mod slots;
 mod told;
 mod world;
 
 pub use engine::{
-    Device, EngineFault, Lent, Nowhere, Scene, Sink, Source, Tally, Wire, play, play_some, ppm,
-    send, serve, serve_over, view, view_over, view_recording,
+    Device, EngineFault, Lent, Nowhere, Pair, Scene, Sink, Source, Tally, Unwatched, Watcher, Wire,
+    play, play_some, play_watched, ppm, send, serve, serve_over, view, view_over, view_recording,
+    view_watched,
 };
 pub use event::Event;
 pub use hub::Hub;
 pub use hub::event::{HubEvent, HubFault, HubTold, SlotEvent};
 pub use link::Link;
 pub use reply::{server_reply, viewer_reply};
+pub use rfb_server::{Drawing, ServerSetup as HubSetup, ServerSetup as ShareSetup};
 pub use rfb_viewer::ViewerSetup as Setup;
+pub use seat::Seat;
+pub use seats::{Seats, SeatsLeft};
 pub use share::Share;
-pub use share::event::{Composing, Drawing, Heard, SeatEvent, ShareFault};
+pub use share::event::{Composing, Heard, SeatEvent, ShareFault};
 pub use slots::SLOTS;
 pub use told::{Delivery, NoMemory, Refused, Told};
 pub use world::World;

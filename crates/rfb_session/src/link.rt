@@ -1,7 +1,6 @@
 //! A link: a session and its viewer, with the bytes in flight between them.
 
-ghost use Rattle.std.specs.Prelude.{◌≡◌, ◌↔◌, ◌++◌, ℕ, List, [], length, None, IfOk, OnOk, OnErr};
-ghost use Rattle.std.specs.Prelude.{IsErr};
+ghost use Rattle.std.specs.Prelude.{◌≡◌, ◌++◌, ℕ, List, [], length, None, IfOk, OnOk, OnErr};
 ghost use Rattle.std.specs.Prelude.{option_copied};
 ghost use Rattle.rfb_server.specs.Standing.{notes_in};
 ghost use Rattle.rfb_session.specs.inside.Room.{HasRoom};
@@ -14,9 +13,9 @@ use crate::channel::Channel;
 use crate::latest::Latest;
 pub(crate) use calling::copy_of;
 pub(crate) use delivering::asks_sole;
-use rfb_picture::{Picture, Rect};
+use rfb_picture::Picture;
 use rfb_pixel::Colour;
-use rfb_server::{Outside, Session};
+use rfb_server::{Notice, Session};
 use rfb_viewer::Viewer;
 use std::alloc::{AllocError, Global};
 
@@ -37,10 +36,10 @@ pub struct Link {
 impl Link {
     ghost use Rattle.rfb_pixel.specs.declared.colour.Colour.{Colour};
     ghost use Rattle.rfb_picture.specs.Grid.{Grid, IsGrid, Holds};
-    ghost use Rattle.rfb_codec.specs.Effect.{IsAlike};
-    ghost use Rattle.rfb_server.specs.Standing.{HoldsBoth, KeepsSession};
+    ghost use Rattle.rfb_server.specs.Standing.{KeepsSession};
     ghost use Rattle.rfb_server.specs.Following.{Follows, IsSameOutside};
-    ghost use Rattle.rfb_server.specs.Hints.{hints_in, with_hint};
+    ghost use Rattle.rfb_server.specs.Hints.{hints_in};
+    ghost use Rattle.rfb_server.specs.Drawing.{area_told, hint_told, with_hint_of};
     ghost use Rattle.rfb_session.specs.Link.{Ends, LinkState, first_link};
     ghost use Rattle.rfb_session.specs.Headline.{due_picture};
     ghost use Rattle.rfb_session.specs.LinkStanding.{LinkStandsFor, AreNew, shown_on};
@@ -74,35 +73,19 @@ impl Link {
         })
     }
 
-    /// Notes that the screen is to be drawn on inside the rectangle, which lies on it, or was just
-    /// drawn on there.
-    pub fn drawn(&mut self, rect: Rect)
-        requires held { Holds (notes_in (session_of_link self.old)).known rect }
+    /// Tells the session of a drawing, as `Session::notified` does.
+    pub fn notified(&mut self, notice: &Notice)
+        requires held { Holds (notes_in (session_of_link self.old)).known (area_told notice.now) }
         ensures follows { (before after : Grid Colour)
             → Follows before (session_of_link self.old) → IsGrid after
-            → IsSameOutside rect before after → Follows after (session_of_link self.new) }
+            → IsSameOutside (area_told notice.now) before after
+            → Follows after (session_of_link self.new) }
         ensures changes { ChangesSession self.old self.new }
         ensures kept { KeepsSession (session_of_link self.old) (session_of_link self.new) }
-        ensures hints { hints_in (session_of_link self.new) ≡ hints_in (session_of_link self.old) }
+        ensures hints { hints_in (session_of_link self.new)
+            ≡ with_hint_of (hint_told notice.now) (hints_in (session_of_link self.old)) }
     {
-        self.session.drawn(rect);
-    }
-
-    /// Says that a rectangle looks as another did, as `Session::hint` does.
-    pub fn hint(&mut self, dst: Rect, sx: u16, sy: u16) -> Result<(), Outside>
-        ensures refused { (screen : Grid Colour)
-            → IsAlike screen (notes_in (session_of_link self.old)).known
-            → (IsErr result ↔ (HoldsBoth screen dst sx sy → ⊥)) }
-        ensures same { OnErr result (self.new ≡ self.old) }
-        ensures follows { (screen : Grid Colour) → Follows screen (session_of_link self.old)
-            → Follows screen (session_of_link self.new) }
-        ensures changes { ChangesSession self.old self.new }
-        ensures kept { KeepsSession (session_of_link self.old) (session_of_link self.new) }
-        ensures hints { OnOk result (hints_in (session_of_link self.new)
-            ≡ with_hint (record { to = dst; sx = sx; sy = sy })
-            (hints_in (session_of_link self.old))) }
-    {
-        self.session.hint(dst, sx, sy)
+        self.session.notified(notice);
     }
 
     /// These bytes are in flight to the session too, which its viewer did not send. Where there is

@@ -5,6 +5,7 @@ ghost use Rattle.std.specs.Prelude.{◌≡◌, ◌≤◌, length, All, IfOk};
 ghost use Rattle.std.specs.Option.{ForSome};
 ghost use Rattle.rfb_server.specs.Following.{Follows};
 ghost use Rattle.rfb_session.specs.ShareSeats.{session_at};
+ghost use Rattle.rfb_session.specs.ShareWork.{OthersRest};
 
 mod drawing;
 pub(crate) mod event;
@@ -17,13 +18,15 @@ mod tests;
 pub(crate) mod waiting;
 
 use crate::hub::{BLACK, NAME_LIMIT, name_of};
+use crate::seat::Seat;
+use crate::seats::Seats;
 use crate::share::seat::ShareSeat;
 use crate::slots::{SLOTS, seat_of};
 use arrayvec::ArrayVec;
 use rfb_hello::Version;
 use rfb_picture::Picture;
 use rfb_pixel::Colour;
-use rfb_server::ServerFault;
+use rfb_server::{ServerFault, ServerSetup as ShareSetup};
 use std::alloc::{AllocError, Global};
 
 /// One screen, and eight seats. A viewer has a session of its own at its seat, and what is to be
@@ -38,10 +41,13 @@ pub struct Share {
     offer: Version,
     text_limit: u32,
     seats: [Option<ShareSeat>; SLOTS],
+    // Where something came about since a composing found nothing to do. Elsewhere nothing waits.
+    stirred: Seats,
     ghost eight: { length seats ≡ 8 },
     ghost columns: { screen.width ≤ 4096 },
     ghost rows: { screen.height ≤ 4096 },
     ghost follow: { All (λ slot. ForSome slot (λ seat. Follows screen (session_at seat))) seats },
+    ghost rest: { OthersRest screen seats stirred },
 }
 
 impl Share {
@@ -78,7 +84,29 @@ impl Share {
             offer,
             text_limit,
             seats: [None, None, None, None, None, None, None, None],
+            stirred: Seats::none(),
         })
+    }
+
+    /// A share as `new` makes it, of these.
+    pub fn of(alloc: Global, setup: ShareSetup) -> Result<Share, AllocError>
+        requires columns { setup.width ≤ 4096 }
+        requires rows { setup.height ≤ 4096 }
+        requires name { length setup.name.now ≤ 255 }
+        ensures empty { IfOk result IsEmptyShare }
+        ensures screen { let setup = setup.entry in
+            IfOk result (λ share. screen_of share ≡ uniform setup.width setup.height black) }
+        ensures made { let setup = setup.entry in IfOk result (λ share. serving_in share
+            ≡ serving_with setup.offer setup.width setup.height setup.name.now setup.text_limit) }
+    {
+        Share::new(
+            alloc,
+            setup.width,
+            setup.height,
+            setup.name,
+            setup.offer,
+            setup.text_limit,
+        )
     }
 
     /// Lends the screen.
@@ -90,10 +118,10 @@ impl Share {
 
     /// The fault that the session of a seat has failed with, if it has. Its viewer is to be let go:
     /// what it sends is not taken any more, and no update is composed for it.
-    pub fn fault(&self, seat: u8) -> Option<ServerFault>
+    pub fn fault(&self, seat: Seat) -> Option<ServerFault>
         ensures { result ≡ fault_in self.now seat }
     {
-        match seat_of(&self.seats, seat) {
+        match seat_of(&self.seats, seat.number()) {
             Some(seat) => seat.fault(),
             None => None,
         }

@@ -5,80 +5,41 @@ ghost use Rattle.std.specs.Prelude.{false, IfSome, option_copied};
 ghost use Rattle.std.specs.Option.{ForSome};
 ghost use Rattle.rfb_picture.specs.declared.rect.Rect.{Rect};
 ghost use Rattle.rfb_picture.specs.Places.{has_bit};
+ghost use Rattle.rfb_server.specs.Drawing.{area_told};
+ghost use Rattle.rfb_server.specs.declared.drawing.notice.Notice.{Notice};
 ghost use Rattle.rfb_session.specs.Slots.{seat_at, is_taken, OnSlot};
 
-use rfb_picture::Rect;
+use rfb_server::Notice;
 use std::mem;
 
 /// How many slots there are.
 pub const SLOTS: usize = 8;
 
-/// Who sits in a slot: its session is notified of drawings and hints.
+/// Who sits in a slot: its session is notified of drawings.
 pub(crate) trait Follower {
-    // Whether its session is about the places of a rectangle; and of those of a hint, both.
-    ghost Drawable: { Rect → Self → Type 0 };
-
-    ghost Hintable: { Rect → ℕ → ℕ → Self → Type 0 };
+    // Whether its session is about the places of a rectangle.
+    ghost Notifiable: { Rect → Self → Type 0 };
 
     // What becomes of it where its session is notified.
-    ghost Drawn: { Rect → Self → Self → Type 0 };
+    ghost Notified: { Notice → Self → Self → Type 0 };
 
-    ghost Hinted: { Rect → ℕ → ℕ → Self → Self → Type 0 };
-
-    /// Its session is notified that the screen is drawn on inside the rectangle.
-    fn drawn(&mut self, rect: Rect)
-        requires held { Drawable rect self.old }
-        ensures drawn { Drawn rect self.old self.new };
-
-    /// Its session gets the hint that a rectangle looks as the one of its size at (`sx`, `sy`) did.
-    fn hint(&mut self, rect: Rect, sx: u16, sy: u16)
-        requires held { Hintable rect sx sy self.old }
-        ensures hinted { Hinted rect sx sy self.old self.new };
+    /// Its session is told of a drawing.
+    fn notified(&mut self, notice: &Notice)
+        requires held { Notifiable (area_told notice.now) self.old }
+        ensures notified { Notified notice.now self.old self.new };
 }
 
-// Every session is notified that the screen is drawn on inside the rectangle.
-pub(crate) fn draw_all<F: Follower>(slots: &mut [Option<F>; SLOTS], rect: Rect)
-    requires held { All (λ slot. ForSome slot (λ seat. F.Drawable rect seat)) slots.old }
+// Every session is told of a drawing.
+pub(crate) fn notify_all<F: Follower>(slots: &mut [Option<F>; SLOTS], notice: &Notice)
+    requires held { All (λ slot. ForSome slot (λ seat. F.Notifiable (area_told notice.now) seat)) slots.old }
     ensures size { length slots.new ≡ length slots.old }
-    ensures drawn { (k : ℕ) →
-        OnSlot (λ a b. F.Drawn rect a b) (seat_at k slots.old) (seat_at k slots.new) }
+    ensures notified { (k : ℕ) →
+        OnSlot (λ a b. F.Notified notice.now a b) (seat_at k slots.old) (seat_at k slots.new) }
 {
     for slot in slots.iter_mut() {
-        draw(slot, rect);
-    }
-}
-
-// So is the session of one slot, where there is one.
-fn draw<F: Follower>(slot: &mut Option<F>, rect: Rect)
-    requires held { ForSome slot.old (λ seat. F.Drawable rect seat) }
-    ensures { OnSlot (λ a b. F.Drawn rect a b) slot.old slot.new }
-{
-    match slot {
-        Some(seat) => seat.drawn(rect),
-        None => {}
-    }
-}
-
-// Every session gets the hint that a rectangle looks as another did.
-pub(crate) fn hint_all<F: Follower>(slots: &mut [Option<F>; SLOTS], rect: Rect, sx: u16, sy: u16)
-    requires held { All (λ slot. ForSome slot (λ seat. F.Hintable rect sx sy seat)) slots.old }
-    ensures size { length slots.new ≡ length slots.old }
-    ensures hinted { (k : ℕ) →
-        OnSlot (λ a b. F.Hinted rect sx sy a b) (seat_at k slots.old) (seat_at k slots.new) }
-{
-    for slot in slots.iter_mut() {
-        hint(slot, rect, sx, sy);
-    }
-}
-
-// So is the session of one slot, where there is one.
-fn hint<F: Follower>(slot: &mut Option<F>, rect: Rect, sx: u16, sy: u16)
-    requires held { ForSome slot.old (λ seat. F.Hintable rect sx sy seat) }
-    ensures { OnSlot (λ a b. F.Hinted rect sx sy a b) slot.old slot.new }
-{
-    match slot {
-        Some(seat) => seat.hint(rect, sx, sy),
-        None => {}
+        if let Some(seat) = slot {
+            seat.notified(notice);
+        }
     }
 }
 

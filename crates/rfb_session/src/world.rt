@@ -13,8 +13,8 @@ use crate::link::Link;
 use crate::told::{NoMemory, Told};
 use rfb_picture::Picture;
 use rfb_pixel::Colour;
-use rfb_server::Server;
-use rfb_viewer::Viewer;
+use rfb_server::{Drawing, Server};
+use rfb_viewer::{Call, Viewer};
 use std::alloc::{AllocError, Global};
 
 /// A screen, and a link over it: a server and its viewer in one process, with the bytes in flight
@@ -153,16 +153,26 @@ impl World {
         ensures sure { TakesNoMemory self.old event.now → IsOk result }
     {
         match event {
-            Event::Fill(rect, colour) => Ok(self.fill(*rect, *colour)),
-            Event::Put(x, y, row) => Ok(self.put(*x, *y, row)),
-            Event::Copy(rect, sx, sy) => Ok(self.copy(*rect, *sx, *sy)),
-            Event::Hint(rect, sx, sy) => Ok(self.hint(*rect, *sx, *sy)),
-            Event::Request(incremental, rect) => self.link.request(*incremental, *rect),
-            Event::SetFormat(format) => self.link.set_format(*format),
-            Event::SetEncodings(encodings) => self.link.set_encodings(encodings),
-            Event::Key(down, key) => self.link.key(*down, *key),
-            Event::Pointer(buttons, x, y) => self.link.pointer(*buttons, *x, *y),
-            Event::CutText(text) => self.link.cut_text(text),
+            Event::Fill(rect, colour) => Ok(self.drawn(&Drawing::Fill(*rect, *colour))),
+            Event::Put(x, y, row) => Ok(self.drawn(&Drawing::Put(*x, *y, row))),
+            Event::Copy(rect, sx, sy) => Ok(self.drawn(&Drawing::Copy(*rect, *sx, *sy))),
+            Event::Hint(rect, sx, sy) => Ok(self.drawn(&Drawing::Hint(*rect, *sx, *sy))),
+            Event::Request(incremental, rect) => self.link.call(&Call::Request {
+                incremental: *incremental,
+                rect: *rect,
+            }),
+            Event::SetFormat(format) => self.link.call(&Call::SetFormat(*format)),
+            Event::SetEncodings(encodings) => self.link.call(&Call::SetEncodings(encodings)),
+            Event::Key(down, key) => self.link.call(&Call::Key {
+                down: *down,
+                key: *key,
+            }),
+            Event::Pointer(buttons, x, y) => self.link.call(&Call::Pointer {
+                buttons: *buttons,
+                x: *x,
+                y: *y,
+            }),
+            Event::CutText(text) => self.link.call(&Call::CutText(text)),
             Event::Compose => self.link.compose(&self.screen),
             Event::ToServer(count) => self.link.move_to_server(*count),
             Event::ToViewer(count) => self.link.move_to_viewer(*count),

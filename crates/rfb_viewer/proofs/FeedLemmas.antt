@@ -26,7 +26,8 @@ use Rattle.rfb_viewer.specs.Standing.{StandsFor}
 use Rattle.rfb_viewer.proofs.HeadLemmas.{begun_waits}
 use Rattle.rfb_viewer.proofs.GreetLemmas.{none_taken}
 
-second_waits : (viewing : Viewing) (q : UpdatePoint) (prefix : List ℕ) → update_stream.next q prefix ≡ More → (server_bytes viewing.form viewing.hello).next (Second q) prefix ≡ More
+pub second_waits : (viewing : Viewing) (q : UpdatePoint) (prefix : List ℕ) → update_stream.next q prefix ≡ More →
+    (server_bytes viewing.form viewing.hello).next (Second q) prefix ≡ More
 second_waits viewing q prefix e = ap (λ (n : Next UpdateItem UpdateFault). named (λ j. Second j) fault_of_update n) e
 
 waits_at : (viewing : Viewing) (v : Viewer) (p : Progress) (at : ServerAt) (g : Option (Grid Colour)) (prefix : List ℕ) → ProgressStandsFor viewing v p at g prefix → (server_bytes viewing.form viewing.hello).next at prefix ≡ More

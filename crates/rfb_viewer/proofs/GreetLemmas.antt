@@ -234,12 +234,23 @@ module _ (viewing : Viewing) (old new : Viewer) (after : ViewerHello) where
     tt,
   )
 
-  pub greet_ready : (bytes : List ℕ) (width height : ℕ) (version : Version) (name : KeptText) (name_length : ℕ) → old.progress ≡ Handshake → FedBy (viewer_end viewing.hello) (HelloStandsFor viewing.hello) old.hello bytes (Some (Ready width height version name name_length)) after → is_open after ≡ false → IsGreeted old new after at_message (Some (screen_or width height old.picture)) → StepsBy (viewer viewing) (StandsFor viewing) old bytes (Ok (Some (ReadyTold (ready_bytes old.format old.encodings.items) name.bytes name_length))) new
+  pub greet_ready : (bytes : List ℕ) (width height : ℕ) (version : Version) (name : KeptText) (name_length : ℕ) →
+      old.progress ≡ Handshake → FedBy (viewer_end viewing.hello) (HelloStandsFor viewing.hello) old.hello bytes
+      (Some (Ready width height version name name_length)) after → is_open after ≡ false →
+      IsGreeted old new after at_message (Some (screen_or width height old.picture)) → StepsBy (viewer viewing)
+      (StandsFor viewing) old bytes (Ok (Some (ReadyTold (ready_bytes old.format old.encodings.items) width height
+      name.bytes name_length))) new
   greet_ready bytes width height version name name_length was fed closed made =
-      greet_got bytes (Ready width height version name name_length) (Some (ReadyTold (ready_bytes old.format old.encodings.items) name.bytes name_length)) was fed (λ s prefix p i stands at form stores screen told after_is.
+      greet_got bytes (Ready width height version name name_length) (Some (ReadyTold
+      (ready_bytes old.format old.encodings.items) width height name.bytes name_length)) was fed
+      (λ s prefix p i stands at form stores screen told after_is.
       let is = viewer_ready_at viewing.hello p i width height version name name_length told in
       let hello = subst (λ (w : ServerPoint). HelloStandsFor viewing.hello after w []) is.after after_is in
-      let event : Some (ReadyTold (ready_bytes viewing.form viewing.encodings) name.bytes name_length) ≡ Some (ReadyTold (ready_bytes old.format old.encodings.items) name.bytes name_length) = ap (λ (f : PixelFormat). Some (ReadyTold (ready_bytes f viewing.encodings) name.bytes name_length)) form ∙ ap (λ (es : List Encoding). Some (ReadyTold (ready_bytes old.format es) name.bytes name_length)) (sym stands.encodings_are) in (
+      let event : Some (ReadyTold (ready_bytes viewing.form viewing.encodings) width height name.bytes name_length)
+      ≡ Some (ReadyTold (ready_bytes old.format old.encodings.items) width height name.bytes name_length) = ap
+      (λ (f : PixelFormat). Some (ReadyTold (ready_bytes f viewing.encodings) width height name.bytes
+      name_length)) form ∙ ap (λ (es : List Encoding). Some (ReadyTold
+      (ready_bytes old.format es) width height name.bytes name_length)) (sym stands.encodings_are) in (
         event,
         elim is.told_at [
           | inl one ↦

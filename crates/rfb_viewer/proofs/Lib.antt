@@ -9,6 +9,8 @@ pub mod SendingLaws
 pub mod CallLemmas
 pub mod LendLemmas
 pub mod FailLemmas
+pub mod PlaceLemmas
+pub mod CountLemmas
 pub mod OutsideLemmas
 pub mod DamageLemmas
 pub mod LeastLemmas
@@ -16,3 +18,4 @@ pub mod DamageHeadLemmas
 pub mod DamageStepLemmas
 pub mod DamageFeedLemmas
 pub mod TakingLemmas
+pub mod MovedLemmas

@@ -54,7 +54,10 @@ module _ (q : UpdatePoint) (head : HeadOfRect) (front : List ℕ) (before : Grid
       let h = waits before body stands in
       (body_waits q head front before awaits (body ++ bytes) (subst (λ (p : Painting). data_of p before (body ++ bytes) ≡ More) is h.0), h.1)
 
-  data_done : (body bytes : List ℕ) (picture now : Grid Colour) (next : UnderWay) → PainterStandsFor painter picture before body → Paints painter picture bytes next now → (update_stream.next q (front ++ (body ++ bytes)) ≡ Got (Rectangle head (body ++ bytes)) []) × (effect q (Rectangle head (body ++ bytes)) before ≡ now)
+  pub data_done : (body bytes : List ℕ) (picture now : Grid Colour) (next : UnderWay) →
+      PainterStandsFor painter picture before body → Paints painter picture bytes next now → (update_stream.next q
+      (front ++ (body ++ bytes)) ≡ Got (Rectangle head (body ++ bytes)) []) × (effect q (Rectangle head
+      (body ++ bytes)) before ≡ now)
   data_done body bytes picture now next stands paints =
       let h = paints before body stands in
       let data_is = subst (λ (p : Painting). data_of p before (body ++ bytes) ≡ Got h.0 []) is h.1 in

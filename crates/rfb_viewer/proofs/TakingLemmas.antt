@@ -8,7 +8,6 @@ use Rattle.rfb_wire.specs.declared.fault.WireFault.{WireFault}
 use Rattle.rfb_wire.specs.declared.server_head.ServerHead.{ServerHead}
 use Rattle.rfb_wire.specs.declared.server_head.ServerHead.TheVariants.{Update, ColourMap, Bell as BellHead, CutText as CutTextHead}
 use Rattle.rfb_wire.specs.RectStream.{is_on_screen}
-use Rattle.rfb_wire.specs.stream.End.{RefusedBy, RunsOutBy}
 use Rattle.rfb_codec.specs.declared.fault.PaintFault.{PaintFault}
 use Rattle.rfb_codec.specs.Stage.{is_ended}
 use Rattle.rfb_codec.specs.UnderWay.{UnderWay}
@@ -18,16 +17,17 @@ use Rattle.rfb_viewer.specs.declared.viewer.Viewer.{Viewer}
 use Rattle.rfb_viewer.specs.declared.viewer.progress.Progress.{Progress}
 use Rattle.rfb_viewer.specs.declared.viewer.progress.Progress.TheVariants.{Handshake, RectHead, Data, Failed}
 use Rattle.rfb_viewer.specs.Damage.{joined, under_way, ended_of}
+use Rattle.rfb_viewer.specs.Counted.{IsPlacedAt}
 use Rattle.rfb_viewer.specs.Failing.{KeepsNone}
 use Rattle.rfb_viewer.specs.Fault.{fault_of_wire, fault_of_paint}
+use Rattle.rfb_viewer.specs.Moved.{moved_of}
 use Rattle.rfb_viewer.specs.Progress.{fault_in}
-use Rattle.rfb_viewer.specs.Standing.{StandsFor, Making, making_of}
-use Rattle.rfb_viewer.specs.Viewer.{Viewing, viewer, AsksMemory}
+use Rattle.rfb_viewer.specs.Standing.{Making, making_of, taken_of}
 use Rattle.rfb_viewer.specs.inside.Damaging.{screen_made, ended_with, begun_on, Damages, DamagesAt, EndsIn}
 use Rattle.rfb_viewer.specs.inside.Steps.{progress_after}
 use Rattle.rfb_viewer.specs.inside.Taking.{Fails}
 use Rattle.rfb_viewer.proofs.DamageStepLemmas.{made_same}
-use Rattle.rfb_viewer.proofs.FailLemmas.{wire_keeps, paint_keeps, wire_other, paint_other}
+use Rattle.rfb_viewer.proofs.FailLemmas.{wire_keeps, paint_keeps}
 use Rattle.rfb_viewer.proofs.RectLemmas.{past_going}
 
 -- ---- what stays
@@ -92,39 +92,49 @@ module _ (old new : Viewer) (bytes : List ℕ) where
 
 -- ---- where a step fails
 
-module _ (old new : Viewer) (bytes : List ℕ) (damages : Damages old bytes new) (made : making_of new ≡ making_of old) where
+module _ (old new : Viewer) (bytes : List ℕ) (damages : Damages old bytes new)
+    (moved : moved_of new ≡ moved_of old) (made : making_of new ≡ making_of old)
+    (taken : taken_of new ≡ taken_of old) where
   -- by a fault of a head
-  pub wire_fails : (fault : WireFault) → ((viewing : Viewing) → RefusedBy (viewer viewing) (StandsFor viewing) old bytes (fault_of_wire fault)) → EndsIn (fault_of_wire fault) old bytes new → new.hello ≡ old.hello → new.progress ≡ Failed (fault_of_wire fault) → Fails old bytes (fault_of_wire fault) new
-  wire_fails fault refused ends same failed = record {
-    refuses = λ _ viewing. refused viewing;
-    starves = λ is. absurd (wire_other fault is);
+  pub wire_fails : (used : ℕ) (fault : WireFault) → IsPlacedAt used (fault_of_wire fault) old bytes → EndsIn
+      (fault_of_wire fault) old bytes new → new.hello ≡ old.hello → new.progress ≡ Failed (fault_of_wire fault) →
+      Fails old bytes used (fault_of_wire fault) new
+  wire_fails used fault placed ends same failed = record {
+    placed = placed;
     picture = ends;
     reason = wire_keeps fault old new bytes same;
     damage = damages;
+    moved = moved;
     failed = ap fault_in failed;
     made = made;
+    taken = taken;
   }
 
   -- by a fault of data
-  pub paint_fails : (fault : PaintFault) → ((viewing : Viewing) → RefusedBy (viewer viewing) (StandsFor viewing) old bytes (fault_of_paint fault)) → EndsIn (fault_of_paint fault) old bytes new → new.hello ≡ old.hello → new.progress ≡ Failed (fault_of_paint fault) → Fails old bytes (fault_of_paint fault) new
-  paint_fails fault refused ends same failed = record {
-    refuses = λ _ viewing. refused viewing;
-    starves = λ is. absurd (paint_other fault is);
+  pub paint_fails : (used : ℕ) (fault : PaintFault) → IsPlacedAt used (fault_of_paint fault) old bytes → EndsIn
+      (fault_of_paint fault) old bytes new → new.hello ≡ old.hello → new.progress ≡ Failed
+      (fault_of_paint fault) → Fails old bytes used (fault_of_paint fault) new
+  paint_fails used fault placed ends same failed = record {
+    placed = placed;
     picture = ends;
     reason = paint_keeps fault old new bytes same;
     damage = damages;
+    moved = moved;
     failed = ap fault_in failed;
     made = made;
+    taken = taken;
   }
 
   -- for want of memory
-  pub memory_fails : ((viewing : Viewing) → RunsOutBy (viewer viewing) (AsksMemory viewing) (StandsFor viewing) old bytes) → EndsIn NoMemory old bytes new → KeepsNone old new → new.progress ≡ Failed NoMemory → Fails old bytes NoMemory new
-  memory_fails asked ends none failed = record {
-    refuses = λ other. absurd (other refl);
-    starves = λ _ viewing. asked viewing;
+  pub memory_fails : (used : ℕ) → IsPlacedAt used NoMemory old bytes → EndsIn NoMemory old bytes new →
+      KeepsNone old new → new.progress ≡ Failed NoMemory → Fails old bytes used NoMemory new
+  memory_fails used placed ends none failed = record {
+    placed = placed;
     picture = ends;
     reason = none;
     damage = damages;
+    moved = moved;
     failed = ap fault_in failed;
     made = made;
+    taken = taken;
   }

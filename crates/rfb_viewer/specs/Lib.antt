@@ -7,7 +7,10 @@ pub mod Calls
 pub mod Progress
 pub mod Standing
 pub mod Refusing
+pub mod Call
 pub mod Showing
 pub mod Failing
 pub mod Damage
+pub mod Moved
+pub mod Counted
 pub mod inside

@@ -56,6 +56,10 @@ fault_of viewer = fault_in viewer.progress
 abbrev pub reason_of : Viewer → List ℕ
 reason_of viewer = (reason_in viewer.hello).bytes
 
+-- how many bytes it has used in all
+abbrev pub taken_of : Viewer → ℕ
+taken_of viewer = viewer.taken
+
 -- what it was made with, but for the format, which calls change
 pub record Making : Type 0 where
   pub hello : ViewerSetup
@@ -70,8 +74,10 @@ making_of viewer =
       text_limit = viewer.text_limit;
     }
 
--- beside what it shows: its fault, the server's reason and what it was made with are as they were
+-- beside what it shows: its fault, the server's reason, what it was made with and its count of bytes
+-- are as they were
 pub record KeepsRest (old new : Viewer) : Type 0 where
   pub fault : fault_of new ≡ fault_of old
   pub reason : reason_of new ≡ reason_of old
   pub made : making_of new ≡ making_of old
+  pub taken : taken_of new ≡ taken_of old

@@ -7,12 +7,12 @@ use Rattle.rfb_hello.specs.declared.step.ViewerStep.TheVariants.{Reply as ReplyS
 use Rattle.rfb_viewer.specs.declared.event.ViewerEvent.{ViewerEvent}
 use Rattle.rfb_viewer.specs.declared.event.ViewerEvent.TheVariants.{Reply as ReplyEvent, Ready as ReadyEvent, UpdateDone as UpdateDoneEvent, Bell as BellEvent, CutText as CutTextEvent, ColourMapSkipped as ColourMapSkippedEvent}
 
--- an answer that is to be sent; the last one, with as much of the screen's name as is kept and how
--- many bytes it has; the end of an update; a bell; a text, likewise; a colour map, which is not
--- kept
+-- an answer that is to be sent; the last one, with the screen's size and as much of its name as is
+-- kept and how many bytes it has; the end of an update; a bell; a text, likewise; a colour map,
+-- which is not kept
 pub data ViewerTold : Type 0 where
   Reply : (bytes : List ℕ) → ViewerTold
-  Ready : (bytes : List ℕ) → (name : List ℕ) → (name_length : ℕ) → ViewerTold
+  Ready : (bytes : List ℕ) → (width height : ℕ) → (name : List ℕ) → (name_length : ℕ) → ViewerTold
   UpdateDone : ViewerTold
   Bell : ViewerTold
   CutText : (kept : List ℕ) → (text_length : ℕ) → ViewerTold
@@ -21,7 +21,7 @@ pub data ViewerTold : Type 0 where
 -- the bytes that are to be sent for it
 abbrev pub reply_bytes : ViewerTold → List ℕ
 reply_bytes (Reply bytes) = bytes
-reply_bytes (Ready bytes name name_length) = bytes
+reply_bytes (Ready bytes width height name name_length) = bytes
 reply_bytes UpdateDone = []
 reply_bytes Bell = []
 reply_bytes (CutText kept text_length) = []
@@ -30,7 +30,8 @@ reply_bytes ColourMapSkipped = []
 -- the event that a value of the program is
 abbrev pub event_told : ViewerEvent → ViewerTold
 event_told (ReplyEvent reply) = Reply reply.items
-event_told (ReadyEvent reply name name_length) = Ready reply.items name.items name_length
+event_told (ReadyEvent reply width height name name_length) =
+    Ready reply.items width height name.items name_length
 event_told UpdateDoneEvent = UpdateDone
 event_told BellEvent = Bell
 event_told (CutTextEvent kept text_length) = CutText kept.items text_length
@@ -47,7 +48,7 @@ abbrev pub step_told : List ℕ → ViewerStep → Option ViewerTold
 step_told bytes (ReplyStep reply) = Some (Reply reply.items)
 step_told bytes (Screen width height) = None
 step_told bytes (ReadyStep width height version name name_length) =
-    Some (Ready bytes name.bytes name_length)
+    Some (Ready bytes width height name.bytes name_length)
 
 -- the item is the last of an update: a head that counts no rectangles, or the last rectangle
 abbrev pub is_last : UpdatePoint → UpdateItem → Bool

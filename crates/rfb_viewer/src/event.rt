@@ -18,11 +18,13 @@ pub const MAX_READY: usize = 40;
 pub enum ViewerEvent {
     /// Bytes that are to be sent to the server.
     Reply(ArrayVec<u8, MAX_ANSWER>),
-    /// The handshake is done: the last bytes to be sent, SetPixelFormat and SetEncodings; as much
-    /// of the screen's name as is kept, which is the caller's from here on, and how many bytes it
-    /// had.
+    /// The handshake is done: the last bytes to be sent, SetPixelFormat and SetEncodings; how many
+    /// columns and rows the screen has, section 7.3.2; as much of its name as is kept, which is the
+    /// caller's from here on, and how many bytes it had.
     Ready {
         reply: ArrayVec<u8, MAX_READY>,
+        width: u16,
+        height: u16,
         name: Vec<u8>,
         name_length: u32,
     },

@@ -146,6 +146,17 @@ pub enum CallFault {
     AreaOutside,
 }
 
+/// Why a message is not appended. Nothing was changed.
+#[derive(Clone, Copy, Debug, PartialEq, Eq, Error)]
+pub enum AppendFault {
+    /// The call is refused.
+    #[error(transparent)]
+    Refused(CallFault),
+    /// There is no memory for the message.
+    #[error("30 NoMemory")]
+    NoMemory,
+}
+
 /// Why a text is not sent. Nothing was changed.
 #[derive(Clone, Copy, Debug, PartialEq, Eq, Error)]
 pub enum TextFault {

@@ -15,6 +15,7 @@ ghost use Rattle.rfb_viewer.specs.ServerBytes.{server_bytes, server_bytes_say};
 ghost use Rattle.rfb_viewer.specs.Viewer.{Viewing, ViewerState, viewer};
 ghost use Rattle.rfb_viewer.specs.declared.viewer.Viewer.{Viewer};
 ghost use Rattle.rfb_viewer.specs.Damage.{damaging, joined_all, rect_of_damage, holds, IsWithin};
+ghost use Rattle.rfb_viewer.specs.Moved.{moving};
 ghost use Rattle.rfb_viewer.specs.Standing.{StandsFor, fault_of};
 ghost use Rattle.rfb_viewer.specs.Messages.{format_message, encodings_message};
 
@@ -35,6 +36,11 @@ pub fn a_viewer_is_a_machine()
 /// A viewer with its damage is one too: each item adds its rectangle, and ServerInit the screen.
 pub fn a_viewer_with_its_damage_is_a_machine()
     ensures { (viewing : Viewing) → IsMachine (damaging viewing) }
+{}
+
+/// So is a viewer with its copies: each CopyRect rectangle adds the one that its data name.
+pub fn a_viewer_with_its_copies_is_a_machine()
+    ensures { (viewing : Viewing) → IsMachine (moving viewing) }
 {}
 
 /// The damage of rectangles is the least rectangle that holds them all: it holds each of their

@@ -13,11 +13,11 @@
 //!    the bytes of its `reply` are sent.
 //! 3. From `Ready` on there is a `picture`, which is black at first, and the other calls are
 //!    possible: `request`, `set_format`, `set_encodings`, `key`, `pointer`, `cut_text`. Each gives
-//!    a message that is to be sent.
+//!    a message that is to be sent. `append` and `spell` make any of them, by a `Call`.
 //! 4. `request` asks for an update. One at a time may be outstanding; `UpdateDone` tells its end.
 //!    The first is for all places, later ones for what changed.
 //! 5. `damage` is the least rectangle that holds what changed of the picture since it was asked
-//!    last. A window repaints that, whenever it likes.
+//!    last. A window repaints that, whenever it likes. `moved` has the copies among it.
 //! 6. An error of `feed` is the last of the connection. The picture stays, with what came before
 //!    it; `reason` has what the server said where it refused the handshake.
 //!
@@ -27,6 +27,7 @@
 //! | of the server, in any slices | `feed` |
 #![tactic(auto)]
 
+mod call;
 mod client_messages;
 mod event;
 mod fault;
@@ -37,7 +38,9 @@ mod setup;
 mod tests;
 mod viewer;
 
+pub use call::{Call, MAX_FRONT, Message};
 pub use event::{MAX_ANSWER, MAX_READY, ViewerEvent};
-pub use fault::{CallFault, TextFault, ViewerFault};
+pub use fault::{AppendFault, CallFault, TextFault, ViewerFault};
 pub use setup::ViewerSetup;
 pub use viewer::Viewer;
+pub use viewer::moved::{MAX_MOVES, Move};

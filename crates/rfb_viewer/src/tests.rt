@@ -3,6 +3,7 @@
 //! is made in a test's body takes several times as long to prove.
 
 mod calls;
+mod counted;
 mod cuts;
 mod damage;
 mod encodings;
@@ -11,6 +12,7 @@ mod handshakes;
 mod hostile;
 mod long_texts;
 mod messages;
+mod moved;
 mod one_server;
 mod painting;
 mod pending;

@@ -9,6 +9,7 @@ mod damage;
 mod greeting;
 mod lending;
 mod messages;
+pub(crate) mod moved;
 mod progress;
 mod updates;
 
@@ -17,7 +18,8 @@ use crate::fault::ViewerFault;
 use crate::setup::ViewerSetup;
 use arrayvec::ArrayVec;
 use damage::Edges;
-use progress::{Progress, Request};
+use moved::{MAX_MOVES, Move};
+use progress::{Failure, Progress, Request};
 use rfb_hello::{Fed, Version, ViewerHello};
 use rfb_picture::Picture;
 use rfb_pixel::{Colour, Format};
@@ -35,8 +37,10 @@ pub struct Viewer {
     text_limit: u32,
     picture: Option<Picture<Colour>>,
     damage: Option<Edges>,
+    moved: ArrayVec<Move, MAX_MOVES>,
     request: Request,
     progress: Progress,
+    taken: u64,
     ghost sound: { is_sound hello progress picture ≡ true },
 }
 
@@ -47,12 +51,15 @@ impl Viewer {
     ghost use Rattle.rfb_viewer.specs.Viewer.{Viewing, ViewerState, viewer, first_viewer};
     ghost use Rattle.rfb_viewer.specs.Viewer.{AsksMemory};
     ghost use Rattle.rfb_viewer.specs.Standing.{StandsFor, viewing_with, fault_of, making_of};
-    ghost use Rattle.rfb_viewer.specs.Standing.{picture_of};
+    ghost use Rattle.rfb_viewer.specs.Standing.{picture_of, taken_of};
     ghost use Rattle.rfb_viewer.specs.Damage.{damage_of, ended_of, damaging, IsDamaged};
     ghost use Rattle.rfb_viewer.specs.Damage.{IsSameOutside, KeepsDamage};
+    ghost use Rattle.rfb_viewer.specs.Moved.{moved_of, moving, HasMoved, KeepsMoved};
     ghost use Rattle.rfb_viewer.specs.inside.Sound.{IsElsewhere};
     ghost use Rattle.rfb_viewer.specs.inside.Taking.{Steps};
     ghost use Rattle.rfb_viewer.specs.Failing.{KeepsPicture, KeepsReason};
+    ghost use Rattle.rfb_viewer.specs.Counted.{IsPlacedAt, CountsTo};
+    ghost use Rattle.rfb_wire.specs.stream.Placing.{counted_on};
 
     /// A viewer that was fed nothing. It goes up to version `limit`, asks for the screen alone
     /// where it is not `shared`, admits a screen of `max_places` places, and keeps `text_limit`
@@ -71,6 +78,8 @@ impl Viewer {
             viewing_with format encodings.items limit shared max_places text_limit in
             StandsFor viewing result first_viewer [] }
         ensures damage { ended_of result ≡ None }
+        ensures moved { moved_of result ≡ [] }
+        ensures taken { taken_of result ≡ 0 }
     {
         Viewer {
             alloc,
@@ -80,8 +89,10 @@ impl Viewer {
             text_limit,
             picture: None,
             damage: None,
+            moved: ArrayVec::new(),
             request: Request::Answered,
             progress: Progress::Handshake,
+            taken: 0,
         }
     }
 
@@ -91,6 +102,8 @@ impl Viewer {
             setup.shared setup.max_places setup.text_limit in
             StandsFor viewing result first_viewer [] }
         ensures damage { ended_of result ≡ None }
+        ensures moved { moved_of result ≡ [] }
+        ensures taken { taken_of result ≡ 0 }
     {
         Viewer::new(
             alloc,
@@ -126,6 +139,13 @@ impl Viewer {
         ensures damaged { IfErr result (λ fault. fault_of self.old ≡ None
             → KeepsDamage fault self.old bytes.now self.new) }
 
+        // The copies within it.
+        ensures moved { IfOk result (λ fed. (viewing : Viewing)
+            → FedBy (moving viewing) (HasMoved viewing)
+            self.old (take fed.used bytes.now) (seen fed.event) self.new) }
+        ensures unmoved { IfErr result (λ fault. fault_of self.old ≡ None
+            → KeepsMoved fault self.old bytes.now self.new) }
+
         // When a fault comes, when memory is wanting, what is kept, and that it stays.
         ensures fault { IfErr result (λ fault. fault ≢ NoMemory → (viewing : Viewing)
             → RefusedBy (viewer viewing) (StandsFor viewing) self.old bytes.now fault) }
@@ -138,46 +158,117 @@ impl Viewer {
             → KeepsReason fault self.old bytes.now self.new) }
         ensures fails { IfErr result (λ fault. fault_of self.new ≡ Some fault) }
         ensures failed { StaysFailed (fault_of self.old) self.old result self.new }
+
+        // How many bytes were used in all, at a fault up to the byte with which it came.
+        ensures taken { IfOk result (λ fed.
+            taken_of self.new ≡ counted_on (taken_of self.old) fed.used) }
+        ensures place { IfErr result (λ fault. fault_of self.old ≡ None
+            → CountsTo fault self.old bytes.now self.new) }
     {
         if let Progress::Failed(fault) = self.progress {
             return Err(fault);
         }
         let mut used = 0;
-        while used < bytes.len() {
+        let result = self.take_all(bytes, &mut used);
+        self.taken = self.taken.saturating_add(used as u64);
+        result
+    }
+
+    // Takes the same bytes where the viewer has not failed, and says how many these are, at a fault
+    // those up to the byte with which it came.
+    #[inline(always)]
+    fn take_all(&mut self, bytes: &[u8], used: &mut usize) -> Result<Fed<ViewerEvent>, ViewerFault>
+        requires none { used.old ≡ 0 }
+        requires going { fault_of self.old ≡ None }
+        // What was taken, what it was, and what is left.
+        ensures used { IfOk result (λ fed. fed.used ≤ length bytes.now) }
+        ensures all { IfOk result (λ fed. fed.event ≡ None → fed.used ≡ length bytes.now) }
+        ensures some { IfOk result (λ fed. 0 < length bytes.now → 0 < fed.used) }
+        ensures fed { IfOk result (λ fed. (viewing : Viewing)
+            → FedBy (viewer viewing) (StandsFor viewing)
+            self.old (take fed.used bytes.now) (seen fed.event) self.new) }
+        ensures made { making_of self.new ≡ making_of self.old }
+
+        // What of the picture it changes, and the damage that it makes.
+        ensures outside { (viewing : Viewing) (s : ViewerState) (prefix : List ℕ)
+            → StandsFor viewing self.old s prefix
+            → IsSameOutside (damage_of self.new) (picture_of self.old) (picture_of self.new) }
+        ensures damage { IfOk result (λ fed. (viewing : Viewing)
+            → FedBy (damaging viewing) (IsDamaged viewing)
+            self.old (take fed.used bytes.now) (seen fed.event) self.new) }
+        ensures damaged { IfErr result (λ fault. fault_of self.old ≡ None
+            → KeepsDamage fault self.old bytes.now self.new) }
+
+        // When a fault comes, when memory is wanting, what is kept, and that it stays.
+        ensures fault { IfErr result (λ fault. fault ≢ NoMemory → (viewing : Viewing)
+            → RefusedBy (viewer viewing) (StandsFor viewing) self.old bytes.now fault) }
+        ensures memory { IfErr result (λ fault. fault ≡ NoMemory → (viewing : Viewing)
+            → RunsOutBy (viewer viewing) (AsksMemory viewing) (StandsFor viewing)
+            self.old bytes.now) }
+        ensures picture { IfErr result (λ fault. fault_of self.old ≡ None
+            → KeepsPicture fault self.old bytes.now self.new) }
+        ensures reason { IfErr result (λ fault. fault_of self.old ≡ None
+            → KeepsReason fault self.old bytes.now self.new) }
+        ensures fails { IfErr result (λ fault. fault_of self.new ≡ Some fault) }
+        ensures moved { IfOk result (λ fed. (viewing : Viewing)
+            → FedBy (moving viewing) (HasMoved viewing)
+            self.old (take fed.used bytes.now) (seen fed.event) self.new) }
+        ensures unmoved { IfErr result (λ fault. fault_of self.old ≡ None
+            → KeepsMoved fault self.old bytes.now self.new) }
+        ensures taken { IfOk result (λ fed. used.new ≡ fed.used) }
+        ensures place { IfErr result (λ fault. IsPlacedAt used.new fault self.old bytes.now) }
+        ensures kept { taken_of self.new ≡ taken_of self.old }
+    {
+        while *used < bytes.len() {
             if let Progress::Data { .. } = self.progress {
-                let painted = self.take_data(&bytes[used..])?;
-                used += painted.used;
+                let painted = match self.take_data(&bytes[*used..]) {
+                    Ok(painted) => painted,
+                    Err(failure) => {
+                        *used += failure.used;
+                        return Err(failure.fault);
+                    }
+                };
+                *used += painted.used;
                 if painted.ends_update {
                     return Ok(Fed {
-                        used,
+                        used: *used,
                         event: Some(ViewerEvent::UpdateDone),
                     });
                 }
             } else {
-                let fed = self.take(&bytes[used..])?;
-                used += fed.used;
+                let fed = match self.take(&bytes[*used..]) {
+                    Ok(fed) => fed,
+                    Err(failure) => {
+                        *used += failure.used;
+                        return Err(failure.fault);
+                    }
+                };
+                *used += fed.used;
                 if fed.event.is_some() {
                     return Ok(Fed {
-                        used,
+                        used: *used,
                         event: fed.event,
                     });
                 }
             }
         }
-        Ok(Fed { used, event: None })
+        Ok(Fed {
+            used: *used,
+            event: None,
+        })
     }
 
     // Takes bytes of the server's next item but a rectangle's data, as many of it as there are. It
     // is not inlined, since data that come byte by byte need none of it.
     #[inline(never)]
-    fn take(&mut self, bytes: &[u8]) -> Result<Fed<ViewerEvent>, ViewerFault>
+    fn take(&mut self, bytes: &[u8]) -> Result<Fed<ViewerEvent>, Failure>
         requires some { 0 < length bytes.now }
         requires going { fault_of self.old ≡ None }
         requires elsewhere { IsElsewhere self.old.progress }
         ensures { Steps self.old bytes.now result self.new }
     {
         match self.progress {
-            Progress::Handshake => self.greet(bytes),
+            Progress::Handshake => self.greet(&bytes[..1]),
             Progress::Head(_) => self.take_head(bytes),
             Progress::RectHead { .. } => self.take_rect_head(bytes),
             Progress::Colours { .. } => Ok(self.skip_colours(bytes)),

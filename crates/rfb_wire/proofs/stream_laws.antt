@@ -8,6 +8,7 @@ pub mod ReadingLaws
 pub mod GrammarLaws
 pub mod EndLaws
 pub mod FeedLaws
+pub mod PlacingLaws
 pub mod SequelLaws
 pub mod BothLaws
 pub mod SessionLaws

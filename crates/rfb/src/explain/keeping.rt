@@ -46,8 +46,17 @@ pub struct Writing<'a, W> {
 }
 
 impl<'a, W> Writing<'a, W> {
+    ghost use Rattle.rfb.specs.Explain.{written_by};
+
     /// Writes to `writer`.
-    pub fn new(writer: W, failure: &'a mut Option<io::Error>) -> Writing<'a, W> {
+    pub fn new(writer: W, failure: &'a mut Option<io::Error>) -> Writing<'a, W>
+        ensures { written_by result ≡ writer }
+    {
+        Writing { writer, failure }
+    }
+
+    /// The same of a writer that is lent: it is lent again by the one that this gives.
+    pub fn lent(writer: W, failure: &'a mut Option<io::Error>) -> Writing<'a, W> {
         Writing { writer, failure }
     }
 }

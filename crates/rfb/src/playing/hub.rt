@@ -17,7 +17,7 @@ use crate::fault::Fault;
 use crate::playing::{ALL, TEXT_LIMIT, TURNS};
 use crate::script::{HubStep, Screen};
 use rfb_hello::Version;
-use rfb_session::{Hub, HubEvent, HubFault, HubTold, NoMemory, SlotEvent};
+use rfb_session::{Hub, HubEvent, HubFault, HubSetup, HubTold, NoMemory, SlotEvent};
 use std::alloc::{AllocError, Global};
 
 /// What became of a line.
@@ -43,8 +43,14 @@ pub fn fresh_hub(alloc: Global, screen: Screen) -> Result<Hub, AllocError>
         serving_in hub ≡ serving_with V38 screen.width screen.height name 1024) }
     ensures stands { IfOk result HubStands }
 {
-    let (width, height) = (screen.width, screen.height);
-    Hub::new(alloc, width, height, b"rfb", Version::V38, TEXT_LIMIT)
+    let setup = HubSetup {
+        width: screen.width,
+        height: screen.height,
+        name: b"rfb",
+        offer: Version::V38,
+        text_limit: TEXT_LIMIT,
+    };
+    Hub::of(alloc, setup)
 }
 
 /// Takes a step, and tells what became of it.
@@ -98,13 +104,12 @@ fn with(all: LineTold, told: HubTold) -> LineTold
 }
 
 /// Why the viewer of a slot shows nothing: there is none, or it has no screen yet.
-pub fn why_nothing(hub: &mut Hub, slot: u8) -> Fault
-    ensures empty { result ≡ Fault.NoSuchSlot → seat_in hub.old slot ≡ None }
-    ensures taken { result ≡ Fault.NotReady → seat_in hub.old slot ≢ None }
+pub fn why_nothing(hub: &Hub, slot: u8) -> Fault
+    ensures empty { seat_in hub.now slot ≡ None → result ≡ Fault.NoSuchSlot }
+    ensures taken { seat_in hub.now slot ≢ None → result ≡ Fault.NotReady }
 {
-    match hub.step(&HubEvent::Leave(slot)) {
-        Ok(told) if told.refused.is_some() => Fault::NoSuchSlot,
-        Ok(_) => Fault::NotReady,
-        Err(_) => Fault::NoMemory,
+    if hub.is_taken(slot) {
+        return Fault::NotReady;
     }
+    Fault::NoSuchSlot
 }

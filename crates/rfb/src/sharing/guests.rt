@@ -7,11 +7,12 @@ mod serving;
 
 use crate::fault::Failure;
 use crate::sharing::ShareOptions;
+use crate::sharing::drawing::drawing_of;
 use crate::sharing::line::{OwnerLine, Refusal};
 use crate::sharing::ready::Ready;
 use crate::sharing::telling::{tell_fault, tell_leave};
 use mio::Registry;
-use rfb_session::{SLOTS, Share};
+use rfb_session::{SLOTS, Seat, Share};
 use std::alloc::Global;
 use std::fmt::Display;
 use std::io::{Read, Write};
@@ -23,8 +24,6 @@ use std::os::fd::AsRawFd;
 pub struct Guests<S: Drop> {
     pub share: Share,
     streams: Vec<Option<S>>,
-    // Where something may have to be composed: a drawing, a request, or a last byte was written.
-    stirred: [bool; SLOTS],
     // Whether a viewer ever came.
     came: bool,
 }
@@ -39,7 +38,6 @@ impl<S: Read + Write + OpenStream + AsRawFd + Drop> Guests<S> {
         Ok(Guests {
             share,
             streams,
-            stirred: [false; SLOTS],
             came: false,
         })
     }
@@ -80,30 +78,35 @@ impl<S: Read + Write + OpenStream + AsRawFd + Drop> Guests<S> {
         ready: &mut Ready,
         output: &mut W,
     ) -> Result<Option<Refusal>, Failure> {
-        if let OwnerLine::End(seat) = line {
-            self.let_go(*seat, ready, output)?;
+        if let OwnerLine::End(number) = line {
+            if let Some(seat) = Seat::new(*number) {
+                self.let_go(seat, ready, output)?;
+            }
             return Ok(None);
         }
-        Ok(self.draw(line))
+        match drawing_of(line) {
+            Some(drawing) => Ok(self.draw(&drawing)),
+            None => Ok(Some(Refusal::Bad)),
+        }
     }
 
     // A viewer is let go, if there is one at the seat, with nothing wrong.
     fn let_go<W: Write>(
         &mut self,
-        seat: u8,
+        seat: Seat,
         ready: &mut Ready,
         output: &mut W,
     ) -> Result<(), Failure> {
         if !self.close(seat, ready) {
             return Ok(());
         }
-        tell_leave(output, seat)
+        tell_leave(output, seat.number())
     }
 
     // It is let go for a fault.
     fn fail<W: Write, F: Display>(
         &mut self,
-        seat: u8,
+        seat: Seat,
         fault: &F,
         ready: &mut Ready,
         output: &mut W,
@@ -111,13 +114,13 @@ impl<S: Read + Write + OpenStream + AsRawFd + Drop> Guests<S> {
         if !self.close(seat, ready) {
             return Ok(());
         }
-        tell_fault(output, seat, fault)
+        tell_fault(output, seat.number(), fault)
     }
 
     // Its connection is closed, and its seat is empty. A connection that could not be had may be
     // had now.
-    fn close(&mut self, seat: u8, ready: &mut Ready) -> bool {
-        match self.streams.get_mut(seat as usize) {
+    fn close(&mut self, seat: Seat, ready: &mut Ready) -> bool {
+        match self.streams.get_mut(seat.number() as usize) {
             Some(slot) if slot.is_some() => *slot = None,
             _ => return false,
         }

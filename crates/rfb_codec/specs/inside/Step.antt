@@ -8,8 +8,11 @@ use Rattle.rfb_picture.specs.Grid.{Grid, IsGrid, Holds, filled}
 use Rattle.rfb_wire.specs.declared.encoding.Encoding.{Encoding}
 use Rattle.rfb_wire.specs.declared.encoding.Encoding.TheVariants.{Raw, CopyRect, Rre, Hextile}
 use Rattle.rfb_wire.specs.RectHead.{IsOnScreen}
+use Rattle.rfb_wire.specs.stream.Reading.{More}
+use Rattle.rfb_wire.specs.stream.Placing.{FaultsWith}
 use Rattle.rfb_codec.specs.declared.subrect.Subrect.{Subrect}
 use Rattle.rfb_codec.specs.declared.fault.PaintFault.{PaintFault}
+use Rattle.rfb_codec.specs.declared.fault.Flaw.{Flaw}
 use Rattle.rfb_codec.specs.declared.fault.PaintFault.TheVariants.{SubrectOutside}
 use Rattle.rfb_codec.specs.declared.hextile.paint.tile_read.Seen.{Seen}
 use Rattle.rfb_codec.specs.declared.hextile.paint.tile_read.TileRead.{TileRead}
@@ -19,6 +22,7 @@ use Rattle.rfb_codec.specs.declared.painter.stage.Step.{Step}
 use Rattle.rfb_codec.specs.declared.painter.rectangle.Rectangle.{Rectangle}
 use Rattle.rfb_codec.specs.declared.painter.stage.Stage.TheVariants.{BeforeSource, Copied, InPixels, BeforeHead, InSubrects, InTiles, InRawTile}
 use Rattle.rfb_codec.specs.Tile.{Tile, AreInside, places_of}
+use Rattle.rfb_codec.specs.RectData.{rect_data}
 use Rattle.rfb_codec.specs.Hextile.{tile_width, tile_height, next_tile}
 use Rattle.rfb_codec.specs.inside.TileRead.{LiesIn, TellsTile, tile_of_read, least_size}
 use Rattle.rfb_codec.specs.Front.{SpellsPixels, pixels_over, tiles_over}
@@ -69,12 +73,20 @@ pub record IsGoodTile (f : PixelFormat) (rect : Rect) (n : ℕ) (read : TileRead
       (places_of (tile_of_read f (tile_width rect.w n) (tile_height rect.w rect.h n) read bytes))
 
 -- the result for the rectangle's next tile is what the reading gives
-abbrev pub TellsNext : PixelFormat → Rect → ℕ → Seen → List ℕ → Result (Option TileRead)
-    PaintFault → Type 0
+abbrev pub TellsNext : PixelFormat → Rect → ℕ → Seen → List ℕ →
+    Result (Option TileRead) Flaw → Type 0
 TellsNext f rect n seen bytes result =
     (tiles : List Tile) → length tiles ≡ n → Sees tiles seen →
     TellsTile f (tile_width rect.w n) (tile_height rect.w rect.h n) bytes result
     (next_tile f rect.w rect.h tiles bytes)
+
+-- the reading shows the fault with that byte
+pub record FaultsNext (f : PixelFormat) (rect : Rect) (n : ℕ) (seen : Seen) (bytes : List ℕ)
+    (flaw : Flaw) : Type 0 where
+  pub some : 0 < flaw.used
+  pub within : flaw.used ≤ length bytes
+  pub shown : (tiles : List Tile) → length tiles ≡ n → Sees tiles seen →
+      FaultsWith (next_tile f rect.w rect.h tiles) bytes flaw.used flaw.fault
 
 -- the picture of the tiles before has this one too, and these are the colours seen after it
 abbrev pub DrawsTile : PixelFormat → Rect → ℕ → Seen → Tile → Grid Colour → Seen → Grid Colour →
@@ -109,11 +121,19 @@ GoesOn f rect stage pending picture bytes next rest now =
     (before : Grid Colour) (body : List ℕ) → StandsAt f rect stage pending picture before body →
     StandsAt f rect next rest now before (body ++ bytes)
 
+-- data are refused with that byte of these, and without it they wait for more
+pub record IsRefusedWith (f : PixelFormat) (rect : Rect) (encoding : Encoding)
+    (before : Grid Colour) (body bytes : List ℕ) (flaw : Flaw) (now : Grid Colour) : Type 0 where
+  pub refused : IsRefused f rect encoding before body bytes flaw.fault now
+  pub last : flaw.used ≡ refused.n + 1
+  pub waits : rect_data f before.width before.height rect encoding (body ++ take refused.n bytes)
+      ≡ More
+
 abbrev pub Stops : PixelFormat → Rect → Stage → List ℕ → Grid Colour → List ℕ → Grid Colour →
-    PaintFault → Type 0
-Stops f rect stage pending picture bytes now fault =
+    Flaw → Type 0
+Stops f rect stage pending picture bytes now flaw =
     (before : Grid Colour) (body : List ℕ) → StandsAt f rect stage pending picture before body →
-    IsRefused f rect (encoding_at stage) before body bytes fault now
+    IsRefusedWith f rect (encoding_at stage) before body bytes flaw now
 
 -- ---- a step
 
@@ -144,34 +164,36 @@ pub record TakesAll (r : Rectangle) (stage : Stage) (pending : List ℕ) (pictur
 
 -- they show a fault, and nothing is pending
 pub record Breaks (r : Rectangle) (stage : Stage) (pending : List ℕ) (picture : Grid Colour)
-    (bytes : List ℕ) (fault : PaintFault) (rest : List ℕ) (now : Grid Colour) : Type 0 where
-  pub stops : Stops r.format r.rect stage pending picture bytes now fault
+    (bytes : List ℕ) (flaw : Flaw) (rest : List ℕ) (now : Grid Colour) : Type 0 where
+  pub some : 0 < flaw.used
+  pub within : flaw.used ≤ length bytes
+  pub stops : Stops r.format r.rect stage pending picture bytes now flaw
   pub emptied : length rest ≡ 0
   pub width : now.width ≡ picture.width
   pub height : now.height ≡ picture.height
 
 -- a step takes some of the bytes, or these show a fault
-abbrev pub Steps : Rectangle → Stage → List ℕ → Grid Colour → List ℕ → Result Step PaintFault →
+abbrev pub Steps : Rectangle → Stage → List ℕ → Grid Colour → List ℕ → Result Step Flaw →
     List ℕ → Grid Colour → Type 0
 Steps r stage pending picture bytes (Ok step) rest now =
     Takes r stage pending picture bytes step rest now
-Steps r stage pending picture bytes (Err fault) rest now =
-    Breaks r stage pending picture bytes fault rest now
+Steps r stage pending picture bytes (Err flaw) rest now =
+    Breaks r stage pending picture bytes flaw rest now
 
 -- steps take all of the bytes, or these show a fault
-abbrev pub StepsAll : Rectangle → Stage → List ℕ → Grid Colour → List ℕ → Result Step PaintFault →
+abbrev pub StepsAll : Rectangle → Stage → List ℕ → Grid Colour → List ℕ → Result Step Flaw →
     List ℕ → Grid Colour → Type 0
 StepsAll r stage pending picture bytes (Ok step) rest now =
     TakesAll r stage pending picture bytes step rest now
-StepsAll r stage pending picture bytes (Err fault) rest now =
-    Breaks r stage pending picture bytes fault rest now
+StepsAll r stage pending picture bytes (Err flaw) rest now =
+    Breaks r stage pending picture bytes flaw rest now
 
 -- ---- a byte that only joins those pending
 
 -- the fewest bytes that the piece under way has, whose first ones are pending
 abbrev pub piece_size : PixelFormat → Stage → List ℕ → ℕ
 piece_size f BeforeSource pending = 4
-piece_size f Copied pending = 0
+piece_size f (Copied x y) pending = 0
 piece_size f (InPixels at) pending = size_of f
 piece_size f BeforeHead pending = 4 + size_of f
 piece_size f (InSubrects left) pending = size_of f + 8

@@ -8,6 +8,7 @@ use Rattle.rfb_wire.specs.stream.Reading.{Next, More, Got, Bad, Reading}
 use Rattle.rfb_wire.specs.stream.Parts.{each}
 use Rattle.rfb_codec.specs.declared.subrect.Subrect.{Subrect}
 use Rattle.rfb_codec.specs.declared.fault.PaintFault.{PaintFault}
+use Rattle.rfb_codec.specs.declared.fault.Flaw.{Flaw}
 use Rattle.rfb_codec.specs.declared.hextile.layout.TileLayout.{TileLayout}
 use Rattle.rfb_codec.specs.declared.hextile.layout.TileLayout.TheVariants.{Raw, Plain, Colored}
 use Rattle.rfb_codec.specs.declared.hextile.paint.tile_read.TileRead.{TileRead}
@@ -49,20 +50,20 @@ tile_of_read f width height read bytes =
     tile_in f width height read.layout read.list read.count bytes
 
 -- the result for a tile is what the reading gives
-abbrev pub TellsTile : PixelFormat → ℕ → ℕ → List ℕ → Result (Option TileRead) PaintFault →
+abbrev pub TellsTile : PixelFormat → ℕ → ℕ → List ℕ → Result (Option TileRead) Flaw →
     Next Tile PaintFault → Type 0
 TellsTile f width height bytes (Ok None) next = next ≡ More
 TellsTile f width height bytes (Ok (Some read)) next =
     (next ≡ Got (tile_of_read f width height read bytes) (drop read.used bytes)) ×
     LiesIn f width height read bytes ×
     AreInside width height (places_of (tile_of_read f width height read bytes))
-TellsTile f width height bytes (Err fault) next = next ≡ Bad fault
+TellsTile f width height bytes (Err flaw) next = next ≡ Bad flaw.fault
 
 -- bytes that are not all of a tile are fewer than the longest has
-abbrev pub IsShort : List ℕ → Result (Option TileRead) PaintFault → Type 0
+abbrev pub IsShort : List ℕ → Result (Option TileRead) Flaw → Type 0
 IsShort bytes (Ok None) = length bytes < 1536
 IsShort bytes (Ok (Some read)) = Unit {0}
-IsShort bytes (Err fault) = Unit {0}
+IsShort bytes (Err flaw) = Unit {0}
 
 -- the colours that a layout names
 abbrev pub background_named : TileLayout → Option ℕ

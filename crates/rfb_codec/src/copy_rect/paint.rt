@@ -5,7 +5,7 @@ ghost use Rattle.arrayvec.specs.ArrayVec.{array_vec_len};
 ghost use Rattle.rfb_codec.specs.declared.painter.stage.Stage.TheVariants.{BeforeSource};
 ghost use Rattle.rfb_codec.specs.inside.Step.{IsPaintable, Steps};
 
-use crate::fault::PaintFault;
+use crate::fault::{Flaw, PaintFault};
 use crate::painter::gather::{Pending, gather};
 use crate::painter::rectangle::Rectangle;
 use crate::painter::stage::{Stage, Step};
@@ -23,7 +23,7 @@ pub fn take_source(
     pending: &mut Pending,
     bytes: &[u8],
     picture: &mut Picture<Colour>,
-) -> Result<Step, PaintFault>
+) -> Result<Step, Flaw>
     requires place { IsPaintable picture.old rectangle.now.rect }
     requires short { array_vec_len pending.old < 4 }
     requires some { 0 < length bytes.now }
@@ -43,11 +43,14 @@ pub fn take_source(
     let y = BigEndian::read_u16(&source[2..]);
     pending.clear();
     if !picture.holds(Rect { x, y, ..rect }) {
-        return Err(PaintFault::SourceOutside);
+        return Err(Flaw {
+            used,
+            fault: PaintFault::SourceOutside,
+        });
     }
     picture.copy(rect, x, y);
     Ok(Step {
         used,
-        stage: Stage::Copied,
+        stage: Stage::Copied { x, y },
     })
 }

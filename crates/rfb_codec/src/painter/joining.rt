@@ -37,7 +37,7 @@ fn piece_size(format: Format, stage: Stage, pending: &Pending) -> usize
 {
     match stage {
         Stage::BeforeSource => 4,
-        Stage::Copied => 0,
+        Stage::Copied { .. } => 0,
         Stage::InPixels { .. } | Stage::InRawTile { .. } => format.size(),
         Stage::BeforeHead => 4 + format.size(),
         Stage::InSubrects { .. } => format.size() + 8,

@@ -11,7 +11,7 @@ ghost use Rattle.rfb_codec.specs.Stage.{is_ended, is_sound};
 use super::gather::Pending;
 use super::rectangle::Rectangle;
 use super::stage::{Stage, Step};
-use crate::fault::PaintFault;
+use crate::fault::Flaw;
 use crate::hextile::tiles::tile_count;
 use crate::{copy_rect, hextile, raw, rre};
 use rfb_picture::{Picture, Rect};
@@ -22,7 +22,7 @@ pub fn is_ended(rect: Rect, stage: Stage) -> bool
     ensures { result ≡ is_ended rect stage }
 {
     match stage {
-        Stage::Copied => true,
+        Stage::Copied { .. } => true,
         Stage::InPixels { at } => rect.w == 0 || at.y >= rect.h,
         Stage::InSubrects { left } => left == 0,
         Stage::InTiles { tile, .. } => tile >= tile_count(rect.w, rect.h),
@@ -39,7 +39,7 @@ pub fn feed(
     pending: &mut Pending,
     bytes: &[u8],
     picture: &mut Picture<Colour>,
-) -> Result<Step, PaintFault>
+) -> Result<Step, Flaw>
     requires place { Holds picture.old rectangle.now.rect }
     requires sound { is_sound rectangle.now.format rectangle.now.rect stage
         (array_vec_len pending.old) ≡ true }
@@ -50,7 +50,15 @@ pub fn feed(
     let mut now = stage;
     'pieces: while used < bytes.len() && !is_ended(rectangle.rect, now) {
         prove!(rectangle.lies_in(picture));
-        let step = take(rectangle, now, pending, &bytes[used..], picture)?;
+        let step = match take(rectangle, now, pending, &bytes[used..], picture) {
+            Ok(step) => step,
+            Err(flaw) => {
+                return Err(Flaw {
+                    used: used + flaw.used,
+                    fault: flaw.fault,
+                });
+            }
+        };
         now = step.stage;
         used += step.used;
     }
@@ -65,7 +73,7 @@ fn take(
     pending: &mut Pending,
     bytes: &[u8],
     picture: &mut Picture<Colour>,
-) -> Result<Step, PaintFault>
+) -> Result<Step, Flaw>
     requires place { IsPaintable picture.old rectangle.now.rect }
     requires some { 0 < length bytes.now }
     requires left { is_ended rectangle.now.rect stage ≡ false }
@@ -76,7 +84,7 @@ fn take(
 {
     match stage {
         Stage::BeforeSource => copy_rect::take_source(rectangle, pending, bytes, picture),
-        Stage::Copied => unreachable!(),
+        Stage::Copied { .. } => unreachable!(),
         Stage::InPixels { at } => Ok(raw::take_run(rectangle, at, pending, bytes, picture)),
         Stage::BeforeHead => Ok(rre::take_head(rectangle, pending, bytes, picture)),
         Stage::InSubrects { left } => {

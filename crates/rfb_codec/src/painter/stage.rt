@@ -14,8 +14,8 @@ pub struct Place {
 pub enum Stage {
     /// CopyRect: the source.
     BeforeSource,
-    /// CopyRect: nothing, since the source was copied.
-    Copied,
+    /// CopyRect: nothing, since the source was copied. Its corner lies there on the picture.
+    Copied { x: u16, y: u16 },
     /// Raw: the pixel of this place.
     InPixels { at: Place },
     /// RRE: the number of subrectangles, and the background.

@@ -10,6 +10,7 @@ use std::process::Abort;
 use std::test::Fail;
 
 mod cuts;
+mod flaws;
 mod hextile;
 mod hostile;
 mod many;

@@ -9,7 +9,7 @@ ghost use Rattle.rfb_codec.specs.Rre.{subrect_of};
 ghost use Rattle.rfb_codec.specs.inside.Step.{IsPaintable, Takes, Steps, DrawsSubrect};
 
 use super::read::read;
-use crate::fault::PaintFault;
+use crate::fault::{Flaw, PaintFault};
 use crate::painter::fill::fill;
 use crate::painter::gather::{Pending, gather};
 use crate::painter::rectangle::Rectangle;
@@ -62,7 +62,7 @@ pub fn take_subrect(
     pending: &mut Pending,
     bytes: &[u8],
     picture: &mut Picture<Colour>,
-) -> Result<Step, PaintFault>
+) -> Result<Step, Flaw>
     requires place { IsPaintable picture.old rectangle.now.rect }
     requires left { 0 < left }
     requires short { array_vec_len pending.old < size_of rectangle.now.format + 8 }
@@ -83,7 +83,10 @@ pub fn take_subrect(
     }
     let drawn = draw_subrect(rectangle, pending.as_slice(), picture);
     pending.clear();
-    drawn?;
+    match drawn {
+        Ok(()) => {}
+        Err(fault) => return Err(Flaw { used, fault }),
+    }
     Ok(Step {
         used,
         stage: Stage::InSubrects { left: left - 1 },
@@ -97,7 +100,7 @@ fn take_whole(
     left: u32,
     bytes: &[u8],
     picture: &mut Picture<Colour>,
-) -> Result<Step, PaintFault>
+) -> Result<Step, Flaw>
     requires place { IsPaintable picture.old rectangle.now.rect }
     requires left { 0 < left }
     requires one { size_of rectangle.now.format + 8 ≤ length bytes.now }
@@ -123,7 +126,7 @@ fn take_each(
     left: u32,
     bytes: &[u8],
     picture: &mut Picture<Colour>,
-) -> Result<Step, PaintFault>
+) -> Result<Step, Flaw>
     requires place { IsPaintable picture.old rectangle.now.rect }
     requires left { 0 < left }
     requires one { size_of rectangle.now.format + 8 ≤ length bytes.now }
@@ -135,7 +138,15 @@ fn take_each(
     let mut used = 0;
     'parts: while rest > 0 && bytes.len() - used >= length {
         prove!(rectangle.lies_in(picture));
-        draw_subrect(rectangle, &bytes[used..used + length], picture)?;
+        match draw_subrect(rectangle, &bytes[used..used + length], picture) {
+            Ok(()) => {}
+            Err(fault) => {
+                return Err(Flaw {
+                    used: used + length,
+                    fault,
+                });
+            }
+        }
         used += length;
         rest -= 1;
     }

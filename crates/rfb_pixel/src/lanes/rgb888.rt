@@ -7,7 +7,7 @@ ghost use Rattle.rfb_pixel.specs.Format.{AreColours, pixel_of, rgb888};
 ghost use Rattle.rfb_pixel.specs.inside.Lanes.{colours_in};
 
 use crate::colour::Colour;
-use crate::lanes::{read_eight, write_eight};
+use crate::lanes::{components_of, read_eight, write_eight};
 use std::simd::{u8x16, u8x32, u16x8, u32x8};
 
 /// Writes the colours of eight pixels of rgb888. A component has its byte twice.
@@ -25,14 +25,6 @@ pub fn unpack_eight_rgb888(bytes: &[u8], colours: &mut [Colour])
     let y = components_of(middle.swizzle([0, 0, 6, 6, 5, 5, 4, 4, 10, 10, 9, 9, 8, 8, 14, 14]));
     let z = components_of(back.swizzle([5, 5, 4, 4, 10, 10, 9, 9, 8, 8, 14, 14, 13, 13, 12, 12]));
     write_eight(x, y, z, colours);
-}
-
-// Eight components of two bytes each, the lower byte first.
-#[inline(always)]
-fn components_of(bytes: u8x16) -> [u16; 8]
-    ensures { (k : ℕ) → k < 8 → slice_index result k ≡ little_number 2 (drop (2 * k) bytes) }
-{
-    u16x8::from_le_bytes(bytes).to_array()
 }
 
 /// The pixel values of eight colours in rgb888.

@@ -2,7 +2,7 @@
 
 ghost use Rattle.std.specs.Prelude.{◌≡◌, ◌↔◌, length, OnOk, OnErr, IsErr};
 
-use crate::drawing::row_area;
+use crate::drawing::Drawing;
 use crate::fault::Outside;
 use crate::server::Server;
 use rfb_picture::Rect;
@@ -13,6 +13,25 @@ impl Server {
     ghost use Rattle.rfb_server.specs.Standing.{screen_of, row_from, AreOf, HoldsBoth, Draws};
     ghost use Rattle.rfb_server.specs.Standing.{Keeps};
     ghost use Rattle.rfb_server.specs.Hints.{hints_of, with_hint, scroll_hint};
+    ghost use Rattle.rfb_server.specs.Drawing.{IsInside, drawn_by, hint_of, stroke, with_hint_of};
+
+    /// Draws on the screen, or gives the session a hint. Refused is a drawing that leaves the
+    /// screen, and one that has not one colour for each of its places; then nothing changes. What
+    /// it draws stays the caller's. The calls below are each one of these.
+    pub fn draw(&mut self, drawing: &Drawing<'_>) -> Result<(), Outside>
+        ensures refused { IsErr result
+            ↔ (IsInside (screen_of self.old) (stroke drawing.now) → ⊥) }
+        ensures kept { OnErr result (self.new ≡ self.old) }
+        ensures drawn { OnOk result
+            (Draws (drawn_by (stroke drawing.now) (screen_of self.old)) self.old self.new) }
+        ensures hints { OnOk result (hints_of self.new
+            ≡ with_hint_of (hint_of (stroke drawing.now)) (hints_of self.old)) }
+    {
+        let notice = drawing.notice(&self.screen)?;
+        self.session.notified(&notice);
+        drawing.draw_on(&mut self.screen);
+        Ok(())
+    }
 
     /// Gives one colour to a rectangle of the screen. Where the rectangle leaves the screen it is
     /// refused, and nothing changes; an empty one inside changes nothing either.
@@ -23,12 +42,7 @@ impl Server {
             (Draws (filled rect colour (screen_of self.old)) self.old self.new) }
         ensures hints { hints_of self.new ≡ hints_of self.old }
     {
-        if !self.screen.holds(rect) {
-            return Err(Outside);
-        }
-        self.session.drawn(rect);
-        self.screen.fill(rect, colour);
-        Ok(())
+        self.draw(&Drawing::Fill(rect, colour))
     }
 
     /// Gives colours to a part of row `y` of the screen, from column `x` on. Where they leave the
@@ -42,10 +56,7 @@ impl Server {
             (Draws (with_row x y row.now (screen_of self.old)) self.old self.new) }
         ensures hints { hints_of self.new ≡ hints_of self.old }
     {
-        let rect = row_area(&self.screen, x, y, row)?;
-        self.session.drawn(rect);
-        self.screen.put_row(x, y, row);
-        Ok(())
+        self.draw(&Drawing::Put(x, y, row))
     }
 
     /// Gives colours to a rectangle of the screen: `rows` has its rows from the top, one after the
@@ -59,13 +70,7 @@ impl Server {
             (Draws (with_rows rect rows.now (screen_of self.old)) self.old self.new) }
         ensures hints { hints_of self.new ≡ hints_of self.old }
     {
-        let places = usize::from(rect.h) * usize::from(rect.w);
-        if rows.len() != places || !self.screen.holds(rect) {
-            return Err(Outside);
-        }
-        self.session.drawn(rect);
-        self.screen.put_rows(rect, rows);
-        Ok(())
+        self.draw(&Drawing::Rows(rect, rows))
     }
 
     /// Gives each place of `dst` what its place of the rectangle of that size at (`sx`, `sy`) had,
@@ -79,17 +84,7 @@ impl Server {
             (Draws (copied dst sx sy (screen_of self.old)) self.old self.new) }
         ensures hints { hints_of self.new ≡ hints_of self.old }
     {
-        let source = Rect {
-            x: sx,
-            y: sy,
-            ..dst
-        };
-        if !self.screen.holds(dst) || !self.screen.holds(source) {
-            return Err(Outside);
-        }
-        self.session.drawn(dst);
-        self.screen.copy(dst, sx, sy);
-        Ok(())
+        self.draw(&Drawing::Copy(dst, sx, sy))
     }
 
     /// Moves all that lies in the rectangle `dx` columns to the right and `dy` rows down, or to the
@@ -104,12 +99,7 @@ impl Server {
         ensures hints { OnOk result (hints_of self.new
             ≡ with_hint (scroll_hint rect dx dy) (hints_of self.old)) }
     {
-        if !self.screen.holds(rect) {
-            return Err(Outside);
-        }
-        let (to, from) = rect.scrolled(dx, dy);
-        self.copy(to, from.x, from.y)?;
-        self.hint(to, from.x, from.y)
+        self.draw(&Drawing::Scroll(rect, dx, dy))
     }
 
     /// Says that the rectangle `dst` looks as the one of its size at (`sx`, `sy`) did when it was
@@ -124,6 +114,6 @@ impl Server {
         ensures hints { OnOk result (hints_of self.new
             ≡ with_hint (record { to = dst; sx = sx; sy = sy }) (hints_of self.old)) }
     {
-        self.session.hint(dst, sx, sy)
+        self.draw(&Drawing::Hint(dst, sx, sy))
     }
 }

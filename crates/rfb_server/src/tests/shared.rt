@@ -5,7 +5,7 @@ ghost use Rattle.rfb_picture.specs.Grid.{Grid, IsGrid};
 ghost use Rattle.rfb_pixel.specs.declared.colour.Colour.{Colour};
 ghost use Rattle.rfb_server.specs.Following.{Follows};
 
-use crate::Session;
+use crate::{Drawing, Session};
 use rfb_hello::Version;
 use rfb_picture::{Picture, Rect};
 use rfb_pixel::Colour;
@@ -140,12 +140,13 @@ impl Shared {
 
     // Both sessions are notified before it is drawn.
     fn draw(&mut self, rect: Rect, colour: Colour) -> bool {
-        if !self.screen.holds(rect) {
+        let fill = Drawing::Fill(rect, colour);
+        let Ok(notice) = fill.notice(&self.screen) else {
             return false;
-        }
-        self.first.drawn(rect);
-        self.second.drawn(rect);
-        self.screen.fill(rect, colour);
+        };
+        self.first.notified(&notice);
+        self.second.notified(&notice);
+        fill.draw_on(&mut self.screen);
         true
     }
 

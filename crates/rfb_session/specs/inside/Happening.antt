@@ -1,5 +1,5 @@
 -- What an event makes of a world, of which each fact is a clause of `World::step`.
-use Rattle.std.specs.Prelude.{◌≡◌, ◌⊎◌, false}
+use Rattle.std.specs.Prelude.{◌⊎◌}
 use Rattle.rfb_session.specs.declared.event.Event.{Event}
 use Rattle.rfb_session.specs.declared.told.Told.{Told}
 use Rattle.rfb_session.specs.declared.world.World.{World}
@@ -19,9 +19,3 @@ pub record Happens (old : World) (event : Event) (told : Told) (new : World) : T
 pub record TakesNoMemory (world : World) (event : Event) : Type 0 where
   pub case : IsDrawing event
       ⊎ (IsRefused world event ⊎ (IsLost world event ⊎ ComposesNothing world event))
-
--- what is answered to a drawing, or a hint, but for its refusal
-pub record TellsDrawing (old : World) (told : Told) (new : World) : Type 0 where
-  pub moved : told.moved ≡ 0
-  pub composed : told.composed ≡ false
-  pub closed : new.closed ≡ old.closed

@@ -9,12 +9,12 @@ use std::io;
 /// A source and a sink that were lent, as one wire. A step of it is a call of one of them, by what
 /// that one tells.
 #[derive(Drop)]
-pub(super) struct Pair<'a, R, W> {
-    pub(super) source: &'a mut R,
-    pub(super) sink: &'a mut W,
+pub struct Pair<'r, 'w, R, W> {
+    pub source: &'r mut R,
+    pub sink: &'w mut W,
 }
 
-impl<'a, R: Source, W: Sink> Wire for Pair<'a, R, W> {
+impl<R: Source, W: Sink> Wire for Pair<'_, '_, R, W> {
     ghost known = { λ p. known_of_both (R.unread p.source.now) (R.failed p.source.now)
         (W.written p.sink.now) (W.failed p.sink.now) p.source.ghost_name p.sink.ghost_name };
 

@@ -1,18 +1,23 @@
 //! Recorded bytes of a server, played to a viewer.
 
-ghost use Rattle.std.specs.Prelude.{◌≡◌, ◌<◌, ◌+◌, ◌-◌, ◌^◌, length, min, true, IfOk, IfErr, OnOk};
-ghost use Rattle.rfb_wire.specs.stream.End.{StaysFailed};
+ghost use Rattle.std.specs.Prelude.{◌≡◌, ◌≤◌, ◌<◌, ◌-◌, ◌^◌, None, true};
+ghost use Rattle.std.specs.Prelude.{IfOk, IfErr, IfSome, OnOk};
 ghost use Rattle.rfb_session.specs.Failed.{StaysUnfed};
 ghost use Rattle.rfb_session.specs.Playing.{AllPlayed, StopsPlaying};
+ghost use Rattle.rfb_session.specs.PlayingSome.{AreEnough, AreFewer, AreNoMore, PlayedFirst};
+ghost use Rattle.rfb_session.specs.PlayingSome.{StopsPlayingSome, StopsPlayingUpTo};
 ghost use Rattle.rfb_session.specs.Verdict.{JudgesAll};
-ghost use Rattle.rfb_session.specs.Watching.{EndsWithin, IsWatched, StandsBetween, ends_told};
+ghost use Rattle.rfb_session.specs.Watcher.{EndsPlaying, HearsRead};
+ghost use Rattle.rfb_session.specs.Watching.{StandsBetween};
 ghost use Rattle.rfb_viewer.specs.Standing.{fault_of};
-ghost use Rattle.rfb_viewer.specs.Told.{seen};
 
-use crate::engine::UPDATE_READ_SIZE;
+mod feeding;
+
 use crate::engine::device::Source;
 use crate::engine::fault::EngineFault;
-use rfb_viewer::{Viewer, ViewerEvent, ViewerFault};
+use crate::engine::watcher::{Unwatched, Watcher};
+use feeding::{are_enough, feed_all};
+use rfb_viewer::Viewer;
 
 /// Feeds a fresh viewer what `source` gives, until it ends, and tells how many updates ended, as
 /// many as a `u64` has. What the viewer answers is dropped. It gives `Truncated` where the bytes
@@ -35,79 +40,80 @@ pub fn play<R: Source>(source: &mut R, viewer: &mut Viewer) -> Result<u64, Engin
     ensures verdict { JudgesAll (R.unread source.old) (R.failed source.old) (R.failed source.new)
         viewer.old result viewer.new }
 {
-    let updates = match feed_all(source, viewer) {
-        Ok(updates) => updates,
-        Err(fault) => return Err(fault),
-    };
-    if !viewer.between() {
-        return Err(EngineFault::Truncated);
-    }
-    Ok(updates)
+    play_watched(source, viewer, None, &mut Unwatched)
 }
 
-// Feeds a viewer what `source` gives, until it ends.
-fn feed_all<R: Source>(source: &mut R, viewer: &mut Viewer) -> Result<u64, EngineFault>
+/// `play` that stops once `updates` updates ended, at least one, and returns their number then: it
+/// feeds no byte after the last of them. Where fewer end it is as `play`.
+pub fn play_some<R: Source>(
+    source: &mut R,
+    viewer: &mut Viewer,
+    updates: u64,
+) -> Result<u64, EngineFault>
     requires countable { R.failed source.old < 2 ^ 64 - 1 }
-    ensures played { IfOk result (λ updates. AllPlayed
+    requires some { 1 ≤ updates }
+    ensures few { IfOk result (λ told. told ≤ updates) }
+    ensures first { IfOk result (λ told. told ≡ updates → PlayedFirst
         (R.unread source.old) (R.unread source.new) viewer.old updates viewer.new) }
+    ensures played { IfOk result (λ told. told < updates → AllPlayed
+        (R.unread source.old) (R.unread source.new) viewer.old told viewer.new) }
+    ensures between { IfOk result (λ told. told < updates → StandsBetween viewer.new true) }
     ensures none_failed { OnOk result (R.failed source.new ≡ R.failed source.old) }
-    ensures stopped { IfErr result (λ fault. StopsPlaying
+    ensures stopped { IfErr result (λ fault. StopsPlayingSome
+        (R.unread source.old) (R.unread source.new) (R.failed source.old) (R.failed source.new)
+        viewer.old updates fault viewer.new) }
+    // Of a viewer that had failed.
+    ensures failed { StaysUnfed (λ f. EngineFault.Viewer f) (Err EngineFault.Truncated)
+        (fault_of viewer.old) (R.unread source.old) (R.unread source.new)
+        viewer.old result viewer.new }
+{
+    play_watched(source, viewer, Some(updates), &mut Unwatched)
+}
+
+/// `play` with somebody who watches; or `play_some`, where a number of updates is given. The watcher
+/// hears of every event that the viewer tells it of, before its next byte is fed, also of those
+/// before a fault.
+pub fn play_watched<R: Source, A: Watcher>(
+    source: &mut R,
+    viewer: &mut Viewer,
+    updates: Option<u64>,
+    watcher: &mut A,
+) -> Result<u64, EngineFault>
+    requires countable { R.failed source.old < 2 ^ 64 - 1 }
+    requires some { IfSome updates (λ count. 1 ≤ count) }
+    // What the watcher heard.
+    ensures heard { HearsRead A.steps (EndsPlaying updates result viewer.new)
+        (R.unread source.old) (R.unread source.new) viewer.old watcher.old watcher.new }
+
+    // The bytes, as `play` and `play_some` have them.
+    ensures few { IfOk result (λ told. AreNoMore updates told) }
+    ensures first { IfOk result (λ told. AreEnough updates told → PlayedFirst
+        (R.unread source.old) (R.unread source.new) viewer.old told viewer.new) }
+    ensures played { IfOk result (λ told. AreFewer updates told → AllPlayed
+        (R.unread source.old) (R.unread source.new) viewer.old told viewer.new) }
+    ensures between { IfOk result (λ told. AreFewer updates told → StandsBetween viewer.new true) }
+    ensures none_failed { OnOk result (R.failed source.new ≡ R.failed source.old) }
+    ensures stopped { IfErr result (λ fault. StopsPlayingUpTo updates
         (R.unread source.old) (R.unread source.new) (R.failed source.old) (R.failed source.new)
         viewer.old fault viewer.new) }
-    ensures failed { StaysUnfed (λ f. EngineFault.Viewer f) (Ok 0) (fault_of viewer.old)
-        (R.unread source.old) (R.unread source.new) viewer.old result viewer.new }
+    // Of a viewer that had failed.
+    ensures failed { StaysUnfed (λ f. EngineFault.Viewer f) (Err EngineFault.Truncated)
+        (fault_of viewer.old) (R.unread source.old) (R.unread source.new)
+        viewer.old result viewer.new }
+    // Where all are played, all of the bytes are answered by their verdict.
+    ensures verdict { updates ≡ None → JudgesAll (R.unread source.old) (R.failed source.old)
+        (R.failed source.new) viewer.old result viewer.new }
 {
-    let mut part = [0; UPDATE_READ_SIZE];
-    let mut updates = 0;
-    // Each turn reads a byte or is the last, so these are never all of them.
-    for _turn in 0..u64::MAX {
-        let Ok(count) = source.read(&mut part) else {
-            return Err(EngineFault::Device);
-        };
-        if count == 0 {
-            return Ok(updates);
-        }
-        match watch(&part[..count], viewer, updates) {
-            Ok(more) => updates = more,
-            Err(fault) => return Err(EngineFault::Viewer(fault)),
-        }
-    }
-    Ok(updates)
-}
-
-// Feeds a viewer all of these bytes, and counts the updates that they end, after those before.
-fn watch(bytes: &[u8], viewer: &mut Viewer, before: u64) -> Result<u64, ViewerFault>
-    ensures watched { IfOk result (λ updates.
-        IsWatched viewer.old bytes.now before updates viewer.new) }
-    ensures stopped { IfErr result (λ fault. EndsWithin viewer.old bytes.now fault viewer.new) }
-    ensures failed { 0 < length bytes.now →
-        StaysFailed (fault_of viewer.old) viewer.old result viewer.new }
-{
-    let mut rest = bytes;
-    let mut updates = before;
-    while !rest.is_empty() {
-        match viewer.feed(rest) {
-            Ok(fed) => {
-                rest = &rest[fed.used..];
-                updates = count(&fed.event, updates);
+    match feed_all(source, viewer, updates, watcher) {
+        Ok(told) => {
+            if are_enough(told, updates) {
+                return Ok(told);
             }
-            Err(fault) => return Err(fault),
+            if !viewer.between() {
+                return Err(EngineFault::Truncated);
+            }
+            Ok(told)
         }
-    }
-    Ok(updates)
-}
-
-// `updates`, and one more where the event is the end of one.
-pub(super) fn count(event: &Option<ViewerEvent>, updates: u64) -> u64
-    ensures { result ≡ min (updates + ends_told (seen event.now)) (2 ^ 64 - 1) }
-{
-    match event {
-        Some(ViewerEvent::UpdateDone) => updates.saturating_add(1),
-        Some(ViewerEvent::Reply(_))
-        | Some(ViewerEvent::Ready { .. })
-        | Some(ViewerEvent::Bell)
-        | Some(ViewerEvent::CutText { .. })
-        | Some(ViewerEvent::ColourMapSkipped)
-        | None => updates,
+        Err(fault) => Err(fault),
     }
 }

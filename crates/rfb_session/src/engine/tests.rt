@@ -9,6 +9,7 @@ mod serving;
 mod streams;
 mod turns;
 mod viewing;
+mod watching;
 
 use rfb_hello::Version;
 use rfb_picture::Rect;

@@ -7,6 +7,8 @@ ghost use Rattle.rfb_session.specs.Failed.{FailsAgain, StaysUnfed};
 ghost use Rattle.rfb_session.specs.Looking.{HasLooked, Looks, StopsLooking};
 ghost use Rattle.rfb_session.specs.ViewEngine.{HasViewed, StopsViewing};
 ghost use Rattle.rfb_session.specs.ViewOrder.{StopsViewInOrder, ViewsInOrder};
+ghost use Rattle.rfb_session.specs.Watcher.{EndsLooking, EndsViewing, HearsDown, HearsOf};
+ghost use Rattle.rfb_session.specs.Watcher.{HearsRead};
 ghost use Rattle.rfb_session.specs.Wire.{by_steps};
 
 mod asking;
@@ -14,6 +16,7 @@ mod asking;
 use crate::engine::UPDATE_READ_SIZE;
 use crate::engine::device::Sink;
 use crate::engine::fault::EngineFault;
+use crate::engine::watcher::{Unwatched, Watcher, tell};
 use crate::engine::whole_write::send;
 use crate::engine::wire::Wire;
 use asking::answer;
@@ -62,6 +65,57 @@ pub fn view_over<W: Wire, K: Sink>(
         viewer.old result viewer.new }
     ensures same_references { (W.known wire.new).lent ≡ (W.known wire.old).lent }
 {
+    view_watched(wire, kept, viewer, updates, &mut Unwatched)
+}
+
+/// `view_over` with somebody who watches. The watcher hears of every event that the viewer tells it
+/// of, before what is sent for it, also of those before a fault.
+pub fn view_watched<W: Wire, K: Sink, A: Watcher>(
+    wire: &mut W,
+    kept: &mut K,
+    viewer: &mut Viewer,
+    updates: u32,
+    watcher: &mut A,
+) -> Result<u32, EngineFault>
+    requires readable { (W.known wire.old).failed_reads < 2 ^ 64 - 1 }
+    requires writable { (W.known wire.old).failed_writes < 2 ^ 64 - 1 }
+    requires keepable { K.failed kept.old < 2 ^ 64 - 1 }
+    requires some { 1 ≤ updates }
+    // What the watcher heard.
+    ensures heard { HearsRead A.steps (EndsViewing updates result viewer.new)
+        (W.known wire.old).unread (W.known wire.new).unread
+        viewer.old watcher.old watcher.new }
+
+    // The order of reads and writes.
+    ensures in_order { OnOk result (ViewsInOrder W.steps wire.old (K.written kept.old) viewer.old
+        updates wire.new (K.written kept.new) viewer.new) }
+    ensures stopped_in_order { IfErr result (λ fault. StopsViewInOrder W.steps W.known
+        wire.old (K.written kept.old) (K.failed kept.old) viewer.old updates fault
+        wire.new (K.written kept.new) (K.failed kept.new) viewer.new) }
+
+    // The bytes, as `view_recording` has them.
+    ensures told { IfOk result (λ told. told ≡ updates) }
+    ensures viewed { OnOk result (HasViewed
+        (W.known wire.old).unread (W.known wire.new).unread
+        (W.known wire.old).written (W.known wire.new).written
+        (K.written kept.old) (K.written kept.new) viewer.old updates viewer.new) }
+    ensures none_failed { OnOk result
+        (((W.known wire.new).failed_reads ≡ (W.known wire.old).failed_reads)
+        × ((W.known wire.new).failed_writes ≡ (W.known wire.old).failed_writes)
+        × (K.failed kept.new ≡ K.failed kept.old)) }
+    ensures stopped { IfErr result (λ fault. StopsViewing
+        (W.known wire.old).unread (W.known wire.new).unread
+        (W.known wire.old).written (W.known wire.new).written
+        (K.written kept.old) (K.written kept.new)
+        ((W.known wire.old).failed_reads + (W.known wire.old).failed_writes + K.failed kept.old)
+        ((W.known wire.new).failed_reads + (W.known wire.new).failed_writes + K.failed kept.new)
+        viewer.old updates fault viewer.new) }
+    ensures same_reference { K.reference kept.new ≡ K.reference kept.old }
+    ensures failed { StaysUnfed (λ f. EngineFault.Viewer f) (Err EngineFault.Truncated)
+        (fault_of viewer.old) (W.known wire.old).unread (W.known wire.new).unread
+        viewer.old result viewer.new }
+    ensures same_references { (W.known wire.new).lent ≡ (W.known wire.old).lent }
+{
     let mut part = [0; UPDATE_READ_SIZE];
     let mut left = updates;
     // Each turn reads a byte or is the last, so these are never all of them.
@@ -72,7 +126,7 @@ pub fn view_over<W: Wire, K: Sink>(
         if count == 0 {
             return Err(EngineFault::Truncated);
         }
-        match look(&part[..count], wire, kept, viewer, left) {
+        match look(&part[..count], wire, kept, viewer, left, watcher) {
             Ok(0) => return Ok(updates),
             Ok(fewer) => left = fewer,
             Err(fault) => return Err(fault),
@@ -83,12 +137,13 @@ pub fn view_over<W: Wire, K: Sink>(
 
 // Feeds a viewer these bytes, up to the end of the last update that is looked for, and tells how
 // many are looked for then.
-fn look<W: Wire, K: Sink>(
+fn look<W: Wire, K: Sink, A: Watcher>(
     bytes: &[u8],
     wire: &mut W,
     kept: &mut K,
     viewer: &mut Viewer,
     before: u32,
+    watcher: &mut A,
 ) -> Result<u32, EngineFault>
     requires writable { (W.known wire.old).failed_writes < 2 ^ 64 - 1 }
     requires keepable { K.failed kept.old < 2 ^ 64 - 1 }
@@ -105,11 +160,13 @@ fn look<W: Wire, K: Sink>(
     ensures failed { 0 < length bytes.now → FailsAgain (λ f. EngineFault.Viewer f)
         (fault_of viewer.old) viewer.old result viewer.new }
     ensures same_reference { K.reference kept.new ≡ K.reference kept.old }
+    ensures heard { HearsOf A.steps (EndsLooking before result viewer.new)
+        viewer.old watcher.old bytes.now watcher.new }
 {
     let mut rest = bytes;
     let mut left = before;
     while left > 0 && !rest.is_empty() {
-        match look_once(rest, wire, kept, viewer, left) {
+        match look_once(rest, wire, kept, viewer, left, watcher) {
             Ok((used, fewer)) => {
                 rest = &rest[used..];
                 left = fewer;
@@ -120,14 +177,16 @@ fn look<W: Wire, K: Sink>(
     Ok(left)
 }
 
-// Feeds a viewer of these bytes what it takes at once, keeps that, and writes its answer, and the
-// request that is due then. It tells how many bytes it took, and how many updates are looked for.
-fn look_once<W: Wire, K: Sink>(
+// Feeds a viewer of these bytes what it takes at once, tells the watcher of it, keeps that, and
+// writes its answer, and the request that is due then. It returns how many bytes it took, and how
+// many updates are looked for.
+fn look_once<W: Wire, K: Sink, A: Watcher>(
     bytes: &[u8],
     wire: &mut W,
     kept: &mut K,
     viewer: &mut Viewer,
     left: u32,
+    watcher: &mut A,
 ) -> Result<(usize, u32), EngineFault>
     requires writable { (W.known wire.old).failed_writes < 2 ^ 64 - 1 }
     requires keepable { K.failed kept.old < 2 ^ 64 - 1 }
@@ -147,15 +206,22 @@ fn look_once<W: Wire, K: Sink>(
     ensures failed { FailsAgain (λ f. EngineFault.Viewer f)
         (fault_of viewer.old) viewer.old result viewer.new }
     ensures same_reference { K.reference kept.new ≡ K.reference kept.old }
+    ensures heard { IfOk result (λ told. HearsDown A.steps viewer.old watcher.old
+        (take told.0 bytes.now) left told.1 viewer.new watcher.new) }
+    ensures heard_so_far { IfErr result (λ fault. HearsOf A.steps
+        (EndsLooking left (Err fault) viewer.new) viewer.old watcher.old bytes.now watcher.new) }
 {
     match viewer.feed(bytes) {
-        Ok(fed) => match send(&bytes[..fed.used], kept) {
-            Ok(()) => match answer(&fed.event, left, wire, viewer) {
-                Ok(fewer) => Ok((fed.used, fewer)),
+        Ok(fed) => {
+            tell(&fed.event, viewer, watcher);
+            match send(&bytes[..fed.used], kept) {
+                Ok(()) => match answer(&fed.event, left, wire, viewer) {
+                    Ok(fewer) => Ok((fed.used, fewer)),
+                    Err(_) => Err(EngineFault::Device),
+                },
                 Err(_) => Err(EngineFault::Device),
-            },
-            Err(_) => Err(EngineFault::Device),
-        },
+            }
+        }
         Err(fault) => {
             let _ = send(bytes, kept);
             Err(EngineFault::Viewer(fault))

@@ -1,79 +1,48 @@
-//! Drawings on a hub's screen, and hints: they are everyone's.
+//! Drawings on a hub's screen: they are everyone's.
 
-ghost use Rattle.std.specs.Prelude.{◌≡◌, true, false};
-ghost use Rattle.rfb_server.specs.Standing.{HoldsBoth};
-ghost use Rattle.rfb_session.specs.declared.hub.event.HubEvent.TheVariants.{Fill, Put, Copy, Hint};
+ghost use Rattle.std.specs.Prelude.{◌≡◌, true, false, IfOk, OnOk, IsOk, IsErr};
+ghost use Rattle.rfb_server.specs.Drawing.{stroke};
 
 use crate::hub::Hub;
 use crate::hub::event::{HubFault, HubTold};
 use crate::hub::telling::{told_made, told_refused};
-use crate::slots::{draw_all, hint_all};
-use rfb_picture::{Picture, Rect};
-use rfb_pixel::Colour;
-use rfb_server::row_area;
+use crate::slots::notify_all;
+use crate::told::NoMemory;
+use rfb_server::Drawing;
 
 impl Hub {
-    ghost use Rattle.rfb_session.specs.HubSteps.{HubSteps};
+    ghost use Rattle.rfb_session.specs.Hub.{HubStands, is_shut};
+    ghost use Rattle.rfb_session.specs.HubSteps.{DrawsHub};
 
-    // A rectangle of the screen gets one colour. Every session is notified before it is drawn.
-    pub(super) fn fill(&mut self, rect: Rect, colour: Colour) -> HubTold
-        ensures { HubSteps self.old (Fill rect colour) result self.new }
+    /// Draws on the screen, once, and tells every session; or gives each a hint. It tells the
+    /// refusal of a drawing that leaves the screen, or has not one colour for each of its places:
+    /// then nothing changes. It takes no memory. A hub that is closed answers so again.
+    pub fn draw(&mut self, drawing: &Drawing<'_>) -> Result<HubTold, NoMemory>
+        // What becomes of the screen and of all slots, and of the networks that they stand for.
+        ensures draws { IfOk result (λ told.
+            DrawsHub self.old (stroke drawing.now) told self.new) }
+        // Where its slots stood for networks over the screen, they do.
+        ensures stands { HubStands self.old → OnOk result (HubStands self.new) }
+        ensures spared { is_shut self.old ≡ false → IsOk result }
+        ensures closed { is_shut self.old ≡ true → IsErr result × (self.new ≡ self.old) }
     {
-        if !self.screen.holds(rect) {
-            return told_refused(HubFault::Outside);
+        if self.closed {
+            return Err(NoMemory);
         }
-        draw_all(&mut self.slots, rect);
-        self.screen.fill(rect, colour);
-        told_made()
+        Ok(self.drawn(drawing))
     }
 
-    // A part of a row gets these colours.
-    pub(super) fn put(&mut self, x: u16, y: u16, row: &Vec<Colour>) -> HubTold
-        ensures { HubSteps self.old (Put x y row.now) result self.new }
+    // The same of a hub that is not closed. Every session is notified before it is drawn.
+    pub(super) fn drawn(&mut self, drawing: &Drawing<'_>) -> HubTold
+        ensures { DrawsHub self.old (stroke drawing.now) result self.new }
     {
-        match row_area(&self.screen, x, y, row) {
+        match drawing.notice(&self.screen) {
             Err(_) => told_refused(HubFault::Outside),
-            Ok(area) => {
-                draw_all(&mut self.slots, area);
-                self.screen.put_row(x, y, row);
+            Ok(notice) => {
+                notify_all(&mut self.slots, &notice);
+                drawing.draw_on(&mut self.screen);
                 told_made()
             }
         }
     }
-
-    // A rectangle gets what another one had.
-    pub(super) fn copy(&mut self, rect: Rect, sx: u16, sy: u16) -> HubTold
-        ensures { HubSteps self.old (Copy rect sx sy) result self.new }
-    {
-        if !holds_both(&self.screen, rect, sx, sy) {
-            return told_refused(HubFault::Outside);
-        }
-        draw_all(&mut self.slots, rect);
-        self.screen.copy(rect, sx, sy);
-        told_made()
-    }
-
-    // A rectangle looks as another one did.
-    pub(super) fn hint(&mut self, rect: Rect, sx: u16, sy: u16) -> HubTold
-        ensures { HubSteps self.old (Hint rect sx sy) result self.new }
-    {
-        if !holds_both(&self.screen, rect, sx, sy) {
-            return told_refused(HubFault::Outside);
-        }
-        hint_all(&mut self.slots, rect, sx, sy);
-        told_made()
-    }
-}
-
-/// Whether the rectangle, and the one of its size at (`sx`, `sy`), lie on the screen.
-pub(crate) fn holds_both(screen: &Picture<Colour>, rect: Rect, sx: u16, sy: u16) -> bool
-    ensures inside { result ≡ true → HoldsBoth screen.now rect sx sy }
-    ensures outside { result ≡ false → HoldsBoth screen.now rect sx sy → ⊥ }
-{
-    let source = Rect {
-        x: sx,
-        y: sy,
-        ..rect
-    };
-    screen.holds(rect) && screen.holds(source)
 }

@@ -8,7 +8,7 @@ ghost use Rattle.rfb_session.specs.declared.hub.event.HubEvent.TheVariants.{Join
 
 use crate::hub::Hub;
 use crate::hub::event::{HubFault, HubTold};
-use crate::hub::seat::Seat;
+use crate::hub::seat::HubSeat;
 use crate::hub::telling::{told_made, told_refused};
 use crate::link::{Link, copy_of};
 use crate::slots::{SLOTS, empty, seat_in, taken};
@@ -40,7 +40,7 @@ impl Hub {
     }
 
     // A seat for a viewer of that setup: two fresh ends, and the session's greeting in flight.
-    fn seat_for(&self, setup: &Setup) -> Result<Seat, NoMemory>
+    fn seat_for(&self, setup: &Setup) -> Result<HubSeat, NoMemory>
         ensures { IfOk result (λ seat. IsFreshSeat self.now setup.now seat) }
     {
         let session = Session::new(
@@ -53,7 +53,7 @@ impl Hub {
         )?;
         let viewer = Viewer::of(self.alloc, setup_of(setup));
         let link = Link::new(self.alloc, session, viewer)?;
-        Ok(Seat::new(setup_of(setup), link))
+        Ok(HubSeat::new(setup_of(setup), link))
     }
 
     // The viewer of a slot goes, and what was in flight between it and its session.
@@ -89,7 +89,7 @@ impl Hub {
 }
 
 // They are in flight to the session of a seat, where there is one: it tells whether.
-fn take_foreign(slot: &mut Option<Seat>, bytes: &[u8]) -> Result<bool, NoMemory>
+fn take_foreign(slot: &mut Option<HubSeat>, bytes: &[u8]) -> Result<bool, NoMemory>
     requires few { length bytes.now ≤ 1048576 }
     ensures taken { IfOk result (λ taken. TakesOrNot taken bytes.now slot.old slot.new) }
     ensures session { OnSlot (λ a b. session_of_link b.link ≡ session_of_link a.link)

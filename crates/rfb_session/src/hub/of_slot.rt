@@ -10,7 +10,7 @@ ghost use Rattle.rfb_session.specs.declared.hub.event.HubEvent.TheVariants.{Of};
 
 use crate::hub::Hub;
 use crate::hub::event::{HubFault, HubTold, SlotEvent};
-use crate::hub::seat::Seat;
+use crate::hub::seat::HubSeat;
 use crate::hub::telling::{told_for, told_refused};
 use crate::slots::{SLOTS, empty_others};
 use crate::told::{Delivery, NoMemory};
@@ -46,7 +46,7 @@ impl Hub {
 
 // What an event of the slot is, happens there, where there is a seat.
 fn happen_in(
-    slot: &mut Option<Seat>,
+    slot: &mut Option<HubSeat>,
     event: &SlotEvent,
     screen: &Picture<Colour>,
 ) -> Result<Option<Delivery>, NoMemory>

@@ -6,6 +6,7 @@ use crate::hub::Hub;
 use crate::hub::event::HubEvent;
 use crate::told::NoMemory;
 use rfb_hello::Version;
+use rfb_server::ServerSetup as HubSetup;
 use std::alloc::Global;
 
 // How many bytes of a text each session keeps.
@@ -28,7 +29,14 @@ impl Hub {
         requires few { All HasFewHubBytes events.now }
         ensures { IfOk result (λ hub. HubPlayed width height events.now hub) }
     {
-        let mut hub = Hub::new(alloc, width, height, b"rfb", Version::V38, TEXT_LIMIT)?;
+        let setup = HubSetup {
+            width,
+            height,
+            name: b"rfb",
+            offer: Version::V38,
+            text_limit: TEXT_LIMIT,
+        };
+        let mut hub = Hub::of(alloc, setup)?;
         match hub.run(events) {
             Ok(()) => Ok(hub),
             Err(error) => {

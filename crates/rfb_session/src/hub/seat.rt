@@ -8,31 +8,31 @@ use crate::hub::event::SlotEvent;
 use crate::link::Link;
 use crate::slots::Follower;
 use crate::told::{Delivery, NoMemory, Told};
-use rfb_picture::{Picture, Rect};
+use rfb_picture::Picture;
 use rfb_pixel::Colour;
-use rfb_server::Outside;
-use rfb_viewer::ViewerSetup as Setup;
+use rfb_server::Notice;
+use rfb_viewer::{Call, ViewerSetup as Setup};
 
 /// A viewer that joined, with its link to a session of its own.
 #[derive(Debug, Drop)]
-pub struct Seat {
+pub struct HubSeat {
     setup: Setup,
     link: Link,
     // Whether bytes that the viewer did not send were put in flight to the session.
     foreign: bool,
 }
 
-impl Seat {
+impl HubSeat {
     ghost use Rattle.rfb_server.specs.Following.{Follows};
     ghost use Rattle.rfb_session.specs.LinkStanding.{session_of_link};
     ghost use Rattle.rfb_session.specs.HubSeats.{SeatDoes, SeatSpares, HasFewSlotBytes};
     ghost use Rattle.rfb_session.specs.HubSeats.{IsSeated, TakesForeign};
 
     /// A viewer of this setup takes a seat, with its link.
-    pub(crate) fn new(setup: Setup, link: Link) -> Seat
+    pub(crate) fn new(setup: Setup, link: Link) -> HubSeat
         ensures { IsSeated setup link result }
     {
-        Seat {
+        HubSeat {
             setup,
             link,
             foreign: false,
@@ -71,14 +71,30 @@ impl Seat {
         ensures spared { SeatSpares screen.now self.old event.now → IsOk result }
     {
         match event {
-            SlotEvent::Request(incremental, rect) => {
-                Ok(alone(self.link.request(*incremental, *rect)?))
+            SlotEvent::Request(incremental, rect) => Ok(alone(
+                self.link.call(&Call::Request {
+                    incremental: *incremental,
+                    rect: *rect,
+                })?,
+            )),
+            SlotEvent::SetFormat(format) => Ok(alone(self.link.call(&Call::SetFormat(*format))?)),
+            SlotEvent::SetEncodings(encodings) => {
+                Ok(alone(self.link.call(&Call::SetEncodings(encodings))?))
             }
-            SlotEvent::SetFormat(format) => Ok(alone(self.link.set_format(*format)?)),
-            SlotEvent::SetEncodings(encodings) => Ok(alone(self.link.set_encodings(encodings)?)),
-            SlotEvent::Key(down, key) => Ok(alone(self.link.key(*down, *key)?)),
-            SlotEvent::Pointer(buttons, x, y) => Ok(alone(self.link.pointer(*buttons, *x, *y)?)),
-            SlotEvent::CutText(text) => Ok(alone(self.link.cut_text(text)?)),
+            SlotEvent::Key(down, key) => Ok(alone(
+                self.link.call(&Call::Key {
+                    down: *down,
+                    key: *key,
+                })?,
+            )),
+            SlotEvent::Pointer(buttons, x, y) => Ok(alone(
+                self.link.call(&Call::Pointer {
+                    buttons: *buttons,
+                    x: *x,
+                    y: *y,
+                })?,
+            )),
+            SlotEvent::CutText(text) => Ok(alone(self.link.call(&Call::CutText(text))?)),
             SlotEvent::Compose => Ok(alone(self.link.compose(screen)?)),
             SlotEvent::ToServer(count) => self.link.deliver_to_session(*count),
             SlotEvent::ToViewer(count) => Ok(alone(self.link.move_to_viewer(*count)?)),
@@ -86,29 +102,18 @@ impl Seat {
     }
 }
 
-impl Follower for Seat {
+impl Follower for HubSeat {
     ghost use Rattle.rfb_picture.specs.Grid.{Holds};
     ghost use Rattle.rfb_server.specs.Standing.{notes_in};
     ghost use Rattle.rfb_session.specs.LinkStanding.{session_of_link};
-    ghost use Rattle.rfb_session.specs.HubSeats.{IsHintable, IsDrawnOn, IsHintedOn};
+    ghost use Rattle.rfb_session.specs.HubSeats.{IsNotifiedOn};
 
-    ghost Drawable = { λ rect seat. Holds (notes_in (session_of_link seat.link)).known rect };
+    ghost Notifiable = { λ rect seat. Holds (notes_in (session_of_link seat.link)).known rect };
 
-    ghost Hintable = { λ rect sx sy seat. IsHintable rect sx sy seat };
+    ghost Notified = { λ notice a b. IsNotifiedOn notice a b };
 
-    ghost Drawn = { λ rect a b. IsDrawnOn rect a b };
-
-    ghost Hinted = { λ rect sx sy a b. IsHintedOn rect sx sy a b };
-
-    fn drawn(&mut self, rect: Rect) {
-        self.link.drawn(rect);
-    }
-
-    fn hint(&mut self, rect: Rect, sx: u16, sy: u16) {
-        match self.link.hint(rect, sx, sy) {
-            Ok(()) => {}
-            Err(Outside) => {}
-        }
+    fn notified(&mut self, notice: &Notice) {
+        self.link.notified(notice);
     }
 }
 

@@ -15,6 +15,7 @@ use arrayvec::ArrayVec;
 use rfb_hello::Version;
 use rfb_picture::Rect;
 use rfb_pixel::{Colour, Format};
+use rfb_server::ServerSetup as HubSetup;
 use rfb_viewer::ViewerSetup as Setup;
 use rfb_wire::Encoding;
 use std::alloc::{AllocError, Global};
@@ -62,7 +63,11 @@ fn raw() -> ArrayVec<Encoding, 4> {
 fn hub_of(alloc: Global, width: u16) -> Result<Hub, AllocError>
     requires { width ≤ 4096 }
 {
-    Hub::new(alloc, width, 1, &NAME, Version::V38, 16)
+    let setup = HubSetup {
+        text_limit: 16,
+        ..HubSetup::usual(width, 1, &NAME)
+    };
+    Hub::of(alloc, setup)
 }
 
 // What an event is answered; `None` is want of memory.

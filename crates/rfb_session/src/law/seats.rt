@@ -4,7 +4,7 @@ ghost use Rattle.std.specs.Prelude.{◌≡◌, ℕ, List, [], ◌++◌, take, Op
 ghost use Rattle.rfb_server.specs.Server.{Serving};
 ghost use Rattle.rfb_session.specs.declared.share.Share.{Share};
 ghost use Rattle.rfb_session.specs.declared.share.event.Composing.{Composing};
-ghost use Rattle.rfb_session.specs.declared.share.event.Drawing.{Drawing};
+ghost use Rattle.rfb_server.specs.Drawing.{Stroke};
 ghost use Rattle.rfb_session.specs.declared.share.event.Heard.{Heard};
 ghost use Rattle.rfb_session.specs.declared.share.event.ShareFault.{ShareFault};
 ghost use Rattle.rfb_session.specs.Share.{seat_in, screen_of, serving_in, waits_at};
@@ -19,8 +19,8 @@ ghost use Rattle.rfb_session.specs.ShareSteps.{WritesAs, ComposesAs, WantsRoomAs
 pub fn a_seat_lives_as_its_calls_say()
     ensures joined { (old new : Share) (joined : Option ℕ) (k : ℕ) →
         JoinsAs old joined new → joined ≡ Some k → LivesAt (serving_in old) new k [] [] }
-    ensures drawn { (serving : Serving) (old new : Share) (drawing : Drawing) (k : ℕ)
-        (heard taken : List ℕ) → DrawsOn old drawing new →
+    ensures drawn { (serving : Serving) (old new : Share) (s : Stroke) (k : ℕ)
+        (heard taken : List ℕ) → DrawsOn old s new →
         LivesAt serving old k heard taken → LivesAt serving new k heard taken }
     ensures received { (serving : Serving) (old new : Share) (k : ℕ) (bytes : List ℕ) (told : Heard)
         (heard taken : List ℕ) → ReceivesAs old k bytes told new →

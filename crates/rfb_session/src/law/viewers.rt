@@ -22,7 +22,7 @@ ghost use Rattle.rfb_viewer.specs.Viewer.{viewer as viewer_end};
 ghost use Rattle.rfb_session.specs.declared.event.Event.{Event};
 ghost use Rattle.rfb_session.specs.declared.share.Share.{Share};
 ghost use Rattle.rfb_session.specs.declared.share.event.Composing.{Composing};
-ghost use Rattle.rfb_session.specs.declared.share.event.Drawing.{Drawing};
+ghost use Rattle.rfb_server.specs.Drawing.{Stroke, IsInside};
 ghost use Rattle.rfb_session.specs.declared.share.event.Heard.{Heard};
 ghost use Rattle.rfb_session.specs.declared.share.event.ShareFault.{ShareFault};
 ghost use Rattle.rfb_session.specs.declared.share.event.ShareFault.TheVariants.{Session};
@@ -31,7 +31,7 @@ ghost use Rattle.rfb_session.specs.InFlight.{AreMade, viewer_reply};
 ghost use Rattle.rfb_session.specs.Link.{Ends};
 ghost use Rattle.rfb_session.specs.Network.{Network};
 ghost use Rattle.rfb_session.specs.Share.{screen_of, serving_in, waits_at, fault_in};
-ghost use Rattle.rfb_session.specs.ShareSteps.{JoinsAs, IsInside, DrawsOn, ReceivesAs, RefusesAs};
+ghost use Rattle.rfb_session.specs.ShareSteps.{JoinsAs, DrawsOn, ReceivesAs, RefusesAs};
 ghost use Rattle.rfb_session.specs.ShareSteps.{WritesAs, ComposesAs, WantsRoomAs, LeavesAs};
 ghost use Rattle.rfb_session.specs.ShareViewers.{IsWatchedBy, Watches, StaysWatched};
 ghost use Rattle.rfb_session.specs.ShareViewers.{Requests, AsksFormat, MaySend, plain_message};
@@ -45,8 +45,8 @@ pub fn a_seat_goes_on_as_a_link()
     ensures joined { (e : Ends) (old new : Share) (joined : Option ℕ) (k : ℕ) (viewer : Viewer) →
         e.serving ≡ serving_in old → ViewerStandsFor e.viewing viewer first_viewer [] →
         JoinsAs old joined new → joined ≡ Some k → Watches e new k viewer [] [] }
-    ensures drawn { (e : Ends) (old new : Share) (drawing : Drawing) (k : ℕ) (viewer : Viewer)
-        (to_server on_way : List ℕ) → IsInside (screen_of old) drawing → DrawsOn old drawing new →
+    ensures drawn { (e : Ends) (old new : Share) (s : Stroke) (k : ℕ) (viewer : Viewer)
+        (to_server on_way : List ℕ) → IsInside (screen_of old) s → DrawsOn old s new →
         Watches e old k viewer to_server on_way → Watches e new k viewer to_server on_way }
     ensures received { (e : Ends) (old new : Share) (k : ℕ) (bytes : List ℕ) (told : Heard)
         (viewer : Viewer) (to_server later on_way : List ℕ) → AreMade e →

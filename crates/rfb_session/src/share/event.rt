@@ -1,22 +1,11 @@
-//! What can be drawn on a share, and what its calls tell.
+//! What the calls of a share tell.
 
-use rfb_picture::Rect;
-use rfb_pixel::Colour;
+ghost use Rattle.std.specs.Prelude.{◌≡◌, true, false};
+
+use crate::seat::Seat;
+use crate::seats::Seats;
 use rfb_server::ServerFault;
 use thiserror::Error;
-
-/// One drawing on the screen of a share, or a hint.
-#[derive(Debug, Drop)]
-pub enum Drawing {
-    /// A rectangle gets one colour.
-    Fill(Rect, Colour),
-    /// A part of a row gets these colours, from the column and the row on.
-    Put(u16, u16, Vec<Colour>),
-    /// A rectangle gets what the one of its size at a column and a row had.
-    Copy(Rect, u16, u16),
-    /// Every session gets the hint that a rectangle looks as the one of its size there did.
-    Hint(Rect, u16, u16),
-}
 
 /// What a viewer did.
 #[derive(Debug, Drop)]
@@ -38,20 +27,20 @@ pub enum SeatEvent {
 #[derive(Debug, Drop)]
 pub struct Heard {
     /// The seat that they were received at.
-    pub seat: u8,
+    pub seat: Seat,
     /// How many of them were taken.
     pub used: usize,
     /// What the viewer did at the last of these, if it did something that is reported.
     pub event: Option<SeatEvent>,
-    /// Bit s is set for each seat s that was emptied: this viewer asked for the screen alone.
-    pub ended: u8,
+    /// The seats that were emptied: this viewer asked for the screen alone.
+    pub ended: Seats,
 }
 
 /// Why bytes are not taken.
 #[derive(Clone, Copy, Debug, PartialEq, Eq, Error)]
 pub enum ShareFault {
-    /// The seat is above 7; or there is no viewer in it.
-    #[error("32 NoSuchSlot")]
+    /// There is no viewer in the seat.
+    #[error("32 NoSuchSeat")]
     NoSuchSeat,
     /// The seat's session has ended, by what its client did wrong or for want of memory for a text.
     #[error("{0}")]
@@ -67,6 +56,21 @@ pub enum Composing {
     NotDue,
     /// Earlier bytes wait to be written, so nothing was done.
     Waiting,
-    /// The seat is above 7; or there is no viewer in it.
+    /// There is no viewer in the seat.
     NoSuchSeat,
+}
+
+impl Composing {
+    ghost use Rattle.rfb_session.specs.ShareSteps.{IsIdle};
+
+    // Whether it found nothing to do: no update is due, or there is no viewer.
+    pub(crate) fn is_idle(self) -> bool
+        ensures idle { result ≡ true → IsIdle self }
+        ensures busy { result ≡ false → IsIdle self → ⊥ }
+    {
+        match self {
+            Composing::NotDue | Composing::NoSuchSeat => true,
+            Composing::Composed | Composing::Waiting => false,
+        }
+    }
 }

@@ -2,9 +2,10 @@
 
 ghost use Rattle.std.specs.Prelude.{◌≡◌, IfOk, IsOk, OnErr, Ok, None};
 
+use crate::seat::Seat;
 use crate::share::Share;
 use crate::share::seat::ShareSeat;
-use crate::slots::{SLOTS, empty, first_empty, seat_in};
+use crate::slots::{empty, first_empty, seat_in};
 use crate::told::NoMemory;
 use rfb_server::Session;
 
@@ -15,7 +16,7 @@ impl Share {
     /// A viewer takes the first empty seat, with a session of its own, whose greeting waits. Where
     /// all are taken it gives none. Its memory is taken before anything is changed, all that it
     /// will have but for updates and texts.
-    pub fn join(&mut self) -> Result<Option<u8>, NoMemory>
+    pub fn join(&mut self) -> Result<Option<Seat>, NoMemory>
         ensures joins { IfOk result (λ seat. JoinsAs self.old seat self.new) }
         ensures full { AllTaken self.old → result ≡ Ok None }
         ensures kept { OnErr result (self.new ≡ self.old) }
@@ -25,7 +26,9 @@ impl Share {
         };
         let seat = self.fresh_seat()?;
         seat_in(&mut self.seats[place], seat);
-        Ok(Some(place as u8))
+        let taken = Seat::at(place);
+        self.stirred = self.stirred.with(taken);
+        Ok(Some(taken))
     }
 
     // A seat with a session of this screen.
@@ -45,13 +48,9 @@ impl Share {
 
     /// The viewer of a seat goes, and with it its session and what waited. It tells whether there
     /// was one.
-    pub fn left(&mut self, seat: u8) -> bool
+    pub fn left(&mut self, seat: Seat) -> bool
         ensures { LeavesAs self.old seat result self.new }
     {
-        let place = seat as usize;
-        if place >= SLOTS {
-            return false;
-        }
-        empty(&mut self.seats[place])
+        empty(&mut self.seats[seat.place()])
     }
 }

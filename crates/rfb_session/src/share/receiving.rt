@@ -11,10 +11,12 @@ ghost use Rattle.rfb_session.specs.ShareSlots.{HearsIn, EndsIn};
 ghost use Rattle.rfb_session.specs.ShareSteps.{event_seen, seat_told};
 
 use crate::link::asks_sole;
+use crate::seat::Seat;
+use crate::seats::Seats;
 use crate::share::Share;
 use crate::share::event::{Heard, SeatEvent, ShareFault};
 use crate::share::seat::ShareSeat;
-use crate::slots::{SLOTS, empty_others};
+use crate::slots::empty_others;
 use rfb_hello::Fed;
 use rfb_server::ServerEvent;
 
@@ -29,17 +31,15 @@ impl Share {
     /// What a client did wrong comes as a fault of its seat, and want of memory for a text; so does
     /// it again at each later call, which takes nothing. What waits there goes on to wait, and no
     /// other seat is changed. No other memory is taken.
-    pub fn received(&mut self, seat: u8, bytes: &[u8]) -> Result<Heard, ShareFault>
+    pub fn received(&mut self, seat: Seat, bytes: &[u8]) -> Result<Heard, ShareFault>
         ensures used { IfOk result (λ heard. heard.used ≤ length bytes.now) }
         ensures some { IfOk result (λ heard. 0 < length bytes.now → 0 < heard.used) }
         ensures heard { IfOk result (λ heard.
             ReceivesAs self.old seat bytes.now heard self.new) }
         ensures refused { IfErr result (λ fault. RefusesAs self.old seat bytes.now fault self.new) }
     {
-        let place = seat as usize;
-        if place >= SLOTS {
-            return Err(ShareFault::NoSuchSeat);
-        }
+        let place = seat.place();
+        self.stirred = self.stirred.with(seat);
         let fed = match hear_in(&mut self.seats[place], bytes) {
             Ok(fed) => fed,
             Err(fault) => return Err(fault),
@@ -53,7 +53,7 @@ impl Share {
 }
 
 // The answer to bytes that were taken there, which emptied those seats.
-fn told_of(seat: u8, fed: Fed<ServerEvent>, ended: u8) -> Heard
+fn told_of(seat: Seat, fed: Fed<ServerEvent>, ended: u8) -> Heard
     ensures seat { result.seat ≡ seat }
     ensures used { result.used ≡ fed.used }
     ensures event { event_seen result.event ≡ seat_told (seen fed.event) }
@@ -63,7 +63,7 @@ fn told_of(seat: u8, fed: Fed<ServerEvent>, ended: u8) -> Heard
         seat,
         used: fed.used,
         event: event_of(fed.event),
-        ended,
+        ended: Seats::of_bits(ended),
     }
 }
 

@@ -12,9 +12,9 @@ use crate::slots::Follower;
 use crate::told::NoMemory;
 use arrayvec::ArrayVec;
 use rfb_hello::Fed;
-use rfb_picture::{Picture, Rect};
+use rfb_picture::Picture;
 use rfb_pixel::Colour;
-use rfb_server::{Outside, ServerEvent, ServerFault, Session};
+use rfb_server::{Notice, ServerEvent, ServerFault, Session};
 use rfb_wire::pieces::append;
 use std::alloc::Global;
 
@@ -132,24 +132,13 @@ impl ShareSeat {
 impl Follower for ShareSeat {
     ghost use Rattle.rfb_picture.specs.Grid.{Holds};
     ghost use Rattle.rfb_server.specs.Standing.{notes_in};
-    ghost use Rattle.rfb_session.specs.ShareSeats.{session_at, IsMarkedIn, IsTold, CanBeTold};
+    ghost use Rattle.rfb_session.specs.ShareSeats.{session_at, IsNotifiedIn};
 
-    ghost Drawable = { λ rect seat. Holds (notes_in (session_at seat)).known rect };
+    ghost Notifiable = { λ rect seat. Holds (notes_in (session_at seat)).known rect };
 
-    ghost Hintable = { λ rect sx sy seat. CanBeTold rect sx sy seat };
+    ghost Notified = { λ notice a b. IsNotifiedIn notice a b };
 
-    ghost Drawn = { λ rect a b. IsMarkedIn rect a b };
-
-    ghost Hinted = { λ rect sx sy a b. IsTold rect sx sy a b };
-
-    fn drawn(&mut self, rect: Rect) {
-        self.session.drawn(rect);
-    }
-
-    fn hint(&mut self, rect: Rect, sx: u16, sy: u16) {
-        match self.session.hint(rect, sx, sy) {
-            Ok(()) => {}
-            Err(Outside) => {}
-        }
+    fn notified(&mut self, notice: &Notice) {
+        self.session.notified(notice);
     }
 }

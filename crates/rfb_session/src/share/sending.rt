@@ -1,31 +1,44 @@
 //! Bytes that wait for the viewers of a share, and updates.
 
-ghost use Rattle.std.specs.Prelude.{◌≡◌, ◌≤◌, length, false, IfOk, OnErr};
+ghost use Rattle.std.specs.Prelude.{◌≡◌, ◌≤◌, ℕ, length, false, IfOk, OnErr};
 ghost use Rattle.std.specs.Option.{ForSome};
+ghost use Rattle.rfb_picture.specs.Places.{has_bit};
 ghost use Rattle.rfb_server.specs.Following.{Follows};
 ghost use Rattle.rfb_session.specs.ShareSeats.{session_at, WritesAt};
 ghost use Rattle.rfb_session.specs.ShareSlots.{ComposesIn, WantsRoomIn};
 ghost use Rattle.rfb_session.specs.Slots.{OnSlot};
 
+use crate::seat::Seat;
+use crate::seats::Seats;
 use crate::share::Share;
 use crate::share::event::Composing;
 use crate::share::seat::ShareSeat;
-use crate::slots::{SLOTS, seat_of};
+use crate::slots::seat_of;
 use crate::told::NoMemory;
 use rfb_picture::Picture;
 use rfb_pixel::Colour;
 
 impl Share {
     ghost use Rattle.rfb_session.specs.Share.{waits_at, is_update_at};
-    ghost use Rattle.rfb_session.specs.ShareSteps.{WritesAs, ComposesAs, WantsRoomAs};
+    ghost use Rattle.rfb_session.specs.ShareSteps.{WritesAs, ComposesAs, WantsRoomAs, HasNoWork};
+
+    /// The seats that may have work: bytes to write, or an update to compose. In any other nothing
+    /// waits, and composing would find none due, or no viewer; so it stays until a drawing, a hint
+    /// or a viewer's bytes. A seat of these may have none either: it goes out of the set once
+    /// composing finds nothing to do.
+    pub fn to_serve(&self) -> Seats
+        ensures { (k : ℕ) → has_bit result k ≡ false → HasNoWork self.now k }
+    {
+        self.stirred
+    }
 
     /// Lends the bytes that wait to be written to the viewer of a seat, in order; none where there
     /// is no viewer. They are answers, at most 297 bytes, or one update.
-    pub fn to_write(&self, seat: u8) -> &[u8]
+    pub fn to_write(&self, seat: Seat) -> &[u8]
         ensures value { result.now ≡ waits_at self.now seat }
         ensures few { is_update_at self.now seat ≡ false → length result.now ≤ 297 }
     {
-        match seat_of(&self.seats, seat) {
+        match seat_of(&self.seats, seat.number()) {
             Some(seat) => seat.waiting(),
             None => &[],
         }
@@ -33,14 +46,10 @@ impl Share {
 
     /// The first `count` bytes that wait there are written, or all if they are fewer. After the
     /// last of them their memory is given back.
-    pub fn written(&mut self, seat: u8, count: usize)
+    pub fn written(&mut self, seat: Seat, count: usize)
         ensures { WritesAs self.old seat count self.new }
     {
-        let place = seat as usize;
-        if place >= SLOTS {
-            return;
-        }
-        write_in(&mut self.seats[place], count);
+        write_in(&mut self.seats[seat.place()], count);
     }
 
     /// Composes an update for the viewer of a seat, if all earlier bytes there are written and one
@@ -48,15 +57,16 @@ impl Share {
     /// is answered by one update, and a viewer that does not read costs no more than what waits for
     /// it. Room is asked for once, as `Session::compose` does; where there is none nothing waits,
     /// and the update may be composed later.
-    pub fn compose(&mut self, seat: u8) -> Result<Composing, NoMemory>
+    pub fn compose(&mut self, seat: Seat) -> Result<Composing, NoMemory>
         ensures composes { IfOk result (λ told. ComposesAs self.old seat told self.new) }
         ensures wants { OnErr result (WantsRoomAs self.old seat self.new) }
     {
-        let place = seat as usize;
-        if place >= SLOTS {
-            return Ok(Composing::NoSuchSeat);
+        self.stirred = self.stirred.with(seat);
+        let told = compose_in(&mut self.seats[seat.place()], &self.screen)?;
+        if told.is_idle() {
+            self.stirred = self.stirred.without(seat);
         }
-        compose_in(&mut self.seats[place], &self.screen)
+        Ok(told)
     }
 }
 

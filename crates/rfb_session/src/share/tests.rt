@@ -1,15 +1,20 @@
 //! Shares: viewers that behave beside others that do not. The bytes are laid out as RFC 6143 has
 //! them.
 
+ghost use Rattle.std.specs.Prelude.{◌<◌};
+
 mod beside;
+mod console;
 mod cuts;
 mod seats;
+mod work;
 
 use super::Share;
-use crate::share::event::{Composing, Drawing};
-use rfb_hello::Version;
+use crate::seat::Seat;
+use crate::share::event::Composing;
 use rfb_picture::Rect;
 use rfb_pixel::Colour;
+use rfb_server::{Drawing, ServerSetup as ShareSetup};
 use std::alloc::{AllocError, Global};
 
 // Sections 7.1.1 to 7.1.3: the version, one security type, which is None, and success.
@@ -58,7 +63,7 @@ const BLUE: Colour = Colour {
 };
 
 fn share_of_two_places(alloc: Global) -> Result<Share, AllocError> {
-    Share::new(alloc, 2, 1, b"rfb", Version::V38, 16)
+    Share::of(alloc, ShareSetup::usual(2, 1, b"rfb"))
 }
 
 // Both places get the colour.
@@ -72,16 +77,23 @@ fn paint(share: &mut Share, colour: Colour) -> bool {
     share.draw(&Drawing::Fill(both, colour)).is_ok()
 }
 
-// A viewer joins: its seat, or 255 where none is free.
-fn seated(share: &mut Share) -> u8 {
+// The seat of that number.
+fn at(number: u8) -> Seat
+    requires { number < 8 }
+{
+    Seat::at(number as usize)
+}
+
+// A viewer joins: its seat, if one is free.
+fn seated(share: &mut Share) -> Option<Seat> {
     match share.join() {
-        Ok(Some(seat)) => seat,
-        _ => 255,
+        Ok(seat) => seat,
+        Err(_) => None,
     }
 }
 
 // All of these bytes are received at a seat.
-fn send(share: &mut Share, seat: u8, bytes: &[u8]) -> bool {
+fn send(share: &mut Share, seat: Seat, bytes: &[u8]) -> bool {
     let mut rest = bytes;
     while !rest.is_empty() {
         match share.received(seat, rest) {
@@ -93,7 +105,7 @@ fn send(share: &mut Share, seat: u8, bytes: &[u8]) -> bool {
 }
 
 // What waits at a seat is exactly this, and it is written.
-fn takes(share: &mut Share, seat: u8, bytes: &[u8]) -> bool {
+fn takes(share: &mut Share, seat: Seat, bytes: &[u8]) -> bool {
     let same = share.to_write(seat) == bytes;
     share.written(seat, bytes.len());
     same && share.to_write(seat).is_empty()
@@ -101,7 +113,9 @@ fn takes(share: &mut Share, seat: u8, bytes: &[u8]) -> bool {
 
 // A viewer joins, and its handshake is done.
 fn greeted(share: &mut Share, flag: &[u8]) -> bool {
-    let seat = seated(share);
+    let Some(seat) = seated(share) else {
+        return false;
+    };
     takes(share, seat, GREETING)
         && send(share, seat, CLIENT_VERSION)
         && takes(share, seat, TYPES)
@@ -112,6 +126,6 @@ fn greeted(share: &mut Share, flag: &[u8]) -> bool {
 }
 
 // Whether a composing is answered so.
-fn composes(share: &mut Share, seat: u8, told: Composing) -> bool {
+fn composes(share: &mut Share, seat: Seat, told: Composing) -> bool {
     share.compose(seat) == Ok(told)
 }

@@ -8,8 +8,8 @@ use crate::world::World;
 use arrayvec::ArrayVec;
 use rfb_hello::Version;
 use rfb_pixel::Format;
-use rfb_server::Server;
-use rfb_viewer::Viewer;
+use rfb_server::{Server, ServerSetup};
+use rfb_viewer::{Viewer, ViewerSetup};
 use rfb_wire::Encoding;
 use std::alloc::Global;
 
@@ -53,18 +53,25 @@ impl World {
         requires rows { (1 ≤ height) × (height ≤ 4096) }
         ensures { IfOk result (λ world. IsMade width height world) }
     {
-        let server = Server::new(alloc, width, height, b"rfb", Version::V38, TEXT_LIMIT)?;
+        let serving = ServerSetup {
+            width,
+            height,
+            name: b"rfb",
+            offer: Version::V38,
+            text_limit: TEXT_LIMIT,
+        };
+        let server = Server::of(alloc, serving)?;
         let mut encodings = ArrayVec::new();
         encodings.push(Encoding::Raw);
-        let viewer = Viewer::new(
-            alloc,
-            Format::rgb888(),
+        let viewing = ViewerSetup {
+            format: Format::rgb888(),
             encodings,
-            Version::V38,
-            true,
-            MAX_PLACES,
-            TEXT_LIMIT,
-        );
+            limit: Version::V38,
+            shared: true,
+            max_places: MAX_PLACES,
+            text_limit: TEXT_LIMIT,
+        };
+        let viewer = Viewer::of(alloc, viewing);
         let world = World::new(alloc, server, viewer)?;
         Ok(world)
     }

@@ -13,11 +13,10 @@ use super::World;
 use crate::event::Event;
 use crate::told::{Refused, Told};
 use arrayvec::ArrayVec;
-use rfb_hello::Version;
 use rfb_picture::Rect;
 use rfb_pixel::{Colour, Format};
-use rfb_server::Server;
-use rfb_viewer::Viewer;
+use rfb_server::{Server, ServerSetup};
+use rfb_viewer::{Viewer, ViewerSetup};
 use rfb_wire::Encoding;
 use std::alloc::{AllocError, Global};
 
@@ -74,10 +73,12 @@ fn row_of(alloc: Global, width: u16) -> Result<World, AllocError>
 {
     let mut encodings = ArrayVec::new();
     encodings.push(Encoding::Raw);
-    let format = Format::rgb888();
-    let server = Server::new(alloc, width, 1, b"rfb", Version::V38, 1024)?;
-    let viewer = Viewer::new(alloc, format, encodings, Version::V38, true, 4096, 1024);
-    World::new(alloc, server, viewer)
+    let server = Server::of(alloc, ServerSetup::usual(width, 1, b"rfb"))?;
+    let viewing = ViewerSetup {
+        encodings,
+        ..ViewerSetup::usual(Format::rgb888())
+    };
+    World::new(alloc, server, Viewer::of(alloc, viewing))
 }
 
 // The colour of a place of the row, where one is shown.

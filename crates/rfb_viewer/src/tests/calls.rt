@@ -1,6 +1,7 @@
 //! Calls of a viewer's owner: the bytes to be sent, and when they are refused.
 
 mod during;
+mod values;
 
 use super::play::{
     Call, Step, are_right, fault_at, format_fault, plays_at_rgb888, request_fault, shows_row,

@@ -27,7 +27,7 @@ const NONE_BY_SERVER: Step<'static> = Step::Feed(b"\0\0\0\x01", 4, Told::Reply(b
 
 const NONE_BY_VIEWER: Step<'static> = Step::Feed(b"\x01\x01", 2, Told::Reply(b"\x01"));
 
-const IS_READY: Step<'static> = Step::Feed(INIT, 25, Told::Ready(b"t", 1));
+const IS_READY: Step<'static> = Step::Feed(INIT, 25, Told::Ready(2, 1, b"t", 1));
 
 const STEP_BY_STEP: &[Step<'static>] = &[
     V38,
@@ -38,7 +38,7 @@ const STEP_BY_STEP: &[Step<'static>] = &[
     Step::Blank(true),
     Step::Feed(b"\x01", 1, Told::Nothing),
     Step::Shows(&[BLACK, BLACK]),
-    Step::Feed(b"t", 1, Told::Ready(b"t", 1)),
+    Step::Feed(b"t", 1, Told::Ready(2, 1, b"t", 1)),
     Step::Shows(&[BLACK, BLACK]),
 ];
 
@@ -91,13 +91,13 @@ const NAMES: &[&[Step<'static>]] = &[
         V33,
         NONE_BY_SERVER,
         Step::Feed(INIT_SCREEN, 20, Told::Nothing),
-        Step::Feed(b"\0\0\0\0", 4, Told::Ready(b"", 0)),
+        Step::Feed(b"\0\0\0\0", 4, Told::Ready(2, 1, b"", 0)),
     ],
     &[
         V33,
         NONE_BY_SERVER,
         Step::Feed(INIT_SCREEN, 20, Told::Nothing),
-        Step::Feed(b"\0\0\0\x05ABCDE", 9, Told::Ready(b"ABCD", 5)),
+        Step::Feed(b"\0\0\0\x05ABCDE", 9, Told::Ready(2, 1, b"ABCD", 5)),
     ],
 ];
 

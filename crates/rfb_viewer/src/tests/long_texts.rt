@@ -49,7 +49,7 @@ const LONGEST_NAME: &[Step<'static>] = &[
 const NAMELESS: Step<'static> = Step::Feed(
     b"\0\x01\0\x01................\0\0\0\0",
     24,
-    Told::Ready(b"", 0),
+    Told::Ready(1, 1, b"", 0),
 );
 
 // A text of 4,294,967,295 bytes, and one of 1 MiB.

@@ -1,7 +1,7 @@
 //! A viewer played step by step: what it is fed or asked, and what it then has to tell or show.
 
 use super::*;
-use crate::{CallFault, ViewerFault};
+use crate::{CallFault, Move, ViewerFault};
 use rfb_picture::Rect;
 
 // SetPixelFormat of rgb888, and SetEncodings of Raw alone.
@@ -21,8 +21,8 @@ pub enum Told<'a> {
     Text(&'a [u8], u32),
     /// Bytes that are answered.
     Reply(&'a [u8]),
-    /// The viewer is ready: the name, and its length.
-    Ready(&'a [u8], u32),
+    /// The viewer is ready: the screen's size, its name, and the name's length.
+    Ready(u16, u16, &'a [u8], u32),
 }
 
 /// What a viewer is fed or asked, or what holds of it. A step that goes another way is wrong.
@@ -61,6 +61,8 @@ pub enum Step<'a> {
     Reason(&'a [u8]),
     /// What changed since this was asked last.
     Changed(Option<Rect>),
+    /// The copies since this was asked last.
+    Moved(&'a [Move]),
 }
 
 /// A call that is a message.
@@ -84,19 +86,24 @@ fn is_event(event: &Option<ViewerEvent>, told: Told<'_>) -> bool {
             kept.as_slice() == text && *length == told
         }
         (Some(ViewerEvent::Reply(reply)), Told::Reply(wanted)) => reply.as_slice() == wanted,
-        (Some(event), Told::Ready(name, length)) => is_ready(event, name, length),
+        (Some(event), Told::Ready(width, height, name, length)) => {
+            is_ready(event, (width, height), name, length)
+        }
         _ => false,
     }
 }
 
-fn is_ready(event: &ViewerEvent, wanted: &[u8], length: u32) -> bool {
+fn is_ready(event: &ViewerEvent, size: (u16, u16), wanted: &[u8], length: u32) -> bool {
     match event {
         ViewerEvent::Ready {
             reply,
+            width,
+            height,
             name,
             name_length,
         } => {
             reply.as_slice() == AT_READY.as_slice()
+                && (*width, *height) == size
                 && name.as_slice() == wanted
                 && *name_length == length
         }
@@ -237,6 +244,7 @@ fn is_answered(viewer: &mut Viewer, step: &Step<'_>) -> bool {
         Step::SetFormat(fault) => format_fault(viewer) == fault,
         Step::Send(call, bytes) => sends(viewer, call, bytes),
         Step::Changed(wanted) => viewer.damage() == wanted,
+        Step::Moved(wanted) => viewer.moved().as_slice() == wanted,
         _ => holds(viewer, step),
     }
 }

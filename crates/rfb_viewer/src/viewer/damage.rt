@@ -67,6 +67,7 @@ impl Viewer {
     ghost use Rattle.rfb_viewer.specs.Standing.{StandsFor, KeepsRest, picture_of};
     ghost use Rattle.rfb_viewer.specs.Damage.{damage_of, ended_of, rect_of_damage, joined_if};
     ghost use Rattle.rfb_viewer.specs.Damage.{begun, under_way};
+    ghost use Rattle.rfb_viewer.specs.Moved.{moved_of};
 
     /// The least rectangle that holds those of updates, RFC 6143 section 7.6.1, that were painted
     /// since this was asked last; `None` where there was none, or none had a place. Outside of it
@@ -85,6 +86,7 @@ impl Viewer {
         ensures stands { (viewing : Viewing) (s : ViewerState) (prefix : List ℕ)
             → StandsFor viewing self.old s prefix → StandsFor viewing self.new s prefix }
         ensures picture { picture_of self.new ≡ picture_of self.old }
+        ensures moved { moved_of self.new ≡ moved_of self.old }
         ensures keeps { KeepsRest self.old self.new }
     {
         let damage = self.damage_now();

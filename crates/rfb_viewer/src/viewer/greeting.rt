@@ -1,6 +1,6 @@
 //! The handshake of a viewer.
 
-ghost use Rattle.std.specs.Prelude.{◌≡◌, ◌<◌, length, OnOk, OnErr, None, Some};
+ghost use Rattle.std.specs.Prelude.{◌≡◌, length, OnOk, OnErr, None, Some};
 ghost use Rattle.rfb_viewer.specs.inside.Damaging.{screen_made};
 ghost use Rattle.rfb_viewer.specs.inside.Steps.{screen_or};
 
@@ -9,7 +9,7 @@ use crate::event::ViewerEvent;
 use crate::fault::ViewerFault;
 use crate::viewer::Viewer;
 use crate::viewer::damage::{Edges, join};
-use crate::viewer::progress::Progress;
+use crate::viewer::progress::{Failure, Progress};
 use arrayvec::ArrayVec;
 use rfb_hello::{Fed, ViewerStep};
 use rfb_picture::{Picture, Rect};
@@ -23,16 +23,19 @@ impl Viewer {
     ghost use Rattle.rfb_viewer.specs.declared.viewer.progress.Progress.{Progress};
     ghost use Rattle.rfb_viewer.specs.inside.Taking.{Steps};
 
-    // Takes bytes of the server's handshake, up to the last of its next step, and makes the screen
-    // where that tells its size.
-    pub(super) fn greet(&mut self, bytes: &[u8]) -> Result<Fed<ViewerEvent>, ViewerFault>
-        requires some { 0 < length bytes.now }
+    // Takes a byte of the server's handshake, and makes the screen where a step tells its size. By
+    // single bytes a fault comes with the one that is taken.
+    pub(super) fn greet(&mut self, bytes: &[u8]) -> Result<Fed<ViewerEvent>, Failure>
+        requires one { length bytes.now ≡ 1 }
         requires handshake { self.old.progress ≡ Progress.Handshake }
         ensures { Steps self.old bytes.now result self.new }
     {
         let fed = match self.hello.feed(bytes) {
             Ok(fed) => fed,
-            Err(fault) => return Err(self.progress.fail(ViewerFault::of_hello(fault))),
+            Err(fault) => {
+                let fault = self.progress.fail(ViewerFault::of_hello(fault));
+                return Err(Failure { used: 1, fault });
+            }
         };
         let used = fed.used;
         let step = match fed.event {
@@ -52,7 +55,8 @@ impl Viewer {
                     width,
                     height,
                 ) else {
-                    return Err(self.progress.fail(ViewerFault::NoMemory));
+                    let fault = self.progress.fail(ViewerFault::NoMemory);
+                    return Err(Failure { used: 1, fault });
                 };
                 Ok(Fed { used, event: None })
             }
@@ -70,13 +74,16 @@ impl Viewer {
                     width,
                     height,
                 ) else {
-                    return Err(self.progress.fail(ViewerFault::NoMemory));
+                    let fault = self.progress.fail(ViewerFault::NoMemory);
+                    return Err(Failure { used: 1, fault });
                 };
                 self.progress = Progress::Head(ArrayVec::new());
                 Ok(Fed {
                     used,
                     event: Some(ViewerEvent::Ready {
                         reply: ready_answer(self.format, self.encodings.as_slice()),
+                        width,
+                        height,
                         name: name.into_vec(),
                         name_length,
                     }),

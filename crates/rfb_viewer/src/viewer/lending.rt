@@ -17,6 +17,7 @@ const COLOUR_SIZE: u32 = 6;
 
 impl Viewer {
     ghost use Rattle.rfb_viewer.specs.Standing.{StandsFor, fault_of, picture_of, reason_of};
+    ghost use Rattle.rfb_viewer.specs.Standing.{taken_of};
 
     /// What the viewer shows, once there is a screen. Between two items it is the picture; of a
     /// rectangle under way it shows the whole pieces that came. It stays after a fault.
@@ -65,6 +66,14 @@ impl Viewer {
             Progress::Colours { more } => (COLOUR_SIZE - 1 - *more % COLOUR_SIZE) as usize,
             Progress::CutText { .. } | Progress::Failed(_) => 0,
         }
+    }
+
+    /// How many bytes `feed` has used in all, as far as 64 bits go. After a fault they are those up to
+    /// the byte with which it came: the first with which the bytes are refused.
+    pub fn taken(&self) -> u64
+        ensures { result ≡ taken_of self.now }
+    {
+        self.taken
     }
 
     // Whether the server's bytes end between two messages.

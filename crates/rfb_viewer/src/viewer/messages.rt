@@ -9,7 +9,7 @@ use crate::fault::ViewerFault;
 use crate::gather::read_head;
 use crate::viewer::Viewer;
 use crate::viewer::after::go_on_after;
-use crate::viewer::progress::Progress;
+use crate::viewer::progress::{Failure, Progress};
 use arrayvec::ArrayVec;
 use rfb_hello::Fed;
 use rfb_wire::Read;
@@ -20,7 +20,7 @@ impl Viewer {
     ghost use Rattle.rfb_viewer.specs.inside.Taking.{Steps, Takes};
 
     // Takes a byte of a message's head.
-    pub(super) fn take_head(&mut self, bytes: &[u8]) -> Result<Fed<ViewerEvent>, ViewerFault>
+    pub(super) fn take_head(&mut self, bytes: &[u8]) -> Result<Fed<ViewerEvent>, Failure>
         requires some { 0 < length bytes.now }
         requires head { (part : Items ℕ) × (self.old.progress ≡ Progress.Head part) }
         ensures { Steps self.old bytes.now result self.new }
@@ -36,7 +36,10 @@ impl Viewer {
                 });
             }
             Read::Got(head, _) => head,
-            Read::Bad(fault) => return Err(self.progress.fail(ViewerFault::of_wire(fault))),
+            Read::Bad(fault) => {
+                let fault = self.progress.fail(ViewerFault::of_wire(fault));
+                return Err(Failure { used: 1, fault });
+            }
         };
         let Ok(event) = go_on_after(
             head,
@@ -45,7 +48,8 @@ impl Viewer {
             &mut self.progress,
             &mut self.request,
         ) else {
-            return Err(self.progress.fail(ViewerFault::NoMemory));
+            let fault = self.progress.fail(ViewerFault::NoMemory);
+            return Err(Failure { used: 1, fault });
         };
         Ok(Fed { used: 1, event })
     }

@@ -49,6 +49,13 @@ pub(crate) enum Progress {
     Failed(ViewerFault),
 }
 
+/// Where a step fails: by which fault, and how many of its bytes lead there.
+#[derive(Clone, Copy, Debug)]
+pub(crate) struct Failure {
+    pub(crate) used: usize,
+    pub(crate) fault: ViewerFault,
+}
+
 /// Whether an update is asked for.
 #[derive(Clone, Copy, Debug)]
 pub(crate) enum Request {

@@ -9,7 +9,8 @@ use crate::fault::ViewerFault;
 use crate::viewer::Viewer;
 use crate::viewer::after::{end_of, go_on};
 use crate::viewer::damage::join;
-use crate::viewer::progress::{Progress, RECT_HEAD_PART};
+use crate::viewer::moved::keep_move;
+use crate::viewer::progress::{Failure, Progress, RECT_HEAD_PART};
 use rfb_codec::Painter;
 use rfb_hello::Fed;
 use rfb_wire::pieces::gather;
@@ -32,7 +33,7 @@ impl Viewer {
     ghost use Rattle.rfb_viewer.specs.inside.Taking.{Steps, StepsInData};
 
     // Takes bytes of a rectangle's head, and after it those of its data.
-    pub(super) fn take_rect_head(&mut self, bytes: &[u8]) -> Result<Fed<ViewerEvent>, ViewerFault>
+    pub(super) fn take_rect_head(&mut self, bytes: &[u8]) -> Result<Fed<ViewerEvent>, Failure>
         requires some { 0 < length bytes.now }
         requires head { (more : ℕ) × (part : Items ℕ)
             × (self.old.progress ≡ Progress.RectHead more part) }
@@ -55,7 +56,10 @@ impl Viewer {
         let (width, height) = (picture.width(), picture.height());
         let head = match RectHead::read(whole.as_slice(), width, height) {
             Read::Got(head, _) => head,
-            Read::Bad(fault) => return Err(self.progress.fail(ViewerFault::of_wire(fault))),
+            Read::Bad(fault) => {
+                let fault = self.progress.fail(ViewerFault::of_wire(fault));
+                return Err(Failure { used: front, fault });
+            }
             Read::More(_) => unreachable!(),
         };
         self.progress = Progress::Data {
@@ -66,11 +70,14 @@ impl Viewer {
             unreachable!()
         };
         // A rectangle may have no data, and is then whole with its head.
-        let painted = match painter.feed(&bytes[front..], picture) {
+        let painted = match painter.take(&bytes[front..], picture) {
             Ok(painted) => painted,
-            Err(fault) => {
+            Err(flaw) => {
                 join(&mut self.damage, painter.rect(), picture);
-                return Err(self.progress.fail(ViewerFault::of_paint(fault)));
+                return Err(Failure {
+                    used: front + flaw.used,
+                    fault: self.progress.fail(ViewerFault::of_paint(flaw.fault)),
+                });
             }
         };
         let used = front + painted.used;
@@ -78,6 +85,7 @@ impl Viewer {
             return Ok(Fed { used, event: None });
         }
         join(&mut self.damage, painter.rect(), picture);
+        keep_move(&mut self.moved, painter);
         let ends_update = go_on(&mut self.progress, &mut self.request, more);
         Ok(Fed {
             used,
@@ -86,7 +94,7 @@ impl Viewer {
     }
 
     // Takes bytes of a rectangle's data, and paints them piece by piece.
-    pub(super) fn take_data(&mut self, bytes: &[u8]) -> Result<Taken, ViewerFault>
+    pub(super) fn take_data(&mut self, bytes: &[u8]) -> Result<Taken, Failure>
         requires some { 0 < length bytes.now }
         requires data { (more : ℕ) × (painter : UnderWay)
             × (self.old.progress ≡ Progress.Data more painter) }
@@ -99,11 +107,14 @@ impl Viewer {
             unreachable!()
         };
         let more = *more;
-        let painted = match painter.feed(bytes, picture) {
+        let painted = match painter.take(bytes, picture) {
             Ok(painted) => painted,
-            Err(fault) => {
+            Err(flaw) => {
                 join(&mut self.damage, painter.rect(), picture);
-                return Err(self.progress.fail(ViewerFault::of_paint(fault)));
+                return Err(Failure {
+                    used: flaw.used,
+                    fault: self.progress.fail(ViewerFault::of_paint(flaw.fault)),
+                });
             }
         };
         let used = painted.used;
@@ -114,6 +125,7 @@ impl Viewer {
             });
         }
         join(&mut self.damage, painter.rect(), picture);
+        keep_move(&mut self.moved, painter);
         let ends_update = go_on(&mut self.progress, &mut self.request, more);
         Ok(Taken { used, ends_update })
     }

@@ -3,7 +3,8 @@
 use Rattle.std.proofs.Common.{◌≡◌, ℕ, zero, suc, ◌-◌, ◌<◌, inl, inr, List, [], ◌∷◌, ◌++◌, Bool, true, false, Option, Some, None, length, take, refl, sym, subst, ◌∙◌, ap, append_assoc, append-nil, arith, length-append}
 use Rattle.std.proofs.lemmas.List.{take_at}
 use Rattle.rfb_wire.specs.stream.Reading.{Next, More, Got, Bad, Reading, Says, Reads, Same, Listed, ListedAfter, Optionally}
-use Rattle.rfb_wire.specs.stream.Parts.{named, renamed, checked, judged, piece, done, taken, kept, continue_with, and_then, valued, optional, many, each}
+use Rattle.rfb_wire.specs.stream.Parts.{named, renamed, checked, judged, piece, done, taken, kept, and_then}
+use Rattle.rfb_wire.specs.stream.Parts.{valued, optional, many, each}
 use Rattle.rfb_wire.proofs.stream_laws.PartLaws.{alone, judged_says, judged_reads, kept_says, piece_says, done_says, then_says, piece_reads, done_reads, then_reads, same_reads}
 
 -- a fault of a part that is there

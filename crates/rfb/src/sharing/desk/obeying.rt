@@ -9,8 +9,7 @@ use crate::sharing::guests::Guests;
 use crate::sharing::line::{Order, OwnerLine, Refusal};
 use crate::sharing::ready::{LISTENER, register};
 use mio::Interest;
-use rfb_hello::Version;
-use rfb_session::Share;
+use rfb_session::{Drawing, Share, ShareSetup};
 use std::alloc::{AllocError, Global};
 use std::io::{Read, Write};
 use std::net::{OpenListener, OpenStream};
@@ -46,7 +45,7 @@ impl<
                 None => Ok(Some(Refusal::Bad)),
             },
             Order::Pixels(rect, data) => match &mut self.guests {
-                Some(guests) => Ok(guests.put(self.alloc, rect, &data)),
+                Some(guests) => Ok(guests.draw(&Drawing::Bytes(rect, &data))),
                 None => Ok(Some(Refusal::Bad)),
             },
         }
@@ -67,12 +66,9 @@ impl<
 fn share_of(alloc: Global, screen: Screen, name: &str) -> Result<Share, AllocError> {
     let name = name.as_bytes();
     let name = &name[..name.len().min(NAME_MAX)];
-    Share::new(
-        alloc,
-        screen.width,
-        screen.height,
-        name,
-        Version::V38,
-        TEXT_LIMIT,
-    )
+    let setup = ShareSetup {
+        text_limit: TEXT_LIMIT,
+        ..ShareSetup::usual(screen.width, screen.height, name)
+    };
+    Share::of(alloc, setup)
 }

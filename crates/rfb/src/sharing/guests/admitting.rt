@@ -6,7 +6,7 @@ use crate::sharing::guests::Guests;
 use crate::sharing::ready::{Ready, register};
 use crate::sharing::telling::tell_join;
 use mio::{Interest, Registry, Token};
-use rfb_session::Share;
+use rfb_session::{Seat, Share};
 use std::io::{ErrorKind, Read, Write};
 use std::net::{OpenListener, OpenStream};
 use std::os::fd::AsRawFd;
@@ -54,13 +54,13 @@ impl<S: Read + Write + OpenStream + AsRawFd + Drop> Guests<S> {
         }
         match seat_for(&mut self.share, &stream, registry) {
             Some(seat) => {
-                let place = seat as usize;
+                let place = seat.number() as usize;
                 if let Some(slot) = self.streams.get_mut(place) {
                     *slot = Some(stream);
                 }
                 ready.renew(place);
                 self.came = true;
-                tell_join(output, seat)
+                tell_join(output, seat.number())
             }
             None => Ok(()),
         }
@@ -72,7 +72,7 @@ fn seat_for<S: OpenStream + AsRawFd>(
     share: &mut Share,
     stream: &S,
     registry: &Registry,
-) -> Option<u8> {
+) -> Option<Seat> {
     if stream.set_nonblocking(true).is_err() {
         return None;
     }
@@ -81,7 +81,7 @@ fn seat_for<S: OpenStream + AsRawFd>(
         return None;
     };
     let both = Interest::READABLE | Interest::WRITABLE;
-    if register(registry, stream, Token(seat as usize), both).is_err() {
+    if register(registry, stream, Token(seat.number() as usize), both).is_err() {
         share.left(seat);
         return None;
     }

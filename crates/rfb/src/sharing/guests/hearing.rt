@@ -1,12 +1,10 @@
 //! What the viewers of a share send.
 
-ghost use Rattle.std.specs.Prelude.{◌<◌};
-
 use crate::fault::{Failure, Fault};
 use crate::sharing::guests::Guests;
 use crate::sharing::ready::Ready;
 use crate::sharing::telling::tell_event;
-use rfb_session::{Heard, SLOTS};
+use rfb_session::{Heard, Seat, Seats};
 use std::io::{ErrorKind, Read, Write};
 use std::net::OpenStream;
 use std::os::fd::AsRawFd;
@@ -22,7 +20,7 @@ impl<S: Read + Write + OpenStream + AsRawFd + Drop> Guests<S> {
         ready: &mut Ready,
         output: &mut W,
     ) -> Result<(), Failure> {
-        for seat in 0..SLOTS as u8 {
+        for seat in Seats::all().iter() {
             self.hear_seat(seat, part, ready, output)?;
         }
         Ok(())
@@ -31,14 +29,12 @@ impl<S: Read + Write + OpenStream + AsRawFd + Drop> Guests<S> {
     // Reads from one of them.
     fn hear_seat<W: Write>(
         &mut self,
-        seat: u8,
+        seat: Seat,
         part: &mut [u8],
         ready: &mut Ready,
         output: &mut W,
-    ) -> Result<(), Failure>
-        requires { seat < 8 }
-    {
-        let place = seat as usize;
+    ) -> Result<(), Failure> {
+        let place = seat.number() as usize;
         for _read in 0..READS {
             if !ready.reads[place] {
                 break;
@@ -67,14 +63,11 @@ impl<S: Read + Write + OpenStream + AsRawFd + Drop> Guests<S> {
     // Takes what one sent.
     fn receive<W: Write>(
         &mut self,
-        seat: u8,
+        seat: Seat,
         bytes: &[u8],
         ready: &mut Ready,
         output: &mut W,
-    ) -> Result<(), Failure>
-        requires { seat < 8 }
-    {
-        self.stirred[seat as usize] = true;
+    ) -> Result<(), Failure> {
         let mut rest = bytes;
         while !rest.is_empty() {
             match self.share.received(seat, rest) {
@@ -99,13 +92,11 @@ impl<S: Read + Write + OpenStream + AsRawFd + Drop> Guests<S> {
         ready: &mut Ready,
         output: &mut W,
     ) -> Result<(), Failure> {
-        for place in 0..SLOTS as u8 {
-            if heard.ended & (1 << place) != 0 {
-                self.let_go(place, ready, output)?;
-            }
+        for seat in heard.ended.iter() {
+            self.let_go(seat, ready, output)?;
         }
         match &heard.event {
-            Some(event) => tell_event(output, heard.seat, event),
+            Some(event) => tell_event(output, heard.seat.number(), event),
             None => Ok(()),
         }
     }

@@ -1,11 +1,9 @@
 //! What is written to the viewers of a share.
 
-ghost use Rattle.std.specs.Prelude.{◌<◌};
-
 use crate::fault::{Failure, Fault};
 use crate::sharing::guests::Guests;
 use crate::sharing::ready::Ready;
-use rfb_session::{Composing, SLOTS};
+use rfb_session::{Composing, Seat};
 use std::io::{ErrorKind, Read, Write};
 use std::net::OpenStream;
 use std::os::fd::AsRawFd;
@@ -13,7 +11,7 @@ use std::os::fd::AsRawFd;
 impl<S: Read + Write + OpenStream + AsRawFd + Drop> Guests<S> {
     /// Writes what waits for viewers, and composes updates for those for whom nothing does.
     pub fn serve<W: Write>(&mut self, ready: &mut Ready, output: &mut W) -> Result<(), Failure> {
-        for seat in 0..SLOTS as u8 {
+        for seat in self.share.to_serve().iter() {
             if self.serve_seat(seat, ready).is_err() {
                 self.fail(seat, &Fault::Device, ready, output)?;
             }
@@ -23,28 +21,20 @@ impl<S: Read + Write + OpenStream + AsRawFd + Drop> Guests<S> {
 
     // The same for one of them, and whether nothing waits for it. It gives an error where its
     // connection has failed.
-    fn serve_seat(&mut self, seat: u8, ready: &mut Ready) -> Result<bool, Fault>
-        requires { seat < 8 }
-    {
-        let place = seat as usize;
-        let is_done = self.write(seat, ready)?;
-        if !is_done || !self.stirred[place] {
-            return Ok(is_done);
+    fn serve_seat(&mut self, seat: Seat, ready: &mut Ready) -> Result<bool, Fault> {
+        if !self.write(seat, ready)? {
+            return Ok(false);
         }
         match self.share.compose(seat) {
-            Ok(Composing::Composed) => return self.write(seat, ready),
-            // Where memory was wanting, the next turn tries again.
-            Err(_) => {}
-            Ok(_) => self.stirred[place] = false,
+            Ok(Composing::Composed) => self.write(seat, ready),
+            // None is due; or memory was wanting, and the next turn tries again.
+            _ => Ok(true),
         }
-        Ok(true)
     }
 
     /// Writes what waits for one as far as its connection takes it, and tells whether that is all.
-    pub fn write(&mut self, seat: u8, ready: &mut Ready) -> Result<bool, Fault>
-        requires { seat < 8 }
-    {
-        let place = seat as usize;
+    pub fn write(&mut self, seat: Seat, ready: &mut Ready) -> Result<bool, Fault> {
+        let place = seat.number() as usize;
         let Some(Some(stream)) = self.streams.get_mut(place) else {
             return Ok(false);
         };

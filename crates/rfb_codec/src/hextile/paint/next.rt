@@ -1,16 +1,16 @@
 //! The rectangle's next tile: where it lies, and what becomes of it once it is all there.
 
-ghost use Rattle.std.specs.Prelude.{◌≡◌, ◌+◌, ◌^◌, ◌<◌, ◌≤◌, IfOk, IfSome};
+ghost use Rattle.std.specs.Prelude.{◌≡◌, ◌+◌, ◌^◌, ◌<◌, ◌≤◌, IfOk, IfErr, IfSome};
 ghost use Rattle.rfb_codec.specs.inside.TileRead.{IsShort, tile_of_read};
 ghost use Rattle.rfb_codec.specs.Hextile.{tile_count, tile_width, tile_height};
 ghost use Rattle.rfb_codec.specs.inside.Step.{IsPaintable};
 ghost use Rattle.rfb_codec.specs.Front.{tile_places};
-ghost use Rattle.rfb_codec.specs.inside.Step.{IsGoodTile, TellsNext, DrawsTile};
+ghost use Rattle.rfb_codec.specs.inside.Step.{IsGoodTile, TellsNext, FaultsNext, DrawsTile};
 
 use super::drawing::draw_tile;
 use super::reading::read_tile;
 use super::tile_read::{Seen, TileRead, seen_after};
-use crate::fault::PaintFault;
+use crate::fault::Flaw;
 use crate::hextile::tiles::{tile_count, tile_rect};
 use rfb_picture::{Picture, Rect};
 use rfb_pixel::{Colour, Format};
@@ -22,12 +22,13 @@ pub fn read_next(
     tile: usize,
     seen: Seen,
     bytes: &[u8],
-) -> Result<Option<TileRead>, PaintFault>
+) -> Result<Option<TileRead>, Flaw>
     requires { tile < tile_count rect.w rect.h }
     ensures told { TellsNext format rect tile seen bytes.now result }
     ensures good { IfOk result (λ told. IfSome told (λ read.
         IsGoodTile format rect tile read bytes.now)) }
     ensures short { IsShort bytes.now result }
+    ensures with { IfErr result (λ flaw. FaultsNext format rect tile seen bytes.now flaw) }
     ensures columns { 0 < tile_width rect.w tile }
     ensures rows { 0 < tile_height rect.w rect.h tile }
 {

@@ -1,15 +1,17 @@
 //! A tile, found and judged in the bytes that begin with it.
 
-ghost use Rattle.std.specs.Prelude.{◌≡◌, ℕ, ◌+◌, ◌*◌, ◌≤◌, ◌<◌, ◌==◌, not, List, length, drop, slice_index, MatchOption, None, true, false, ◌⊎◌};
+ghost use Rattle.std.specs.Prelude.{◌≡◌, ℕ, ◌+◌, ◌*◌, ◌≤◌, ◌<◌, ◌==◌, not, List, length, drop};
+ghost use Rattle.std.specs.Prelude.{slice_index, MatchOption, IfErr, None, true, false, ◌⊎◌};
 ghost use Rattle.rfb_pixel.specs.Format.{size_of};
 ghost use Rattle.rfb_wire.specs.stream.Reading.{More, Got};
 ghost use Rattle.rfb_wire.specs.stream.Parts.{optional};
+ghost use Rattle.rfb_wire.specs.stream.Placing.{FaultsWith};
 ghost use Rattle.rfb_codec.specs.Tile.{Tile, is_raw, subrects_colored, mask_fault, tile_colour, after_mask, are_inside, places_of, place_of, tile_after};
 ghost use Rattle.rfb_codec.specs.inside.TileRead.{LiesIn, tile_of_read, TellsTile, IsShort, IsCount, places_from};
 ghost use Rattle.rfb_codec.specs.Stage.{Sees};
 
 use super::tile_read::{Seen, TileRead};
-use crate::fault::PaintFault;
+use crate::fault::{Flaw, PaintFault};
 use crate::hextile::layout::TileLayout;
 use crate::hextile::mask::{
     ANY_SUBRECTS, BACKGROUND_SPECIFIED, FOREGROUND_SPECIFIED, RAW, SUBRECTS_COLORED,
@@ -26,19 +28,21 @@ pub fn read_tile(
     width: u16,
     height: u16,
     bytes: &[u8],
-) -> Result<Option<TileRead>, PaintFault>
+) -> Result<Option<TileRead>, Flaw>
     requires { (width ≤ 16) × (height ≤ 16) }
     ensures told { (before : List Tile) → Sees before seen →
         TellsTile format width height bytes.now result
         (tile_after format width height before bytes.now) }
     ensures short { IsShort bytes.now result }
+    ensures with { IfErr result (λ flaw. (before : List Tile) → Sees before seen →
+        FaultsWith (tile_after format width height before) bytes.now flaw.used flaw.fault) }
 {
     if bytes.is_empty() {
         return Ok(None);
     }
     let mask = bytes[0];
     match fault_of_mask(mask, seen) {
-        Some(fault) => return Err(fault),
+        Some(fault) => return Err(Flaw { used: 1, fault }),
         None => {}
     }
     match find(format, width, height, mask, bytes) {
@@ -47,7 +51,10 @@ pub fn read_tile(
             if fits(format, width, height, read, bytes) {
                 Ok(Some(read))
             } else {
-                Err(PaintFault::SubrectOutside)
+                Err(Flaw {
+                    used: read.used,
+                    fault: PaintFault::SubrectOutside,
+                })
             }
         }
     }

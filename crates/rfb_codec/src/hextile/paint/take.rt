@@ -11,7 +11,7 @@ ghost use Rattle.rfb_codec.specs.inside.Step.{IsPaintable, Steps};
 use super::least::least_size;
 use super::next::{draw_next, read_next};
 use super::tile_read::Seen;
-use crate::fault::PaintFault;
+use crate::fault::Flaw;
 use crate::hextile::mask::RAW;
 use crate::painter::gather::{Pending, gather};
 use crate::painter::rectangle::Rectangle;
@@ -29,7 +29,7 @@ pub fn take_tile(
     pending: &mut Pending,
     bytes: &[u8],
     picture: &mut Picture<Colour>,
-) -> Result<Step, PaintFault>
+) -> Result<Step, Flaw>
     requires place { IsPaintable picture.old rectangle.now.rect }
     requires below { tile < tile_count rectangle.now.rect.w rectangle.now.rect.h }
     requires short { array_vec_len pending.old < 1536 }
@@ -42,7 +42,7 @@ pub fn take_tile(
     }
     let Rectangle { format, rect } = *rectangle;
     match read_next(format, rect, tile, seen, bytes) {
-        Err(fault) => Err(fault),
+        Err(flaw) => Err(flaw),
         Ok(Some(read)) => {
             let seen = draw_next(format, rect, tile, seen, read, bytes, picture);
             Ok(Step {
@@ -98,7 +98,7 @@ fn take_more(
     pending: &mut Pending,
     bytes: &[u8],
     picture: &mut Picture<Colour>,
-) -> Result<Step, PaintFault>
+) -> Result<Step, Flaw>
     requires place { IsPaintable picture.old rectangle.now.rect }
     requires below { tile < tile_count rectangle.now.rect.w rectangle.now.rect.h }
     requires pending { 0 < array_vec_len pending.old }
@@ -126,7 +126,7 @@ fn take_byte(
     pending: &mut Pending,
     byte: u8,
     picture: &mut Picture<Colour>,
-) -> Result<Step, PaintFault>
+) -> Result<Step, Flaw>
     requires place { IsPaintable picture.old rectangle.now.rect }
     requires below { tile < tile_count rectangle.now.rect.w rectangle.now.rect.h }
     requires some { 0 < array_vec_len pending.old }
@@ -138,9 +138,12 @@ fn take_byte(
     pending.push(byte);
     let bytes = pending.as_slice();
     match read_next(format, rect, tile, seen, bytes) {
-        Err(fault) => {
+        Err(flaw) => {
             pending.clear();
-            Err(fault)
+            Err(Flaw {
+                used: 1,
+                fault: flaw.fault,
+            })
         }
         Ok(Some(read)) => {
             let seen = draw_next(format, rect, tile, seen, read, bytes, picture);

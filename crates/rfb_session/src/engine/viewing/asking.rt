@@ -5,6 +5,7 @@ ghost use Rattle.rfb_viewer.specs.Standing.{StandsFor};
 ghost use Rattle.rfb_viewer.specs.Told.{seen};
 ghost use Rattle.rfb_viewer.specs.Viewer.{Viewing, ViewerState};
 ghost use Rattle.rfb_session.specs.Looking.{HasAsked, IsAnswered, IsCutInAnswer, IsCutInAsking};
+ghost use Rattle.rfb_session.specs.Looking.{MayAsk};
 ghost use Rattle.rfb_session.specs.ViewEngine.{due_after};
 ghost use Rattle.rfb_session.specs.Watching.{ends_told, whole_area};
 ghost use Rattle.rfb_session.specs.Wire.{by_steps};
@@ -34,6 +35,7 @@ pub(super) fn answer<W: Wire>(
         ((W.known wire.new).failed_writes ≡ (W.known wire.old).failed_writes) }
     ensures one_failed { OnErr result
         ((W.known wire.new).failed_writes ≡ (W.known wire.old).failed_writes + 1) }
+    ensures asked { MayAsk viewer.old viewer.new }
 {
     match send_over(viewer_reply(event), wire) {
         Ok(()) => {}

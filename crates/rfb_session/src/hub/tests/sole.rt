@@ -19,8 +19,9 @@ fn emptied(alloc: Global) -> Result<Option<[u8; 3]>, AllocError> {
     let before = settle(&mut hub, 2);
     let at_once = settle(&mut hub, 5);
     let again = settle(&mut hub, 5);
+    let alone = hub.is_taken(5) && !hub.is_taken(7) && !hub.is_taken(8);
     drop(hub);
-    if all {
+    if all && alone {
         Ok(Some([before, at_once, again]))
     } else {
         Ok(None)

@@ -9,7 +9,7 @@ const TAKEN: &[u8] = b"RFB 003.008\n\x01\x01\0\0\0\0\0\x02\0\x01\x20\x18\0\x01\0
     \x10\x08\0\0\0\0\0\0\0\x03rfb\0\0\0\x01\0\0\0\0\0\x02\0\x01\0\0\0\0\0\0\xFF\0\0\0\xFF\0";
 
 // One byte that waits is taken, if it is the next one of these: how many were taken then.
-fn next_taken(share: &mut Share, seat: u8, count: usize) -> usize {
+fn next_taken(share: &mut Share, seat: Seat, count: usize) -> usize {
     let waiting = share.to_write(seat);
     if waiting.is_empty() || count >= TAKEN.len() || waiting[0] != TAKEN[count] {
         return count;
@@ -20,7 +20,7 @@ fn next_taken(share: &mut Share, seat: u8, count: usize) -> usize {
 
 // Bytes go one by one each way; it is composed in vain while any wait. It gives how many were
 // taken as they must be.
-fn trickle(share: &mut Share, seat: u8) -> usize {
+fn trickle(share: &mut Share, seat: Seat) -> usize {
     let mut taken = 0;
     for turn in 0..90_usize {
         if turn < SENT.len() {
@@ -35,12 +35,12 @@ fn trickle(share: &mut Share, seat: u8) -> usize {
 fn trickled(alloc: Global) -> Result<[bool; 3], AllocError> {
     let mut share = share_of_two_places(alloc)?;
     let painted = paint(&mut share, RED);
-    let seat = seated(&mut share);
-    let taken = trickle(&mut share, seat);
+    let seated = seated(&mut share) == Some(at(0));
+    let taken = trickle(&mut share, at(0));
     let told = [
-        painted,
+        painted && seated,
         taken == TAKEN.len(),
-        share.to_write(seat).is_empty(),
+        share.to_write(at(0)).is_empty(),
     ];
     drop(share);
     Ok(told)
@@ -56,14 +56,14 @@ fn byte_by_byte_a_client_is_sent_the_same(rt: HostRuntime) -> Result<(), AllocEr
 // A client takes three bytes of an update and leaves; the next one begins with its own greeting.
 fn leaves_inside_an_update(share: &mut Share) -> bool {
     let asked = greeted(share, SHARED)
-        && send(share, 0, ASKS_ALL)
-        && composes(share, 0, Composing::Composed);
-    share.written(0, 3);
+        && send(share, at(0), ASKS_ALL)
+        && composes(share, at(0), Composing::Composed);
+    share.written(at(0), 3);
     asked
-        && share.left(0)
-        && !share.left(0)
-        && share.to_write(0).is_empty()
-        && composes(share, 0, Composing::NoSuchSeat)
+        && share.left(at(0))
+        && !share.left(at(0))
+        && share.to_write(at(0)).is_empty()
+        && composes(share, at(0), Composing::NoSuchSeat)
         && greeted(share, SHARED)
 }
 

@@ -6,21 +6,17 @@ use super::*;
 const NO_VERSION: [u8; 12] = *b"RFB 008.003;";
 
 fn server_of(alloc: Global) -> Result<Server, AllocError> {
-    Server::new(alloc, 2, 1, b"rfb", Version::V38, 1024)
+    Server::of(alloc, ServerSetup::usual(2, 1, b"rfb"))
 }
 
 fn viewer_of(alloc: Global) -> Viewer {
     let mut encodings = ArrayVec::new();
     encodings.push(Encoding::Raw);
-    Viewer::new(
-        alloc,
-        Format::rgb888(),
+    let viewing = ViewerSetup {
         encodings,
-        Version::V38,
-        true,
-        4096,
-        1024,
-    )
+        ..ViewerSetup::usual(Format::rgb888())
+    };
+    Viewer::of(alloc, viewing)
 }
 
 // How many bytes reach each end, the viewer's first, and what is in flight then.

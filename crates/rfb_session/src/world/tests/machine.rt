@@ -13,6 +13,7 @@ mod stepping;
 use super::*;
 use lot::Lot;
 use plain::{Making, Plain};
+use rfb_hello::Version;
 
 // Worlds of 3 versions by 3, of 3 formats, and of 28 lists of encodings.
 const WORLDS: u16 = 756;
@@ -68,12 +69,20 @@ fn world_of(alloc: Global, number: u16, width: u16, height: u16) -> Result<World
     requires rows { (1 ≤ height) × (height ≤ 4096) }
 {
     let offer = version_of(number);
-    let limit = version_of(number / 3);
-    let format = format_of(number / 9);
-    let encodings = encodings_of(number / 27);
-    let server = Server::new(alloc, width, height, b"rfb", offer, 16)?;
-    let viewer = Viewer::new(alloc, format, encodings, limit, true, 4096, 16);
-    World::new(alloc, server, viewer)
+    let serving = ServerSetup {
+        offer,
+        text_limit: 16,
+        ..ServerSetup::usual(width, height, b"rfb")
+    };
+    let server = Server::of(alloc, serving)?;
+    let viewing = ViewerSetup {
+        encodings: encodings_of(number / 27),
+        limit: version_of(number / 3),
+        max_places: 4096,
+        text_limit: 16,
+        ..ViewerSetup::usual(format_of(number / 9))
+    };
+    World::new(alloc, server, Viewer::of(alloc, viewing))
 }
 
 // The machine of the same number.

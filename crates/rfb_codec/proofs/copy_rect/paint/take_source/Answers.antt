@@ -19,9 +19,12 @@ returns-then-not-holds c =
     let x_is : u16_at 0 xs ≡ c.read_u16-x.result = sym c.read_u16-x.ensures in
     let y_is : u16_at 2 xs ≡ c.read_u16-y.result = sym (c.read_u16-y.ensures ∙ ap (big_number 2) (take_rest xs 2)) in
     record {
+      some = omega (arith, last);
+      within = c.gather-used.ensures.used;
       stops = λ before body stands.
-          source_refused r.format r.rect pending bytes xs k c.read_u16-x.result c.read_u16-y.result c.args.picture.now before body stands (omega arith) is size x_is y_is
-          (λ on. let yes = c.holds.ensures.1 on in cc);
+          source_refused r.format r.rect pending bytes xs used k c.read_u16-x.result c.read_u16-y.result
+          c.args.picture.now before body stands (omega arith) is size x_is y_is
+          (λ on. let yes = c.holds.ensures.1 on in cc) last;
       emptied = ap length c.clear.ensures;
       width = refl;
       height = refl;

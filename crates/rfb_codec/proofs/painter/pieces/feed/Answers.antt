@@ -1,6 +1,5 @@
 use Rattle.std.proofs.Common.{◌≡◌, ◌∙◌, ◌-◌, refl, length, take, drop, ap, arith, length-drop}
 use Rattle.std.proofs.lemmas.List.{take_rest}
-use Rattle.std.proofs.lemmas.Result.{err_from_is_err_and}
 use Rattle.rfb_codec.proofs.FeedLemmas.{reaches_none, reaches_more, breaks_later}
 use Rattle.rfb_codec.proofs.painter.pieces.feed.Goals as goal
 
@@ -15,8 +14,8 @@ pub pieces-preserved : goal.pieces-preserved
 pieces-preserved c =
     let bytes = c.args.bytes.now in
     let used = c.pieces.used in
-    let step = c.in_ok-step.step in
-    let takes = c.in_ok-step.ensures in
+    let step = c.in-Ok.step in
+    let takes = c.in-Ok.ensures in
     let slice = take (length bytes - used) (drop used bytes) in
     let left : length slice ≡ length bytes - used = ap length (take_rest bytes used) ∙ length-drop used bytes in
     let within = takes.used in
@@ -26,11 +25,11 @@ pieces-preserved c =
       reaches = reaches_more c.args.rectangle.now c.args.stage c.args.pending.now.items c.args.picture.now c.pieces.now step.stage c.pieces.pending.items c.take.new.pending.items c.pieces.picture c.take.new.picture used step.used bytes slice (take_rest bytes used) c.pieces.invariant.reaches takes.reaches;
     }
 
-pub returns-in_err-step : goal.returns-in_err-step
-returns-in_err-step c =
+pub returns-in-Err : goal.returns-in-Err
+returns-in-Err c =
     let bytes = c.args.bytes.now in
     let used = c.pieces.used in
     let slice = take (length bytes - used) (drop used bytes) in
-    let breaks = breaks_later c.args.rectangle.now c.args.stage c.args.pending.now.items c.args.picture.now c.pieces.now c.pieces.pending.items c.take.new.pending.items c.pieces.picture c.take.new.picture used bytes slice c.in_err-step.field-0.0 (take_rest bytes used) c.pieces.invariant.reaches c.in_err-step.ensures in
-    let p = err_from_is_err_and c.from_residual.result c.from_residual.ensures.1 in
-    rw (p.1, p.2) breaks
+    breaks_later c.args.rectangle.now c.args.stage c.args.pending.now.items c.args.picture.now c.pieces.now
+    c.pieces.pending.items c.take.new.pending.items c.pieces.picture c.take.new.picture used bytes slice
+    c.in-Err.flaw (take_rest bytes used) c.pieces.invariant.reaches c.in-Err.ensures

@@ -1,6 +1,5 @@
 use Rattle.std.proofs.Common.{◌≡◌, ◌∙◌, ◌+◌, ◌-◌, ◌++◌, [], ℕ, length, take, drop, refl, ap, arith, rules, length-take-le, length-drop}
 use Rattle.std.proofs.lemmas.Bool.Decides.{nat_tests}
-use Rattle.std.proofs.lemmas.Result.{err_from_is_err_and}
 use Rattle.rfb_pixel.specs.Format.{size_of}
 use Rattle.rfb_codec.specs.declared.fault.PaintFault.TheVariants.{SubrectOutside}
 use Rattle.rfb_codec.specs.declared.painter.stage.Stage.TheVariants.{InSubrects}
@@ -29,7 +28,7 @@ parts-preserved c =
     let left : length (drop used bytes) ≡ length bytes - used = length-drop used bytes in
     let whole : length part ≡ size_of r.format + 8 = ap length is ∙ length-take-le size (drop used bytes) (omega (arith, left)) ∙ omega (arith, c.size-length.ensures.value) in
     let place : IsPaintable c.parts.picture r.rect = search rules in
-    let drawn = c.in_ok-draw_subrect.ensures in
+    let drawn = c.in-Ok.ensures in
     let one : Reaches r (InSubrects rest) [] c.parts.picture more (InSubrects (rest - 1)) [] c.draw_subrect.new.picture = record {
       sound = grind (arith, nat_tests);
       same = refl;
@@ -44,8 +43,8 @@ parts-preserved c =
       reaches = reaches_more r (InSubrects c.args.left) [] c.args.picture.now (InSubrects rest) (InSubrects (rest - 1)) [] [] c.parts.picture c.draw_subrect.new.picture used size bytes (drop used bytes) refl c.parts.invariant.reaches one;
     }
 
-pub returns-in_err-draw_subrect : goal.returns-in_err-draw_subrect
-returns-in_err-draw_subrect c =
+pub returns-in-Err : goal.returns-in-Err
+returns-in-Err c =
     let r = c.args.rectangle.now in
     let bytes = c.args.bytes.now in
     let used = c.parts.used in
@@ -56,14 +55,19 @@ returns-in_err-draw_subrect c =
     let left : length (drop used bytes) ≡ length bytes - used = length-drop used bytes in
     let is : part ≡ [] ++ take (k + 1) (drop used bytes) = ap (λ (n : ℕ). take n (drop used bytes)) (omega arith) in
     let whole : length part ≡ size_of r.format + 8 = ap length is ∙ length-take-le (k + 1) (drop used bytes) (omega (arith, left)) ∙ omega (arith, c.size-length.ensures.value) in
-    let refuses = c.in_err-draw_subrect.ensures in
-    let one : Breaks r (InSubrects rest) [] c.parts.picture (drop used bytes) SubrectOutside [] c.draw_subrect.new.picture = rw refuses.kept (record {
+    let refuses = c.in-Err.ensures in
+    let one : Breaks r (InSubrects rest) [] c.parts.picture (drop used bytes)
+    (record { used = size; fault = SubrectOutside }) [] c.draw_subrect.new.picture = rw refuses.kept (record {
+      some = omega arith;
+      within = omega (arith, left);
       stops = λ before body stands.
-          subrect_refused r.format r.rect rest k [] (drop used bytes) part c.parts.picture before body (omega arith) (omega (arith, left)) is whole refuses.outside stands;
+          subrect_refused r.format r.rect rest size k [] (drop used bytes) part c.parts.picture before body
+          (omega arith) (omega (arith, left)) is whole refuses.outside stands (omega arith);
       emptied = refl;
       width = refl;
       height = refl;
     }) in
-    let breaks = breaks_later r (InSubrects c.args.left) [] c.args.picture.now (InSubrects rest) [] [] c.parts.picture c.draw_subrect.new.picture used bytes (drop used bytes) SubrectOutside refl c.parts.invariant.reaches one in
-    let p = err_from_is_err_and c.from_residual.result c.from_residual.ensures.1 in
-    rw (p.1, p.2, refuses.fault_is) breaks
+    let breaks = breaks_later r (InSubrects c.args.left) [] c.args.picture.now
+    (InSubrects rest) [] [] c.parts.picture c.draw_subrect.new.picture used bytes (drop used bytes)
+    (record { used = size; fault = SubrectOutside }) refl c.parts.invariant.reaches one in
+    rw refuses.fault_is breaks

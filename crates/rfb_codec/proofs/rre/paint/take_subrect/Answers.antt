@@ -1,6 +1,5 @@
 use Rattle.std.proofs.Common.{◌≡◌, ◌∙◌, ◌+◌, ◌-◌, ◌<◌, ◌++◌, [], ℕ, length, take, refl, ap, arith}
 use Rattle.std.proofs.lemmas.Bool.Decides.{nat_tests}
-use Rattle.std.proofs.lemmas.Result.{err_from_is_err_and}
 use Rattle.rfb_pixel.specs.Format.{size_of}
 use Rattle.rfb_codec.specs.declared.fault.PaintFault.TheVariants.{SubrectOutside}
 use Rattle.rfb_codec.specs.declared.painter.stage.Stage.TheVariants.{InSubrects}
@@ -32,8 +31,8 @@ returns-then-len-size c =
       };
     }
 
-pub returns-in_err-drawn : goal.returns-in_err-drawn
-returns-in_err-drawn c =
+pub returns-in-Err : goal.returns-in-Err
+returns-in-Err c =
     let r = c.args.rectangle.now in
     let bytes = c.args.bytes.now in
     let pending = c.args.pending.now.items in
@@ -43,16 +42,20 @@ returns-in_err-drawn c =
     let last : used ≡ k + 1 = omega (arith, c.size-size.ensures.value) in
     let is : xs ≡ pending ++ take (k + 1) bytes = c.as_slice.ensures.value ∙ c.gather-used.ensures.items ∙ ap (λ (n : ℕ). pending ++ take n bytes) last in
     let whole : length xs ≡ size_of r.format + 8 = ap length c.as_slice.ensures.value ∙ omega (arith, c.size-size.ensures.value) in
-    let refuses = c.in_err-drawn.ensures in
-    let breaks : Breaks r (InSubrects c.args.left) pending c.args.picture.now bytes SubrectOutside c.clear.new.self.items c.draw_subrect-drawn.new.picture = rw refuses.kept (record {
+    let refuses = c.in-Err.ensures in
+    let breaks : Breaks r (InSubrects c.args.left) pending c.args.picture.now bytes
+    (record { used = used; fault = SubrectOutside }) c.clear.new.self.items c.draw_subrect-drawn.new.picture =
+    rw refuses.kept (record {
+      some = omega (arith, last);
+      within = c.gather-used.ensures.used;
       stops = λ before body stands.
-          subrect_refused r.format r.rect c.args.left k pending bytes xs c.args.picture.now before body c.requires.left (omega (arith, c.size-size.ensures.value)) is whole refuses.outside stands;
+          subrect_refused r.format r.rect c.args.left used k pending bytes xs c.args.picture.now before body
+          c.requires.left (omega (arith, c.size-size.ensures.value)) is whole refuses.outside stands last;
       emptied = ap length c.clear.ensures;
       width = refl;
       height = refl;
     }) in
-    let p = err_from_is_err_and c.from_residual.result c.from_residual.ensures.1 in
-    rw (p.1, p.2, refuses.fault_is) breaks
+    rw refuses.fault_is breaks
 
 pub returns : goal.returns
 returns c =
@@ -61,7 +64,7 @@ returns c =
     let xs = c.as_slice.result.now in
     let whole : length xs ≡ size_of r.format + 8 = ap length c.as_slice.ensures.value ∙ omega (arith, c.size-size.ensures.value) in
     let none : length c.clear.new.self.items ≡ 0 = ap length c.clear.ensures in
-    let drawn = c.in_ok-drawn.ensures in
+    let drawn = c.in-Ok.ensures in
     record {
       some = omega (arith, c.size-size.ensures.value);
       used = c.gather-used.ensures.used;

@@ -1,10 +1,14 @@
-use Rattle.std.proofs.Common.{◌<◌, ◌+◌, ◌∙◌, refl, arith, rules, ap}
+use Rattle.std.proofs.Common.{◌≡◌, ◌<◌, ◌+◌, ◌∙◌, ℕ, [], Ok, Err, refl, arith, rules, ap}
 use Rattle.rfb_viewer.specs.declared.viewer.Viewer.{Viewer}
 use Rattle.rfb_viewer.specs.Standing.{fault_of}
 use Rattle.rfb_session.specs.declared.engine.fault.EngineFault.TheVariants.{Viewer as ViewerEnded}
 use Rattle.rfb_session.specs.Wire.{by_steps}
 use Rattle.rfb_session.proofs.FailedLemmas.{err_as, no_answer}
-use Rattle.rfb_session.proofs.LookLemmas.{looking_none, looking_more, looking_stops}
+use Rattle.rfb_session.specs.Watcher.{EndsLooking}
+use Rattle.rfb_session.proofs.EngineRunLemmas.{only_one}
+use Rattle.rfb_session.proofs.LookLemmas.{looking_none, looking_more, looking_stops, more_counted, still_looked}
+use Rattle.rfb_session.proofs.WatcherLemmas.{heard_ends, heard_more, heard_none, heard_within}
+use Rattle.rfb_session.proofs.WrittenLemmas.{empty_rest}
 use Rattle.rfb_session.proofs.WireLemmas.{steps_join}
 use Rattle.rfb_session.proofs.engine.viewing.look.Goals as goal
 
@@ -17,6 +21,8 @@ loop-left-init g c = record {
   none_unkept = refl;
   same_reference = refl;
   failed = λ f is. (refl, refl, refl);
+  heard = heard_none g.A.Watcher.steps (λ (n : ℕ). c.args.before ≡ n + c.args.before) c.args.viewer.now
+      c.args.watcher.now c.args.bytes.now (only_one c.args.before);
 }
 
 pub loop-left-preserved : goal.loop-left-preserved
@@ -36,6 +42,12 @@ loop-left-preserved g c =
           let again = c.in-Ok.ensures.failed f
           (ap (λ (v : Viewer). fault_of v) (l.invariant.failed f is).2 ∙ is) in
           absurd (no_answer (c.in-Ok.used, c.in-Ok.fewer) (ViewerEnded f) again.0);
+      heard = heard_more g.A.Watcher.steps (λ (n : ℕ). c.args.before ≡ n + l.left)
+          (λ (n : ℕ). c.args.before ≡ n + c.in-Ok.fewer) c.args.viewer.now c.args.watcher.now
+          c.args.bytes.now l.rest.now l.viewer l.watcher c.in-Ok.used c.in-Ok.ensures.heard.0
+          c.look_once.new.viewer c.look_once.new.watcher l.invariant.heard c.in-Ok.ensures.heard.2
+          (λ n was. more_counted c.args.before n l.left c.in-Ok.ensures.heard.0 c.in-Ok.fewer was
+          c.in-Ok.ensures.heard.1);
     }
 
 pub returns-in-Err-clause-stopped : goal.returns-in-Err-clause-stopped
@@ -59,3 +71,33 @@ returns-in-Err-clause-failed g c = λ some f is.
     let was = l.invariant.failed f is in
     let again = c.in-Err.ensures.failed f (ap (λ (v : Viewer). fault_of v) was.2 ∙ is) in
     (err_as (ViewerEnded f) c.in-Err.fault again.0, again.1 ∙ was.2)
+
+pub returns-in-Err-clause-heard : goal.returns-in-Err-clause-heard
+returns-in-Err-clause-heard g c =
+    let l = c.loop-left in
+    heard_within g.A.Watcher.steps (λ (n : ℕ). c.args.before ≡ n + l.left)
+    (EndsLooking l.left (Err c.in-Err.fault) c.look_once.new.viewer)
+    (EndsLooking c.args.before (Err c.in-Err.fault) c.look_once.new.viewer) c.args.viewer.now
+    c.args.watcher.now c.args.bytes.now l.rest.now l.viewer l.watcher c.look_once.new.watcher
+    l.invariant.heard c.in-Err.ensures.heard_so_far
+    (λ m n later last was ends. still_looked l.left c.args.before n (m + n) later last c.in-Err.fault
+    c.look_once.new.viewer ends)
+
+-- no byte is left
+pub returns-else-not-is_empty-clause-heard : goal.returns-else-not-is_empty-clause-heard
+returns-else-not-is_empty-clause-heard g c =
+    let l = c.loop-left in
+    let none : l.rest.now ≡ [] = empty_rest l.rest.now (search rules) in
+    heard_ends g.A.Watcher.steps (λ (n : ℕ). c.args.before ≡ n + l.left)
+    (EndsLooking c.args.before (Ok l.left) l.viewer) c.args.viewer.now c.args.watcher.now
+    c.args.bytes.now l.rest.now l.viewer l.watcher l.invariant.heard (λ n was. (was, refl, (λ some. none)))
+
+-- no update is looked for
+pub returns-after-loop-left-clause-heard : goal.returns-after-loop-left-clause-heard
+returns-after-loop-left-clause-heard g c =
+    let l = c.loop-left in
+    let done : l.left ≡ 0 = search rules in
+    heard_ends g.A.Watcher.steps (λ (n : ℕ). c.args.before ≡ n + l.left)
+    (EndsLooking c.args.before (Ok l.left) l.viewer) c.args.viewer.now c.args.watcher.now
+    c.args.bytes.now l.rest.now l.viewer l.watcher l.invariant.heard
+    (λ n was. (was, refl, (λ some. absurd (omega (arith, some, done)))))

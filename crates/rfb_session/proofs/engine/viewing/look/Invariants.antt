@@ -1,9 +1,10 @@
 -- The first of the bytes were fed and kept, and all answers to them were written.
-use Rattle.std.proofs.Common.{◌≡◌, length, Some}
+use Rattle.std.proofs.Common.{◌≡◌, ◌+◌, ℕ, length, Some}
 use Rattle.rfb_viewer.specs.declared.fault.ViewerFault.{ViewerFault}
 use Rattle.rfb_viewer.specs.Standing.{fault_of}
 use Rattle.rfb_session.specs.Wire.{by_steps}
 use Rattle.rfb_session.proofs.LookLemmas.{LooksSoFar}
+use Rattle.rfb_session.proofs.WatcherLemmas.{HeardOf}
 use Rattle.rfb_session.proofs.engine.viewing.look.Given as goal
 
 abbrev pub invariant-loop-left : goal.invariant-loop-left
@@ -17,6 +18,8 @@ invariant-loop-left g l = record {
   same_reference : g.K.Sink.reference l.kept ≡ g.K.Sink.reference l.initial.kept;
   failed : (f : ViewerFault) → fault_of l.fn.viewer ≡ Some f →
       (l.rest ≡ l.bytes) × (l.left ≡ l.before) × (l.viewer ≡ l.fn.viewer);
+  heard : HeardOf g.A.Watcher.steps (λ (n : ℕ). l.before ≡ n + l.left) l.fn.viewer l.initial.watcher
+      l.bytes l.rest l.viewer l.watcher;
 }
 
 abbrev pub decreases-loop-left : goal.decreases-loop-left

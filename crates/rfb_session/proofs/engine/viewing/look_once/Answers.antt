@@ -1,8 +1,11 @@
-use Rattle.std.proofs.Common.{[], refl, take, arith}
+use Rattle.std.proofs.Common.{[], refl, take, drop, sym, take-append-drop, arith}
 use Rattle.std.proofs.KnownBytes.{Appends-nil}
 use Rattle.rfb_viewer.specs.Told.{seen}
+use Rattle.rfb_session.specs.Watcher.{NoCall}
+use Rattle.rfb_session.specs.Watching.{ends_told}
 use Rattle.rfb_session.specs.Wire.{Nothing, by_steps}
 use Rattle.rfb_session.proofs.ViewLemmas.{turn_none, call_looks, call_unanswered, call_unkept, kept_last}
+use Rattle.rfb_session.proofs.WatcherLemmas.{hears_asked, hears_once}
 use Rattle.rfb_session.proofs.WireLemmas.{steps_join}
 use Rattle.rfb_session.proofs.engine.viewing.look_once.Goals as goal
 
@@ -53,6 +56,67 @@ returns-clause-stopped g c = record {
         c.send-in-Err.ensures.stopped c.send-in-Err.ensures.none_failed
         c.send-in-Err.ensures.one_failed,
   );
+  ends = record {
+    fails = c.in-Err.ensures.fails;
+    refused = c.in-Err.ensures.fault;
+    starved = c.in-Err.ensures.memory;
+    picture = c.in-Err.ensures.picture;
+    reason = c.in-Err.ensures.reason;
+  };
+}
+
+pub returns-in-Ok-answer-clause-heard : goal.returns-in-Ok-answer-clause-heard
+returns-in-Ok-answer-clause-heard g c =
+    let event = seen c.in-Ok.fed.event in (
+      ends_told event,
+      c.in-Ok-answer.ensures.answered.counted,
+      hears_asked g.A.Watcher.steps c.args.viewer.now c.feed.new.self c.answer.new.viewer
+          c.args.watcher.now c.tell.new.watcher (take c.in-Ok.fed.used c.args.bytes.now) (ends_told event)
+          (hears_once g.A.Watcher.steps c.args.viewer.now c.feed.new.self c.args.watcher.now
+          c.tell.new.watcher (take c.in-Ok.fed.used c.args.bytes.now) event c.in-Ok.ensures.fed
+          c.tell.ensures) c.answer.ensures.asked,
+    )
+
+pub returns-in-Ok-send-clause-heard_so_far : goal.returns-in-Ok-send-clause-heard_so_far
+returns-in-Ok-send-clause-heard_so_far g c =
+    let event = seen c.in-Ok.fed.event in
+    record {
+      fed = take c.in-Ok.fed.used c.args.bytes.now;
+      later = drop c.in-Ok.fed.used c.args.bytes.now;
+      updates = ends_told event;
+      last = c.answer.new.viewer;
+      bytes_are = sym (take-append-drop c.in-Ok.fed.used c.args.bytes.now);
+      hears = hears_asked g.A.Watcher.steps c.args.viewer.now c.feed.new.self c.answer.new.viewer
+          c.args.watcher.now c.tell.new.watcher (take c.in-Ok.fed.used c.args.bytes.now) (ends_told event)
+          (hears_once g.A.Watcher.steps c.args.viewer.now c.feed.new.self c.args.watcher.now
+          c.tell.new.watcher (take c.in-Ok.fed.used c.args.bytes.now) event c.in-Ok.ensures.fed
+          c.tell.ensures) c.answer.ensures.asked;
+      ends = refl;
+    }
+
+pub returns-in-Ok-clause-heard_so_far : goal.returns-in-Ok-clause-heard_so_far
+returns-in-Ok-clause-heard_so_far g c =
+    let event = seen c.in-Ok.fed.event in
+    record {
+      fed = take c.in-Ok.fed.used c.args.bytes.now;
+      later = drop c.in-Ok.fed.used c.args.bytes.now;
+      updates = ends_told event;
+      last = c.feed.new.self;
+      bytes_are = sym (take-append-drop c.in-Ok.fed.used c.args.bytes.now);
+      hears = hears_once g.A.Watcher.steps c.args.viewer.now c.feed.new.self c.args.watcher.now
+          c.tell.new.watcher (take c.in-Ok.fed.used c.args.bytes.now) event c.in-Ok.ensures.fed
+          c.tell.ensures;
+      ends = refl;
+    }
+
+pub returns-clause-heard_so_far : goal.returns-clause-heard_so_far
+returns-clause-heard_so_far g c = record {
+  fed = [];
+  later = c.args.bytes.now;
+  updates = 0;
+  last = c.args.viewer.now;
+  bytes_are = refl;
+  hears = NoCall;
   ends = record {
     fails = c.in-Err.ensures.fails;
     refused = c.in-Err.ensures.fault;

@@ -2,7 +2,7 @@ use Rattle.std.proofs.Common.{◌<◌, ℕ, length, set, Some, sym, refl, ap, �
 use Rattle.std.proofs.lemmas.List.{length-set}
 use Rattle.rfb_server.specs.Following.{Follows}
 use Rattle.rfb_picture.specs.Places.{has_bit}
-use Rattle.rfb_session.specs.declared.hub.seat.Seat.{Seat}
+use Rattle.rfb_session.specs.declared.hub.seat.HubSeat.{HubSeat}
 use Rattle.rfb_session.proofs.HubDrawLemmas.{set_follow, emptied_follow}
 use Rattle.rfb_session.proofs.HubSameLemmas.{hub_back}
 use Rattle.rfb_session.proofs.HubSlotLemmas.{does_in}
@@ -109,4 +109,4 @@ returns-else-delivery-clause-steps c =
     (λ some.
     let same = one.4.kept (refused_there d.told told.result told.ensures.tells some) in
     hub_back s _ (sym (set_back s.slots i c.happen_in.new.slot
-    (one.3 ∙ (ap (λ (x : Seat). Some x) same ∙ sym was)))) _ _ _ _)
+    (one.3 ∙ (ap (λ (x : HubSeat). Some x) same ∙ sym was)))) _ _ _ _)

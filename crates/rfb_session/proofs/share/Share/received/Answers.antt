@@ -5,45 +5,67 @@ use Rattle.rfb_server.specs.Following.{Follows}
 use Rattle.rfb_server.specs.Told.{seen}
 use Rattle.rfb_session.specs.ShareSteps.{asks_alone}
 use Rattle.rfb_session.proofs.FollowLemmas.{all_set, all_emptied}
-use Rattle.rfb_session.proofs.ShareLemmas.{refused_as, received_as, alone_is, seen_none}
+use Rattle.rfb_session.proofs.ShareLemmas.{refused_there, received_there, refused_as, received_as, alone_is, seen_none}
 use Rattle.rfb_session.proofs.SlotLemmas.{at_slot, each_seat, ends_sole, ends_none, flag_others}
 use Rattle.rfb_session.proofs.SlotLemmas.{stays_emptied, stays_clear, seat_set_same, seat_set_other}
+use Rattle.rfb_session.proofs.ShareWorkLemmas.{rest_more, rest_with, rest_emptied}
 use Rattle.rfb_session.proofs.share.Share.received.Goals as goal
 
 pub invariant_of-self : goal.invariant_of-self
 invariant_of-self c =
     let s = c.args.self.now in
-    let within : c.args.seat < length s.seats = omega (arith, c.if-place-ge-SLOTS.false, s.eight) in
     record {
-      eight = length-set s.seats c.args.seat c.hear_in.new.slot ∙ s.eight;
+      eight = s.eight;
       columns = s.columns;
       rows = s.rows;
-      follow = all_set (λ seat. seat.session) s.screen s.seats c.args.seat c.hear_in.new.slot within
+      follow = s.follow;
+      rest = rest_more s.screen s.seats s.stirred c.with-self.result c.args.seat
+          c.with-self.ensures s.rest;
+    }
+
+pub invariant_of-self-in-Err-1 : goal.invariant_of-self-in-Err-1
+invariant_of-self-in-Err-1 c =
+    let s = c.args.self.now in
+    let k = c.place-place.result in
+    let within : k < length s.seats = omega (arith, c.place-place.ensures.below, s.eight) in
+    record {
+      eight = length-set s.seats k c.hear_in.new.slot ∙ s.eight;
+      columns = s.columns;
+      rows = s.rows;
+      rest = rest_with s.screen s.seats s.stirred c.with-self.result k c.args.seat
+          c.hear_in.new.slot c.place-place.ensures.value c.with-self.ensures s.rest;
+      follow = all_set (λ seat. seat.session) s.screen s.seats k c.hear_in.new.slot within
           s.follow (λ seat is. c.hear_in.ensures.follows s.screen (λ x there.
-          each_seat (λ y. Follows s.screen y.session) s.seats s.follow c.args.seat x
-          (sym (at_slot s.seats c.args.seat _ within) ∙ there)) seat is);
+          each_seat (λ y. Follows s.screen y.session) s.seats s.follow k x
+          (sym (at_slot s.seats k _ within) ∙ there)) seat is);
     }
 
 pub returns-in-Err-clause-refused : goal.returns-in-Err-clause-refused
 returns-in-Err-clause-refused c =
     let s = c.args.self.now in
-    let k = c.args.seat in
-    let within : k < length s.seats = omega (arith, c.if-place-ge-SLOTS.false, s.eight) in
-    refused_as s _ k c.args.bytes.now c.in-Err.fault _ c.hear_in.new.slot c.in-Err.ensures.ended
+    let k = c.place-place.result in
+    let within : k < length s.seats = omega (arith, c.place-place.ensures.below, s.eight) in
+    refused_there s _ k c.args.seat c.args.bytes.now c.in-Err.fault c.place-place.ensures.value
+    (refused_as s _ k c.args.bytes.now c.in-Err.fault _ c.hear_in.new.slot c.in-Err.ensures.ended
     (sym (at_slot s.seats k _ within)) (seat_set_same s.seats k c.hear_in.new.slot within)
     (record { screen = refl; made = refl })
-    (λ j differ. seat_set_other s.seats k j c.hear_in.new.slot differ)
+    (λ j differ. seat_set_other s.seats k j c.hear_in.new.slot differ))
 
 pub invariant_of-self-then-asks_sole : goal.invariant_of-self-then-asks_sole
 invariant_of-self-then-asks_sole c =
     let s = c.args.self.now in
-    let k = c.args.seat in
-    let within : k < length s.seats = omega (arith, c.if-place-ge-SLOTS.false, s.eight) in
+    let k = c.place-place.result in
+    let within : k < length s.seats = omega (arith, c.place-place.ensures.below, s.eight) in
     record {
       eight = c.empty_others-ended.ensures.size
           ∙ (length-set s.seats k c.hear_in.new.slot ∙ s.eight);
       columns = s.columns;
       rows = s.rows;
+      rest = rest_emptied s.screen (set s.seats k c.hear_in.new.slot)
+          c.empty_others-ended.new.slots c.with-self.result k
+          (rest_with s.screen s.seats s.stirred c.with-self.result k c.args.seat
+          c.hear_in.new.slot c.place-place.ensures.value c.with-self.ensures s.rest)
+          c.empty_others-ended.ensures.own c.empty_others-ended.ensures.others;
       follow = all_emptied (λ seat. seat.session) s.screen (set s.seats k c.hear_in.new.slot)
           c.empty_others-ended.new.slots k
           (all_set (λ seat. seat.session) s.screen s.seats k c.hear_in.new.slot within s.follow
@@ -56,54 +78,60 @@ invariant_of-self-then-asks_sole c =
 pub returns-then-asks_sole-clause-heard : goal.returns-then-asks_sole-clause-heard
 returns-then-asks_sole-clause-heard c =
     let s = c.args.self.now in
-    let k = c.args.seat in
-    let within : k < length s.seats = omega (arith, c.if-place-ge-SLOTS.false, s.eight) in
+    let k = c.place-place.result in
+    let within : k < length s.seats = omega (arith, c.place-place.ensures.below, s.eight) in
     let told = seen c.in-Ok.fed.event in
     let alone : asks_alone told ≡ true =
     sym (alone_is told c.asks_sole.result c.asks_sole.ensures) ∙ c.if-asks_sole.true in
     let bits = ends_sole s.seats k c.empty_others-ended.result c.hear_in.new.slot (asks_alone told)
     alone c.empty_others-ended.ensures.ended in
     let ended = c.told_of.ensures.ended in
-    received_as s _ k c.args.bytes.now c.in-Ok.fed.used c.told_of.result told _ c.hear_in.new.slot
+    received_there s _ k c.args.seat c.args.bytes.now c.told_of.result c.place-place.ensures.value
+    (received_as s _ k c.args.bytes.now c.in-Ok.fed.used c.told_of.result told _ c.hear_in.new.slot
     c.in-Ok.ensures.heard (sym (at_slot s.seats k _ within))
     (c.empty_others-ended.ensures.own ∙ seat_set_same s.seats k c.hear_in.new.slot within)
     c.told_of.ensures.used
-    (λ none. c.in-Ok.ensures.all (seen_none c.in-Ok.fed.event none)) c.told_of.ensures.seat c.told_of.ensures.event
+    (λ none. c.in-Ok.ensures.all (seen_none c.in-Ok.fed.event none))
+    (c.told_of.ensures.seat ∙ sym c.place-place.ensures.value) c.told_of.ensures.event
     (λ j. ap (λ (n : ℕ). has_bit n j) ended ∙ bits j)
     (λ j differ. stays_emptied _ _ _ (flag_others s.seats k j c.empty_others-ended.result
     c.told_of.result.ended (asks_alone told) ended alone bits differ)
     (c.empty_others-ended.ensures.others j differ))
-    (record { screen = refl; made = refl })
+    (record { screen = refl; made = refl }))
 
 pub invariant_of-self-else-asks_sole : goal.invariant_of-self-else-asks_sole
 invariant_of-self-else-asks_sole c =
     let s = c.args.self.now in
-    let within : c.args.seat < length s.seats = omega (arith, c.if-place-ge-SLOTS.false, s.eight) in
+    let k = c.place-place.result in
+    let within : k < length s.seats = omega (arith, c.place-place.ensures.below, s.eight) in
     record {
-      eight = length-set s.seats c.args.seat c.hear_in.new.slot ∙ s.eight;
+      eight = length-set s.seats k c.hear_in.new.slot ∙ s.eight;
       columns = s.columns;
       rows = s.rows;
-      follow = all_set (λ seat. seat.session) s.screen s.seats c.args.seat c.hear_in.new.slot within
+      rest = rest_with s.screen s.seats s.stirred c.with-self.result k c.args.seat
+          c.hear_in.new.slot c.place-place.ensures.value c.with-self.ensures s.rest;
+      follow = all_set (λ seat. seat.session) s.screen s.seats k c.hear_in.new.slot within
           s.follow (λ seat is. c.hear_in.ensures.follows s.screen (λ x there.
-          each_seat (λ y. Follows s.screen y.session) s.seats s.follow c.args.seat x
-          (sym (at_slot s.seats c.args.seat _ within) ∙ there)) seat is);
+          each_seat (λ y. Follows s.screen y.session) s.seats s.follow k x
+          (sym (at_slot s.seats k _ within) ∙ there)) seat is);
     }
 
 pub returns-clause-heard : goal.returns-clause-heard
 returns-clause-heard c =
     let s = c.args.self.now in
-    let k = c.args.seat in
-    let within : k < length s.seats = omega (arith, c.if-place-ge-SLOTS.false, s.eight) in
+    let k = c.place-place.result in
+    let within : k < length s.seats = omega (arith, c.place-place.ensures.below, s.eight) in
     let told = seen c.in-Ok.fed.event in
     let shares = sym (alone_is told c.asks_sole.result c.asks_sole.ensures)
     ∙ c.if-asks_sole.false in
     let heard = c.told_of-2 in
-    received_as s _ k c.args.bytes.now c.in-Ok.fed.used heard.result told _ c.hear_in.new.slot
+    received_there s _ k c.args.seat c.args.bytes.now heard.result c.place-place.ensures.value
+    (received_as s _ k c.args.bytes.now c.in-Ok.fed.used heard.result told _ c.hear_in.new.slot
     c.in-Ok.ensures.heard (sym (at_slot s.seats k _ within))
     (seat_set_same s.seats k c.hear_in.new.slot within) heard.ensures.used
-    (λ none. c.in-Ok.ensures.all (seen_none c.in-Ok.fed.event none)) heard.ensures.seat
-    heard.ensures.event
+    (λ none. c.in-Ok.ensures.all (seen_none c.in-Ok.fed.event none))
+    (heard.ensures.seat ∙ sym c.place-place.ensures.value) heard.ensures.event
     (ends_none s.seats k heard.result.ended (asks_alone told) shares heard.ensures.ended)
     (λ j differ. stays_clear heard.result.ended j _ _ heard.ensures.ended
     (seat_set_other s.seats k j c.hear_in.new.slot differ))
-    (record { screen = refl; made = refl })
+    (record { screen = refl; made = refl }))

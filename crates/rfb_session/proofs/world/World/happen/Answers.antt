@@ -1,114 +1,121 @@
-use Rattle.std.proofs.Common.{length, refl, ap}
-use Rattle.rfb_picture.specs.Grid.{with_row}
-use Rattle.rfb_server.specs.Standing.{row_from}
+use Rattle.std.proofs.Common.{ℕ, List, Some, length, inl, inr, refl, sym, ap}
+use Rattle.rfb_server.specs.Drawing.{Fill as OneFill, Put as OnePut, Copy as OneCopy, Hint as OneHint}
 use Rattle.std.proofs.lemmas.Result.{IfOk-weaker}
 use Rattle.rfb_server.specs.declared.session.Session.{Session}
 use Rattle.rfb_server.specs.Hints.{hints_in}
 use Rattle.rfb_session.proofs.CalledLemmas.{no_refusal}
-use Rattle.rfb_session.proofs.HappeningLemmas.{filled_happens, put_happens, copied_happens, hinted_happens, called_happens, composed_happens, any_ok, is_sure, nothing_over}
+use Rattle.rfb_session.proofs.DrawnLemmas.{same_hints}
+use Rattle.rfb_session.proofs.EventCallLemmas.{request_event, format_event, encodings_event}
+use Rattle.rfb_session.proofs.EventCallLemmas.{key_event, pointer_event, text_event}
+use Rattle.rfb_session.proofs.HappeningLemmas.{drawing_happens, call_happens, call_is_sure, called_happens}
+use Rattle.rfb_session.proofs.HappeningLemmas.{composed_happens, is_sure, nothing_over}
 use Rattle.rfb_session.proofs.world.World.happen.Goals as goal
 
 pub returns-in-Fill-clause-happens : goal.returns-in-Fill-clause-happens
 returns-in-Fill-clause-happens c =
-    filled_happens c.args.self.now _ _ _ _ c.fill.result c.in-Fill.is
-    c.fill.ensures.acts c.fill.ensures.told c.fill.ensures.hints c.fill.ensures.kept
+    let d = c.drawn.ensures in
+    drawing_happens c.args.self.now _ _ _ c.drawn.result (OneFill c.in-Fill.rect c.in-Fill.colour) c.in-Fill.is d
+    (λ e n m step. step) (λ e n refused. record { moved = d.moved; refused = refused; composed = d.composed })
+    d.acts (d.moved, d.composed) tt (same_hints c.args.self.now _ c.drawn.result _ d refl)
 
 pub returns-in-Put-clause-happens : goal.returns-in-Put-clause-happens
 returns-in-Put-clause-happens c =
-    put_happens c.args.self.now _ _ _ c.put.result (row_from c.in-Put.x c.in-Put.y (length c.in-Put.row.items))
-    (λ g. with_row c.in-Put.x c.in-Put.y c.in-Put.row.items g) c.in-Put.is
-    (λ e n m draws refused. (
-      draws,
-      record {
-        moved = c.put.ensures.told.moved;
-        refused = refused;
-        composed = c.put.ensures.told.composed;
-      },
-    ))
-    c.put.ensures.acts c.put.ensures.acts (c.put.ensures.told.moved, c.put.ensures.told.composed) tt
-    c.put.ensures.hints c.put.ensures.told.closed c.put.ensures.kept
+    let d = rw c.deref.ensures.value at c.drawn-in-Put.ensures in
+    drawing_happens c.args.self.now _ _ _ c.drawn-in-Put.result
+    (OnePut c.in-Put.x c.in-Put.y c.in-Put.row.items) c.in-Put.is d
+    (λ e n m step. step) (λ e n refused. record { moved = d.moved; refused = refused; composed = d.composed })
+    d.acts (d.moved, d.composed) tt (same_hints c.args.self.now _ c.drawn-in-Put.result _ d refl)
 
 pub returns-in-Copy-clause-happens : goal.returns-in-Copy-clause-happens
 returns-in-Copy-clause-happens c =
-    copied_happens c.args.self.now _ _ _ _ _ c.copy.result c.in-Copy.is
-    c.copy.ensures.acts c.copy.ensures.told c.copy.ensures.hints c.copy.ensures.kept
+    let d = c.drawn-in-Copy.ensures in
+    drawing_happens c.args.self.now _ _ _ c.drawn-in-Copy.result
+    (OneCopy c.in-Copy.rect c.in-Copy.sx c.in-Copy.sy) c.in-Copy.is d
+    (λ e n m step. step) (λ e n refused. record { moved = d.moved; refused = refused; composed = d.composed })
+    d.acts (d.moved, d.composed) tt (same_hints c.args.self.now _ c.drawn-in-Copy.result _ d refl)
 
 pub returns-in-Hint-clause-happens : goal.returns-in-Hint-clause-happens
 returns-in-Hint-clause-happens c =
-    hinted_happens c.args.self.now _ _ _ _ _ c.hint.result c.in-Hint.is
-    c.hint.ensures.acts c.hint.ensures.told c.hint.ensures.hints c.hint.ensures.kept
+    let d = c.drawn-in-Hint.ensures in
+    drawing_happens c.args.self.now _ _ _ c.drawn-in-Hint.result
+    (OneHint c.in-Hint.rect c.in-Hint.sx c.in-Hint.sy) c.in-Hint.is d
+    (λ e n m step. elim step [ inl made ↦ made.1 | inr refused ↦ refused.1 ])
+    (λ e n refused. record { moved = d.moved; refused = refused; composed = d.composed })
+    d.acts (d.moved, d.composed) tt d.hints
 
 pub returns-in-Request-clause-happens : goal.returns-in-Request-clause-happens
 returns-in-Request-clause-happens c =
-    called_happens c.args.self.now _ _ _ c.request.result c.in-Request.is c.request.ensures.does
-    (IfOk-weaker c.request.result _ _ (λ told bytes. (refl, bytes)) c.request.ensures.bytes) c.request.ensures.tells
-    (any_ok _ c.request.result (λ told. tt)) (λ told. ap (λ (s : Session). hints_in s) c.request.ensures.session) refl refl
+    let call = c.call in
+    call_happens c.args.self.now _ _ _ _ call.result c.in-Request.is (request_event _ _)
+    call.ensures.does call.ensures.bytes call.ensures.tells
+    (ap (λ (s : Session). hints_in s) call.ensures.session) refl refl
 
 pub returns-in-Request-clause-sure : goal.returns-in-Request-clause-sure
 returns-in-Request-clause-sure c =
-    is_sure c.args.self.now _ _ c.request.result c.in-Request.is (λ drawing. absurd drawing)
-    (λ refused. c.request.ensures.spared (refused.0, refused.1, refused.2, refused.3, refused.4.link_is, refused.5)) (λ lost. absurd lost)
-    (λ none. absurd none)
+    call_is_sure c.args.self.now _ _ _ c.call.result c.in-Request.is (request_event _ _)
+    c.call.ensures.spared
 
 pub returns-in-SetFormat-clause-happens : goal.returns-in-SetFormat-clause-happens
 returns-in-SetFormat-clause-happens c =
-    called_happens c.args.self.now _ _ _ c.set_format.result c.in-SetFormat.is c.set_format.ensures.does
-    (IfOk-weaker c.set_format.result _ _ (λ told bytes. (refl, bytes)) c.set_format.ensures.bytes) c.set_format.ensures.tells
-    (any_ok _ c.set_format.result (λ told. tt)) (λ told. ap (λ (s : Session). hints_in s) c.set_format.ensures.session) refl refl
+    let call = c.call-in-SetFormat in
+    call_happens c.args.self.now _ _ _ _ call.result c.in-SetFormat.is (format_event _)
+    call.ensures.does call.ensures.bytes call.ensures.tells
+    (ap (λ (s : Session). hints_in s) call.ensures.session) refl refl
 
 pub returns-in-SetFormat-clause-sure : goal.returns-in-SetFormat-clause-sure
 returns-in-SetFormat-clause-sure c =
-    is_sure c.args.self.now _ _ c.set_format.result c.in-SetFormat.is (λ drawing. absurd drawing)
-    (λ refused. c.set_format.ensures.spared (refused.0, refused.1, refused.2, refused.3, refused.4.link_is, refused.5)) (λ lost. absurd lost)
-    (λ none. absurd none)
+    call_is_sure c.args.self.now _ _ _ c.call-in-SetFormat.result c.in-SetFormat.is (format_event _)
+    c.call-in-SetFormat.ensures.spared
 
 pub returns-in-SetEncodings-clause-happens : goal.returns-in-SetEncodings-clause-happens
 returns-in-SetEncodings-clause-happens c =
-    called_happens c.args.self.now _ _ _ c.set_encodings.result c.in-SetEncodings.is c.set_encodings.ensures.does
-    (IfOk-weaker c.set_encodings.result _ _ (λ told bytes. (refl, bytes)) c.set_encodings.ensures.bytes) c.set_encodings.ensures.tells
-    (any_ok _ c.set_encodings.result (λ told. tt)) (λ told. ap (λ (s : Session). hints_in s) c.set_encodings.ensures.session) refl refl
+    let call = c.call-in-SetEncodings in
+    call_happens c.args.self.now _ _ _ _ call.result c.in-SetEncodings.is (encodings_event _)
+    call.ensures.does call.ensures.bytes call.ensures.tells
+    (ap (λ (s : Session). hints_in s) call.ensures.session) refl refl
 
 pub returns-in-SetEncodings-clause-sure : goal.returns-in-SetEncodings-clause-sure
 returns-in-SetEncodings-clause-sure c =
-    is_sure c.args.self.now _ _ c.set_encodings.result c.in-SetEncodings.is (λ drawing. absurd drawing)
-    (λ refused. c.set_encodings.ensures.spared (refused.0, refused.1, refused.2, refused.3, refused.4.link_is, refused.5)) (λ lost. absurd lost)
-    (λ none. absurd none)
+    call_is_sure c.args.self.now _ _ _ c.call-in-SetEncodings.result c.in-SetEncodings.is (encodings_event _)
+    c.call-in-SetEncodings.ensures.spared
 
 pub returns-in-Key-clause-happens : goal.returns-in-Key-clause-happens
 returns-in-Key-clause-happens c =
-    called_happens c.args.self.now _ _ _ c.key.result c.in-Key.is c.key.ensures.does
-    (IfOk-weaker c.key.result _ _ (λ told bytes. (refl, bytes)) c.key.ensures.bytes) c.key.ensures.tells
-    (any_ok _ c.key.result (λ told. tt)) (λ told. ap (λ (s : Session). hints_in s) c.key.ensures.session) refl refl
+    let call = c.call-in-Key in
+    call_happens c.args.self.now _ _ _ _ call.result c.in-Key.is (key_event _ _)
+    call.ensures.does call.ensures.bytes call.ensures.tells
+    (ap (λ (s : Session). hints_in s) call.ensures.session) refl refl
 
 pub returns-in-Key-clause-sure : goal.returns-in-Key-clause-sure
 returns-in-Key-clause-sure c =
-    is_sure c.args.self.now _ _ c.key.result c.in-Key.is (λ drawing. absurd drawing)
-    (λ refused. c.key.ensures.spared (refused.0, refused.1, refused.2, refused.3, refused.4.link_is, refused.5)) (λ lost. absurd lost)
-    (λ none. absurd none)
+    call_is_sure c.args.self.now _ _ _ c.call-in-Key.result c.in-Key.is (key_event _ _)
+    c.call-in-Key.ensures.spared
 
 pub returns-in-Pointer-clause-happens : goal.returns-in-Pointer-clause-happens
 returns-in-Pointer-clause-happens c =
-    called_happens c.args.self.now _ _ _ c.pointer.result c.in-Pointer.is c.pointer.ensures.does
-    (IfOk-weaker c.pointer.result _ _ (λ told bytes. (refl, bytes)) c.pointer.ensures.bytes) c.pointer.ensures.tells
-    (any_ok _ c.pointer.result (λ told. tt)) (λ told. ap (λ (s : Session). hints_in s) c.pointer.ensures.session) refl refl
+    let call = c.call-in-Pointer in
+    call_happens c.args.self.now _ _ _ _ call.result c.in-Pointer.is (pointer_event _ _ _)
+    call.ensures.does call.ensures.bytes call.ensures.tells
+    (ap (λ (s : Session). hints_in s) call.ensures.session) refl refl
 
 pub returns-in-Pointer-clause-sure : goal.returns-in-Pointer-clause-sure
 returns-in-Pointer-clause-sure c =
-    is_sure c.args.self.now _ _ c.pointer.result c.in-Pointer.is (λ drawing. absurd drawing)
-    (λ refused. c.pointer.ensures.spared (refused.0, refused.1, refused.2, refused.3, refused.4.link_is, refused.5)) (λ lost. absurd lost)
-    (λ none. absurd none)
+    call_is_sure c.args.self.now _ _ _ c.call-in-Pointer.result c.in-Pointer.is (pointer_event _ _ _)
+    c.call-in-Pointer.ensures.spared
 
 pub returns-in-CutText-clause-happens : goal.returns-in-CutText-clause-happens
 returns-in-CutText-clause-happens c =
-    called_happens c.args.self.now _ _ _ c.cut_text.result c.in-CutText.is c.cut_text.ensures.does
-    (IfOk-weaker c.cut_text.result _ _ (λ told bytes. (refl, bytes)) c.cut_text.ensures.bytes) c.cut_text.ensures.tells
-    (any_ok _ c.cut_text.result (λ told. tt)) (λ told. ap (λ (s : Session). hints_in s) c.cut_text.ensures.session) refl refl
+    let call = c.call-in-CutText in
+    call_happens c.args.self.now _ _ _ _ call.result c.in-CutText.is (text_event _ _ (ap (λ (t : List ℕ). Some t)
+    (sym c.deref-in-CutText.ensures.value)))
+    call.ensures.does call.ensures.bytes call.ensures.tells
+    (ap (λ (s : Session). hints_in s) call.ensures.session) refl refl
 
 pub returns-in-CutText-clause-sure : goal.returns-in-CutText-clause-sure
 returns-in-CutText-clause-sure c =
-    is_sure c.args.self.now _ _ c.cut_text.result c.in-CutText.is (λ drawing. absurd drawing)
-    (λ refused. c.cut_text.ensures.spared (refused.0, refused.1, refused.2, refused.3, refused.4.link_is, refused.5)) (λ lost. absurd lost)
-    (λ none. absurd none)
+    call_is_sure c.args.self.now _ _ _ c.call-in-CutText.result c.in-CutText.is (text_event _ _ (ap (λ
+    (t : List ℕ). Some t) (sym c.deref-in-CutText.ensures.value)))
+    c.call-in-CutText.ensures.spared
 
 pub returns-in-ToServer-clause-happens : goal.returns-in-ToServer-clause-happens
 returns-in-ToServer-clause-happens c =

@@ -16,11 +16,11 @@ returns c =
     let list : c.push.new.self.items ≡ Raw ∷ [] =
     c.push.ensures.items ∙ ap (λ (q : List Encoding). q ++ Raw ∷ []) c.new-encodings.ensures in
     let viewer_is = subst (λ (xs : List Encoding). StandsFor
-    (viewing_with rgb888 xs V38 true 16777216 1024) c.new-viewer.result first_viewer []) list
+    (viewing_with rgb888 xs V38 true 16777216 1024) c.of-viewer.result first_viewer []) list
     (subst (λ (f : PixelFormat). StandsFor
-    (viewing_with f c.push.new.self.items V38 true 16777216 1024) c.new-viewer.result first_viewer
-    []) c.rgb888.ensures.value c.new-viewer.ensures.stands) in
-    let fresh = fresh_for c.args.width c.args.height c.in_ok-server.server c.new-viewer.result
+    (viewing_with f c.push.new.self.items V38 true 16777216 1024) c.of-viewer.result first_viewer
+    []) c.rgb888.ensures.value c.of-viewer.ensures.stands) in
+    let fresh = fresh_for c.args.width c.args.height c.in_ok-server.server c.of-viewer.result
     c.in_ok-server.ensures.stands viewer_is in
     c.in_ok-world.ensures (ends_for c.args.width c.args.height)
     (uniform c.args.width c.args.height black) fresh

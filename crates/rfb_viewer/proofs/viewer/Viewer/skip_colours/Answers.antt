@@ -3,6 +3,7 @@ use Rattle.std.proofs.lemmas.List.{length-take-le}
 use Rattle.rfb_viewer.specs.declared.viewer.progress.Progress.TheVariants.{Head, Colours}
 use Rattle.rfb_viewer.proofs.MessageLemmas.{colours_part, colours_got}
 use Rattle.rfb_viewer.proofs.TakingLemmas.{damages_at}
+use Rattle.rfb_viewer.proofs.MovedLemmas.{quiet_moves}
 use Rattle.rfb_viewer.proofs.viewer.Viewer.skip_colours.Goals as goal
 
 pub returns-then-bytes-missing : goal.returns-then-bytes-missing
@@ -18,8 +19,10 @@ returns-then-bytes-missing c =
           colours_part viewing old _ c.in-Colours.more (c.in-Colours.more - length bytes) (take (length bytes) bytes) c.in-Colours.is left
           (record { hello = refl; form = refl; encodings = refl; limit = refl; progress_is = refl; request_is = refl; picture_is = refl });
       damage = damages_at old _ (take (length bytes) bytes) (Colours c.in-Colours.more) c.in-Colours.is refl;
+      moved = quiet_moves old _ (take (length bytes) bytes) (Colours c.in-Colours.more) c.in-Colours.is tt refl;
       going = refl;
       made = refl;
+      taken = refl;
     }
 
 pub returns : goal.returns
@@ -35,6 +38,8 @@ returns c =
           colours_got viewing old _ c.in-Colours.more (take missing bytes) c.in-Colours.is long
           (record { hello = refl; form = refl; encodings = refl; limit = refl; progress_is = ap (λ (ys : List ℕ). Head (record { items = ys })) c.new.ensures; request_is = refl; picture_is = refl });
       damage = damages_at old _ (take missing bytes) (Colours c.in-Colours.more) c.in-Colours.is refl;
+      moved = quiet_moves old _ (take missing bytes) (Colours c.in-Colours.more) c.in-Colours.is tt refl;
       going = refl;
       made = refl;
+      taken = refl;
     }

@@ -1,18 +1,19 @@
 use Rattle.std.proofs.Common.{◌∙◌, ℕ, List, ◌++◌, take, slice_index, ap, sym, subst, refl, arith}
 use Rattle.rfb_wire.specs.Heads.{IsUnknown}
 use Rattle.rfb_wire.specs.ServerHead.{SpellsServerHead}
-use Rattle.rfb_wire.proofs.stream_laws.FeedLaws.{front_refuses}
+use Rattle.rfb_wire.proofs.stream_laws.FeedLaws.{step_refuses}
 use Rattle.rfb_viewer.specs.declared.fault.ViewerFault.{ViewerFault}
 use Rattle.rfb_viewer.specs.declared.viewer.progress.Progress.TheVariants.{Head, Failed}
 use Rattle.rfb_viewer.specs.Fault.{fault_of_wire}
 use Rattle.rfb_viewer.specs.Viewer.{viewer}
 use Rattle.rfb_viewer.specs.Progress.{IsHeadBegun}
 use Rattle.rfb_viewer.specs.Standing.{StandsFor}
-use Rattle.rfb_viewer.proofs.ViewerLaws.{viewer_machine}
 use Rattle.rfb_viewer.proofs.HeadLemmas.{misses_begun, one_byte, head_whole}
 use Rattle.rfb_viewer.proofs.MessageLemmas.{head_part, head_bad, head_got, head_asks}
-use Rattle.rfb_viewer.proofs.FailLemmas.{head_ends, head_memory, none_at}
+use Rattle.rfb_viewer.proofs.FailLemmas.{head_ends, head_memory, none_at, wire_other}
+use Rattle.rfb_viewer.proofs.PlaceLemmas.{first_bad_placed, first_memory_placed}
 use Rattle.rfb_viewer.proofs.TakingLemmas.{damages_at, after_going, wire_fails, memory_fails}
+use Rattle.rfb_viewer.proofs.MovedLemmas.{quiet_moves}
 use Rattle.rfb_viewer.proofs.viewer.Viewer.take_head.Goals as goal
 
 pub returns-in-More : goal.returns-in-More
@@ -29,8 +30,10 @@ returns-in-More c =
           (subst IsHeadBegun (sym c.in-More.ensures.kept) (misses_begun _ _ c.in-More.ensures.more))
           (record { hello = refl; form = refl; encodings = refl; limit = refl; progress_is = refl; request_is = refl; picture_is = refl });
       damage = damages_at old _ (take 1 c.args.bytes.now) (Head part) c.in-Head.is refl;
+      moved = quiet_moves old _ (take 1 c.args.bytes.now) (Head part) c.in-Head.is tt refl;
       going = refl;
       made = refl;
+      taken = refl;
     }
 
 pub returns-in-Bad : goal.returns-in-Bad
@@ -41,11 +44,13 @@ returns-in-Bad c =
     let part = c.in-Head.part in
     let one = one_byte bytes c.requires.some in
     let unknown = subst (λ (ys : List ℕ). IsUnknown SpellsServerHead fault (part.items ++ ys)) (sym one) c.in-Bad.ensures.bad in
-    rw (c.fail.ensures.value, c.of_wire.ensures)
-    (wire_fails old _ bytes (damages_at old _ bytes (Head part) c.in-Head.is refl) refl fault
-    (λ viewing. front_refuses (viewer viewing) (viewer_machine viewing) (StandsFor viewing) old old 1 bytes (fault_of_wire fault) (head_bad viewing old old part (take 1 bytes) fault c.in-Head.is unknown))
+    rw (c.fail-fault.ensures.value, c.of_wire.ensures)
+    (wire_fails old _ bytes (damages_at old _ bytes (Head part) c.in-Head.is refl) refl refl refl 1 fault
+    (first_bad_placed old bytes (fault_of_wire fault) c.requires.some (wire_other fault) (λ viewing. step_refuses
+    (viewer viewing) (StandsFor viewing) old old (take 1 bytes) (fault_of_wire fault)
+    (head_bad viewing old old part (take 1 bytes) fault c.in-Head.is unknown)))
     (λ viewing. head_ends viewing old old part 1 bytes fault c.in-Head.is (head_bad viewing old old part (take 1 bytes) fault c.in-Head.is unknown))
-    refl (c.fail.ensures.after ∙ ap (λ (f : ViewerFault). Failed f) c.of_wire.ensures))
+    refl (c.fail-fault.ensures.after ∙ ap (λ (f : ViewerFault). Failed f) c.of_wire.ensures))
 
 pub returns-in_default-go_on_after : goal.returns-in_default-go_on_after
 returns-in_default-go_on_after c =
@@ -57,11 +62,13 @@ returns-in_default-go_on_after c =
     let one = one_byte bytes c.requires.some in
     let got = c.in-Got.ensures.got in
     let asked = c.in_default-go_on_after.ensures.asked in
-    rw (c.fail-in_default-go_on_after.ensures.value)
-    (memory_fails old _ bytes (damages_at old _ bytes (Head part) c.in-Head.is refl) refl
-    (λ viewing. head_asks viewing old old part byte bytes head c.in-Head.is one (λ begun. head_whole head part.items byte _ begun got.0 got.1) asked)
+    rw (c.fail-fault-in_default-go_on_after.ensures.value)
+    (memory_fails old _ bytes (damages_at old _ bytes (Head part) c.in-Head.is refl) refl refl refl 1
+    (first_memory_placed old bytes c.requires.some (λ viewing. head_asks viewing old old part byte
+    (take 1 bytes) head c.in-Head.is (ap (take 1) one) (λ begun. head_whole head part.items byte _ begun got.0
+    got.1) asked))
     (λ viewing. head_memory viewing old part byte bytes head c.in-Head.is one (λ begun. head_whole head part.items byte _ begun got.0 got.1) asked)
-    (none_at old old.hello refl) c.fail-in_default-go_on_after.ensures.after)
+    (none_at old old.hello refl) c.fail-fault-in_default-go_on_after.ensures.after)
 
 pub returns : goal.returns
 returns c =
@@ -78,6 +85,8 @@ returns c =
           (λ begun. subst (λ (ys : List ℕ). SpellsServerHead c.in-Got.head (part.items ++ ys)) (sym one) (head_whole c.in-Got.head part.items (slice_index bytes 0) _ begun got.0 got.1))
           (record { hello = refl; form = refl; encodings = refl; limit = refl; progress_is = c.in-Ok.ensures.progress; request_is = c.in-Ok.ensures.request; picture_is = refl }));
       damage = damages_at old _ (take 1 bytes) (Head part) c.in-Head.is refl;
+      moved = quiet_moves old _ (take 1 bytes) (Head part) c.in-Head.is tt refl;
       going = rw c.in-Ok.ensures.progress (after_going old.text_limit c.in-Got.head);
       made = refl;
+      taken = refl;
     }

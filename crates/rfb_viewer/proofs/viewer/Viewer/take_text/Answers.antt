@@ -5,6 +5,7 @@ use Rattle.rfb_viewer.specs.declared.viewer.progress.Progress.TheVariants.{Head,
 use Rattle.rfb_viewer.specs.Progress.{fault_in}
 use Rattle.rfb_viewer.proofs.MessageLemmas.{text_part, text_got}
 use Rattle.rfb_viewer.proofs.TakingLemmas.{damages_at}
+use Rattle.rfb_viewer.proofs.MovedLemmas.{quiet_moves}
 use Rattle.rfb_viewer.proofs.viewer.Viewer.take_text.Goals as goal
 
 pub returns-then-bytes-missing : goal.returns-then-bytes-missing
@@ -22,8 +23,11 @@ returns-then-bytes-missing c =
           text_part viewing old _ c.in-CutText.length c.in-CutText.more (c.in-CutText.more - length bytes) kept c.keep.new.self (take (length bytes) bytes) c.in-CutText.is left now
           (record { hello = refl; form = refl; encodings = refl; limit = refl; progress_is = refl; request_is = refl; picture_is = refl });
       damage = damages_at old _ (take (length bytes) bytes) (CutText c.in-CutText.length c.in-CutText.more kept) c.in-CutText.is refl;
+      moved = quiet_moves old _ (take (length bytes) bytes) (CutText c.in-CutText.length c.in-CutText.more kept)
+          c.in-CutText.is tt refl;
       going = refl;
       made = refl;
+      taken = refl;
     }
 
 pub returns : goal.returns
@@ -45,6 +49,9 @@ returns c =
           (text_got viewing old _ c.in-CutText.length c.in-CutText.more kept c.keep-2.new.self (take missing bytes) c.in-CutText.is long now
           (record { hello = refl; form = refl; encodings = refl; limit = refl; progress_is = c.replace.ensures.after ∙ ap (λ (ys : List ℕ). Head (record { items = ys })) c.new.ensures; request_is = refl; picture_is = refl }));
       damage = damages_at old _ (take missing bytes) (CutText c.in-CutText.length c.in-CutText.more kept) c.in-CutText.is refl;
+      moved = quiet_moves old _ (take missing bytes) (CutText c.in-CutText.length c.in-CutText.more kept)
+          c.in-CutText.is tt refl;
       going = ap fault_in c.replace.ensures.after;
       made = refl;
+      taken = refl;
     }

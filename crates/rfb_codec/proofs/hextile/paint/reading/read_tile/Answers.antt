@@ -1,9 +1,10 @@
-use Rattle.std.proofs.Common.{◌≡◌, ◌∙◌, ◌≤◌, true, refl, sym, arith, length, slice_index}
+use Rattle.std.proofs.Common.{◌≡◌, ◌∙◌, ◌≤◌, true, refl, sym, arith, false, length, slice_index}
 use Rattle.std.proofs.lemmas.Bool.Decides.{nat_tests}
 use Rattle.rfb_codec.specs.Tile.{are_inside, places_of}
 use Rattle.rfb_codec.specs.inside.TileRead.{tile_of_read}
 use Rattle.rfb_codec.proofs.TileLaws.{inside_true}
 use Rattle.rfb_codec.proofs.PaintTileLemmas.{tile_got}
+use Rattle.rfb_codec.proofs.TileOutsideLemmas.{outside_faults}
 use Rattle.rfb_codec.proofs.hextile.paint.reading.read_tile.Goals as goal
 
 pub returns-then-fits-clause-told : goal.returns-then-fits-clause-told
@@ -16,3 +17,18 @@ returns-then-fits-clause-told c = λ before sees.
     let found = c.in-Some-find.ensures.told in
     let some : 1 ≤ length c.args.bytes.now = grind (arith, nat_tests, c.is_empty.ensures) in
     (tile_got c.args.format w h before c.args.bytes.now (slice_index c.args.bytes.now 0) tile _ some refl (sym (c.in-None.ensures before sees)) found.0 inside, found.1, inside_true w h (places_of tile) inside)
+
+pub returns-else-fits-clause-with : goal.returns-else-fits-clause-with
+returns-else-fits-clause-with c = λ before sees.
+    let w = c.args.width in
+    let h = c.args.height in
+    let read = c.in-Some-find.read in
+    let tile = tile_of_read c.args.format w h read c.args.bytes.now in
+    let outside : are_inside w h (places_of tile) ≡ false = sym c.fits.ensures ∙ c.if-fits.false in
+    let found = c.in-Some-find.ensures.told in
+    let lies = found.1 in
+    let end = lies.end in
+    let begun = lies.some in
+    let some : 1 ≤ length c.args.bytes.now = grind (arith, nat_tests, c.is_empty.ensures) in
+    outside_faults c.args.format w h before c.args.bytes.now (slice_index c.args.bytes.now 0) tile read.used some
+    refl (sym (c.in-None.ensures before sees)) found.0 (omega (arith, end, begun)) lies.within outside

@@ -4,15 +4,19 @@ use Rattle.rfb_codec.specs.Hextile.{tile_width, tile_height}
 use Rattle.rfb_codec.specs.inside.TileRead.{tile_of_read}
 use Rattle.rfb_codec.specs.inside.Step.{TellsNext}
 use Rattle.rfb_codec.proofs.TakeTileLemmas.{byte_waits, last_taken, tile_goes_on}
-use Rattle.rfb_codec.proofs.TileFaultLemmas.{byte_refused}
+use Rattle.rfb_codec.proofs.TileRefusalLemmas.{byte_refused}
 use Rattle.rfb_codec.proofs.hextile.paint.take.take_byte.Goals as goal
 
 pub returns-in-Err : goal.returns-in-Err
 returns-in-Err c =
     let r = c.args.rectangle.now in
     record {
+      some = omega arith;
+      within = omega arith;
       stops = λ before body stands.
-          byte_refused r.format r.rect c.args.tile c.args.seen c.args.pending.now.items c.as_slice-bytes.result.now c.args.byte c.in-Err.fault c.args.picture.now before body c.requires.below (c.as_slice-bytes.ensures.value ∙ c.push.ensures.items) c.in-Err.ensures.told stands;
+          byte_refused r.format r.rect c.args.tile c.args.seen c.args.pending.now.items c.as_slice-bytes.result.now
+          c.args.byte c.in-Err.flaw c.args.picture.now before body c.requires.below
+          (c.as_slice-bytes.ensures.value ∙ c.push.ensures.items) c.in-Err.ensures.told stands;
       emptied = ap length c.clear.ensures;
       width = refl;
       height = refl;

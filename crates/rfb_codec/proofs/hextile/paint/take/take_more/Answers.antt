@@ -1,7 +1,7 @@
 use Rattle.std.proofs.Common.{◌≡◌, ◌<◌, length, take, refl, arith}
 use Rattle.std.proofs.lemmas.Bool.Decides.{nat_tests}
 use Rattle.rfb_codec.specs.inside.TileRead.{least_size}
-use Rattle.rfb_codec.proofs.TileFaultLemmas.{first_steps}
+use Rattle.rfb_codec.proofs.TileRefusalLemmas.{first_steps}
 use Rattle.rfb_codec.proofs.JoinLemmas.{tile_waits}
 use Rattle.rfb_codec.proofs.hextile.paint.take.take_more.Goals as goal
 

@@ -4,7 +4,7 @@ use Rattle.rfb_codec.specs.Hextile.{tile_width, tile_height}
 use Rattle.rfb_codec.specs.inside.TileRead.{tile_of_read}
 use Rattle.rfb_codec.proofs.FrontLemmas.{no_items, some_places}
 use Rattle.rfb_codec.proofs.TakeTileLemmas.{front_goes_on, front_sound, front_some, tile_goes_on, tile_taken}
-use Rattle.rfb_codec.proofs.TileFaultLemmas.{slice_refused}
+use Rattle.rfb_codec.proofs.TileRefusalLemmas.{slice_refused}
 use Rattle.rfb_codec.proofs.hextile.paint.take.take_tile.Goals as goal
 
 pub returns-in-Err : goal.returns-in-Err
@@ -12,8 +12,12 @@ returns-in-Err c =
     let r = c.args.rectangle.now in
     let none : c.args.pending.now.items ≡ [] = no_items c.args.pending.now.items (grind (arith, nat_tests)) in
     record {
+      some = c.in-Err.ensures.with.some;
+      within = c.in-Err.ensures.with.within;
       stops = λ before body stands.
-          slice_refused r.format r.rect c.args.tile c.args.seen c.args.pending.now.items c.args.bytes.now c.in-Err.fault c.args.picture.now before body c.requires.below none c.in-Err.ensures.told stands;
+          slice_refused r.format r.rect c.args.tile c.args.seen c.args.pending.now.items c.args.bytes.now
+          c.in-Err.flaw c.args.picture.now before body c.requires.below none c.in-Err.ensures.told
+          c.in-Err.ensures.with stands;
       emptied = ap length none;
       width = refl;
       height = refl;

@@ -1,16 +1,14 @@
-use Rattle.std.proofs.Common.{if◌then◌else◌, refl}
-use Rattle.rfb_picture.specs.Rect.{contains}
-use Rattle.rfb_server.proofs.FollowingLaws.{follows_changed}
+use Rattle.rfb_server.specs.Drawing.{Fill}
+use Rattle.rfb_server.proofs.DrawingLaws.{follows_stroke}
 use Rattle.rfb_server.proofs.tests.shared.Shared.draw.Goals as goal
 
 pub invariant_of-self : goal.invariant_of-self
 invariant_of-self c =
     let s = c.args.self.now in
-    record {
-      told_first = follows_changed s.first c.drawn.new.self s.screen c.fill.new.self (c.args.rect)
-          (λ x y old. if contains c.args.rect x y then c.args.colour else old) s.told_first c.drawn.ensures.follows c.fill.ensures.value
-          (λ x y old e. rw e refl);
-      told_second = follows_changed s.second c.drawn-2.new.self s.screen c.fill.new.self (c.args.rect)
-          (λ x y old. if contains c.args.rect x y then c.args.colour else old) s.told_second c.drawn-2.ensures.follows c.fill.ensures.value
-          (λ x y old e. rw e refl);
-    }
+    let drawn = Fill c.args.rect c.args.colour in
+    rw (c.draw_on.ensures.value) (record {
+      told_first = follows_stroke drawn s.first c.notified.new.self s.screen s.told_first
+          (rw c.in-Ok.ensures.value at c.notified.ensures.follows);
+      told_second = follows_stroke drawn s.second c.notified-2.new.self s.screen s.told_second
+          (rw c.in-Ok.ensures.value at c.notified-2.ensures.follows);
+    })

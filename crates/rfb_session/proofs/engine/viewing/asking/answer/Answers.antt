@@ -1,4 +1,4 @@
-use Rattle.std.proofs.Common.{◌≡◌, ◌<◌, ◌-◌, sym, arith, rules}
+use Rattle.std.proofs.Common.{◌≡◌, ◌<◌, ◌-◌, sym, arith, rules, refl, inl, inr}
 use Rattle.rfb_viewer.specs.Told.{seen}
 use Rattle.rfb_session.specs.Wire.{by_steps}
 use Rattle.rfb_session.proofs.ViewLemmas.{answer_ends, answer_rests, answer_asks, answer_cut, request_cut}
@@ -44,3 +44,20 @@ returns-in-None-clause-answered g c =
     c.send_over.new.wire c.viewer_reply.result.now c.viewer_reply.ensures c.in-Ok.ensures.done
     (sym c.in-None.ensures) some
     (omega (arith, c.ended.ensures.told, c.ended.ensures.few, c.requires.wanted))
+
+pub returns-in-Err-clause-asked : goal.returns-in-Err-clause-asked
+returns-in-Err-clause-asked g c = inl refl
+
+pub returns-then-fewer-eq0-clause-asked : goal.returns-then-fewer-eq0-clause-asked
+returns-then-fewer-eq0-clause-asked g c = inl refl
+
+pub returns-in-None-clause-asked : goal.returns-in-None-clause-asked
+returns-in-None-clause-asked g c = inl refl
+
+pub returns-in-Ok-ask-clause-asked : goal.returns-in-Ok-ask-clause-asked
+returns-in-Ok-ask-clause-asked g c =
+    let asked = c.in-Ok-ask.ensures.asked in inr (c.in-Some.incremental, asked.sent, asked.asks)
+
+pub returns-in-Err-ask-clause-asked : goal.returns-in-Err-ask-clause-asked
+returns-in-Err-ask-clause-asked g c =
+    let asked = c.in-Err-ask.ensures.stopped in inr (c.in-Some.incremental, asked.sent, asked.asks)

@@ -1,5 +1,0 @@
-use Rattle.rfb_pixel.proofs.UnpackLemmas.{numbers_in}
-use Rattle.rfb_pixel.proofs.lanes.rgb888.components_of.Goals as goal
-
-pub returns : goal.returns
-returns c = numbers_in c.args.bytes c.fits-bytes.0 c.fits-bytes.1

@@ -1,7 +1,0 @@
-use Rattle.rfb_session.proofs.ShareSeatLemmas.{fits_kept}
-use Rattle.rfb_session.proofs.share.seat.ShareSeatFollower.drawn.Goals as goal
-
-pub invariant_of-self-clause-roomy : goal.invariant_of-self-clause-roomy
-invariant_of-self-clause-roomy c =
-    let s = c.args.self.now in
-    fits_kept s.session _ s.waiting s.waiting c.drawn.ensures.kept (λ point fit. fit) s.roomy
