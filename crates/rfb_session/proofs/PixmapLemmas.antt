@@ -177,8 +177,8 @@ block_more colours start end up =
     sym (ap (λ (n : ℕ). take n colours) (sym split) ∙ take-add start (end - start) colours)
 
 -- it ends where the colours do, or the room for their bytes
-pub room_for_block : (colours : List Colour) (start end room waiting : ℕ) → room + waiting ≡ 8192 →
-    end ≡ min (length colours) (start + room / 6) → waiting + 6 * length (take (end - start) (drop start colours)) ≤ 8192
+pub room_for_block : (colours : List Colour) (start end room waiting : ℕ) → room + waiting ≡ 65536 →
+    end ≡ min (length colours) (start + room / 6) → waiting + 6 * length (take (end - start) (drop start colours)) ≤ 65536
 room_for_block colours start end room waiting all is =
     let some : length (take (end - start) (drop start colours)) ≡ min (end - start) (length (drop start colours)) = length-take (end - start) (drop start colours) in
     omega (arith, all, is, some)

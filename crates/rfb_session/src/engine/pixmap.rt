@@ -14,7 +14,7 @@ use rfb_pixel::Colour;
 use std::marker::Model;
 
 // How many bytes wait for a write, at most.
-const ROOM: usize = 8192;
+const ROOM: usize = 65_536;
 
 // How many bytes a colour has.
 const COLOUR_BYTES: usize = 6;
@@ -179,7 +179,7 @@ impl Model for Waiting {
 
     ghost view = { λ w. take w.len w.bytes };
 
-    ghost invariant = { λ w. w.len ≤ 8192 };
+    ghost invariant = { λ w. w.len ≤ 65536 };
 }
 
 impl Waiting {

@@ -15,9 +15,9 @@ fn colour_at(x: u16, y: u16) -> Colour {
     }
 }
 
-const SIDE: u16 = 100;
+const SIDE: u16 = 110;
 
-// A picture of 100 by 100 places, each with its own colour.
+// A picture of 110 by 110 places, each with its own colour.
 fn picture(alloc: Global) -> Result<Picture<Colour>, AllocError> {
     let mut picture = Picture::new(alloc, SIDE, SIDE, colour_at(0, 0))?;
     for y in 0..SIDE {
@@ -31,9 +31,9 @@ fn picture(alloc: Global) -> Result<Picture<Colour>, AllocError> {
     Ok(picture)
 }
 
-// Its pixmap: 17 bytes, and 60,000.
+// Its pixmap: 17 bytes, and 72,600.
 fn expected(alloc: Global) -> Result<Vec<u8>, AllocError> {
-    let mut bytes = b"P6\n100 100\n65535\n".to_vec(alloc)?;
+    let mut bytes = b"P6\n110 110\n65535\n".to_vec(alloc)?;
     for y in 0..SIDE {
         for x in 0..SIDE {
             let colour = colour_at(x, y);
@@ -60,7 +60,7 @@ fn is_whole(alloc: Global, picture: &Picture<Colour>, pixmap: &[u8], most: usize
 fn a_pixmap_is_whole_whatever_writes_take(rt: HostRuntime) -> Result<(), AllocError> {
     let picture = picture(rt.alloc())?;
     let pixmap = expected(rt.alloc())?;
-    for most in [1, 5, 127, 4096, 8191, 8192, 60_017] {
+    for most in [1, 5, 127, 8192, 65_535, 65_536, 72_617] {
         let whole = is_whole(rt.alloc(), &picture, &pixmap, most);
         assert!(rt; whole, "writes of {most}");
     }
@@ -85,7 +85,7 @@ fn has_beginning(alloc: Global, picture: &Picture<Colour>, pixmap: &[u8], calls:
 fn a_pixmap_that_cannot_be_written_has_its_beginning(rt: HostRuntime) -> Result<(), AllocError> {
     let picture = picture(rt.alloc())?;
     let pixmap = expected(rt.alloc())?;
-    for calls in [0, 1, 17, 8191, 8192, 60_016] {
+    for calls in [0, 1, 17, 65_535, 65_536, 72_616] {
         let beginning = has_beginning(rt.alloc(), &picture, &pixmap, calls);
         assert!(rt; beginning, "after {calls} writes");
     }
