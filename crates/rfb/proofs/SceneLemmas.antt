@@ -20,6 +20,7 @@ draws_none server = record {
   screen_is = refl;
   fault_is = refl;
   notes_are = refl;
+  taken_is = refl;
   stands = λ serving s prefix stands. record {
     setup_is = stands.setup_is;
     limit_is = stands.limit_is;
@@ -37,6 +38,7 @@ draws_then one two old mid new first second = record {
   screen_is = second.screen_is;
   fault_is = second.fault_is ∙ first.fault_is;
   notes_are = second.notes_are ∙ first.notes_are;
+  taken_is = second.taken_is ∙ first.taken_is;
   stands = λ serving s prefix stands.
       second.stands serving _ prefix (first.stands serving s prefix stands);
 }

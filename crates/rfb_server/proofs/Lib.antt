@@ -27,6 +27,7 @@ pub mod ListLemmas
 pub mod CutTextLemmas
 pub mod SliceLemmas
 pub mod EndingLemmas
+pub mod PlaceLemmas
 pub mod CountLemmas
 pub mod BitCountLemmas
 pub mod RightLemmas

@@ -57,15 +57,19 @@ hello_waits offer (HelloFailed fault) at prefix h = absurd h
 head_waits : (bytes : List ℕ) → IsHeadBegun bytes → client_message bytes ≡ More
 head_waits bytes begun = let misses = begun_misses bytes begun in client_head_waits misses.0 bytes misses.1
 
-progress_waits : (serving : Serving) (hello : ServerHello) (p : Progress) (at : ClientAt) (prefix : List ℕ) → ProgressStandsFor serving hello p at prefix →
+-- of a message's head that has begun more is waited for
+pub begun_waits : (serving : Serving) (bytes : List ℕ) → IsHeadBegun bytes →
+    (client_bytes serving.hello.offer).next (Second tt) bytes ≡ More
+begun_waits serving bytes begun =
+    ap (λ (n : Next ClientMessage ClientFault). named (λ m. Second m) fault_of_message n) (head_waits bytes begun)
+
+pub progress_waits : (serving : Serving) (hello : ServerHello) (p : Progress) (at : ClientAt) (prefix : List ℕ) → ProgressStandsFor serving hello p at prefix →
     (client_bytes serving.hello.offer).next at prefix ≡ More
 progress_waits serving hello Handshake (First at) prefix h =
     ap (λ (n : Next ClientItem HelloFault). named (λ i. First i) fault_of_hello n) (hello_waits serving.hello.offer hello.progress at prefix h.0.progress_is)
 progress_waits serving hello Handshake (Second q) prefix h = absurd h
 progress_waits serving hello (Head bytes) (First at) prefix h = absurd h
-progress_waits serving hello (Head bytes) (Second q) prefix h =
-    let waits : client_message prefix ≡ More = rw h.0 (head_waits bytes.items h.1) in
-    ap (λ (n : Next ClientMessage ClientFault). named (λ m. Second m) fault_of_message n) waits
+progress_waits serving hello (Head bytes) (Second q) prefix h = rw h.0 (begun_waits serving bytes.items h.1)
 progress_waits serving hello (Encodings left number list) (First at) prefix h = absurd h
 progress_waits serving hello (Encodings left number list) (Second q) prefix h =
     let long = length-pieces _ 4 (λ value bytes is. is.size) h.numbers h.units h.listed in

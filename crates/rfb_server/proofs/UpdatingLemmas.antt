@@ -171,11 +171,12 @@ owes screen old awaited = λ serving s prefix stands.
 
 -- a server whose session is as it was has the new screen, and else nothing new
 pub draws : (screen : Grid Colour) (old new : Server) → new.screen ≡ screen →
-    KeepsSession old.session new.session → Draws screen old new
-draws screen old new e kept = record {
+    KeepsSession old.session new.session → new.taken ≡ old.taken → Draws screen old new
+draws screen old new e kept count = record {
   screen_is = e;
   fault_is = kept.fault_is;
   notes_are = kept.notes_are;
+  taken_is = count;
   stands = λ serving s prefix stands.
       subst (λ (g : Grid Colour). SessionStandsFor serving g new.session (with_screen screen s) prefix) (sym e)
       (session_over serving old.screen screen new.session s prefix (kept.stands serving old.screen s prefix stands));
@@ -193,6 +194,7 @@ then_kept (Ok value) screen old mid new drawn kept = record {
   screen_is = kept.screen_is ∙ drawn.screen_is;
   fault_is = kept.fault_is ∙ drawn.fault_is;
   notes_are = kept.notes_are ∙ drawn.notes_are;
+  taken_is = kept.taken_is ∙ drawn.taken_is;
   stands = λ serving s prefix stands.
       subst (λ (g : Grid Colour). SessionStandsFor serving new.screen new.session (with_screen g s) prefix) drawn.screen_is
       (kept.stands serving (with_screen screen s) prefix (drawn.stands serving s prefix stands));

@@ -12,6 +12,7 @@ pub mod Progress
 pub mod Following
 pub mod Standing
 pub mod Failing
+pub mod Counted
 pub mod Hints
 pub mod Room
 pub mod Updating

@@ -102,11 +102,15 @@ notes_of server = notes_in server.session
 abbrev pub notes_at : ServerState → Notes
 notes_at s = record { known = s.known; area = s.area; form = s.form; encodings = s.encodings }
 
--- the server that a session is over a screen that it follows
-abbrev pub server_over : (screen : Grid Colour) (session : Session) → Follows screen session →
-    Server
-server_over screen session follows =
-    record { screen = screen; session = session; follows = follows }
+-- how many bytes it has used in all, as far as 64 bits go
+abbrev pub taken_of : Server → ℕ
+taken_of server = server.taken
+
+-- the server that a session is over a screen that it follows, with this count of bytes
+abbrev pub server_over : (screen : Grid Colour) (session : Session) → ℕ →
+    Follows screen session → Server
+server_over screen session count follows =
+    record { screen = screen; session = session; taken = count; follows = follows }
 
 -- ---- drawings
 
@@ -126,11 +130,13 @@ AreOf screen rect colours = Holds screen rect × (length colours ≡ rect.h * re
 abbrev pub HoldsBoth : Grid Colour → Rect → ℕ → ℕ → Type 0
 HoldsBoth screen rect sx sy = Holds screen rect × Holds screen (moved_to sx sy rect)
 
--- a drawing gave it this screen, and changed nothing else that it stands for or has noted
+-- a drawing gave it this screen, and changed nothing else that it stands for or has noted, nor its
+-- count of bytes
 pub record Draws (screen : Grid Colour) (old new : Server) : Type 0 where
   pub screen_is : screen_of new ≡ screen
   pub fault_is : fault_of new ≡ fault_of old
   pub notes_are : notes_of new ≡ notes_of old
+  pub taken_is : taken_of new ≡ taken_of old
   pub stands : (serving : Serving) (s : ServerState) (prefix : List ℕ) →
       StandsFor serving old s prefix → StandsFor serving new (with_screen screen s) prefix
 

@@ -10,6 +10,14 @@ use rfb_pixel::FormatFault;
 use rfb_wire::WireFault;
 use thiserror::Error;
 
+/// A fault, and with which byte of a slice it came.
+#[derive(Clone, Copy, Debug, PartialEq, Eq)]
+pub struct Flaw {
+    /// How many bytes of the slice stand up to that byte, itself among them.
+    pub used: usize,
+    pub fault: ServerFault,
+}
+
 /// What a client did wrong, and want of memory. Each prints as its number and its name.
 #[derive(Clone, Copy, Debug, PartialEq, Eq, Error)]
 pub enum ServerFault {

@@ -20,7 +20,7 @@ ghost use Rattle.rfb_server.specs.declared.session.Session.{Session};
 ghost use Rattle.rfb_server.specs.Following.{Follows};
 ghost use Rattle.rfb_server.specs.Standing.{StandsFor, fault_of, screen_of, notes_of, notes_at};
 ghost use Rattle.rfb_server.specs.Standing.{SessionStandsFor, session_of, session_fault, notes_in};
-ghost use Rattle.rfb_server.specs.Standing.{with_screen, server_over};
+ghost use Rattle.rfb_server.specs.Standing.{with_screen, server_over, taken_of};
 ghost use Rattle.rfb_server.specs.Request.{wanted, recorded, is_asked};
 ghost use Rattle.rfb_server.specs.Composing.{Part, Composes, IsPlace, between, sent_as};
 
@@ -80,14 +80,14 @@ pub fn a_session_stands_over_any_screen()
 {}
 
 /// A session over a screen that it follows is a server, which stands for what the session does; and
-/// a server is its session over its screen.
+/// a server is its session over its screen, with its count of bytes.
 pub fn a_session_over_a_screen_is_a_server()
     ensures stands { (serving : Serving) (screen : Grid Colour) (session : Session)
-        (follows : Follows screen session) (s : ServerState) (prefix : List ℕ) →
-        StandsFor serving (server_over screen session follows) s prefix
+        (count : ℕ) (follows : Follows screen session) (s : ServerState) (prefix : List ℕ) →
+        StandsFor serving (server_over screen session count follows) s prefix
         ↔ SessionStandsFor serving screen session s prefix }
     ensures server { (server : Server) → (follows : Follows (screen_of server) (session_of server))
-        × (server_over (screen_of server) (session_of server) follows ≡ server) }
+        × (server_over (screen_of server) (session_of server) (taken_of server) follows ≡ server) }
 {}
 
 /// A viewer whose picture agreed with the record shows, once it has the update, the screen over the

@@ -42,7 +42,7 @@ mod setup;
 
 pub use drawing::{Drawing, Notice};
 pub use event::{MAX_REPLY, ServerEvent};
-pub use fault::{Outside, ServerFault};
+pub use fault::{Flaw, Outside, ServerFault};
 pub use hint::MAX_HINTS;
 pub use server::Server;
 pub use session::Session;

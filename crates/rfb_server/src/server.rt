@@ -22,6 +22,7 @@ use std::alloc::{AllocError, Global};
 pub struct Server {
     screen: Picture<Colour>,
     session: Session,
+    taken: u64,
     ghost follows: { Follows screen session },
 }
 
@@ -37,7 +38,9 @@ impl Server {
     ghost use Rattle.rfb_server.specs.Server.{AsksMemory};
     ghost use Rattle.rfb_hello.specs.Version.{version_text};
     ghost use Rattle.rfb_server.specs.Standing.{StandsFor, serving_with, serving_of, fault_of};
-    ghost use Rattle.rfb_server.specs.Standing.{screen_of, Keeps, notes_of, session_of};
+    ghost use Rattle.rfb_server.specs.Standing.{screen_of, Keeps, notes_of, session_of, taken_of};
+    ghost use Rattle.rfb_server.specs.Counted.{CountsTo};
+    ghost use Rattle.rfb_wire.specs.stream.Placing.{counted_on};
     ghost use Rattle.rfb_server.specs.Failing.{KeepsNotes};
     ghost use Rattle.rfb_server.specs.Updating.{Updates, WasDue, StaysUnsent};
     ghost use Rattle.rfb_server.specs.Hints.{hints_of};
@@ -65,10 +68,15 @@ impl Server {
             StandsFor (serving_with offer width height name.now text_limit) server
             (first_server (serving_with offer width height name.now text_limit)) []) }
         ensures hints { IfOk result (λ server. hints_of server ≡ []) }
+        ensures taken { IfOk result (λ server. taken_of server ≡ 0) }
     {
         let screen = Picture::new(alloc, width, height, BLACK)?;
         let session = Session::new(alloc, width, height, name, offer, text_limit)?;
-        Ok(Server { screen, session })
+        Ok(Server {
+            screen,
+            session,
+            taken: 0,
+        })
     }
 
     /// A server as `new` makes it, of these.
@@ -82,6 +90,7 @@ impl Server {
             setup.text_limit in
             IfOk result (λ server. StandsFor serving server (first_server serving) []) }
         ensures hints { IfOk result (λ server. hints_of server ≡ []) }
+        ensures taken { IfOk result (λ server. taken_of server ≡ 0) }
     {
         Server::new(
             alloc,
@@ -128,8 +137,23 @@ impl Server {
         ensures kept { IfErr result (λ fault. KeepsNotes fault self.old bytes.now self.new) }
         ensures fails { IfErr result (λ fault. fault_of self.new ≡ Some fault) }
         ensures failed { StaysFailed (fault_of self.old) self.old result self.new }
+
+        // How many bytes were used in all, at a fault up to the byte with which it came.
+        ensures taken { IfOk result (λ fed.
+            taken_of self.new ≡ counted_on (taken_of self.old) fed.used) }
+        ensures place { IfErr result (λ fault. fault_of self.old ≡ None
+            → CountsTo fault self.old bytes.now self.new) }
     {
-        self.session.feed(bytes)
+        match self.session.feed_placed(bytes) {
+            Ok(fed) => {
+                self.taken = self.taken.saturating_add(fed.used as u64);
+                Ok(fed)
+            }
+            Err(flaw) => {
+                self.taken = self.taken.saturating_add(flaw.used as u64);
+                Err(flaw.fault)
+            }
+        }
     }
 
     /// Whether the client's bytes end between two messages: the handshake is done, no message has
@@ -179,17 +203,24 @@ impl Server {
         ensures unspent { OnErr result (hints_of self.new ≡ hints_of self.old) }
         ensures room { GrowsWithin (vec_capacity out.old)
             (vec_len out.old + room_for (notes_of self.old)) (vec_capacity out.new) }
+        ensures taken { taken_of self.new ≡ taken_of self.old }
     {
         self.session.compose(&self.screen, out)
     }
 
-    /// A server of a screen and a session that follows it, which are its own from here on.
+    /// A server of a screen and a session that follows it, which are its own from here on. It has
+    /// used no bytes; what the session was fed before is not counted.
     pub fn from_parts(screen: Picture<Colour>, session: Session) -> Server
         requires follows { Follows screen session }
         ensures screen { screen_of result ≡ screen }
         ensures session { session_of result ≡ session }
+        ensures taken { taken_of result ≡ 0 }
     {
-        Server { screen, session }
+        Server {
+            screen,
+            session,
+            taken: 0,
+        }
     }
 
     /// Its screen and its session, which are the caller's from here on.

@@ -1,5 +1,6 @@
 -- What a session makes of bytes that it is fed: of a unit of one item, and of a slice.
 use Rattle.std.specs.Prelude.{◌≡◌, ◌≢◌, ℕ, Bool, List, ◌++◌, Option, Result, Err}
+use Rattle.rfb_wire.specs.stream.Reading.{More}
 use Rattle.arrayvec.specs.ArrayVec.{ArrayVec}
 use Rattle.rfb_pixel.specs.declared.colour.Colour.{Colour}
 use Rattle.rfb_picture.specs.declared.rect.Rect.{Rect}
@@ -11,6 +12,7 @@ use Rattle.rfb_server.specs.declared.fault.ServerFault.{ServerFault}
 use Rattle.rfb_server.specs.declared.fault.ServerFault.TheVariants.{NoMemory}
 use Rattle.rfb_server.specs.declared.session.Session.{Session}
 use Rattle.rfb_server.specs.declared.session.input.progress.Progress.TheVariants.{Head}
+use Rattle.rfb_server.specs.ClientBytes.{client_bytes}
 use Rattle.rfb_server.specs.Told.{seen, answer_told}
 use Rattle.rfb_server.specs.Server.{Serving, ServerState, server, AsksMemory}
 use Rattle.rfb_server.specs.Standing.{SessionStandsFor}
@@ -27,6 +29,13 @@ RunsOutAs old unit result =
     result ≡ Err NoMemory → (serving : Serving) (screen : Grid Colour)
     (s : ServerState) (prefix : List ℕ) → SessionStandsFor serving screen old s prefix
     → AsksMemory s (prefix ++ unit)
+
+-- whatever it stands for, more is waited for after these bytes
+abbrev pub AwaitsMore : Session → List ℕ → Type 0
+AwaitsMore old bytes =
+    (serving : Serving) (screen : Grid Colour) (s : ServerState) (prefix : List ℕ)
+    → SessionStandsFor serving screen old s prefix
+    → (client_bytes serving.hello.offer).next s.point (prefix ++ bytes) ≡ More
 
 -- what a call leaves that took these bytes
 abbrev pub FeedsAs : Session → List ℕ → Option ServerEvent → Session → Type 0

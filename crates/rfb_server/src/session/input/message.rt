@@ -1,6 +1,6 @@
 //! The messages of a client, as they come in slices.
 
-ghost use Rattle.std.specs.Prelude.{◌≡◌, ◌≤◌, ◌<◌, ◌++◌, ℕ, List, length, take, IfErr};
+ghost use Rattle.std.specs.Prelude.{◌≡◌, ◌≤◌, ◌<◌, ◌-◌, ◌++◌, ℕ, List, length, take, IfErr};
 ghost use Rattle.std.specs.Result.{result_err};
 ghost use Rattle.arrayvec.specs.ArrayVec.{ArrayVec as Items};
 ghost use Rattle.rfb_wire.specs.ClientHead.{SpellsClientHead};
@@ -8,7 +8,7 @@ ghost use Rattle.rfb_server.specs.declared.session.input.progress.Progress.{Prog
 ghost use Rattle.rfb_server.specs.Progress.{fault_in};
 ghost use Rattle.rfb_server.specs.Standing.{notes_in};
 ghost use Rattle.rfb_server.specs.inside.Sessions.{BeginsMessage, KeepsUp};
-ghost use Rattle.rfb_server.specs.inside.Slice.{StepsAs, RunsOutAs};
+ghost use Rattle.rfb_server.specs.inside.Slice.{AwaitsMore, StepsAs, RunsOutAs};
 
 use crate::event::ServerEvent;
 use crate::fault::ServerFault;
@@ -34,6 +34,8 @@ impl Session {
         ensures up { KeepsUp self.old self.new }
         ensures fault { fault_in self.new.progress ≡ result_err result.1 }
         ensures kept { IfErr result.1 (λ _. notes_in self.new ≡ notes_in self.old) }
+        ensures place { IfErr result.1 (λ _.
+            AwaitsMore self.old (take (result.0 - 1) bytes.now)) }
     {
         let Progress::Head(part) = &mut self.progress else {
             unreachable!()

@@ -1,10 +1,9 @@
 //! What a session takes of a slice of its client's bytes.
 
 ghost use Rattle.std.specs.Prelude.{◌≡◌, ◌≢◌, ◌≤◌, ◌<◌, ℕ, List, length, take};
-ghost use Rattle.std.specs.Prelude.{None, Some, IfOk, IfErr, IfSome, false};
+ghost use Rattle.std.specs.Prelude.{None, Some, Err, IfOk, IfErr, IfSome, OnOk, false};
 ghost use Rattle.rfb_pixel.specs.declared.colour.Colour.{Colour};
 ghost use Rattle.rfb_picture.specs.Grid.{Grid};
-ghost use Rattle.std.specs.Result.{result_err};
 ghost use Rattle.rfb_server.specs.ClientBytes.{client_bytes_pending};
 ghost use Rattle.rfb_server.specs.Server.{Serving, ServerState};
 ghost use Rattle.rfb_server.specs.Progress.{fault_in, is_idle};
@@ -12,9 +11,11 @@ ghost use Rattle.rfb_server.specs.Standing.{SessionStandsFor};
 ghost use Rattle.rfb_server.specs.inside.Sessions.{KeepsUp};
 ghost use Rattle.rfb_server.specs.inside.Slice.{FeedsAs, IsRequestAlone};
 ghost use Rattle.rfb_server.specs.Failing.{EndsAs};
+ghost use Rattle.rfb_server.specs.Counted.{IsPlacedIn};
+ghost use Rattle.rfb_server.specs.declared.fault.ServerFault.{ServerFault};
 
 use crate::event::ServerEvent;
-use crate::fault::ServerFault;
+use crate::fault::{Flaw, ServerFault};
 use crate::session::Session;
 use crate::session::input::progress::Progress;
 use rfb_hello::Fed;
@@ -66,15 +67,55 @@ impl Session {
         ensures fails { IfErr result (λ fault. session_fault self.new ≡ Some fault) }
         ensures failed { StaysFailed (session_fault self.old) self.old result self.new }
     {
+        match self.feed_placed(bytes) {
+            Ok(fed) => Ok(fed),
+            Err(flaw) => Err(flaw.fault),
+        }
+    }
+
+    /// As `feed`, and a fault says with which byte of the slice it came; one of before, with none.
+    pub fn feed_placed(&mut self, bytes: &[u8]) -> Result<Fed<ServerEvent>, Flaw>
+        // What was taken, what it was, and what is left, over whatever screen.
+        ensures used { IfOk result (λ fed. fed.used ≤ length bytes.now) }
+        ensures all { IfOk result (λ fed. fed.event ≡ None → fed.used ≡ length bytes.now) }
+        ensures some { IfOk result (λ fed. 0 < length bytes.now → 0 < fed.used) }
+        ensures fed { IfOk result (λ fed. (serving : Serving) (screen : Grid Colour)
+            → FedBy (server serving) (SessionStandsFor serving screen)
+            self.old (take fed.used bytes.now) (seen fed.event) self.new) }
+        ensures made { session_serving self.new ≡ session_serving self.old }
+        ensures hints { hints_in self.new ≡ hints_in self.old }
+        ensures follows { (screen : Grid Colour) → Follows screen self.old
+            → Follows screen self.new }
+        ensures columns { (notes_in self.new).known.width ≡ (notes_in self.old).known.width }
+        ensures rows { (notes_in self.new).known.height ≡ (notes_in self.old).known.height }
+
+        // When a fault comes, when memory is wanting, what is kept, and that it stays.
+        ensures fault { IfErr result (λ flaw. flaw.fault ≢ NoMemory
+            → (serving : Serving) (screen : Grid Colour)
+            → RefusedBy (server serving) (SessionStandsFor serving screen)
+            self.old bytes.now flaw.fault) }
+        ensures memory { IfErr result (λ flaw. flaw.fault ≡ NoMemory
+            → (serving : Serving) (screen : Grid Colour)
+            → RunsOutBy (server serving) AsksMemory (SessionStandsFor serving screen)
+            self.old bytes.now) }
+        ensures kept { IfErr result (λ flaw. EndsAs self.old bytes.now flaw.fault self.new) }
+        ensures fails { IfErr result (λ flaw. session_fault self.new ≡ Some flaw.fault) }
+        ensures failed { (fault : ServerFault) → session_fault self.old ≡ Some fault
+            → (result ≡ Err (record { used = 0; fault = fault })) × (self.new ≡ self.old) }
+
+        // With which byte it comes.
+        ensures place { IfErr result (λ flaw. session_fault self.old ≡ None
+            → IsPlacedIn flaw.used flaw.fault self.old bytes.now) }
+    {
         if let Some(fault) = self.fault() {
-            return Err(fault);
+            return Err(Flaw { used: 0, fault });
         }
         self.take_items(bytes)
     }
 
     // The same of a session that has not failed. Most slices are one request. It tells nothing, so
     // it is taken where no room for an event is cleared or moved.
-    fn take_items(&mut self, bytes: &[u8]) -> Result<Fed<ServerEvent>, ServerFault>
+    fn take_items(&mut self, bytes: &[u8]) -> Result<Fed<ServerEvent>, Flaw>
         requires going { fault_in self.old.progress ≡ None }
         ensures used { IfOk result (λ fed. fed.used ≤ length bytes.now) }
         ensures all { IfOk result (λ fed. fed.event ≡ None → fed.used ≡ length bytes.now) }
@@ -82,8 +123,10 @@ impl Session {
         ensures fed { IfOk result (λ fed.
             FeedsAs self.old (take fed.used bytes.now) fed.event self.new) }
         ensures up { KeepsUp self.old self.new }
-        ensures ends { IfErr result (λ fault. EndsAs self.old bytes.now fault self.new) }
-        ensures fails { IfErr result (λ fault. fault_in self.new.progress ≡ Some fault) }
+        ensures ends { IfErr result (λ flaw. EndsAs self.old bytes.now flaw.fault self.new) }
+        ensures fails { IfErr result (λ flaw. fault_in self.new.progress ≡ Some flaw.fault) }
+        ensures place { IfErr result (λ flaw.
+            IsPlacedIn flaw.used flaw.fault self.old bytes.now) }
     {
         match self.request_alone(bytes) {
             Some((incremental, rect)) => {
@@ -123,7 +166,7 @@ impl Session {
 
     // The same item by item.
     #[inline(never)]
-    fn take_each(&mut self, bytes: &[u8]) -> Result<Fed<ServerEvent>, ServerFault>
+    fn take_each(&mut self, bytes: &[u8]) -> Result<Fed<ServerEvent>, Flaw>
         requires going { fault_in self.old.progress ≡ None }
         ensures used { IfOk result (λ fed. fed.used ≤ length bytes.now) }
         ensures all { IfOk result (λ fed. fed.event ≡ None → fed.used ≡ length bytes.now) }
@@ -131,12 +174,22 @@ impl Session {
         ensures fed { IfOk result (λ fed.
             FeedsAs self.old (take fed.used bytes.now) fed.event self.new) }
         ensures up { KeepsUp self.old self.new }
-        ensures ends { IfErr result (λ fault. EndsAs self.old bytes.now fault self.new) }
-        ensures fails { IfErr result (λ fault. fault_in self.new.progress ≡ Some fault) }
+        ensures ends { IfErr result (λ flaw. EndsAs self.old bytes.now flaw.fault self.new) }
+        ensures fails { IfErr result (λ flaw. fault_in self.new.progress ≡ Some flaw.fault) }
+        ensures place { IfErr result (λ flaw.
+            IsPlacedIn flaw.used flaw.fault self.old bytes.now) }
     {
         let mut used = 0;
         while used < bytes.len() {
-            let fed = self.take(&bytes[used..])?;
+            let fed = match self.take(&bytes[used..]) {
+                Ok(fed) => fed,
+                Err(flaw) => {
+                    return Err(Flaw {
+                        used: used + flaw.used,
+                        fault: flaw.fault,
+                    });
+                }
+            };
             used += fed.used;
             if fed.event.is_some() {
                 return Ok(Fed {
@@ -149,22 +202,30 @@ impl Session {
     }
 
     // Takes bytes of the client's next item, as many of it as there are.
-    fn take(&mut self, bytes: &[u8]) -> Result<Fed<ServerEvent>, ServerFault>
+    fn take(&mut self, bytes: &[u8]) -> Result<Fed<ServerEvent>, Flaw>
         requires some { 0 < length bytes.now }
         requires going { fault_in self.old.progress ≡ None }
         ensures used { IfOk result (λ fed. (0 < fed.used) × (fed.used ≤ length bytes.now)) }
         ensures fed { IfOk result (λ fed.
             FeedsAs self.old (take fed.used bytes.now) fed.event self.new) }
+        ensures going { OnOk result (fault_in self.new.progress ≡ None) }
         ensures up { KeepsUp self.old self.new }
-        ensures ends { IfErr result (λ fault. EndsAs self.old bytes.now fault self.new) }
-        ensures fails { fault_in self.new.progress ≡ result_err result }
+        ensures ends { IfErr result (λ flaw. EndsAs self.old bytes.now flaw.fault self.new) }
+        ensures fails { IfErr result (λ flaw. fault_in self.new.progress ≡ Some flaw.fault) }
+        ensures place { IfErr result (λ flaw.
+            IsPlacedIn flaw.used flaw.fault self.old bytes.now) }
     {
         match self.progress {
-            Progress::Handshake => self.greet(bytes),
+            Progress::Handshake => match self.greet(&bytes[..1]) {
+                Ok(fed) => Ok(fed),
+                Err(fault) => Err(Flaw { used: 1, fault }),
+            },
             Progress::Head(_) => {
                 let (used, told) = self.take_head(bytes);
-                let event = told?;
-                Ok(Fed { used, event })
+                match told {
+                    Ok(event) => Ok(Fed { used, event }),
+                    Err(fault) => Err(Flaw { used, fault }),
+                }
             }
             Progress::Encodings { .. } => {
                 let used = self.take_number(bytes);

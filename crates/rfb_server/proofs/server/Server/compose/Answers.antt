@@ -13,11 +13,11 @@ returns-clause-idle c =
     IfOk-weaker c.compose.result _ _
     (λ did h e. record {
       appended = (h e).appended;
-      kept = draws c.args.self.now.screen c.args.self.now _ refl (h e).kept;
+      kept = draws c.args.self.now.screen c.args.self.now _ refl (h e).kept refl;
       not_due = (h e).not_due;
     })
     c.compose.ensures.idle
 
 pub returns-clause-same : goal.returns-clause-same
 returns-clause-same c =
-    IfErr-weaker c.compose.result (λ _. KeepsSession c.args.self.now.session c.compose.new.self) _ (λ _ kept. draws c.args.self.now.screen c.args.self.now _ refl kept) c.compose.ensures.same
+    IfErr-weaker c.compose.result (λ _. KeepsSession c.args.self.now.session c.compose.new.self) _ (λ _ kept. draws c.args.self.now.screen c.args.self.now _ refl kept refl) c.compose.ensures.same

@@ -1,3 +1,4 @@
+use Rattle.std.proofs.Common.{refl}
 use Rattle.rfb_server.specs.Drawing.{stroke}
 use Rattle.rfb_server.proofs.DrawingLaws.{follows_stroke}
 use Rattle.rfb_server.proofs.UpdatingLemmas.{draws}
@@ -16,4 +17,4 @@ invariant_of-self c =
     }
 
 pub returns-clause-drawn : goal.returns-clause-drawn
-returns-clause-drawn c = draws _ c.args.self.now _ c.draw_on.ensures.value c.notified.ensures.kept
+returns-clause-drawn c = draws _ c.args.self.now _ c.draw_on.ensures.value c.notified.ensures.kept refl

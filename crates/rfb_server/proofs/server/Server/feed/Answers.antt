@@ -1,18 +1,29 @@
-use Rattle.rfb_server.proofs.SliceLemmas.{ok_map, err_map}
 use Rattle.rfb_server.proofs.server.Server.feed.Goals as goal
 
-pub returns-clause-fed : goal.returns-clause-fed
-returns-clause-fed c =
-    ok_map _ _ c.feed.result (λ fed h serving. h serving c.args.self.now.screen) c.feed.ensures.fed
+pub returns-in-Ok-clause-fed : goal.returns-in-Ok-clause-fed
+returns-in-Ok-clause-fed c = λ serving. c.in-Ok.ensures.fed serving c.args.self.now.screen
 
-pub returns-clause-fault : goal.returns-clause-fault
-returns-clause-fault c =
-    err_map _ _ c.feed.result (λ fault h other serving. h other serving c.args.self.now.screen) c.feed.ensures.fault
+pub returns-in-Err-clause-fault : goal.returns-in-Err-clause-fault
+returns-in-Err-clause-fault c = λ other serving. c.in-Err.ensures.fault other serving c.args.self.now.screen
 
-pub returns-clause-memory : goal.returns-clause-memory
-returns-clause-memory c =
-    err_map _ _ c.feed.result (λ fault h memory serving. h memory serving c.args.self.now.screen) c.feed.ensures.memory
+pub returns-in-Err-clause-memory : goal.returns-in-Err-clause-memory
+returns-in-Err-clause-memory c = λ memory serving. c.in-Err.ensures.memory memory serving c.args.self.now.screen
 
-pub returns-clause-kept : goal.returns-clause-kept
-returns-clause-kept c =
-    err_map _ _ c.feed.result (λ fault h serving. h serving c.args.self.now.screen) c.feed.ensures.kept
+pub returns-in-Err-clause-kept : goal.returns-in-Err-clause-kept
+returns-in-Err-clause-kept c = λ serving. c.in-Err.ensures.kept serving c.args.self.now.screen
+
+pub returns-in-Err-clause-place : goal.returns-in-Err-clause-place
+returns-in-Err-clause-place c = λ none.
+    let placed = c.in-Err.ensures.place none in
+    record {
+      last = c.in-Err.flaw.used;
+      placed = record {
+        some = placed.some;
+        within = placed.within;
+        refused = λ other serving. let r = placed.refused other serving c.args.self.now.screen in
+            record { refused = r.refused; taken = r.taken };
+        starved = λ is serving. let r = placed.starved is serving c.args.self.now.screen in
+            record { asked = r.asked; taken = r.taken };
+      };
+      count = c.saturating_add-self-in-Err.ensures;
+    }

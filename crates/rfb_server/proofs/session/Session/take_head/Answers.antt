@@ -2,6 +2,7 @@ use Rattle.std.proofs.Common.{◌++◌, take, refl, sym}
 use Rattle.rfb_wire.specs.ClientHead.{SpellsClientHead}
 use Rattle.rfb_server.proofs.FeedingLemmas.{steps_from, starved_from}
 use Rattle.rfb_server.proofs.MessageLemmas.{head_part, type_refused}
+use Rattle.rfb_server.proofs.PlaceLemmas.{head_awaits, if_err, type_awaits}
 use Rattle.rfb_server.proofs.session.Session.take_head.Goals as goal
 
 pub returns-in-More-clause-steps : goal.returns-in-More-clause-steps
@@ -33,3 +34,16 @@ returns-in-Bad-clause-steps c = λ _ serving screen.
     let bad = rw c.in-Bad.is at c.gather_head-used.ensures.bad in
     rw (c.fail.ensures.value, c.of_wire.ensures bad.1 bad.2)
     (type_refused serving screen c.args.self.now c.fail.new.self c.in-Head.part unit bad.1 c.in-Head.is bad.3)
+
+pub returns-in-Got-clause-place : goal.returns-in-Got-clause-place
+returns-in-Got-clause-place c =
+    let got = rw c.in-Got.is at c.gather_head-used.ensures.got in
+    if_err c.take_message.result _
+    (head_awaits c.args.self.now c.in-Head.part c.gather_head-used.result.0 c.args.bytes.now c.in-Got.head c.in-Head.is got.1
+    c.gather_head-used.ensures.used.0 c.gather_head-used.ensures.used.1)
+
+pub returns-in-Bad-clause-place : goal.returns-in-Bad-clause-place
+returns-in-Bad-clause-place c =
+    let bad = rw c.in-Bad.is at c.gather_head-used.ensures.bad in
+    type_awaits c.args.self.now c.in-Head.part.items c.gather_head-used.result.0 c.args.bytes.now bad.1 bad.3.0
+    c.gather_head-used.ensures.used.0 c.gather_head-used.ensures.used.1

@@ -5,7 +5,7 @@ use Rattle.rfb_server.specs.Standing.{session_fault}
 use Rattle.rfb_server.proofs.MarksLemmas.{follows_up}
 use Rattle.rfb_server.proofs.SliceLemmas.{ok_map, err_map, serving_kept}
 use Rattle.rfb_server.proofs.EndingLemmas.{ends_refuse, ends_starve, failed_ends}
-use Rattle.rfb_server.proofs.session.Session.feed.Goals as goal
+use Rattle.rfb_server.proofs.session.Session.feed_placed.Goals as goal
 
 pub returns-in-Some : goal.returns-in-Some
 returns-in-Some c =
@@ -27,6 +27,7 @@ returns-in-Some c =
       kept = ends;
       fails = fails;
       failed = λ f h. (cc, refl);
+      place = λ none. let both : Some c.in-Some.fault ≡ None = sym fails ∙ none in absurd (cc);
     }
 
 pub returns : goal.returns
@@ -44,9 +45,10 @@ returns c =
       follows = λ screen follows. follows_up session new screen c.take_items.ensures.up follows;
       columns = c.take_items.ensures.up.columns;
       rows = c.take_items.ensures.up.rows;
-      fault = err_map _ _ c.take_items.result (λ fault h other. ends_refuse session new c.args.bytes.now fault h other) c.take_items.ensures.ends;
-      memory = err_map _ _ c.take_items.result (λ fault h memory. ends_starve session new c.args.bytes.now fault h memory) c.take_items.ensures.ends;
+      fault = err_map _ _ c.take_items.result (λ flaw h other. ends_refuse session new c.args.bytes.now flaw.fault h other) c.take_items.ensures.ends;
+      memory = err_map _ _ c.take_items.result (λ flaw h memory. ends_starve session new c.args.bytes.now flaw.fault h memory) c.take_items.ensures.ends;
       kept = c.take_items.ensures.ends;
       fails = c.take_items.ensures.fails;
       failed = λ f h. absurd cc;
+      place = err_map _ _ c.take_items.result (λ flaw h none. h) c.take_items.ensures.place;
     }
