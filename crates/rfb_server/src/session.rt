@@ -109,7 +109,7 @@ impl Session {
         ensures kept { KeepsSession self.old self.new }
         ensures hints { hints_in self.new ≡ with_hint_of notice.now.hint (hints_in self.old) }
     {
-        self.mark(notice.area);
+        self.marks.add(notice.area);
         if let Some(hint) = notice.hint {
             self.keep_hint(hint);
         }

@@ -7,8 +7,6 @@ mod serving;
 
 use crate::fault::Failure;
 use crate::sharing::ShareOptions;
-use crate::sharing::drawing::drawing_of;
-use crate::sharing::line::{OwnerLine, Refusal};
 use crate::sharing::ready::Ready;
 use crate::sharing::telling::{tell_fault, tell_leave};
 use mio::Registry;
@@ -71,26 +69,20 @@ impl<S: Read + Write + OpenStream + AsRawFd + Drop> Guests<S> {
         count
     }
 
-    /// Draws what a line asks for, or lets a viewer go, and gives why not, if it can't be done.
-    pub fn obey<W: Write>(
+    /// The viewer at the seat of this number is let go, if there is one, with nothing wrong.
+    pub fn end<W: Write>(
         &mut self,
-        line: &OwnerLine,
+        number: u8,
         ready: &mut Ready,
         output: &mut W,
-    ) -> Result<Option<Refusal>, Failure> {
-        if let OwnerLine::End(number) = line {
-            if let Some(seat) = Seat::new(*number) {
-                self.let_go(seat, ready, output)?;
-            }
-            return Ok(None);
-        }
-        match drawing_of(line) {
-            Some(drawing) => Ok(self.draw(&drawing)),
-            None => Ok(Some(Refusal::Bad)),
+    ) -> Result<(), Failure> {
+        match Seat::new(number) {
+            Some(seat) => self.let_go(seat, ready, output),
+            None => Ok(()),
         }
     }
 
-    // A viewer is let go, if there is one at the seat, with nothing wrong.
+    // The same of a seat.
     fn let_go<W: Write>(
         &mut self,
         seat: Seat,

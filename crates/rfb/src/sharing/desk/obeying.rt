@@ -5,6 +5,7 @@ use crate::playing::TEXT_LIMIT;
 use crate::script::Screen;
 use crate::sharing::ShareOptions;
 use crate::sharing::desk::Desk;
+use crate::sharing::drawing::drawing_of;
 use crate::sharing::guests::Guests;
 use crate::sharing::line::{Order, OwnerLine, Refusal};
 use crate::sharing::ready::{LISTENER, register};
@@ -40,9 +41,16 @@ impl<
                 self.open(screen, options)?;
                 Ok(None)
             }
-            Order::Line(line) => match &mut self.guests {
-                Some(guests) => guests.obey(&line, &mut self.ready, output),
+            Order::Line(OwnerLine::End(number)) => match &mut self.guests {
+                Some(guests) => {
+                    guests.end(number, &mut self.ready, output)?;
+                    Ok(None)
+                }
                 None => Ok(Some(Refusal::Bad)),
+            },
+            Order::Line(line) => match (&mut self.guests, drawing_of(&line)) {
+                (Some(guests), Some(drawing)) => Ok(guests.draw(&drawing)),
+                _ => Ok(Some(Refusal::Bad)),
             },
             Order::Pixels(rect, data) => match &mut self.guests {
                 Some(guests) => Ok(guests.draw(&Drawing::Bytes(rect, &data))),
