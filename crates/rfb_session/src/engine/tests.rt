@@ -11,11 +11,10 @@ mod turns;
 mod viewing;
 mod watching;
 
-use rfb_hello::Version;
 use rfb_picture::Rect;
 use rfb_pixel::{Colour, Format};
-use rfb_server::Server;
-use rfb_viewer::Viewer;
+use rfb_server::{Server, ServerSetup};
+use rfb_viewer::{Viewer, ViewerSetup};
 use rfb_wire::Encoding;
 use std::alloc::{AllocError, Global};
 
@@ -23,13 +22,19 @@ use std::alloc::{AllocError, Global};
 fn viewer_in(alloc: Global, format: Format) -> Viewer {
     let mut encodings = arrayvec::ArrayVec::new();
     encodings.push(Encoding::Raw);
-    Viewer::new(alloc, format, encodings, Version::V38, true, 4096, 4)
+    let setup = ViewerSetup {
+        encodings,
+        max_places: 4096,
+        text_limit: 4,
+        ..ViewerSetup::usual(format)
+    };
+    Viewer::of(alloc, setup)
 }
 
 // A server of version 3.8 with the name `rfb`, whose screen of two places is black and
 // (1028, 0, 514).
 fn server_of_two_places(alloc: Global) -> Result<Server, AllocError> {
-    let mut server = Server::new(alloc, 2, 1, b"rfb", Version::V38, 1024)?;
+    let mut server = Server::of(alloc, ServerSetup::usual(2, 1, b"rfb"))?;
     let right = Rect {
         x: 1,
         y: 0,

@@ -5,6 +5,7 @@ ghost use Rattle.rfb_session.specs.Hub.{HasFewHubBytes};
 ghost use Rattle.rfb_session.specs.HubSeats.{HasFewSlotBytes};
 
 use super::*;
+use crate::HubSetup;
 use crate::event::Event;
 use crate::link::copy_of;
 use crate::slots::seat_of;
@@ -205,7 +206,12 @@ fn run_of(alloc: Global, number: u16) -> Result<(bool, u32, u32), AllocError> {
     let width = 1 + lot.up_to(11);
     let height = 1 + lot.up_to(3);
     let mut table = Table::new(alloc, width, height, number)?;
-    let mut hub = Hub::new(alloc, width, height, b"rfb", version_of(number), 16)?;
+    let setup = HubSetup {
+        offer: version_of(number),
+        text_limit: 16,
+        ..HubSetup::usual(width, height, b"rfb")
+    };
+    let mut hub = Hub::of(alloc, setup)?;
     let agreed = agree(&mut hub, &mut table, &mut lot);
     drop(hub);
     Ok((agreed?, table.updates, table.emptied))
