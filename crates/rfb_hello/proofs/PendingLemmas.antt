@@ -53,9 +53,10 @@ pub viewer_pending_is : (limit : ℕ) (p : Progress) (point : ServerPoint) (pref
 viewer_pending_is limit (VersionPart part) point prefix h = rw (h.0, h.1) (sym (part_pending 12 part.items h.2))
 viewer_pending_is limit (Word part) point prefix h = rw (h.0, h.1) (sym (piece_pending 4 reason_pending part.items h.2))
 viewer_pending_is limit (Count v) point prefix h = rw (h.0, h.2) (sym (count_pending v h.1))
-viewer_pending_is limit (Types v more none) point prefix h =
-    let count : length h.0 + (more + 1) ≡ suc (length h.0 + more) = omega arith in
-    rw (h.1, h.3, count) (sym (listed_pending v (length h.0 + more) h.0 h.2))
+viewer_pending_is limit (Types v list) point prefix h =
+    let seen = list.types in
+    let count : length seen + (list.more + 1) ≡ suc (length seen + list.more) = omega arith in
+    rw (h.0, h.2, count) (sym (listed_pending v (length seen + list.more) seen h.1))
 viewer_pending_is limit (ResultPart v part) point prefix h = rw (h.0, h.1) (sym (piece_pending 4 reason_pending part.items h.2))
 viewer_pending_is limit (ReasonLength cause part) point prefix h =
     sym (ap (server_handshake_pending point) h.2 ∙ opened_pending cause point h.0 part.items h.1 ∙ piece_pending 4 (in_pieces 1) part.items h.3)

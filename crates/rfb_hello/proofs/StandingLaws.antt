@@ -40,7 +40,7 @@ viewer_going : (limit : ℕ) (p : ViewerProgress) (point : ServerPoint) (prefix 
 viewer_going limit (ServerVersionPart part) point prefix h = rw h.0 (refl, refl)
 viewer_going limit (Word part) point prefix h = rw h.0 (refl, refl)
 viewer_going limit (Count v) point prefix h = rw h.0 (refl, refl)
-viewer_going limit (Types v more none) point prefix h = rw h.1 (refl, refl)
+viewer_going limit (Types v list) point prefix h = rw h.0 (refl, refl)
 viewer_going limit (ResultPart v part) point prefix h = rw h.0 (refl, refl)
 viewer_going limit (ReasonLength cause part) point prefix h = (refl, sym (reason_goes_on cause point h.0 h.1))
 viewer_going limit (Reason cause n more kept) point prefix h = (refl, sym (reason_goes_on cause point h.0 h.3))

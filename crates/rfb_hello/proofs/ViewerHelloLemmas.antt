@@ -1,5 +1,7 @@
 -- The viewer's end, step by step.
-use Rattle.std.proofs.Common.{◌≡◌, ◌≢◌, ℕ, zero, suc, ◌+◌, ◌<◌, ◌||◌, if◌then◌else◌, Bool, true, false, List, [], ◌∷◌, ◌++◌, Option, Some, None, Result, Ok, Err, length, take, drop, min, refl, sym, subst, ◌∙◌, ap, append-nil, append_assoc, length-append, arith}
+use Rattle.std.proofs.Common.{◌≡◌, ◌≢◌, ℕ, zero, suc, ◌+◌, ◌<◌, if◌then◌else◌, Bool, true, false, List, [], ◌∷◌, ◌++◌}
+use Rattle.std.proofs.Common.{Option, Some, None, Result, Ok, Err, length, take, drop, min, refl, sym, subst, ◌∙◌, ap}
+use Rattle.std.proofs.Common.{append-nil, append_assoc, length-append, arith}
 use Rattle.rfb_wire.specs.Fields.{u16_at, u32_at}
 use Rattle.rfb_wire.specs.stream.Reading.{More, Got, Bad}
 use Rattle.rfb_wire.specs.stream.End.{IsMachine, FedBy, RunsOutBy, StepsBy}
@@ -9,9 +11,11 @@ use Rattle.rfb_wire.proofs.stream_laws.FeedLaws.{fed_start, memory_step}
 use Rattle.rfb_hello.specs.declared.version.Version.{Version}
 use Rattle.rfb_hello.specs.declared.version.Version.TheVariants.{V33, V37, V38}
 use Rattle.rfb_hello.specs.declared.fault.HelloFault.{HelloFault}
-use Rattle.rfb_hello.specs.declared.fault.HelloFault.TheVariants.{BadVersion, NoneNotOffered, Refused as RefusedFault, SecurityFailed as FailedFault}
+use Rattle.rfb_hello.specs.declared.fault.HelloFault.TheVariants.{BadVersion, NoneNotOffered, BadSecurityWord}
+use Rattle.rfb_hello.specs.declared.fault.HelloFault.TheVariants.{Refused as RefusedFault}
+use Rattle.rfb_hello.specs.declared.fault.HelloFault.TheVariants.{SecurityFailed as FailedFault}
 use Rattle.rfb_hello.specs.declared.step.ViewerStep.{ViewerStep}
-use Rattle.rfb_hello.specs.declared.step.ViewerStep.TheVariants.{Reply}
+use Rattle.rfb_hello.specs.declared.step.ViewerStep.TheVariants.{Reply, Screen, Ready}
 use Rattle.rfb_hello.specs.declared.viewer_hello.ViewerHello.{ViewerHello}
 use Rattle.rfb_hello.specs.declared.viewer_hello.progress.Cause.{Cause}
 use Rattle.rfb_hello.specs.declared.viewer_hello.progress.Cause.TheVariants.{Refused, SecurityFailed}
@@ -19,8 +23,14 @@ use Rattle.rfb_hello.specs.declared.viewer_hello.progress.Progress.{Progress}
 use Rattle.rfb_hello.specs.declared.viewer_hello.progress.Progress.TheVariants.{Version as VersionPart, Word, Count, Types, Result as ResultPart, ReasonLength, Reason, Init, Name, Done, Failed}
 use Rattle.arrayvec.specs.ArrayVec.{ArrayVec}
 use Rattle.rfb_hello.specs.Version.{is_version_text, version_of, version_text, lower}
+use Rattle.rfb_hello.specs.TypesSoFar.{TypesSoFar}
+use Rattle.rfb_hello.specs.Offering.{offered_of, IsOfferedAt, LeadsToOffer, KeepsOffer, IsOfferOn, TakesOffer}
+use Rattle.rfb_hello.specs.declared.offered.Offered.{Offered}
+use Rattle.rfb_hello.specs.declared.offered.Offered.TheVariants.{Chosen, Listed}
 use Rattle.rfb_hello.specs.KeptText.{KeptText, no_text, kept_of}
-use Rattle.rfb_hello.specs.ServerHandshake.{ServerPoint, AwaitsVersion, AwaitsSecurity, AwaitsInit, ServerItem, ProtocolVersion, SecurityTypes, ServerInit, IsWord, has_none, after_types, after_init, past_server_item}
+use Rattle.rfb_hello.specs.ServerHandshake.{ServerPoint, AwaitsVersion, AwaitsSecurity, AwaitsInit, ServerItem}
+use Rattle.rfb_hello.specs.ServerHandshake.{ProtocolVersion, SecurityTypes, ServerInit, IsWord, IsTypes, has_none}
+use Rattle.rfb_hello.specs.ServerHandshake.{after_types, after_init, past_server_item}
 use Rattle.rfb_hello.specs.ServerReading.{name, security, screen_fault, server_item}
 use Rattle.rfb_hello.specs.ServerEnd.{as_reply}
 use Rattle.rfb_hello.specs.ViewerEnd.{ViewerSetup, viewer_end, viewer_tells, choice_bytes, told_of_init, OpensReason, AsksMemory, AsksForReason}
@@ -31,7 +41,8 @@ use Rattle.rfb_hello.specs.ViewerStanding.{StandsFor, setup_of, IsReasonKept, Ke
 use Rattle.rfb_hello.proofs.ServerStreamLaws.{server_handshake_laws, screen_admitted}
 use Rattle.rfb_hello.proofs.TextLemmas.{kept_none}
 use Rattle.rfb_hello.proofs.KeptTextLaws.{kept_on}
-use Rattle.rfb_hello.proofs.ViewerReadingLaws.{opened, reason_short, reason_more, reason_bad, types_next, types_more, types_good, types_bad, none_after}
+use Rattle.rfb_hello.proofs.ViewerReadingLaws.{opened, reason_short, reason_more, reason_bad, types_next, types_more}
+use Rattle.rfb_hello.proofs.ViewerReadingLaws.{types_good, types_bad}
 
 pub viewer_machine : (setup : ViewerSetup) → IsMachine (viewer_end setup)
 viewer_machine setup = record { laws = server_handshake_laws setup.limit setup.max_places; past = λ s i. refl }
@@ -54,12 +65,32 @@ bad_step : (setup : ViewerSetup) (old new : ViewerHello) (p : Progress) (unit : 
     StepsBy (viewer_end setup) (StandsFor setup) old unit (Err fault) new
 bad_step setup old new p unit fault was step s prefix stands = rw (step s prefix (here setup old p s prefix was stands)) refl
 
-got_step : (setup : ViewerSetup) (old : ViewerHello) (p q : Progress) (unit : List ℕ) (event : Option ViewerStep) → old.progress ≡ p →
-    ((s : ServerPoint) (prefix : List ℕ) → setup_of old ≡ setup → ProgressStandsFor setup.text_limit p s prefix → (i : ServerItem) × (server_item setup.max_places s (prefix ++ unit) ≡ Got i []) × (viewer_tells setup s i ≡ event) × ProgressStandsFor setup.text_limit q (past_server_item setup.limit s i) []) →
-    StepsBy (viewer_end setup) (StandsFor setup) old unit (Ok event) (record old { progress = q })
-got_step setup old p q unit event was step s prefix stands =
+got_new : (setup : ViewerSetup) (old new : ViewerHello) (p q : Progress) (unit : List ℕ) (event : Option ViewerStep) →
+    old.progress ≡ p → new.progress ≡ q → setup_of new ≡ setup_of old →
+    ((s : ServerPoint) (prefix : List ℕ) → setup_of old ≡ setup → ProgressStandsFor setup.text_limit p s prefix →
+    (i : ServerItem) × (server_item setup.max_places s (prefix ++ unit) ≡ Got i []) ×
+    (viewer_tells setup s i ≡ event) × ProgressStandsFor setup.text_limit q (past_server_item setup.limit s i) []) →
+    StepsBy (viewer_end setup) (StandsFor setup) old unit (Ok event) new
+got_new setup old new p q unit event was is made step s prefix stands =
     let h = step s prefix stands.setup_is (here setup old p s prefix was stands) in
-    rw h.1 (refl, h.2, record { setup_is = stands.setup_is; progress_is = h.3 })
+    rw h.1 (
+      refl,
+      h.2,
+      record {
+        setup_is = made ∙ stands.setup_is;
+        progress_is =
+            subst (λ (x : Progress). ProgressStandsFor setup.text_limit x (past_server_item setup.limit s h.0) [])
+            (sym is) h.3;
+      },
+    )
+
+got_step : (setup : ViewerSetup) (old : ViewerHello) (p q : Progress) (unit : List ℕ) (event : Option ViewerStep) → old.progress ≡ p →
+    ((s : ServerPoint) (prefix : List ℕ) → setup_of old ≡ setup → ProgressStandsFor setup.text_limit p s prefix →
+    (i : ServerItem) × (server_item setup.max_places s (prefix ++ unit) ≡ Got i []) ×
+    (viewer_tells setup s i ≡ event) × ProgressStandsFor setup.text_limit q (past_server_item setup.limit s i) []) →
+    StepsBy (viewer_end setup) (StandsFor setup) old unit (Ok event) (record old { progress = q })
+got_step setup old p q unit event was step = got_new setup old (record old { progress = q }) p q unit event was refl
+    refl step
 
 asks_step : (asks : ServerPoint → List ℕ → Type 0) (setup : ViewerSetup) (old : ViewerHello) (p : Progress) (unit : List ℕ) → old.progress ≡ p →
     ((s : ServerPoint) (prefix : List ℕ) → ProgressStandsFor setup.text_limit p s prefix → asks s (prefix ++ unit)) →
@@ -106,52 +137,141 @@ result_failed setup old version part unit whole was is size not =
 
 -- ---- security types
 
-pub count_of_types : (setup : ViewerSetup) (old : ViewerHello) (version : Version) (more : ℕ) → old.progress ≡ Count version → StepsBy (viewer_end setup) (StandsFor setup) old ((more + 1) ∷ []) (Ok None) (record old { progress = Types version more false })
+pub count_of_types : (setup : ViewerSetup) (old : ViewerHello) (version : Version) (more : ℕ) →
+    old.progress ≡ Count version → StepsBy (viewer_end setup) (StandsFor setup) old ((more + 1) ∷ []) (Ok None)
+    (record old { progress = Types version (record { types = []; more = more }) })
 count_of_types setup old version more was =
-    more_step setup old (Count version) (Types version more false) ((more + 1) ∷ []) was (λ s prefix h.
-    rw (h.0, h.2) (types_next version (more + 1) [] h.1 ∙ types_more (more + 1) [] (omega arith), ([], refl, h.1, ap (λ (k : ℕ). k ∷ []) (omega arith), refl)))
+    more_step setup old (Count version) (Types version (record { types = []; more = more })) ((more + 1) ∷ []) was
+    (λ s prefix h.
+    rw (h.0, h.2) (
+      types_next version (more + 1) [] h.1 ∙ types_more (more + 1) [] (omega arith),
+      (refl, h.1, ap (λ (k : ℕ). k ∷ []) (omega arith)),
+    ))
 
--- types after those that were seen
-types_joined : (prefix seen unit : List ℕ) (n : ℕ) → prefix ≡ n ∷ seen → prefix ++ unit ≡ n ∷ (seen ++ unit)
-types_joined prefix seen unit n is = ap (λ (ys : List ℕ). ys ++ unit) is
+-- types after those that came before
+types_joined : (prefix seen unit types : List ℕ) (n : ℕ) → prefix ≡ n ∷ seen → types ≡ seen ++ unit →
+    prefix ++ unit ≡ n ∷ types
+types_joined prefix seen unit types n is all = ap (λ (ys : List ℕ). ys ++ unit) is ∙
+    ap (λ (ys : List ℕ). n ∷ ys) (sym all)
 
-pub types_part : (setup : ViewerSetup) (old : ViewerHello) (version : Version) (more left : ℕ) (none now : Bool) (unit : List ℕ) → old.progress ≡ Types version more none → length unit + left ≡ more → now ≡ (none || has_none unit) → StepsBy (viewer_end setup) (StandsFor setup) old unit (Ok None) (record old { progress = Types version left now })
-types_part setup old version more left none now unit was count is =
-    more_step setup old (Types version more none) (Types version left now) unit was (λ s prefix h.
-    let seen = h.0 in
-    let all = seen ++ unit in
-    let n = length seen + (more + 1) in
-    let few : length all < n = rw (length-append seen unit) (omega (arith, count)) in
-    let size : n ≡ length all + (left + 1) = rw (length-append seen unit) (omega (arith, count)) in
-    let has : now ≡ has_none all = is ∙ ap (λ (b : Bool). b || has_none unit) h.4 ∙ sym (none_after seen unit) in
-    rw (h.1, types_joined prefix seen unit n h.3) (types_next version n all h.2 ∙ types_more n all few, (all, refl, h.2, ap (λ (k : ℕ). k ∷ all) size, has)))
+pub types_part : (setup : ViewerSetup) (old : ViewerHello) (version : Version) (list now : TypesSoFar) (unit : List ℕ) →
+    old.progress ≡ Types version list → now.types ≡ list.types ++ unit → length unit + now.more ≡ list.more →
+    StepsBy (viewer_end setup) (StandsFor setup) old unit (Ok None) (record old { progress = Types version now })
+types_part setup old version list now unit was is count =
+    more_step setup old (Types version list) (Types version now) unit was (λ s prefix h.
+    let n = length list.types + (list.more + 1) in
+    let came : length now.types ≡ length list.types + length unit = ap length is ∙ length-append list.types unit in
+    let few : length now.types < n = omega (arith, count, came) in
+    let size : n ≡ length now.types + (now.more + 1) = omega (arith, count, came) in
+    rw (h.0, types_joined prefix list.types unit now.types n h.2 is) (
+      types_next version n now.types h.1 ∙ types_more n now.types few,
+      (refl, h.1, ap (λ (k : ℕ). k ∷ now.types) size),
+    ))
 
-pub types_told : (setup : ViewerSetup) (old : ViewerHello) (version : Version) (more : ℕ) (none : Bool) (unit : List ℕ) (reply : ArrayVec ℕ) → old.progress ≡ Types version more none → length unit ≡ more + 1 → (none || has_none unit) ≡ true → reply.items ≡ choice_bytes version old.shared → StepsBy (viewer_end setup) (StandsFor setup) old unit (Ok (Some (Reply reply))) (record old { progress = progress_after_types version })
-types_told setup old version more none unit reply was count is bytes =
-    got_step setup old (Types version more none) (progress_after_types version) unit (Some (Reply reply)) was (λ s prefix same h.
-    let seen = h.0 in
-    let all = seen ++ unit in
-    let n = length seen + (more + 1) in
-    let size : length all ≡ n = rw (length-append seen unit) (omega (arith, count)) in
-    let has : has_none all ≡ true = none_after seen unit ∙ ap (λ (b : Bool). b || has_none unit) (sym h.4) ∙ is in
+-- all of them have come
+types_whole : (list : TypesSoFar) (unit types : List ℕ) → types ≡ list.types ++ unit → length unit ≡ list.more + 1 →
+    length types ≡ length list.types + (list.more + 1)
+types_whole list unit types is count = ap length is ∙ length-append list.types unit ∙
+    ap (λ (k : ℕ). length list.types + k) count
+
+pub types_told : (setup : ViewerSetup) (old new : ViewerHello) (version : Version) (list : TypesSoFar)
+    (unit types : List ℕ) (reply : ArrayVec ℕ) → old.progress ≡ Types version list → types ≡ list.types ++ unit →
+    length unit ≡ list.more + 1 → has_none types ≡ true → reply.items ≡ choice_bytes version old.shared →
+    new.progress ≡ progress_after_types version → setup_of new ≡ setup_of old →
+    StepsBy (viewer_end setup) (StandsFor setup) old unit (Ok (Some (Reply reply))) new
+types_told setup old new version list unit types reply was is count has bytes after made =
+    got_new setup old new (Types version list) (progress_after_types version) unit (Some (Reply reply)) was after made
+    (λ s prefix same h.
+    let n = length list.types + (list.more + 1) in
+    let size : length types ≡ n = types_whole list unit types is count in
     let shared : old.shared ≡ setup.shared = ap (λ (x : ViewerSetup). x.shared) same in
     let told : as_reply (choice_bytes version setup.shared) ≡ reply = ap as_reply (ap (λ (b : Bool). choice_bytes version b) (sym shared) ∙ sym bytes) in
-    rw (h.1, types_joined prefix seen unit n h.3) (SecurityTypes all, types_next version n all h.2 ∙ types_good n all size (omega arith) has, ap (λ (r : ArrayVec ℕ). Some (Reply r)) told, stands version))
+    rw (h.0, types_joined prefix list.types unit types n h.2 is) (
+      SecurityTypes types,
+      types_next version n types h.1 ∙
+          types_good n types size (omega arith) has,
+      ap (λ (r : ArrayVec ℕ). Some (Reply r)) told,
+      stands version,
+    ))
   where
     stands : (v : Version) → ProgressStandsFor setup.text_limit (progress_after_types v) (after_types v) []
     stands V33 = (refl, refl, omega arith)
     stands V37 = (refl, refl, omega arith)
     stands V38 = (refl, refl, omega arith)
 
-pub types_refused : (setup : ViewerSetup) (old new : ViewerHello) (version : Version) (more : ℕ) (none : Bool) (unit : List ℕ) → old.progress ≡ Types version more none → length unit ≡ more + 1 → (none || has_none unit) ≡ false → StepsBy (viewer_end setup) (StandsFor setup) old unit (Err NoneNotOffered) new
-types_refused setup old new version more none unit was count is =
-    bad_step setup old new (Types version more none) unit NoneNotOffered was (λ s prefix h.
-    let seen = h.0 in
-    let all = seen ++ unit in
-    let n = length seen + (more + 1) in
-    let size : length all ≡ n = rw (length-append seen unit) (omega (arith, count)) in
-    let has : has_none all ≡ false = none_after seen unit ∙ ap (λ (b : Bool). b || has_none unit) (sym h.4) ∙ is in
-    rw (h.1, types_joined prefix seen unit n h.3) (types_next version n all h.2 ∙ types_bad n all size (omega arith) has))
+pub types_refused : (setup : ViewerSetup) (old new : ViewerHello) (version : Version) (list : TypesSoFar)
+    (unit types : List ℕ) → old.progress ≡ Types version list → types ≡ list.types ++ unit →
+    length unit ≡ list.more + 1 → has_none types ≡ false → StepsBy (viewer_end setup) (StandsFor setup) old unit
+    (Err NoneNotOffered) new
+types_refused setup old new version list unit types was is count has =
+    bad_step setup old new (Types version list) unit NoneNotOffered was (λ s prefix h.
+    let n = length list.types + (list.more + 1) in
+    let size : length types ≡ n = types_whole list unit types is count in
+    rw (h.0, types_joined prefix list.types unit types n h.2 is)
+    (types_next version n types h.1 ∙ types_bad n types size (omega arith) has))
+
+-- ---- what is kept of them
+
+listed_there : (version : Version) (types : ArrayVec ℕ) (bytes : List ℕ) → version ≢ V33 → IsTypes types.items bytes →
+    IsOfferedAt (Listed types) (AwaitsSecurity version) bytes
+listed_there V33 types bytes not is = absurd (not refl)
+listed_there V37 types bytes not is = is
+listed_there V38 types bytes not is = is
+
+types_there : (version : Version) (list : TypesSoFar) (prefix unit : List ℕ) (types : ArrayVec ℕ) → version ≢ V33 →
+    prefix ≡ (length list.types + (list.more + 1)) ∷ list.types → types.items ≡ list.types ++ unit →
+    length unit ≡ list.more + 1 → IsOfferedAt (Listed types) (AwaitsSecurity version) (prefix ++ unit)
+types_there version list prefix unit types not front is count =
+    let n = length list.types + (list.more + 1) in
+    let size : length types.items ≡ n = types_whole list unit types.items is count in
+    listed_there version types (prefix ++ unit) not (record {
+      some = omega (arith, size);
+      whole =
+          types_joined prefix list.types unit types.items n front is ∙ ap (λ (k : ℕ). k ∷ types.items) (sym size);
+    })
+
+-- after a fault of theirs, and after the answer to them
+module _ (old new : ViewerHello) (version : Version) (list : TypesSoFar) (unit : List ℕ) (types : ArrayVec ℕ)
+    (was : old.progress ≡ Types version list) (is : types.items ≡ list.types ++ unit)
+    (count : length unit ≡ list.more + 1) (kept : offered_of new ≡ Listed types) where
+  pub types_offered : LeadsToOffer (offered_of new) old unit
+  types_offered setup = rw kept (asks_step (IsOfferedAt (Listed types)) setup old (Types version list) unit was
+      (λ s prefix h. rw h.0 (types_there version list prefix unit types h.1 h.2 is count)))
+
+  pub types_kept : (reply : ArrayVec ℕ) → TakesOffer (Some (Reply reply)) old unit new
+  types_kept reply setup = rw kept (asks_step (IsOfferOn (offered_of old) (Listed types)) setup old
+      (Types version list) unit was
+      (λ s prefix h. rw h.0 (types_there version list prefix unit types h.1 h.2 is count)))
+
+module _ (old new : ViewerHello) (part : ArrayVec ℕ) (unit whole : List ℕ) (word : ℕ)
+    (was : old.progress ≡ Word part) (is : whole ≡ part.items ++ unit)
+    (at_word : IsWord word whole) (kept : offered_of new ≡ Chosen word) where
+  pub word_offered : LeadsToOffer (offered_of new) old unit
+  word_offered setup = rw kept (asks_step (IsOfferedAt (Chosen word)) setup old (Word part) unit was
+      (λ s prefix h. rw (h.0, joined prefix part.items unit whole h.1 is) at_word))
+
+  pub word_kept : (reply : ArrayVec ℕ) → TakesOffer (Some (Reply reply)) old unit new
+  word_kept reply setup = rw kept (asks_step (IsOfferOn (offered_of old) (Chosen word)) setup old (Word part) unit
+      was (λ s prefix h. rw (h.0, joined prefix part.items unit whole h.1 is) at_word))
+
+-- an answer to another item
+pub version_keeps : (old new : ViewerHello) (part : ArrayVec ℕ) (unit : List ℕ) (reply : ArrayVec ℕ) →
+    old.progress ≡ VersionPart part → offered_of new ≡ offered_of old → TakesOffer (Some (Reply reply)) old unit new
+version_keeps old new part unit reply was same setup =
+    asks_step (IsOfferOn (offered_of old) (offered_of new)) setup old (VersionPart part) unit was
+    (λ s prefix h. rw h.0 same)
+
+pub result_keeps : (old new : ViewerHello) (version : Version) (part : ArrayVec ℕ) (unit : List ℕ) (reply : ArrayVec ℕ)
+    → old.progress ≡ ResultPart version part → offered_of new ≡ offered_of old →
+    TakesOffer (Some (Reply reply)) old unit new
+result_keeps old new version part unit reply was same setup =
+    asks_step (IsOfferOn (offered_of old) (offered_of new)) setup old (ResultPart version part) unit was
+    (λ s prefix h. rw h.0 same)
+
+pub init_keeps : (old new : ViewerHello) (unit : List ℕ) (limit : ℕ) (version : Version) (width height n : ℕ) →
+    offered_of new ≡ offered_of old → TakesOffer (Some (told_of_init limit version width height n)) old unit new
+init_keeps old new unit limit version width height zero same = same
+init_keeps old new unit limit version width height (suc n) same = same
 
 -- ---- the version
 
@@ -275,8 +395,9 @@ progress_waits : (max limit : ℕ) (p : Progress) (s : ServerPoint) (prefix : Li
 progress_waits max limit (VersionPart part) s prefix h = rw (h.0, h.1, piece_short {F = HelloFault} 12 part.items h.2) refl
 progress_waits max limit (Word part) s prefix h = rw (h.0, h.1, piece_short {F = HelloFault} 4 part.items h.2) refl
 progress_waits max limit (Count version) s prefix h = rw (h.0, h.2) (security_empty version)
-progress_waits max limit (Types version more none) s prefix h =
-    rw (h.1, h.3) (types_next version (length h.0 + (more + 1)) h.0 h.2 ∙ types_more (length h.0 + (more + 1)) h.0 (omega arith))
+progress_waits max limit (Types version list) s prefix h =
+    let n = length list.types + (list.more + 1) in
+    rw (h.0, h.2) (types_next version n list.types h.1 ∙ types_more n list.types (omega arith))
 progress_waits max limit (ResultPart version part) s prefix h = rw (h.0, h.1, piece_short {F = HelloFault} 4 part.items h.2) refl
 progress_waits max limit (ReasonLength cause part) s prefix h = rw h.2 (opened max cause s h.0 part.items h.1 ∙ reason_short (λ n. fault_for cause n) part.items h.3)
 progress_waits max limit (Reason cause n more kept) s prefix h =
@@ -294,7 +415,7 @@ pub not_failed : (p : Progress) → ((fault : HelloFault) (kept : KeptText) → 
 not_failed (VersionPart part) not = refl
 not_failed (Word part) not = refl
 not_failed (Count version) not = refl
-not_failed (Types version more none) not = refl
+not_failed (Types version list) not = refl
 not_failed (ResultPart version part) not = refl
 not_failed (ReasonLength cause part) not = refl
 not_failed (Reason cause n more kept) not = refl
@@ -338,3 +459,28 @@ pub kept_later : (fault : HelloFault) (old mid new : ViewerHello) (i n : ℕ) (b
 kept_later (RefusedFault k) old mid new i n bytes fed kept = λ setup. memory_step (viewer_end setup) (viewer_machine setup) (IsReasonKept setup.text_limit Refused k (reason_in new.progress)) (StandsFor setup) old mid i n bytes (fed setup) (kept setup)
 kept_later (FailedFault k) old mid new i n bytes fed kept = λ setup. memory_step (viewer_end setup) (viewer_machine setup) (IsReasonKept setup.text_limit SecurityFailed k (reason_in new.progress)) (StandsFor setup) old mid i n bytes (fed setup) (kept setup)
 kept_later fault old mid new i n bytes fed kept = kept
+
+-- ---- a slice of which some bytes were taken before, and the types that are kept
+
+pub offer_later : (fault : HelloFault) (old mid new : ViewerHello) (i n : ℕ) (bytes : List ℕ) →
+    ((setup : ViewerSetup) → FedBy (viewer_end setup) (StandsFor setup) old (take i bytes) None mid) →
+    offered_of mid ≡ offered_of old → KeepsOffer fault mid (take n (drop i bytes)) new → KeepsOffer fault old bytes new
+offer_later NoneNotOffered old mid new i n bytes fed same kept =
+    λ setup. memory_step (viewer_end setup) (viewer_machine setup) (IsOfferedAt (offered_of new)) (StandsFor setup) old
+    mid i n bytes (fed setup) (kept setup)
+offer_later BadSecurityWord old mid new i n bytes fed same kept =
+    λ setup. memory_step (viewer_end setup) (viewer_machine setup) (IsOfferedAt (offered_of new)) (StandsFor setup) old
+    mid i n bytes (fed setup) (kept setup)
+offer_later fault old mid new i n bytes fed same kept = kept ∙ same
+
+pub taken_later : (event : Option ViewerStep) (old mid new : ViewerHello) (i n : ℕ) (bytes : List ℕ) →
+    ((setup : ViewerSetup) → FedBy (viewer_end setup) (StandsFor setup) old (take i bytes) None mid) →
+    offered_of mid ≡ offered_of old → TakesOffer event mid (take n (drop i bytes)) new → TakesOffer event old bytes new
+taken_later (Some (Reply reply)) old mid new i n bytes fed same kept = λ setup.
+    memory_step (viewer_end setup) (viewer_machine setup) (IsOfferOn (offered_of old) (offered_of new))
+    (StandsFor setup) old mid i n bytes (fed setup)
+    (subst (λ (o : Offered). RunsOutBy (viewer_end setup) (IsOfferOn o (offered_of new)) (StandsFor setup) mid
+    (take n (drop i bytes))) same (kept setup))
+taken_later (Some (Screen width height)) old mid new i n bytes fed same kept = kept ∙ same
+taken_later (Some (Ready width height version name size)) old mid new i n bytes fed same kept = kept ∙ same
+taken_later None old mid new i n bytes fed same kept = kept ∙ same

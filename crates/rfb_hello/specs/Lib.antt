@@ -7,10 +7,12 @@ pub mod ServerAnswers
 pub mod ServerProgress
 pub mod ServerStanding
 pub mod KeptText
+pub mod TypesSoFar
 pub mod ViewerEnd
 pub mod ViewerAnswers
 pub mod ViewerProgress
 pub mod ViewerStanding
+pub mod Offering
 pub mod ToldOf
 pub mod Conversation
 pub mod Pending

@@ -6,7 +6,8 @@ use Rattle.rfb_hello.specs.declared.fault.HelloFault.{HelloFault}
 use Rattle.rfb_hello.specs.declared.viewer_hello.progress.Progress.{Progress}
 use Rattle.rfb_hello.specs.declared.viewer_hello.progress.Progress.TheVariants.{Version as VersionPart, Word, Count, Types, Result as ResultPart, ReasonLength, Reason, Init, Name, Done, Failed}
 use Rattle.rfb_hello.specs.KeptText.{KeptText, no_text, kept_of}
-use Rattle.rfb_hello.specs.ServerHandshake.{ServerPoint, AwaitsVersion, AwaitsSecurity, AwaitsResult, AwaitsInit, AwaitsName, Begun, IsWord, has_none}
+use Rattle.rfb_hello.specs.ServerHandshake.{ServerPoint, AwaitsVersion, AwaitsSecurity, AwaitsResult, AwaitsInit}
+use Rattle.rfb_hello.specs.ServerHandshake.{AwaitsName, Begun, IsWord}
 use Rattle.rfb_hello.specs.ViewerEnd.{OpensReason}
 
 -- under a limit of texts, this progress stands for that point and that prefix; one that has failed
@@ -18,9 +19,9 @@ ProgressStandsFor limit (Word part) point prefix =
     (point ≡ AwaitsSecurity V33) × (prefix ≡ part.items) × (length part.items < 4)
 ProgressStandsFor limit (Count version) point prefix =
     (point ≡ AwaitsSecurity version) × (version ≢ V33) × (prefix ≡ [])
-ProgressStandsFor limit (Types version more none) point prefix =
-    (seen : List ℕ) × (point ≡ AwaitsSecurity version) × (version ≢ V33)
-    × (prefix ≡ (length seen + (more + 1)) ∷ seen) × (none ≡ has_none seen)
+ProgressStandsFor limit (Types version list) point prefix =
+    (point ≡ AwaitsSecurity version) × (version ≢ V33)
+    × (prefix ≡ (length list.types + (list.more + 1)) ∷ list.types)
 ProgressStandsFor limit (ResultPart version part) point prefix =
     (point ≡ AwaitsResult version) × (prefix ≡ part.items) × (length part.items < 4)
 ProgressStandsFor limit (ReasonLength cause part) point prefix =
@@ -43,7 +44,7 @@ abbrev pub fault_in : Progress → Option HelloFault
 fault_in (VersionPart part) = None
 fault_in (Word part) = None
 fault_in (Count version) = None
-fault_in (Types version more none) = None
+fault_in (Types version list) = None
 fault_in (ResultPart version part) = None
 fault_in (ReasonLength cause part) = None
 fault_in (Reason cause n more kept) = None
@@ -57,7 +58,7 @@ abbrev pub reason_in : Progress → KeptText
 reason_in (VersionPart part) = no_text
 reason_in (Word part) = no_text
 reason_in (Count version) = no_text
-reason_in (Types version more none) = no_text
+reason_in (Types version list) = no_text
 reason_in (ResultPart version part) = no_text
 reason_in (ReasonLength cause part) = no_text
 reason_in (Reason cause n more kept) = no_text
@@ -71,7 +72,7 @@ abbrev pub is_open : Progress → Bool
 is_open (VersionPart part) = true
 is_open (Word part) = true
 is_open (Count version) = true
-is_open (Types version more none) = true
+is_open (Types version list) = true
 is_open (ResultPart version part) = true
 is_open (ReasonLength cause part) = true
 is_open (Reason cause n more kept) = true

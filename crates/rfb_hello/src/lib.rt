@@ -4,6 +4,7 @@
 mod fault;
 mod fed;
 pub mod law;
+mod offered;
 mod pieces;
 mod server_hello;
 mod step;
@@ -15,6 +16,7 @@ mod viewer_hello;
 
 pub use fault::HelloFault;
 pub use fed::Fed;
+pub use offered::Offered;
 pub use server_hello::ServerHello;
 pub use step::{ServerStep, ViewerStep};
 pub use text::Text;

@@ -3,4 +3,5 @@
 mod cuts;
 pub(crate) mod ends;
 mod long_texts;
+mod offered;
 mod pieces;

@@ -6,6 +6,8 @@ ghost use Rattle.rfb_hello.specs.KeptText.{no_text};
 ghost use Rattle.rfb_hello.specs.ServerHandshake.{AwaitsVersion, ServerPoint};
 ghost use Rattle.rfb_hello.specs.Pending.{server_handshake_pending};
 ghost use Rattle.rfb_hello.specs.ViewerEnd.{ViewerSetup, viewer_end, AsksMemory};
+ghost use Rattle.rfb_hello.specs.Offering.{KeepsOffer, TakesOffer, offered_of};
+ghost use Rattle.rfb_hello.specs.declared.offered.Offered.TheVariants.{Nothing};
 ghost use Rattle.rfb_hello.specs.ViewerStanding.{KeepsReason, StandsFor, fault_of, goes_on_after, is_open, reason_of, setup_of};
 ghost use Rattle.rfb_hello.specs.inside.ViewerPiece.{TakesPiece};
 ghost use Rattle.rfb_hello.specs.declared.fault.HelloFault.TheVariants.{NoMemory};
@@ -14,9 +16,11 @@ ghost use Rattle.rfb_hello.specs.declared.viewer_hello.progress.Progress.{Progre
 mod progress;
 mod security;
 mod texts;
+mod type_list;
 
 use crate::fault::HelloFault;
 use crate::fed::Fed;
+use crate::offered::Offered;
 use crate::step::ViewerStep;
 use crate::text::Text;
 use crate::version::Version;
@@ -34,6 +38,7 @@ pub struct ViewerHello {
     shared: bool,
     max_places: u32,
     text_limit: u32,
+    offered: Offered,
     progress: Progress,
 }
 
@@ -48,7 +53,7 @@ impl ViewerHello {
         max_places: u32,
         text_limit: u32,
     ) -> ViewerHello
-        ensures { StandsFor
+        ensures stands { StandsFor
             (record {
               limit = limit;
               shared = shared;
@@ -56,6 +61,7 @@ impl ViewerHello {
               text_limit = text_limit;
             })
             result AwaitsVersion [] }
+        ensures offered { offered_of result ≡ Nothing }
     {
         ViewerHello {
             alloc,
@@ -63,6 +69,7 @@ impl ViewerHello {
             shared,
             max_places,
             text_limit,
+            offered: Offered::Nothing,
             progress: Progress::Version(ArrayVec::new()),
         }
     }
@@ -84,6 +91,8 @@ impl ViewerHello {
         ensures ready { IfOk result (λ fed. is_open self.old ≡ true
             → is_open self.new ≡ goes_on_after fed.event) }
         ensures setup { setup_of self.new ≡ setup_of self.old }
+        ensures offered { IfOk result (λ fed.
+            TakesOffer fed.event self.old bytes.now self.new) }
 
         // When a fault comes, when memory is wanting, and that it stays.
         ensures fault { IfErr result (λ fault. fault ≢ NoMemory → (setup : ViewerSetup)
@@ -93,6 +102,8 @@ impl ViewerHello {
             self.old bytes.now) }
         ensures reason { IfErr result (λ fault. fault_of self.old ≡ None
             → KeepsReason fault self.old bytes.now self.new) }
+        ensures offer { IfErr result (λ fault. fault_of self.old ≡ None
+            → KeepsOffer fault self.old bytes.now self.new) }
         ensures fails { IfErr result (λ fault. fault_of self.new ≡ Some fault) }
         ensures failed { StaysFailed (fault_of self.old) self.old result self.new }
     {
@@ -122,6 +133,15 @@ impl ViewerHello {
         } else {
             &[]
         }
+    }
+
+    /// The security types that the server offered, RFC 6143 section 7.1.2: nothing until all of
+    /// them have come, and from then on exactly these, also after a fault. After `NoneNotOffered`
+    /// and `BadSecurityWord` they are those that were refused.
+    pub fn offered(&self) -> &Offered
+        ensures { result.now ≡ offered_of self.now }
+    {
+        &self.offered
     }
 
     /// Whether the server's bytes go on in the handshake: it is not done, and has not failed.

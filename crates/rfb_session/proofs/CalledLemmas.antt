@@ -133,7 +133,7 @@ called_same v = record {
   picture = refl;
   damage = refl;
   ended = refl;
-  rest = record { fault = refl; reason = refl; made = refl; taken = refl };
+  rest = record { fault = refl; reason = refl; offered = refl; made = refl; taken = refl };
 }
 
 -- ---- each kind of call

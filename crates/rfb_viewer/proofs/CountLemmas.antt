@@ -1,5 +1,5 @@
 -- What a call leaves whose bytes were counted.
-use Rattle.std.proofs.Common.{◌≡◌, ℕ, List, None, Result, Ok, Err, take, sym, subst, ◌∙◌, ap}
+use Rattle.std.proofs.Common.{◌≡◌, ℕ, List, Option, Some, None, Result, Ok, Err, take, sym, subst, ◌∙◌, ap}
 use Rattle.std.specs.Prelude.{IfOk, IfErr}
 use Rattle.rfb_wire.specs.stream.End.{FedBy}
 use Rattle.rfb_wire.specs.stream.Placing.{counted_on}
@@ -7,17 +7,20 @@ use Rattle.rfb_hello.specs.declared.fed.Fed.{Fed}
 use Rattle.rfb_hello.specs.declared.viewer_hello.ViewerHello.{ViewerHello}
 use Rattle.rfb_hello.specs.declared.viewer_hello.progress.Cause.TheVariants.{Refused as RefusedCause}
 use Rattle.rfb_hello.specs.declared.viewer_hello.progress.Cause.TheVariants.{SecurityFailed as FailedCause}
+use Rattle.rfb_hello.specs.Offering.{offered_of as offered_in}
 use Rattle.rfb_hello.specs.ViewerStanding.{reason_of as reason_in}
 use Rattle.rfb_viewer.specs.declared.event.ViewerEvent.{ViewerEvent}
 use Rattle.rfb_viewer.specs.declared.fault.ViewerFault.{ViewerFault}
-use Rattle.rfb_viewer.specs.declared.fault.ViewerFault.TheVariants.{Refused, SecurityFailed}
+use Rattle.rfb_viewer.specs.declared.fault.ViewerFault.TheVariants.{Refused, SecurityFailed, NoneNotOffered}
+use Rattle.rfb_viewer.specs.declared.fault.ViewerFault.TheVariants.{BadSecurityWord}
 use Rattle.rfb_viewer.specs.declared.viewer.Viewer.{Viewer}
 use Rattle.rfb_viewer.specs.Counted.{IsPlacedAt, CountsTo}
-use Rattle.rfb_viewer.specs.Failing.{LeadsToReason, KeepsReason}
+use Rattle.rfb_viewer.specs.Failing.{LeadsTo, LeadsToReason, KeepsReason}
+use Rattle.rfb_viewer.specs.Offering.{LeadsToOffer, KeepsOffer, IsOfferOn, TakesOffer}
 use Rattle.rfb_viewer.specs.Damage.{ended_of, damaging, IsDamaged}
 use Rattle.rfb_viewer.specs.Moved.{moved_of, moving, HasMoved}
-use Rattle.rfb_viewer.specs.Standing.{StandsFor, fault_of, taken_of}
-use Rattle.rfb_viewer.specs.Told.{seen}
+use Rattle.rfb_viewer.specs.Standing.{StandsFor, fault_of, offered_of, taken_of}
+use Rattle.rfb_viewer.specs.Told.{ViewerTold, Reply, seen}
 use Rattle.rfb_viewer.specs.Viewer.{Viewing, viewer}
 use Rattle.rfb_viewer.proofs.CallLemmas.{same_stands}
 use Rattle.rfb_viewer.proofs.StepLemmas.{IsMade}
@@ -78,6 +81,30 @@ module _ (old mid new : Viewer) (bytes : List ℕ) (made : IsMade mid new mid.pr
       (λ fault. fault_of old ≡ None → KeepsReason fault old bytes new)
   counted_reason (Ok fed) one = tt
   counted_reason (Err fault) one = λ none. reason_counted fault (one none)
+
+  offer_counted : (fault : ViewerFault) → KeepsOffer fault old bytes mid → KeepsOffer fault old bytes new
+  offer_counted NoneNotOffered kept = subst (λ (h : ViewerHello). LeadsToOffer (offered_in h) old bytes)
+      (sym made.hello) kept
+  offer_counted BadSecurityWord kept = subst (λ (h : ViewerHello). LeadsToOffer (offered_in h) old bytes)
+      (sym made.hello) kept
+  offer_counted fault kept = ap (λ (h : ViewerHello). offered_in h) made.hello ∙ kept
+
+  pub counted_offer : (result : Result (Fed ViewerEvent) ViewerFault) → IfErr result
+      (λ fault. fault_of old ≡ None → KeepsOffer fault old bytes mid) → IfErr result
+      (λ fault. fault_of old ≡ None → KeepsOffer fault old bytes new)
+  counted_offer (Ok fed) one = tt
+  counted_offer (Err fault) one = λ none. offer_counted fault (one none)
+
+  offered_counted : (told : Option ViewerTold) → TakesOffer told old bytes mid → TakesOffer told old bytes new
+  offered_counted (Some (Reply sent)) kept = subst (λ (h : ViewerHello). LeadsTo
+      (λ viewing s front. IsOfferOn (offered_of old) (offered_in h) s.point front) old bytes) (sym made.hello) kept
+  offered_counted told kept = ap (λ (h : ViewerHello). offered_in h) made.hello ∙ kept
+
+  pub counted_offered : (result : Result (Fed ViewerEvent) ViewerFault) → IfOk result
+      (λ fed. TakesOffer (seen fed.event) old bytes mid) → IfOk result
+      (λ fed. TakesOffer (seen fed.event) old bytes new)
+  counted_offered (Ok fed) one = offered_counted (seen fed.event) one
+  counted_offered (Err fault) one = tt
 
 pub count_of_fed : (before after used : ℕ) → after ≡ counted_on before used → (result : Result
     (Fed ViewerEvent) ViewerFault) → IfOk result (λ fed. used ≡ fed.used) → IfOk result

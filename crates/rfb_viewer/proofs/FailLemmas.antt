@@ -28,14 +28,21 @@ use Rattle.rfb_hello.specs.KeptText.{KeptText, no_text}
 use Rattle.rfb_hello.specs.ServerHandshake.{ServerPoint, ServerItem, AwaitsInit, ServerInit}
 use Rattle.rfb_hello.specs.declared.version.Version.{Version}
 use Rattle.rfb_hello.specs.declared.step.ViewerStep.{ViewerStep}
+use Rattle.rfb_hello.specs.declared.step.ViewerStep.TheVariants.{Reply as StepReply}
 use Rattle.rfb_hello.specs.declared.viewer_hello.progress.Progress.{Progress as HelloProgress}
 use Rattle.rfb_hello.specs.declared.viewer_hello.progress.Progress.TheVariants.{Version as VersionPart, Word, Count, Types, Result as ResultPart, ReasonLength, Reason, Init, Name, Done, Failed as FailedPart}
 use Rattle.rfb_hello.specs.ServerReading.{server_handshake}
 use Rattle.rfb_hello.specs.ViewerEnd.{ViewerSetup, viewer_end, AsksMemory as HelloAsks, viewer_tells as handshake_tells}
+use Rattle.rfb_hello.specs.declared.offered.Offered.{Offered}
+use Rattle.rfb_hello.specs.Offering.{offered_of as offered_in}
+use Rattle.rfb_hello.specs.Offering.{IsOfferedAt as IsOfferedIn, IsOfferOn as IsOfferIn, LeadsToOffer as HelloOffers}
+use Rattle.rfb_hello.specs.Offering.{KeepsOffer as HelloKeepsOffer, TakesOffer as HelloTakesOffer}
 use Rattle.rfb_hello.specs.ViewerStanding.{StandsFor as HelloStandsFor, IsReasonKept, KeepsReason as HelloKeeps, LeadsToReason as HelloLeads, reason_of as reason_in, is_open, fault_of as hello_fault}
 use Rattle.rfb_hello.specs.ViewerProgress.{is_open as goes_on, fault_in as hello_fault_in}
 use Rattle.rfb_viewer.specs.declared.fault.ViewerFault.{ViewerFault}
 use Rattle.rfb_viewer.specs.declared.fault.ViewerFault.TheVariants.{NoMemory, Refused, SecurityFailed}
+use Rattle.rfb_viewer.specs.declared.fault.ViewerFault.TheVariants.{NoneNotOffered as NoneAmongTypes}
+use Rattle.rfb_viewer.specs.declared.fault.ViewerFault.TheVariants.{BadSecurityWord as BadWord}
 use Rattle.rfb_viewer.specs.declared.viewer.Viewer.{Viewer}
 use Rattle.rfb_viewer.specs.declared.viewer.progress.Progress.TheVariants.{Handshake, Head, RectHead, Data}
 use Rattle.rfb_viewer.specs.Fault.{fault_of_hello, fault_of_wire, fault_of_paint}
@@ -44,8 +51,11 @@ use Rattle.rfb_viewer.specs.Viewer.{Viewing, ViewerState, viewer, AsksMemory}
 use Rattle.rfb_viewer.specs.inside.Damaging.{EndsHere, EndsIn}
 use Rattle.rfb_viewer.specs.inside.Steps.{AsksAfter}
 use Rattle.rfb_viewer.specs.Progress.{IsHeadBegun, IsScreenAt}
-use Rattle.rfb_viewer.specs.Standing.{StandsFor, picture_of}
-use Rattle.rfb_viewer.specs.Failing.{LeadsToReason, IsReasonAt, KeepsNone, KeepsReason, ShowsLast, EndsAt, KeepsPicture}
+use Rattle.rfb_viewer.specs.Standing.{StandsFor, offered_of, picture_of}
+use Rattle.rfb_viewer.specs.Told.{ViewerTold, Reply as Answer}
+use Rattle.rfb_viewer.specs.Offering.{LeadsToOffer, IsOfferedAt, KeepsOffer, IsOfferOn, TakesOffer}
+use Rattle.rfb_viewer.specs.Failing.{LeadsTo, LeadsToReason, IsReasonAt, KeepsNone, KeepsReason, ShowsLast, EndsAt}
+use Rattle.rfb_viewer.specs.Failing.{KeepsPicture}
 use Rattle.rfb_viewer.proofs.ViewerLaws.{viewer_machine}
 use Rattle.rfb_viewer.proofs.MessageLemmas.{here, at_head, head_asks}
 use Rattle.rfb_viewer.proofs.RectLemmas.{IsOpened, opened_at, at_rect_head, at_data, painted_now, joined}
@@ -73,6 +83,31 @@ kept_later (Refused n) old mid new i bytes fed kept = reason_later RefusedCause 
 kept_later (SecurityFailed n) old mid new i bytes fed kept = reason_later FailedCause n (reason_in new.hello) old mid i bytes fed kept
 kept_later fault old mid new i bytes fed kept = none_later old mid new i bytes fed kept
 
+offer_leads_later : (offered : Offered) (old mid : Viewer) (i : ℕ) (bytes : List ℕ) →
+    ((viewing : Viewing) → FedBy (viewer viewing) (StandsFor viewing) old (take i bytes) None mid) →
+    LeadsToOffer offered mid (drop i bytes) → LeadsToOffer offered old bytes
+offer_leads_later offered old mid i bytes fed leads = λ viewing.
+    runs_out_later (viewer viewing) (viewer_machine viewing) (λ s front. IsOfferedAt offered s.point front)
+    (StandsFor viewing) old mid i bytes (fed viewing) (leads viewing)
+
+pub offer_later : (fault : ViewerFault) (old mid new : Viewer) (i : ℕ) (bytes : List ℕ) →
+    ((viewing : Viewing) → FedBy (viewer viewing) (StandsFor viewing) old (take i bytes) None mid) →
+    offered_of mid ≡ offered_of old → KeepsOffer fault mid (drop i bytes) new → KeepsOffer fault old bytes new
+offer_later NoneAmongTypes old mid new i bytes fed same kept =
+    offer_leads_later (offered_of new) old mid i bytes fed kept
+offer_later BadWord old mid new i bytes fed same kept = offer_leads_later (offered_of new) old mid i bytes fed kept
+offer_later fault old mid new i bytes fed same kept = kept ∙ same
+
+pub taken_later : (told : Option ViewerTold) (old mid new : Viewer) (i : ℕ) (bytes : List ℕ) →
+    ((viewing : Viewing) → FedBy (viewer viewing) (StandsFor viewing) old (take i bytes) None mid) →
+    offered_of mid ≡ offered_of old → TakesOffer told mid (drop i bytes) new → TakesOffer told old bytes new
+taken_later (Some (Answer sent)) old mid new i bytes fed same leads = λ viewing.
+    runs_out_later (viewer viewing) (viewer_machine viewing) (λ s front. IsOfferOn (offered_of old) (offered_of new)
+    s.point front) (StandsFor viewing) old mid i bytes (fed viewing)
+    (subst (λ (o : Offered). RunsOutBy (viewer viewing) (λ s front. IsOfferOn o (offered_of new) s.point front)
+    (StandsFor viewing) mid (drop i bytes)) same (leads viewing))
+taken_later told old mid new i bytes fed same kept = kept ∙ same
+
 -- ---- no reason
 
 pub none_at : (old : Viewer) (hello : ViewerHello) → hello ≡ old.hello → (viewing : Viewing) (s : ViewerState) (prefix : List ℕ) → StandsFor viewing old s prefix → (reason_in hello).bytes ≡ []
@@ -93,6 +128,21 @@ paint_keeps NoBackground old new bytes same = none_kept old new same
 paint_keeps NoForeground old new bytes same = none_kept old new same
 paint_keeps BothColourBits old new bytes same = none_kept old new same
 paint_keeps SourceOutside old new bytes same = none_kept old new same
+
+-- no types are at fault
+pub wire_offers : (fault : WireFault) (old new : Viewer) (bytes : List ℕ) → offered_of new ≡ offered_of old →
+    KeepsOffer (fault_of_wire fault) old bytes new
+wire_offers (WireMessage kind) old new bytes same = same
+wire_offers (WireEncoding number) old new bytes same = same
+wire_offers WireOutside old new bytes same = same
+
+pub paint_offers : (fault : PaintFault) (old new : Viewer) (bytes : List ℕ) → offered_of new ≡ offered_of old →
+    KeepsOffer (fault_of_paint fault) old bytes new
+paint_offers SubrectOutside old new bytes same = same
+paint_offers NoBackground old new bytes same = same
+paint_offers NoForeground old new bytes same = same
+paint_offers BothColourBits old new bytes same = same
+paint_offers SourceOutside old new bytes same = same
 
 pub wire_other : (fault : WireFault) → fault_of_wire fault ≡ NoMemory → ⊥
 wire_other (WireMessage kind) e = cc
@@ -269,6 +319,51 @@ greet_keeps ScreenEmpty old new bytes was kept = no_reason old new kept
 greet_keeps ScreenTooLarge old new bytes was kept = no_reason old new kept
 greet_keeps HelloMemory old new bytes was kept = no_reason old new kept
 
+-- ---- the types of a handshake
+
+offer_leads : (old : Viewer) (offered : Offered) (bytes : List ℕ) → old.progress ≡ Handshake →
+    HelloOffers offered old.hello bytes → LeadsToOffer offered old bytes
+offer_leads old offered bytes was leads = λ viewing s prefix stands.
+    let r = hello_leads viewing old (IsOfferedIn offered) bytes was (leads viewing.hello) s prefix stands in
+    record {
+      items = [];
+      front = r.0;
+      later = r.1;
+      reads = r.3;
+      quiet = refl;
+      asked =
+          subst (λ (a : ServerAt). IsOfferedAt offered a r.0) (sym r.4) r.5;
+    }
+
+pub greet_offers : (fault : HelloFault) (old new : Viewer) (bytes : List ℕ) → old.progress ≡ Handshake →
+    HelloKeepsOffer fault old.hello bytes new.hello → KeepsOffer (fault_of_hello fault) old bytes new
+greet_offers BadVersion old new bytes was kept = kept
+greet_offers VersionTooHigh old new bytes was kept = kept
+greet_offers BadSecurityChoice old new bytes was kept = kept
+greet_offers NoneNotOffered old new bytes was kept = offer_leads old (offered_of new) bytes was kept
+greet_offers (HelloRefused n) old new bytes was kept = kept
+greet_offers BadSecurityWord old new bytes was kept = offer_leads old (offered_of new) bytes was kept
+greet_offers (HelloFailed n) old new bytes was kept = kept
+greet_offers ScreenEmpty old new bytes was kept = kept
+greet_offers ScreenTooLarge old new bytes was kept = kept
+greet_offers HelloMemory old new bytes was kept = kept
+
+-- the answer of its end is the viewer's
+pub answer_offers : (old : Viewer) (after : ViewerHello) (bytes : List ℕ) (reply : ArrayVec ℕ) →
+    old.progress ≡ Handshake → HelloTakesOffer (Some (StepReply reply)) old.hello bytes after →
+    LeadsTo (λ viewing s front. IsOfferOn (offered_of old) (offered_in after) s.point front) old bytes
+answer_offers old after bytes reply was leads = λ viewing s prefix stands.
+    let r = hello_leads viewing old (IsOfferIn (offered_of old) (offered_in after)) bytes was
+    (leads viewing.hello) s prefix stands in
+    record {
+      items = [];
+      front = r.0;
+      later = r.1;
+      reads = r.3;
+      quiet = refl;
+      asked = subst (λ (a : ServerAt). IsOfferOn (offered_of old) (offered_in after) a r.0) (sym r.4) r.5;
+    }
+
 -- an end that goes on has no reason
 pub fed_keeps : (old : Viewer) (after : ViewerHello) (bytes : List ℕ) (event : Option ViewerStep) → old.progress ≡ Handshake → ((setup : ViewerSetup) → FedBy (viewer_end setup) (HelloStandsFor setup) old.hello bytes event after) → (viewing : Viewing) (s : ViewerState) (prefix : List ℕ) → StandsFor viewing old s prefix → (reason_in after).bytes ≡ []
 fed_keeps old after bytes event was fed viewing s prefix stands =
@@ -284,7 +379,7 @@ open_going hello e = by hello.progress e
     by (VersionPart part) e = refl
     by (Word part) e = refl
     by (Count version) e = refl
-    by (Types version more none) e = refl
+    by (Types version list) e = refl
     by (ResultPart version part) e = refl
     by (ReasonLength cause part) e = refl
     by (Reason cause n more kept) e = refl

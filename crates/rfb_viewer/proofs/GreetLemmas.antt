@@ -114,7 +114,7 @@ none_kept : (limit : ℕ) (progress : HelloProgress) (p : ServerPoint) (prefix :
 none_kept limit (VersionPart part) p prefix h = refl
 none_kept limit (Word part) p prefix h = refl
 none_kept limit (Count version) p prefix h = refl
-none_kept limit (Types version more none) p prefix h = refl
+none_kept limit (Types version list) p prefix h = refl
 none_kept limit (ResultPart version part) p prefix h = refl
 none_kept limit (ReasonLength cause part) p prefix h = refl
 none_kept limit (Reason cause n more kept) p prefix h = refl

@@ -69,7 +69,7 @@ pub hello_unreasoned : (limit : ℕ) (p : HelloProgress) (point : ServerPoint) (
 hello_unreasoned limit (VersionPart part) point prefix h = refl
 hello_unreasoned limit (Word part) point prefix h = refl
 hello_unreasoned limit (Count version) point prefix h = refl
-hello_unreasoned limit (Types version more none) point prefix h = refl
+hello_unreasoned limit (Types version list) point prefix h = refl
 hello_unreasoned limit (ResultPart version part) point prefix h = refl
 hello_unreasoned limit (ReasonLength cause part) point prefix h = refl
 hello_unreasoned limit (Reason cause n more kept) point prefix h = refl

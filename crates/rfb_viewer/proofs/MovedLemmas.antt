@@ -35,7 +35,7 @@ use Rattle.rfb_viewer.specs.Fault.{fault_of_hello, fault_of_update}
 use Rattle.rfb_viewer.specs.Moved.{moved_of, moved_if, item_moves, moving, HasMoved, KeepsMoved}
 use Rattle.rfb_viewer.specs.Progress.{ProgressStandsFor}
 use Rattle.rfb_viewer.specs.ServerBytes.{ServerAt, FromServer, server_bytes}
-use Rattle.rfb_viewer.specs.Standing.{StandsFor, picture_of, fault_of, making_of, taken_of}
+use Rattle.rfb_viewer.specs.Standing.{StandsFor, picture_of, fault_of, making_of, offered_of, taken_of}
 use Rattle.rfb_viewer.specs.Told.{ViewerTold}
 use Rattle.rfb_viewer.specs.Viewer.{Viewing, ViewerState, viewer, shows}
 use Rattle.rfb_viewer.specs.inside.Moving.{moves_by, MovesTo, Moves}
@@ -220,7 +220,8 @@ part_moves old new unit more part now steps at is some same = inside_moves old n
 module _ (old new : Viewer) (bytes : List ℕ) (used : ℕ) (some : 0 < used) (within : used ≤ length bytes)
     (steps : (viewing : Viewing) → StepsBy (viewer viewing) (StandsFor viewing) old (take used bytes) (Ok None) new)
     (damage : Damages old (take used bytes) new) (going : fault_of new ≡ None) (made : making_of new ≡ making_of old)
-    (same : moved_of new ≡ moved_of old) (taken : taken_of new ≡ taken_of old) where
+    (same : moved_of new ≡ moved_of old) (offered : offered_of new ≡ offered_of old)
+    (taken : taken_of new ≡ taken_of old) where
   pub under_takes : (r : Rect) → under_way new.progress ≡ Some r → Takes old bytes used None new
   under_takes r under = record {
     some = some;
@@ -228,6 +229,7 @@ module _ (old new : Viewer) (bytes : List ℕ) (used : ℕ) (some : 0 < used) (w
     steps = steps;
     damage = damage;
     moved = under_moves old new (take used bytes) r steps under same;
+    offered = offered;
     going = going;
     made = made;
     taken = taken;
@@ -241,6 +243,7 @@ module _ (old new : Viewer) (bytes : List ℕ) (used : ℕ) (some : 0 < used) (w
     steps = steps;
     damage = damage;
     moved = part_moves old new (take used bytes) more part now steps at is (some_taken used bytes some within) same;
+    offered = offered;
     going = going;
     made = made;
     taken = taken;

@@ -1,6 +1,6 @@
 -- With which byte of a slice a viewer fails.
-use Rattle.std.proofs.Common.{◌≡◌, ℕ, ◌+◌, ◌-◌, ◌<◌, ◌≤◌, List, [], ◌++◌, Some, None, Result, Ok, Err, length}
-use Rattle.std.proofs.Common.{take, drop, refl, sym, subst, ◌∙◌, ap, arith, append_assoc, length-append}
+use Rattle.std.proofs.Common.{◌≡◌, ℕ, ◌+◌, ◌-◌, ◌<◌, ◌≤◌, List, [], ◌++◌, Option, Some, None, Result, Ok, Err}
+use Rattle.std.proofs.Common.{length, take, drop, refl, sym, subst, ◌∙◌, ap, arith, append_assoc, length-append}
 use Rattle.std.proofs.Common.{length-drop, length-take-le, take-append-drop}
 use Rattle.std.proofs.lemmas.List.{take-take}
 use Rattle.arrayvec.specs.ArrayVec.{ArrayVec}
@@ -21,23 +21,24 @@ use Rattle.rfb_codec.specs.UnderWay.{UnderWay, painting, StandsFor as PainterSta
 use Rattle.rfb_codec.specs.UpdateStream.{InData, update_stream}
 use Rattle.rfb_codec.proofs.UpdateWaitLaws.{rect_short, body_waits, body_bad}
 use Rattle.rfb_hello.specs.declared.fed.Fed.{Fed}
-use Rattle.rfb_hello.specs.declared.viewer_hello.progress.Cause.{Cause}
 use Rattle.rfb_hello.specs.declared.viewer_hello.progress.Cause.TheVariants.{Refused as RefusedCause}
 use Rattle.rfb_hello.specs.declared.viewer_hello.progress.Cause.TheVariants.{SecurityFailed as FailedCause}
-use Rattle.rfb_hello.specs.KeptText.{KeptText}
 use Rattle.rfb_hello.specs.ViewerStanding.{reason_of as reason_in}
 use Rattle.rfb_viewer.specs.declared.event.ViewerEvent.{ViewerEvent}
 use Rattle.rfb_viewer.specs.declared.fault.ViewerFault.{ViewerFault}
 use Rattle.rfb_viewer.specs.declared.fault.ViewerFault.TheVariants.{NoMemory, Refused, SecurityFailed}
+use Rattle.rfb_viewer.specs.declared.fault.ViewerFault.TheVariants.{NoneNotOffered, BadSecurityWord}
 use Rattle.rfb_viewer.specs.declared.viewer.Viewer.{Viewer}
 use Rattle.rfb_viewer.specs.declared.viewer.progress.Failure.{Failure}
 use Rattle.rfb_viewer.specs.declared.viewer.progress.Progress.{Progress}
 use Rattle.rfb_viewer.specs.declared.viewer.progress.Progress.TheVariants.{Handshake, RectHead, Data}
 use Rattle.rfb_viewer.specs.Counted.{IsPlacedAt}
-use Rattle.rfb_viewer.specs.Failing.{LeadsToReason, IsReasonAt, KeepsReason}
+use Rattle.rfb_viewer.specs.Failing.{LeadsTo, IsReasonAt, KeepsReason}
 use Rattle.rfb_viewer.specs.Fault.{fault_of_paint}
+use Rattle.rfb_viewer.specs.Offering.{IsOfferedAt, KeepsOffer, IsOfferOn, TakesOffer}
 use Rattle.rfb_viewer.specs.ServerBytes.{ServerAt, server_bytes}
-use Rattle.rfb_viewer.specs.Standing.{StandsFor}
+use Rattle.rfb_viewer.specs.Standing.{StandsFor, offered_of}
+use Rattle.rfb_viewer.specs.Told.{ViewerTold, Reply, seen}
 use Rattle.rfb_viewer.specs.Viewer.{Viewing, ViewerState, viewer, AsksMemory}
 use Rattle.rfb_viewer.specs.inside.Damaging.{Damages, DamagesAt, EndsIn}
 use Rattle.rfb_viewer.specs.inside.Feeding.{StepsOn, RefusesBy, StarvesBy}
@@ -269,19 +270,36 @@ placed_starves n fault old bytes p = λ is viewing s prefix stands.
 
 -- ---- a step of the first byte is one of a slice
 
-reason_longer : (cause : Cause) (n : ℕ) (kept : KeptText) (old : Viewer) (bytes : List ℕ) →
-    LeadsToReason cause n kept old (take 1 bytes) → LeadsToReason cause n kept old bytes
-reason_longer cause n kept old bytes leads = λ viewing s prefix stands.
-    let There = λ (s : ViewerState) (front : List ℕ). IsReasonAt viewing.hello.text_limit cause n kept s.point front in
-    subst (λ (xs : List ℕ). RunsOut (viewer viewing) There s prefix xs) (take-append-drop 1 bytes)
-    (runs_out_more (viewer viewing) (viewer_machine viewing) There s prefix (take 1 bytes) (drop 1 bytes)
+leads_longer : (There : Viewing → ViewerState → List ℕ → Type 0) (old : Viewer) (bytes : List ℕ) →
+    LeadsTo There old (take 1 bytes) → LeadsTo There old bytes
+leads_longer There old bytes leads = λ viewing s prefix stands.
+    subst (λ (xs : List ℕ). RunsOut (viewer viewing) (There viewing) s prefix xs) (take-append-drop 1 bytes)
+    (runs_out_more (viewer viewing) (viewer_machine viewing) (There viewing) s prefix (take 1 bytes) (drop 1 bytes)
     (leads viewing s prefix stands))
 
 keeps_longer : (fault : ViewerFault) (old new : Viewer) (bytes : List ℕ) → KeepsReason fault old
     (take 1 bytes) new → KeepsReason fault old bytes new
-keeps_longer (Refused n) old new bytes kept = reason_longer RefusedCause n (reason_in new.hello) old bytes kept
-keeps_longer (SecurityFailed n) old new bytes kept = reason_longer FailedCause n (reason_in new.hello) old bytes kept
+keeps_longer (Refused n) old new bytes kept = leads_longer
+    (λ viewing s front. IsReasonAt viewing.hello.text_limit RefusedCause n (reason_in new.hello) s.point front)
+    old bytes kept
+keeps_longer (SecurityFailed n) old new bytes kept = leads_longer
+    (λ viewing s front. IsReasonAt viewing.hello.text_limit FailedCause n (reason_in new.hello) s.point front)
+    old bytes kept
 keeps_longer fault old new bytes kept = kept
+
+offer_longer : (fault : ViewerFault) (old new : Viewer) (bytes : List ℕ) → KeepsOffer fault old
+    (take 1 bytes) new → KeepsOffer fault old bytes new
+offer_longer NoneNotOffered old new bytes kept =
+    leads_longer (λ viewing s front. IsOfferedAt (offered_of new) s.point front) old bytes kept
+offer_longer BadSecurityWord old new bytes kept =
+    leads_longer (λ viewing s front. IsOfferedAt (offered_of new) s.point front) old bytes kept
+offer_longer fault old new bytes kept = kept
+
+offered_longer : (told : Option ViewerTold) (old new : Viewer) (bytes : List ℕ) → TakesOffer told old
+    (take 1 bytes) new → TakesOffer told old bytes new
+offered_longer (Some (Reply sent)) old new bytes kept =
+    leads_longer (λ viewing s front. IsOfferOn (offered_of old) (offered_of new) s.point front) old bytes kept
+offered_longer told old new bytes kept = kept
 
 ends_longer : (fault : ViewerFault) (old new : Viewer) (bytes : List ℕ) → EndsIn fault old (take 1 bytes) new →
     EndsIn fault old bytes new
@@ -312,6 +330,7 @@ first_steps old new bytes (Ok fed) some was t =
       steps = subst (λ (xs : List ℕ). StepsOn old xs fed.event new) same t.steps;
       damage = subst (λ (xs : List ℕ). Damages old xs new) same t.damage;
       moved = subst (λ (xs : List ℕ). Moves old xs new) same t.moved;
+      offered = offered_longer (seen fed.event) old new bytes t.offered;
       going = t.going;
       made = t.made;
       taken = t.taken;
@@ -341,6 +360,7 @@ first_steps old new bytes (Err failure) some was f =
       };
       picture = ends_longer failure.fault old new bytes f.picture;
       reason = keeps_longer failure.fault old new bytes f.reason;
+      offer = offer_longer failure.fault old new bytes f.offer;
       damage = damages_longer old new (take 1 bytes) bytes was f.damage;
       moved = f.moved;
       failed = f.failed;

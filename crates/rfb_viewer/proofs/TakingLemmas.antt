@@ -22,12 +22,13 @@ use Rattle.rfb_viewer.specs.Failing.{KeepsNone}
 use Rattle.rfb_viewer.specs.Fault.{fault_of_wire, fault_of_paint}
 use Rattle.rfb_viewer.specs.Moved.{moved_of}
 use Rattle.rfb_viewer.specs.Progress.{fault_in}
-use Rattle.rfb_viewer.specs.Standing.{Making, making_of, taken_of}
+use Rattle.rfb_viewer.specs.Standing.{Making, making_of, offered_of, taken_of}
 use Rattle.rfb_viewer.specs.inside.Damaging.{screen_made, ended_with, begun_on, Damages, DamagesAt, EndsIn}
-use Rattle.rfb_viewer.specs.inside.Steps.{progress_after}
+use Rattle.rfb_viewer.specs.Offering.{TakesOffer}
+use Rattle.rfb_viewer.specs.inside.Steps.{progress_after, told_after, told_past}
 use Rattle.rfb_viewer.specs.inside.Taking.{Fails}
 use Rattle.rfb_viewer.proofs.DamageStepLemmas.{made_same}
-use Rattle.rfb_viewer.proofs.FailLemmas.{wire_keeps, paint_keeps}
+use Rattle.rfb_viewer.proofs.FailLemmas.{wire_keeps, wire_offers, paint_keeps, paint_offers}
 use Rattle.rfb_viewer.proofs.RectLemmas.{past_going}
 
 -- ---- what stays
@@ -54,6 +55,21 @@ data_left v more painter picture was shown =
     right_of true true e = absurd cc
     right_of true false e = refl
     right_of false b e = absurd cc
+
+-- ---- the security types, which stay after the handshake
+
+module _ (old new : Viewer) (unit : List ℕ) (same : offered_of new ≡ offered_of old) where
+  pub past_keeps : (left : ℕ) → TakesOffer (told_past left) old unit new
+  past_keeps zero = same
+  past_keeps (suc left) = same
+
+  pub head_keeps : (head : ServerHead) → TakesOffer (told_after head) old unit new
+  head_keeps (Update count) = past_keeps count
+  head_keeps (ColourMap first zero) = same
+  head_keeps (ColourMap first (suc more)) = same
+  head_keeps BellHead = same
+  head_keeps (CutTextHead zero) = same
+  head_keeps (CutTextHead (suc more)) = same
 
 -- ---- what a step adds to the damage
 
@@ -94,7 +110,7 @@ module _ (old new : Viewer) (bytes : List ℕ) where
 
 module _ (old new : Viewer) (bytes : List ℕ) (damages : Damages old bytes new)
     (moved : moved_of new ≡ moved_of old) (made : making_of new ≡ making_of old)
-    (taken : taken_of new ≡ taken_of old) where
+    (taken : taken_of new ≡ taken_of old) (offered : offered_of new ≡ offered_of old) where
   -- by a fault of a head
   pub wire_fails : (used : ℕ) (fault : WireFault) → IsPlacedAt used (fault_of_wire fault) old bytes → EndsIn
       (fault_of_wire fault) old bytes new → new.hello ≡ old.hello → new.progress ≡ Failed (fault_of_wire fault) →
@@ -103,6 +119,7 @@ module _ (old new : Viewer) (bytes : List ℕ) (damages : Damages old bytes new)
     placed = placed;
     picture = ends;
     reason = wire_keeps fault old new bytes same;
+    offer = wire_offers fault old new bytes offered;
     damage = damages;
     moved = moved;
     failed = ap fault_in failed;
@@ -118,6 +135,7 @@ module _ (old new : Viewer) (bytes : List ℕ) (damages : Damages old bytes new)
     placed = placed;
     picture = ends;
     reason = paint_keeps fault old new bytes same;
+    offer = paint_offers fault old new bytes offered;
     damage = damages;
     moved = moved;
     failed = ap fault_in failed;
@@ -132,6 +150,7 @@ module _ (old new : Viewer) (bytes : List ℕ) (damages : Damages old bytes new)
     placed = placed;
     picture = ends;
     reason = none;
+    offer = offered;
     damage = damages;
     moved = moved;
     failed = ap fault_in failed;

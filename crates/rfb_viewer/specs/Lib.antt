@@ -10,6 +10,7 @@ pub mod Refusing
 pub mod Call
 pub mod Showing
 pub mod Failing
+pub mod Offering
 pub mod Damage
 pub mod Moved
 pub mod Counted

@@ -8,6 +8,8 @@ use Rattle.rfb_picture.specs.Grid.{Grid}
 use Rattle.rfb_wire.specs.declared.encoding.Encoding.{Encoding}
 use Rattle.rfb_hello.specs.declared.version.Version.{Version}
 use Rattle.rfb_hello.specs.ViewerEnd.{ViewerSetup}
+use Rattle.rfb_hello.specs.declared.offered.Offered.{Offered}
+use Rattle.rfb_hello.specs.Offering.{offered_of as offered_in}
 use Rattle.rfb_hello.specs.ViewerStanding.{setup_of, reason_of as reason_in}
 use Rattle.rfb_viewer.specs.declared.fault.ViewerFault.{ViewerFault}
 use Rattle.rfb_viewer.specs.declared.viewer.Viewer.{Viewer}
@@ -56,6 +58,10 @@ fault_of viewer = fault_in viewer.progress
 abbrev pub reason_of : Viewer → List ℕ
 reason_of viewer = (reason_in viewer.hello).bytes
 
+-- the security types that the server has offered
+abbrev pub offered_of : Viewer → Offered
+offered_of viewer = offered_in viewer.hello
+
 -- how many bytes it has used in all
 abbrev pub taken_of : Viewer → ℕ
 taken_of viewer = viewer.taken
@@ -74,10 +80,11 @@ making_of viewer =
       text_limit = viewer.text_limit;
     }
 
--- beside what it shows: its fault, the server's reason, what it was made with and its count of bytes
--- are as they were
+-- beside what it shows: its fault, the server's reason and types, what it was made with and its count
+-- of bytes are as they were
 pub record KeepsRest (old new : Viewer) : Type 0 where
   pub fault : fault_of new ≡ fault_of old
   pub reason : reason_of new ≡ reason_of old
+  pub offered : offered_of new ≡ offered_of old
   pub made : making_of new ≡ making_of old
   pub taken : taken_of new ≡ taken_of old

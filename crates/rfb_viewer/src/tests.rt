@@ -13,6 +13,7 @@ mod hostile;
 mod long_texts;
 mod messages;
 mod moved;
+mod offered;
 mod one_server;
 mod painting;
 mod pending;

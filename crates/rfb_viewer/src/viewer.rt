@@ -51,13 +51,15 @@ impl Viewer {
     ghost use Rattle.rfb_viewer.specs.Viewer.{Viewing, ViewerState, viewer, first_viewer};
     ghost use Rattle.rfb_viewer.specs.Viewer.{AsksMemory};
     ghost use Rattle.rfb_viewer.specs.Standing.{StandsFor, viewing_with, fault_of, making_of};
-    ghost use Rattle.rfb_viewer.specs.Standing.{picture_of, taken_of};
+    ghost use Rattle.rfb_viewer.specs.Standing.{offered_of, picture_of, taken_of};
     ghost use Rattle.rfb_viewer.specs.Damage.{damage_of, ended_of, damaging, IsDamaged};
     ghost use Rattle.rfb_viewer.specs.Damage.{IsSameOutside, KeepsDamage};
     ghost use Rattle.rfb_viewer.specs.Moved.{moved_of, moving, HasMoved, KeepsMoved};
     ghost use Rattle.rfb_viewer.specs.inside.Sound.{IsElsewhere};
     ghost use Rattle.rfb_viewer.specs.inside.Taking.{Steps};
     ghost use Rattle.rfb_viewer.specs.Failing.{KeepsPicture, KeepsReason};
+    ghost use Rattle.rfb_viewer.specs.Offering.{KeepsOffer, TakesOffer};
+    ghost use Rattle.rfb_hello.specs.declared.offered.Offered.TheVariants.{Nothing};
     ghost use Rattle.rfb_viewer.specs.Counted.{IsPlacedAt, CountsTo};
     ghost use Rattle.rfb_wire.specs.stream.Placing.{counted_on};
 
@@ -79,6 +81,7 @@ impl Viewer {
             StandsFor viewing result first_viewer [] }
         ensures damage { ended_of result ≡ None }
         ensures moved { moved_of result ≡ [] }
+        ensures offered { offered_of result ≡ Nothing }
         ensures taken { taken_of result ≡ 0 }
     {
         Viewer {
@@ -103,6 +106,7 @@ impl Viewer {
             StandsFor viewing result first_viewer [] }
         ensures damage { ended_of result ≡ None }
         ensures moved { moved_of result ≡ [] }
+        ensures offered { offered_of result ≡ Nothing }
         ensures taken { taken_of result ≡ 0 }
     {
         Viewer::new(
@@ -128,6 +132,8 @@ impl Viewer {
             → FedBy (viewer viewing) (StandsFor viewing)
             self.old (take fed.used bytes.now) (seen fed.event) self.new) }
         ensures made { making_of self.new ≡ making_of self.old }
+        ensures offered { IfOk result (λ fed.
+            TakesOffer (seen fed.event) self.old bytes.now self.new) }
 
         // What of the picture it changes, and the damage that it makes.
         ensures outside { (viewing : Viewing) (s : ViewerState) (prefix : List ℕ)
@@ -156,6 +162,8 @@ impl Viewer {
             → KeepsPicture fault self.old bytes.now self.new) }
         ensures reason { IfErr result (λ fault. fault_of self.old ≡ None
             → KeepsReason fault self.old bytes.now self.new) }
+        ensures offer { IfErr result (λ fault. fault_of self.old ≡ None
+            → KeepsOffer fault self.old bytes.now self.new) }
         ensures fails { IfErr result (λ fault. fault_of self.new ≡ Some fault) }
         ensures failed { StaysFailed (fault_of self.old) self.old result self.new }
 
@@ -188,6 +196,8 @@ impl Viewer {
             → FedBy (viewer viewing) (StandsFor viewing)
             self.old (take fed.used bytes.now) (seen fed.event) self.new) }
         ensures made { making_of self.new ≡ making_of self.old }
+        ensures offered { IfOk result (λ fed.
+            TakesOffer (seen fed.event) self.old bytes.now self.new) }
 
         // What of the picture it changes, and the damage that it makes.
         ensures outside { (viewing : Viewing) (s : ViewerState) (prefix : List ℕ)
@@ -209,6 +219,8 @@ impl Viewer {
             → KeepsPicture fault self.old bytes.now self.new) }
         ensures reason { IfErr result (λ fault. fault_of self.old ≡ None
             → KeepsReason fault self.old bytes.now self.new) }
+        ensures offer { IfErr result (λ fault. fault_of self.old ≡ None
+            → KeepsOffer fault self.old bytes.now self.new) }
         ensures fails { IfErr result (λ fault. fault_of self.new ≡ Some fault) }
         ensures moved { IfOk result (λ fed. (viewing : Viewing)
             → FedBy (moving viewing) (HasMoved viewing)

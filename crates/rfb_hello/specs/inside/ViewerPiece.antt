@@ -14,6 +14,7 @@ use Rattle.rfb_hello.specs.declared.viewer_hello.progress.Progress.{Progress}
 use Rattle.rfb_hello.specs.declared.viewer_hello.progress.Progress.TheVariants.{Version as VersionPart, Word, Count, Types, Result as ResultPart, ReasonLength, Reason, Init, Name, Done, Failed}
 use Rattle.rfb_hello.specs.KeptText.{kept_of}
 use Rattle.rfb_hello.specs.ViewerEnd.{ViewerSetup, AsksMemory, viewer_end}
+use Rattle.rfb_hello.specs.Offering.{KeepsOffer, TakesOffer}
 use Rattle.rfb_hello.specs.ViewerStanding.{KeepsReason, StandsFor, fault_of, goes_on_after, is_open, setup_of}
 
 -- bytes of one item are a step of the machine, where memory is not wanting
@@ -41,6 +42,8 @@ pub record TakesPiece (old : ViewerHello) (bytes : List ℕ) (used : ℕ)
   pub going : IfOk event (λ e. fault_of new ≡ None)
   pub fails : IfErr event (λ fault. fault_of new ≡ Some fault)
   pub reason : IfErr event (λ fault. KeepsReason fault old (take used bytes) new)
+  pub offer : IfErr event (λ fault. KeepsOffer fault old (take used bytes) new)
+  pub offered : IfOk event (λ e. TakesOffer e old (take used bytes) new)
   pub setup : setup_of new ≡ setup_of old
 
 -- ---- what a part leaves after it
@@ -55,7 +58,7 @@ abbrev pub part_in : Progress → ℕ
 part_in (VersionPart part) = length part.items
 part_in (Word part) = length part.items
 part_in (Count version) = 0
-part_in (Types version more none) = 0
+part_in (Types version list) = 0
 part_in (ResultPart version part) = length part.items
 part_in (ReasonLength cause part) = length part.items
 part_in (Reason cause n more kept) = 0

@@ -2,7 +2,7 @@
 //! prove.
 
 use crate::server_hello::MAX_NAME;
-use crate::{Fed, HelloFault, ServerHello, ServerStep, Version, ViewerHello, ViewerStep};
+use crate::{Fed, HelloFault, Offered, ServerHello, ServerStep, Version, ViewerHello, ViewerStep};
 use std::alloc::Global;
 
 /// A server's end of that name, if it is not too long, and else of none.
@@ -59,6 +59,11 @@ pub(crate) fn server_pending(hello: &ServerHello) -> usize {
 
 pub(crate) fn viewer_pending(hello: &ViewerHello) -> usize {
     hello.pending()
+}
+
+/// The security types that the server offered.
+pub(crate) fn offered_of(hello: &ViewerHello) -> &Offered {
+    hello.offered()
 }
 
 pub(crate) fn reason_of(hello: &ViewerHello) -> &[u8] {

@@ -9,6 +9,7 @@ use crate::fault::HelloFault;
 use crate::pieces::{INIT_PART, WORD_PART};
 use crate::text::Text;
 use crate::version::{VERSION_PART, Version};
+use crate::viewer_hello::type_list::TypeList;
 use arrayvec::ArrayVec;
 
 /// What a reason is sent for.
@@ -29,12 +30,10 @@ pub enum Progress {
     Word(ArrayVec<u8, WORD_PART>),
     /// The count of its security types, under 3.7 or 3.8.
     Count(Version),
-    /// Its security types: how many come after the next one, and whether None was among those
-    /// before it.
+    /// Its security types: those that have come.
     Types {
         version: Version,
-        more: u8,
-        none: bool,
+        list: TypeList,
     },
     /// SecurityResult: the bytes of the word that have come.
     Result(Version, ArrayVec<u8, WORD_PART>),

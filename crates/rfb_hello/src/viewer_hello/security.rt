@@ -4,6 +4,8 @@
 ghost use Rattle.std.specs.Prelude.{◌≡◌, ◌≤◌, ◌<◌, ℕ, [], ◌∷◌, length, take, true, IfOk, IfErr, Some, None, Ok, Bool};
 ghost use Rattle.arrayvec.specs.ArrayVec.{ArrayVec as Items};
 ghost use Rattle.rfb_wire.specs.stream.End.{StepsBy};
+ghost use Rattle.rfb_hello.specs.Offering.{offered_of};
+ghost use Rattle.rfb_hello.specs.TypesSoFar.{TypesSoFar};
 ghost use Rattle.rfb_hello.specs.Version.{lower};
 ghost use Rattle.rfb_hello.specs.ViewerEnd.{ViewerSetup, viewer_end, choice_bytes, shared_flag};
 ghost use Rattle.rfb_hello.specs.ViewerStanding.{StandsFor, is_open, setup_of};
@@ -12,11 +14,13 @@ ghost use Rattle.rfb_hello.specs.inside.ViewerPiece.{progress_after_version, pro
 ghost use Rattle.rfb_hello.specs.declared.viewer_hello.progress.Progress.{Progress};
 
 use crate::fault::HelloFault;
+use crate::offered::Offered;
 use crate::pieces::{SECURITY_NONE, WORD_PART, WORD_SIZE, has_none, reply_of};
 use crate::step::{MAX_ANSWER, ViewerStep};
 use crate::version::{VERSION_PART, VERSION_SIZE, Version};
 use crate::viewer_hello::ViewerHello;
 use crate::viewer_hello::progress::{Cause, Progress};
+use crate::viewer_hello::type_list::TypeList;
 use arrayvec::ArrayVec;
 use byteorder::{BigEndian, ByteOrder};
 use rfb_wire::pieces::gather;
@@ -62,11 +66,13 @@ impl ViewerHello {
         let Some(whole) = whole else {
             return (used, Ok(None));
         };
-        match BigEndian::read_u32(whole.as_slice()) {
-            0 => {
-                self.progress = before_reason(Cause::Refused);
-                (used, Ok(None))
-            }
+        let word = BigEndian::read_u32(whole.as_slice());
+        if word == 0 {
+            self.progress = before_reason(Cause::Refused);
+            return (used, Ok(None));
+        }
+        self.offered = Offered::Chosen(word);
+        match word {
             1 => {
                 self.progress = Progress::Init(Version::V33, ArrayVec::new());
                 (used, Ok(Some(ViewerStep::Reply(client_init(self.shared)))))
@@ -83,14 +89,14 @@ impl ViewerHello {
             → StepsBy (viewer_end setup) (StandsFor setup)
             self.old (count ∷ []) (Ok None) self.new }
         ensures setup { setup_of self.new ≡ setup_of self.old }
+        ensures offered { offered_of self.new ≡ offered_of self.old }
         ensures open { is_open self.new ≡ true }
     {
         self.progress = match count.checked_sub(1) {
             None => before_reason(Cause::Refused),
             Some(more) => Progress::Types {
                 version,
-                more,
-                none: false,
+                list: TypeList::new(more),
             },
         };
     }
@@ -101,31 +107,26 @@ impl ViewerHello {
         bytes: &[u8],
     ) -> (usize, Result<Option<ViewerStep>, HelloFault>)
         requires some { 0 < length bytes.now }
-        requires open { (version : Version) × (more : ℕ) × (none : Bool)
-            × (self.old.progress ≡ Progress.Types version more none) }
+        requires open { (version : Version) × (list : TypesSoFar)
+            × (self.old.progress ≡ Progress.Types version list) }
         ensures { TakesPiece self.old bytes.now result.0 result.1 self.new }
     {
-        let Progress::Types {
-            version,
-            more,
-            none,
-        } = &mut self.progress
-        else {
+        let Progress::Types { version, list } = &mut self.progress else {
             unreachable!()
         };
-        let missing = usize::from(*more) + 1;
-        if bytes.len() < missing {
-            *more -= bytes.len() as u8;
-            *none = *none || has_none(bytes);
-            return (bytes.len(), Ok(None));
-        }
+        let (used, whole) = list.take(bytes);
+        let Some(types) = whole else {
+            return (used, Ok(None));
+        };
         let version = *version;
-        if !(*none || has_none(&bytes[..missing])) {
-            return (missing, Err(self.fail(HelloFault::NoneNotOffered)));
+        let takes = has_none(types.as_slice());
+        self.offered = Offered::Listed(types);
+        if !takes {
+            return (used, Err(self.fail(HelloFault::NoneNotOffered)));
         }
         self.progress = after_types(version);
         let reply = choice(version, self.shared);
-        (missing, Ok(Some(ViewerStep::Reply(reply))))
+        (used, Ok(Some(ViewerStep::Reply(reply))))
     }
 
     // Takes bytes of SecurityResult.

@@ -8,6 +8,8 @@ use Rattle.rfb_viewer.specs.declared.viewer.progress.Failure.{Failure}
 use Rattle.rfb_viewer.specs.declared.viewer.updates.Taken.{Taken}
 use Rattle.rfb_viewer.specs.Counted.{IsPlacedAt}
 use Rattle.rfb_viewer.specs.Failing.{KeepsReason}
+use Rattle.rfb_viewer.specs.Offering.{KeepsOffer, TakesOffer}
+use Rattle.rfb_viewer.specs.Told.{seen}
 use Rattle.rfb_viewer.specs.Standing.{fault_of, making_of, taken_of}
 use Rattle.rfb_viewer.specs.inside.Damaging.{Damages, EndsIn}
 use Rattle.rfb_viewer.specs.Moved.{moved_of}
@@ -22,6 +24,7 @@ pub record Takes (old : Viewer) (bytes : List ℕ) (used : ℕ) (event : Option 
   pub steps : StepsOn old (take used bytes) event new
   pub damage : Damages old (take used bytes) new
   pub moved : Moves old (take used bytes) new
+  pub offered : TakesOffer (seen event) old bytes new
   pub going : fault_of new ≡ None
   pub made : making_of new ≡ making_of old
   pub taken : taken_of new ≡ taken_of old
@@ -33,6 +36,7 @@ pub record Fails (old : Viewer) (bytes : List ℕ) (used : ℕ) (fault : ViewerF
   pub placed : IsPlacedAt used fault old bytes
   pub picture : EndsIn fault old bytes new
   pub reason : KeepsReason fault old bytes new
+  pub offer : KeepsOffer fault old bytes new
   pub damage : Damages old bytes new
   pub moved : moved_of new ≡ moved_of old
   pub failed : fault_of new ≡ Some fault

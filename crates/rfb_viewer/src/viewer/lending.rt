@@ -1,5 +1,5 @@
-//! What a viewer lends and tells: its picture, the server's reason, and how far the bytes have
-//! come.
+//! What a viewer lends and tells: its picture, the server's reason and security types, and how far
+//! the bytes have come.
 
 ghost use Rattle.std.specs.Prelude.{◌≡◌, ◌≢◌, ◌<◌, ℕ, List, [], false, None, option_copied};
 ghost use Rattle.rfb_viewer.specs.ServerBytes.{is_between, server_bytes_pending};
@@ -9,6 +9,7 @@ ghost use Rattle.rfb_viewer.specs.Viewer.{Viewing, ViewerState};
 
 use crate::viewer::Viewer;
 use crate::viewer::progress::Progress;
+use rfb_hello::Offered;
 use rfb_picture::Picture;
 use rfb_pixel::Colour;
 
@@ -17,7 +18,7 @@ const COLOUR_SIZE: u32 = 6;
 
 impl Viewer {
     ghost use Rattle.rfb_viewer.specs.Standing.{StandsFor, fault_of, picture_of, reason_of};
-    ghost use Rattle.rfb_viewer.specs.Standing.{taken_of};
+    ghost use Rattle.rfb_viewer.specs.Standing.{offered_of, taken_of};
 
     /// What the viewer shows, once there is a screen. Between two items it is the picture; of a
     /// rectangle under way it shows the whole pieces that came. It stays after a fault.
@@ -37,6 +38,15 @@ impl Viewer {
             → StandsFor viewing self.now s prefix → result.now ≡ [] }
     {
         self.hello.reason()
+    }
+
+    /// The security types that the server offered, RFC 6143 section 7.1.2: nothing until all of
+    /// them have come, and from then on exactly these, also after a fault. After `NoneNotOffered`
+    /// and `BadSecurityWord` they are those that were refused.
+    pub fn offered(&self) -> &Offered
+        ensures { result.now ≡ offered_of self.now }
+    {
+        self.hello.offered()
     }
 
     /// Whether the server's bytes end between two messages: the handshake is done, no message has

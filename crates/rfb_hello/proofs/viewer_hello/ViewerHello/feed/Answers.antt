@@ -5,15 +5,25 @@ use Rattle.rfb_wire.proofs.stream_laws.FeedLaws.{fed_step, fault_step, memory_st
 use Rattle.rfb_hello.specs.declared.fault.HelloFault.TheVariants.{NoMemory}
 use Rattle.rfb_hello.specs.declared.step.ViewerStep.{ViewerStep}
 use Rattle.rfb_hello.specs.ViewerEnd.{viewer_end, AsksMemory}
+use Rattle.rfb_hello.specs.Offering.{KeepsOffer, TakesOffer}
 use Rattle.rfb_hello.specs.ViewerStanding.{StandsFor, KeepsReason, goes_on_after}
 use Rattle.rfb_hello.proofs.ServerHelloLemmas.{none_told, some_told}
 use Rattle.rfb_hello.proofs.ViewerHelloLemmas.{viewer_machine, viewer_starts, not_failed, step_there, kept_later}
+use Rattle.rfb_hello.proofs.ViewerHelloLemmas.{offer_later, taken_later}
 use Rattle.rfb_hello.proofs.viewer_hello.ViewerHello.feed.Goals as goal
 
 pub loop-used-init : goal.loop-used-init
 loop-used-init c =
     let none = not_failed c.args.self.now.progress (λ fault kept e. c.in_default.not-Failed fault kept e) in
-    record { within = omega arith; began = none; going = none; stays_open = λ goes. goes; setup = refl; fed = λ setup. viewer_starts setup c.args.self.now }
+    record {
+      within = omega arith;
+      began = none;
+      going = none;
+      stays_open = λ goes. goes;
+      setup = refl;
+      offer = refl;
+      fed = λ setup. viewer_starts setup c.args.self.now;
+    }
 
 pub returns-in_err-event : goal.returns-in_err-event
 returns-in_err-event c =
@@ -38,6 +48,15 @@ returns-in_err-event c =
       reason = λ none.
           let kept : KeepsReason fault c.loop-used.self (take c.take-n.result.0 (take (length c.args.bytes.now - c.loop-used.used) (drop c.loop-used.used c.args.bytes.now))) c.take-n.new.self = rw was at c.take-n.ensures.reason in
           kept_later fault c.args.self.now c.loop-used.self c.take-n.new.self c.loop-used.used c.take-n.result.0 c.args.bytes.now c.loop-used.invariant.fed (subst (λ (xs : List ℕ). KeepsReason fault c.loop-used.self (take c.take-n.result.0 xs) c.take-n.new.self) rest kept);
+      offer = λ none.
+          let kept : KeepsOffer fault c.loop-used.self (take c.take-n.result.0
+          (take (length c.args.bytes.now - c.loop-used.used) (drop c.loop-used.used c.args.bytes.now)))
+          c.take-n.new.self = rw was at c.take-n.ensures.offer in
+          offer_later fault c.args.self.now c.loop-used.self c.take-n.new.self c.loop-used.used c.take-n.result.0
+          c.args.bytes.now c.loop-used.invariant.fed c.loop-used.invariant.offer
+          (subst (λ (xs : List ℕ). KeepsOffer fault c.loop-used.self (take c.take-n.result.0 xs) c.take-n.new.self)
+          rest kept);
+      offered = tt;
       fails = rw was at c.take-n.ensures.fails;
       failed = λ f h. absurd cc;
     })
@@ -60,6 +79,14 @@ returns-then-is_some c =
       fault = tt;
       memory = tt;
       reason = tt;
+      offer = tt;
+      offered =
+          let kept = rw was at c.take-n.ensures.offered in
+          taken_later c.in_ok-event.event c.args.self.now c.loop-used.self c.take-n.new.self c.loop-used.used
+          c.take-n.result.0
+          c.args.bytes.now c.loop-used.invariant.fed c.loop-used.invariant.offer
+          (subst (λ (xs : List ℕ). TakesOffer c.in_ok-event.event c.loop-used.self (take c.take-n.result.0 xs)
+          c.take-n.new.self) rest kept);
       fails = tt;
       failed = λ f h. absurd cc;
     }
@@ -77,6 +104,7 @@ loop-used-preserved c =
       going = rw was at c.take-n.ensures.going;
       stays_open = λ _. goes ∙ ap goes_on_after none;
       setup = c.take-n.ensures.setup ∙ c.loop-used.invariant.setup;
+      offer = (rw none at (rw was at c.take-n.ensures.offered)) ∙ c.loop-used.invariant.offer;
       fed = λ setup.
           let steps = c.take-n.ensures.steps (λ e. cc) setup in
           fed_step (viewer_end setup) (viewer_machine setup) (StandsFor setup) c.args.self.now c.loop-used.self c.take-n.new.self c.loop-used.used c.take-n.result.0 c.args.bytes.now None (c.loop-used.invariant.fed setup) (step_there setup c.loop-used.self c.take-n.new.self c.take-n.result.0 _ _ _ _ rest (was ∙ ap (λ (e : Option ViewerStep). Ok e) none) steps);

@@ -1,6 +1,7 @@
 use Rattle.std.proofs.Common.{◌≡◌, ◌-◌, ◌≤◌, length, take, true, None}
 use Rattle.rfb_wire.specs.stream.End.{FedBy}
 use Rattle.rfb_hello.specs.ViewerEnd.{ViewerSetup, viewer_end}
+use Rattle.rfb_hello.specs.Offering.{offered_of}
 use Rattle.rfb_hello.specs.ViewerStanding.{StandsFor, fault_of, is_open, setup_of}
 use Rattle.rfb_hello.proofs.viewer_hello.ViewerHello.feed.Given as goal
 
@@ -11,6 +12,7 @@ invariant-loop-used l = record {
   going : fault_of l.self ≡ None;
   stays_open : is_open l.fn.self ≡ true → is_open l.self ≡ true;
   setup : setup_of l.self ≡ setup_of l.fn.self;
+  offer : offered_of l.self ≡ offered_of l.fn.self;
   fed : (setup : ViewerSetup) → FedBy (viewer_end setup) (StandsFor setup) l.fn.self (take l.used l.bytes) None l.self;
 }
 

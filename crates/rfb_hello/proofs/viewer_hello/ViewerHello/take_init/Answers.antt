@@ -6,9 +6,10 @@ use Rattle.rfb_hello.specs.declared.step.ViewerStep.{ViewerStep}
 use Rattle.rfb_hello.specs.ServerReading.{screen_fault}
 use Rattle.rfb_hello.specs.ViewerEnd.{told_of_init, viewer_end}
 use Rattle.rfb_wire.specs.stream.End.{StepsBy}
+use Rattle.rfb_hello.specs.Offering.{TakesOffer}
 use Rattle.rfb_hello.specs.ViewerStanding.{StandsFor}
 use Rattle.rfb_hello.specs.inside.ViewerPiece.{progress_after_init}
-use Rattle.rfb_hello.proofs.ViewerHelloLemmas.{becomes, init_told, init_asks}
+use Rattle.rfb_hello.proofs.ViewerHelloLemmas.{becomes, init_told, init_asks, init_keeps}
 use Rattle.rfb_hello.proofs.viewer_hello.ViewerHello.take_init.Goals as goal
 
 pub returns-in_default-after_init : goal.returns-in_default-after_init
@@ -28,6 +29,8 @@ returns-in_default-after_init c = record {
   going = search rules;
   fails = search rules;
   reason = search rules;
+  offer = search rules;
+  offered = search rules;
   setup = search rules;
 }
 
@@ -55,5 +58,12 @@ returns c = record {
   going = search rules;
   fails = search rules;
   reason = search rules;
+  offer = search rules;
+  offered =
+      let old = c.args.self.now in
+      let unit = take c.gather-used.result.0 c.args.bytes.now in
+      subst (λ (e : ViewerStep). TakesOffer (Some e) old unit (record old { progress = c.in-Ok.progress }))
+      (sym c.in-Ok.ensures.told)
+      (init_keeps old (record old { progress = c.in-Ok.progress }) unit old.text_limit _ _ _ _ refl);
   setup = search rules;
 }

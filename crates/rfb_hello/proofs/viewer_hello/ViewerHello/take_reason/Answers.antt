@@ -24,6 +24,8 @@ returns-then-not-whole c = record {
   going = search rules;
   fails = search rules;
   reason = search rules;
+  offer = search rules;
+  offered = search rules;
   setup = search rules;
 }
 
@@ -59,5 +61,7 @@ returns c = record {
       let new = record old { progress = Failed c.fault-fault.result c.in-Reason-replace.kept } in
       subst (λ (f : HelloFault). KeepsReason f old unit new) (sym fault)
       (text_kept old new c.in-Reason.cause c.in-Reason.length c.in-Reason.more c.in-Reason.kept unit c.in-Reason.is whole (kept ∙ c.read_text-used.ensures.kept));
+  offer = search rules;
+  offered = search rules;
   setup = search rules;
 }

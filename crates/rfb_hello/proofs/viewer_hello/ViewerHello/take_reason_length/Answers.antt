@@ -16,6 +16,8 @@ returns-in_default-whole c = record {
   going = search rules;
   fails = search rules;
   reason = search rules;
+  offer = search rules;
+  offered = search rules;
   setup = search rules;
 }
 
@@ -40,6 +42,8 @@ returns-in_default-checked_sub c = record {
       let word : c.read_u32-length.result ≡ u32_at 0 whole = c.read_u32-length.ensures ∙ ap (u32_at 0) c.as_slice.ensures.value in
       let none : c.read_u32-length.result ≡ 0 = omega (arith, c.in_default-checked_sub.ensures) in
       rw (c.fail.ensures.value, c.fault.ensures) (none_kept c.args.self.now c.fail.new.self c.in-ReasonLength.cause c.in-ReasonLength.part unit whole c.in-ReasonLength.is gathered.0 (gathered.1, sym word ∙ none) (rw c.fail.ensures.after refl));
+  offer = search rules;
+  offered = search rules;
   setup = search rules;
 }
 
@@ -60,6 +64,8 @@ returns-in_default-text_of c = record {
   going = search rules;
   fails = search rules;
   reason = search rules;
+  offer = search rules;
+  offered = search rules;
   setup = search rules;
 }
 
@@ -80,5 +86,7 @@ returns c = record {
   going = search rules;
   fails = search rules;
   reason = search rules;
+  offer = search rules;
+  offered = search rules;
   setup = search rules;
 }

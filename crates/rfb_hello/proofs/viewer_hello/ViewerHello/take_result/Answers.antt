@@ -1,6 +1,6 @@
 use Rattle.std.proofs.Common.{rules, ◌≡◌, ◌∙◌, ◌≢◌, ap, take, Ok, None, refl}
 use Rattle.rfb_wire.specs.Fields.{u32_at}
-use Rattle.rfb_hello.proofs.ViewerHelloLemmas.{becomes, result_failed}
+use Rattle.rfb_hello.proofs.ViewerHelloLemmas.{becomes, result_failed, result_keeps}
 use Rattle.rfb_hello.proofs.viewer_hello.ViewerHello.take_result.Goals as goal
 
 pub returns-then-read_u32-ne0 : goal.returns-then-read_u32-ne0
@@ -20,5 +20,23 @@ returns-then-read_u32-ne0 c = record {
   going = search rules;
   fails = search rules;
   reason = search rules;
+  offer = search rules;
+  offered = search rules;
+  setup = search rules;
+}
+
+pub returns : goal.returns
+returns c = record {
+  some = search rules;
+  within = search rules;
+  steps = search rules;
+  memory = search rules;
+  goes = search rules;
+  going = search rules;
+  fails = search rules;
+  reason = search rules;
+  offer = search rules;
+  offered = result_keeps c.args.self.now c.args.self.now c.in-Result.version c.in-Result.part
+      (take c.gather-used.result.0 c.args.bytes.now) c.client_init.result c.in-Result.is refl;
   setup = search rules;
 }

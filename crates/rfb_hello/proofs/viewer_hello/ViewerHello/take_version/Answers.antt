@@ -4,7 +4,7 @@ use Rattle.rfb_hello.specs.declared.version.Version.{Version}
 use Rattle.rfb_hello.specs.Version.{is_version_text, version_of, version_text, lower}
 use Rattle.rfb_hello.specs.inside.ViewerPiece.{progress_after_version}
 use Rattle.rfb_hello.proofs.ServerHelloLemmas.{version_read}
-use Rattle.rfb_hello.proofs.ViewerHelloLemmas.{becomes, version_told}
+use Rattle.rfb_hello.proofs.ViewerHelloLemmas.{becomes, version_told, version_keeps}
 use Rattle.rfb_hello.proofs.viewer_hello.ViewerHello.take_version.Goals as goal
 
 pub returns : goal.returns
@@ -26,6 +26,9 @@ returns c = record {
   going = search rules;
   fails = search rules;
   reason = search rules;
+  offer = search rules;
+  offered = version_keeps c.args.self.now c.args.self.now c.in-Version.part
+      (take c.gather-used.result.0 c.args.bytes.now) c.reply_of.result c.in-Version.is refl;
   setup = search rules;
 }
 
@@ -39,5 +42,7 @@ returns-in_default-try_from c = record {
   going = search rules;
   fails = search rules;
   reason = search rules;
+  offer = search rules;
+  offered = search rules;
   setup = search rules;
 }

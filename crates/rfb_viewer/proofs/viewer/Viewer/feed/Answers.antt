@@ -2,6 +2,7 @@ use Rattle.std.proofs.Common.{◌≡◌, ℕ, ◌∙◌, None, refl, ap}
 use Rattle.rfb_wire.specs.stream.Placing.{counted_on}
 use Rattle.rfb_viewer.specs.Standing.{fault_of}
 use Rattle.rfb_viewer.proofs.CountLemmas.{counted_fed, counted_damage, counted_moved, counted_reason}
+use Rattle.rfb_viewer.proofs.CountLemmas.{counted_offer, counted_offered}
 use Rattle.rfb_viewer.proofs.CountLemmas.{count_of_fed, count_of_fault}
 use Rattle.rfb_viewer.proofs.FeedLemmas.{not_failed}
 use Rattle.rfb_viewer.proofs.viewer.Viewer.feed.Goals as goal
@@ -65,6 +66,26 @@ returns c =
                 refl;
             picture_is = refl;
           }) refl result told.reason;
+      offer = counted_offer old mid (record mid { taken = c.saturating_add-self.result; sound = _ }) bytes
+          (record {
+            hello = refl;
+            form = refl;
+            encodings = refl;
+            limit = refl;
+            progress_is = refl;
+            request_is = refl;
+            picture_is = refl;
+          }) refl result told.offer;
+      offered = counted_offered old mid (record mid { taken = c.saturating_add-self.result; sound = _ }) bytes
+          (record {
+            hello = refl;
+            form = refl;
+            encodings = refl;
+            limit = refl;
+            progress_is = refl;
+            request_is = refl;
+            picture_is = refl;
+          }) refl result told.offered;
       fails = told.fails;
       failed = λ f h. absurd cc;
       taken = count_of_fed old.taken c.saturating_add-self.result used count result told.taken;

@@ -2,6 +2,7 @@ use Rattle.std.proofs.Common.{◌≡◌, ◌∙◌, ℕ, List, Option, Some, Non
 use Rattle.rfb_wire.specs.stream.End.{FedBy}
 use Rattle.rfb_hello.specs.declared.step.ViewerStep.{ViewerStep}
 use Rattle.rfb_hello.specs.ViewerEnd.{ViewerSetup, viewer_end}
+use Rattle.rfb_hello.specs.Offering.{TakesOffer}
 use Rattle.rfb_hello.specs.ViewerStanding.{StandsFor as HelloStandsFor, goes_on_after}
 use Rattle.rfb_viewer.specs.declared.fault.ViewerFault.{ViewerFault}
 use Rattle.rfb_viewer.specs.declared.viewer.progress.Progress.TheVariants.{Handshake, Head}
@@ -9,7 +10,8 @@ use Rattle.rfb_viewer.specs.Fault.{fault_of_hello}
 use Rattle.rfb_viewer.specs.Messages.{ready_bytes}
 use Rattle.rfb_viewer.specs.Progress.{fault_in}
 use Rattle.rfb_viewer.proofs.GreetLemmas.{greet_more, greet_reply, greet_screen, greet_ready, greet_bad, greet_starves, screen_asks, screen_told, ready_told, still_open, memory_of}
-use Rattle.rfb_viewer.proofs.FailLemmas.{greet_ends, screen_ends, greet_keeps, fed_keeps, open_going}
+use Rattle.rfb_viewer.proofs.FailLemmas.{greet_ends, screen_ends, greet_keeps, greet_offers, answer_offers, fed_keeps}
+use Rattle.rfb_viewer.proofs.FailLemmas.{open_going}
 use Rattle.rfb_viewer.specs.declared.fault.ViewerFault.TheVariants.{NoMemory}
 use Rattle.rfb_viewer.proofs.PlaceLemmas.{one_placed}
 use Rattle.rfb_viewer.proofs.TakingLemmas.{made_by, damages_at, unmade_damages, memory_fails}
@@ -31,6 +33,7 @@ returns-in-Err c =
           (memory_of fault wants) viewing.hello));
       picture = λ viewing. greet_ends viewing old bytes fault was (λ other. c.in-Err.ensures.fault other viewing.hello) (λ is. c.in-Err.ensures.memory is viewing.hello);
       reason = greet_keeps fault old _ bytes was (c.in-Err.ensures.reason (open_going old.hello opened));
+      offer = greet_offers fault old _ bytes was (c.in-Err.ensures.offer (open_going old.hello opened));
       damage = unmade_damages old _ bytes was refl refl;
       moved = refl;
       failed = ap fault_in c.fail-fault.ensures.after ∙ ap (λ (f : ViewerFault). Some f) c.of_hello.ensures;
@@ -51,7 +54,8 @@ returns-in_default c =
     subst (λ (e : Option ViewerStep). FedBy (viewer_end setup) (HelloStandsFor setup) old.hello (take used bytes) e c.feed.new.self) event (c.in-Ok.ensures.fed setup) in
     rw (c.fail-fault-in_default.ensures.value)
     (memory_fails old _ bytes (unmade_damages old _ bytes was c.in_default.ensures.kept
-    c.in_default.ensures.undamaged) refl (ap (made_by old) c.feed.ensures.setup) refl 1
+    c.in_default.ensures.undamaged) refl (ap (made_by old) c.feed.ensures.setup) refl
+    (subst (λ (e : Option ViewerStep). TakesOffer e old.hello bytes c.feed.new.self) event c.in-Ok.ensures.offered) 1
     (one_placed old bytes NoMemory c.requires.one (λ other. absurd (other refl))
     (λ _ viewing. screen_asks viewing old bytes used c.feed.new.self _ was none (fed viewing.hello)
     (screen_told viewing.hello c.in-Screen.width c.in-Screen.height)))
@@ -72,7 +76,8 @@ returns-in_default-make_screen c =
     subst (λ (e : Option ViewerStep). FedBy (viewer_end setup) (HelloStandsFor setup) old.hello (take used bytes) e c.feed.new.self) event (c.in-Ok.ensures.fed setup) in
     rw (c.fail-fault-in_default-make_screen.ensures.value)
     (memory_fails old _ bytes (unmade_damages old _ bytes was c.in_default-make_screen.ensures.kept
-    c.in_default-make_screen.ensures.undamaged) refl (ap (made_by old) c.feed.ensures.setup) refl 1
+    c.in_default-make_screen.ensures.undamaged) refl (ap (made_by old) c.feed.ensures.setup) refl
+    (subst (λ (e : Option ViewerStep). TakesOffer e old.hello bytes c.feed.new.self) event c.in-Ok.ensures.offered) 1
     (one_placed old bytes NoMemory c.requires.one (λ other. absurd (other refl))
     (λ _ viewing. screen_asks viewing old bytes used c.feed.new.self _ was none (fed viewing.hello)
     (ready_told viewing.hello c.in-Ready.width c.in-Ready.height _ c.in-Ready.name c.in-Ready.name_length)))
@@ -96,6 +101,8 @@ returns-in-None c =
           (record { hello = refl; setup = c.feed.ensures.setup; form = refl; encodings = refl; limit = refl; request = refl; progress_is = was; picture_is = refl });
       damage = unmade_damages old _ (take used bytes) was refl refl;
       moved = quiet_moves old _ (take used bytes) Handshake was tt refl;
+      offered = (subst (λ (e : Option ViewerStep). TakesOffer e old.hello bytes c.feed.new.self) event
+          c.in-Ok.ensures.offered);
       going = ap fault_in was;
       made = ap (made_by old) c.feed.ensures.setup;
       taken = refl;
@@ -118,6 +125,9 @@ returns-in-Reply c =
           (record { hello = refl; setup = c.feed.ensures.setup; form = refl; encodings = refl; limit = refl; request = refl; progress_is = was; picture_is = refl });
       damage = unmade_damages old _ (take used bytes) was refl refl;
       moved = quiet_moves old _ (take used bytes) Handshake was tt refl;
+      offered = answer_offers old c.feed.new.self bytes c.in-Reply.reply was
+          (subst (λ (e : Option ViewerStep). TakesOffer e old.hello bytes c.feed.new.self) event
+          c.in-Ok.ensures.offered);
       going = ap fault_in was;
       made = ap (made_by old) c.feed.ensures.setup;
       taken = refl;
@@ -140,6 +150,8 @@ returns-in-Ok-make_screen c =
           (record { hello = refl; setup = c.feed.ensures.setup; form = refl; encodings = refl; limit = refl; request = refl; progress_is = was; picture_is = c.in-Ok-make_screen.ensures.made });
       damage = damages_at old _ (take used bytes) Handshake was c.in-Ok-make_screen.ensures.damage;
       moved = quiet_moves old _ (take used bytes) Handshake was tt refl;
+      offered = (subst (λ (e : Option ViewerStep). TakesOffer e old.hello bytes c.feed.new.self) event
+          c.in-Ok.ensures.offered);
       going = ap fault_in was;
       made = ap (made_by old) c.feed.ensures.setup;
       taken = refl;
@@ -164,6 +176,8 @@ returns-in-Ok-make_screen-2 c =
           (record { hello = refl; setup = c.feed.ensures.setup; form = refl; encodings = refl; limit = refl; request = refl; progress_is = ap (λ (ys : List ℕ). Head (record { items = ys })) c.new.ensures; picture_is = c.in-Ok-make_screen-2.ensures.made }));
       damage = damages_at old _ (take used bytes) Handshake was c.in-Ok-make_screen-2.ensures.damage;
       moved = quiet_moves old _ (take used bytes) Handshake was tt refl;
+      offered = (subst (λ (e : Option ViewerStep). TakesOffer e old.hello bytes c.feed.new.self) event
+          c.in-Ok.ensures.offered);
       going = refl;
       made = ap (made_by old) c.feed.ensures.setup;
       taken = refl;

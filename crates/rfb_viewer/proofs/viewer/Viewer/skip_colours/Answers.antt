@@ -20,6 +20,7 @@ returns-then-bytes-missing c =
           (record { hello = refl; form = refl; encodings = refl; limit = refl; progress_is = refl; request_is = refl; picture_is = refl });
       damage = damages_at old _ (take (length bytes) bytes) (Colours c.in-Colours.more) c.in-Colours.is refl;
       moved = quiet_moves old _ (take (length bytes) bytes) (Colours c.in-Colours.more) c.in-Colours.is tt refl;
+      offered = refl;
       going = refl;
       made = refl;
       taken = refl;
@@ -39,6 +40,7 @@ returns c =
           (record { hello = refl; form = refl; encodings = refl; limit = refl; progress_is = ap (λ (ys : List ℕ). Head (record { items = ys })) c.new.ensures; request_is = refl; picture_is = refl });
       damage = damages_at old _ (take missing bytes) (Colours c.in-Colours.more) c.in-Colours.is refl;
       moved = quiet_moves old _ (take missing bytes) (Colours c.in-Colours.more) c.in-Colours.is tt refl;
+      offered = refl;
       going = refl;
       made = refl;
       taken = refl;

@@ -18,10 +18,11 @@ use Rattle.rfb_viewer.specs.Moved.{moving, HasMoved}
 use Rattle.rfb_viewer.specs.inside.Moving.{Moves}
 use Rattle.rfb_viewer.proofs.MovedLemmas.{moving_starts, moved_on, moves_later}
 use Rattle.rfb_viewer.specs.Failing.{KeepsReason}
+use Rattle.rfb_viewer.specs.Offering.{KeepsOffer, TakesOffer}
 use Rattle.rfb_viewer.specs.inside.Damaging.{Damages, EndsIn}
 use Rattle.rfb_viewer.proofs.DamageFeedLemmas.{damage_starts, outside_starts, outside_same, damage_on}
 use Rattle.rfb_viewer.proofs.DamageFeedLemmas.{outside_on, outside_fault, damages_later}
-use Rattle.rfb_viewer.proofs.FailLemmas.{ends_later, kept_later}
+use Rattle.rfb_viewer.proofs.FailLemmas.{ends_later, kept_later, offer_later, taken_later}
 use Rattle.rfb_viewer.proofs.PlaceLemmas.{placed_later, placed_refuses, placed_starves}
 use Rattle.rfb_viewer.proofs.viewer.Viewer.take_all.Goals as goal
 
@@ -36,6 +37,7 @@ loop-used-init c =
       going = c.requires.going;
       taken = refl;
       made = refl;
+      offered = refl;
       fed = λ viewing. subst (λ (n : ℕ). FedBy (viewer viewing) (StandsFor viewing) old (take n bytes) None old)
           (sym none) (starts viewing old);
       damage = λ viewing. subst (λ (n : ℕ). FedBy (damaging viewing) (IsDamaged viewing) old
@@ -60,6 +62,7 @@ returns-in-Err-take c =
     let ends = subst (λ (xs : List ℕ). EndsIn fault mid xs new) rest fails.picture in
     let damaged = subst (λ (xs : List ℕ). Damages mid xs new) rest fails.damage in
     let reason = subst (λ (xs : List ℕ). KeepsReason fault mid xs new) rest fails.reason in
+    let offer = subst (λ (xs : List ℕ). KeepsOffer fault mid xs new) rest fails.offer in
     let placed = placed_later fault old mid i failure.used bytes known.within known.fed (subst (λ
     (xs : List ℕ). IsPlacedAt failure.used fault mid xs) rest fails.placed) in
     record {
@@ -77,6 +80,8 @@ returns-in-Err-take c =
       memory = placed_starves (i + failure.used) fault old bytes placed;
       picture = λ none. ends_later fault old mid new i bytes known.fed ends;
       reason = λ none. kept_later fault old mid new i bytes known.fed reason;
+      offer = λ none. offer_later fault old mid new i bytes known.fed known.offered offer;
+      offered = tt;
       fails = fails.failed;
       taken = tt;
       place = placed;
@@ -98,6 +103,7 @@ returns-in-Err c =
     let ends = subst (λ (xs : List ℕ). EndsIn fault mid xs new) rest fails.picture in
     let damaged = subst (λ (xs : List ℕ). Damages mid xs new) rest fails.damage in
     let reason = subst (λ (xs : List ℕ). KeepsReason fault mid xs new) rest fails.reason in
+    let offer = subst (λ (xs : List ℕ). KeepsOffer fault mid xs new) rest fails.offer in
     let placed = placed_later fault old mid i failure.used bytes known.within known.fed (subst (λ
     (xs : List ℕ). IsPlacedAt failure.used fault mid xs) rest fails.placed) in
     record {
@@ -115,6 +121,8 @@ returns-in-Err c =
       memory = placed_starves (i + failure.used) fault old bytes placed;
       picture = λ none. ends_later fault old mid new i bytes known.fed ends;
       reason = λ none. kept_later fault old mid new i bytes known.fed reason;
+      offer = λ none. offer_later fault old mid new i bytes known.fed known.offered offer;
+      offered = tt;
       fails = fails.failed;
       taken = tt;
       place = placed;
@@ -154,6 +162,11 @@ returns-then-is_some c =
       memory = tt;
       picture = tt;
       reason = tt;
+      offer = tt;
+      offered = taken_later (seen fed.event) c.args.self.now c.loop-used.self c.take.new.self c.loop-used.used
+          c.args.bytes.now c.loop-used.invariant.fed c.loop-used.invariant.offered
+          (subst (λ (xs : List ℕ). TakesOffer (seen fed.event) c.loop-used.self xs c.take.new.self) rest
+          c.in-Ok-take.ensures.offered);
       fails = tt;
       taken = refl;
       place = tt;
@@ -178,6 +191,7 @@ loop-used-preserved c =
       going = c.in-Ok-take.ensures.going;
       taken = c.in-Ok-take.ensures.taken ∙ c.loop-used.invariant.taken;
       made = c.in-Ok-take.ensures.made ∙ c.loop-used.invariant.made;
+      offered = (rw none at c.in-Ok-take.ensures.offered) ∙ c.loop-used.invariant.offered;
       fed = λ viewing. fed_step (viewer viewing) (viewer_machine viewing)
           (StandsFor viewing) c.args.self.now c.loop-used.self c.take.new.self c.loop-used.used fed.used
           c.args.bytes.now (None) (c.loop-used.invariant.fed viewing) (steps viewing);
@@ -227,6 +241,8 @@ returns-then-painted c =
       memory = tt;
       picture = tt;
       reason = tt;
+      offer = tt;
+      offered = (rw c.if-painted.true at c.in-Ok.ensures.offered) ∙ c.loop-used.invariant.offered;
       fails = tt;
       taken = refl;
       place = tt;
@@ -250,6 +266,7 @@ loop-used-preserved-else-painted c =
       going = c.in-Ok.ensures.going;
       taken = c.in-Ok.ensures.taken ∙ c.loop-used.invariant.taken;
       made = c.in-Ok.ensures.made ∙ c.loop-used.invariant.made;
+      offered = (rw c.if-painted.false at c.in-Ok.ensures.offered) ∙ c.loop-used.invariant.offered;
       fed = λ viewing. fed_step (viewer viewing) (viewer_machine viewing)
           (StandsFor viewing) c.args.self.now c.loop-used.self c.take_data.new.self c.loop-used.used painted.used
           c.args.bytes.now (None) (c.loop-used.invariant.fed viewing) (steps viewing);
@@ -284,6 +301,8 @@ returns c =
       memory = tt;
       picture = tt;
       reason = tt;
+      offer = tt;
+      offered = c.loop-used.invariant.offered;
       fails = tt;
       taken = refl;
       place = tt;

@@ -4,7 +4,7 @@ use Rattle.rfb_viewer.specs.Damage.{damaging, IsDamaged}
 use Rattle.rfb_viewer.specs.Moved.{moving, HasMoved}
 use Rattle.rfb_viewer.specs.Viewer.{Viewing, ViewerState, viewer}
 use Rattle.rfb_viewer.specs.inside.Damaging.{KeepsOutside}
-use Rattle.rfb_viewer.specs.Standing.{StandsFor, fault_of, making_of, taken_of}
+use Rattle.rfb_viewer.specs.Standing.{StandsFor, fault_of, making_of, offered_of, taken_of}
 use Rattle.rfb_viewer.proofs.viewer.Viewer.take_all.Given as goal
 
 abbrev pub invariant-loop-used : goal.invariant-loop-used
@@ -14,6 +14,7 @@ invariant-loop-used l = record {
   going : fault_of l.self ≡ None;
   taken : taken_of l.self ≡ taken_of l.fn.self;
   made : making_of l.self ≡ making_of l.fn.self;
+  offered : offered_of l.self ≡ offered_of l.fn.self;
   fed : (viewing : Viewing) → FedBy (viewer viewing) (StandsFor viewing) l.fn.self (take l.used l.bytes) None l.self;
   damage : (viewing : Viewing) → FedBy (damaging viewing) (IsDamaged viewing) l.fn.self (take l.used l.bytes) None l.self;
   moved : (viewing : Viewing) → FedBy (moving viewing) (HasMoved viewing) l.fn.self (take l.used l.bytes) None l.self;

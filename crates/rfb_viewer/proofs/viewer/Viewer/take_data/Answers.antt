@@ -11,7 +11,7 @@ use Rattle.rfb_viewer.proofs.RectLemmas.{paint_more, paint_done, paint_fault, pa
 use Rattle.rfb_viewer.proofs.FailLemmas.{paint_ends}
 use Rattle.rfb_viewer.proofs.DamageHeadLemmas.{past_none}
 use Rattle.rfb_viewer.proofs.PlaceLemmas.{data_placed}
-use Rattle.rfb_viewer.proofs.TakingLemmas.{data_left, going_damages, ended_damages, paint_fails}
+use Rattle.rfb_viewer.proofs.TakingLemmas.{data_left, going_damages, ended_damages, past_keeps, paint_fails}
 use Rattle.rfb_viewer.proofs.MovedLemmas.{under_takes, paint_moves}
 use Rattle.rfb_viewer.proofs.viewer.Viewer.take_data.Goals as goal
 
@@ -27,7 +27,7 @@ returns-in-Err c =
     let rect = c.rect.ensures ∙ c.take.ensures.rect in
     let damages = ended_damages old _ bytes more painter c.in-Data.is (ap under_way c.fail.ensures.after) (c.join.ensures ∙ ap (joined old.damage) rect) in
     rw (c.fail.ensures.value, c.of_paint.ensures)
-    (paint_fails old _ bytes damages refl refl refl flaw.used flaw.fault
+    (paint_fails old _ bytes damages refl refl refl refl flaw.used flaw.fault
     (data_placed old more painter picture bytes flaw c.in-Data.is c.in-Some.is told.begun told.within told.with)
     (λ viewing. paint_ends viewing old old more painter picture c.take.new.picture bytes flaw.fault c.in-Data.is
     c.in-Some.is told.fault (paint_fault viewing old old more painter picture c.take.new.picture bytes
@@ -63,7 +63,7 @@ returns-then-not-painted c =
       picture_is = refl;
     }))
     (going_damages old _ (take used bytes) c.in-Data.more painter c.take.new.self.rect c.in-Data.is refl refl)
-    refl refl refl refl c.take.new.self.rect refl
+    refl refl refl refl refl c.take.new.self.rect refl
 
 pub returns : goal.returns
 returns c =
@@ -88,6 +88,7 @@ returns c =
           (take used bytes) c.in-Data.is c.in-Some.is (c.in-Ok.ensures.done done) (c.in-Ok.ensures.copied done)
           (c.keep_move.ensures ∙ ap (λ (r : Rect). moved_if old.moved.items r
           (copied_from c.take.new.self.stage)) c.take.ensures.rect);
+      offered = rw after.told (past_keeps old _ bytes refl more);
       going = rw after.progress (past_going more);
       made = refl;
       taken = refl;

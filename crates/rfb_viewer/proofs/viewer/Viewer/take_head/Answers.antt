@@ -12,7 +12,7 @@ use Rattle.rfb_viewer.proofs.HeadLemmas.{misses_begun, one_byte, head_whole}
 use Rattle.rfb_viewer.proofs.MessageLemmas.{head_part, head_bad, head_got, head_asks}
 use Rattle.rfb_viewer.proofs.FailLemmas.{head_ends, head_memory, none_at, wire_other}
 use Rattle.rfb_viewer.proofs.PlaceLemmas.{first_bad_placed, first_memory_placed}
-use Rattle.rfb_viewer.proofs.TakingLemmas.{damages_at, after_going, wire_fails, memory_fails}
+use Rattle.rfb_viewer.proofs.TakingLemmas.{damages_at, after_going, head_keeps, wire_fails, memory_fails}
 use Rattle.rfb_viewer.proofs.MovedLemmas.{quiet_moves}
 use Rattle.rfb_viewer.proofs.viewer.Viewer.take_head.Goals as goal
 
@@ -31,6 +31,7 @@ returns-in-More c =
           (record { hello = refl; form = refl; encodings = refl; limit = refl; progress_is = refl; request_is = refl; picture_is = refl });
       damage = damages_at old _ (take 1 c.args.bytes.now) (Head part) c.in-Head.is refl;
       moved = quiet_moves old _ (take 1 c.args.bytes.now) (Head part) c.in-Head.is tt refl;
+      offered = refl;
       going = refl;
       made = refl;
       taken = refl;
@@ -45,7 +46,7 @@ returns-in-Bad c =
     let one = one_byte bytes c.requires.some in
     let unknown = subst (λ (ys : List ℕ). IsUnknown SpellsServerHead fault (part.items ++ ys)) (sym one) c.in-Bad.ensures.bad in
     rw (c.fail-fault.ensures.value, c.of_wire.ensures)
-    (wire_fails old _ bytes (damages_at old _ bytes (Head part) c.in-Head.is refl) refl refl refl 1 fault
+    (wire_fails old _ bytes (damages_at old _ bytes (Head part) c.in-Head.is refl) refl refl refl refl 1 fault
     (first_bad_placed old bytes (fault_of_wire fault) c.requires.some (wire_other fault) (λ viewing. step_refuses
     (viewer viewing) (StandsFor viewing) old old (take 1 bytes) (fault_of_wire fault)
     (head_bad viewing old old part (take 1 bytes) fault c.in-Head.is unknown)))
@@ -63,7 +64,7 @@ returns-in_default-go_on_after c =
     let got = c.in-Got.ensures.got in
     let asked = c.in_default-go_on_after.ensures.asked in
     rw (c.fail-fault-in_default-go_on_after.ensures.value)
-    (memory_fails old _ bytes (damages_at old _ bytes (Head part) c.in-Head.is refl) refl refl refl 1
+    (memory_fails old _ bytes (damages_at old _ bytes (Head part) c.in-Head.is refl) refl refl refl refl 1
     (first_memory_placed old bytes c.requires.some (λ viewing. head_asks viewing old old part byte
     (take 1 bytes) head c.in-Head.is (ap (take 1) one) (λ begun. head_whole head part.items byte _ begun got.0
     got.1) asked))
@@ -86,6 +87,7 @@ returns c =
           (record { hello = refl; form = refl; encodings = refl; limit = refl; progress_is = c.in-Ok.ensures.progress; request_is = c.in-Ok.ensures.request; picture_is = refl }));
       damage = damages_at old _ (take 1 bytes) (Head part) c.in-Head.is refl;
       moved = quiet_moves old _ (take 1 bytes) (Head part) c.in-Head.is tt refl;
+      offered = rw c.in-Ok.ensures.told (head_keeps old _ bytes refl c.in-Got.head);
       going = rw c.in-Ok.ensures.progress (after_going old.text_limit c.in-Got.head);
       made = refl;
       taken = refl;

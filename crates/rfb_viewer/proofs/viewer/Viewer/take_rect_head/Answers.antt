@@ -17,7 +17,7 @@ use Rattle.rfb_viewer.proofs.FailLemmas.{rect_head_ends, opened_ends, wire_other
 use Rattle.rfb_viewer.proofs.PlaceLemmas.{bad_placed, head_awaits, opened_placed}
 use Rattle.rfb_viewer.specs.Damage.{joined, under_way}
 use Rattle.rfb_viewer.proofs.DamageHeadLemmas.{past_none, past_sound, part_damages, bad_damages, head_damages}
-use Rattle.rfb_viewer.proofs.TakingLemmas.{begun_damages, wire_fails, paint_fails}
+use Rattle.rfb_viewer.proofs.TakingLemmas.{begun_damages, past_keeps, wire_fails, paint_fails}
 use Rattle.rfb_viewer.proofs.MovedLemmas.{part_takes, under_takes, rect_moves, reopened}
 use Rattle.rfb_viewer.proofs.viewer.Viewer.take_rect_head.Goals as goal
 
@@ -41,7 +41,7 @@ returns-in_default-whole c =
       picture_is = refl;
     }))
     (part_damages old _ c.in-RectHead.more head c.in-RectHead.is c.gather-front.new.part unit part.0 part.1 refl)
-    refl refl refl refl c.in-RectHead.more head c.gather-front.new.part refl part.0
+    refl refl refl refl refl c.in-RectHead.more head c.gather-front.new.part refl part.0
 
 pub returns-in-Bad : goal.returns-in-Bad
 returns-in-Bad c =
@@ -58,7 +58,7 @@ returns-in-Bad c =
     let told = rw (c.width-width.ensures.value, c.height-height.ensures, slice) at c.in-Bad.ensures.bad in
     rw (c.fail-fault.ensures.value, c.of_wire.ensures)
     (wire_fails old _ bytes (bad_damages old _ more head c.in-RectHead.is n bytes whole fault picture gathered.0
-    gathered.1 c.in-Some-picture.is told refl) refl refl refl n fault
+    gathered.1 c.in-Some-picture.is told refl) refl refl refl refl n fault
     (bad_placed old bytes n (fault_of_wire fault) c.gather-front.ensures.used.0 c.gather-front.ensures.used.1
     (wire_other fault)
     (λ viewing. step_refuses (viewer viewing) (StandsFor viewing) old old (take n bytes) (fault_of_wire fault)
@@ -106,7 +106,7 @@ returns-in-Err c =
     (ap under_way c.fail.ensures.after)
     (c.join.ensures ∙ ap (joined old.damage) rect) in
     rw (c.fail.ensures.value, c.of_paint.ensures)
-    (paint_fails old _ bytes damages refl refl refl (front + flaw.used) fault
+    (paint_fails old _ bytes damages refl refl refl refl (front + flaw.used) fault
     (opened_placed old count part front bytes whole head picture painter flaw c.gather-front.ensures.used.1 opened
     c.in-Err.ensures.begun
     (subst (λ (ys : List ℕ). flaw.used ≤ length ys) rest c.in-Err.ensures.within)
@@ -170,7 +170,7 @@ returns-then-not-painted c =
       picture_is = refl;
     })))
     (begun_damages old _ (take (front + used) bytes) count part c.take.new.self.rect c.in-RectHead.is refl refl)
-    refl refl refl refl c.take.new.self.rect refl
+    refl refl refl refl refl c.take.new.self.rect refl
 
 pub returns : goal.returns
 returns c =
@@ -229,6 +229,7 @@ returns c =
           (take_add front used bytes) opened paints copies
           (c.keep_move.ensures ∙ ap (λ (r : Rect). moved_if old.moved.items r
           (copied_from c.take.new.self.stage)) c.take.ensures.rect);
+      offered = rw (c.end_of.ensures, after.told) (past_keeps old _ bytes refl count);
       going = rw after.progress (past_going count);
       made = refl;
       taken = refl;

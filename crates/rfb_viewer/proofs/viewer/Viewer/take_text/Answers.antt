@@ -25,6 +25,7 @@ returns-then-bytes-missing c =
       damage = damages_at old _ (take (length bytes) bytes) (CutText c.in-CutText.length c.in-CutText.more kept) c.in-CutText.is refl;
       moved = quiet_moves old _ (take (length bytes) bytes) (CutText c.in-CutText.length c.in-CutText.more kept)
           c.in-CutText.is tt refl;
+      offered = refl;
       going = refl;
       made = refl;
       taken = refl;
@@ -51,6 +52,7 @@ returns c =
       damage = damages_at old _ (take missing bytes) (CutText c.in-CutText.length c.in-CutText.more kept) c.in-CutText.is refl;
       moved = quiet_moves old _ (take missing bytes) (CutText c.in-CutText.length c.in-CutText.more kept)
           c.in-CutText.is tt refl;
+      offered = refl;
       going = ap fault_in c.replace.ensures.after;
       made = refl;
       taken = refl;
