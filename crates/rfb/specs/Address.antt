@@ -1,10 +1,10 @@
 -- The server that `view` is asked for.
-use Rattle.std.specs.Prelude.{◌≡◌, ◌≢◌, ◌≤◌, ◌<◌, ◌+◌, ◌++◌, ◌⊎◌, ℕ, [], ◌∷◌, Option, Some, None, codes, length, slice_index}
+use Rattle.std.specs.Prelude.{◌≡◌, ◌≢◌, ◌≤◌, ◌<◌, ◌+◌, ◌++◌, ◌⊎◌, ℕ, [], ◌∷◌, Option, Some, None, codes, length, slice_index, nat_le, if◌then◌else◌}
 use Rattle.std.specs.Str.Parse.{digits_value}
 use Rattle.clap.specs.Words.{Text}
 use Rattle.rfb.specs.Number.{IsNumber}
 
--- ---- a word that names one: HOST, HOST:DISPLAY or HOST::PORT
+-- ---- a word that names one: HOST, HOST:DISPLAY, HOST:PORT or HOST::PORT
 
 -- no byte of it is a colon
 abbrev pub HasNoColon : Text → Type 0
@@ -15,12 +15,14 @@ abbrev pub OrLoopback : Text → Text → Type 0
 OrLoopback [] host = host ≡ codes "127.0.0.1"
 OrLoopback (first ∷ rest) host = host ≡ first ∷ rest
 
--- a display from 0 to 99 is at port 5900 plus its number
-abbrev pub NamesDisplay : Text → ℕ → Type 0
-NamesDisplay digits port =
-    IsNumber digits × (digits_value 10 digits ≤ 99) × (port ≡ 5900 + digits_value 10 digits)
+-- a display from 0 to 99 is at port 5900 plus its number; a greater number is a port itself
+abbrev pub port_at : ℕ → ℕ
+port_at number = if nat_le number 99 then 5900 + number else number
 
--- after the first colon stands a display; or one more colon, and a port from 1 to 65535
+abbrev pub NamesDisplay : Text → ℕ → Type 0
+NamesDisplay digits port = IsNumber digits × (port ≡ port_at (digits_value 10 digits))
+
+-- after the first colon stands a display or a port; or one more colon, and a port from 1 to 65535
 abbrev pub NamesPort : Text → ℕ → Type 0
 NamesPort after port =
     NamesDisplay after port

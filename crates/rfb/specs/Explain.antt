@@ -2,17 +2,12 @@
 use Rattle.std.specs.Prelude.{◌≡◌, ◌+◌, ◌-◌, ◌^◌, min, true}
 use Rattle.rfb_session.specs.Watcher.{Listening, Greeted, Updated}
 use Rattle.rfb.specs.declared.explain.hearing.Hearing.{Hearing}
-use Rattle.rfb.specs.declared.explain.keeping.Reading.{Reading}
 use Rattle.rfb.specs.declared.explain.keeping.Writing.{Writing}
 use Rattle.rfb.specs.declared.explain.telling.Telling.{Telling}
 
 -- that reader itself
 abbrev pub heard_by : {R N : Type 0} → Hearing R N → R
 heard_by hearing = hearing.reader
-
--- the reader that is read
-abbrev pub read_by : {R : Type 0} → Reading R → R
-read_by reading = reading.reader
 
 -- the writer that is written to
 abbrev pub written_by : {W : Type 0} → Writing W → W

@@ -1,5 +1,6 @@
 pub mod Address
 pub mod CommandLine
+pub mod Context
 pub mod Delivery
 pub mod Explain
 pub mod Fault

@@ -5,13 +5,14 @@ use Rattle.clap.specs.Words.{HasKind, IsAmong, Row, Text, fault_of, first_of}
 use Rattle.clap.specs.declared.error.kind.ErrorKind.{ErrorKind}
 use Rattle.clap.specs.declared.error.kind.ErrorKind.TheVariants.{DisplayHelp, DisplayVersion}
 use Rattle.rfb.specs.declared.options.Order.{Order}
-use Rattle.rfb.specs.declared.options.Task.{Task}
-use Rattle.rfb.specs.declared.options.Task.TheVariants.{Script, Loop, Play, Serve, View, Share}
+use Rattle.rfb.specs.declared.commands.Task.{Task}
+use Rattle.rfb.specs.declared.commands.Task.TheVariants.{Script, Loop, Play, Serve, View, Share}
 use Rattle.rfb.specs.declared.options.WrongWords.{WrongWords}
 use Rattle.rfb.specs.declared.options.WrongWords.TheVariants.{Words, Value}
 use Rattle.rfb.specs.declared.play.options.PlayOptions.{PlayOptions}
 use Rattle.rfb.specs.declared.sharing.options.ShareOptions.{ShareOptions}
-use Rattle.rfb.specs.command.Program.{program, asked}
+use Rattle.rfb.specs.declared.commands.Verb.{Verb}
+use Rattle.rfb.specs.command.Program.{program, asked, name_of}
 use Rattle.rfb.specs.command.Values.{GivesFormat, HasBadFormat, GivesNumber, MayGiveNumber, IsFlagged, GivesFiles, NamesHost, NamesWord}
 use Rattle.rfb.specs.command.Serving.{GivesServeOptions, HasBadServe}
 use Rattle.rfb.specs.command.Looking.{GivesViewOptions, HasBadView}
@@ -31,17 +32,10 @@ pub record GivesPlayOptions (rows : List Row) (options : PlayOptions) : Type 0 w
   pub updates : MayGiveNumber (codes "updates") 1 4294967295 rows options.updates
   pub is_partial : IsFlagged (codes "partial") rows options.is_partial
 
--- a command, by its name and its options; `script` is the one with no other name
+-- a command, by its name and its options
 abbrev pub IsTask : Option (Text × List Row) → Task → Type 0
-IsTask None Script = Unit {0}
-IsTask None Loop = ⊥
-IsTask None (Play options) = ⊥
-IsTask None (Serve options) = ⊥
-IsTask None (View options) = ⊥
-IsTask None (Share options) = ⊥
-IsTask (Some (name, rows)) Script =
-    (name ≢ codes "loop") × (name ≢ codes "play") × (name ≢ codes "serve") × (name ≢ codes "view")
-    × (name ≢ codes "share")
+IsTask None task = ⊥
+IsTask (Some (name, rows)) Script = name ≡ codes "script"
 IsTask (Some (name, rows)) Loop = name ≡ codes "loop"
 IsTask (Some (name, rows)) (Play options) = (name ≡ codes "play") × GivesPlayOptions rows options
 IsTask (Some (name, rows)) (Serve options) =
@@ -49,12 +43,16 @@ IsTask (Some (name, rows)) (Serve options) =
 IsTask (Some (name, rows)) (View options) = (name ≡ codes "view") × GivesViewOptions rows options
 IsTask (Some (name, rows)) (Share options) = (name ≡ codes "share") × GivesShareOptions rows options
 
--- a value of an option is none that it may have
+-- no command has this name
+abbrev pub IsNoName : Text → Type 0
+IsNoName name = (verb : Verb) → name ≢ name_of verb
+
+-- a value of an option is none that it may have, or there is no such command
 abbrev pub HasBadValue : Option (Text × List Row) → Type 0
-HasBadValue None = ⊥
+HasBadValue None = Unit {0}
 HasBadValue (Some (name, rows)) =
     ((name ≡ codes "play") × HasBadFormat rows) ⊎ ((name ≡ codes "serve") × HasBadServe rows)
-    ⊎ ((name ≡ codes "view") × HasBadView rows)
+    ⊎ ((name ≡ codes "view") × HasBadView rows) ⊎ IsNoName name
 
 -- a word asks for sentences
 abbrev pub is_explain : Text → Bool

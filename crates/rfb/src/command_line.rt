@@ -8,6 +8,7 @@ ghost use Rattle.rfb.specs.CommandLine.{DoesAsked, LeavesAsked};
 ghost use Rattle.std.specs.IoError.{error_kind};
 ghost use Rattle.std.specs.declared.io.ErrorKind.TheVariants.{InvalidData};
 
+use crate::context::Context;
 use crate::explain::{Notes, tell_own};
 use crate::fault::{Failure, Fault};
 use crate::faults::write_faults;
@@ -36,6 +37,11 @@ For more information, try '--help'.";
 
 /// The word that asks for sentences.
 pub const EXPLAIN: &str = "--explain";
+
+const NO_COMMAND: &str = "\
+error: unrecognized subcommand
+
+For more information, try '--help'.";
 
 const SERVERS: &str = "\
 error: the argument '[SERVER]' cannot be used with '--host <H>' or '--port <P>'
@@ -102,12 +108,31 @@ where
         LeavesAsked (plain_of (map S.text words.now))
         (R.remaining input.old) (W.contents output.old) (W.contents output.new) }
 {
-    match plain_words(rt.alloc(), words) {
-        Ok(plain) => {
-            let explains = plain.len() < words.len();
-            obey(rt, plain.as_slice(), explains, input, output, errors)
+    let Ok(plain) = plain_words(rt.alloc(), words) else {
+        return tell(Failure::Fault(Fault::NoMemory), errors);
+    };
+    let explains = plain.len() < words.len();
+    match read_words(rt.alloc(), plain.as_slice()) {
+        Ok(order) => {
+            let mut context = Context {
+                rt,
+                input,
+                output,
+                errors: &mut *errors,
+                explains,
+            };
+            let done = work_through(&mut context, order);
+            status_of(done, explains, errors)
         }
-        Err(_) => tell(Failure::Fault(Fault::NoMemory), errors),
+        Err(WrongWords::Value(value)) => {
+            tell_value(value, explains, errors);
+            BAD_WORDS
+        }
+        Err(WrongWords::Words(answer)) => {
+            let status = answer_words(plain.as_slice(), &answer, output, errors);
+            drop(answer);
+            status
+        }
     }
 }
 
@@ -123,44 +148,6 @@ fn plain_words<'a, S: AsStr>(alloc: Global, words: &'a [S]) -> Result<Vec<&'a S>
         }
     }
     Ok(plain)
-}
-
-// Does what words without `--explain` ask for, with sentences or without.
-fn obey<P: AllocGlobal + Clock + Files + Net, S: AsStr, R: Read, W: Write, E: Write>(
-    rt: &P,
-    words: &[S],
-    explains: bool,
-    input: &mut R,
-    output: &mut W,
-    errors: &mut E,
-) -> u8
-where
-    P::File: IsTerminal,
-    ensures range { result ≤ 2 }
-    ensures done { result ≡ 0 → HaveMeaning (map S.text words.now) }
-    ensures mistake { result ≡ 2 → AreMistaken (map S.text words.now) }
-    ensures played { result ≡ 0 → AreCommand (map S.text words.now) →
-        DoesAsked (map S.text words.now)
-        (R.remaining input.old) (W.contents output.old) (W.contents output.new) }
-    ensures failed { result ≡ 1 → AreCommand (map S.text words.now) →
-        LeavesAsked (map S.text words.now)
-        (R.remaining input.old) (W.contents output.old) (W.contents output.new) }
-{
-    match read_words(rt.alloc(), words) {
-        Ok(order) => {
-            let done = work_through(rt, order, explains, input, output, errors);
-            status_of(done, explains, errors)
-        }
-        Err(WrongWords::Value(value)) => {
-            tell_value(value, explains, errors);
-            BAD_WORDS
-        }
-        Err(WrongWords::Words(answer)) => {
-            let status = answer_words(words, &answer, output, errors);
-            drop(answer);
-            status
-        }
-    }
 }
 
 // The status of what was done. Why it was not is printed, with a sentence if any are wanted.
@@ -215,6 +202,7 @@ fn tell<E: Write>(failure: Failure, errors: &mut E) -> u8
 // Prints which value of an option is none. A write that fails changes nothing.
 fn tell_value<E: Write>(value: BadValue<'_>, explains: bool, errors: &mut E) {
     let _ = match value {
+        BadValue::Command => writeln!(errors, "{NO_COMMAND}"),
         BadValue::Format(word) => writeln!(
             errors,
             "error: invalid value '{word}' for '--format <F>'
@@ -229,7 +217,7 @@ For more information, try '--help'."
         BadValue::Server(word) => writeln!(
             errors,
             "error: invalid value '{word}' for '[SERVER]'
-  [HOST, HOST:DISPLAY with a display from 0 to 99, or HOST::PORT]
+  [HOST, HOST:DISPLAY with a display from 0 to 99, HOST:PORT from port 100 on, or HOST::PORT]
 
 For more information, try '--help'."
         ),

@@ -1,35 +1,34 @@
-//! The commands that there are, by their names.
+//! The commands that there are: what each is called with, what it is asked for, and its function.
 
-ghost use Rattle.std.specs.Prelude.{◌≡◌, map, IfOk};
-ghost use Rattle.clap.specs.Words.{shape_of};
-ghost use Rattle.rfb.specs.command.Program.{shape_named};
+ghost use Rattle.std.specs.Prelude.{◌≡◌, ◌≢◌, All, None, Some, map, IfOk, IfSome, OnOk, OnErr, MatchResult};
+ghost use Rattle.clap.specs.Words.{found_of, rows_of, shape_of};
+ghost use Rattle.rfb.specs.command.Program.{name_of, shape_named};
 ghost use Rattle.rfb.specs.command.Usage.{shape_for};
+ghost use Rattle.rfb.specs.CommandLine.{Does, Leaves};
+ghost use Rattle.rfb.specs.Context.{KeepsStreams};
+ghost use Rattle.rfb.specs.Options.{HasBadValue, IsTask};
 
-use crate::help::Topic;
+use crate::context::Context;
+use crate::fault::Failure;
+use crate::loopback::{LOOP, script_through_loopback};
+use crate::options::BadValue;
 use crate::options::usage::{Usage, command_of};
-use crate::options::words::{INPUT, OUTPUT};
-use crate::play::words::PLAY;
-use crate::serving::SERVE;
-use crate::sharing::SHARE;
-use crate::viewing::words::VIEW;
-use clap::Command;
+use crate::play::words::{PLAY, play_options_in};
+use crate::play::{PlayOptions, play_recording};
+use crate::scripting::{SCRIPT, script};
+use crate::serving::{SERVE, ServeOptions, serve_at, serve_options_in};
+use crate::sharing::{SHARE, ShareOptions, share_at, share_options_in};
+use crate::viewing::words::{VIEW, view_options_in};
+use crate::viewing::{ViewOptions, view_at};
+use clap::{ArgMatches, Command};
 use std::alloc::{AllocError, Global};
-
-const SCRIPT: &Usage<'static> = &Usage {
-    name: "script",
-    about: "Runs a script from standard input, and writes the viewer's picture as PPM",
-    topic: Topic::Language,
-    words: &[INPUT, OUTPUT],
-};
-
-const LOOP: &Usage<'static> = &Usage {
-    name: "loop",
-    about: "Runs a script as `script` does, and delivers its bytes through a connection",
-    topic: Topic::Loopback,
-    words: &[INPUT, OUTPUT],
-};
+use std::fs::Files;
+use std::io::{Read, Write};
+use std::net::Net;
+use std::time::Clock;
 
 /// A command, by its name.
+#[derive(Clone, Copy)]
 pub enum Verb {
     Script,
     Loop,
@@ -39,10 +38,37 @@ pub enum Verb {
     Share,
 }
 
+/// The commands, in the order that help has them in.
+pub const COMMANDS: &[Verb] = &[
+    Verb::Script,
+    Verb::Loop,
+    Verb::Play,
+    Verb::Serve,
+    Verb::View,
+    Verb::Share,
+];
+
+/// A command, and what it is asked for.
+#[derive(Drop)]
+pub enum Task<'a> {
+    /// To run a script in memory.
+    Script,
+    /// To run a script over a connection.
+    Loop,
+    /// To play a recording.
+    Play(PlayOptions),
+    /// To serve the test scene or a picture.
+    Serve(ServeOptions<'a>),
+    /// To view a server.
+    View(ViewOptions<'a>),
+    /// To share a screen that a program draws.
+    Share(ShareOptions<'a>),
+}
+
 impl Verb {
     // What it is called with.
-    fn usage(&self) -> &'static Usage<'static>
-        ensures { shape_for result.now ≡ shape_named self.now }
+    fn usage(self) -> &'static Usage<'static>
+        ensures { shape_for result.now ≡ shape_named self }
     {
         match self {
             Verb::Script => SCRIPT,
@@ -51,6 +77,17 @@ impl Verb {
             Verb::Serve => SERVE,
             Verb::View => VIEW,
             Verb::Share => SHARE,
+        }
+    }
+}
+
+impl Task<'_> {
+    /// Whether what has come by an early end is wanted.
+    pub fn is_partial(&self) -> bool {
+        match self {
+            Task::Play(options) => options.is_partial,
+            Task::View(options) => options.sight.is_partial,
+            Task::Script | Task::Loop | Task::Serve(_) | Task::Share(_) => false,
         }
     }
 }
@@ -71,4 +108,55 @@ pub fn commands_of<'a>(alloc: Global, verbs: &[Verb]) -> Result<Vec<Command<'a>>
         }
     }
     Ok(commands)
+}
+
+/// The one of these commands that has this name, if one has.
+pub fn verb_named(verbs: &[Verb], name: &str) -> Option<Verb>
+    ensures named { IfSome result (λ verb. name.now ≡ name_of verb) }
+    ensures none { result ≡ None → All (λ verb. name.now ≢ name_of verb) verbs.now }
+{
+    for verb in verbs {
+        if name == verb.usage().name {
+            return Some(*verb);
+        }
+    }
+    None
+}
+
+/// What a command is asked for.
+pub fn task_in<'a>(verb: Verb, given: &ArgMatches<'a>) -> Result<Task<'a>, BadValue<'a>>
+    ensures { MatchResult result
+        (IsTask (Some (name_of verb, rows_of (found_of given.now))))
+        (λ _. HasBadValue (Some (name_of verb, rows_of (found_of given.now)))) }
+{
+    let task = match verb {
+        Verb::Script => Task::Script,
+        Verb::Loop => Task::Loop,
+        Verb::Play => Task::Play(play_options_in(given)?),
+        Verb::Serve => Task::Serve(serve_options_in(given)?),
+        Verb::View => Task::View(view_options_in(given)?),
+        Verb::Share => Task::Share(share_options_in(given)),
+    };
+    Ok(task)
+}
+
+/// Does what a command is asked for.
+pub fn run<P: AllocGlobal + Clock + Files + Net, R: Read, W: Write, E: Write>(
+    context: &mut Context<P, R, W, E>,
+    task: Task<'_>,
+) -> Result<(), Failure>
+    ensures done { OnOk result (Does task.entry (R.remaining context.old.input.now)
+        (W.contents context.old.output.now) (W.contents context.new.output.now)) }
+    ensures left { OnErr result (Leaves task.entry (R.remaining context.old.input.now)
+        (W.contents context.old.output.now) (W.contents context.new.output.now)) }
+    ensures same { KeepsStreams context.old context.new }
+{
+    match task {
+        Task::Script => script(context),
+        Task::Loop => script_through_loopback(context),
+        Task::Play(options) => play_recording(context, options),
+        Task::Serve(options) => serve_at(context, options),
+        Task::View(options) => view_at(context, options),
+        Task::Share(options) => share_at(context, options),
+    }
 }

@@ -18,7 +18,7 @@ pub use escaped::Escaped;
 pub use failing::{tell_client, tell_server};
 pub use heard::Heard;
 pub use hearing::{Hearing, Shared, tell_played};
-pub use keeping::{Reading, Writing};
+pub use keeping::Writing;
 pub use placing::tell_place;
 use std::io;
 use std::io::Write;
@@ -42,11 +42,6 @@ impl<'a, E> Notes<'a, E> {
     /// Sentences go to `errors` if any are wanted.
     pub fn new(errors: &'a mut E, are_wanted: bool) -> Notes<'a, E> {
         Notes { errors, are_wanted }
-    }
-
-    /// Whether they go anywhere.
-    pub fn are_wanted(&self) -> bool {
-        self.are_wanted
     }
 }
 

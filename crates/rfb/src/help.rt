@@ -43,7 +43,7 @@ Status:
   2  the words of the command ask for nothing that there is
 
 With --explain, at any command, sentences on standard error say how it goes and why it fails. At a
-terminal they do by themselves.
+terminal, and with RFB_EXPLAIN=1 in the environment, they do by themselves.
 
 `rfb help faults` has refusals and faults by number, docs/PROTOCOL.md the language of scripts.";
 

@@ -2,6 +2,7 @@
 
 ghost use Rattle.std.specs.Prelude.{◌≡◌, ℕ, Err, OnOk, OnErr, IfErr};
 ghost use Rattle.rfb.specs.CommandLine.{FailsAt};
+ghost use Rattle.rfb.specs.Context.{KeepsStreams};
 ghost use Rattle.rfb.specs.Loopback.{LeavesSomePicture, PlaysSomeScript, WritesSomePicture};
 ghost use Rattle.rfb.specs.Recording.{WritesPicture};
 ghost use Rattle.rfb.specs.declared.fault.Failure.TheVariants as Failure;
@@ -11,134 +12,130 @@ mod ends;
 mod link;
 mod sent;
 
+use crate::context::Context;
 use crate::explain::{Notes, tell_unlinked};
 use crate::fault::{Failure, Fault};
+use crate::help::Topic;
 use crate::loopback::ends::Ends;
 use crate::loopback::link::{Link, connected};
+use crate::options::usage::Usage;
+use crate::options::words::{INPUT, OUTPUT};
 use crate::play::write_picture;
 use crate::playing::{ALL, TURNS};
 use crate::script::{Numbered, Script, Step, read_explained};
-use crate::scripting::tell_refusal;
+use crate::scripting::tell_step;
 use rfb_session::{Event, Refused};
-use std::alloc::Global;
 use std::io::{LineWriter, Read, Write};
 use std::net::Net;
 
-/// Runs the script that `input` has, as `script` does, but that each delivery goes through a
+/// What `loop` is called with.
+pub const LOOP: &Usage<'static> = &Usage {
+    name: "loop",
+    about: "Runs a script as `script` does, and delivers its bytes through a connection",
+    topic: Topic::Loopback,
+    words: &[INPUT, OUTPUT],
+};
+
+/// Runs the script that the input has, as `script` does, but that each delivery goes through a
 /// loopback connection, in parts of at most 4,096 bytes. At a bad line nothing is written, and no
 /// connection is made.
-pub fn script_through_loopback<N: Net, R: Read, W: Write, E: Write>(
-    net: &N,
-    alloc: Global,
-    input: &mut R,
-    output: &mut W,
-    errors: &mut E,
-    explains: bool,
+pub fn script_through_loopback<P: AllocGlobal + Net, R: Read, W: Write, E: Write>(
+    context: &mut Context<P, R, W, E>,
 ) -> Result<(), Failure>
-    ensures done { OnOk result
-        (PlaysSomeScript (R.remaining input.old) (W.contents output.old) (W.contents output.new)) }
-    ensures stopped { IfErr result (FailsAt (R.remaining input.old)) }
-    ensures unwritten { (n : ℕ) → result ≡ Err (Failure.BadLine n) → output.new ≡ output.old }
-    ensures left { OnErr result
-        (LeavesSomePicture (W.contents output.old) (W.contents output.new)) }
+    ensures done { OnOk result (PlaysSomeScript (R.remaining context.old.input.now)
+        (W.contents context.old.output.now) (W.contents context.new.output.now)) }
+    ensures stopped { IfErr result (FailsAt (R.remaining context.old.input.now)) }
+    ensures unwritten { (n : ℕ) → result ≡ Err (Failure.BadLine n)
+        → context.new.output.now ≡ context.old.output.now }
+    ensures left { OnErr result (LeavesSomePicture
+        (W.contents context.old.output.now) (W.contents context.new.output.now)) }
+    ensures same { KeepsStreams context.old context.new }
 {
+    let alloc = context.alloc();
     let mut text = Vec::new(alloc);
-    input.read_to_end(&mut text)?;
-    let read = read_explained(alloc, &text, errors, explains);
+    context.input.read_to_end(&mut text)?;
+    let read = read_explained(alloc, &text, context.errors, context.explains);
     drop(text);
     let script = read?;
-    let done = run(net, alloc, &script, output, errors, explains);
+    let done = run(context, &script);
     drop(script);
     Ok(done?)
 }
 
 // Plays a script over a connection, and writes what the viewer shows then.
-fn run<N: Net, W: Write, E: Write>(
-    net: &N,
-    alloc: Global,
+fn run<P: AllocGlobal + Net, R, W: Write, E: Write>(
+    context: &mut Context<P, R, W, E>,
     script: &Script,
-    output: &mut W,
-    errors: &mut E,
-    explains: bool,
 ) -> Result<(), Fault>
-    ensures done { OnOk result (WritesSomePicture (W.contents output.old) (W.contents output.new)) }
-    ensures left { OnErr result
-        (LeavesSomePicture (W.contents output.old) (W.contents output.new)) }
+    ensures done { OnOk result (WritesSomePicture
+        (W.contents context.old.output.now) (W.contents context.new.output.now)) }
+    ensures left { OnErr result (LeavesSomePicture
+        (W.contents context.old.output.now) (W.contents context.new.output.now)) }
+    ensures same { KeepsStreams context.old context.new }
 {
-    match connected(net) {
+    match connected(context.rt) {
         Ok(mut link) => {
-            let done = run_over(alloc, &mut link, script, output, errors);
+            let done = run_over(context, &mut link, script);
             drop(link);
             done
         }
         Err(error) => {
-            tell_unlinked(&error, &mut Notes::new(errors, explains));
+            tell_unlinked(&error, &mut Notes::new(context.errors, context.explains));
             Err(Fault::from(error))
         }
     }
 }
 
 // The same with two fresh ends, over this connection.
-fn run_over<C: Read + Write, W: Write, E: Write>(
-    alloc: Global,
+fn run_over<P: AllocGlobal, R, W: Write, E: Write, C: Read + Write>(
+    context: &mut Context<P, R, W, E>,
     link: &mut Link<C>,
     script: &Script,
-    output: &mut W,
-    errors: &mut E,
 ) -> Result<(), Fault>
-    ensures done { OnOk result (WritesSomePicture (W.contents output.old) (W.contents output.new)) }
-    ensures left { OnErr result
-        (LeavesSomePicture (W.contents output.old) (W.contents output.new)) }
+    ensures done { OnOk result (WritesSomePicture
+        (W.contents context.old.output.now) (W.contents context.new.output.now)) }
+    ensures left { OnErr result (LeavesSomePicture
+        (W.contents context.old.output.now) (W.contents context.new.output.now)) }
+    ensures same { KeepsStreams context.old context.new }
 {
-    let mut ends = Ends::new(alloc, script.screen, &script.wants)?;
-    let done = finish(alloc, &mut ends, link, &script.steps, output, errors);
+    let mut ends = Ends::new(context.alloc(), script.screen, &script.wants)?;
+    let done = finish(context, &mut ends, link, &script.steps);
     drop(ends);
     done
 }
 
 // Takes all steps, and writes what the viewer shows then.
-fn finish<C: Read + Write, W: Write, E: Write>(
-    alloc: Global,
+fn finish<P: AllocGlobal, R, W: Write, E: Write, C: Read + Write>(
+    context: &mut Context<P, R, W, E>,
     ends: &mut Ends,
     link: &mut Link<C>,
     steps: &[Numbered],
-    output: &mut W,
-    errors: &mut E,
 ) -> Result<(), Fault>
-    ensures done { OnOk result
-        (WritesPicture ends.new.viewer (W.contents output.old) (W.contents output.new)) }
-    ensures left { OnErr result
-        (LeavesSomePicture (W.contents output.old) (W.contents output.new)) }
+    ensures done { OnOk result (WritesPicture ends.new.viewer
+        (W.contents context.old.output.now) (W.contents context.new.output.now)) }
+    ensures left { OnErr result (LeavesSomePicture
+        (W.contents context.old.output.now) (W.contents context.new.output.now)) }
+    ensures same { KeepsStreams context.old context.new }
 {
-    play_all(alloc, ends, link, steps, errors)?;
-    write_picture(&ends.viewer, output)
-}
-
-// Takes all steps. Each that is refused is reported on `errors`, in one write, and does not end the
-// script.
-fn play_all<C: Read + Write, E: Write>(
-    alloc: Global,
-    ends: &mut Ends,
-    link: &mut Link<C>,
-    steps: &[Numbered],
-    errors: &mut E,
-) -> Result<(), Fault> {
-    let mut refusals = LineWriter::new(alloc, errors)?;
-    let done = play_each(ends, link, steps, &mut refusals);
+    let explains = context.explains;
+    let mut refusals = LineWriter::new(context.alloc(), &mut *context.errors)?;
+    let played = play_all(ends, link, steps, explains, &mut refusals);
     drop(refusals);
-    done
+    played?;
+    write_picture(&ends.viewer, context.output)
 }
 
-// The same, with a writer that writes each line at once.
-fn play_each<C: Read + Write, L: Write>(
+// Takes all steps. Each that is refused is reported, in one write, and does not end the script.
+fn play_all<C: Read + Write, L: Write>(
     ends: &mut Ends,
     link: &mut Link<C>,
     steps: &[Numbered],
+    explains: bool,
     refusals: &mut L,
 ) -> Result<(), Fault> {
     for numbered in steps {
         let refused = play(ends, link, numbered)?;
-        tell_refusal(numbered.line, refused, refusals);
+        tell_step(numbered.line, refused, explains, refusals);
     }
     Ok(())
 }

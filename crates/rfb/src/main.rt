@@ -1,10 +1,13 @@
 //! The program `rfb`: both ends of the Remote Framebuffer protocol (RFC 6143) at work.
 //!
-//! `command_line` has the statuses, `options` the words, and each command a module: `scripting`,
-//! `loopback`, `play`, `serving`, `viewing` and `sharing`. `script` has the language of scripts.
+//! `command_line` has the statuses, `options` the words, `commands` the commands, each with a module
+//! of its own: `scripting`, `loopback`, `play`, `serving`, `viewing` and `sharing`. `script` has the
+//! language of scripts.
 #![tactic(auto)]
 
 mod command_line;
+mod commands;
+mod context;
 mod explain;
 mod fault;
 mod faults;
@@ -19,7 +22,7 @@ mod script;
 mod scripting;
 mod serving;
 mod sharing;
-mod terminal;
+mod streams;
 mod viewing;
 mod working;
 mod writing;
@@ -29,33 +32,44 @@ use explain::Notes;
 use std::io::IsTerminal;
 use std::process::ExitCode;
 use std::{env, io};
-use terminal::Shown;
+use streams::{StandardInput, StandardOutput};
+
+// The variable that, where it is 1, asks for sentences as `--explain` does.
+const EXPLAIN_VARIABLE: &str = "RFB_EXPLAIN";
 
 fn main(rt: HostRuntime) -> ExitCode {
-    let status = match words(&rt) {
-        Ok(words) => answer(&rt, &words),
-        Err(error) => without_words(error, &mut rt.stderr()),
+    let words = match words(&rt) {
+        Ok(words) => words,
+        Err(error) => return ExitCode::from(without_words(error, &mut rt.stderr())),
     };
+    let explains = words.iter().any(|word| word.as_str() == EXPLAIN);
+    let mut reading_errors = rt.stderr();
+    let notes = Notes::new(&mut reading_errors, explains);
+    let mut input = StandardInput::new(rt.stdin(), notes);
+    let mut writing_errors = rt.stderr();
+    let notes = Notes::new(&mut writing_errors, explains);
+    let output = rt.stdout();
+    let is_terminal = output.is_terminal();
+    let mut output = StandardOutput::new(output, is_terminal, notes);
+    let status = command(&rt, &words, &mut input, &mut output, &mut rt.stderr());
     ExitCode::from(status)
 }
 
-// Does what the words ask for, with the streams of this process.
-fn answer(rt: &HostRuntime, words: &[String]) -> u8 {
-    let mut errors = rt.stderr();
-    let explains = words.iter().any(|word| word.as_str() == EXPLAIN);
-    let notes = Notes::new(&mut errors, explains);
-    let output = rt.stdout();
-    let is_terminal = output.is_terminal();
-    let mut shown = Shown::new(output, is_terminal, notes);
-    command(rt, words, &mut rt.stdin(), &mut shown, &mut rt.stderr())
-}
-
-// The words that the program was called with, its own name first, and `--explain` after them where
-// a person reads the errors. A word that is not UTF-8 is an error of the kind `InvalidData`.
+// The words that the program was called with, its own name first. `--explain` is after them where a
+// person reads the errors, or the environment asks for it. A word that is not UTF-8 is an error of
+// the kind `InvalidData`.
 fn words(rt: &HostRuntime) -> io::Result<Vec<String>> {
     let mut words: Vec<String> = env::args(rt)?.collect(rt.alloc())?;
-    if rt.stderr().is_terminal() {
+    if rt.stderr().is_terminal() || is_asked(rt) {
         words.push(format!(in rt.alloc(); "{EXPLAIN}")?)?;
     }
     Ok(words)
+}
+
+// Whether the environment asks for sentences.
+fn is_asked(rt: &HostRuntime) -> bool {
+    match env::var(rt, EXPLAIN_VARIABLE) {
+        Ok(value) => value.as_str() == "1",
+        Err(_) => false,
+    }
 }

@@ -4,68 +4,23 @@ pub mod address;
 pub mod given;
 mod paths;
 pub mod usage;
-mod verbs;
 pub mod words;
 
-ghost use Rattle.std.specs.Prelude.{◌≡◌, map, Some, IfOk, MatchResult};
-ghost use Rattle.clap.specs.Words.{FailsBy, fault_of, found_of, rows_of, subcommand_rows_of};
+ghost use Rattle.std.specs.Prelude.{◌≡◌, map, IfOk, MatchResult};
+ghost use Rattle.clap.specs.Words.{FailsBy, fault_of, subcommand_rows_of};
 ghost use Rattle.clap.specs.Simple.{app_of};
 ghost use Rattle.rfb.specs.command.Values.{GivesFiles};
 ghost use Rattle.rfb.specs.Options.{AreOrdered, AreWrong, IsOrder, IsWrongValue};
 ghost use Rattle.rfb.specs.Options.{HasBadValue, IsTask};
 ghost use Rattle.rfb.specs.command.Program.{asked, program};
 
+use crate::commands::{COMMANDS, Task, commands_of, task_in, verb_named};
 use crate::help::{Topic, VERSION};
 pub use crate::options::paths::Paths;
 use crate::options::paths::paths_in;
-use crate::options::verbs::{Verb, commands_of};
-use crate::play::PlayOptions;
-use crate::play::words::play_options_in;
-use crate::serving::{ServeOptions, serve_options_in};
-use crate::sharing::{ShareOptions, share_options_in};
-use crate::viewing::ViewOptions;
-use crate::viewing::words::view_options_in;
 use clap::{ArgMatches, Command, Error};
 use std::alloc::{AllocError, Global};
 use std::convert::AsStr;
-
-// The commands.
-const COMMANDS: &[Verb] = &[
-    Verb::Script,
-    Verb::Loop,
-    Verb::Play,
-    Verb::Serve,
-    Verb::View,
-    Verb::Share,
-];
-
-/// What the words ask for.
-#[derive(Drop)]
-pub enum Task<'a> {
-    /// To run a script in memory.
-    Script,
-    /// To run a script over a connection.
-    Loop,
-    /// To play a recording.
-    Play(PlayOptions),
-    /// To serve the test scene or a picture.
-    Serve(ServeOptions<'a>),
-    /// To view a server.
-    View(ViewOptions<'a>),
-    /// To share a screen that a program draws.
-    Share(ShareOptions<'a>),
-}
-
-impl Task<'_> {
-    /// Whether what has come by an early end is wanted.
-    pub fn is_partial(&self) -> bool {
-        match self {
-            Task::Play(options) => options.is_partial,
-            Task::View(options) => options.sight.is_partial,
-            Task::Script | Task::Loop | Task::Serve(_) | Task::Share(_) => false,
-        }
-    }
-}
 
 /// What the words ask for, and with which files.
 #[derive(Drop)]
@@ -74,9 +29,11 @@ pub struct Order<'a> {
     pub paths: Paths<'a>,
 }
 
-/// A word that no value of its option is.
+/// A word that no value of its option is, or no command.
 #[derive(Clone, Copy)]
 pub enum BadValue<'a> {
+    /// No name of a command.
+    Command,
     /// No format.
     Format(&'a str),
     /// No list of one to four encodings.
@@ -168,40 +125,10 @@ fn task_of<'a>(matches: &ArgMatches<'a>) -> Result<Task<'a>, BadValue<'a>>
         (λ _. HasBadValue (subcommand_rows_of matches.now)) }
 {
     match matches.subcommand() {
-        Some((name, given)) => command_of(name, given),
-        None => Ok(Task::Script),
+        Some((name, given)) => match verb_named(COMMANDS, name) {
+            Some(verb) => task_in(verb, given),
+            None => Err(BadValue::Command),
+        },
+        None => Err(BadValue::Command),
     }
-}
-
-// What the command of this name is asked for. `script` is the one with no other name.
-fn command_of<'a>(name: &str, given: &ArgMatches<'a>) -> Result<Task<'a>, BadValue<'a>>
-    ensures { MatchResult result
-        (IsTask (Some (name.now, rows_of (found_of given.now))))
-        (λ _. HasBadValue (Some (name.now, rows_of (found_of given.now)))) }
-{
-    if name == "loop" {
-        return Ok(Task::Loop);
-    }
-    if name == "play" {
-        return match play_options_in(given) {
-            Ok(options) => Ok(Task::Play(options)),
-            Err(value) => Err(value),
-        };
-    }
-    if name == "serve" {
-        return match serve_options_in(given) {
-            Ok(options) => Ok(Task::Serve(options)),
-            Err(value) => Err(value),
-        };
-    }
-    if name == "view" {
-        return match view_options_in(given) {
-            Ok(options) => Ok(Task::View(options)),
-            Err(value) => Err(value),
-        };
-    }
-    if name == "share" {
-        return Ok(Task::Share(share_options_in(given)));
-    }
-    Ok(Task::Script)
 }

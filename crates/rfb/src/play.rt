@@ -1,6 +1,7 @@
 //! Recordings of a server, played to a viewer.
 
 ghost use Rattle.std.specs.Prelude.{◌≡◌, ◌≤◌, ◌⊎◌, ◌∷◌, [], false, Err, IfOk, IfErr, IfSome, OnOk, OnErr};
+ghost use Rattle.rfb.specs.Context.{KeepsStreams};
 ghost use Rattle.rfb.specs.declared.fault.Fault.{Fault};
 ghost use Rattle.rfb_session.specs.declared.engine.fault.EngineFault.{EngineFault};
 ghost use Rattle.rfb.specs.declared.fault.Failure.TheVariants as Failure;
@@ -12,6 +13,7 @@ ghost use Rattle.rfb.specs.Recording.{WritesPicture, Watches, StopsWatching};
 mod options;
 pub mod words;
 
+use crate::context::Context;
 use crate::explain::{
     Heard, Hearing, Notes, Origin, Shared, Telling, tell_place, tell_played, tell_server,
 };
@@ -25,30 +27,33 @@ use std::alloc::Global;
 use std::cell::RefCell;
 use std::io::{Read, Write};
 
-/// Plays what `input` has, the bytes of a server, to a fresh viewer that takes pixels of
+/// Plays what the input has, the bytes of a server, to a fresh viewer that takes pixels of
 /// `options.format`, up to the end of the last update that is asked for, or all of it. Then it
 /// writes the picture that the viewer shows. Nothing is written where the viewer or the bytes end
-/// with a fault; then `notes` say why. Only where the bytes end too early, or a read fails, the
+/// with a fault; then sentences say why. Only where the bytes end too early, or a read fails, the
 /// picture of all that came is written if it is wanted.
-pub fn play_recording<R: Read, W: Write, E: Write>(
-    alloc: Global,
+pub fn play_recording<P: AllocGlobal, R: Read, W: Write, E: Write>(
+    context: &mut Context<P, R, W, E>,
     options: PlayOptions,
-    input: &mut R,
-    output: &mut W,
-    notes: &mut Notes<'_, E>,
 ) -> Result<(), Failure>
-    ensures done { OnOk result (PlaysRecording options
-        (R.remaining input.old) (W.contents output.old) (W.contents output.new)) }
-    ensures stopped { IfErr result (FailsToPlay options
-        (R.remaining input.old) (W.contents output.old) (W.contents output.new)) }
+    ensures done { OnOk result (PlaysRecording options (R.remaining context.old.input.now)
+        (W.contents context.old.output.now) (W.contents context.new.output.now)) }
+    ensures stopped { IfErr result (FailsToPlay options (R.remaining context.old.input.now)
+        (W.contents context.old.output.now) (W.contents context.new.output.now)) }
     ensures unwritten { (fault : EngineFault) → result ≡ Err (Failure.Engine fault) →
-        shows_end options.is_partial fault ≡ false → output.new ≡ output.old }
-    ensures left { OnErr result (LeavesRecording options
-        (R.remaining input.old) (W.contents output.old) (W.contents output.new)) }
+        shows_end options.is_partial fault ≡ false →
+        context.new.output.now ≡ context.old.output.now }
+    ensures left { OnErr result (LeavesRecording options (R.remaining context.old.input.now)
+        (W.contents context.old.output.now) (W.contents context.new.output.now)) }
+    ensures same { KeepsStreams context.old context.new }
 {
+    let alloc = context.alloc();
+    let mut notes = Notes::new(context.errors, context.explains);
     let mut viewer = fresh_viewer(alloc, options.format, only_raw());
-    let mut heard = Heard::new(alloc, notes.are_wanted(), Origin::Recording);
-    let done = play_to(options, input, &mut viewer, &mut heard, output, notes);
+    let mut heard = Heard::new(Origin::Recording);
+    let input = &mut *context.input;
+    let output = &mut *context.output;
+    let done = play_to(options, input, &mut viewer, &mut heard, output, &mut notes);
     drop(heard);
     drop(viewer);
     done
@@ -105,7 +110,7 @@ fn watch_heard<R: Read, N: Write>(
     match &ended {
         Ok(updates) => tell_played(*updates, notes),
         Err(fault) => {
-            tell_server(*fault, viewer.reason(), heard, notes);
+            tell_server(*fault, viewer, heard, notes);
             tell_place(*fault, viewer.taken(), whole, is_ready, notes);
         }
     }

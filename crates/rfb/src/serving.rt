@@ -4,6 +4,7 @@ ghost use Rattle.std.specs.Prelude.{◌≡◌, ◌⊎◌, ℕ, List, Ok, Err, If
 ghost use Rattle.std.specs.Io.KnownBytes.{Appends};
 ghost use Rattle.rfb_session.specs.declared.netpbm.fault.Flaw.{Flaw};
 ghost use Rattle.rfb_session.specs.Devices.{AppendsBeginning};
+ghost use Rattle.rfb.specs.Context.{KeepsStreams};
 ghost use Rattle.rfb.specs.Serving.{IsLineOf, IsServedSome};
 ghost use Rattle.rfb.specs.Serving.{FailsToServe, LeavesServed, ServesAsked, ServesFewer};
 ghost use Rattle.rfb.specs.Serving.{ServesSo, ServesSpelled};
@@ -15,6 +16,7 @@ mod options;
 mod screen;
 mod still;
 
+use crate::context::Context;
 use crate::explain::{Notes, tell_bound, tell_client, tell_unbound};
 use crate::fault::Failure;
 use crate::reaching::Timed;
@@ -31,59 +33,48 @@ use std::net::{Net, OpenListener, OpenStream, SocketAddr, TcpListener};
 use std::time::Clock;
 
 /// Serves as many connections as are asked for on a port of an address, one after another. Where a
-/// picture is asked for, its file is read before. `notes` say how it goes.
-pub fn serve_at<P: Clock + Files + Net, W: Write, E: Write>(
-    rt: &P,
-    alloc: Global,
+/// picture is asked for, its file is read before. Sentences say how it goes.
+pub fn serve_at<P: AllocGlobal + Clock + Files + Net, R, W: Write, E: Write>(
+    context: &mut Context<P, R, W, E>,
     options: ServeOptions<'_>,
-    output: &mut W,
-    notes: &mut Notes<'_, E>,
 ) -> Result<(), Failure>
-    ensures done { OnOk result
-        (ServesAsked options.entry (W.contents output.old) (W.contents output.new)) }
-    ensures stopped { OnErr result
-        (LeavesServed options.entry (W.contents output.old) (W.contents output.new)) }
+    ensures done { OnOk result (ServesAsked options.entry
+        (W.contents context.old.output.now) (W.contents context.new.output.now)) }
+    ensures stopped { OnErr result (LeavesServed options.entry
+        (W.contents context.old.output.now) (W.contents context.new.output.now)) }
     ensures why { IfErr result FailsToServe }
     ensures unwritten { (flaw : Flaw) → result ≡ Err (Failure.Picture flaw) →
-        output.new ≡ output.old }
+        context.new.output.now ≡ context.old.output.now }
+    ensures same { KeepsStreams context.old context.new }
 {
     match options.screen {
-        ScreenChoice::Scene(size) => {
-            listen(
-                rt,
-                alloc,
-                &ServedScreen::Scene(size),
-                options,
-                output,
-                notes,
-            )
-        }
-        ScreenChoice::Picture(path) => serve_file(rt, alloc, path, options, output, notes),
+        ScreenChoice::Scene(size) => listen(context, &ServedScreen::Scene(size), options),
+        ScreenChoice::Picture(path) => serve_file(context, path, options),
     }
 }
 
 // Serves them with the picture of a file.
-fn serve_file<P: Clock + Files + Net, W: Write, E: Write>(
-    rt: &P,
-    alloc: Global,
+fn serve_file<P: AllocGlobal + Clock + Files + Net, R, W: Write, E: Write>(
+    context: &mut Context<P, R, W, E>,
     path: &str,
     options: ServeOptions<'_>,
-    output: &mut W,
-    notes: &mut Notes<'_, E>,
 ) -> Result<(), Failure>
-    ensures done { OnOk result (ServesSpelled (λ screen. ServesSo screen options.entry.connections
-        (W.contents output.old) (W.contents output.new))) }
-    ensures stopped { OnErr result ((output.new ≡ output.old)
+    ensures done { OnOk result (ServesSpelled (λ screen.
+        ServesSo screen options.entry.connections
+        (W.contents context.old.output.now) (W.contents context.new.output.now))) }
+    ensures stopped { OnErr result ((context.new.output.now ≡ context.old.output.now)
         ⊎ ServesSpelled (λ screen. ServesFewer screen options.entry.connections
-        (W.contents output.old) (W.contents output.new))) }
+        (W.contents context.old.output.now) (W.contents context.new.output.now))) }
     ensures why { IfErr result FailsToServe }
     ensures unwritten { (flaw : Flaw) → result ≡ Err (Failure.Picture flaw) →
-        output.new ≡ output.old }
+        context.new.output.now ≡ context.old.output.now }
+    ensures same { KeepsStreams context.old context.new }
 {
-    match open_picture(rt, alloc, path, notes) {
+    let notes = &mut Notes::new(context.errors, context.explains);
+    match open_picture(context.rt, context.rt.alloc(), path, notes) {
         Ok(pixmap) => {
             let screen = ServedScreen::Picture(pixmap);
-            let ended = listen(rt, alloc, &screen, options, output, notes);
+            let ended = listen(context, &screen, options);
             // By a call: what an arm's end lets go is proved field by field.
             drop(screen);
             ended
@@ -93,29 +84,31 @@ fn serve_file<P: Clock + Files + Net, W: Write, E: Write>(
 }
 
 // Serves them with a screen.
-fn listen<N: Clock + Net, W: Write, E: Write>(
-    net: &N,
-    alloc: Global,
+fn listen<P: AllocGlobal + Clock + Net, R, W: Write, E: Write>(
+    context: &mut Context<P, R, W, E>,
     screen: &ServedScreen,
     options: ServeOptions<'_>,
-    output: &mut W,
-    notes: &mut Notes<'_, E>,
 ) -> Result<(), Failure>
     ensures done { OnOk result (ServesSo screen.now options.entry.connections
-        (W.contents output.old) (W.contents output.new)) }
+        (W.contents context.old.output.now) (W.contents context.new.output.now)) }
     ensures stopped { OnErr result (ServesFewer screen.now options.entry.connections
-        (W.contents output.old) (W.contents output.new)) }
+        (W.contents context.old.output.now) (W.contents context.new.output.now)) }
     ensures why { IfErr result (λ failure.
         (fault : Fault) × (failure ≡ Failure.Fault fault)) }
+    ensures same { KeepsStreams context.old context.new }
 {
+    let net = context.rt;
+    let alloc = context.alloc();
+    let mut notes = Notes::new(context.errors, context.explains);
     match TcpListener::bind(net, (options.listen, options.port)) {
         Ok(listener) => {
-            tell_bound(options.listen, options.port, notes);
+            tell_bound(options.listen, options.port, &mut notes);
             let timed = Timed::new(listener, net, options.timeout);
-            serve_on(alloc, &timed, screen, options.connections, output, notes)
+            let count = options.connections;
+            serve_on(alloc, &timed, screen, count, context.output, &mut notes)
         }
         Err(error) => {
-            tell_unbound(options.listen, options.port, &error, notes);
+            tell_unbound(options.listen, options.port, &error, &mut notes);
             Err(Failure::from(error))
         }
     }

@@ -1,6 +1,8 @@
 //! A share over sockets: a screen that a program draws by lines on standard input, for up to eight
 //! viewers at once, whose doings it reads as lines on standard output.
 
+ghost use Rattle.rfb.specs.Context.{KeepsStreams};
+
 mod beginning;
 mod cause;
 mod desk;
@@ -16,30 +18,28 @@ mod stage;
 pub mod telling;
 pub mod words;
 
+use crate::context::Context;
 use crate::explain::{Notes, tell_bound, tell_unbound};
 use crate::fault::Failure;
 use crate::sharing::desk::Desk;
 pub use options::{SHARE, ShareOptions, share_options_in};
-use std::alloc::Global;
 use std::io::{Read, Write};
 use std::net::{Net, OpenListener, TcpListener};
 
-/// Shares a screen until a line says `quit`, or with the last viewer if that is wanted. `input` is
-/// standard input. A line of its that is bad is reported on `errors`. It fails where nothing can
-/// listen there, where there is no memory for the screen, where a line cannot be written, or where
-/// `input` ends before it gives the size of the screen.
-pub fn share_at<N: Net, R: Read, W: Write, E: Write>(
-    net: &N,
-    alloc: Global,
+/// Shares a screen until a line says `quit`, or with the last viewer if that is wanted. The input is
+/// standard input. A line of its that is bad is reported. It fails where nothing can listen there,
+/// where there is no memory for the screen, where a line cannot be written, or where the input ends
+/// before it gives the size of the screen.
+pub fn share_at<P: AllocGlobal + Net, R: Read, W: Write, E: Write>(
+    context: &mut Context<P, R, W, E>,
     options: ShareOptions<'_>,
-    input: &mut R,
-    output: &mut W,
-    errors: &mut E,
-    explains: bool,
-) -> Result<(), Failure> {
-    let listener = listen(net, &options, &mut Notes::new(errors, explains))?;
-    let mut desk = Desk::new(net, alloc, listener, explains)?;
-    desk.run(&options, input, output, errors)
+) -> Result<(), Failure>
+    ensures same { KeepsStreams context.old context.new }
+{
+    let notes = &mut Notes::new(context.errors, context.explains);
+    let listener = listen(context.rt, &options, notes)?;
+    let mut desk = Desk::new(context.rt, context.alloc(), listener, context.explains)?;
+    desk.run(&options, context.input, context.output, context.errors)
 }
 
 // A listener that does not wait.

@@ -1,8 +1,9 @@
-//! Standard output, where it may be a terminal: that is no place for a picture.
+//! The standard input of the process, and its standard output, which may be a terminal: that is no
+//! place for a picture.
 
-use crate::explain::{Notes, tell_unshowable};
+use crate::explain::{Notes, tell_unread, tell_unshowable};
 use std::io;
-use std::io::{ErrorKind, Write};
+use std::io::{ErrorKind, Read, Write};
 
 // What a picture begins with, and what a server's bytes do.
 const PICTURE: &[u8] = b"P6\n";
@@ -12,19 +13,50 @@ const RECORDING: &[u8] = b"RFB ";
 const REFUSAL: &str = "\
 rfb: standard output is a terminal, which shows no picture and no recording: name a file by -o";
 
+/// An input. Where a read of it fails for good, `notes` say so.
+#[derive(Drop)]
+pub struct StandardInput<'a, R, E> {
+    input: R,
+    notes: Notes<'a, E>,
+}
+
+impl<'a, R, E> StandardInput<'a, R, E> {
+    /// Reads from `input`.
+    pub fn new(input: R, notes: Notes<'a, E>) -> StandardInput<'a, R, E> {
+        StandardInput { input, notes }
+    }
+}
+
+impl<R: Read, E: Write> Read for StandardInput<'_, R, E> {
+    fn read(&mut self, buf: &mut [u8]) -> io::Result<usize> {
+        let result = self.input.read(buf);
+        if let Err(error) = &result {
+            if is_lasting(error.kind()) {
+                tell_unread("standard input", error, &mut self.notes);
+            }
+        }
+        result
+    }
+}
+
+/// Whether a read that fails so is not tried again.
+pub fn is_lasting(kind: ErrorKind) -> bool {
+    kind != ErrorKind::Interrupted && kind != ErrorKind::WouldBlock
+}
+
 /// An output that, where it is a terminal, takes text alone.
 #[derive(Drop)]
-pub struct Shown<'a, W, E> {
+pub struct StandardOutput<'a, W, E> {
     output: W,
     is_terminal: bool,
     notes: Notes<'a, E>,
 }
 
-impl<'a, W, E> Shown<'a, W, E> {
+impl<'a, W, E> StandardOutput<'a, W, E> {
     /// Writes to `output`. Where a picture or a recording is refused, or a write fails, `notes` say
     /// so.
-    pub fn new(output: W, is_terminal: bool, notes: Notes<'a, E>) -> Shown<'a, W, E> {
-        Shown {
+    pub fn new(output: W, is_terminal: bool, notes: Notes<'a, E>) -> StandardOutput<'a, W, E> {
+        StandardOutput {
             output,
             is_terminal,
             notes,
@@ -49,7 +81,7 @@ fn is_text(bytes: &[u8]) -> bool {
     true
 }
 
-impl<W: Write, E: Write> Write for Shown<'_, W, E> {
+impl<W: Write, E: Write> Write for StandardOutput<'_, W, E> {
     /// Writes to a terminal text that does not begin as a picture or a recording does. Else it is
     /// an error of the kind `InvalidInput`.
     fn write(&mut self, buf: &[u8]) -> io::Result<usize> {

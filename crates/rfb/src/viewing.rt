@@ -2,6 +2,7 @@
 
 ghost use Rattle.std.specs.Prelude.{◌≡◌, ◌≤◌, false, None, Err, IfOk, IfErr, OnOk, OnErr};
 ghost use Rattle.rfb_session.specs.declared.engine.fault.EngineFault.{EngineFault};
+ghost use Rattle.rfb.specs.Context.{KeepsStreams};
 ghost use Rattle.rfb.specs.declared.fault.Failure.TheVariants as Failure;
 ghost use Rattle.rfb.specs.Viewing.{FailsToView, FailsToViewSome, Saw, StopsSeeing, StopsView};
 ghost use Rattle.rfb.specs.Recording.{shows_end};
@@ -10,6 +11,7 @@ ghost use Rattle.rfb.specs.Viewing.{LeavesSomeView, LeavesView, Views, ViewsSome
 mod options;
 pub mod words;
 
+use crate::context::Context;
 use crate::explain::{
     Heard, Hearing, Notes, Origin, Shared, Telling, Writing, tell_server, tell_unreached,
     tell_unsent,
@@ -30,30 +32,32 @@ use std::time::Clock;
 const ENDLESS: &str = "rfb: it waits as long as it takes: there is no --timeout";
 
 /// Connects to a server, and views it. What is written, and why it fails, is as for `view_on`.
-pub fn view_at<N: Net + Clock, W: Write, E: Write>(
-    net: &N,
-    alloc: Global,
+pub fn view_at<P: AllocGlobal + Net + Clock, R, W: Write, E: Write>(
+    context: &mut Context<P, R, W, E>,
     options: ViewOptions<'_>,
-    output: &mut W,
-    notes: &mut Notes<'_, E>,
 ) -> Result<(), Failure>
-    ensures done { OnOk result
-        (ViewsSome options.entry.sight (W.contents output.old) (W.contents output.new)) }
+    ensures done { OnOk result (ViewsSome options.entry.sight
+        (W.contents context.old.output.now) (W.contents context.new.output.now)) }
     ensures stopped { IfErr result (FailsToViewSome options.entry.sight
-        (W.contents output.old) (W.contents output.new)) }
+        (W.contents context.old.output.now) (W.contents context.new.output.now)) }
     ensures unwritten { options.entry.sight.is_recorded ≡ false → (fault : EngineFault) →
         result ≡ Err (Failure.Engine fault) →
-        shows_end options.entry.sight.is_partial fault ≡ false → output.new ≡ output.old }
+        shows_end options.entry.sight.is_partial fault ≡ false →
+        context.new.output.now ≡ context.old.output.now }
     ensures left { options.entry.sight.is_recorded ≡ false → OnErr result
-        (LeavesSomeView options.entry.sight (W.contents output.old) (W.contents output.new)) }
+        (LeavesSomeView options.entry.sight
+        (W.contents context.old.output.now) (W.contents context.new.output.now)) }
+    ensures same { KeepsStreams context.old context.new }
 {
+    let alloc = context.alloc();
+    let mut notes = Notes::new(context.errors, context.explains);
     if options.timeout.is_none() {
         let _ = writeln!(notes, "{ENDLESS}");
     }
-    match connect(net, options.host, options.port, options.timeout) {
-        Ok(connection) => view_on(alloc, connection, options.sight, output, notes),
+    match connect(context.rt, options.host, options.port, options.timeout) {
+        Ok(connection) => { view_on(alloc, connection, options.sight, context.output, &mut notes) }
         Err(error) => {
-            tell_unreached(options.host, options.port, &error, notes);
+            tell_unreached(options.host, options.port, &error, &mut notes);
             Err(Failure::from(error))
         }
     }
@@ -110,7 +114,7 @@ fn view_over<R: Read + Drop, V: Write + Drop, W: Write, E: Write>(
     let is_recorded = sight.is_recorded;
     let is_partial = sight.is_partial;
     let mut viewer = fresh_viewer(alloc, sight.wants.format, sight.wants.encodings);
-    let mut heard = Heard::new(alloc, notes.are_wanted(), Origin::Connection);
+    let mut heard = Heard::new(Origin::Connection);
     // Each arm lets go of what it made by calls: what an arm's end lets go is proved field by field.
     if is_recorded {
         let ended = record(
@@ -142,7 +146,7 @@ fn view_over<R: Read + Drop, V: Write + Drop, W: Write, E: Write>(
             shown
         }
         Err(fault) => {
-            tell_server(fault, viewer.reason(), &heard, notes);
+            tell_server(fault, &viewer, &heard, notes);
             let failure = show_early(&viewer, is_partial, fault, output);
             drop(heard);
             drop(viewer);
@@ -237,7 +241,7 @@ fn record<R: Read + Drop, V: Write + Drop, W: Write, N: Write>(
         },
         Err(fault) => {
             let _ = output.flush();
-            tell_server(fault, viewer.reason(), heard, notes);
+            tell_server(fault, viewer, heard, notes);
             Err(Failure::Engine(fault))
         }
     }

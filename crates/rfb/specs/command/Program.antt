@@ -2,8 +2,8 @@
 use Rattle.std.specs.Prelude.{true, List, [], ◌∷◌, Option, codes}
 use Rattle.clap.specs.Words.{App, Row, Rule, Shape, Text, subcommand_of, with_subcommand}
 use Rattle.clap.specs.Simple.{new_shape}
-use Rattle.rfb.specs.declared.options.verbs.Verb.{Verb}
-use Rattle.rfb.specs.declared.options.verbs.Verb.TheVariants as verbs
+use Rattle.rfb.specs.declared.commands.Verb.{Verb}
+use Rattle.rfb.specs.declared.commands.Verb.TheVariants as verbs
 use Rattle.rfb.specs.command.Rules.{format_rule, server_rule, host_rule, listen_rule, encodings_rule, record_rule, partial_rule, input_rule, output_rule, any_port_rule, port_rule, side_rule, connections_rule, forever_rule, picture_rule, viewers_rule, name_rule, idle_rule, first_updates_rule, timeout_rule, updates_rule}
 
 -- a command of these words
@@ -42,6 +42,10 @@ shape_named verbs.Play = play_shape
 shape_named verbs.Serve = serve_shape
 shape_named verbs.View = view_shape
 shape_named verbs.Share = share_shape
+
+-- what a command is called
+abbrev pub name_of : Verb → Text
+name_of verb = (shape_named verb).name
 
 -- the program has a version, and commands, one of which has to be named
 abbrev pub top : App

@@ -1,18 +1,18 @@
 //! Sentences for what an engine ended with.
 
-use crate::explain::beginning::{has_version, tell_types, version_line};
+use crate::explain::beginning::{has_version, tell_types};
 use crate::explain::naming::EncodingNumber;
 use crate::explain::{Escaped, Heard};
 use rfb_server::ServerFault;
 use rfb_session::EngineFault;
-use rfb_viewer::ViewerFault;
+use rfb_viewer::{Viewer, ViewerFault};
 use std::io;
 use std::io::Write;
 
-/// Says why what a server sent was no more looked at. `reason` is what it gave as its reason.
-pub fn tell_server<N: Write>(fault: EngineFault, reason: &[u8], heard: &Heard, notes: &mut N) {
+/// Says why what a server sent was no more looked at. `viewer` is the one that was fed it.
+pub fn tell_server<N: Write>(fault: EngineFault, viewer: &Viewer, heard: &Heard, notes: &mut N) {
     let _ = match fault {
-        EngineFault::Viewer(fault) => tell_viewer_fault(fault, reason, heard, notes),
+        EngineFault::Viewer(fault) => tell_viewer_fault(fault, viewer, heard, notes),
         EngineFault::Truncated => tell_end(heard, notes),
         EngineFault::Device => tell_stranger(heard, notes),
         EngineFault::NoMemory => writeln!(notes, "rfb: there is no memory"),
@@ -41,25 +41,25 @@ fn tell_stranger<N: Write>(heard: &Heard, notes: &mut N) -> io::Result<()> {
     writeln!(
         notes,
         "rfb: in place of a version came `{}`: no server of RFB begins like that",
-        Escaped(version_line(bytes))
+        Escaped(bytes)
     )
 }
 
 // What a server did wrong, or refused.
 fn tell_viewer_fault<N: Write>(
     fault: ViewerFault,
-    reason: &[u8],
+    viewer: &Viewer,
     heard: &Heard,
     notes: &mut N,
 ) -> io::Result<()> {
     match fault {
         ViewerFault::BadVersion => tell_stranger(heard, notes),
         ViewerFault::NoneNotOffered | ViewerFault::BadSecurityWord => {
-            tell_types(heard.as_slice(), notes)
+            tell_types(viewer.offered(), notes)
         }
-        ViewerFault::Refused(_) => tell_reason("refuses the connection", reason, notes),
+        ViewerFault::Refused(_) => tell_reason("refuses the connection", viewer.reason(), notes),
         ViewerFault::SecurityFailed(_) => {
-            tell_reason("does not let the viewer in", reason, notes)
+            tell_reason("does not let the viewer in", viewer.reason(), notes)
         }
         ViewerFault::UnknownMessage(kind) => {
             writeln!(

@@ -1,31 +1,28 @@
 //! The first bytes that a server sent, as they come.
 
 use crate::explain::Origin;
-use std::alloc::Global;
+use crate::explain::beginning::VERSION_SIZE;
+use arrayvec::ArrayVec;
+use rfb_wire::pieces::append;
 use std::io::Write;
-
-// More of a server's first bytes are not kept: these hold a version and a list of security types.
-const ROOM: usize = 1024;
 
 // A line says that more bytes come, each time that this number of them came.
 const STRETCH: u64 = 16_777_216;
 
-/// The first bytes that came of a server, as many as there is room for.
+/// The first bytes that came of a server, as many as a version has; and how many came in all.
 #[derive(Drop)]
 pub struct Heard {
     origin: Origin,
-    bytes: Vec<u8>,
-    room: usize,
+    bytes: ArrayVec<u8, VERSION_SIZE>,
     total: u64,
 }
 
 impl Heard {
-    /// Nothing yet. Bytes are kept where they are wanted.
-    pub fn new(alloc: Global, are_wanted: bool, origin: Origin) -> Heard {
+    /// Nothing yet.
+    pub fn new(origin: Origin) -> Heard {
         Heard {
             origin,
-            bytes: Vec::new(alloc),
-            room: if are_wanted { ROOM } else { 0 },
+            bytes: ArrayVec::new(),
             total: 0,
         }
     }
@@ -47,7 +44,7 @@ impl Heard {
 
     /// What is kept.
     pub fn as_slice(&self) -> &[u8] {
-        &self.bytes
+        self.bytes.as_slice()
     }
 
     /// How many bytes came.
@@ -55,12 +52,9 @@ impl Heard {
         self.total
     }
 
-    // Keeps these bytes, as far as there is room. Where memory is refused there is no more.
+    // Keeps these bytes, as far as there is room.
     fn keep(&mut self, bytes: &[u8]) {
-        let left = self.room.saturating_sub(self.bytes.len());
-        let count = left.min(bytes.len());
-        if self.bytes.extend_from_slice(&bytes[..count]).is_err() {
-            self.room = 0;
-        }
+        let left = VERSION_SIZE - self.bytes.len();
+        append(&mut self.bytes, &bytes[..left.min(bytes.len())]);
     }
 }

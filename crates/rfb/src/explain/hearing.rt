@@ -3,6 +3,7 @@
 ghost use Rattle.std.specs.Prelude.{◌≡◌};
 
 use crate::explain::{Heard, Origin};
+use crate::streams::is_lasting;
 use std::cell::RefCell;
 use std::io;
 use std::io::{ErrorKind, Read, Write};
@@ -87,6 +88,8 @@ fn tell_read<N: Write>(error: &io::Error, heard: &Heard, notes: &mut N) {
                 "rfb: the time of --timeout is up: {total} {bytes} had come"
             )
         }
+        // Whoever reads it says so.
+        Origin::Recording if is_lasting(kind) => Ok(()),
         _ => writeln!(notes, "rfb: reading failed: {error}"),
     };
 }

@@ -1,42 +1,9 @@
-//! Readers and writers that keep the error of what failed, so that it can be told afterwards.
+//! A writer that keeps the error of what failed, so that it can be told afterwards.
 
 ghost use Rattle.std.specs.Prelude.{◌≡◌};
 
 use std::io;
-use std::io::{ErrorKind, Read, Write};
-
-/// A reader that keeps the error of a read that failed for good.
-#[derive(Drop)]
-pub struct Reading<'a, R> {
-    reader: R,
-    failure: &'a mut Option<io::Error>,
-}
-
-impl<'a, R> Reading<'a, R> {
-    ghost use Rattle.rfb.specs.Explain.{read_by};
-
-    /// Reads from `reader`.
-    pub fn new(reader: R, failure: &'a mut Option<io::Error>) -> Reading<'a, R>
-        ensures { read_by result ≡ reader }
-    {
-        Reading { reader, failure }
-    }
-}
-
-impl<R: Read> Read for Reading<'_, R> {
-    ghost remaining = { λ r. R.remaining r.reader };
-
-    fn read(&mut self, buf: &mut [u8]) -> io::Result<usize> {
-        let result = self.reader.read(buf);
-        if let Err(error) = &result {
-            let kind = error.kind();
-            if kind != ErrorKind::Interrupted && kind != ErrorKind::WouldBlock {
-                *self.failure = Some(*error);
-            }
-        }
-        result
-    }
-}
+use std::io::Write;
 
 /// A writer that keeps the error of a write that failed.
 #[derive(Drop)]
@@ -52,11 +19,6 @@ impl<'a, W> Writing<'a, W> {
     pub fn new(writer: W, failure: &'a mut Option<io::Error>) -> Writing<'a, W>
         ensures { written_by result ≡ writer }
     {
-        Writing { writer, failure }
-    }
-
-    /// The same of a writer that is lent: it is lent again by the one that this gives.
-    pub fn lent(writer: W, failure: &'a mut Option<io::Error>) -> Writing<'a, W> {
         Writing { writer, failure }
     }
 }

@@ -14,7 +14,7 @@ use clap::ArgMatches;
 
 const LOOPBACK: &str = "127.0.0.1";
 
-// The port of a host's display 0, and the last display that is named by its number.
+// The port of a host's display 0, and the last number that names a display: a greater one is a port.
 const DISPLAYS: u16 = 5900;
 
 const LAST_DISPLAY: u16 = 99;
@@ -31,7 +31,7 @@ pub const SERVER: Word<'static> = Word {
     name: "server",
     mark: Mark::Alone,
     takes: Takes::Text("SERVER"),
-    help: "HOST, HOST:DISPLAY or HOST::PORT; display N is at port 5900 + N, HOST alone at 5900",
+    help: "HOST, HOST:N or HOST::PORT; below 100 N is a display, at port 5900 + N; HOST alone is 5900",
 };
 
 /// A host.
@@ -128,7 +128,7 @@ fn or_loopback(host: &str) -> &str
     if host.is_empty() { LOOPBACK } else { host }
 }
 
-// What stands after the first colon: a display, or a colon and a port.
+// What stands after the first colon: a display or a port, or a colon and a port.
 fn port_named(text: &[u8]) -> Option<u16>
     ensures { MatchOption result ((port : ℕ) → ¬ (NamesPort text.now port))
         (λ port. NamesPort text.now port) }
@@ -139,13 +139,13 @@ fn port_named(text: &[u8]) -> Option<u16>
     }
 }
 
-// The port of a display.
+// The port of a display, or that port.
 fn display_port(digits: &[u8]) -> Option<u16>
     ensures { MatchOption result ((port : ℕ) → ¬ (NamesDisplay digits.now port))
         (λ port. NamesDisplay digits.now port) }
 {
     match read_number(digits) {
         Some(display) if display <= LAST_DISPLAY => Some(DISPLAYS + display),
-        _ => None,
+        port => port,
     }
 }

@@ -1,18 +1,18 @@
 //! A file that is written whole, or not at all.
 
+use crate::explain::tell_unwritten;
 use std::fs::{File, Files, OpenFile};
-use std::io::ErrorKind;
+use std::io::{ErrorKind, Write};
+use std::os::unix::fs::MetadataExt;
 use std::{fs, io};
-
-// How many names are tried for a file beside another.
-const TRIES: u32 = 100;
 
 /// What is written in place of standard output.
 #[derive(Drop)]
-pub struct Target<'a, F> {
+pub struct Target<F> {
     /// Where it is written to.
     pub file: F,
-    path: &'a str,
+    // Why a write failed, if one did.
+    failure: Option<io::Error>,
     // Without one it is written where it stays.
     beside: Option<Beside>,
 }
@@ -30,14 +30,11 @@ struct Beside {
 /// beside it, and comes to its place by `keep`. What a link leads to is written as if it were named
 /// itself, and the link stays. A device, a pipe, or a file that a link leads to and that is not
 /// there, is written where it is.
-pub fn open_target<'a, P: AllocGlobal + Files>(
-    rt: &P,
-    path: &'a str,
-) -> io::Result<Target<'a, P::File>> {
+pub fn open_target<P: AllocGlobal + Files>(rt: &P, path: &str) -> io::Result<Target<P::File>> {
     match fs::metadata(rt, path) {
         Ok(found) if found.is_file() => {
             let place = place_of(rt, path)?;
-            let target = open_beside(rt, path, place)?;
+            let target = open_beside(rt, place)?;
             let _ = target.file.set_permissions(found.permissions());
             Ok(target)
         }
@@ -48,12 +45,12 @@ pub fn open_target<'a, P: AllocGlobal + Files>(
 }
 
 // Opens a file that is not there, maybe at the end of a link.
-fn open_new<'a, P: AllocGlobal + Files>(rt: &P, path: &'a str) -> io::Result<Target<'a, P::File>> {
+fn open_new<P: AllocGlobal + Files>(rt: &P, path: &str) -> io::Result<Target<P::File>> {
     if fs::symlink_metadata(rt, path).is_ok() {
         return open_in_place(rt, path);
     }
     let place = format!(in rt.alloc(); "{path}")?;
-    open_beside(rt, path, place)
+    open_beside(rt, place)
 }
 
 // Where the file is that a path leads to: there itself, unless that is a link.
@@ -66,41 +63,37 @@ fn place_of<P: AllocGlobal + Files>(rt: &P, path: &str) -> io::Result<String> {
 }
 
 // Opens what is no regular file.
-fn open_in_place<'a, P: Files>(rt: &P, path: &'a str) -> io::Result<Target<'a, P::File>> {
+fn open_in_place<P: Files>(rt: &P, path: &str) -> io::Result<Target<P::File>> {
     Ok(Target {
         file: File::create(rt, path)?,
-        path,
+        failure: None,
         beside: None,
     })
 }
 
-// Makes a file beside a place, in the same folder, under a name that there is not.
-fn open_beside<'a, P: AllocGlobal + Files>(
-    rt: &P,
-    path: &'a str,
-    place: String,
-) -> io::Result<Target<'a, P::File>> {
-    for turn in 0..TRIES {
-        let name = format!(in rt.alloc(); "{place}.{turn}.part")?;
-        match File::create_new(rt, name.as_str()) {
-            Ok(file) => {
-                return Ok(Target {
-                    file,
-                    path,
-                    beside: Some(Beside { name, place }),
-                });
-            }
-            Err(error) if error.kind() == ErrorKind::AlreadyExists => {}
-            Err(error) => return Err(error),
-        }
+// Makes a file beside a place, in the same folder. What an earlier run that was interrupted left
+// under its name is removed; a link there is removed itself, and what it leads to stays.
+fn open_beside<P: AllocGlobal + Files>(rt: &P, place: String) -> io::Result<Target<P::File>> {
+    let name = format!(in rt.alloc(); "{place}.part")?;
+    match fs::remove_file(rt, name.as_str()) {
+        Ok(()) => {}
+        Err(error) if error.kind() == ErrorKind::NotFound => {}
+        Err(error) => return Err(error),
     }
-    Err(io::Error::from(ErrorKind::AlreadyExists))
+    let file = File::create_new(rt, name.as_str())?;
+    Ok(Target {
+        file,
+        failure: None,
+        beside: Some(Beside { name, place }),
+    })
 }
 
-impl<F: OpenFile> Target<'_, F> {
-    /// The path that it is written to.
-    pub fn path(&self) -> &str {
-        self.path
+impl<F: OpenFile> Target<F> {
+    /// Says why a write to the path that was named failed, if one did.
+    pub fn tell_failure<N: Write>(&self, path: &str, notes: &mut N) {
+        if let Some(error) = &self.failure {
+            tell_unwritten(path, error, notes);
+        }
     }
 
     /// Whether something was written to a regular file.
@@ -116,20 +109,43 @@ impl<F: OpenFile> Target<'_, F> {
         let Some(beside) = &self.beside else {
             return Ok(());
         };
-        let kept = match self.file.sync_all() {
-            Ok(()) => fs::rename(rt, beside.name.as_str(), beside.place.as_str()),
-            Err(error) => Err(error),
-        };
-        if kept.is_err() {
-            self.give_up(rt);
+        self.file.sync_all()?;
+        if !self.is_there(rt, &beside.name) {
+            return Err(io::Error::from(ErrorKind::NotFound));
         }
-        kept
+        fs::rename(rt, beside.name.as_str(), beside.place.as_str())
     }
 
-    /// Removes what was written, but for what was written where it is.
+    /// Removes what was written and not kept, but for what was written where it is.
     pub fn give_up<P: Files>(&self, rt: &P) {
         if let Some(beside) = &self.beside {
-            let _ = fs::remove_file(rt, beside.name.as_str());
+            if self.is_there(rt, &beside.name) {
+                let _ = fs::remove_file(rt, beside.name.as_str());
+            }
         }
+    }
+
+    // Whether a name is still that of this file, and not of one that another run has made since.
+    fn is_there<P: Files>(&self, rt: &P, name: &str) -> bool {
+        match (self.file.metadata(), fs::symlink_metadata(rt, name)) {
+            (Ok(own), Ok(found)) => own.ino() == found.ino() && own.dev() == found.dev(),
+            _ => false,
+        }
+    }
+}
+
+impl<F: Write> Write for Target<F> {
+    ghost contents = { λ target. F.contents target.file };
+
+    fn write(&mut self, buf: &[u8]) -> io::Result<usize> {
+        let result = self.file.write(buf);
+        if let Err(error) = &result {
+            self.failure = Some(*error);
+        }
+        result
+    }
+
+    fn flush(&mut self) -> io::Result<()> {
+        self.file.flush()
     }
 }

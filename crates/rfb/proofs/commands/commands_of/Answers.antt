@@ -3,7 +3,7 @@ use Rattle.std.proofs.lemmas.List.{take_all}
 use Rattle.clap.specs.Words.{shape_of}
 use Rattle.rfb.specs.command.Program.{shape_named}
 use Rattle.rfb.proofs.UsageLemmas.{one_as_table}
-use Rattle.rfb.proofs.options.verbs.commands_of.Goals as goal
+use Rattle.rfb.proofs.commands.commands_of.Goals as goal
 
 pub loop-verb-init : goal.loop-verb-init
 loop-verb-init c = ap (map shape_of) c.in_ok-commands.ensures.items

@@ -2,7 +2,7 @@
 use Rattle.std.proofs.Common.{◌≡◌, map, take}
 use Rattle.clap.specs.Words.{shape_of}
 use Rattle.rfb.specs.command.Program.{shape_named}
-use Rattle.rfb.proofs.options.verbs.commands_of.Given as goal
+use Rattle.rfb.proofs.commands.commands_of.Given as goal
 
 abbrev pub invariant-loop-verb : goal.invariant-loop-verb
 invariant-loop-verb l =

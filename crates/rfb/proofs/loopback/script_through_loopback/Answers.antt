@@ -7,7 +7,7 @@ returns-clause-done g c =
     let script = c.in_ok-script.script in
     let said : AreScript (lines_of c.read_to_end.new.buf.items) script.screen script.wants script.steps.items = rw c.deref.ensures.value at c.in_ok-script.ensures.read in
     record {
-      is_script = some_script (g.R.Read.remaining c.args.input.now) c.new-text.result.items
+      is_script = some_script (g.R.Read.remaining c.args.context.now.input.now) c.new-text.result.items
           c.read_to_end.new.buf.items script.screen script.wants script.steps.items
           c.new-text.ensures.items c.in_ok-read_to_end.ensures.bytes said;
       written = c.in_ok-done.ensures.done;

@@ -12,6 +12,6 @@ returns-clause-done g c = λ made.
 pub returns-clause-left : goal.returns-clause-left
 returns-clause-left g c = λ made.
     let script = c.args.script.now in
-    leaves_played g.W.Write.contents c.args.output.now c.finish-done.new.output _ c.finish-done.new.world c.finish-done.result
+    leaves_played g.W.Write.contents c.args.context.now.output.now c.finish-done.new.context.output.now _ c.finish-done.new.world c.finish-done.result
     script.screen script.wants script.steps.items c.finish-done.ensures.left
     (λ taken. is_played script.screen script.wants script.steps.items c.in_ok-world.world c.finish-done.new.world c.in_ok-world.ensures (rw c.deref.ensures.value at taken) made)

@@ -52,7 +52,7 @@ returns-in_err-run-clause-left g c =
     let script = c.in_ok-script.script in
     let said : AreScript (lines_of c.read_to_end.new.buf.items) script.screen script.wants script.steps.items = rw c.as_slice-lines.ensures.value at c.in_ok-script.ensures.read in
     on_err _ _
-    (script_left (g.R.Read.remaining c.args.input.now) _ _ c.new-text.result.items c.read_to_end.new.buf.items
+    (script_left (g.R.Read.remaining c.args.context.now.input.now) _ _ c.new-text.result.items c.read_to_end.new.buf.items
     script.screen script.wants script.steps.items c.new-text.ensures.items c.in_ok-read_to_end.ensures.bytes said
     (c.in_err-run.ensures.left (made _ _ _ _ said)))
 
@@ -63,7 +63,7 @@ returns-clause-done g c =
     let written = c.in_ok-run.ensures.done (made _ _ _ _ said) in
     record {
       picture = written.2.0;
-      played = script_played (g.R.Read.remaining c.args.input.now) c.new-text.result.items
+      played = script_played (g.R.Read.remaining c.args.context.now.input.now) c.new-text.result.items
           c.read_to_end.new.buf.items script.screen script.wants script.steps.items
           written.0 written.2.0 c.new-text.ensures.items c.in_ok-read_to_end.ensures.bytes said written.1 written.2.1;
       written = written.2.2;
@@ -74,14 +74,14 @@ returns-in_err-run_hub-clause-left g c =
     let hub = c.in_ok-hub.hub in
     let said : AreHubScript (lines_of c.read_to_end.new.buf.items) hub.screen hub.steps.items hub.shown = rw c.as_slice-lines.ensures.value at c.in_ok-hub.ensures.read in
     on_err _ _
-    (hub_left (g.R.Read.remaining c.args.input.now) _ _ c.new-text.result.items c.read_to_end.new.buf.items
+    (hub_left (g.R.Read.remaining c.args.context.now.input.now) _ _ c.new-text.result.items c.read_to_end.new.buf.items
     hub.screen hub.steps.items hub.shown c.new-text.ensures.items c.in_ok-read_to_end.ensures.bytes said c.in_err-run_hub.ensures.left)
 
 pub returns-then-begins_hub-clause-done : goal.returns-then-begins_hub-clause-done
 returns-then-begins_hub-clause-done g c =
     let hub = c.in_ok-hub.hub in
     let said : AreHubScript (lines_of c.read_to_end.new.buf.items) hub.screen hub.steps.items hub.shown = rw c.as_slice-lines.ensures.value at c.in_ok-hub.ensures.read in
-    hub_plays (g.R.Read.remaining c.args.input.now) _ _ c.new-text.result.items c.read_to_end.new.buf.items
+    hub_plays (g.R.Read.remaining c.args.context.now.input.now) _ _ c.new-text.result.items c.read_to_end.new.buf.items
     hub.screen hub.steps.items hub.shown c.new-text.ensures.items c.in_ok-read_to_end.ensures.bytes said c.in_ok-run_hub.ensures.done
 
 pub returns-in_err-hub-clause-stopped : goal.returns-in_err-hub-clause-stopped
@@ -89,7 +89,7 @@ returns-in_err-hub-clause-stopped g c =
     let stops : StopsReadingHub (lines_of c.read_to_end.new.buf.items) c.in_err-hub.field-0.0 = rw c.as_slice-lines.ensures.value at c.in_err-hub.ensures.stopped in
     let p = err_from_is_err_and c.from_residual-in_err-hub.result c.from_residual-in_err-hub.ensures.1 in
     rw (p.1, p.2)
-    (fails_any (g.R.Read.remaining c.args.input.now) c.new-text.result.items c.read_to_end.new.buf.items c.in_err-hub.field-0.0
+    (fails_any (g.R.Read.remaining c.args.context.now.input.now) c.new-text.result.items c.read_to_end.new.buf.items c.in_err-hub.field-0.0
     c.new-text.ensures.items c.in_ok-read_to_end.ensures.bytes
     (stops_hub _ _ c.begins_hub.result (rw c.as_slice-lines.ensures.value at c.begins_hub.ensures) c.if-begins_hub.true stops))
 
@@ -98,6 +98,6 @@ returns-in_err-script-clause-stopped g c =
     let stops : StopsReading (lines_of c.read_to_end.new.buf.items) c.in_err-script.field-0.0 = rw c.as_slice-lines.ensures.value at c.in_err-script.ensures.stopped in
     let p = err_from_is_err_and c.from_residual-in_err-script.result c.from_residual-in_err-script.ensures.1 in
     rw (p.1, p.2)
-    (fails_any (g.R.Read.remaining c.args.input.now) c.new-text.result.items c.read_to_end.new.buf.items c.in_err-script.field-0.0
+    (fails_any (g.R.Read.remaining c.args.context.now.input.now) c.new-text.result.items c.read_to_end.new.buf.items c.in_err-script.field-0.0
     c.new-text.ensures.items c.in_ok-read_to_end.ensures.bytes
     (stops_plain _ _ c.begins_hub.result (rw c.as_slice-lines.ensures.value at c.begins_hub.ensures) c.if-begins_hub.false stops))

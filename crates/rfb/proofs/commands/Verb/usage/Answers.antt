@@ -1,6 +1,6 @@
 use Rattle.std.proofs.Common.{ap, sym}
 use Rattle.rfb.specs.command.Program.{shape_named}
-use Rattle.rfb.proofs.options.verbs.Verb.usage.Goals as goal
+use Rattle.rfb.proofs.commands.Verb.usage.Goals as goal
 
 pub returns-in-Script : goal.returns-in-Script
 returns-in-Script c = sym (ap shape_named c.in-Script.is)

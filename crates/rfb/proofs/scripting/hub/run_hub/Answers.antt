@@ -15,6 +15,6 @@ pub returns-clause-left : goal.returns-clause-left
 returns-clause-left g c =
     let script = c.args.script.now in
     let fresh = c.in_ok-hub.ensures in
-    leaves_hub g.W.Write.contents c.args.output.now c.finish-done.new.output _ c.finish-done.new.hub c.finish-done.result
+    leaves_hub g.W.Write.contents c.args.context.now.output.now c.finish-done.new.context.output.now _ c.finish-done.new.hub c.finish-done.result
     script.screen script.steps.items script.shown c.finish-done.ensures.left
     (λ led. is_hub_played script.screen (hub_events script.steps.items) c.in_ok-hub.hub c.finish-done.new.hub fresh.empty fresh.black fresh.made fresh.stands led)
