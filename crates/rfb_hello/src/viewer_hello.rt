@@ -152,7 +152,7 @@ impl ViewerHello {
     }
 
     /// How many bytes are pending: those of the server's next item after its last whole piece. It
-    /// keeps no others, but the first bytes of a text.
+    /// keeps no others, but security types and the first bytes of a text.
     pub fn pending(&self) -> usize
         ensures value { (setup : ViewerSetup) (point : ServerPoint) (prefix : List ℕ)
             → StandsFor setup self.now point prefix

@@ -60,7 +60,7 @@ impl Viewer {
     }
 
     /// How many bytes are pending: those of the server's item under way that stand after its last
-    /// whole piece. It holds no others, but the first bytes of a text.
+    /// whole piece. It holds no others, but security types and the first bytes of a text.
     pub fn pending(&self) -> usize
         ensures value { (viewing : Viewing) (s : ViewerState) (prefix : List ℕ)
             → StandsFor viewing self.now s prefix
