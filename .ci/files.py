@@ -4,8 +4,8 @@
     .ci/files.py PROGRAM..
 
 Each row runs a program on files in a folder of its own, or on a terminal, and compares its status,
-both outputs and what is in the folder then with what docs/PROTOCOL.md says. The last line is 'N
-passed, M failed'.
+both outputs and what is in the folder then with what docs/PROTOCOL.md says. `.ci/memory.sh` takes
+CALLS too. The last line is 'N passed, M failed'.
 """
 
 import contextlib
@@ -17,8 +17,10 @@ import tempfile
 import time
 import tty
 
-from calls import (BLACK, DEVICE, FILLED, HELLO, MORE, SCRIPT, SERVER, SHOWN, SHOWN_LATER,
-                   TRUNCATED, Run, Server, breaks, ends, failing, free_port, judged, takes, viewing)
+from calls import DEVICE, TRUNCATED, Call, Run, ends, failing, judged
+from messages import HELLO, MORE, SERVER
+from peers import Server, breaks, free_port, takes, viewing
+from pictures import BLACK, FILLED, ORANGE, SCRIPT, SHOWN, SHOWN_LATER
 
 # ---- files
 
@@ -221,6 +223,44 @@ def a_file_that_cannot_be_had_is_a_fault_of_a_device():
         ends(words, SCRIPT, 1, b"", DEVICE)
 
 
+# The same script as SCRIPT, with all four digits of each component.
+TWELVE_DIGITS = SCRIPT.replace(b"FF8001", ORANGE.encode())
+FULL = b": No space left on device (os error 28)\n"
+NONE = b": No such file or directory (os error 2)\n"
+
+
+def lost(name, words, given, said=b"", device=None):
+    """A row of a fault of a device, and of the sentence before it."""
+    return Call(name, words.split(), given, 1, b"", said + DEVICE, device)
+
+
+CALLS = [
+    Call("files_in_place_of_both", ["script", "-i", "/dev/stdin", "--output=/dev/stdout"],
+         TWELVE_DIGITS, 0, FILLED),
+    lost("file_that_is_full", "script -o /dev/full", TWELVE_DIGITS),
+    lost("explained_file_that_is_full", "script --explain -o /dev/full", TWELVE_DIGITS,
+         b"rfb: cannot write /dev/full" + FULL),
+    lost("explained_file_in_no_folder", "script --explain -o /no/such/file", TWELVE_DIGITS,
+         b"rfb: cannot write /no/such/file" + NONE),
+    lost("explained_file_that_is_not_there", "play --explain --input /no/such/file", b"",
+         b"rfb: cannot read /no/such/file" + NONE),
+    lost("explained_script_in_a_folder", "script --explain -i /", b"",
+         b"rfb: cannot read /: Is a directory (os error 21)\n"),
+    lost("picture_that_is_not_there", "serve --port 9 --picture /no/such/file", b""),
+    lost("explained_picture_that_is_not_there",
+         "serve --explain --port 9 --picture /no/such/file", b"",
+         b"rfb: cannot read /no/such/file" + NONE),
+    lost("full_device", "script", b"screen 2 1\nsettle\n", b"", "/dev/full"),
+    lost("loop_to_a_full_device", "loop", SCRIPT, b"", "/dev/full"),
+    lost("explained_full_device", "script --explain", SCRIPT,
+         b"rfb: cannot write standard output" + FULL, "/dev/full"),
+    lost("picture_to_a_terminal", "script", TWELVE_DIGITS, b"", "/dev/ptmx"),
+    lost("explained_picture_to_a_terminal", "script --explain", TWELVE_DIGITS,
+         b"rfb: standard output is a terminal, which shows no picture and no recording: name a file"
+         b" by -o\n", "/dev/ptmx"),
+]
+
+
 # ---- terminals
 
 def a_terminal_gets_no_picture_by_its_name():
@@ -277,6 +317,7 @@ def a_person_at_a_terminal_reads_sentences():
 
 
 ROWS = [
+    *CALLS,
     a_file_is_written_whole_or_not_at_all,
     a_file_in_place_of_another_has_its_permissions,
     what_stands_where_a_part_would_is_left_alone,

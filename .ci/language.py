@@ -11,29 +11,9 @@ last line is 'N passed, M failed'.
 import subprocess
 import sys
 
-# Red, green and blue of a place, four digits each: FF8001 as a line has it, as a viewer sees it at
-# rgb888, and as it sees it at other formats.
-ORANGE = "FFFF80800101"
-AT_RGB565 = "FFFF82080000"
-AT_BGR233 = "FFFF92490000"
-AT_RGB101010 = "FFFF80A00100"
-BLUE = "01018080FFFF"
-NO_COLOUR = "000000000000"
+from pictures import (AT_BGR233, AT_RGB101010, AT_RGB565, BLACK, BLUE, FILLED, NO_COLOUR, ORANGE,
+                      SCRIPT, drawn, ppm)
 
-
-def ppm(width, height, *places):
-    """The bytes of a picture, from its places, row by row."""
-    return b"P6\n%d %d\n65535\n" % (width, height) + bytes.fromhex("".join(places))
-
-
-def drawn(*rows):
-    """A picture from rows of characters: a # is orange, and all else has no colour."""
-    places = [ORANGE if place == "#" else NO_COLOUR for row in rows for place in row]
-    return ppm(len(rows[0]), len(rows), *places)
-
-
-BLACK = ppm(2, 1, NO_COLOUR, NO_COLOUR)
-LEFT_IS_FILLED = ppm(2, 1, ORANGE, NO_COLOUR)
 LEFT_AT_RGB565 = ppm(2, 1, AT_RGB565, NO_COLOUR)
 
 
@@ -119,14 +99,7 @@ FIRST_BAD_LINES = [
     ("screen 2 1\nsettle\nrequest\nsettle\nfill\n", 3),
 ]
 
-FILL_LEFT_PLACE = """screen 2 1
-fill 0 0 1 1 FF8001
-settle
-request full 0 0 2 1
-settle
-compose
-settle
-"""
+FILL_LEFT_PLACE = SCRIPT.decode()
 
 # Each fills the left place of two, and requests both.
 SPELLINGS = [
@@ -155,7 +128,7 @@ def each_line_is_good_or_bad():
     for script, line in FIRST_BAD_LINES:
         yield script, 1, b"", bad(line)
     for script in SPELLINGS:
-        yield script, 0, LEFT_IS_FILLED, ""
+        yield script, 0, FILLED, ""
 
 
 # How many places half of the largest screen has.
@@ -205,7 +178,7 @@ def a_format_waits_for_the_end_of_an_update():
 
 def a_call_waits_for_the_answer_to_a_request():
     request = "request full 0 0 2 1\n"
-    yield (FILL_LEFT_PLACE.replace(request, request * 2), 0, LEFT_IS_FILLED,
+    yield (FILL_LEFT_PLACE.replace(request, request * 2), 0, FILLED,
            "line 5: refused 26 Busy\n")
     yield ("screen 1 1\nfill 0 0 1 1 FF8001\nsettle\nrequest full 0 0 1 1\nformat bgr233\nsettle\n"
            "compose\nsettle\nformat bgr233\nrequest inc 0 0 1 1\nsettle\ncompose\nsettle\n",
@@ -563,28 +536,28 @@ def a_hub_has_a_usual_size():
 
 
 # The rows, and the words with which each is run.
-SCRIPT, LOOP = ["script"], ["loop"]
+BY_SCRIPT, BY_LOOP = ["script"], ["loop"]
 ROWS = [
-    (each_line_is_good_or_bad, SCRIPT),
-    (a_side_has_1_to_4096_places, SCRIPT),
-    (each_number_has_its_own_place, SCRIPT),
-    (the_viewer_asks_for_what_its_line_says, SCRIPT),
-    (a_format_waits_for_the_end_of_an_update, SCRIPT, LOOP),
-    (a_call_waits_for_the_answer_to_a_request, SCRIPT, LOOP),
-    (a_format_that_is_in_force_makes_all_unknown, SCRIPT),
-    (an_update_has_the_bytes_of_the_first_encoding, SCRIPT),
-    (a_copy_takes_its_source_to_its_rectangle, SCRIPT),
-    (a_hint_makes_a_copy_of_twenty_bytes, SCRIPT),
-    (a_copy_or_a_hint_that_leaves_the_screen_is_refused, SCRIPT),
-    (the_picture_is_there_once_the_screens_size_is_known, SCRIPT),
-    (each_line_of_a_hub_is_good_or_bad, SCRIPT),
-    (a_refusal_is_reported_and_changes_nothing, SCRIPT),
-    (the_others_end_at_the_byte_that_asks_for_sole_use, SCRIPT),
-    (a_slot_without_a_picture_shows_none, SCRIPT),
-    (a_viewer_that_joins_again_has_nothing_of_the_one_before, SCRIPT),
-    (a_drawing_and_a_hint_reach_each_session, SCRIPT),
-    (a_screen_has_a_usual_size, SCRIPT, LOOP),
-    (a_hub_has_a_usual_size, SCRIPT),
+    (each_line_is_good_or_bad, BY_SCRIPT),
+    (a_side_has_1_to_4096_places, BY_SCRIPT),
+    (each_number_has_its_own_place, BY_SCRIPT),
+    (the_viewer_asks_for_what_its_line_says, BY_SCRIPT),
+    (a_format_waits_for_the_end_of_an_update, BY_SCRIPT, BY_LOOP),
+    (a_call_waits_for_the_answer_to_a_request, BY_SCRIPT, BY_LOOP),
+    (a_format_that_is_in_force_makes_all_unknown, BY_SCRIPT),
+    (an_update_has_the_bytes_of_the_first_encoding, BY_SCRIPT),
+    (a_copy_takes_its_source_to_its_rectangle, BY_SCRIPT),
+    (a_hint_makes_a_copy_of_twenty_bytes, BY_SCRIPT),
+    (a_copy_or_a_hint_that_leaves_the_screen_is_refused, BY_SCRIPT),
+    (the_picture_is_there_once_the_screens_size_is_known, BY_SCRIPT),
+    (each_line_of_a_hub_is_good_or_bad, BY_SCRIPT),
+    (a_refusal_is_reported_and_changes_nothing, BY_SCRIPT),
+    (the_others_end_at_the_byte_that_asks_for_sole_use, BY_SCRIPT),
+    (a_slot_without_a_picture_shows_none, BY_SCRIPT),
+    (a_viewer_that_joins_again_has_nothing_of_the_one_before, BY_SCRIPT),
+    (a_drawing_and_a_hint_reach_each_session, BY_SCRIPT),
+    (a_screen_has_a_usual_size, BY_SCRIPT, BY_LOOP),
+    (a_hub_has_a_usual_size, BY_SCRIPT),
     (a_bad_line_is_explained, ["script", "--explain"]),
     (a_bad_line_of_a_hub_is_explained, ["script", "--explain"]),
     (a_bad_script_is_explained, ["--explain", "script"], ["--explain", "loop"]),

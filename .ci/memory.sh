@@ -1,27 +1,25 @@
 #!/usr/bin/env bash
-# Runs a program, named by its path, on the calls of .ci/program, and refuses it one allocation in
-# each run: the first, the second, and so on to the last. Such a run must end with status 1, print
-# nothing on standard output, and end its standard error with the line 'fault 30 NoMemory'; or end as
-# a run does where none is refused, if it could do without it, sentences of --explain aside. A
-# command that prints as it goes, `serve` or `view`, may have printed a beginning; `share` may tell it
-# of one of its owner's lines, and go on. A call with a file
-# `as`, which names another, asks for memory as often as that one, and so for none in what it has
-# more.
+# Runs a program, named by its path, on the calls of .ci/program and the rows that .ci/written.py
+# writes, and refuses it one allocation in each run: the first, the second, and so on to the last.
+# Such a run must end with status 1, print nothing on standard output, and end its standard error with
+# the line 'fault 30 NoMemory'; or end as a run does where none is refused, if it could do without it,
+# sentences of --explain aside. A command that prints as it goes, `serve` or `view`, may have printed
+# a beginning; `share` may tell it of one of its owner's lines, and go on. A call with a file `as`,
+# which names another, asks for memory as often as that one, and so for none in what it has more.
 #
 #   .ci/memory.sh crates/rfb/out/rfb crates
 #
-# Calls whose memory or output is limited, whose input is made up, or that need another run beside
-# them are left out. In the folder that the next word names are the crates, with their test
-# programs: these are refused each allocation of the tests that are named below, which reach growths
-# that no call of the program does. Such a test must pass whatever is refused. Only where its own
-# set-up is, it may end with that error.
+# Calls whose memory or output is limited, or whose input is made up, are left out. In the folder
+# that the next word names are the crates, with their test programs: these are refused each allocation
+# of the tests that are named below, which reach growths that no call of the program does. Such a test
+# must pass whatever is refused. Only where its own set-up is, it may end with that error.
 #
 # It needs a C compiler, for malloc and realloc in the place of libc's; where there is none it says
 # so, and tries nothing.
 # The last line is 'N passed, M failed'.
 set -u
 export LC_ALL=C
-calls=$(cd "$(dirname "$0")" && pwd)/program
+here=$(cd "$(dirname "$0")" && pwd)
 program=$(realpath "$1")
 crates=$(realpath "$2")
 room=$(mktemp -d)
@@ -91,7 +89,7 @@ refuse() {
 run() {
     local words
     mapfile -t words < "$(file "$1/args")"
-    refuse "$2" "$3" "$program" "${words[@]/PORT/$port}"
+    refuse "$2" "$3" "$program" "${words[@]}"
 }
 
 same() { cmp -s "$room/one.$1" "$room/all.$1"; }
@@ -109,14 +107,14 @@ is_reported_of_a_line() {
     sed '/^line [0-9]*: fault 30 NoMemory$/d' "$room/one.err" | cmp -s - "$room/all.err"
 }
 
-# Where PORT stands in the words of a call. Nothing is to listen there.
-port=$((20000 + RANDOM % 10000))
+mkdir "$room/calls"
+python3 "$here/written.py" "$room/calls" || exit 2
 
 declare -A asked
 passed=0 failed=0
-for call in "$calls"/*/; do
+for call in "$here"/program/*/ "$room"/calls/*/; do
     call=${call%/} name=$(basename "$call") refused=0
-    for limit in memory device more beside; do
+    for limit in memory device more; do
         if [ -e "$call/$limit" ]; then continue 2; fi
     done
     if [ -e "$call/stdin.gz" ]; then gzip -dc "$call/stdin.gz"; else cat "$(file "$call/stdin")"; fi \
@@ -146,7 +144,7 @@ if [ "$passed$failed" = 00 ]; then
     failed=1
     echo "no call asks for memory"
 fi
-for call in "$calls"/*/as; do
+for call in "$here"/program/*/as; do
     name=$(basename "$(dirname "$call")") other=$(cat "$call")
     if [ "${asked[$name]:-none}" = "${asked[$other]:-0}" ]; then
         passed=$((passed + 1))

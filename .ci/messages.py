@@ -1,4 +1,4 @@
-"""Messages of RFC 6143, each after those that come before it, for `sentences.py`."""
+"""Messages of RFC 6143, and streams of them. The plain reader of `streams.py` has its own."""
 
 import struct
 
@@ -9,6 +9,17 @@ def texted(text):
     """A text after its length."""
     return struct.pack(">I", len(text)) + text
 
+
+def pixel_format(bits=32, depth=24, true=1, maxima=(255, 255, 255), shifts=(16, 8, 0)):
+    """rgb888, but for what is changed."""
+    return struct.pack(">BBBB3H3B3x", bits, depth, 0, true, *maxima, *shifts)
+
+
+def rectangle_head(encoding, area):
+    return struct.pack(">4Hi", *area, encoding)
+
+
+# ---- what a server sends, each after what comes before it
 
 def security(*types):
     return VERSION + bytes([len(types), *types])
@@ -22,25 +33,21 @@ def security_result(word, reason=b""):
     return security(1) + struct.pack(">I", word) + reason
 
 
-def pixel_format(bits=32, depth=24, true=1, maxima=(255, 255, 255), shifts=(16, 8, 0)):
-    return struct.pack(">BBBB3H3B3x", bits, depth, 0, true, *maxima, *shifts)
+def handshake(width, height, name=b"rfb"):
+    """All up to ServerInit, whose pixels are rgb888."""
+    return security_result(0) + struct.pack(">HH", width, height) + pixel_format() + texted(name)
 
 
 def server_init(width=4, height=4):
-    """A handshake and ServerInit up to the name, which is rfb."""
-    sides = struct.pack(">HH", width, height)
-    return security_result(0) + sides + pixel_format() + bytes([0, 0, 0, 3])
-
-
-def rectangle_head(encoding, area):
-    return struct.pack(">4Hi", *area, encoding)
+    """A handshake up to the name, which is rfb."""
+    return handshake(width, height)[:-3]
 
 
 def framebuffer_update(*rectangles):
     """It follows a handshake. Its first rectangle is Raw, of one pixel."""
     pixel = rectangle_head(0, (0, 0, 1, 1)) + bytes(4)
     head = struct.pack(">BxH", 0, 1 + len(rectangles))
-    return server_init() + b"rfb" + head + pixel + b"".join(rectangles)
+    return handshake(4, 4) + head + pixel + b"".join(rectangles)
 
 
 def rectangle(encoding, data=b"", area=(0, 0, 4, 4)):
@@ -62,9 +69,36 @@ def hextile(mask, *rest):
     return rectangle(5, bytes([mask, *rest]))
 
 
+# A server of two places that is named rfb.
+HELLO = handshake(2, 1)
+# One update: a rectangle of both places, Raw, of the colours (0, 0, 0) and (4, 0, 2).
+SERVER = HELLO + bytes.fromhex("00000001 0000 0000 0002 0001 00000000 00000000 02000400")
+# One update more of SERVER: the right place, Raw, of the colour (255, 128, 1).
+MORE = bytes.fromhex("00000001 0001 0000 0001 0001 00000000 0180FF00")
+
+
+# ---- what a client sends
+
 def client_init(more=b""):
+    """Its version, None and a shared screen, and what follows."""
     return VERSION + bytes([1, 1]) + more
 
 
 def set_pixel_format(**changed):
     return client_init(bytes(4) + pixel_format(**changed))
+
+
+def set_encodings(*encodings):
+    return struct.pack(f">BxH{len(encodings)}i", 2, len(encodings), *encodings)
+
+
+def request(incremental, *area):
+    return struct.pack(">BB4H", 3, incremental, *area)
+
+
+def key(number, down=1):
+    return struct.pack(">BBxxI", 4, down, number)
+
+
+# A client that asks for all of a screen of two places.
+CLIENT = client_init(request(0, 0, 0, 2, 1))

@@ -1,54 +1,68 @@
-# Calls of .ci/program for `serve --picture`: what is no PPM, words that do not go together, and a view
-# of a picture. pictures.py CALLS: the folder of calls. Which bytes spell which picture, and what is
-# wrong with the others, is taken from Netpbm's page on PPM and from docs/PROTOCOL.md.
-import os, sys
-root = sys.argv[1]
-def put(name, **files):
-    d=os.path.join(root,name); os.makedirs(d,exist_ok=True)
-    for k,v in files.items():
-        if v: open(os.path.join(d,k),'wb').write(v.encode() if isinstance(v,str) else v)
-words=lambda *all: ''.join(w+'\n' for w in all)
-FLAWS=['it does not begin with P6','its width, its height or its largest component is missing',
-    'its width or its height is not 1 to 4096','its largest component is neither 255 nor 65535',
-    'no blank stands before its pixels','it ends before its last pixel does','bytes follow its last pixel']
-SENTENCE='rfb: cannot show /dev/stdin: a picture is a PPM (P6) of 1 to 4096 pixels a side, with 255 or 65535 as its largest component\n'
-def bad(name,number,data,*more,said=''):
-    put(name,args=words('serve','--port','9','--picture','/dev/stdin',*more),stdin=data,status='1\n',
-        stderr=said+'bad picture %d: %s\n'%(number,FLAWS[number-1]))
-bad('picture_of_nothing',1,b'')
-bad('picture_of_greys',1,b'P5\n1 1\n255\n\0')
-bad('picture_in_plain_digits',1,b'P3\n1 1\n255\n0 0 0\n')
-bad('picture_with_no_blank_after_its_kind',1,b'P61 1\n255\n\0\0\0')
-bad('picture_without_a_height',2,b'P6\n7\n')
-bad('picture_with_a_comment_without_an_end',2,b'P6\n1 1 # 255')
-bad('picture_with_a_sign',2,b'P6\n-1 1\n255\n\0\0\0')
-bad('picture_with_a_head_past_8192_bytes',2,b'P6\n#'+8190*b'x'+b'\n1 1\n255\n\0\0\0')
-bad('picture_without_a_column',3,b'P6\n0 1\n255\n')
-bad('picture_of_4097_rows',3,b'P6\n1 4097\n255\n'+3*4097*b'\0')
-bad('picture_of_more_columns_than_there_are_numbers',3,b'P6\n'+40*b'9'+b' 1\n255\n')
-bad('picture_of_fifteen_greys',4,b'P6\n1 1\n15\n\0\0\0')
-bad('picture_of_256_greys',4,b'P6\n1 1\n256\n\0\0\0\0\0\0')
-bad('picture_with_a_comment_before_its_pixels',5,b'P6\n1 1\n255#\n\0\0\0')
-bad('picture_that_ends_after_its_head',6,b'P6\n1 1\n255\n')
-bad('picture_that_ends_in_its_last_pixel',6,b'P6\n2 1\n65535\n'+11*b'\0')
-bad('picture_with_a_newline_after_it',7,b'P6\n1 1\n255\n\0\0\0\n')
-bad('picture_with_another_after_it',7,2*b'P6\n1 1\n255\n\0\0\0')
-bad('explained_picture',3,b'P6\n5000 1\n255\n','--explain',said=SENTENCE)
-put('picture_that_is_not_there',args=words('serve','--port','9','--picture','/no/such/file'),status='1\n',stderr='fault 29 Device\n')
-put('explained_picture_that_is_not_there',args=words('serve','--explain','--port','9','--picture','/no/such/file'),status='1\n',
-    stderr='rfb: cannot read /no/such/file: No such file or directory (os error 2)\nfault 29 Device\n')
-MORE="\n\nUsage: rfb serve [OPTIONS] --port <P>\n\nFor more information, try '--help'.\n"
-def mistaken(name,told,*more):
-    put(name,args=words('serve','--port','9',*more),status='2\n',stderr='error: '+told)
-mistaken('picture_with_a_width',"the argument '--picture <FILE>' cannot be used with '--width <N>' or '--height <N>'"+MORE,'--picture','a.ppm','--width','64')
-mistaken('picture_with_a_height',"the argument '--picture <FILE>' cannot be used with '--width <N>' or '--height <N>'"+MORE,'--height=1','--picture=a.ppm')
-mistaken('connections_with_and_without_an_end',"the argument '--forever' cannot be used with '--connections <K>'"+MORE,'--forever','--connections','1')
-mistaken('connections_of_no_number',"invalid value '0' for '--connections <K>': 0 is not in 1..=65535\n\nFor more information, try '--help'.\n",'--connections','0')
-# Two places, orange and black: once with a byte a component, once with two.
-ORANGE=b'\xFF\xFF\x80\x80\x01\x01'
-PLACES=ORANGE+6*b'\0'
-def viewed(name,picture,out,*more):
-    put(name,args=words('view','--port','PORT',*more),status='0\n',stdout=out,
-        picture=picture,beside=words('serve','--port','PORT','--picture','PICTURE'),told='ok 1\n')
-viewed('view_of_a_picture_of_bytes',b'P6 # by hand\n2 # columns\n1\n255\n\xFF\x80\x01\0\0\0',b'P6\n2 1\n65535\n'+PLACES)
-viewed('view_of_a_picture_of_words',b'P6\n1 2\n65535\n'+PLACES,b'P6\n1 2\n65535\n'+PLACES,'--encodings','hextile')
+"""Pictures as the program prints them: what scripts draw, and what `serve` shows at each format."""
+
+import struct
+
+# Red, green and blue of a place, four digits each: FF8001 as a line has it, as a viewer sees it at
+# rgb888, and as it sees it at other formats.
+ORANGE = "FFFF80800101"
+AT_RGB565 = "FFFF82080000"
+AT_BGR233 = "FFFF92490000"
+AT_RGB101010 = "FFFF80A00100"
+BLUE = "01018080FFFF"
+NO_COLOUR = "000000000000"
+
+
+def ppm(width, height, *places):
+    """The bytes of a picture, from its places, row by row."""
+    return b"P6\n%d %d\n65535\n" % (width, height) + bytes.fromhex("".join(places))
+
+
+def drawn(*rows):
+    """A picture from rows of characters: a # is orange, and all else has no colour."""
+    places = [ORANGE if place == "#" else NO_COLOUR for row in rows for place in row]
+    return ppm(len(rows[0]), len(rows), *places)
+
+
+# Two places: what SERVER of `messages.py` shows, and what it shows after MORE.
+BLACK = ppm(2, 1, NO_COLOUR, NO_COLOUR)
+SHOWN = ppm(2, 1, NO_COLOUR, "040400000202")
+SHOWN_LATER = ppm(2, 1, NO_COLOUR, ORANGE)
+
+# A script that fills the left place of two, and its picture.
+SCRIPT = b"""screen 2 1
+fill 0 0 1 1 FF8001
+settle
+request full 0 0 2 1
+settle
+compose
+settle
+"""
+FILLED = ppm(2, 1, ORANGE, NO_COLOUR)
+
+
+def doubled(data):
+    """Components of a byte, each 257 times as much in two."""
+    both = bytearray(2 * len(data))
+    both[0::2] = both[1::2] = data
+    return bytes(both)
+
+
+# The largest red, green and blue of a pixel.
+MAXIMA = {"rgb888": (255, 255, 255), "rgb565": (31, 63, 31), "bgr233": (7, 7, 3)}
+
+
+def seen(colour, name):
+    """A colour as a viewer sees it: rounded into the fields of a pixel, and from them."""
+    fields = ((it * most + 32767) // 65535 for it, most in zip(colour, MAXIMA[name]))
+    return [(it * 65535 + most // 2) // most for it, most in zip(fields, MAXIMA[name])]
+
+
+def scene(width, height, steps=0, name="rgb888"):
+    """The screen of `serve` after a number of steps, as a viewer sees it: at (x, y) red is 4x,
+    green 4y and blue 2(x+y), each modulo 256. A step moves it up by a row, and fills the last."""
+    rows = [[(4 * x % 256 * 257, 4 * y % 256 * 257, 2 * (x + y) % 256 * 257) for x in range(width)]
+            for y in range(height)]
+    for step in range(1, steps + 1):
+        rows = rows[1:] + [[(65535 * (step % 2), 0, 16 * step % 256 * 257)] * width]
+    places = (struct.pack(">3H", *seen(colour, name)).hex() for row in rows for colour in row)
+    return ppm(width, height, *places)

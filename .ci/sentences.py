@@ -13,10 +13,11 @@ import socket
 import struct
 import sys
 
-from calls import (CLIENT, DEVICE, HELLO, SERVER, Run, Server, breaks, connected, ends, failing,
-                   folder, free_port, judged, limited, takes, viewing, visits)
-from messages import (VERSION, client_init, hextile, message, rectangle, rre, security,
-                      security_of_33, security_result, server_init, set_pixel_format, texted)
+from calls import DEVICE, Run, ends, failing, folder, judged, limited
+from messages import (CLIENT, HELLO, SERVER, VERSION, client_init, hextile, message, rectangle, rre,
+                      security, security_of_33, security_result, server_init, set_pixel_format,
+                      texted)
+from peers import Server, breaks, free_port, takes, viewing, visits
 
 # ---- what a server does wrong
 

@@ -12,12 +12,15 @@ import os
 import resource
 import signal
 import socket
+import struct
 import sys
 import tempfile
 import time
 
-from calls import (CLIENT, DEVICE, HELLO, OTHER, SERVER, SHOWN, Run, connected, ends, free_port,
-                   halts, judged, limited, visits)
+from calls import DEVICE, Run, ends, judged, limited
+from messages import CLIENT, HELLO, SERVER, request
+from peers import OTHER, View, connected, free_port, halts, takes, visits
+from pictures import FILLED, NO_COLOUR, ORANGE, SHOWN, doubled, ppm
 
 # ---- viewers that are served
 
@@ -25,12 +28,9 @@ def size_shown(port, host="127.0.0.1"):
     """The size of the screen that a viewer is shown there."""
     with connected(port, host) as line:
         line.sendall(CLIENT[:14])
-        came = b""
-        while len(came) < 22:
-            part = line.recv(65536)
-            assert part, came
-            came += part
-    return int.from_bytes(came[18:20], "big"), int.from_bytes(came[20:22], "big")
+        # All of the handshake, so that it does not end by a reset.
+        came = takes(line, len(HELLO))
+    return struct.unpack(">HH", came[18:22])
 
 
 def a_screen_has_the_sides_that_are_given():
@@ -108,7 +108,7 @@ def a_viewer_that_takes_nothing_in_time_is_let_go():
     run = Run(["serve", "--port", str(port), "--timeout", "1", "--width=4096", "--height=4096",
                "--connections=2"])
     with connected(port) as line:
-        line.sendall(CLIENT[:14] + bytes.fromhex("03 00 0000 0000 1000 1000"))
+        line.sendall(CLIENT[:14] + request(0, 0, 0, 4096, 4096))
         assert size_shown(port) == (4096, 4096)
         run.ends(0, DEVICE + b"ok 0\n", b"")
 
@@ -204,21 +204,27 @@ def a_picture_is_read_once_for_all_viewers():
         run.ends(0, b"ok 1\nok 1\n", b"")
 
 
+# ---- pictures that are served
+
+SHOWS = "serve --port PORT --picture PICTURE"
+
+# Two places, orange and black: with a byte or two a component, and with all that a head may have.
+PICTURES = [
+    View("view_of_a_picture_of_bytes", "view --port PORT", FILLED, SHOWS,
+         picture=b"P6 # by hand\n2 # columns\n1\n255\n\xFF\x80\x01\0\0\0"),
+    View("view_of_a_picture_of_words", "view --port PORT --encodings hextile",
+         ppm(1, 2, ORANGE, NO_COLOUR), SHOWS, picture=ppm(1, 2, ORANGE, NO_COLOUR)),
+    View("view_of_a_picture_with_comments", "view --port PORT", FILLED, SHOWS, picture=
+         b"P6#made by hand\r2\t # two columns\n\n#one row\n001\r255 \xFF\x80\x01\0\0\0"),
+]
+
 # The sides of a usual screen.
 WIDE, HIGH = 1920, 1080
 
 
-def doubled(data):
-    """Components of a byte, each 257 times as much in two."""
-    both = bytearray(2 * len(data))
-    both[0::2] = both[1::2] = data
-    return bytes(both)
-
-
 def is_viewed(port, places):
     """A view of a screen of usual size shows these places, three bytes each."""
-    head = b"P6\n%d %d\n65535\n" % (WIDE, HIGH)
-    ends(["view", f"::{port}", "--timeout=20"], b"", 0, head + doubled(places))
+    ends(["view", f"::{port}", "--timeout=20"], b"", 0, ppm(WIDE, HIGH) + doubled(places))
 
 
 def a_picture_of_a_usual_size_is_shown():
@@ -258,6 +264,7 @@ ROWS = [
     a_port_in_use_is_reported_with_the_systems_words,
     a_client_is_let_go_once_it_sends_nothing_in_the_time,
     what_cannot_be_listened_on_is_said,
+    *PICTURES,
     a_picture_is_read_once_for_all_viewers,
     a_picture_of_a_usual_size_is_shown,
     a_scene_of_a_usual_size_is_shown,

@@ -18,7 +18,7 @@ import threading
 import time
 import traceback
 
-from calls import free_port
+from peers import free_port
 
 PROGRAM = os.path.abspath(sys.argv[1])
 MANY = int(os.environ.get("MANY", "400"))

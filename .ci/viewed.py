@@ -4,8 +4,8 @@
     .ci/viewed.py PROGRAM..
 
 Each row runs a program beside a server of this file's, on 127.0.0.1 or another address that a
-machine has for itself, and compares its status and both outputs. The last line is 'N passed, M
-failed'.
+machine has for itself, or beside `serve`, and compares its status and both outputs. The last line
+is 'N passed, M failed'.
 """
 
 import contextlib
@@ -19,8 +19,10 @@ import tempfile
 import time
 from concurrent.futures import ThreadPoolExecutor
 
-from calls import (BLACK, CLIENT, DEVICE, HELLO, MORE, NO_VERSION, OTHER, SERVER, SHOWN, TRUNCATED,
-                   Run, Server, breaks, connected, ends, free_port, halts, judged, takes, viewing)
+from calls import DEVICE, NO_VERSION, TRUNCATED, Call, Run, ends, judged
+from messages import CLIENT, HELLO, MORE, SERVER
+from peers import OTHER, Server, View, breaks, free_port, halts, viewing
+from pictures import BLACK, SHOWN, scene
 
 # ---- servers that are viewed
 
@@ -130,6 +132,44 @@ ENDLESS = b"rfb: it waits as long as it takes: there is no --timeout\n"
 CONNECTED = b"rfb: connected to rfb, 2 by 1\n"
 UPDATED = CONNECTED + b"rfb: updates so far: 1\n"
 
+# ---- views of what serve shows
+
+TWO_BY_ONE = "serve --port PORT --width 2 --height 1"
+NINE_BY_FIVE = "serve --port PORT --width 9 --height 5"
+
+VIEWS = [
+    View("view_of_a_scene", "view --port PORT", scene(2, 1), TWO_BY_ONE),
+    View("view_that_records", "view --port PORT --record", SERVER, TWO_BY_ONE),
+    View("view_to_a_full_device", "view --port PORT", b"", TWO_BY_ONE, errors=DEVICE, status=1,
+         device="/dev/full"),
+    View("view_after_three_updates",
+         "view --port PORT --updates 3 --format rgb565 --encodings hextile,copyrect",
+         scene(70, 66, 2, "rgb565"), "serve --port PORT --width 70 --height 66", b"ok 3\n"),
+    View("view_of_a_host",
+         "view --port PORT --host 127.0.0.1 --updates=5 --format=bgr233 --encodings=copyrect,rre",
+         scene(9, 5, 4, "bgr233"), NINE_BY_FIVE, b"ok 5\n"),
+    View("view_of_a_named_server",
+         "view 127.0.0.1::PORT --updates=5 --format=bgr233 --encodings=copyrect,rre",
+         scene(9, 5, 4, "bgr233"), NINE_BY_FIVE, b"ok 5\n"),
+    View("explained_view", "view --explain --port PORT", scene(2, 1), TWO_BY_ONE,
+         errors=ENDLESS + UPDATED),
+    View("explained_view_of_three_updates", "view --explain --port PORT --updates 3",
+         scene(2, 1, 2), TWO_BY_ONE, b"ok 3\n",
+         ENDLESS + UPDATED + b"rfb: updates so far: 2\nrfb: updates so far: 3\n"),
+]
+
+# Port 1 is for a service that nobody runs. `.ci/memory.sh` takes these too.
+CALLS = [
+    Call("view_where_nothing_listens", ["view", "--port", "1"], b"", 1, b"", DEVICE),
+    Call("view_where_nothing_listens_for_a_second", ["view", "--port", "1", "--timeout", "1"], b"",
+         1, b"", DEVICE, "/dev/null"),
+    Call("explained_view_where_nothing_listens", ["view", "--port", "1", "--explain"], b"", 1, b"",
+         ENDLESS + b"rfb: no connection to 127.0.0.1, port 1: Connection refused (os error 111)\n"
+         + DEVICE),
+]
+
+# ---- servers that end, fail or are silent
+
 
 def a_server_that_ends_is_explained():
     for words, sent, status, output, told in (
@@ -212,6 +252,8 @@ def a_view_of_a_silent_server_ends_when_its_time_is_up():
 
 
 ROWS = [
+    *VIEWS,
+    *CALLS,
     a_server_is_named_by_a_word_or_by_its_host_and_its_port,
     a_view_asks_for_what_its_words_say,
     a_view_that_is_cut_short_shows_nothing,

@@ -4,7 +4,8 @@
     .ci/words.py PROGRAM..
 
 Each row runs a program, and compares its status and both outputs with what docs/PROTOCOL.md and the
-help say. Streams fail where the system is told to let them. The last line is 'N passed, M failed'.
+help say. Streams fail where the system is told to let them. `.ci/memory.sh` takes CALLS too. The
+last line is 'N passed, M failed'.
 """
 
 import os
@@ -12,8 +13,9 @@ import resource
 import socket
 import sys
 
-from calls import (BLACK, DEVICE, FILLED, HELLO, SCRIPT, SERVER, SHOWN, Run, ends, failing, folder,
-                   halting, judged, limited, that_is_at)
+from calls import (DEVICE, Call, Run, ends, failing, folder, halting, judged, limited, that_is_at)
+from messages import HELLO, SERVER
+from pictures import BLACK, FILLED, SCRIPT, SHOWN
 
 # ---- words
 
@@ -105,39 +107,66 @@ def help_is_printed_once():
         assert run.told(1).count(b"docs/PROTOCOL.md") == 1, (line, run.told(1))
 
 
-# ---- pictures that are not served
-
-SENTENCES = {
-    1: "it does not begin with P6",
-    2: "its width, its height or its largest component is missing",
-    3: "its width or its height is not 1 to 4096",
-    4: "its largest component is neither 255 nor 65535",
-    5: "no blank stands before its pixels",
-    6: "it ends before its last pixel does",
-    7: "bytes follow its last pixel",
-}
+HERE = os.path.dirname(os.path.abspath(__file__))
+SETTLED = b"screen 2 1\nsettle\n"
+MORE = b"\n\nFor more information, try '--help'.\n"
+OF_SERVE = b"\n\nUsage: rfb serve [OPTIONS] --port <P>" + MORE
+OF_FORMAT = b"""error: invalid value 'rgb' for '--format <F>'
+  [possible values: rgb888, rgb565, bgr233, rgb101010]""" + MORE
 
 
-def what_is_first_wrong_with_a_picture_is_reported():
-    for picture, number in (
-            (b"", 1),
-            (b"P5\n1 1\n255\n\0", 1),
-            (b"P61 1 255\n\0\0\0", 1),
-            (b"P6", 2),
-            (b"P6\n#2 1 255\n", 2),
-            (b"P6\n2,1 255\n", 2),
-            (b"P6 0 1 255\n", 3),
-            (b"P6 4097 1 255\n", 3),
-            (b"P6 1 99999999999999999999", 3),
-            (b"P6 1 1 256\n", 4),
-            (b"P6 1 1 131071\n", 4),
-            (b"P6 1 1 255", 5),
-            (b"P6 1 1 255#\n\0\0\0", 5),
-            (b"P6 1 1 255\n\0\0", 6),
-            (b"P6 1 1 65535\n\0\0\0", 6),
-            (b"P6 1 1 255\n\0\0\0\n", 7)):
-        ends(["serve", "--port", "9", "--picture", "/dev/stdin"], picture, 1, b"",
-             f"bad picture {number}: {SENTENCES[number]}\n".encode())
+def bad_words(name, line, told, given=b""):
+    return Call(name, line.split(), given, 2, b"", told)
+
+
+def faults():
+    with open(os.path.join(HERE, "faults.txt"), "rb") as text:
+        return text.read()
+
+
+CALLS = [
+    Call("version", ["--version"], output=b"rfb 0.1.0\n"),
+    Call("help_on_faults", ["help", "faults"], output=faults()),
+    Call("help_to_a_terminal", ["help", "faults"], device="/dev/ptmx"),
+    bad_words("no_command", "", b"""error: 'rfb' requires a subcommand but one was not provided
+  [subcommands: script, loop, play, serve, view, share, help]
+
+Usage: rfb <COMMAND>""" + MORE),
+    bad_words("word_of_no_meaning", "script picture.script",
+              b"error: unexpected argument 'picture.script' found\n\n"
+              b"Usage: rfb script [OPTIONS]" + MORE, SETTLED),
+    Call("word_that_is_not_utf8", ["script", b"\xFF\xFE"], SETTLED, 2, b"",
+         b"error: invalid UTF-8 was detected in one or more arguments" + MORE),
+    bad_words("loop_with_a_word_too_many", "loop first.script",
+              b"error: unexpected argument 'first.script' found\n\n"
+              b"Usage: rfb loop [OPTIONS]" + MORE, SCRIPT),
+    bad_words("format_of_no_meaning", "play --format rgb", OF_FORMAT),
+    bad_words("picture_with_a_width", "serve --port 9 --picture a.ppm --width 64",
+              b"error: the argument '--picture <FILE>' cannot be used with"
+              b" '--width <N>' or '--height <N>'" + OF_SERVE),
+    bad_words("picture_with_a_height", "serve --port 9 --height=1 --picture=a.ppm",
+              b"error: the argument '--picture <FILE>' cannot be used with"
+              b" '--width <N>' or '--height <N>'" + OF_SERVE),
+    bad_words("connections_with_and_without_an_end", "serve --port 9 --forever --connections 1",
+              b"error: the argument '--forever' cannot be used with '--connections <K>'" + OF_SERVE),
+    bad_words("connections_of_no_number", "serve --port 9 --connections 0",
+              b"error: invalid value '0' for '--connections <K>': 0 is not in 1..=65535" + MORE),
+    bad_words("share_of_nine_viewers", "share --port 5950 --viewers 9",
+              b"error: invalid value '9' for '--viewers <N>': 9 is not in 1..=8" + MORE),
+    bad_words("view_without_a_port", "view",
+              b"error: the following required arguments were not provided:\n  --port <P>\n\n"
+              b"Usage: rfb view --port <P>" + MORE),
+    bad_words("view_of_no_update", "view --port 1 --updates 0",
+              b"error: invalid value '0' for '--updates <U>': 0 is not in 1..=4294967295" + MORE),
+    bad_words("view_in_no_format", "view --port 1 --format rgb", OF_FORMAT),
+    bad_words("view_in_encodings_of_no_meaning", "view --port 1 --encodings raw,zrle",
+              b"bad encodings\n"),
+    bad_words("view_in_five_encodings",
+              "view --port 1 --encodings raw,rre,hextile,copyrect,raw", b"bad encodings\n"),
+    bad_words("view_of_a_server_with_no_display", "view example.org:5901",
+              b"""error: invalid value 'example.org:5901' for '[SERVER]'
+  [HOST, HOST:DISPLAY with a display from 0 to 99, or HOST::PORT]""" + MORE),
+]
 
 
 # ---- streams that fail
@@ -224,9 +253,9 @@ def each_refusal_is_one_write():
 
 
 ROWS = [
+    *CALLS,
     words_that_there_are_not,
     help_is_printed_once,
-    what_is_first_wrong_with_a_picture_is_reported,
     an_output_that_fails_is_reported_after_the_refusals,
     an_input_that_fails_is_reported_and_nothing_runs,
     what_came_before_an_input_failed_is_shown_if_it_is_wanted,
