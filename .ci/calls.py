@@ -69,8 +69,9 @@ def ends(words, given, status, output=b"", errors=b""):
 
 
 class Call:
-    """A row that is one run: its words, all that it reads, and its status and all that it prints.
-    What it reads and prints are files with names, or its output is a device. `before` limits it."""
+    """A row that is one run: its words, all that it reads, and its status and all that it prints; a
+    picture that is None may be any. What it reads and prints are files with names, or its output is
+    a device. `before` limits it."""
 
     def __init__(self, name, words, given=b"", status=0, output=b"", errors=b"", device=None,
                  before=None):
@@ -90,7 +91,7 @@ class Call:
                     self.status, None, self.errors)
             with open(printed, "rb") as file:
                 came = file.read()
-            assert came == self.output, (words, came[:500])
+            assert self.output in (None, came), (words, came[:500])
 
 
 # ---- streams that fail

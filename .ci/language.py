@@ -8,9 +8,9 @@ printed, and what is printed on standard error. Each colour of a picture was wor
 last line is 'N passed, M failed'.
 """
 
-import subprocess
 import sys
 
+from calls import Call, judged
 from pictures import (AT_BGR233, AT_RGB101010, AT_RGB565, BLACK, BLUE, FILLED, NO_COLOUR, ORANGE,
                       SCRIPT, drawn, ppm)
 
@@ -564,35 +564,14 @@ ROWS = [
 ]
 
 
-def wrong(program, words, script, status, shown, told):
-    """What a run does that it must not, in few words."""
-    try:
-        ended = subprocess.run([program, *words], input=script.encode("latin-1"),
-                               capture_output=True, timeout=60)
-    except subprocess.TimeoutExpired:
-        return "it has not ended in a minute"
-    if ended.returncode != status:
-        return f"its status is {ended.returncode}, and not {status}: {ended.stderr[-200:]!r}"
-    if ended.stderr != told.encode("latin-1"):
-        return f"it says {ended.stderr[-500:]!r}, and not {told!r}"
-    if shown is not None and ended.stdout != shown:
-        return f"it shows {ended.stdout[:200]!r}, and not {shown[:200]!r}"
-    return None
-
-
-def main(programs):
-    passed = failed = 0
-    for program in programs:
-        for rows, *calls in ROWS:
-            for words in calls:
-                for row in rows():
-                    says = wrong(program, words, *row)
-                    passed, failed = passed + (not says), failed + bool(says)
-                    if says:
-                        print(f"{program}, {rows.__name__}, {words[-1]} of {row[0][:500]!r}: {says}")
-    print(f"{passed} passed, {failed} failed")
-    return failed != 0 or passed == 0
+def calls():
+    """A call for each script, whose beginning is in its name."""
+    for rows, *with_words in ROWS:
+        for words in with_words:
+            for script, status, shown, told in rows():
+                yield Call(f"{rows.__name__}, {words[-1]} of {script[:500]!r}", words,
+                           script.encode("latin-1"), status, shown, told.encode("latin-1"))
 
 
 if __name__ == "__main__":
-    sys.exit(main(sys.argv[1:]))
+    sys.exit(judged(list(calls()), sys.argv[1:]))
