@@ -16,11 +16,11 @@ Each row is a folder of these files; what a missing one would hold is empty:
     as       for `.ci/memory.sh`: another call, which asks for memory as often
 
 In place of stdin and stdout there may be stdin.gz and stdout.gz. Ten recordings are what servers of
-others sent, of the version, encodings and format in their names, but of one that shows xterm. Beside
-each the fields of the pixels that its server had on its screen were written down. The picture is of
-these, each field as docs/PROTOCOL.md says that it is seen: v of at most m is (65535v + m / 2) / m,
-rounded down. The others were written byte by byte after the layouts of RFC 6143. The last line is
-'N passed, M failed'.
+others sent, of the version, encodings and format in their names. Beside each the fields of the
+pixels that its server had on its screen were written down. The picture is of these, each field as
+docs/PROTOCOL.md says that it is seen: v of at most m is (65535v + (m - 1) / 2) / m, rounded down. The
+others were written byte by byte after the layouts of RFC 6143. The last line is 'N passed, M
+failed'.
 """
 
 import gzip

@@ -8,7 +8,9 @@
 # beside that must be the same for each screen and each text, and little.
 # It needs a C compiler; where there is none it says so, and tries nothing.
 # The last line is 'N passed, M failed'.
-import collections, os, shutil, struct, subprocess, sys, tempfile
+import collections, os, shutil, subprocess, sys, tempfile
+
+from messages import handshake, texted
 
 SHIM = r'''
 #include <fcntl.h>
@@ -82,9 +84,7 @@ def script(w, h, *lines):
 
 def recording(w, h, name, text):
     """A server's handshake of 3.8, and a text."""
-    return (b'RFB 003.008\n' + bytes.fromhex('0101 00000000') + struct.pack('>HH', w, h)
-            + bytes.fromhex('20180001 00FF00FF00FF 100800 000000') + struct.pack('>I', name) + b'n' * name
-            + b'\3\0\0\0' + struct.pack('>I', text) + b't' * text)
+    return handshake(w, h, b'n' * name) + b'\3\0\0\0' + texted(b't' * text)
 
 
 def kept(length):

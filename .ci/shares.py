@@ -12,176 +12,15 @@ many viewers come one after another. The last line is 'N passed, M failed'.
 import os
 import socket
 import struct
-import subprocess
 import sys
 import threading
 import time
 import traceback
 
-from peers import free_port
+from messages import key, pixel_format, request, set_encodings
+from sharing import Share, Viewer, viewers, wait_for
 
-PROGRAM = os.path.abspath(sys.argv[1])
 MANY = int(os.environ.get("MANY", "400"))
-
-
-def wait_for(is_so, what, limit=20):
-    end = time.time() + limit
-    while time.time() < end:
-        if is_so():
-            return
-        time.sleep(0.005)
-    raise AssertionError(what)
-
-
-class Share:
-    """A run of `rfb share`, and what it has told so far."""
-
-    def __init__(self, *words):
-        self.port = free_port()
-        self.run = subprocess.Popen([PROGRAM, "share", "--port", str(self.port), *words],
-                                    stdin=subprocess.PIPE, stdout=subprocess.PIPE,
-                                    stderr=subprocess.PIPE)
-        self.output = b""
-        self.errors = b""
-        for name, stream in (("output", self.run.stdout), ("errors", self.run.stderr)):
-            threading.Thread(target=self.listen, args=(name, stream), daemon=True).start()
-
-    def listen(self, name, stream):
-        while True:
-            part = os.read(stream.fileno(), 65536)
-            if not part:
-                return
-            setattr(self, name, getattr(self, name) + part)
-
-    def say(self, text):
-        self.run.stdin.write(text if isinstance(text, bytes) else text.encode())
-        self.run.stdin.flush()
-
-    def tells(self, line, times=1):
-        wait_for(lambda: self.output.split(b"\n").count(line) >= times, (line, self.output[-300:]))
-
-    def ends(self, status=0):
-        assert self.run.wait(10) == status, (self.run.returncode, self.errors)
-
-    def quits(self):
-        self.say("quit\n")
-        self.ends()
-
-    def ticks(self):
-        """The processor time that it took, in hundredths of a second."""
-        with open(f"/proc/{self.run.pid}/stat") as stat:
-            words = stat.read().rsplit(")", 1)[1].split()
-        return int(words[11]) + int(words[12])
-
-    def memory(self):
-        """What it has resident, in KiB."""
-        with open(f"/proc/{self.run.pid}/statm") as statm:
-            return int(statm.read().split()[1]) * 4
-
-    def descriptors(self):
-        return len(os.listdir(f"/proc/{self.run.pid}/fd"))
-
-
-class Viewer:
-    """A client of version 3.8 that takes Raw and CopyRect at rgb888."""
-
-    def __init__(self, share, bytewise=False):
-        for _ in range(500):
-            try:
-                self.stream = socket.create_connection(("127.0.0.1", share.port))
-                break
-            except ConnectionRefusedError:
-                time.sleep(0.01)
-        self.stream.settimeout(10)
-        self.stream.setsockopt(socket.IPPROTO_TCP, socket.TCP_NODELAY, 1)
-        self.bytewise = bytewise
-        self.came = b""
-
-    def send(self, data):
-        step = 1 if self.bytewise else len(data)
-        for start in range(0, len(data), step):
-            self.stream.sendall(data[start:start + step])
-            if self.bytewise:
-                time.sleep(0.001)
-
-    def get(self, count):
-        while len(self.came) < count:
-            part = self.stream.recv(65536)
-            if not part:
-                raise EOFError(self.came[:40])
-            self.came += part
-        taken, self.came = self.came[:count], self.came[count:]
-        return taken
-
-    def hello(self, shared=1):
-        assert self.get(12) == b"RFB 003.008\n"
-        self.send(b"RFB 003.008\n")
-        assert self.get(2) == b"\1\1"
-        self.send(b"\1")
-        assert self.get(4) == bytes(4)
-        self.send(bytes([shared]))
-        self.width, self.height = struct.unpack(">HH", self.get(4))
-        self.get(16)
-        self.name = self.get(struct.unpack(">I", self.get(4))[0])
-        self.shown = bytearray(self.width * self.height * 4)
-        return self
-
-    def ask(self, incremental=1, area=None):
-        self.send(struct.pack(">BBHHHH", 3, incremental, *area or (0, 0, self.width, self.height)))
-
-    def update(self):
-        """Takes an update, and returns the encodings of its rectangles."""
-        kind, count = struct.unpack(">BxH", self.get(4))
-        assert kind == 0, kind
-        encodings = []
-        for _ in range(count):
-            x, y, w, h, encoding = struct.unpack(">HHHHi", self.get(12))
-            encodings.append(encoding)
-            if encoding == 1:
-                sx, sy = struct.unpack(">HH", self.get(4))
-                rows = [self.row(sx, sy + k, w) for k in range(h)]
-            else:
-                assert encoding == 0, encoding
-                data = self.get(w * h * 4)
-                rows = [data[k * w * 4:(k + 1) * w * 4] for k in range(h)]
-            for k, row in enumerate(rows):
-                start = ((y + k) * self.width + x) * 4
-                self.shown[start:start + len(row)] = row
-        return encodings
-
-    def row(self, x, y, w):
-        start = (y * self.width + x) * 4
-        return bytes(self.shown[start:start + w * 4])
-
-    def at(self, x, y):
-        blue, green, red, _ = self.row(x, y, 1)
-        return red, green, blue
-
-    def sees(self, x, y, colour):
-        """Asks and takes updates until that colour is there."""
-        for _ in range(50):
-            if self.at(x, y) == colour:
-                return
-            self.ask()
-            self.update()
-        raise AssertionError((self.at(x, y), colour))
-
-    def has_ended(self):
-        try:
-            while self.stream.recv(65536):
-                pass
-            return True
-        except ConnectionResetError:
-            return True
-
-    def close(self, reset=False):
-        if reset:
-            self.stream.setsockopt(socket.SOL_SOCKET, socket.SO_LINGER, struct.pack("ii", 1, 0))
-        self.stream.close()
-
-
-def viewers(share, count):
-    return [Viewer(share).hello() for _ in range(count)]
 
 
 # ---- rows
@@ -214,7 +53,7 @@ def each_line_draws_and_each_event_is_reported():
     assert viewer.at(3, 2) == (0, 255, 0)
     wanted = b"".join(b"line %d: bad line\n" % (first + k) for k in range(len(bad)))
     wait_for(lambda: share.errors.endswith(wanted), share.errors)
-    viewer.send(struct.pack(">BBHI", 4, 1, 0, 0xFF0D) + struct.pack(">BBHI", 4, 0, 0, 97))
+    viewer.send(key(0xFF0D) + key(97, 0))
     viewer.send(struct.pack(">BBHH", 5, 1, 2, 1) + struct.pack(">BxxxI", 6, 5) + b"hi\0\xffz")
     for line in (b"join 0", b"key 0 down 65293", b"key 0 up 97", b"pointer 0 1 2 1",
                  b"text 0 686900ff7a"):
@@ -233,7 +72,7 @@ def a_scroll_is_sent_as_a_copy():
     share = Share()
     share.say("screen 40 30\n")
     viewer = Viewer(share).hello()
-    viewer.send(struct.pack(">BxHii", 2, 2, 1, 0))
+    viewer.send(set_encodings(1, 0))
     shown = [[(x, y, 5 * x ^ y) for x in range(40)] for y in range(30)]
     share.say(b"pixels 0 0 40 30\n" + bytes(c for row in shown for colour in row for c in colour) + b"\n")
     viewer.ask(0)
@@ -378,8 +217,7 @@ def a_stuck_viewer_holds_nobody_up(width=512, height=384, frames=30):
 # What a viewer does that waits for what changes, and the line of its end by docs/PROTOCOL.md.
 FAULTS = [
     (lambda bad: bad.send(b"\x63"), b"fault 7 UnknownMessage"),
-    (lambda bad: bad.send(bytes(4) + bytes.fromhex("18 18 00 01 00FF00FF00FF 100800 000000")),
-     b"fault 1 BadBits"),
+    (lambda bad: bad.send(bytes(4) + pixel_format(bits=24)), b"fault 1 BadBits"),
     (lambda bad: bad.close(reset=True), b"fault 29 Device"),
     (lambda bad: bad.stream.shutdown(socket.SHUT_WR), b"ok"),
 ]
@@ -416,7 +254,7 @@ def a_faulty_viewer_ends_alone():
         assert share.output.count(b"\nleave ") == 1, share.output
         # Each of the others still has the seat that it had.
         for place, viewer in others.items():
-            viewer.send(struct.pack(">BBHI", 4, 1, 0, 100 + place))
+            viewer.send(key(100 + place))
             share.tells(b"key %d down %d" % (place, 100 + place))
         share.quits()
 
@@ -428,7 +266,7 @@ def a_flood_of_requests_is_answered_by_few_updates():
     done = threading.Event()
 
     def flood():
-        requests = struct.pack(">BBHHHH", 3, 1, 0, 0, 320, 240) * 1000
+        requests = request(1, 0, 0, 320, 240) * 1000
         flooding.stream.settimeout(0.2)
         while not done.is_set():
             try:
@@ -459,7 +297,7 @@ def a_client_may_send_a_byte_at_a_time():
         viewer.ask(0)
         viewer.update()
         assert viewer.at(63, 63) == (10, 11, 12)
-    slow[1].send(struct.pack(">BBHI", 4, 1, 0, 113))
+    slow[1].send(key(113))
     share.tells(b"key 1 down 113")
     share.quits()
 
@@ -552,7 +390,7 @@ def an_update_that_was_written_is_kept_no_more():
             assert viewer.at(0, 0) == (0, 0, 0) and viewer.at(last, last) == (255, 128, 1)
         # Once each has a key of its own, the share has been told that all is written.
         for seat, viewer in enumerate(all_viewers):
-            viewer.send(struct.pack(">BBHI", 4, 1, 0, 65 + seat))
+            viewer.send(key(65 + seat))
             share.tells(b"key %d down %d" % (seat, 65 + seat))
         after = share.memory()
         told.append(f"{before} and {after}, {kept_of(side, side, count)} by its types")
@@ -605,6 +443,7 @@ ROWS = [each_line_draws_and_each_event_is_reported, a_scroll_is_sent_as_a_copy,
 
 
 def main():
+    Share.program = os.path.abspath(sys.argv[1])
     passed = failed = 0
     named = [globals()[name] for name in sys.argv[2:]]
     for row in named or ROWS:

@@ -13,7 +13,9 @@
 # Of each whole stream the verdict, and the pixels that it shows, stand beside it: the reader must say
 # these first.
 # The last line is 'N passed, M failed'.
-import os, random, signal, socket, struct, subprocess, sys, tempfile, time
+import os, signal, socket, struct, subprocess, sys, tempfile
+
+from peers import connected, free_port
 
 NAMES = dict(enumerate(
     'BadBits DepthTooLarge NotTrueColour BadMax ShiftTooLarge FieldsOverlap UnknownMessage '
@@ -682,32 +684,14 @@ def try_play(counts, program, room):
 
 def converse(port, data):
     """Sends bytes to a server, ends writing, and reads to the end. Answers what it read."""
-    line = None
     # At first nothing may listen there yet.
-    for turn in range(200):
-        try:
-            line = socket.create_connection(('127.0.0.1', port), 20)
-            break
-        except ConnectionRefusedError:
-            time.sleep(0.05)
-    if line is None:
-        raise ConnectionRefusedError
-    with line:
+    with connected(port) as line:
         try:
             line.sendall(data)
             line.shutdown(socket.SHUT_WR)
             return b''.join(iter(lambda: line.recv(65536), b''))
         except ConnectionError as error:
             return repr(error).encode()
-
-
-def free_port():
-    """A port on which nothing listens, below those that the system gives to connections."""
-    while True:
-        port = random.randrange(20000, 30000)
-        with socket.socket() as probe:
-            if probe.connect_ex(('127.0.0.1', port)):
-                return port
 
 
 def try_serve(counts, program, room, width, height, streams):
@@ -722,7 +706,7 @@ def try_serve(counts, program, room, width, height, streams):
         for _, data in streams:
             answers.append(converse(int(port), data))
         status = run.wait(60)
-    except (OSError, subprocess.TimeoutExpired) as error:
+    except (AssertionError, OSError, subprocess.TimeoutExpired) as error:
         status = repr(error)
         run.kill()
         run.wait()

@@ -148,7 +148,8 @@ Usage: rfb <COMMAND>""" + MORE),
               b"error: the argument '--picture <FILE>' cannot be used with"
               b" '--width <N>' or '--height <N>'" + OF_SERVE),
     bad_words("connections_with_and_without_an_end", "serve --port 9 --forever --connections 1",
-              b"error: the argument '--forever' cannot be used with '--connections <K>'" + OF_SERVE),
+              b"error: the argument '--forever' cannot be used with '--connections <K>'"
+              + OF_SERVE),
     bad_words("connections_of_no_number", "serve --port 9 --connections 0",
               b"error: invalid value '0' for '--connections <K>': 0 is not in 1..=65535" + MORE),
     bad_words("share_of_nine_viewers", "share --port 5950 --viewers 9",

@@ -1,5 +1,5 @@
 #!/usr/bin/env python3
-"""Writes the rows that are calls alone as folders of `args` and `stdin`, for `.ci/memory.sh`, but for
+"""Writes the rows that are one call as folders of `args` and `stdin`, for `.ci/memory.sh`, but for
 those whose output is a device.
 
     .ci/written.py FOLDER

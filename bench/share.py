@@ -1,59 +1,39 @@
 #!/usr/bin/env python3
 """What a share costs: `rfb share` under callgrind, beside clients.
 
-    bench/share.py crates/rfb/out/rfb
+    bench/share.py [PROGRAM] [--once]
 
 One place changes, and each viewer that has asked gets its update and asks again: the instructions of
 some rounds, less those of fewer, over the difference. Frames of `pixels` beside eight viewers that
 have not asked, of three less of one, over the places of two. Needs valgrind. The clients are those
-of `.ci/shares.py`.
+of `.ci/sharing.py`.
 """
 
-import os
-import re
-import subprocess
-import sys
-import threading
+import callgrind
+from sharing import Share, Viewer, viewers
 
-sys.path.insert(0, os.path.join(os.path.dirname(os.path.abspath(__file__)), "..", ".ci"))
-import shares
-
-PROGRAM = os.path.abspath(sys.argv[1])
-ROUNDS = (50, 250)
+Share.program, Share.runner = callgrind.program(), callgrind.RUNNER
+ROUNDS = (1, 2) if callgrind.ONCE else (50, 250)
+SIZE = (64, 48) if callgrind.ONCE else (1920, 1080)
 
 
-class Counted(shares.Share):
-    """A share under callgrind."""
-
-    def __init__(self):
-        self.port = shares.free_port()
-        self.run = subprocess.Popen(
-            ["valgrind", "--tool=callgrind", "--callgrind-out-file=/dev/null", PROGRAM, "share",
-             "--port", str(self.port)],
-            stdin=subprocess.PIPE, stdout=subprocess.PIPE, stderr=subprocess.PIPE)
-        self.output = b""
-        self.errors = b""
-        self.threads = []
-        for name, stream in (("output", self.run.stdout), ("errors", self.run.stderr)):
-            thread = threading.Thread(target=self.listen, args=(name, stream), daemon=True)
-            thread.start()
-            self.threads.append(thread)
-
-    def instructions(self):
-        self.say("quit\n")
-        self.run.wait(60)
-        for thread in self.threads:
-            thread.join()
-        return int(re.search(rb"Collected : (\d+)", self.errors).group(1))
+def counted(share):
+    """Ends it, and tells its instructions."""
+    share.say("quit\n")
+    share.run.wait(60)
+    for thread in share.threads:
+        thread.join()
+    return callgrind.collected(share.errors)
 
 
-def instructions(rounds, count, stuck, width, height):
-    share = Counted()
+def instructions(rounds, count, stuck):
+    width, height = SIZE
+    share = Share()
     share.say(f"screen {width} {height}\n")
     if stuck:
-        bad = shares.Viewer(share).hello()
+        bad = Viewer(share).hello()
         bad.ask(0)
-    good = shares.viewers(share, count)
+    good = viewers(share, count)
     for viewer in good:
         viewer.ask(0)
         viewer.update()
@@ -65,30 +45,31 @@ def instructions(rounds, count, stuck, width, height):
         for viewer in good:
             viewer.update()
             assert viewer.at(k % width, height // 2) == colour
-    return share.instructions()
+    return counted(share)
 
 
-def a_round(count, stuck=False, width=1920, height=1080):
-    few, many = (instructions(n, count, stuck, width, height) for n in ROUNDS)
+def a_round(count, stuck=False):
+    few, many = (instructions(rounds, count, stuck) for rounds in ROUNDS)
     return (many - few) / (ROUNDS[1] - ROUNDS[0])
 
 
-def frames(count, width=1920, height=1080):
+def frames(count):
     """Frames of different bytes, read, drawn and marked for eight viewers."""
-    share = Counted()
+    width, height = SIZE
+    share = Share()
     share.say(f"screen {width} {height}\n")
-    shares.viewers(share, 8)
+    viewers(share, 8)
     for k in range(count):
         share.say(f"pixels 0 0 {width} {height}\n")
         share.say(bytes((place + 7 * k) & 255 for place in range(3 * width)) * height + b"\n")
-    return share.instructions()
+    return counted(share)
 
 
-places = 2 * 1920 * 1080
+places = 2 * SIZE[0] * SIZE[1]
 print(f"pixels, eight viewers: {(frames(3) - frames(1)) / places:.2f} instructions a place",
       flush=True)
-for count in (0, 1, 8):
+for count in (8,) if callgrind.ONCE else (0, 1, 8):
     print(f"one place changes, {count} viewers: {a_round(count):,.0f} instructions", flush=True)
-for stuck in (False, True):
+for stuck in (True,) if callgrind.ONCE else (False, True):
     print(f"seven viewers, {'a stuck one beside them' if stuck else 'no other'}: "
           f"{a_round(7, stuck):,.0f} instructions", flush=True)

@@ -1,15 +1,10 @@
 """The largest memory of servers and viewers, in MiB, for one whole update in Raw at rgb888."""
 import os
-import socket
 import subprocess
 import sys
 import time
 
-
-def free_port():
-    with socket.socket() as it:
-        it.bind(("127.0.0.1", 0))
-        return it.getsockname()[1]
+from peers import free_port
 
 
 class Peak:

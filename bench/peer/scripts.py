@@ -2,7 +2,6 @@
 import gzip
 import os
 import random
-import struct
 
 BENCH = os.path.join(os.path.dirname(os.path.abspath(__file__)), "..")
 FORMATS = ["rgb888", "rgb565", "bgr233"]
@@ -12,13 +11,6 @@ CELL = 64
 # The part of the office picture that is repeated all over the screen on which things change: its
 # place, and the length of its sides.
 TEXT_X, TEXT_Y, SIDE = 1280, 256, 256
-
-
-def greeting(width, height):
-    """What a server of version 3.8 sends before the first update: rgb888, and the name `rfb`."""
-    form = struct.pack(">BBBBHHHBBB3x", 32, 24, 0, 1, 255, 255, 255, 16, 8, 0)
-    init = struct.pack(">HH", width, height) + form + struct.pack(">I", 3) + b"rfb"
-    return b"RFB 003.008\n" + b"\x01\x01" + bytes(4) + init
 
 
 def fills_of(name):

@@ -3,9 +3,9 @@
 same recordings: whole updates, what changes on a screen, and memory. The program is
 crates/rfb/out/rfb, or the one that is named by its path; where it is not built, its columns have a
 dash. Needs valgrind, a C compiler and libvncserver-dev; where one is missing it says so and prints
-no table.
+no table. With --once it has one row of each kind.
 
-    table.py [PROGRAM]
+    table.py [PROGRAM] [--once]
 """
 import os
 import shutil
@@ -15,14 +15,21 @@ import time
 from concurrent.futures import ThreadPoolExecutor
 
 sys.dont_write_bytecode = True  # no folder of compiled modules beside the sources
+HERE = os.path.dirname(os.path.abspath(__file__))
+sys.path.append(os.path.join(HERE, "..", "..", ".ci"))
 
 import counting
 import memory
 import scripts
+from messages import handshake
 
 ENCODINGS = ["raw", "rre", "hextile"]
 SIZES = [(1920, 1080), (4096, 4096)]
 CHANGES = ["copyrect hextile", "hextile", "copyrect raw"]
+PICTURES = scripts.PICTURES
+ONCE = "--once" in sys.argv
+if ONCE:
+    ENCODINGS, SIZES, CHANGES, PICTURES = ["raw"], [(1024, 768)], ["copyrect raw"], ["flat"]
 GREETING = 45
 
 PEER = counting.Measured(
@@ -182,8 +189,8 @@ class Changes:
 
 
 def main():
-    default = os.path.join(counting.HERE, "..", "..", "crates", "rfb", "out", "rfb")
-    program = os.path.realpath(sys.argv[1] if sys.argv[1:] else default)
+    default = os.path.join(HERE, "..", "..", "crates", "rfb", "out", "rfb")
+    program = os.path.realpath([*(word for word in sys.argv[1:] if word != "--once"), default][0])
     room = tempfile.mkdtemp()
     try:
         missing = counting.build(room)
@@ -199,9 +206,9 @@ def main():
 
 
 def print_all(bench, begun):
-    idle = bench.pool.submit(bench.play, "idle", "rgb888", scripts.greeting(*SIZES[0]))
+    idle = bench.pool.submit(bench.play, "idle", "rgb888", handshake(*SIZES[0]))
     changes = [Changes(bench, size, it) for size in reversed(SIZES) for it in CHANGES]
-    whole = [Whole(bench, it, form) for it in scripts.PICTURES for form in ENCODINGS]
+    whole = [Whole(bench, it, form) for it in PICTURES for form in ENCODINGS]
     print("| Whole update, a place | server: rgb888 | rgb565 | bgr233 |", end="")
     print(" viewer: rgb888 | rgb565 | bgr233 |")
     print("|---|---|---|---|---|---|---|")

@@ -6,9 +6,16 @@ in Raw.
 
     recording.py WIDTH HEIGHT none|raw|rre|hextile < fills
 """
+import os
 import struct
 import sys
 from array import array
+
+sys.dont_write_bytecode = True  # no folder of compiled modules beside the sources
+HERE = os.path.dirname(os.path.abspath(__file__))
+sys.path.append(os.path.join(HERE, "..", "..", ".ci"))
+
+from messages import handshake
 
 SIDE = 64
 TILE = 16
@@ -18,13 +25,6 @@ NUMBERS = {"raw": 0, "rre": 2, "hextile": 5}
 
 def spell(pixel):
     return struct.pack("<I", pixel)
-
-
-def handshake(width, height):
-    """The server's bytes, where the client takes None."""
-    rgb888 = struct.pack(">BBBBHHHBBB3x", 32, 24, 0, 1, 255, 255, 255, 16, 8, 0)
-    init = struct.pack(">HH", width, height) + rgb888 + struct.pack(">I", 3) + b"rfb"
-    return b"RFB 003.008\n" + b"\x01\x01" + bytes(4) + init
 
 
 def screen_of(width, height, lines):
