@@ -44,7 +44,12 @@ PEER = counting.Measured(
 # line of a script says: drawing is a part of it. Of some the compiler makes a part of their callers;
 # then the next one is counted.
 OURS = [
-    ["rfb_server Server::feed", "rfb_server Session::feed", "rfb_session World::feed_server"],
+    [
+        "rfb_server Server::feed",
+        "rfb_server Session::feed",
+        "rfb_server Session::feed_placed",
+        "rfb_session World::feed_server",
+    ],
     ["rfb_server Server::compose", "rfb_server Session::compose", "rfb_session World::compose"],
     ["rfb_viewer Viewer::feed", "rfb_session World::feed_viewer"],
     ["rfb_session World::step"],
