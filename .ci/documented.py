@@ -4,14 +4,18 @@
     .ci/documented.py crates/rfb/out/rfb
 
 `rfb` is the program that is handed in. What is run:
-  - each line of README.md's indented blocks, and each `sh` block of docs/USING.md;
+  - each indented block of README.md and each `sh` block of docs/USING.md, as text that is pasted
+    into a shell: what fails does not end it, and nothing waits for what is in the background;
   - between them what the text has of commands that begin with a word of SPANS.
 What is not, or not as it stands, is named and explained in EXCEPTIONS, SPANS, STAND_INS and
-NEVER_ENDS. A line that begins with no word of PROGRAMS is not run, and fails.
+NEVER_ENDS. A block with a line that begins with no word of PROGRAMS is not run, and fails.
 
-A command or a block of them must end with status 0, and so must what it leaves in the background,
-but for what it ends itself. It must print no traceback, and each picture that it leaves must be a
-PPM. One that serves and is not in the background is given the viewers that it waits for.
+Each command must end with status 0, and so must what is left in the background, but for what the
+block ends itself. None may print a traceback, and each picture that is left must be a PPM. One that
+serves and is not in the background is given the viewers that it waits for.
+
+Then blocks that took less than QUICK seconds are run again, beside a busy loop for each processor:
+ROUNDS times each, in rounds of all of them, but for no more than BUDGET seconds.
 
 Display 1 is an Xvnc that is begun here, where it is installed with `xsetroot`, which changes its
 screen for who waits for updates. Else `rfb serve` stands in for it. Where the port of that display
@@ -26,8 +30,11 @@ import shutil
 import subprocess
 import sys
 import tempfile
+import textwrap
 import threading
 import time
+
+from peers import is_listening, waits_for
 
 TOP = os.getcwd()
 PROGRAM = os.path.abspath(sys.argv[1])
@@ -51,10 +58,10 @@ SPANS = {
 # What stands in for a program that is not installed.
 STAND_INS = {
     "qemu-system-x86_64": "exec rfb serve --port 5905 --forever >/dev/null",
-    "vncsnapshot": "exec rfb view --port 5950 >/dev/null",
+    "vncsnapshot": "exec rfb view --port 5950 --timeout 20 >/dev/null",
 }
 # The same of one that needs a display, and goes on until somebody ends it.
-NEVER_ENDS = {"vncviewer": "exec rfb view --port 5950 --updates 2 >/dev/null"}
+NEVER_ENDS = {"vncviewer": "exec rfb view --port 5950 --timeout 20 --updates 2 >/dev/null"}
 
 # What a line of a block may begin with, so that no text is run in place of a command.
 PROGRAMS = ("alias", "cmp", "kill", "printf", "python3", "rfb", *STAND_INS, *NEVER_ENDS)
@@ -63,23 +70,22 @@ PROGRAMS = ("alias", "cmp", "kill", "printf", "python3", "rfb", *STAND_INS, *NEV
 DISPLAY = ":1"
 PORT = 5901
 
+ROUNDS, QUICK, BUDGET = 10, 5, 60
 
-def is_listening(port):
-    """Whether a socket of this machine listens at the port. No connection is made."""
-    for name in ("/proc/net/tcp", "/proc/net/tcp6"):
-        if os.path.exists(name):
-            for line in open(name).readlines()[1:]:
-                words = line.split()
-                if words[3] == "0A" and int(words[1].rsplit(":", 1)[1], 16) == port:
-                    return True
-    return False
-
-
-def wait_for(port):
-    for _ in range(200):
-        if is_listening(port):
-            return
-        time.sleep(0.05)
+# What a shell reads before a block and after it: it notes what fails and, at the next line, what
+# was begun in the background, and waits for that. A machine goes on until it is ended; what was
+# ended by a signal to end has status 143. Where it comes to the end of this, and nothing failed, it
+# ends with 7.
+BEFORE = """declare -A started
+trap 'echo "status $?: $BASH_COMMAND" >&2; failed=1' ERR
+trap '[ "$LINENO" = "$line" ] || { line=$LINENO; [ -z "$!" ] || started[$!]=1; }' DEBUG
+"""
+AFTER = """
+trap - DEBUG ERR
+[ -z "$MACHINE" ] || kill $!
+for job in "${!started[@]}"; do wait $job || [ $? = 143 ] || failed=1; done
+exit $((failed ? 1 : 7))
+"""
 
 
 def is_there(span):
@@ -93,22 +99,21 @@ def is_there(span):
     return subprocess.run(probe, capture_output=True, text=True).stdout.startswith(sign)
 
 
-def commands_of(page, block, lines):
-    """The page's blocks, or the lines of each, and its commands in the text, in order."""
-    text = open(os.path.join(TOP, page)).read()
+def commands_of(page, block):
+    """The page's blocks, and its commands in the text, in order; and which of them are blocks."""
+    with open(os.path.join(TOP, page)) as file:
+        text = file.read()
     for found in re.finditer(block + r"|^```[^`]*^```$|`([^`]+)`", text, re.M):
         session, span = found.group(1), found.group(2)
         if span and is_there(" ".join(span.split())):
-            yield " ".join(span.split())
-        if not session:
-            continue
-        for form, other in EXCEPTIONS:
+            yield " ".join(span.split()), False
+        for form, other in EXCEPTIONS if session else ():
             if other is None and re.match(form, session.strip()):
                 session = ""
             elif other is not None:
                 session = re.sub(form, other, session)
-        parts = session.splitlines() if lines else [session]
-        yield from filter(None, map(str.strip, parts))
+        if session:
+            yield textwrap.dedent(session).strip("\n"), True
 
 
 def is_of_commands(block):
@@ -117,38 +122,15 @@ def is_of_commands(block):
     return all(line.split(" ")[0] in (*PROGRAMS, *SPANS) for line in lines)
 
 
-def paced(block):
-    """The block, which waits for what it started in the background before it goes on."""
-    lines, here = [], False
+def waited_for(block):
+    """The ports of what serves in the block and is not in the background, and for how many viewers
+    each waits, in order."""
     for line in block.splitlines():
-        port = re.search(r"--port (\d+)|::(\d+)", line)
-        display = re.search(r"[a-z0-9]:(\d+)\b", line)
-        begins = re.search(r"serve|rfb share|-vnc", line)
-        if (port or display) and not begins and not here:
-            number = int(port.group(1) or port.group(2)) if port else 5900 + int(display.group(1))
-            lines.append("wait_for %d" % number)
-        lines.append(line)
-        if line.endswith("&") and not here:
-            lines.append('started="$started $!"')
-        here = here or "<<" in line
-        if line == "END":
-            here = False
-    # A machine goes on until it is ended.
-    if "qemu-system-x86_64" in block:
-        lines.append("kill $!")
-    # What was ended by a signal to end has this status.
-    lines.append("for job in $started; do wait $job || [ $? = 143 ]; done")
-    return "\n".join(lines)
-
-
-def waits_for(command):
-    """The port of a command that serves and is not in the background, and for how many viewers."""
-    command = command.split("   #")[0].rstrip()
-    serves = re.search(r"rfb (?:serve|share) .*--port (\d+)", command)
-    if not serves or "\n" in command or command.endswith("&"):
-        return None, 0
-    number = re.search(r"--connections (\d+)", command)
-    return int(serves.group(1)), int(number.group(1)) if number else 1
+        command = line.split("   #")[0].rstrip()
+        serves = re.search(r"rfb (?:serve|share) .*--port (\d+)", command)
+        if serves and not command.endswith("&"):
+            number = re.search(r"--connections (\d+)", command)
+            yield int(serves.group(1)), int(number.group(1)) if number else 1
 
 
 @contextlib.contextmanager
@@ -176,27 +158,49 @@ def changing(block, is_xvnc):
 
 def run(block, room):
     """Whether the block ends well and leaves pictures alone."""
-    wait = "wait_for() { %s %s --wait $1; }\n" % (sys.executable, os.path.abspath(__file__))
-    with tempfile.TemporaryFile("w+") as errors:
-        child = subprocess.Popen(["bash", "-e", "-c", wait + paced(block)], cwd=room,
-                                 env=ENVIRONMENT, stdout=subprocess.DEVNULL, stderr=errors)
-        port, viewers = waits_for(block)
-        for _ in range(viewers):
-            wait_for(port)
-            subprocess.run([PROGRAM, "view", "--port", str(port), "--timeout", "20"],
-                           stdout=subprocess.DEVNULL)
+    machine = "1" if "qemu-system-x86_64" in block else ""
+    with tempfile.TemporaryFile("w+") as errors, tempfile.TemporaryFile("w+") as pasted:
+        pasted.write(BEFORE + block + AFTER)
+        pasted.seek(0)
+        shell = subprocess.Popen(["bash"], cwd=room, env={**ENVIRONMENT, "MACHINE": machine},
+                                 stdin=pasted, stdout=subprocess.DEVNULL, stderr=errors)
+        for port, viewers in waited_for(block):
+            for _ in range(viewers):
+                subprocess.run([PROGRAM, "view", "--port", str(port), "--timeout", "20"],
+                               stdout=subprocess.DEVNULL)
         try:
-            status = child.wait(timeout=60)
+            status = shell.wait(timeout=60)
         except subprocess.TimeoutExpired:
-            child.kill()
-            raise
+            shell.kill()
+            status = None
         errors.seek(0)
         told = errors.read()
-    sys.stderr.write(told)
-    if status != 0 or "Traceback" in told:
-        return False
     pictures = [name for name in os.listdir(room) if name.endswith(".ppm")]
-    return all(open(os.path.join(room, name), "rb").read(3) == b"P6\n" for name in pictures)
+    good = status == 7 and "Traceback" not in told and all(
+        open(os.path.join(room, name), "rb").read(3) == b"P6\n" for name in pictures)
+    if not good:
+        print(f"it did not end well, with status {status}:\n{block}\n{told}")
+    return good
+
+
+def run_busy(blocks, room, is_xvnc):
+    """Runs blocks again beside busy loops, and tells which failed."""
+    loops = [subprocess.Popen([sys.executable, "-c", "while True: pass"])
+             for _ in range(os.cpu_count())]
+    end, failed, runs = time.time() + BUDGET, set(), 0
+    try:
+        for _ in range(ROUNDS):
+            for block in blocks:
+                if time.time() < end and block not in failed:
+                    with changing(block, is_xvnc):
+                        runs += 1
+                        failed.update([] if run(block, room) else [block])
+    finally:
+        for loop in loops:
+            loop.kill()
+            loop.wait()
+    print(f"beside busy loops: {runs} runs of {len(blocks)} blocks")
+    return failed
 
 
 def begin_display():
@@ -217,7 +221,7 @@ def begin_display():
     print("display 1 is rfb serve")
     server = subprocess.Popen([PROGRAM, "serve", "--port", str(PORT), "--width", "64", "--height",
                                "48", "--connections", "1000"], stdout=subprocess.DEVNULL)
-    wait_for(PORT)
+    waits_for(PORT)
     return server, False
 
 
@@ -241,16 +245,18 @@ def main():
         with open(os.path.join(room, "wanted.ppm"), "wb") as wanted:
             subprocess.run([PROGRAM, "view", "--port", str(PORT)], stdout=wanted)
         shutil.copy(os.path.join(TOP, "docs/house.png"), os.path.join(room, "status.png"))
-        for block in [*commands_of("README.md", r"((?:^    .*\n|^\n(?=    ))+)", True),
-                      *commands_of("docs/USING.md", r"^```sh\n([^`]*)^```$", False)]:
-            try:
-                with changing(block, is_xvnc):
-                    good = is_of_commands(block) and run(block, room)
-            except subprocess.TimeoutExpired:
-                good = False
+        quick = []
+        for block, is_block in [
+                *commands_of("README.md", r"((?:^    .*\n|^\n(?=    ))+)"),
+                *commands_of("docs/USING.md", r"^```sh\n([^`]*)^```$")]:
+            begun = time.time()
+            with changing(block, is_xvnc):
+                good = is_of_commands(block) and run(block, room)
             passed, failed = passed + good, failed + (not good)
-            if not good:
-                print("it did not end well:\n" + block)
+            if good and is_block and time.time() - begun < QUICK:
+                quick.append(block)
+        broken = run_busy(quick, room, is_xvnc)
+        passed, failed = passed + len(quick) - len(broken), failed + len(broken)
     finally:
         if server:
             server.terminate()
@@ -261,7 +267,7 @@ def main():
 
 
 ENVIRONMENT = dict(os.environ)
-if sys.argv[1] == "--wait":
-    wait_for(int(sys.argv[2]))
-elif __name__ == "__main__":
+
+
+if __name__ == "__main__":
     sys.exit(main())
