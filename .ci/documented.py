@@ -27,6 +27,7 @@ import contextlib
 import os
 import re
 import shutil
+import signal
 import subprocess
 import sys
 import tempfile
@@ -163,7 +164,8 @@ def run(block, room):
         pasted.write(BEFORE + block + AFTER)
         pasted.seek(0)
         shell = subprocess.Popen(["bash"], cwd=room, env={**ENVIRONMENT, "MACHINE": machine},
-                                 stdin=pasted, stdout=subprocess.DEVNULL, stderr=errors)
+                                 stdin=pasted, stdout=subprocess.DEVNULL, stderr=errors,
+                                 start_new_session=True)
         for port, viewers in waited_for(block):
             for _ in range(viewers):
                 subprocess.run([PROGRAM, "view", "--port", str(port), "--timeout", "20"],
@@ -171,16 +173,29 @@ def run(block, room):
         try:
             status = shell.wait(timeout=60)
         except subprocess.TimeoutExpired:
-            shell.kill()
-            status = None
+            status = "none: it has not ended in a minute"
+        # What is left of it is in its session.
+        with contextlib.suppress(ProcessLookupError):
+            os.killpg(shell.pid, signal.SIGKILL)
+        shell.wait()
         errors.seek(0)
         told = errors.read()
-    pictures = [name for name in os.listdir(room) if name.endswith(".ppm")]
-    good = status == 7 and "Traceback" not in told and all(
-        open(os.path.join(room, name), "rb").read(3) == b"P6\n" for name in pictures)
+    broken = list(broken_pictures(room))
+    good = status == 7 and "Traceback" not in told and not broken
     if not good:
-        print(f"it did not end well, with status {status}:\n{block}\n{told}")
+        print(f"it did not end well, with status {status}, {broken}:\n{block}\n{told}")
     return good
+
+
+def broken_pictures(room):
+    """The pictures that are none, which are removed."""
+    for name in os.listdir(room):
+        if name.endswith(".ppm"):
+            with open(os.path.join(room, name), "rb") as picture:
+                if picture.read(3) == b"P6\n":
+                    continue
+            os.remove(os.path.join(room, name))
+            yield name
 
 
 def run_busy(blocks, room, is_xvnc):
