@@ -44,8 +44,8 @@ PROGRAM = os.path.abspath(sys.argv[1])
 EXCEPTIONS = (
     # The lines of a library's owner, which are Rattle.
     (r"(?s)(let mut rest = came;|for \(seat, bytes\) in came).*", None),
-    # It proves and builds the program, which is there already.
-    (r"\(cd crates/rfb && rt run -- (.*?)\)", r"rfb \1"),
+    # It runs the program without its proofs, or proves and builds it; it is there already.
+    (r"\(cd crates/rfb && rt (?:try|run) -- (.*?)\)", r"rfb \1"),
 )
 
 # The commands that are run where the text names them, beside `rfb help`, if they are installed:
@@ -65,7 +65,7 @@ STAND_INS = {
 NEVER_ENDS = {"vncviewer": "exec rfb view --port 5950 --timeout 20 --updates 2 >/dev/null"}
 
 # What a line of a block may begin with, so that no text is run in place of a command.
-PROGRAMS = ("alias", "cmp", "kill", "printf", "python3", "rfb", *STAND_INS, *NEVER_ENDS)
+PROGRAMS = ("alias", "cmp", "install", "kill", "printf", "python3", "rfb", *STAND_INS, *NEVER_ENDS)
 
 # The display that the pages view, and its port.
 DISPLAY = ":1"
@@ -246,6 +246,10 @@ def main():
     programs = os.path.join(room, ".programs")
     os.mkdir(programs)
     os.symlink(PROGRAM, os.path.join(programs, "rfb"))
+    # What README.md installs goes to a home of its own.
+    os.makedirs(os.path.join(room, "crates/rfb/out"))
+    os.symlink(PROGRAM, os.path.join(room, "crates/rfb/out/rfb"))
+    ENVIRONMENT["HOME"] = os.path.join(room, ".home")
     for folder in ("docs", "examples"):
         os.symlink(os.path.join(TOP, folder), os.path.join(room, folder))
     absent = {name: other for name, other in STAND_INS.items() if not shutil.which(name)}

@@ -93,7 +93,7 @@ def is_held(path, wanted, mode=None):
     return True
 
 
-def name_of_part(room, picture):
+def part_of(room, picture):
     """The name under which a file is written beside its place."""
     here, there = socket.socketpair()
     before = os.listdir(room)
@@ -108,30 +108,29 @@ def name_of_part(room, picture):
         run.ends(1, b"", TRUNCATED)
     assert sorted(os.listdir(room)) == sorted(before), os.listdir(room)
     name, = names
+    assert name == os.path.basename(picture) + ".part", name
     return os.path.join(room, name)
 
 
-def what_stands_where_a_part_would_is_left_alone():
+def what_an_interrupted_run_left_is_removed_and_no_link_is_followed():
     for is_there in True, False:
         with tempfile.TemporaryDirectory() as room:
             picture, other = os.path.join(room, "picture"), os.path.join(room, "other")
             if is_there:
                 with open(picture, "wb") as file:
                     file.write(b"before")
-            # One name is a link to a file, the next a link to nothing, and the third a file.
-            part = name_of_part(room, picture)
+            part = part_of(room, picture)
             with open(other, "wb") as file:
                 file.write(b"of somebody else")
-            os.symlink(other, part)
-            second = name_of_part(room, picture)
-            os.symlink(os.path.join(room, "nowhere"), second)
-            third = name_of_part(room, picture)
-            os.link(other, third)
-            assert len({part, second, third}) == 3, (part, second, third)
-            ends(["play", "-o", picture], SERVER, 0)
-            assert is_held(picture, SHOWN) and is_held(other, b"of somebody else")
-            assert is_held(third, b"of somebody else")
-            assert os.path.islink(part) and os.path.islink(second) and len(os.listdir(room)) == 5
+            # A link to a file, one to nothing, and a file.
+            for left in (lambda: os.symlink(other, part),
+                         lambda: os.symlink(os.path.join(room, "nowhere"), part),
+                         lambda: os.link(other, part)):
+                left()
+                ends(["play", "-o", picture], SERVER, 0)
+                assert is_held(picture, SHOWN) and is_held(other, b"of somebody else")
+                assert sorted(os.listdir(room)) == ["other", "picture"], os.listdir(room)
+                os.remove(picture)
 
 
 def what_is_no_regular_file_is_written_where_it_is():
@@ -320,7 +319,7 @@ ROWS = [
     *CALLS,
     a_file_is_written_whole_or_not_at_all,
     a_file_in_place_of_another_has_its_permissions,
-    what_stands_where_a_part_would_is_left_alone,
+    what_an_interrupted_run_left_is_removed_and_no_link_is_followed,
     what_is_no_regular_file_is_written_where_it_is,
     what_came_by_an_early_end_is_kept_in_a_file_if_it_is_wanted,
     a_reset_connection_is_an_early_end,

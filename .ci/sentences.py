@@ -122,14 +122,13 @@ def an_input_that_cannot_be_read_is_said():
         with folder("/") as source:
             Run([*words, "--explain"], source=source).ends(
                 1, b"", unread + b": Is a directory (os error 21)\n" + DEVICE)
-    for given, told in (
-            (b"", b"rfb: reading failed" + RESET
-             + b"rfb: that is at byte 0; whole updates before it: 0\n"),
-            (SERVER, b"rfb: this is a recording of rfb, 2 by 1\nrfb: reading failed" + RESET
-             + b"rfb: that is at byte 69; whole updates before it: 1\n")):
+    for given, told, place in (
+            (b"", b"", b"rfb: that is at byte 0; whole updates before it: 0\n"),
+            (SERVER, b"rfb: this is a recording of rfb, 2 by 1\n",
+             b"rfb: that is at byte 69; whole updates before it: 1\n")):
         with failing(given) as source:
             Run(["play", "--explain"], source=source).ends(
-                1, b"", told + unread + RESET + DEVICE)
+                1, b"", told + unread + RESET + place + DEVICE)
 
 
 def what_a_view_fails_at_is_said():

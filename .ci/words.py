@@ -53,7 +53,7 @@ view --port 9 --timeout 0
 view --port 9 --timeout 0.5
 play --partial yes
 view a:
-view a:100
+view a:65536
 view a:one
 view a::0
 view a::65536
@@ -164,9 +164,9 @@ Usage: rfb <COMMAND>""" + MORE),
               b"bad encodings\n"),
     bad_words("view_in_five_encodings",
               "view --port 1 --encodings raw,rre,hextile,copyrect,raw", b"bad encodings\n"),
-    bad_words("view_of_a_server_with_no_display", "view example.org:5901",
-              b"""error: invalid value 'example.org:5901' for '[SERVER]'
-  [HOST, HOST:DISPLAY with a display from 0 to 99, or HOST::PORT]""" + MORE),
+    bad_words("view_of_a_server_with_no_display", "view example.org:65536",
+              b"""error: invalid value 'example.org:65536' for '[SERVER]'
+  [HOST, HOST:DISPLAY with a display from 0 to 99, HOST:PORT from port 100 on, or HOST::PORT]""" + MORE),
 ]
 
 
@@ -224,8 +224,7 @@ def an_input_that_fails_is_explained():
     of = b"rfb: this is a recording of rfb, 2 by 1\n"
     lost = b"Connection reset by peer (os error 104)\n"
     for stream, told in (
-            (failing, b"rfb: reading failed: " + lost + that_is_at(65)
-             + b"rfb: cannot read standard input: " + lost),
+            (failing, b"rfb: cannot read standard input: " + lost + that_is_at(65)),
             # No --timeout is up: a recording has none.
             (halting, b"rfb: reading failed: Resource temporarily unavailable (os error 11)\n"
              + that_is_at(65))):
