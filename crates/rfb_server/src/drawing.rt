@@ -45,6 +45,9 @@ impl Drawing<'_> {
 
     /// What the sessions over this screen are told of it. Refused is what leaves the screen, and
     /// what has not one colour for each of its places.
+    ///
+    /// It is inlined, as `draw_on` is: mostly it is known there what is drawn.
+    #[inline(always)]
     pub fn notice(&self, screen: &Picture<Colour>) -> Result<Notice, Outside>
         ensures refused { IsErr result ↔ (IsInside screen.now (stroke self.now) → ⊥) }
         ensures inside { OnOk result (IsInside screen.now (stroke self.now)) }
@@ -65,6 +68,7 @@ impl Drawing<'_> {
     }
 
     /// Draws it on the screen, of which it was judged. A hint changes nothing.
+    #[inline(always)]
     pub fn draw_on(&self, screen: &mut Picture<Colour>)
         requires inside { IsInside screen.old (stroke self.now) }
         ensures value { screen.new ≡ drawn_by (stroke self.now) screen.old }

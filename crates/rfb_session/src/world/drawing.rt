@@ -26,7 +26,9 @@ impl World {
         Ok(self.drawn(drawing))
     }
 
-    // The same of a world that is not closed. The session is notified before it is drawn.
+    // The same of a world that is not closed. The session is notified before it is drawn. It is
+    // inlined, so that it is known there what is drawn.
+    #[inline(always)]
     pub(super) fn drawn(&mut self, drawing: &Drawing<'_>) -> Told
         ensures { DrawsWorld self.old (stroke drawing.now) result self.new }
     {
