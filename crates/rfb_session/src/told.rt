@@ -1,5 +1,7 @@
 //! What a step answers.
 
+ghost use Rattle.std.specs.Prelude.{◌≡◌, false, None, Some};
+
 use std::alloc::AllocError;
 use thiserror::Error;
 
@@ -29,6 +31,57 @@ pub struct Told {
     pub refused: Option<Refused>,
     /// Whether an update was composed.
     pub composed: bool,
+}
+
+impl Told {
+    /// It was taken, and nothing was moved or composed.
+    pub(crate) fn taken() -> Told
+        ensures moved { result.moved ≡ 0 }
+        ensures refused { result.refused ≡ None }
+        ensures composed { result.composed ≡ false }
+    {
+        Told {
+            moved: 0,
+            refused: None,
+            composed: false,
+        }
+    }
+
+    /// It was refused so.
+    pub(crate) fn of_refusal(refusal: Refused) -> Told
+        ensures moved { result.moved ≡ 0 }
+        ensures refused { result.refused ≡ Some refusal }
+        ensures composed { result.composed ≡ false }
+    {
+        Told {
+            refused: Some(refusal),
+            ..Told::taken()
+        }
+    }
+
+    /// A delivery that moved so many bytes.
+    pub(crate) fn of_moved(moved: u32) -> Told
+        ensures moved { result.moved ≡ moved }
+        ensures refused { result.refused ≡ None }
+        ensures composed { result.composed ≡ false }
+    {
+        Told {
+            moved,
+            ..Told::taken()
+        }
+    }
+
+    /// A composing that made an update, or found none due.
+    pub(crate) fn of_composed(composed: bool) -> Told
+        ensures moved { result.moved ≡ 0 }
+        ensures refused { result.refused ≡ None }
+        ensures composed { result.composed ≡ composed }
+    {
+        Told {
+            composed,
+            ..Told::taken()
+        }
+    }
 }
 
 /// What became of a delivery to a session.

@@ -29,8 +29,8 @@ impl Link {
         ensures refused { call_refusal_on self.old call.now ≢ None → IsOk result }
     {
         match self.to_server.send_call(&mut self.viewer, call) {
-            Ok(()) => Ok(told_taken()),
-            Err(AppendFault::Refused(fault)) => Ok(told_refused(fault)),
+            Ok(()) => Ok(Told::taken()),
+            Err(AppendFault::Refused(fault)) => Ok(Told::of_refusal(refusal_of(fault))),
             Err(AppendFault::NoMemory) => Err(NoMemory),
         }
     }
@@ -47,33 +47,13 @@ pub(crate) fn copy_of(encodings: &ArrayVec<Encoding, 4>) -> ArrayVec<Encoding, 4
     }
 }
 
-// The answer to a call that is taken.
-fn told_taken() -> Told
-    ensures moved { result.moved ≡ 0 }
-    ensures refused { result.refused ≡ None }
-    ensures composed { result.composed ≡ false }
+// The refusal of a call, as a step reports it.
+fn refusal_of(fault: CallFault) -> Refused
+    ensures { Some result ≡ refused_as (Some fault) }
 {
-    Told {
-        moved: 0,
-        refused: None,
-        composed: false,
-    }
-}
-
-// The answer to a call that is refused.
-fn told_refused(fault: CallFault) -> Told
-    ensures moved { result.moved ≡ 0 }
-    ensures refused { result.refused ≡ refused_as (Some fault) }
-    ensures composed { result.composed ≡ false }
-{
-    let refused = match fault {
+    match fault {
         CallFault::NotReady => Refused::NotReady,
         CallFault::Busy => Refused::Busy,
         CallFault::AreaOutside => Refused::AreaOutside,
-    };
-    Told {
-        moved: 0,
-        refused: Some(refused),
-        composed: false,
     }
 }

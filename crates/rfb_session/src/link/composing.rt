@@ -35,22 +35,9 @@ impl Link {
         self.latest.begin(self.session.asked());
         let composed = self.to_viewer.send_update(&mut self.session, screen)?;
         if !composed {
-            return Ok(told_composed(false));
+            return Ok(Told::of_composed(false));
         }
         self.latest.note(screen, self.session.format());
-        Ok(told_composed(true))
-    }
-}
-
-// The answer to a composing.
-fn told_composed(composed: bool) -> Told
-    ensures moved { result.moved ≡ 0 }
-    ensures refused { result.refused ≡ None }
-    ensures composed { result.composed ≡ composed }
-{
-    Told {
-        moved: 0,
-        refused: None,
-        composed,
+        Ok(Told::of_composed(true))
     }
 }

@@ -71,7 +71,7 @@ impl Link {
         let moved = self.to_server.len().min(count as usize);
         let sole = self.deliver_to_server(moved)?;
         Ok(Delivery {
-            told: told_moved(moved as u32),
+            told: Told::of_moved(moved as u32),
             sole,
         })
     }
@@ -91,7 +91,7 @@ impl Link {
     {
         let moved = self.to_viewer.len().min(count as usize);
         self.deliver_to_viewer(moved)?;
-        Ok(told_moved(moved as u32))
+        Ok(Told::of_moved(moved as u32))
     }
 
     // `count` bytes reach the viewer, of those in flight to it.
@@ -202,19 +202,6 @@ impl Link {
                 Ok((count, false))
             }
         }
-    }
-}
-
-// What is reported where `moved` bytes were moved, and else nothing happened.
-fn told_moved(moved: u32) -> Told
-    ensures moved { result.moved ≡ moved }
-    ensures refused { result.refused ≡ None }
-    ensures composed { result.composed ≡ false }
-{
-    Told {
-        moved,
-        refused: None,
-        composed: false,
     }
 }
 

@@ -1,8 +1,7 @@
 //! Drawings on a world's screen.
 
-ghost use Rattle.std.specs.Prelude.{◌≡◌, true, false, Some, None, IfOk, IsOk, IsErr};
+ghost use Rattle.std.specs.Prelude.{◌≡◌, true, false, IfOk, IsOk, IsErr};
 ghost use Rattle.rfb_server.specs.Drawing.{stroke};
-ghost use Rattle.rfb_session.specs.declared.told.Refused.TheVariants.{Outside};
 
 use crate::told::{NoMemory, Refused, Told};
 use crate::world::World;
@@ -33,38 +32,12 @@ impl World {
         ensures { DrawsWorld self.old (stroke drawing.now) result self.new }
     {
         match drawing.notice(&self.screen) {
-            Err(_) => told_outside(),
+            Err(_) => Told::of_refusal(Refused::Outside),
             Ok(notice) => {
                 self.link.notified(&notice);
                 drawing.draw_on(&mut self.screen);
-                told_drawn()
+                Told::taken()
             }
         }
-    }
-}
-
-// The answer to a drawing that leaves the screen.
-fn told_outside() -> Told
-    ensures moved { result.moved ≡ 0 }
-    ensures refused { result.refused ≡ Some Outside }
-    ensures composed { result.composed ≡ false }
-{
-    Told {
-        moved: 0,
-        refused: Some(Refused::Outside),
-        composed: false,
-    }
-}
-
-// The answer to a drawing that was made.
-fn told_drawn() -> Told
-    ensures moved { result.moved ≡ 0 }
-    ensures refused { result.refused ≡ None }
-    ensures composed { result.composed ≡ false }
-{
-    Told {
-        moved: 0,
-        refused: None,
-        composed: false,
     }
 }

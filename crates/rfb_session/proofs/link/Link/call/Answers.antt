@@ -11,8 +11,8 @@ returns-in-Ok-clause-bytes c =
     let call = c.args.call.now in
     record {
       sends = sends_message (message_of call) (message_bytes call) (message_bytes call)
-          (λ s. called call s) _ c.args.self.now _ c.told_taken.result
-          (c.told_taken.ensures.refused ∙ ap (λ o. refused_as o) c.in-Ok.ensures.refuses) refl
+          (λ s. called call s) _ c.args.self.now _ c.taken.result
+          (c.taken.ensures.refused ∙ ap (λ o. refused_as o) c.in-Ok.ensures.refuses) refl
           c.in-Ok.ensures.spelled
           (record {
             session = refl;
@@ -39,7 +39,7 @@ returns-in-Ok-clause-does c = λ e n made reached stands.
     }) in (
       one.0,
       one.1,
-      c.told_taken.ensures.refused ∙ ap (λ o. refused_as o)
+      c.taken.ensures.refused ∙ ap (λ o. refused_as o)
           (none ∙ refusal_there e c.args.self.now n call stands reached),
       one.2,
     )
@@ -49,8 +49,8 @@ returns-in-Err-Refused-clause-bytes c =
     let call = c.args.call.now in
     record {
       sends = sends_none (message_of call) (message_bytes call) (λ s. called call s) _
-          c.in-Err-Refused.fault c.args.self.now _ c.told_refused.result
-          c.told_refused.ensures.refused
+          c.in-Err-Refused.fault c.args.self.now _ c.of_refusal.result
+          (c.of_refusal.ensures.refused ∙ c.refusal_of.ensures)
           (rw c.in-Err-Refused.field-0-is at c.in-Err-Refused.ensures.refuses);
       same = c.in-Err-Refused.ensures.unnoted;
     }
@@ -72,7 +72,7 @@ returns-in-Err-Refused-clause-does c = λ e n made reached stands.
     }) in (
       one.0,
       one.1,
-      c.told_refused.ensures.refused ∙ ap (λ o. refused_as o)
+      (c.of_refusal.ensures.refused ∙ c.refusal_of.ensures) ∙ ap (λ o. refused_as o)
           (some ∙ refusal_there e c.args.self.now n call stands reached),
       one.2,
     )

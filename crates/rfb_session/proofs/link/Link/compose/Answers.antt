@@ -8,19 +8,19 @@ use Rattle.rfb_session.proofs.link.Link.compose.Goals as goal
 
 pub returns-then-not-composed : goal.returns-then-not-composed
 returns-then-not-composed c =
-    let over = idle_over c.args.screen.now c.args.self.now _ c.told_composed.result
+    let over = idle_over c.args.screen.now c.args.self.now _ c.of_composed.result
     (c.in_ok-composed.ensures.idle c.if-not-composed.true) c.begin.ensures.same refl refl
-    c.told_composed.ensures.composed in
+    c.of_composed.ensures.composed in
     record {
       bytes = over;
-      does = idle_does c.args.screen.now c.args.self.now _ c.told_composed.result over
-          c.told_composed.ensures.moved c.told_composed.ensures.refused c.told_composed.ensures.composed;
+      does = idle_does c.args.screen.now c.args.self.now _ c.of_composed.result over
+          c.of_composed.ensures.moved c.of_composed.ensures.refused c.of_composed.ensures.composed;
       hints = record {
-        spent = λ did. absurd (apart (sym did ∙ c.told_composed.ensures.composed));
+        spent = λ did. absurd (apart (sym did ∙ c.of_composed.ensures.composed));
         kept = λ not. c.in_ok-composed.ensures.hints c.if-not-composed.true;
       };
-      taken = c.told_composed.ensures.refused;
-      tells = (c.told_composed.ensures.moved, c.told_composed.ensures.refused);
+      taken = c.of_composed.ensures.refused;
+      tells = (c.of_composed.ensures.moved, c.of_composed.ensures.refused);
       follows = c.send_update.ensures.follows;
       idle = λ none. refl;
       due = tt;
@@ -34,8 +34,8 @@ pub returns-clause-does : goal.returns-clause-does
 returns-clause-does c =
     let screen = c.args.screen.now in
     let old = c.args.self.now in
-    composed_does screen old _ c.told_composed-2.result
-    (composed_over screen old _ c.told_composed-2.result
+    composed_does screen old _ c.of_composed-2.result
+    (composed_over screen old _ c.of_composed-2.result
     (c.in_ok-composed.ensures.composed c.if-not-composed.false)
     (c.note.ensures.noted
     ∙ ap (λ (a : Places). noted screen a (Some c.format.result))
@@ -44,8 +44,8 @@ returns-clause-does c =
     ∙ ap (λ (f : PixelFormat). noted screen (notes_in old.session).area (Some f)) c.format.ensures)
     c.in_ok-composed.ensures.appended
     (λ failed. absurd (apart _ _ refl (c.in_ok-composed.ensures.failed failed) c.if-not-composed.false))
-    refl refl c.told_composed-2.ensures.composed)
-    c.told_composed-2.ensures.moved c.told_composed-2.ensures.refused c.told_composed-2.ensures.composed
+    refl refl c.of_composed-2.ensures.composed)
+    c.of_composed-2.ensures.moved c.of_composed-2.ensures.refused c.of_composed-2.ensures.composed
   where
     apart : {E : Type 0} (r : Result Bool E) (b : Bool) → r ≡ Ok b → r ≡ Ok false → b ≡ true → ⊥
     apart r b is none did = cc

@@ -8,23 +8,23 @@ use Rattle.rfb_session.proofs.link.Link.deliver_to_session.Goals as goal
 pub returns-clause-does : goal.returns-clause-does
 returns-clause-does c =
     server_moved c.args.self.now c.deliver_to_server.new.self c.args.count c.min-moved.result
-    c.told_moved.result (c.min-moved.ensures ∙ ap (λ (k : ℕ). min k c.args.count) c.len.ensures)
-    c.in_ok-sole.ensures.delivered c.told_moved.ensures.moved
-    c.told_moved.ensures.refused c.told_moved.ensures.composed
+    c.of_moved.result (c.min-moved.ensures ∙ ap (λ (k : ℕ). min k c.args.count) c.len.ensures)
+    c.in_ok-sole.ensures.delivered c.of_moved.ensures.moved
+    c.of_moved.ensures.refused c.of_moved.ensures.composed
 
 pub returns-clause-bytes : goal.returns-clause-bytes
 returns-clause-bytes c = (
-  c.told_moved.ensures.moved ∙ c.min-moved.ensures
+  c.of_moved.ensures.moved ∙ c.min-moved.ensures
       ∙ ap (λ (k : ℕ). min k c.args.count) c.len.ensures,
   subst (λ (k : ℕ). ReachesSession c.args.self.now k c.deliver_to_server.new.self)
-      (sym c.told_moved.ensures.moved)
+      (sym c.of_moved.ensures.moved)
       (heard_reaches c.args.self.now c.deliver_to_server.new.self c.min-moved.result c.in_ok-sole.sole c.in_ok-sole.ensures.reached),
 )
 
 pub returns-clause-sole : goal.returns-clause-sole
 returns-clause-sole c =
     subst (λ (k : ℕ). TellsSole c.args.self.now k c.in_ok-sole.sole c.deliver_to_server.new.self)
-    (sym c.told_moved.ensures.moved)
+    (sym c.of_moved.ensures.moved)
     (heard_tells c.args.self.now c.deliver_to_server.new.self c.min-moved.result c.in_ok-sole.sole
     c.in_ok-sole.ensures.reached)
 
@@ -37,8 +37,8 @@ returns-clause-failed c = λ some.
 
 pub returns-clause-lost : goal.returns-clause-lost
 returns-clause-lost c = λ fault is. (
-  c.told_moved.ensures.moved ∙ c.min-moved.ensures
+  c.of_moved.ensures.moved ∙ c.min-moved.ensures
       ∙ ap (λ (k : ℕ). min k c.args.count) c.len.ensures,
   subst (λ (k : ℕ). LosesToServer c.args.self.now k c.deliver_to_server.new.self)
-      (sym c.told_moved.ensures.moved) (c.in_ok-sole.ensures.lost fault is),
+      (sym c.of_moved.ensures.moved) (c.in_ok-sole.ensures.lost fault is),
 )

@@ -8,23 +8,23 @@ use Rattle.rfb_session.proofs.link.Link.move_to_viewer.Goals as goal
 pub returns-clause-does : goal.returns-clause-does
 returns-clause-does c =
     viewer_moved c.args.self.now c.deliver_to_viewer.new.self c.args.count c.min-moved.result
-    c.told_moved.result (c.min-moved.ensures ∙ ap (λ (k : ℕ). min k c.args.count) c.len.ensures)
-    c.in_ok-deliver_to_viewer.ensures.delivered c.told_moved.ensures.moved
-    c.told_moved.ensures.refused c.told_moved.ensures.composed
+    c.of_moved.result (c.min-moved.ensures ∙ ap (λ (k : ℕ). min k c.args.count) c.len.ensures)
+    c.in_ok-deliver_to_viewer.ensures.delivered c.of_moved.ensures.moved
+    c.of_moved.ensures.refused c.of_moved.ensures.composed
 
 pub returns-clause-bytes : goal.returns-clause-bytes
 returns-clause-bytes c = (
-  c.told_moved.ensures.moved ∙ c.min-moved.ensures
+  c.of_moved.ensures.moved ∙ c.min-moved.ensures
       ∙ ap (λ (k : ℕ). min k c.args.count) c.len.ensures,
   subst (λ (k : ℕ). ReachesViewer c.args.self.now k c.deliver_to_viewer.new.self)
-      (sym c.told_moved.ensures.moved)
+      (sym c.of_moved.ensures.moved)
       (watched_reaches c.args.self.now c.deliver_to_viewer.new.self c.min-moved.result c.in_ok-deliver_to_viewer.ensures.reached),
 )
 
 pub returns-clause-lost : goal.returns-clause-lost
 returns-clause-lost c = λ fault is. (
-  c.told_moved.ensures.moved ∙ c.min-moved.ensures
+  c.of_moved.ensures.moved ∙ c.min-moved.ensures
       ∙ ap (λ (k : ℕ). min k c.args.count) c.len.ensures,
   subst (λ (k : ℕ). LosesToViewer c.args.self.now k c.deliver_to_viewer.new.self)
-      (sym c.told_moved.ensures.moved) (c.in_ok-deliver_to_viewer.ensures.lost fault is),
+      (sym c.of_moved.ensures.moved) (c.in_ok-deliver_to_viewer.ensures.lost fault is),
 )

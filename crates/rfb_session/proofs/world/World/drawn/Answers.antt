@@ -21,25 +21,25 @@ returns-in-Ok c =
     let s = c.args.self.now in
     record {
       acts = (
-        inl (c.in-Ok.ensures.inside, c.told_drawn.ensures.refused),
+        inl (c.in-Ok.ensures.inside, c.taken.ensures.refused),
         λ none. record {
           screen_is = c.draw_on.ensures.value;
           others = c.notified.ensures.changes;
           session = c.notified.ensures.kept;
         },
       );
-      does = drawn_does s _ c.told_drawn.result (stroke c.args.drawing.now) (
-        inl (c.in-Ok.ensures.inside, c.told_drawn.ensures.refused),
+      does = drawn_does s _ c.taken.result (stroke c.args.drawing.now) (
+        inl (c.in-Ok.ensures.inside, c.taken.ensures.refused),
         λ none. record {
           screen_is = c.draw_on.ensures.value;
           others = c.notified.ensures.changes;
           session = c.notified.ensures.kept;
         },
       )
-          (λ some. absurd (some c.told_drawn.ensures.refused)) refl;
-      moved = c.told_drawn.ensures.moved;
-      composed = c.told_drawn.ensures.composed;
+          (λ some. absurd (some c.taken.ensures.refused)) refl;
+      moved = c.taken.ensures.moved;
+      composed = c.taken.ensures.composed;
       hints = λ none. rw c.in-Ok.ensures.value at c.notified.ensures.hints;
-      kept = λ some. absurd (some c.told_drawn.ensures.refused);
+      kept = λ some. absurd (some c.taken.ensures.refused);
       closed = refl;
     }
