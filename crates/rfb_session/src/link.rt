@@ -55,15 +55,7 @@ impl Link {
             AreNew e session viewer screen → LinkStandsFor e screen link (first_link e)) }
         ensures session { IfOk result (λ link. session_of_link link ≡ session) }
     {
-        let (latest, to_viewer) = match opening(alloc, &session) {
-            Ok(begun) => begun,
-            Err(error) => {
-                // By a call each: what a `?` lets go is proved field by field.
-                drop(session);
-                drop(viewer);
-                return Err(error);
-            }
-        };
+        let (latest, to_viewer) = opening(alloc, &session)?;
         Ok(Link {
             session,
             viewer,

@@ -10,7 +10,6 @@ ghost use Rattle.rfb_server.specs.declared.drawing.notice.Notice.{Notice};
 ghost use Rattle.rfb_session.specs.Slots.{seat_at, is_taken, OnSlot};
 
 use rfb_server::Notice;
-use std::mem;
 
 /// How many slots there are.
 pub const SLOTS: usize = 8;
@@ -69,14 +68,10 @@ fn end<T: Drop>(slot: &mut Option<T>, k: usize, own: usize) -> u8
     if k == own {
         return 0;
     }
-    match slot.take() {
-        Some(seat) => {
-            // By a call: what is let go at the end of a scope is proved field by field.
-            drop(seat);
-            1 << k
-        }
-        None => 0,
+    if !empty(slot) {
+        return 0;
     }
+    1 << k
 }
 
 // The first slot that is empty, if one is.
@@ -112,11 +107,12 @@ pub(crate) fn taken<T>(slots: &[Option<T>; SLOTS], place: usize) -> bool
     slots[place].is_some()
 }
 
-// The slot, which is empty, is taken.
+// The slot, which is empty, is taken. It is said of any type: what an assignment lets go is proved
+// field by field where the type is known, and takes long at a seat.
 pub(crate) fn seat_in<T: Drop>(slot: &mut Option<T>, seat: T)
     ensures { slot.new ≡ Some seat }
 {
-    drop(mem::replace(slot, Some(seat)));
+    *slot = Some(seat);
 }
 
 // The slot is emptied. It tells whether it was taken.
@@ -124,11 +120,5 @@ pub(crate) fn empty<T: Drop>(slot: &mut Option<T>) -> bool
     ensures empty { slot.new ≡ None }
     ensures taken { result ≡ is_taken slot.old }
 {
-    match slot.take() {
-        Some(seat) => {
-            drop(seat);
-            true
-        }
-        None => false,
-    }
+    slot.take().is_some()
 }

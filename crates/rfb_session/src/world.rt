@@ -53,18 +53,12 @@ impl World {
             AreFresh e server viewer screen → StandsFor e world (first_network e screen)) }
     {
         let (screen, session) = server.into_parts();
-        match Link::new(alloc, session, viewer) {
-            Ok(link) => Ok(World {
-                screen,
-                link,
-                closed: false,
-            }),
-            Err(error) => {
-                // By a call: what a `?` lets go is proved field by field.
-                drop(screen);
-                Err(error)
-            }
-        }
+        let link = Link::new(alloc, session, viewer)?;
+        Ok(World {
+            screen,
+            link,
+            closed: false,
+        })
     }
 
     /// What an event is, happens, and it tells how many bytes it moved, its refusal, and whether an

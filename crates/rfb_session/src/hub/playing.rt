@@ -37,13 +37,7 @@ impl Hub {
             text_limit: TEXT_LIMIT,
         };
         let mut hub = Hub::of(alloc, setup)?;
-        match hub.run(events) {
-            Ok(()) => Ok(hub),
-            Err(error) => {
-                // By a call: what a `?` lets go is proved field by field.
-                drop(hub);
-                Err(error)
-            }
-        }
+        hub.run(events)?;
+        Ok(hub)
     }
 }

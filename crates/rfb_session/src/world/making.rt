@@ -37,14 +37,8 @@ impl World {
         ensures { IfOk result (λ world. Played width height events.now world) }
     {
         let mut world = World::made(alloc, width, height)?;
-        match world.run(events) {
-            Ok(()) => Ok(world),
-            Err(error) => {
-                // By a call: what a `?` lets go is proved field by field.
-                drop(world);
-                Err(error)
-            }
-        }
+        world.run(events)?;
+        Ok(world)
     }
 
     // Those two ends, before any event.

@@ -1,12 +1,12 @@
 use Rattle.rfb_session.proofs.hub.Hub.played.Goals as goal
 
-pub returns-in-Ok : goal.returns-in-Ok
-returns-in-Ok c =
+pub returns : goal.returns
+returns c =
     let made = c.in_ok-hub.ensures in (
       c.in_ok-hub.hub,
       made.empty,
       made.screen,
       made.made,
-      c.in-Ok.ensures.steps,
-      c.in-Ok.ensures.headline made.stands,
+      c.in_ok-run.ensures.steps,
+      c.in_ok-run.ensures.headline made.stands,
     )
