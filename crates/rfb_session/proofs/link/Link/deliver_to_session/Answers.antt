@@ -18,7 +18,8 @@ returns-clause-bytes c = (
       ∙ ap (λ (k : ℕ). min k c.args.count) c.len.ensures,
   subst (λ (k : ℕ). ReachesSession c.args.self.now k c.deliver_to_server.new.self)
       (sym c.of_moved.ensures.moved)
-      (heard_reaches c.args.self.now c.deliver_to_server.new.self c.min-moved.result c.in_ok-sole.sole c.in_ok-sole.ensures.reached),
+      (heard_reaches c.args.self.now c.deliver_to_server.new.self c.min-moved.result c.in_ok-sole.sole
+      c.in_ok-sole.ensures.reached),
 )
 
 pub returns-clause-sole : goal.returns-clause-sole

@@ -18,7 +18,8 @@ returns-clause-bytes c = (
       ∙ ap (λ (k : ℕ). min k c.args.count) c.len.ensures,
   subst (λ (k : ℕ). ReachesViewer c.args.self.now k c.deliver_to_viewer.new.self)
       (sym c.of_moved.ensures.moved)
-      (watched_reaches c.args.self.now c.deliver_to_viewer.new.self c.min-moved.result c.in_ok-deliver_to_viewer.ensures.reached),
+      (watched_reaches c.args.self.now c.deliver_to_viewer.new.self c.min-moved.result
+      c.in_ok-deliver_to_viewer.ensures.reached),
 )
 
 pub returns-clause-lost : goal.returns-clause-lost

@@ -14,4 +14,5 @@ pub returns : goal.returns
 returns c = λ e screen fresh.
     fresh_world e screen _ refl (fresh.server_is.screen_is ∙ sym c.into_parts-screen.ensures.screen)
     (c.in_ok-link.ensures.stands e screen
-    (fresh_parts e screen c.args.server c.args.viewer c.into_parts-screen.result.1 fresh c.into_parts-screen.ensures.session))
+    (fresh_parts e screen c.args.server c.args.viewer c.into_parts-screen.result.1 fresh
+    c.into_parts-screen.ensures.session))
