@@ -3,6 +3,7 @@
 ghost use Rattle.std.specs.Prelude.{◌≡◌};
 ghost use Rattle.rfb_session.specs.declared.netpbm.fault.PixmapError.TheVariants as PixmapError;
 
+use std::alloc::AllocError;
 use std::io;
 use thiserror::Error;
 
@@ -60,5 +61,13 @@ impl From<io::Error> for PixmapError {
 
     fn from(error: io::Error) -> PixmapError {
         PixmapError::Input(error)
+    }
+}
+
+impl From<AllocError> for PixmapError {
+    ghost from_gives = { λ _ error. error ≡ PixmapError.NoMemory };
+
+    fn from(_error: AllocError) -> PixmapError {
+        PixmapError::NoMemory
     }
 }

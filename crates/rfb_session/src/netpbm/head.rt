@@ -65,13 +65,9 @@ fn after_magic(bytes: &[u8]) -> Option<&[u8]>
 fn next_side(bytes: &[u8]) -> Result<(u16, &[u8]), Flaw>
     ensures { MatchResult result (λ p. SideNext bytes.now p.0 p.1.now) (NoSideNext bytes.now) }
 {
-    let Some((digits, rest)) = next_number(bytes) else {
-        return Err(Flaw::NoNumber);
-    };
-    match side_of(digits) {
-        Some(side) => Ok((side, rest)),
-        None => Err(Flaw::BadSide),
-    }
+    let (digits, rest) = next_number(bytes).ok_or(Flaw::NoNumber)?;
+    let side = side_of(digits).ok_or(Flaw::BadSide)?;
+    Ok((side, rest))
 }
 
 // The side that digits write.
@@ -94,10 +90,8 @@ fn next_sample(bytes: &[u8]) -> Result<(Sample, &[u8]), Flaw>
         (HasLateFlaw bytes.now) }
 {
     let (sample, rest) = next_maximum(bytes)?;
-    match after_blank(rest) {
-        Some(places) => Ok((sample, places)),
-        None => Err(Flaw::NoBlank),
-    }
+    let places = after_blank(rest).ok_or(Flaw::NoBlank)?;
+    Ok((sample, places))
 }
 
 // The largest component, and what follows.
@@ -105,13 +99,9 @@ fn next_maximum(bytes: &[u8]) -> Result<(Sample, &[u8]), Flaw>
     ensures { MatchResult result
         (λ p. MaximumNext bytes.now p.0 p.1.now) (NoMaximumNext bytes.now) }
 {
-    let Some((digits, rest)) = next_number(bytes) else {
-        return Err(Flaw::NoNumber);
-    };
-    match sample_of(digits) {
-        Some(sample) => Ok((sample, rest)),
-        None => Err(Flaw::BadMaximum),
-    }
+    let (digits, rest) = next_number(bytes).ok_or(Flaw::NoNumber)?;
+    let sample = sample_of(digits).ok_or(Flaw::BadMaximum)?;
+    Ok((sample, rest))
 }
 
 // What a component has, by the largest one, that digits write.

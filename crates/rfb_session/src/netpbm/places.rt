@@ -32,9 +32,7 @@ pub fn read_places<R: Read>(
         ArePlaces sample count bytes places.items)) }
     ensures refused { IfErr result (FailsToFill sample count (R.remaining input.old)) }
 {
-    let Ok(mut places) = Vec::with_capacity(alloc, count) else {
-        return Err(PixmapError::NoMemory);
-    };
+    let mut places = Vec::with_capacity(alloc, count)?;
     let mut left = count;
     while left > 0 {
         let wanted = PIECE.min(left);
@@ -60,14 +58,12 @@ fn read_piece<R: Read>(
 {
     let mut piece = [0; PIECE_BYTES];
     let len = wanted * size_of(sample);
-    match read_up_to(input, &mut piece[..len]) {
-        Ok(count) if count < len => Err(PixmapError::Flaw(Flaw::TooShort)),
-        Ok(_) => match push_places(sample, &piece[..len], places) {
-            Ok(()) => Ok(()),
-            Err(_) => Err(PixmapError::NoMemory),
-        },
-        Err(error) => Err(PixmapError::Input(error)),
+    let count = read_up_to(input, &mut piece[..len])?;
+    if count < len {
+        return Err(PixmapError::Flaw(Flaw::TooShort));
     }
+    push_places(sample, &piece[..len], places)?;
+    Ok(())
 }
 
 // Reads on, to see that the input has ended.

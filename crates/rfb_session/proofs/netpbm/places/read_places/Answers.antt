@@ -17,7 +17,7 @@ loop-left-preserved g c =
 pub returns-in_err-read_piece-clause-refused : goal.returns-in_err-read_piece-clause-refused
 returns-in_err-read_piece-clause-refused g c =
     let l = c.loop-left in
-    let p = err_from_is_err_and c.from_residual.result c.from_residual.ensures.1 in
+    let p = err_from_is_err_and c.from_residual-in_err-read_piece.result c.from_residual-in_err-read_piece.ensures.1 in
     rw (p.1, p.2)
     (short_read c.args.sample l.invariant.done c.min-wanted.result c.args.count _ _ _ l.places.items _ l.invariant.came
     c.in_err-read_piece.ensures.refused (omega (arith, l.invariant.all, c.min-wanted.ensures)))
