@@ -1,6 +1,7 @@
 //! What the calls of a share tell.
 
 ghost use Rattle.std.specs.Prelude.{◌≡◌, true, false};
+ghost use Rattle.rfb_session.specs.declared.share.event.ShareFault.TheVariants as ShareFault;
 
 use crate::seat::Seat;
 use crate::seats::Seats;
@@ -45,6 +46,14 @@ pub enum ShareFault {
     /// The seat's session has ended, by what its client did wrong or for want of memory for a text.
     #[error("{0}")]
     Session(ServerFault),
+}
+
+impl From<ServerFault> for ShareFault {
+    ghost from_gives = { λ fault ends. ends ≡ ShareFault.Session fault };
+
+    fn from(fault: ServerFault) -> ShareFault {
+        ShareFault::Session(fault)
+    }
 }
 
 /// What became of a composing.

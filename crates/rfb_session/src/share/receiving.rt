@@ -40,10 +40,7 @@ impl Share {
     {
         let place = seat.place();
         self.stirred = self.stirred.with(seat);
-        let fed = match hear_in(&mut self.seats[place], bytes) {
-            Ok(fed) => fed,
-            Err(fault) => return Err(fault),
-        };
+        let fed = hear_in(&mut self.seats[place], bytes)?;
         if asks_sole(&fed.event) {
             let ended = empty_others(&mut self.seats, place);
             return Ok(told_of(seat, fed, ended));
@@ -79,13 +76,11 @@ fn hear_in(slot: &mut Option<ShareSeat>, bytes: &[u8]) -> Result<Fed<ServerEvent
         ForSome slot.old (λ seat. Follows screen (session_at seat)) →
         ForSome slot.new (λ seat. Follows screen (session_at seat)) }
 {
-    match slot {
-        Some(seat) => match seat.hear(bytes) {
-            Ok(fed) => Ok(fed),
-            Err(fault) => Err(ShareFault::Session(fault)),
-        },
-        None => Err(ShareFault::NoSuchSeat),
-    }
+    let Some(seat) = slot else {
+        return Err(ShareFault::NoSuchSeat);
+    };
+    let fed = seat.hear(bytes)?;
+    Ok(fed)
 }
 
 // What a viewer did, if that is reported: answers are not.

@@ -110,15 +110,13 @@ impl ShareSeat {
             return Ok(Composing::Waiting);
         }
         let mut update = Vec::new(self.alloc);
-        match self.session.compose(screen, &mut update) {
-            Ok(true) => {
-                self.waiting = Waiting::Update(update);
-                self.written = 0;
-                Ok(Composing::Composed)
-            }
-            Ok(false) => Ok(Composing::NotDue),
-            Err(_) => Err(NoMemory),
+        let composed = self.session.compose(screen, &mut update)?;
+        if !composed {
+            return Ok(Composing::NotDue);
         }
+        self.waiting = Waiting::Update(update);
+        self.written = 0;
+        Ok(Composing::Composed)
     }
 
     /// The fault that its session has failed with, if it has.

@@ -1,5 +1,6 @@
 use Rattle.std.proofs.Common.{◌<◌, ◌≡◌, ℕ, true, length, set, sym, refl, ap, ◌∙◌, arith}
 use Rattle.std.proofs.lemmas.List.{length-set}
+use Rattle.std.proofs.lemmas.Result.{err_from_is_err_and}
 use Rattle.rfb_picture.specs.Places.{has_bit}
 use Rattle.rfb_server.specs.Following.{Follows}
 use Rattle.rfb_server.specs.Told.{seen}
@@ -23,8 +24,8 @@ invariant_of-self c =
           c.with-self.ensures s.rest;
     }
 
-pub invariant_of-self-in-Err-1 : goal.invariant_of-self-in-Err-1
-invariant_of-self-in-Err-1 c =
+pub invariant_of-self-in-Break-1 : goal.invariant_of-self-in-Break-1
+invariant_of-self-in-Break-1 c =
     let s = c.args.self.now in
     let k = c.place-place.result in
     let within : k < length s.seats = omega (arith, c.place-place.ensures.below, s.eight) in
@@ -40,16 +41,17 @@ invariant_of-self-in-Err-1 c =
           (sym (at_slot s.seats k _ within) ∙ there)) seat is);
     }
 
-pub returns-in-Err-clause-refused : goal.returns-in-Err-clause-refused
-returns-in-Err-clause-refused c =
-    let s = c.args.self.now in
+pub returns-in_err-fed-clause-refused : goal.returns-in_err-fed-clause-refused
+returns-in_err-fed-clause-refused c =
+    let p = err_from_is_err_and c.from_residual.result c.from_residual.ensures.1 in
+    rw (p.1, p.2) (let s = c.args.self.now in
     let k = c.place-place.result in
     let within : k < length s.seats = omega (arith, c.place-place.ensures.below, s.eight) in
-    refused_there s _ k c.args.seat c.args.bytes.now c.in-Err.fault c.place-place.ensures.value
-    (refused_as s _ k c.args.bytes.now c.in-Err.fault _ c.hear_in.new.slot c.in-Err.ensures.ended
+    refused_there s _ k c.args.seat c.args.bytes.now c.in_err-fed.field-0.0 c.place-place.ensures.value
+    (refused_as s _ k c.args.bytes.now c.in_err-fed.field-0.0 _ c.hear_in.new.slot c.in_err-fed.ensures.ended
     (sym (at_slot s.seats k _ within)) (seat_set_same s.seats k c.hear_in.new.slot within)
     (record { screen = refl; made = refl })
-    (λ j differ. seat_set_other s.seats k j c.hear_in.new.slot differ))
+    (λ j differ. seat_set_other s.seats k j c.hear_in.new.slot differ)))
 
 pub invariant_of-self-then-asks_sole : goal.invariant_of-self-then-asks_sole
 invariant_of-self-then-asks_sole c =
@@ -80,18 +82,18 @@ returns-then-asks_sole-clause-heard c =
     let s = c.args.self.now in
     let k = c.place-place.result in
     let within : k < length s.seats = omega (arith, c.place-place.ensures.below, s.eight) in
-    let told = seen c.in-Ok.fed.event in
+    let told = seen c.in_ok-fed.fed.event in
     let alone : asks_alone told ≡ true =
     sym (alone_is told c.asks_sole.result c.asks_sole.ensures) ∙ c.if-asks_sole.true in
     let bits = ends_sole s.seats k c.empty_others-ended.result c.hear_in.new.slot (asks_alone told)
     alone c.empty_others-ended.ensures.ended in
     let ended = c.told_of.ensures.ended in
     received_there s _ k c.args.seat c.args.bytes.now c.told_of.result c.place-place.ensures.value
-    (received_as s _ k c.args.bytes.now c.in-Ok.fed.used c.told_of.result told _ c.hear_in.new.slot
-    c.in-Ok.ensures.heard (sym (at_slot s.seats k _ within))
+    (received_as s _ k c.args.bytes.now c.in_ok-fed.fed.used c.told_of.result told _ c.hear_in.new.slot
+    c.in_ok-fed.ensures.heard (sym (at_slot s.seats k _ within))
     (c.empty_others-ended.ensures.own ∙ seat_set_same s.seats k c.hear_in.new.slot within)
     c.told_of.ensures.used
-    (λ none. c.in-Ok.ensures.all (seen_none c.in-Ok.fed.event none))
+    (λ none. c.in_ok-fed.ensures.all (seen_none c.in_ok-fed.fed.event none))
     (c.told_of.ensures.seat ∙ sym c.place-place.ensures.value) c.told_of.ensures.event
     (λ j. ap (λ (n : ℕ). has_bit n j) ended ∙ bits j)
     (λ j differ. stays_emptied _ _ _ (flag_others s.seats k j c.empty_others-ended.result
@@ -121,15 +123,15 @@ returns-clause-heard c =
     let s = c.args.self.now in
     let k = c.place-place.result in
     let within : k < length s.seats = omega (arith, c.place-place.ensures.below, s.eight) in
-    let told = seen c.in-Ok.fed.event in
+    let told = seen c.in_ok-fed.fed.event in
     let shares = sym (alone_is told c.asks_sole.result c.asks_sole.ensures)
     ∙ c.if-asks_sole.false in
     let heard = c.told_of-2 in
     received_there s _ k c.args.seat c.args.bytes.now heard.result c.place-place.ensures.value
-    (received_as s _ k c.args.bytes.now c.in-Ok.fed.used heard.result told _ c.hear_in.new.slot
-    c.in-Ok.ensures.heard (sym (at_slot s.seats k _ within))
+    (received_as s _ k c.args.bytes.now c.in_ok-fed.fed.used heard.result told _ c.hear_in.new.slot
+    c.in_ok-fed.ensures.heard (sym (at_slot s.seats k _ within))
     (seat_set_same s.seats k c.hear_in.new.slot within) heard.ensures.used
-    (λ none. c.in-Ok.ensures.all (seen_none c.in-Ok.fed.event none))
+    (λ none. c.in_ok-fed.ensures.all (seen_none c.in_ok-fed.fed.event none))
     (heard.ensures.seat ∙ sym c.place-place.ensures.value) heard.ensures.event
     (ends_none s.seats k heard.result.ended (asks_alone told) shares heard.ensures.ended)
     (λ j differ. stays_clear heard.result.ended j _ _ heard.ensures.ended
