@@ -1,7 +1,11 @@
 //! Why an engine ends before its input does. Each fault prints as its number and its name.
 
+ghost use Rattle.std.specs.Prelude.{◌≡◌};
+ghost use Rattle.rfb_session.specs.declared.engine.fault.EngineFault.TheVariants as EngineFault;
+
 use rfb_server::ServerFault;
 use rfb_viewer::ViewerFault;
+use std::alloc::AllocError;
 use thiserror::Error;
 
 /// A reader or a writer has failed.
@@ -28,4 +32,36 @@ pub enum EngineFault {
     /// There is no memory for an update. The server goes on to stand as it was.
     #[error("30 NoMemory")]
     NoMemory,
+}
+
+impl From<ServerFault> for EngineFault {
+    ghost from_gives = { λ fault ends. ends ≡ EngineFault.Server fault };
+
+    fn from(fault: ServerFault) -> EngineFault {
+        EngineFault::Server(fault)
+    }
+}
+
+impl From<ViewerFault> for EngineFault {
+    ghost from_gives = { λ fault ends. ends ≡ EngineFault.Viewer fault };
+
+    fn from(fault: ViewerFault) -> EngineFault {
+        EngineFault::Viewer(fault)
+    }
+}
+
+impl From<Device> for EngineFault {
+    ghost from_gives = { λ _ ends. ends ≡ EngineFault.Device };
+
+    fn from(_device: Device) -> EngineFault {
+        EngineFault::Device
+    }
+}
+
+impl From<AllocError> for EngineFault {
+    ghost from_gives = { λ _ ends. ends ≡ EngineFault.NoMemory };
+
+    fn from(_error: AllocError) -> EngineFault {
+        EngineFault::NoMemory
+    }
 }

@@ -104,16 +104,12 @@ pub fn play_watched<R: Source, A: Watcher>(
     ensures verdict { updates ≡ None → JudgesAll (R.unread source.old) (R.failed source.old)
         (R.failed source.new) viewer.old result viewer.new }
 {
-    match feed_all(source, viewer, updates, watcher) {
-        Ok(told) => {
-            if are_enough(told, updates) {
-                return Ok(told);
-            }
-            if !viewer.between() {
-                return Err(EngineFault::Truncated);
-            }
-            Ok(told)
-        }
-        Err(fault) => Err(fault),
+    let told = feed_all(source, viewer, updates, watcher)?;
+    if are_enough(told, updates) {
+        return Ok(told);
     }
+    if !viewer.between() {
+        return Err(EngineFault::Truncated);
+    }
+    Ok(told)
 }

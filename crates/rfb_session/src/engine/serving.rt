@@ -17,6 +17,7 @@ use crate::engine::fault::EngineFault;
 use crate::engine::scene::Scene;
 use crate::engine::whole_write::send_over;
 use crate::engine::wire::Wire;
+use crate::loops::turns;
 use crate::reply::server_reply;
 use rfb_server::Server;
 use std::alloc::Global;
@@ -68,20 +69,12 @@ pub fn serve_over<W: Wire, S: Scene>(
     ensures same_references { (W.known wire.new).lent ≡ (W.known wire.old).lent }
 {
     let greeting = server.greeting();
-    match send_over(&greeting, wire) {
-        Ok(()) => {}
-        Err(_) => return Err(EngineFault::Device),
+    send_over(&greeting, wire)?;
+    let updates = serve_all(alloc, wire, server, scene)?;
+    if !server.between() {
+        return Err(EngineFault::Truncated);
     }
-    match serve_all(alloc, wire, server, scene) {
-        Ok(updates) => {
-            if server.between() {
-                Ok(updates)
-            } else {
-                Err(EngineFault::Truncated)
-            }
-        }
-        Err(fault) => Err(fault),
-    }
+    Ok(updates)
 }
 
 // Does so after the greeting.
@@ -127,12 +120,11 @@ fn serve_all<W: Wire, S: Scene>(
     let mut part = [0; READ_SIZE];
     let mut out = Vec::new(alloc);
     let mut updates: u64 = 0;
-    // Each turn reads a byte or is the last, so these are never all of them.
-    for _turn in 0..u64::MAX {
-        match turn(&mut part, &mut out, wire, server, scene) {
-            Ok(Some(more)) => updates = updates.saturating_add(more),
-            Ok(None) => return Ok(updates),
-            Err(fault) => return Err(fault),
+    // Each turn reads a byte or is the last.
+    for _turn in 0..turns() {
+        match turn(&mut part, &mut out, wire, server, scene)? {
+            Some(more) => updates = updates.saturating_add(more),
+            None => return Ok(updates),
         }
     }
     Ok(updates)
@@ -165,14 +157,9 @@ fn turn<W: Wire, S: Scene>(
     if count == 0 {
         return Ok(None);
     }
-    match hear(&part[..count], wire, server) {
-        Ok(()) => {}
-        Err(fault) => return Err(fault),
-    }
-    match update(out, wire, server, scene) {
-        Ok(updates) => Ok(Some(updates)),
-        Err(fault) => Err(fault),
-    }
+    hear(&part[..count], wire, server)?;
+    let updates = update(out, wire, server, scene)?;
+    Ok(Some(updates))
 }
 
 // Feeds a server all of these bytes, and writes each answer as it comes.
@@ -190,10 +177,8 @@ fn hear<W: Wire>(bytes: &[u8], wire: &mut W, server: &mut Server) -> Result<(), 
 {
     let mut rest = bytes;
     while !rest.is_empty() {
-        match hear_some(rest, wire, server) {
-            Ok(used) => rest = &rest[used..],
-            Err(fault) => return Err(fault),
-        }
+        let used = hear_some(rest, wire, server)?;
+        rest = &rest[used..];
     }
     Ok(())
 }
@@ -213,13 +198,9 @@ fn hear_some<W: Wire>(bytes: &[u8], wire: &mut W, server: &mut Server) -> Result
     ensures failed { FailsAgain (λ f. EngineFault.Server f)
         (fault_of server.old) server.old result server.new }
 {
-    match server.feed(bytes) {
-        Ok(fed) => match send_over(server_reply(&fed.event), wire) {
-            Ok(()) => Ok(fed.used),
-            Err(_) => Err(EngineFault::Device),
-        },
-        Err(fault) => Err(EngineFault::Server(fault)),
-    }
+    let fed = server.feed(bytes)?;
+    send_over(server_reply(&fed.event), wire)?;
+    Ok(fed.used)
 }
 
 // Composes an update, if one is due, writes it and has the scene draw: one update, or none.
@@ -238,15 +219,11 @@ fn update<W: Wire, S: Scene>(
     ensures undrawn { OnErr result (scene.new ≡ scene.old) }
 {
     out.clear();
-    match server.compose(out) {
-        Ok(true) => match send_over(out, wire) {
-            Ok(()) => {
-                scene.draw(server);
-                Ok(1)
-            }
-            Err(_) => Err(EngineFault::Device),
-        },
-        Ok(false) => Ok(0),
-        Err(_) => Err(EngineFault::NoMemory),
+    let composed = server.compose(out)?;
+    if !composed {
+        return Ok(0);
     }
+    send_over(out, wire)?;
+    scene.draw(server);
+    Ok(1)
 }

@@ -19,6 +19,7 @@ use crate::engine::fault::EngineFault;
 use crate::engine::watcher::{Unwatched, Watcher, tell};
 use crate::engine::whole_write::send;
 use crate::engine::wire::Wire;
+use crate::loops::turns;
 use asking::answer;
 use rfb_viewer::Viewer;
 
@@ -118,19 +119,19 @@ pub fn view_watched<W: Wire, K: Sink, A: Watcher>(
 {
     let mut part = [0; UPDATE_READ_SIZE];
     let mut left = updates;
-    // Each turn reads a byte or is the last, so these are never all of them.
-    for _turn in 0..u64::MAX {
+    // Each turn reads a byte or is the last.
+    for _turn in 0..turns() {
         let Ok(count) = wire.read(&mut part) else {
             return Err(EngineFault::Device);
         };
         if count == 0 {
             return Err(EngineFault::Truncated);
         }
-        match look(&part[..count], wire, kept, viewer, left, watcher) {
-            Ok(0) => return Ok(updates),
-            Ok(fewer) => left = fewer,
-            Err(fault) => return Err(fault),
+        let fewer = look(&part[..count], wire, kept, viewer, left, watcher)?;
+        if fewer == 0 {
+            return Ok(updates);
         }
+        left = fewer;
     }
     Err(EngineFault::Truncated)
 }
@@ -166,13 +167,9 @@ fn look<W: Wire, K: Sink, A: Watcher>(
     let mut rest = bytes;
     let mut left = before;
     while left > 0 && !rest.is_empty() {
-        match look_once(rest, wire, kept, viewer, left, watcher) {
-            Ok((used, fewer)) => {
-                rest = &rest[used..];
-                left = fewer;
-            }
-            Err(fault) => return Err(fault),
-        }
+        let (used, fewer) = look_once(rest, wire, kept, viewer, left, watcher)?;
+        rest = &rest[used..];
+        left = fewer;
     }
     Ok(left)
 }
@@ -214,13 +211,9 @@ fn look_once<W: Wire, K: Sink, A: Watcher>(
     match viewer.feed(bytes) {
         Ok(fed) => {
             tell(&fed.event, viewer, watcher);
-            match send(&bytes[..fed.used], kept) {
-                Ok(()) => match answer(&fed.event, left, wire, viewer) {
-                    Ok(fewer) => Ok((fed.used, fewer)),
-                    Err(_) => Err(EngineFault::Device),
-                },
-                Err(_) => Err(EngineFault::Device),
-            }
+            send(&bytes[..fed.used], kept)?;
+            let fewer = answer(&fed.event, left, wire, viewer)?;
+            Ok((fed.used, fewer))
         }
         Err(fault) => {
             let _ = send(bytes, kept);

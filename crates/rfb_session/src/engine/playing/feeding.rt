@@ -19,6 +19,7 @@ use crate::engine::UPDATE_READ_SIZE;
 use crate::engine::device::Source;
 use crate::engine::fault::EngineFault;
 use crate::engine::watcher::{Watcher, tell};
+use crate::loops::turns;
 use rfb_viewer::{Viewer, ViewerEvent, ViewerFault};
 
 // Feeds a viewer what `source` gives, until enough updates ended or it ends.
@@ -46,23 +47,19 @@ pub(super) fn feed_all<R: Source, A: Watcher>(
 {
     let mut part = [0; UPDATE_READ_SIZE];
     let mut updates = 0;
-    // Each turn reads a byte or is the last, so these are never all of them.
-    for _turn in 0..u64::MAX {
+    // Each turn reads a byte or is the last.
+    for _turn in 0..turns() {
         let Ok(count) = source.read(&mut part) else {
             return Err(EngineFault::Device);
         };
         if count == 0 {
             return Ok(updates);
         }
-        match feed_read(&part[..count], viewer, updates, enough, watcher) {
-            Ok(more) => {
-                if are_enough(more, enough) {
-                    return Ok(more);
-                }
-                updates = more;
-            }
-            Err(fault) => return Err(EngineFault::Viewer(fault)),
+        let more = feed_read(&part[..count], viewer, updates, enough, watcher)?;
+        if are_enough(more, enough) {
+            return Ok(more);
         }
+        updates = more;
     }
     Ok(updates)
 }
@@ -91,16 +88,12 @@ fn feed_read<A: Watcher>(
     let mut rest = bytes;
     let mut updates = before;
     while !rest.is_empty() {
-        match feed_once(rest, viewer, updates, watcher) {
-            Ok((used, more)) => {
-                if are_enough(more, enough) {
-                    return Ok(more);
-                }
-                rest = &rest[used..];
-                updates = more;
-            }
-            Err(fault) => return Err(fault),
+        let (used, more) = feed_once(rest, viewer, updates, watcher)?;
+        if are_enough(more, enough) {
+            return Ok(more);
         }
+        rest = &rest[used..];
+        updates = more;
     }
     Ok(updates)
 }
@@ -123,13 +116,9 @@ fn feed_once<A: Watcher>(
         (take told.0 bytes.now) before told.1 viewer.new watcher.new) }
     ensures unheard { OnErr result (watcher.new ≡ watcher.old) }
 {
-    match viewer.feed(bytes) {
-        Ok(fed) => {
-            tell(&fed.event, viewer, watcher);
-            Ok((fed.used, count(&fed.event, before)))
-        }
-        Err(fault) => Err(fault),
-    }
+    let fed = viewer.feed(bytes)?;
+    tell(&fed.event, viewer, watcher);
+    Ok((fed.used, count(&fed.event, before)))
 }
 
 // `updates`, and one more where the event is the end of one.

@@ -37,19 +37,16 @@ pub(super) fn answer<W: Wire>(
         ((W.known wire.new).failed_writes ≡ (W.known wire.old).failed_writes + 1) }
     ensures asked { MayAsk viewer.old viewer.new }
 {
-    match send_over(viewer_reply(event), wire) {
-        Ok(()) => {}
-        Err(_) => return Err(Device),
-    }
+    send_over(viewer_reply(event), wire)?;
     let fewer = left - ended(event);
     if fewer == 0 {
         return Ok(0);
     }
     match due(event) {
-        Some(incremental) => match ask(incremental, wire, viewer) {
-            Ok(()) => Ok(fewer),
-            Err(_) => Err(Device),
-        },
+        Some(incremental) => {
+            ask(incremental, wire, viewer)?;
+            Ok(fewer)
+        }
         None => Ok(fewer),
     }
 }

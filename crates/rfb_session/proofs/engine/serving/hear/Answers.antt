@@ -1,4 +1,5 @@
 use Rattle.std.proofs.Common.{◌≡◌, ◌∙◌, List, ℕ, ap, arith, length, refl, rules}
+use Rattle.std.proofs.lemmas.Result.{err_from_is_err_and}
 use Rattle.rfb_server.specs.declared.server.Server.{Server}
 use Rattle.rfb_server.specs.Standing.{fault_of}
 use Rattle.rfb_session.specs.declared.engine.fault.EngineFault.TheVariants.{Server as ServerEnded}
@@ -23,12 +24,12 @@ loop-rest-preserved g c =
     record {
       heard = hears_more (by_steps g.W.Wire.steps) (steps_join g.W.Wire.steps) c.args.server.now
           c.args.bytes.now l.rest.now c.args.wire.now l.wire c.hear_some.new.wire l.server
-          c.in-Ok.used c.hear_some.new.server l.invariant.heard c.in-Ok.ensures.answered;
-      none_failed = c.in-Ok.ensures.none_failed ∙ l.invariant.none_failed;
+          c.in_ok-used.used c.hear_some.new.server l.invariant.heard c.in_ok-used.ensures.answered;
+      none_failed = c.in_ok-used.ensures.none_failed ∙ l.invariant.none_failed;
       failed = λ f is.
-          let again = c.in-Ok.ensures.failed f
+          let again = c.in_ok-used.ensures.failed f
           (ap (λ (v : Server). fault_of v) (l.invariant.failed f is).1 ∙ is) in
-          absurd (no_answer c.in-Ok.used (ServerEnded f) again.0);
+          absurd (no_answer c.in_ok-used.used (ServerEnded f) again.0);
     }
 
 pub returns-clause-answered : goal.returns-clause-answered
@@ -38,14 +39,15 @@ returns-clause-answered g c =
     c.args.bytes.now l.rest.now c.args.wire.now l.wire l.server l.invariant.heard
     (empty_rest l.rest.now (search rules))
 
-pub returns-in-Err-clause-stopped : goal.returns-in-Err-clause-stopped
-returns-in-Err-clause-stopped g c =
-    let l = c.loop-rest in
+pub returns-in_err-used-clause-stopped : goal.returns-in_err-used-clause-stopped
+returns-in_err-used-clause-stopped g c =
+    let p = err_from_is_err_and c.from_residual.result c.from_residual.ensures.1 in
+    rw (p.1, p.2) (let l = c.loop-rest in
     hears_until (by_steps g.W.Wire.steps) (steps_join g.W.Wire.steps) c.args.server.now
     c.args.bytes.now l.rest.now c.args.wire.now l.wire c.hear_some.new.wire l.server
     (g.W.Wire.known c.args.wire.now).failed_writes (g.W.Wire.known l.wire).failed_writes
-    (g.W.Wire.known c.hear_some.new.wire).failed_writes c.in-Err.fault c.hear_some.new.server
-    l.invariant.heard l.invariant.none_failed c.in-Err.ensures.stopped
+    (g.W.Wire.known c.hear_some.new.wire).failed_writes c.in_err-used.field-0.0 c.hear_some.new.server
+    l.invariant.heard l.invariant.none_failed c.in_err-used.ensures.stopped)
 
 pub returns-clause-failed : goal.returns-clause-failed
 returns-clause-failed g c = λ some f is.
@@ -54,9 +56,11 @@ returns-clause-failed g c = λ some f is.
     let all = (l.invariant.failed f is).0 in
     absurd (omega (arith, some, none, ap (λ (xs : List ℕ). length xs) all))
 
-pub returns-in-Err-clause-failed : goal.returns-in-Err-clause-failed
-returns-in-Err-clause-failed g c = λ some f is.
+pub returns-in_err-used-clause-failed : goal.returns-in_err-used-clause-failed
+returns-in_err-used-clause-failed g c =
+    let p = err_from_is_err_and c.from_residual.result c.from_residual.ensures.1 in
+    rw (p.1, p.2) (λ some f is.
     let l = c.loop-rest in
     let was = l.invariant.failed f is in
-    let again = c.in-Err.ensures.failed f (ap (λ (v : Server). fault_of v) was.1 ∙ is) in
-    (err_as (ServerEnded f) c.in-Err.fault again.0, again.1 ∙ was.1)
+    let again = c.in_err-used.ensures.failed f (ap (λ (v : Server). fault_of v) was.1 ∙ is) in
+    (err_as (ServerEnded f) c.in_err-used.field-0.0 again.0, again.1 ∙ was.1))

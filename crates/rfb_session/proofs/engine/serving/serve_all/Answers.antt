@@ -1,5 +1,6 @@
 use Rattle.std.proofs.Common.{◌∙◌, ℕ, refl, rules, arith, ◌≡◌, None, Ok, Option, Some, Result, ap, inr}
 use Rattle.std.proofs.KnownBytes.{Consumes-nil}
+use Rattle.std.proofs.lemmas.Result.{err_from_is_err_and}
 use Rattle.rfb_server.specs.declared.server.Server.{Server}
 use Rattle.rfb_server.specs.Standing.{fault_of}
 use Rattle.rfb_session.specs.declared.engine.fault.EngineFault.{EngineFault}
@@ -38,13 +39,13 @@ turn-requires g c =
       writable = omega (arith, c.requires.writable, l.invariant.none_failed.1);
     }
 
-pub returns-in-Ok-None : goal.returns-in-Ok-None
-returns-in-Ok-None g c =
+pub returns-in-None : goal.returns-in-None
+returns-in-None g c =
     let l = c.loop-turn in
     let old = g.W.Wire.known c.args.wire.now in
     let mid = g.W.Wire.known l.wire in
     let new = g.W.Wire.known c.turn.new.wire in
-    let ended = c.in-Ok-None.ensures.ended (search rules) in
+    let ended = c.in_ok-more.ensures.ended (search rules) in
     let end = end_known g.W.Wire.steps g.W.Wire.known g.met.W.Wire.tells l.wire l.server l.scene
     c.turn.new.wire c.turn.new.server c.turn.new.scene ended in
     let none = none_failed_then old mid new l.invariant.none_failed end.0 in
@@ -73,42 +74,43 @@ returns-in-Ok-None g c =
       same_references = none.2;
     }
 
-pub returns-in-Err : goal.returns-in-Err
-returns-in-Err g c =
-    let l = c.loop-turn in
+pub returns-in_err-more : goal.returns-in_err-more
+returns-in_err-more g c =
+    let p = err_from_is_err_and c.from_residual.result c.from_residual.ensures.1 in
+    rw (p.1, p.2) (let l = c.loop-turn in
     let old = g.W.Wire.known c.args.wire.now in
     let mid = g.W.Wire.known l.wire in
     let new = g.W.Wire.known c.turn.new.wire in
     let none = l.invariant.none_failed in
     let stop = stop_known g.W.Wire.steps g.W.Wire.known g.met.W.Wire.tells l.wire c.turn.new.wire
-    l.server c.in-Err.fault c.turn.new.server c.in-Err.ensures.stopped in
+    l.server c.in_err-more.field-0.0 c.turn.new.server c.in_err-more.ensures.stopped in
     record {
       in_order = tt;
       stopped_in_order = order_stops g.W.Wire.steps g.W.Wire.known g.S.Scene.shows c.args.wire.now
           c.args.server.now c.args.scene.now l._turn l.updates l.wire l.server l.scene
-          c.in-Err.fault c.turn.new.wire c.turn.new.server c.turn.new.scene l.invariant.order
-          c.in-Err.ensures.undrawn c.in-Err.ensures.stopped;
+          c.in_err-more.field-0.0 c.turn.new.wire c.turn.new.server c.turn.new.scene l.invariant.order
+          c.in_err-more.ensures.undrawn c.in_err-more.ensures.stopped;
       served = tt;
       turns = tt;
       none_failed = tt;
       stopped = served_stop old.unread mid.unread new.unread old.written mid.written new.written
           old.failed_reads mid.failed_reads new.failed_reads old.failed_writes
           mid.failed_writes new.failed_writes c.args.server.now l._turn l.updates l.server
-          c.in-Err.fault c.turn.new.server l.invariant.served none.0 none.1 stop.1;
+          c.in_err-more.field-0.0 c.turn.new.server l.invariant.served none.0 none.1 stop.1;
       in_turn = turns_stop g.S.Scene.shows old.unread mid.unread new.unread old.written
           mid.written new.written old.failed_reads mid.failed_reads new.failed_reads
           old.failed_writes mid.failed_writes new.failed_writes c.args.server.now
-          c.args.scene.now l.updates l.server l.scene c.in-Err.fault c.turn.new.server
-          c.turn.new.scene l.invariant.turns none.0 none.1 c.in-Err.ensures.undrawn stop.1;
+          c.args.scene.now l.updates l.server l.scene c.in_err-more.field-0.0 c.turn.new.server
+          c.turn.new.scene l.invariant.turns none.0 none.1 c.in_err-more.ensures.undrawn stop.1;
       failed = λ f is.
           let was = l.invariant.failed f is in
-          let again = c.in-Err.ensures.failed f (ap (λ (v : Server). fault_of v) was.2 ∙ is) in (
+          let again = c.in_err-more.ensures.failed f (ap (λ (v : Server). fault_of v) was.2 ∙ is) in (
             again.0 ∙ was.2,
-            unfed_then (ServerEnded f) c.in-Err.fault None (Ok 0) old.unread mid.unread new.unread
+            unfed_then (ServerEnded f) c.in_err-more.field-0.0 None (Ok 0) old.unread mid.unread new.unread
                 was.3 again.1,
           );
       same_references = stop.0 ∙ none.2;
-    }
+    })
 
 pub loop-turn-preserved : goal.loop-turn-preserved
 loop-turn-preserved g c =
@@ -116,31 +118,31 @@ loop-turn-preserved g c =
     let old = g.W.Wire.known c.args.wire.now in
     let mid = g.W.Wire.known l.wire in
     let new = g.W.Wire.known c.turn.new.wire in
-    let over = turned_by c.in-Ok-Some.field-0 c.in-Ok-Some.more
+    let over = turned_by c.in_ok-more.field-0 c.in-Some.more
     (λ (n : ℕ). TurnOver g.W.Wire.steps g.S.Scene.shows l.wire l.server l.scene n c.turn.new.wire
-    c.turn.new.server c.turn.new.scene) c.in-Ok-Some.field-0-is c.in-Ok-Some.ensures.turned in
+    c.turn.new.server c.turn.new.scene) c.in-Some.is c.in_ok-more.ensures.turned in
     let turn = turn_known g.W.Wire.steps g.W.Wire.known g.met.W.Wire.tells g.S.Scene.shows l.wire
-    l.server l.scene c.in-Ok-Some.more c.turn.new.wire c.turn.new.server c.turn.new.scene over in
+    l.server l.scene c.in-Some.more c.turn.new.wire c.turn.new.server c.turn.new.scene over in
     record {
       order = order_more g.W.Wire.steps g.S.Scene.shows c.args.wire.now c.args.server.now
-          c.args.scene.now l._turn l.updates l.wire l.server l.scene c.in-Ok-Some.more
+          c.args.scene.now l._turn l.updates l.wire l.server l.scene c.in-Some.more
           c.saturating_add-updates.result c.turn.new.wire c.turn.new.server c.turn.new.scene
           l.invariant.order over c.saturating_add-updates.ensures;
       served = served_more g.S.Scene.shows old.unread mid.unread new.unread old.written
           mid.written new.written c.args.server.now l._turn l.updates l.server l.scene
-          c.in-Ok-Some.more c.saturating_add-updates.result c.turn.new.server c.turn.new.scene
+          c.in-Some.more c.saturating_add-updates.result c.turn.new.server c.turn.new.scene
           l.invariant.served turn.1 c.saturating_add-updates.ensures;
       turns = turns_more g.S.Scene.shows old.unread mid.unread new.unread old.written mid.written
           new.written c.args.server.now c.args.scene.now l.updates l.server l.scene
-          c.in-Ok-Some.more c.saturating_add-updates.result c.turn.new.server c.turn.new.scene
+          c.in-Some.more c.saturating_add-updates.result c.turn.new.server c.turn.new.scene
           l.invariant.turns turn.1 c.saturating_add-updates.ensures;
       none_failed = none_failed_then old mid new l.invariant.none_failed turn.0;
       failed = λ f is.
           let was = l.invariant.failed f is in
           let again = c.turn.ensures.failed f (ap (λ (v : Server). fault_of v) was.2 ∙ is) in
           absurd (not_fed (ServerEnded f) (Ok None) mid.unread new.unread c.turn.result
-          (Some c.in-Ok-Some.more) (c.in-Ok-Some.is ∙ ap (λ (o : Option ℕ). Ok o) c.in-Ok-Some.field-0-is)
-          (none_some c.in-Ok-Some.more (Ok None) refl) again.1);
+          (Some c.in-Some.more) (c.in_ok-more.was ∙ ap (λ (o : Option ℕ). Ok o) c.in-Some.is)
+          (none_some c.in-Some.more (Ok None) refl) again.1);
     }
 
 pub returns-clause-in_order : goal.returns-clause-in_order

@@ -1,5 +1,6 @@
 use Rattle.std.proofs.Common.{◌∙◌, List, ℕ, Option, refl, sym, subst, arith, ◌≢◌, Bool, Err, None}
 use Rattle.std.proofs.Common.{Ok, Some, ap, false, inl, inr, true, ◌≡◌}
+use Rattle.std.proofs.lemmas.Result.{err_from_is_err_and}
 use Rattle.rfb_server.specs.declared.fault.ServerFault.{ServerFault}
 use Rattle.rfb_server.specs.declared.server.Server.{Server}
 use Rattle.rfb_server.specs.Standing.{fault_of}
@@ -23,23 +24,24 @@ has_failed fault f is none = absurd cc
 pub serve_all-requires : goal.serve_all-requires
 serve_all-requires g c =
     let greeted = all_known g.W.Wire.steps g.W.Wire.known g.met.W.Wire.tells c.args.wire.now
-    c.send_over.new.wire c.greeting-greeting.result c.in-Ok.ensures.done in
+    c.send_over.new.wire c.greeting-greeting.result c.in_ok-send_over.ensures.done in
     record {
       readable = omega (arith, c.requires.readable, greeted.0.1);
       writable = omega (arith, c.requires.writable, greeted.2);
     }
 
 -- the greeting was not written whole
-pub returns-in-Err : goal.returns-in-Err
-returns-in-Err g c =
-    let old = g.W.Wire.known c.args.wire.now in
+pub returns-in_err-send_over : goal.returns-in_err-send_over
+returns-in_err-send_over g c =
+    let p = err_from_is_err_and c.from_residual.result c.from_residual.ensures.1 in
+    rw (p.1, p.2) (let old = g.W.Wire.known c.args.wire.now in
     let new = g.W.Wire.known c.send_over.new.wire in
     let cut = some_known g.W.Wire.steps g.W.Wire.known g.met.W.Wire.tells c.args.wire.now
-    c.send_over.new.wire c.greeting-greeting.result c.in-Err.ensures.stopped in
+    c.send_over.new.wire c.greeting-greeting.result c.in_err-send_over.ensures.stopped in
     record {
       in_order = tt;
       stopped_in_order = Ungreeted refl c.greeting-greeting.result c.greeting-greeting.ensures
-          c.in-Err.ensures.stopped refl refl;
+          c.in_err-send_over.ensures.stopped refl refl;
       served = tt;
       turns = tt;
       between = tt;
@@ -48,7 +50,7 @@ returns-in-Err g c =
         greeting = c.greeting-greeting.result;
         greeting_is = c.greeting-greeting.ensures;
         goes_on = (
-          omega (arith, c.in-Err.ensures.one_failed, cut.0.1),
+          omega (arith, c.in_err-send_over.ensures.one_failed, cut.0.1),
           subst (λ (u : Option (List ℕ)). ServedSome old.unread u old.written new.written
               c.greeting-greeting.result c.args.server.now c.args.server.now) (sym cut.0.0)
               (unheard old.unread old.written new.written c.greeting-greeting.result
@@ -59,22 +61,22 @@ returns-in-Err g c =
           refl refl;
       failed = λ f is. (refl, inr (none_read old.unread new.unread cut.0.0, inl refl));
       same_references = cut.0.2;
-    }
+    })
 
-pub returns-then-between : goal.returns-then-between
-returns-then-between g c =
+pub returns : goal.returns
+returns g c =
     let old = g.W.Wire.known c.args.wire.now in
     let mid = g.W.Wire.known c.send_over.new.wire in
     let new = g.W.Wire.known c.serve_all.new.wire in
     let greeted = all_known g.W.Wire.steps g.W.Wire.known g.met.W.Wire.tells c.args.wire.now
-    c.send_over.new.wire c.greeting-greeting.result c.in-Ok.ensures.done in
-    let all = c.in-Ok-serve_all.ensures in
+    c.send_over.new.wire c.greeting-greeting.result c.in_ok-send_over.ensures.done in
+    let all = c.in_ok-updates.ensures in
     record {
       in_order = record {
         greeting = c.greeting-greeting.result;
         greeting_is = c.greeting-greeting.ensures;
         greeted = c.send_over.new.wire;
-        wrote = c.in-Ok.ensures.done;
+        wrote = c.in_ok-send_over.ensures.done;
         goes_on = all.in_order;
       };
       stopped_in_order = tt;
@@ -83,9 +85,9 @@ returns-then-between g c =
         greeting_is = c.greeting-greeting.ensures;
         goes_on = as_before old mid greeted.0 (λ (u : Option (List ℕ)) (n : ℕ). AllServed u
             new.unread old.written new.written c.greeting-greeting.result c.args.server.now
-            c.in-Ok-serve_all.updates c.serve_all.new.server)
+            c.in_ok-updates.updates c.serve_all.new.server)
             (front_all mid.unread new.unread old.written mid.written new.written
-            c.greeting-greeting.result c.args.server.now c.in-Ok-serve_all.updates
+            c.greeting-greeting.result c.args.server.now c.in_ok-updates.updates
             c.serve_all.new.server greeted.1 all.served);
       };
       turns = record {
@@ -95,37 +97,37 @@ returns-then-between g c =
         wrote = greeted.1;
         turns = as_before old mid greeted.0 (λ (u : Option (List ℕ)) (n : ℕ). TakesTurns
             g.S.Scene.shows u new.unread mid.written new.written c.args.server.now
-            c.args.scene.now c.in-Ok-serve_all.updates c.serve_all.new.server
+            c.args.scene.now c.in_ok-updates.updates c.serve_all.new.server
             c.serve_all.new.scene) all.turns;
       };
       between = λ serving s prefix stands.
-          sym c.if-between.true ∙ c.between.ensures.value serving s prefix stands;
+          sym c.if-not-between.false ∙ c.between.ensures.value serving s prefix stands;
       none_failed = (all.none_failed.0 ∙ greeted.0.1, all.none_failed.1 ∙ greeted.2);
       stopped = tt;
       in_turn = tt;
       failed = λ f is.
           let still = all.failed f is in
-          absurd (never_both c.between.result c.if-between.true
+          absurd (never_both c.between.result c.if-not-between.false
           (c.between.ensures.failed (has_failed (fault_of c.serve_all.new.server) f
           (ap (λ (v : Server). fault_of v) still.0 ∙ is))));
       same_references = all.same_references ∙ greeted.0.2;
     }
 
-pub returns-else-between : goal.returns-else-between
-returns-else-between g c =
+pub returns-then-not-between : goal.returns-then-not-between
+returns-then-not-between g c =
     let old = g.W.Wire.known c.args.wire.now in
     let mid = g.W.Wire.known c.send_over.new.wire in
     let new = g.W.Wire.known c.serve_all.new.wire in
     let greeted = all_known g.W.Wire.steps g.W.Wire.known g.met.W.Wire.tells c.args.wire.now
-    c.send_over.new.wire c.greeting-greeting.result c.in-Ok.ensures.done in
-    let all = c.in-Ok-serve_all.ensures in
+    c.send_over.new.wire c.greeting-greeting.result c.in_ok-send_over.ensures.done in
+    let all = c.in_ok-updates.ensures in
     record {
       in_order = tt;
-      stopped_in_order = AtTheEnd refl c.in-Ok-serve_all.updates (record {
+      stopped_in_order = AtTheEnd refl c.in_ok-updates.updates (record {
         greeting = c.greeting-greeting.result;
         greeting_is = c.greeting-greeting.ensures;
         greeted = c.send_over.new.wire;
-        wrote = c.in-Ok.ensures.done;
+        wrote = c.in_ok-send_over.ensures.done;
         goes_on = all.in_order;
       });
       served = tt;
@@ -136,25 +138,25 @@ returns-else-between g c =
         greeting = c.greeting-greeting.result;
         greeting_is = c.greeting-greeting.ensures;
         goes_on = (
-          c.in-Ok-serve_all.updates,
+          c.in_ok-updates.updates,
           as_before old mid greeted.0 (λ (u : Option (List ℕ)) (n : ℕ). AllServed u
               new.unread old.written new.written c.greeting-greeting.result
-              c.args.server.now c.in-Ok-serve_all.updates c.serve_all.new.server)
+              c.args.server.now c.in_ok-updates.updates c.serve_all.new.server)
               (front_all mid.unread new.unread old.written mid.written new.written
-              c.greeting-greeting.result c.args.server.now c.in-Ok-serve_all.updates
+              c.greeting-greeting.result c.args.server.now c.in_ok-updates.updates
               c.serve_all.new.server greeted.1 all.served),
           λ serving s prefix stands.
-              sym c.if-between.false ∙ c.between.ensures.value serving s prefix stands,
+              sym c.if-not-between.true ∙ c.between.ensures.value serving s prefix stands,
         );
       };
-      in_turn = TooEarly refl c.in-Ok-serve_all.updates (record {
+      in_turn = TooEarly refl c.in_ok-updates.updates (record {
         greeting = c.greeting-greeting.result;
         greeting_is = c.greeting-greeting.ensures;
         greeted = mid.written;
         wrote = greeted.1;
         turns = as_before old mid greeted.0 (λ (u : Option (List ℕ)) (n : ℕ). TakesTurns
             g.S.Scene.shows u new.unread mid.written new.written c.args.server.now
-            c.args.scene.now c.in-Ok-serve_all.updates c.serve_all.new.server
+            c.args.scene.now c.in_ok-updates.updates c.serve_all.new.server
             c.serve_all.new.scene) all.turns;
       });
       failed = λ f is.
@@ -162,28 +164,29 @@ returns-else-between g c =
             still.0,
             inr (
               unread_then (ServerEnded f) (Ok 0) old.unread mid.unread new.unread
-                  c.in-Ok-serve_all.updates (none_read old.unread mid.unread greeted.0.0) still.1,
+                  c.in_ok-updates.updates (none_read old.unread mid.unread greeted.0.0) still.1,
               inr refl,
             ),
           );
       same_references = all.same_references ∙ greeted.0.2;
     }
 
-pub returns-in-Err-serve_all : goal.returns-in-Err-serve_all
-returns-in-Err-serve_all g c =
-    let old = g.W.Wire.known c.args.wire.now in
+pub returns-in_err-updates : goal.returns-in_err-updates
+returns-in_err-updates g c =
+    let p = err_from_is_err_and c.from_residual-in_err-updates.result c.from_residual-in_err-updates.ensures.1 in
+    rw (p.1, p.2) (let old = g.W.Wire.known c.args.wire.now in
     let mid = g.W.Wire.known c.send_over.new.wire in
     let new = g.W.Wire.known c.serve_all.new.wire in
     let greeted = all_known g.W.Wire.steps g.W.Wire.known g.met.W.Wire.tells c.args.wire.now
-    c.send_over.new.wire c.greeting-greeting.result c.in-Ok.ensures.done in
-    let all = c.in-Err-serve_all.ensures in
+    c.send_over.new.wire c.greeting-greeting.result c.in_ok-send_over.ensures.done in
+    let all = c.in_err-updates.ensures in
     record {
       in_order = tt;
       stopped_in_order = AfterTurns (record {
         greeting = c.greeting-greeting.result;
         greeting_is = c.greeting-greeting.ensures;
         greeted = c.send_over.new.wire;
-        wrote = c.in-Ok.ensures.done;
+        wrote = c.in_ok-send_over.ensures.done;
         goes_on = all.stopped_in_order;
       });
       served = tt;
@@ -196,26 +199,26 @@ returns-in-Err-serve_all g c =
         goes_on = as_before old mid greeted.0 (λ (u : Option (List ℕ)) (n : ℕ). StopsServing u
             new.unread n new.failed_reads old.written new.written old.failed_writes
             new.failed_writes c.greeting-greeting.result c.args.server.now
-            c.in-Err-serve_all.fault c.serve_all.new.server)
+            c.in_err-updates.field-0.0 c.serve_all.new.server)
             (front_stops mid.unread new.unread mid.failed_reads new.failed_reads old.written
             mid.written new.written old.failed_writes mid.failed_writes
             new.failed_writes c.greeting-greeting.result c.args.server.now
-            c.in-Err-serve_all.fault c.serve_all.new.server greeted.1 greeted.2 all.stopped);
+            c.in_err-updates.field-0.0 c.serve_all.new.server greeted.1 greeted.2 all.stopped);
       };
       in_turn = InTurn c.greeting-greeting.result c.greeting-greeting.ensures mid.written greeted.1
           (as_before old mid greeted.0 (λ (u : Option (List ℕ)) (n : ℕ). StopsInTurn
           g.S.Scene.shows u new.unread n new.failed_reads mid.written new.written
           old.failed_writes new.failed_writes c.args.server.now c.args.scene.now
-          c.in-Err-serve_all.fault c.serve_all.new.server c.serve_all.new.scene)
+          c.in_err-updates.field-0.0 c.serve_all.new.server c.serve_all.new.scene)
           (greeted_stops g.S.Scene.shows mid.unread new.unread mid.failed_reads new.failed_reads
           mid.written new.written old.failed_writes mid.failed_writes new.failed_writes
-          c.args.server.now c.args.scene.now c.in-Err-serve_all.fault c.serve_all.new.server
+          c.args.server.now c.args.scene.now c.in_err-updates.field-0.0 c.serve_all.new.server
           c.serve_all.new.scene greeted.2 all.in_turn));
       failed = λ f is.
           let still = all.failed f is in (
             still.0,
-            unfed_then (ServerEnded f) c.in-Err-serve_all.fault 0 (Err Truncated) old.unread
+            unfed_then (ServerEnded f) c.in_err-updates.field-0.0 0 (Err Truncated) old.unread
                 mid.unread new.unread (none_read old.unread mid.unread greeted.0.0) still.1,
           );
       same_references = all.same_references ∙ greeted.0.2;
-    }
+    })

@@ -1,5 +1,6 @@
 use Rattle.std.proofs.Common.{◌≡◌, ◌<◌, take, length, refl, rules, arith, inl, inr}
 use Rattle.std.proofs.KnownBytes.{Consumes-nil}
+use Rattle.std.proofs.lemmas.Result.{err_from_is_err_and}
 use Rattle.rfb_session.specs.declared.engine.fault.EngineFault.TheVariants.{Server as ServerEnded}
 use Rattle.rfb_session.specs.ServeOrder.{MissesRead, StopsInHearing, StopsInUpdating}
 use Rattle.rfb_session.specs.Wire.{Came, Ended, Missed}
@@ -23,18 +24,19 @@ update-requires g c =
     let some : 0 < c.in-Ok.count = search rules in
     let told = g.met.W.Wire.tells c.args.wire.now c.read.new.self
     (Came (take c.in-Ok.count c.read.new.buf)) (c.in-Ok.ensures.stepped.0 some) in
-    omega (arith, told.0.1, c.in-Ok-hear.ensures.none_failed, c.requires.writable)
+    omega (arith, told.0.1, c.in_ok-hear.ensures.none_failed, c.requires.writable)
 
-pub returns-in-Err-clause-stopped : goal.returns-in-Err-clause-stopped
-returns-in-Err-clause-stopped g c =
-    let size : length c.read.new.buf ≡ 4096 = search rules in
+pub returns-in_err-hear-clause-stopped : goal.returns-in_err-hear-clause-stopped
+returns-in_err-hear-clause-stopped g c =
+    let p = err_from_is_err_and c.from_residual.result c.from_residual.ensures.1 in
+    rw (p.1, p.2) (let size : length c.read.new.buf ≡ 4096 = search rules in
     let some : 0 < c.in-Ok.count = search rules in
     StopsInHearing (take c.in-Ok.count c.read.new.buf) c.read.new.self
     (c.in-Ok.ensures.stepped.0 some)
-    (few_taken c.in-Ok.count c.read.new.buf (search rules) size) c.in-Err.ensures.stopped
+    (few_taken c.in-Ok.count c.read.new.buf (search rules) size) c.in_err-hear.ensures.stopped)
 
-pub returns-in-Ok-update-clause-turned : goal.returns-in-Ok-update-clause-turned
-returns-in-Ok-update-clause-turned g c =
+pub returns-clause-turned : goal.returns-clause-turned
+returns-clause-turned g c =
     let size : length c.read.new.buf ≡ 4096 = search rules in
     let some : 0 < c.in-Ok.count = search rules in
     record {
@@ -46,19 +48,20 @@ returns-in-Ok-update-clause-turned g c =
         few = few_taken c.in-Ok.count c.read.new.buf (search rules) size;
         heard = c.hear.new.server;
         answered = c.hear.new.wire;
-        hears = c.in-Ok-hear.ensures.answered;
-        ends = c.in-Ok-update.ensures.updated;
+        hears = c.in_ok-hear.ensures.answered;
+        ends = c.in_ok-updates.ensures.updated;
       };
     }
 
-pub returns-in-Err-update-clause-stopped : goal.returns-in-Err-update-clause-stopped
-returns-in-Err-update-clause-stopped g c =
-    let size : length c.read.new.buf ≡ 4096 = search rules in
+pub returns-in_err-updates-clause-stopped : goal.returns-in_err-updates-clause-stopped
+returns-in_err-updates-clause-stopped g c =
+    let p = err_from_is_err_and c.from_residual-in_err-updates.result c.from_residual-in_err-updates.ensures.1 in
+    rw (p.1, p.2) (let size : length c.read.new.buf ≡ 4096 = search rules in
     let some : 0 < c.in-Ok.count = search rules in
     StopsInUpdating (take c.in-Ok.count c.read.new.buf) c.read.new.self
     (c.in-Ok.ensures.stepped.0 some)
     (few_taken c.in-Ok.count c.read.new.buf (search rules) size) c.hear.new.server
-    c.hear.new.wire c.in-Ok-hear.ensures.answered c.in-Err-update.ensures.stopped
+    c.hear.new.wire c.in_ok-hear.ensures.answered c.in_err-updates.ensures.stopped)
 
 pub returns-in_default-clause-failed : goal.returns-in_default-clause-failed
 returns-in_default-clause-failed g c = λ f is.
@@ -74,23 +77,27 @@ returns-then-count-eq0-clause-failed g c = λ f is.
     (c.in-Ok.ensures.stepped.1 none) in
     (refl, inr (told.1, inr refl))
 
-pub returns-in-Err-clause-failed : goal.returns-in-Err-clause-failed
-returns-in-Err-clause-failed g c = λ f is.
+pub returns-in_err-hear-clause-failed : goal.returns-in_err-hear-clause-failed
+returns-in_err-hear-clause-failed g c =
+    let p = err_from_is_err_and c.from_residual.result c.from_residual.ensures.1 in
+    rw (p.1, p.2) (λ f is.
     let some : 0 < c.in-Ok.count = search rules in
-    let again = c.in-Err.ensures.failed
+    let again = c.in_err-hear.ensures.failed
     (some_taken c.in-Ok.count c.read.new.buf some (search rules)) f is in
-    (again.1, inl (err_as (ServerEnded f) c.in-Err.fault again.0))
+    (again.1, inl (err_as (ServerEnded f) c.in_err-hear.field-0.0 again.0)))
 
-pub returns-in-Ok-update-clause-failed : goal.returns-in-Ok-update-clause-failed
-returns-in-Ok-update-clause-failed g c = λ f is.
+pub returns-clause-failed : goal.returns-clause-failed
+returns-clause-failed g c = λ f is.
     let some : 0 < c.in-Ok.count = search rules in
-    let again = c.in-Ok-hear.ensures.failed
+    let again = c.in_ok-hear.ensures.failed
     (some_taken c.in-Ok.count c.read.new.buf some (search rules)) f is in
     absurd (no_answer tt (ServerEnded f) again.0)
 
-pub returns-in-Err-update-clause-failed : goal.returns-in-Err-update-clause-failed
-returns-in-Err-update-clause-failed g c = λ f is.
+pub returns-in_err-updates-clause-failed : goal.returns-in_err-updates-clause-failed
+returns-in_err-updates-clause-failed g c =
+    let p = err_from_is_err_and c.from_residual-in_err-updates.result c.from_residual-in_err-updates.ensures.1 in
+    rw (p.1, p.2) (λ f is.
     let some : 0 < c.in-Ok.count = search rules in
-    let again = c.in-Ok-hear.ensures.failed
+    let again = c.in_ok-hear.ensures.failed
     (some_taken c.in-Ok.count c.read.new.buf some (search rules)) f is in
-    absurd (no_answer tt (ServerEnded f) again.0)
+    absurd (no_answer tt (ServerEnded f) again.0))

@@ -1,4 +1,5 @@
 use Rattle.std.proofs.Common.{◌≡◌, ◌<◌, ◌+◌, ◌∙◌, ℕ, [], Ok, Err, refl, arith, rules, ap}
+use Rattle.std.proofs.lemmas.Result.{err_from_is_err_and}
 use Rattle.rfb_viewer.specs.declared.viewer.Viewer.{Viewer}
 use Rattle.rfb_viewer.specs.Standing.{fault_of}
 use Rattle.rfb_session.specs.declared.engine.fault.EngineFault.TheVariants.{Viewer as ViewerEnded}
@@ -31,28 +32,29 @@ loop-left-preserved g c =
     let some : 0 < l.left = search rules in
     record {
       looks = looking_more (by_steps g.W.Wire.steps) (steps_join g.W.Wire.steps)
-          c.args.viewer.now c.args.bytes.now l.rest.now c.args.before l.left c.in-Ok.fewer
+          c.args.viewer.now c.args.bytes.now l.rest.now c.args.before l.left c.in_ok-used.fewer
           c.args.wire.now l.wire c.look_once.new.wire (g.K.Sink.written c.args.kept.now)
           (g.K.Sink.written l.kept) (g.K.Sink.written c.look_once.new.kept) l.viewer
-          c.in-Ok.used c.look_once.new.viewer l.invariant.looks some c.in-Ok.ensures.looked;
-      none_unwritten = c.in-Ok.ensures.none_failed.0 ∙ l.invariant.none_unwritten;
-      none_unkept = c.in-Ok.ensures.none_failed.1 ∙ l.invariant.none_unkept;
+          c.in_ok-used.used c.look_once.new.viewer l.invariant.looks some c.in_ok-used.ensures.looked;
+      none_unwritten = c.in_ok-used.ensures.none_failed.0 ∙ l.invariant.none_unwritten;
+      none_unkept = c.in_ok-used.ensures.none_failed.1 ∙ l.invariant.none_unkept;
       same_reference = c.look_once.ensures.same_reference ∙ l.invariant.same_reference;
       failed = λ f is.
-          let again = c.in-Ok.ensures.failed f
+          let again = c.in_ok-used.ensures.failed f
           (ap (λ (v : Viewer). fault_of v) (l.invariant.failed f is).2 ∙ is) in
-          absurd (no_answer (c.in-Ok.used, c.in-Ok.fewer) (ViewerEnded f) again.0);
+          absurd (no_answer (c.in_ok-used.used, c.in_ok-used.fewer) (ViewerEnded f) again.0);
       heard = heard_more g.A.Watcher.steps (λ (n : ℕ). c.args.before ≡ n + l.left)
-          (λ (n : ℕ). c.args.before ≡ n + c.in-Ok.fewer) c.args.viewer.now c.args.watcher.now
-          c.args.bytes.now l.rest.now l.viewer l.watcher c.in-Ok.used c.in-Ok.ensures.heard.0
-          c.look_once.new.viewer c.look_once.new.watcher l.invariant.heard c.in-Ok.ensures.heard.2
-          (λ n was. more_counted c.args.before n l.left c.in-Ok.ensures.heard.0 c.in-Ok.fewer was
-          c.in-Ok.ensures.heard.1);
+          (λ (n : ℕ). c.args.before ≡ n + c.in_ok-used.fewer) c.args.viewer.now c.args.watcher.now
+          c.args.bytes.now l.rest.now l.viewer l.watcher c.in_ok-used.used c.in_ok-used.ensures.heard.0
+          c.look_once.new.viewer c.look_once.new.watcher l.invariant.heard c.in_ok-used.ensures.heard.2
+          (λ n was. more_counted c.args.before n l.left c.in_ok-used.ensures.heard.0 c.in_ok-used.fewer was
+          c.in_ok-used.ensures.heard.1);
     }
 
-pub returns-in-Err-clause-stopped : goal.returns-in-Err-clause-stopped
-returns-in-Err-clause-stopped g c =
-    let l = c.loop-left in
+pub returns-in_err-used-clause-stopped : goal.returns-in_err-used-clause-stopped
+returns-in_err-used-clause-stopped g c =
+    let p = err_from_is_err_and c.from_residual.result c.from_residual.ensures.1 in
+    rw (p.1, p.2) (let l = c.loop-left in
     let some : 0 < l.left = search rules in
     looking_stops (by_steps g.W.Wire.steps) (steps_join g.W.Wire.steps) c.args.viewer.now
     c.args.bytes.now l.rest.now c.args.before l.left c.args.wire.now l.wire c.look_once.new.wire
@@ -61,27 +63,30 @@ returns-in-Err-clause-stopped g c =
     ((g.W.Wire.known c.args.wire.now).failed_writes + g.K.Sink.failed c.args.kept.now)
     ((g.W.Wire.known l.wire).failed_writes + g.K.Sink.failed l.kept)
     ((g.W.Wire.known c.look_once.new.wire).failed_writes + g.K.Sink.failed c.look_once.new.kept)
-    c.in-Err.fault c.look_once.new.viewer l.invariant.looks some
+    c.in_err-used.field-0.0 c.look_once.new.viewer l.invariant.looks some
     (omega (arith, l.invariant.none_unwritten, l.invariant.none_unkept))
-    c.in-Err.ensures.stopped
+    c.in_err-used.ensures.stopped)
 
-pub returns-in-Err-clause-failed : goal.returns-in-Err-clause-failed
-returns-in-Err-clause-failed g c = λ some f is.
+pub returns-in_err-used-clause-failed : goal.returns-in_err-used-clause-failed
+returns-in_err-used-clause-failed g c =
+    let p = err_from_is_err_and c.from_residual.result c.from_residual.ensures.1 in
+    rw (p.1, p.2) (λ some f is.
     let l = c.loop-left in
     let was = l.invariant.failed f is in
-    let again = c.in-Err.ensures.failed f (ap (λ (v : Viewer). fault_of v) was.2 ∙ is) in
-    (err_as (ViewerEnded f) c.in-Err.fault again.0, again.1 ∙ was.2)
+    let again = c.in_err-used.ensures.failed f (ap (λ (v : Viewer). fault_of v) was.2 ∙ is) in
+    (err_as (ViewerEnded f) c.in_err-used.field-0.0 again.0, again.1 ∙ was.2))
 
-pub returns-in-Err-clause-heard : goal.returns-in-Err-clause-heard
-returns-in-Err-clause-heard g c =
-    let l = c.loop-left in
+pub returns-in_err-used-clause-heard : goal.returns-in_err-used-clause-heard
+returns-in_err-used-clause-heard g c =
+    let p = err_from_is_err_and c.from_residual.result c.from_residual.ensures.1 in
+    rw (p.1, p.2) (let l = c.loop-left in
     heard_within g.A.Watcher.steps (λ (n : ℕ). c.args.before ≡ n + l.left)
-    (EndsLooking l.left (Err c.in-Err.fault) c.look_once.new.viewer)
-    (EndsLooking c.args.before (Err c.in-Err.fault) c.look_once.new.viewer) c.args.viewer.now
+    (EndsLooking l.left (Err c.in_err-used.field-0.0) c.look_once.new.viewer)
+    (EndsLooking c.args.before (Err c.in_err-used.field-0.0) c.look_once.new.viewer) c.args.viewer.now
     c.args.watcher.now c.args.bytes.now l.rest.now l.viewer l.watcher c.look_once.new.watcher
-    l.invariant.heard c.in-Err.ensures.heard_so_far
-    (λ m n later last was ends. still_looked l.left c.args.before n (m + n) later last c.in-Err.fault
-    c.look_once.new.viewer ends)
+    l.invariant.heard c.in_err-used.ensures.heard_so_far
+    (λ m n later last was ends. still_looked l.left c.args.before n (m + n) later last c.in_err-used.field-0.0
+    c.look_once.new.viewer ends))
 
 -- no byte is left
 pub returns-else-not-is_empty-clause-heard : goal.returns-else-not-is_empty-clause-heard

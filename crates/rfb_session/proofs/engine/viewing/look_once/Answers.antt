@@ -1,5 +1,6 @@
 use Rattle.std.proofs.Common.{[], refl, take, drop, sym, take-append-drop, arith}
 use Rattle.std.proofs.KnownBytes.{Appends-nil}
+use Rattle.std.proofs.lemmas.Result.{err_from_is_err_and}
 use Rattle.rfb_viewer.specs.Told.{seen}
 use Rattle.rfb_session.specs.Watcher.{NoCall}
 use Rattle.rfb_session.specs.Watching.{ends_told}
@@ -9,35 +10,40 @@ use Rattle.rfb_session.proofs.WatcherLemmas.{hears_asked, hears_once}
 use Rattle.rfb_session.proofs.WireLemmas.{steps_join}
 use Rattle.rfb_session.proofs.engine.viewing.look_once.Goals as goal
 
-pub returns-in-Ok-answer-clause-looked : goal.returns-in-Ok-answer-clause-looked
-returns-in-Ok-answer-clause-looked g c =
+pub returns-in_ok-fewer-in-Ok-clause-looked : goal.returns-in_ok-fewer-in-Ok-clause-looked
+returns-in_ok-fewer-in-Ok-clause-looked g c =
     call_looks (by_steps g.W.Wire.steps) (steps_join g.W.Wire.steps) c.args.viewer.now
     c.feed.new.self c.answer.new.viewer (take c.in-Ok.fed.used c.args.bytes.now)
-    (seen c.in-Ok.fed.event) c.args.left c.in-Ok-answer.fewer c.args.wire.now c.answer.new.wire
+    (seen c.in-Ok.fed.event) c.args.left c.in_ok-fewer-in-Ok.fewer c.args.wire.now c.answer.new.wire
     (g.K.Sink.written c.args.kept.now) (g.K.Sink.written c.send.new.sink) c.in-Ok.ensures.fed
-    c.in-Ok-send.ensures.done c.in-Ok-answer.ensures.answered
+    c.in_ok-send-in-Ok.ensures.done c.in_ok-fewer-in-Ok.ensures.answered
 
-pub returns-in-Ok-send-clause-stopped : goal.returns-in-Ok-send-clause-stopped
-returns-in-Ok-send-clause-stopped g c = (
-  omega (arith, c.in-Err-answer.ensures.one_failed, c.in-Ok-send.ensures.none_failed),
-  call_unanswered (by_steps g.W.Wire.steps) (steps_join g.W.Wire.steps) c.args.viewer.now
-      c.feed.new.self c.answer.new.viewer c.args.bytes.now c.in-Ok.fed.used
-      (seen c.in-Ok.fed.event) c.args.wire.now c.answer.new.wire
-      (g.K.Sink.written c.args.kept.now) (g.K.Sink.written c.send.new.sink) c.in-Ok.ensures.fed
-      c.in-Ok-send.ensures.done c.in-Err-answer.ensures.stopped,
-)
+pub returns-in_err-fewer-in-Ok-clause-stopped : goal.returns-in_err-fewer-in-Ok-clause-stopped
+returns-in_err-fewer-in-Ok-clause-stopped g c =
+    let p = err_from_is_err_and c.from_residual-in_err-fewer-in-Ok.result
+    c.from_residual-in_err-fewer-in-Ok.ensures.1 in
+    rw (p.1, p.2) ((
+      omega (arith, c.in_err-fewer-in-Ok.ensures.one_failed, c.in_ok-send-in-Ok.ensures.none_failed),
+      call_unanswered (by_steps g.W.Wire.steps) (steps_join g.W.Wire.steps) c.args.viewer.now
+          c.feed.new.self c.answer.new.viewer c.args.bytes.now c.in-Ok.fed.used
+          (seen c.in-Ok.fed.event) c.args.wire.now c.answer.new.wire
+          (g.K.Sink.written c.args.kept.now) (g.K.Sink.written c.send.new.sink) c.in-Ok.ensures.fed
+          c.in_ok-send-in-Ok.ensures.done c.in_err-fewer-in-Ok.ensures.stopped,
+    ))
 
-pub returns-in-Ok-clause-stopped : goal.returns-in-Ok-clause-stopped
-returns-in-Ok-clause-stopped g c = (
-  omega (arith, c.in-Err-send.ensures.one_failed),
-  call_unkept (by_steps g.W.Wire.steps) (steps_join g.W.Wire.steps) c.args.viewer.now
-      c.feed.new.self c.args.bytes.now c.in-Ok.fed.used (seen c.in-Ok.fed.event)
-      c.args.wire.now (g.K.Sink.written c.args.kept.now) (g.K.Sink.written c.send.new.sink)
-      c.in-Ok.ensures.fed c.in-Err-send.ensures.stopped,
-)
+pub returns-in_err-send-in-Ok-clause-stopped : goal.returns-in_err-send-in-Ok-clause-stopped
+returns-in_err-send-in-Ok-clause-stopped g c =
+    let p = err_from_is_err_and c.from_residual.result c.from_residual.ensures.1 in
+    rw (p.1, p.2) ((
+      omega (arith, c.in_err-send-in-Ok.ensures.one_failed),
+      call_unkept (by_steps g.W.Wire.steps) (steps_join g.W.Wire.steps) c.args.viewer.now
+          c.feed.new.self c.args.bytes.now c.in-Ok.fed.used (seen c.in-Ok.fed.event)
+          c.args.wire.now (g.K.Sink.written c.args.kept.now) (g.K.Sink.written c.send.new.sink)
+          c.in-Ok.ensures.fed c.in_err-send-in-Ok.ensures.stopped,
+    ))
 
-pub returns-clause-stopped : goal.returns-clause-stopped
-returns-clause-stopped g c = record {
+pub returns-in-Err-clause-stopped : goal.returns-in-Err-clause-stopped
+returns-in-Err-clause-stopped g c = record {
   fed = [];
   slice = c.args.bytes.now;
   sent = [];
@@ -65,11 +71,11 @@ returns-clause-stopped g c = record {
   };
 }
 
-pub returns-in-Ok-answer-clause-heard : goal.returns-in-Ok-answer-clause-heard
-returns-in-Ok-answer-clause-heard g c =
+pub returns-in_ok-fewer-in-Ok-clause-heard : goal.returns-in_ok-fewer-in-Ok-clause-heard
+returns-in_ok-fewer-in-Ok-clause-heard g c =
     let event = seen c.in-Ok.fed.event in (
       ends_told event,
-      c.in-Ok-answer.ensures.answered.counted,
+      c.in_ok-fewer-in-Ok.ensures.answered.counted,
       hears_asked g.A.Watcher.steps c.args.viewer.now c.feed.new.self c.answer.new.viewer
           c.args.watcher.now c.tell.new.watcher (take c.in-Ok.fed.used c.args.bytes.now) (ends_told event)
           (hears_once g.A.Watcher.steps c.args.viewer.now c.feed.new.self c.args.watcher.now
@@ -77,9 +83,11 @@ returns-in-Ok-answer-clause-heard g c =
           c.tell.ensures) c.answer.ensures.asked,
     )
 
-pub returns-in-Ok-send-clause-heard_so_far : goal.returns-in-Ok-send-clause-heard_so_far
-returns-in-Ok-send-clause-heard_so_far g c =
-    let event = seen c.in-Ok.fed.event in
+pub returns-in_err-fewer-in-Ok-clause-heard_so_far : goal.returns-in_err-fewer-in-Ok-clause-heard_so_far
+returns-in_err-fewer-in-Ok-clause-heard_so_far g c =
+    let p = err_from_is_err_and c.from_residual-in_err-fewer-in-Ok.result
+    c.from_residual-in_err-fewer-in-Ok.ensures.1 in
+    rw (p.1, p.2) (let event = seen c.in-Ok.fed.event in
     record {
       fed = take c.in-Ok.fed.used c.args.bytes.now;
       later = drop c.in-Ok.fed.used c.args.bytes.now;
@@ -92,11 +100,12 @@ returns-in-Ok-send-clause-heard_so_far g c =
           c.tell.new.watcher (take c.in-Ok.fed.used c.args.bytes.now) event c.in-Ok.ensures.fed
           c.tell.ensures) c.answer.ensures.asked;
       ends = refl;
-    }
+    })
 
-pub returns-in-Ok-clause-heard_so_far : goal.returns-in-Ok-clause-heard_so_far
-returns-in-Ok-clause-heard_so_far g c =
-    let event = seen c.in-Ok.fed.event in
+pub returns-in_err-send-in-Ok-clause-heard_so_far : goal.returns-in_err-send-in-Ok-clause-heard_so_far
+returns-in_err-send-in-Ok-clause-heard_so_far g c =
+    let p = err_from_is_err_and c.from_residual.result c.from_residual.ensures.1 in
+    rw (p.1, p.2) (let event = seen c.in-Ok.fed.event in
     record {
       fed = take c.in-Ok.fed.used c.args.bytes.now;
       later = drop c.in-Ok.fed.used c.args.bytes.now;
@@ -107,10 +116,10 @@ returns-in-Ok-clause-heard_so_far g c =
           c.tell.new.watcher (take c.in-Ok.fed.used c.args.bytes.now) event c.in-Ok.ensures.fed
           c.tell.ensures;
       ends = refl;
-    }
+    })
 
-pub returns-clause-heard_so_far : goal.returns-clause-heard_so_far
-returns-clause-heard_so_far g c = record {
+pub returns-in-Err-clause-heard_so_far : goal.returns-in-Err-clause-heard_so_far
+returns-in-Err-clause-heard_so_far g c = record {
   fed = [];
   later = c.args.bytes.now;
   updates = 0;

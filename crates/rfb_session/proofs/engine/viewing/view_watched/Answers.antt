@@ -1,6 +1,7 @@
 use Rattle.std.proofs.Common.{◌≡◌, ◌∙◌, ◌<◌, ◌≤◌, ◌+◌, ◌-◌, ◌^◌, ℕ, List, Option, take, length}
 use Rattle.std.proofs.Common.{refl, sym, subst, inl, inr, arith, rules, ap, Ok, Err}
 use Rattle.std.proofs.KnownBytes.{Consumes-nil}
+use Rattle.std.proofs.lemmas.Result.{err_from_is_err_and}
 use Rattle.rfb_viewer.specs.declared.viewer.Viewer.{Viewer}
 use Rattle.rfb_viewer.specs.Standing.{fault_of}
 use Rattle.rfb_session.specs.declared.engine.fault.EngineFault.TheVariants.{Viewer as ViewerEnded, Truncated, Device}
@@ -132,15 +133,15 @@ returns-then-count-eq0 g c =
     }
 
 -- the last update ended
-pub returns-in-Ok-eq0 : goal.returns-in-Ok-eq0
-returns-in-Ok-eq0 g c =
+pub returns-then-fewer-eq0 : goal.returns-then-fewer-eq0
+returns-then-fewer-eq0 g c =
     let l = c.loop-turn in
     let old = g.W.Wire.known c.args.wire.now in
     let mid = g.W.Wire.known l.wire in
     let new = g.W.Wire.known c.look.new.wire in
     let size : length c.read.new.buf ≡ 32768 = search rules in
     let some : 0 < c.in-Ok.count = search rules in
-    let none : c.in-Ok-eq0.field-0 ≡ 0 = search rules in
+    let none : c.in_ok-fewer.fewer ≡ 0 = search rules in
     let over : LookOver g.W.Wire.steps l.wire (g.K.Sink.written l.kept) l.viewer l.left 0
     c.look.new.wire (g.K.Sink.written c.look.new.kept) c.look.new.viewer = record {
       bytes = take c.in-Ok.count c.read.new.buf;
@@ -151,7 +152,7 @@ returns-in-Ok-eq0 g c =
       looked = subst (λ (n : ℕ). HasLooked (by_steps g.W.Wire.steps) l.viewer
           (take c.in-Ok.count c.read.new.buf) l.left n c.read.new.self c.look.new.wire
           (g.K.Sink.written l.kept) (g.K.Sink.written c.look.new.kept) c.look.new.viewer) none
-          c.in-Ok-eq0.ensures.looked;
+          c.in_ok-fewer.ensures.looked;
     } in
     let look = look_known g.W.Wire.steps g.W.Wire.known g.met.W.Wire.tells l.wire
     (g.K.Sink.written l.kept) l.viewer l.left 0 c.look.new.wire
@@ -174,28 +175,29 @@ returns-in-Ok-eq0 g c =
       none_failed = (
         all.0,
         all.1,
-        c.in-Ok-eq0.ensures.none_failed.1 ∙ l.invariant.none_unkept,
+        c.in_ok-fewer.ensures.none_failed.1 ∙ l.invariant.none_unkept,
       );
       stopped = tt;
       failed = λ f is.
-          let again = c.in-Ok-eq0.ensures.failed over.some f
+          let again = c.in_ok-fewer.ensures.failed over.some f
           (ap (λ (v : Viewer). fault_of v) (l.invariant.failed f is).1 ∙ is) in
-          absurd (no_answer c.in-Ok-eq0.field-0 (ViewerEnded f) again.0);
+          absurd (no_answer c.in_ok-fewer.fewer (ViewerEnded f) again.0);
       same_reference = c.look.ensures.same_reference ∙ l.invariant.same_reference;
       same_references = all.2;
       heard = over_ends g.A.Watcher.steps (λ (n : ℕ). c.args.updates ≡ n + l.left)
-          (EndsLooking l.left (Ok c.in-Ok-eq0.field-0) c.look.new.viewer)
+          (EndsLooking l.left (Ok c.in_ok-fewer.fewer) c.look.new.viewer)
           (EndsViewing c.args.updates (Ok c.args.updates) c.look.new.viewer) old.unread mid.unread
           new.unread c.args.viewer.now c.args.watcher.now l.viewer l.watcher
           (take c.in-Ok.count c.read.new.buf) c.look.new.watcher l.invariant.heard look.1
-          c.in-Ok-eq0.ensures.heard
+          c.in_ok-fewer.ensures.heard
           (λ m n later last was ends. (omega (arith, was, ends.0, none), ends.1));
     }
 
 -- it stopped within a read
-pub returns-in-Err : goal.returns-in-Err
-returns-in-Err g c =
-    let l = c.loop-turn in
+pub returns-in_err-fewer : goal.returns-in_err-fewer
+returns-in_err-fewer g c =
+    let p = err_from_is_err_and c.from_residual.result c.from_residual.ensures.1 in
+    rw (p.1, p.2) (let l = c.loop-turn in
     let old = g.W.Wire.known c.args.wire.now in
     let mid = g.W.Wire.known l.wire in
     let new = g.W.Wire.known c.look.new.wire in
@@ -206,18 +208,18 @@ returns-in-Err g c =
     let cut = cut_known g.W.Wire.steps g.W.Wire.known g.met.W.Wire.tells l.wire c.read.new.self
     c.look.new.wire l.viewer (take c.in-Ok.count c.read.new.buf) (g.K.Sink.written l.kept)
     (g.K.Sink.written c.look.new.kept) (g.K.Sink.failed l.kept)
-    (new.failed_writes + g.K.Sink.failed c.look.new.kept) c.in-Err.fault c.look.new.viewer step
-    c.in-Err.ensures.stopped in
+    (new.failed_writes + g.K.Sink.failed c.look.new.kept) c.in_err-fewer.field-0.0 c.look.new.viewer step
+    c.in_err-fewer.ensures.stopped in
     record {
       in_order = tt;
       stopped_in_order = view_cut g.W.Wire.steps g.W.Wire.known c.args.wire.now l.wire
           (g.K.Sink.written c.args.kept.now) (g.K.Sink.written l.kept) c.args.viewer.now l.viewer
           c.args.updates l._turn l.left l.invariant.order l.invariant.viewed.going
-          c.read.new.self c.look.new.wire (take c.in-Ok.count c.read.new.buf) c.in-Err.fault
+          c.read.new.self c.look.new.wire (take c.in-Ok.count c.read.new.buf) c.in_err-fewer.field-0.0
           (g.K.Sink.written c.look.new.kept) (g.K.Sink.failed c.args.kept.now)
           (g.K.Sink.failed l.kept) (g.K.Sink.failed c.look.new.kept) c.look.new.viewer step
           (few_taken c.in-Ok.count c.read.new.buf (search rules) size) l.invariant.none_unkept
-          c.in-Err.ensures.stopped;
+          c.in_err-fewer.ensures.stopped;
       told = tt;
       viewed = tt;
       none_failed = tt;
@@ -229,26 +231,26 @@ returns-in-Err g c =
           (new.failed_writes + g.K.Sink.failed c.look.new.kept)
           (old.failed_reads + old.failed_writes + g.K.Sink.failed c.args.kept.now)
           (new.failed_reads + new.failed_writes + g.K.Sink.failed c.look.new.kept)
-          c.in-Err.fault c.look.new.viewer l.invariant.viewed cut.2
+          c.in_err-fewer.field-0.0 c.look.new.viewer l.invariant.viewed cut.2
           (λ same. omega (arith, same, cut.0, none.0, none.1, l.invariant.none_unkept))
           (λ one. omega (arith, one, cut.0, none.0, none.1, l.invariant.none_unkept)) cut.3;
       failed = λ f is.
           let was = l.invariant.failed f is in
-          let again = c.in-Err.ensures.failed
+          let again = c.in_err-fewer.ensures.failed
           (some_taken c.in-Ok.count c.read.new.buf some (search rules)) f
           (ap (λ (v : Viewer). fault_of v) was.1 ∙ is) in
-          (again.1 ∙ was.1, inl (err_as (ViewerEnded f) c.in-Err.fault again.0));
+          (again.1 ∙ was.1, inl (err_as (ViewerEnded f) c.in_err-fewer.field-0.0 again.0));
       same_reference = c.look.ensures.same_reference ∙ l.invariant.same_reference;
       same_references = cut.1 ∙ none.2;
       heard = over_ends g.A.Watcher.steps (λ (n : ℕ). c.args.updates ≡ n + l.left)
-          (EndsLooking l.left (Err c.in-Err.fault) c.look.new.viewer)
-          (EndsViewing c.args.updates (Err c.in-Err.fault) c.look.new.viewer) old.unread mid.unread
+          (EndsLooking l.left (Err c.in_err-fewer.field-0.0) c.look.new.viewer)
+          (EndsViewing c.args.updates (Err c.in_err-fewer.field-0.0) c.look.new.viewer) old.unread mid.unread
           new.unread c.args.viewer.now c.args.watcher.now l.viewer l.watcher
           (take c.in-Ok.count c.read.new.buf) c.look.new.watcher l.invariant.heard cut.2
-          c.in-Err.ensures.heard
+          c.in_err-fewer.ensures.heard
           (λ m n later last was ends. then_viewed l.left c.args.updates n (m + n) later last
-          c.in-Err.fault c.look.new.viewer ends);
-    }
+          c.in_err-fewer.field-0.0 c.look.new.viewer ends);
+    })
 
 pub loop-turn-preserved : goal.loop-turn-preserved
 loop-turn-preserved g c =
@@ -258,45 +260,45 @@ loop-turn-preserved g c =
     let new = g.W.Wire.known c.look.new.wire in
     let size : length c.read.new.buf ≡ 32768 = search rules in
     let some : 0 < c.in-Ok.count = search rules in
-    let going : 0 < c.in-Ok-look.fewer = search rules in
+    let going : 0 < c.in_ok-fewer.fewer = search rules in
     let over : LookOver g.W.Wire.steps l.wire (g.K.Sink.written l.kept) l.viewer l.left
-    c.in-Ok-look.fewer c.look.new.wire (g.K.Sink.written c.look.new.kept) c.look.new.viewer =
+    c.in_ok-fewer.fewer c.look.new.wire (g.K.Sink.written c.look.new.kept) c.look.new.viewer =
     record {
       bytes = take c.in-Ok.count c.read.new.buf;
       some = some_taken c.in-Ok.count c.read.new.buf some (search rules);
       few = few_taken c.in-Ok.count c.read.new.buf (search rules) size;
       came = c.read.new.self;
       read = c.in-Ok.ensures.stepped.0 some;
-      looked = c.in-Ok-look.ensures.looked;
+      looked = c.in_ok-fewer.ensures.looked;
     } in
     let look = look_known g.W.Wire.steps g.W.Wire.known g.met.W.Wire.tells l.wire
-    (g.K.Sink.written l.kept) l.viewer l.left c.in-Ok-look.fewer c.look.new.wire
+    (g.K.Sink.written l.kept) l.viewer l.left c.in_ok-fewer.fewer c.look.new.wire
     (g.K.Sink.written c.look.new.kept) c.look.new.viewer over in
     record {
-      order = NextLook l._turn l.left c.in-Ok-look.fewer l.wire c.look.new.wire
+      order = NextLook l._turn l.left c.in_ok-fewer.fewer l.wire c.look.new.wire
           (g.K.Sink.written l.kept) (g.K.Sink.written c.look.new.kept) l.viewer
           c.look.new.viewer l.invariant.order l.invariant.viewed.going over;
       viewed = viewing_more old.unread mid.unread new.unread old.written mid.written new.written
           (g.K.Sink.written c.args.kept.now) (g.K.Sink.written l.kept)
           (g.K.Sink.written c.look.new.kept) c.args.viewer.now l._turn c.args.updates l.left
-          c.in-Ok-look.fewer l.viewer (take c.in-Ok.count c.read.new.buf) c.look.new.viewer
+          c.in_ok-fewer.fewer l.viewer (take c.in-Ok.count c.read.new.buf) c.look.new.viewer
           l.invariant.viewed look.1 over.some look.2 going;
       none_failed = none_failed_then old mid new l.invariant.none_failed look.0;
-      none_unkept = c.in-Ok-look.ensures.none_failed.1 ∙ l.invariant.none_unkept;
+      none_unkept = c.in_ok-fewer.ensures.none_failed.1 ∙ l.invariant.none_unkept;
       same_reference = c.look.ensures.same_reference ∙ l.invariant.same_reference;
       size = size;
       failed = λ f is.
-          let again = c.in-Ok-look.ensures.failed over.some f
+          let again = c.in_ok-fewer.ensures.failed over.some f
           (ap (λ (v : Viewer). fault_of v) (l.invariant.failed f is).1 ∙ is) in
-          absurd (no_answer c.in-Ok-look.fewer (ViewerEnded f) again.0);
+          absurd (no_answer c.in_ok-fewer.fewer (ViewerEnded f) again.0);
       heard = over_more g.A.Watcher.steps (λ (n : ℕ). c.args.updates ≡ n + l.left)
-          (λ (n : ℕ). c.args.updates ≡ n + c.in-Ok-look.fewer)
-          (EndsLooking l.left (Ok c.in-Ok-look.fewer) c.look.new.viewer) old.unread mid.unread
+          (λ (n : ℕ). c.args.updates ≡ n + c.in_ok-fewer.fewer)
+          (EndsLooking l.left (Ok c.in_ok-fewer.fewer) c.look.new.viewer) old.unread mid.unread
           new.unread c.args.viewer.now c.args.watcher.now l.viewer l.watcher
           (take c.in-Ok.count c.read.new.buf) c.look.new.viewer c.look.new.watcher
-          l.invariant.heard look.1 c.in-Ok-look.ensures.heard
+          l.invariant.heard look.1 c.in_ok-fewer.ensures.heard
           (λ m n later last was ends. (
-            more_counted c.args.updates m l.left n c.in-Ok-look.fewer was ends.0,
+            more_counted c.args.updates m l.left n c.in_ok-fewer.fewer was ends.0,
             ends.1,
             ends.2 going,
           ));

@@ -1,29 +1,32 @@
 use Rattle.std.proofs.Common.{take}
+use Rattle.std.proofs.lemmas.Result.{err_from_is_err_and}
 use Rattle.rfb_viewer.specs.Told.{seen}
 use Rattle.rfb_session.specs.Watching.{ends_told}
 use Rattle.rfb_session.proofs.WatcherLemmas.{hears_once}
 use Rattle.rfb_session.proofs.engine.playing.feeding.feed_once.Goals as goal
 
-pub returns-in-Ok-clause-counted : goal.returns-in-Ok-clause-counted
-returns-in-Ok-clause-counted g c = record {
-  event = seen c.in-Ok.fed.event;
-  fed = c.in-Ok.ensures.fed;
+pub returns-clause-counted : goal.returns-clause-counted
+returns-clause-counted g c = record {
+  event = seen c.in_ok-fed.fed.event;
+  fed = c.in_ok-fed.ensures.fed;
   told_is = c.count.ensures;
 }
 
-pub returns-in-Ok-clause-heard : goal.returns-in-Ok-clause-heard
-returns-in-Ok-clause-heard g c = (
-  ends_told (seen c.in-Ok.fed.event),
+pub returns-clause-heard : goal.returns-clause-heard
+returns-clause-heard g c = (
+  ends_told (seen c.in_ok-fed.fed.event),
   c.count.ensures,
   hears_once g.A.Watcher.steps c.args.viewer.now c.feed.new.self c.args.watcher.now c.tell.new.watcher
-      (take c.in-Ok.fed.used c.args.bytes.now) (seen c.in-Ok.fed.event) c.in-Ok.ensures.fed c.tell.ensures,
+      (take c.in_ok-fed.fed.used c.args.bytes.now) (seen c.in_ok-fed.fed.event) c.in_ok-fed.ensures.fed c.tell.ensures,
 )
 
-pub returns-in-Err-clause-ends : goal.returns-in-Err-clause-ends
-returns-in-Err-clause-ends g c = record {
-  fails = c.in-Err.ensures.fails;
-  refused = c.in-Err.ensures.fault;
-  starved = c.in-Err.ensures.memory;
-  picture = c.in-Err.ensures.picture;
-  reason = c.in-Err.ensures.reason;
-}
+pub returns-in_err-fed-clause-ends : goal.returns-in_err-fed-clause-ends
+returns-in_err-fed-clause-ends g c =
+    let p = err_from_is_err_and c.from_residual.result c.from_residual.ensures.1 in
+    rw (p.1, p.2) (record {
+      fails = c.in_err-fed.ensures.fails;
+      refused = c.in_err-fed.ensures.fault;
+      starved = c.in_err-fed.ensures.memory;
+      picture = c.in_err-fed.ensures.picture;
+      reason = c.in_err-fed.ensures.reason;
+    })

@@ -1,4 +1,5 @@
 use Rattle.std.proofs.Common.{◌+◌, ◌-◌, ◌^◌, min, arith, rules, ◌≡◌, ◌∙◌, ap, List, ℕ, length, refl, [], Ok, Err}
+use Rattle.std.proofs.lemmas.Result.{err_from_is_err_and}
 use Rattle.rfb_viewer.specs.declared.viewer.Viewer.{Viewer}
 use Rattle.rfb_viewer.specs.Standing.{fault_of}
 use Rattle.rfb_session.specs.PlayingSome.{AreFewer, AreNoFewer}
@@ -23,83 +24,87 @@ loop-rest-init g c = record {
 pub returns-then-are_enough-clause-few : goal.returns-then-are_enough-clause-few
 returns-then-are_enough-clause-few g c =
     let l = c.loop-rest in
-    counted_at_most c.args.enough l.viewer _ l.updates c.in-Ok.more c.feed_once.new.viewer l.invariant.few
-    c.in-Ok.ensures.counted
+    counted_at_most c.args.enough l.viewer _ l.updates c.in_ok-used.more c.feed_once.new.viewer l.invariant.few
+    c.in_ok-used.ensures.counted
 
 pub returns-then-are_enough-clause-watched : goal.returns-then-are_enough-clause-watched
 returns-then-are_enough-clause-watched g c =
-    let many : AreNoFewer c.args.enough c.in-Ok.more = search rules in
-    λ few. absurd (few_not_many c.args.enough c.in-Ok.more few many)
+    let many : AreNoFewer c.args.enough c.in_ok-used.more = search rules in
+    λ few. absurd (few_not_many c.args.enough c.in_ok-used.more few many)
 
 pub returns-then-are_enough-clause-first : goal.returns-then-are_enough-clause-first
 returns-then-are_enough-clause-first g c =
     let l = c.loop-rest in
-    let many : AreNoFewer c.args.enough c.in-Ok.more = search rules in
+    let many : AreNoFewer c.args.enough c.in_ok-used.more = search rules in
     λ same. some_enough c.args.enough c.args.viewer.now c.args.bytes.now c.args.before l.rest.now l.updates
-    l.viewer c.in-Ok.used c.feed_once.new.viewer c.in-Ok.more
-    l.invariant.watched c.in-Ok.ensures.counted l.invariant.few many
+    l.viewer c.in_ok-used.used c.feed_once.new.viewer c.in_ok-used.more
+    l.invariant.watched c.in_ok-used.ensures.counted l.invariant.few many
 
 pub returns-then-are_enough-clause-failed : goal.returns-then-are_enough-clause-failed
 returns-then-are_enough-clause-failed g c = λ some f is.
-    absurd (no_answer (c.in-Ok.used, c.in-Ok.more) f (c.in-Ok.ensures.failed f
+    absurd (no_answer (c.in_ok-used.used, c.in_ok-used.more) f (c.in_ok-used.ensures.failed f
     (ap (λ (v : Viewer). fault_of v) (c.loop-rest.invariant.failed f is).1 ∙ is)).0)
 
 pub returns-then-are_enough-clause-heard : goal.returns-then-are_enough-clause-heard
 returns-then-are_enough-clause-heard g c =
     let l = c.loop-rest in
-    let many : AreNoFewer c.args.enough c.in-Ok.more = search rules in
-    let one = c.in-Ok.ensures.heard in
+    let many : AreNoFewer c.args.enough c.in_ok-used.more = search rules in
+    let one = c.in_ok-used.ensures.heard in
     heard_last g.A.Watcher.steps (λ (n : ℕ). l.updates ≡ min (c.args.before + n) (2 ^ 64 - 1))
-    (EndsRead c.args.enough c.args.before (Ok c.in-Ok.more) c.feed_once.new.viewer) c.args.viewer.now
-    c.args.watcher.now c.args.bytes.now l.rest.now l.viewer l.watcher c.in-Ok.used one.0
+    (EndsRead c.args.enough c.args.before (Ok c.in_ok-used.more) c.feed_once.new.viewer) c.args.viewer.now
+    c.args.watcher.now c.args.bytes.now l.rest.now l.viewer l.watcher c.in_ok-used.used one.0
     c.feed_once.new.viewer c.feed_once.new.watcher l.invariant.heard one.2
     (λ n was. (
-      counts_on c.args.before n one.0 l.updates c.in-Ok.more was one.1,
+      counts_on c.args.before n one.0 l.updates c.in_ok-used.more was one.1,
       refl,
-      (λ few. absurd (few_not_many c.args.enough c.in-Ok.more few many)),
+      (λ few. absurd (few_not_many c.args.enough c.in_ok-used.more few many)),
     ))
 
 pub loop-rest-preserved : goal.loop-rest-preserved
 loop-rest-preserved g c =
     let l = c.loop-rest in
-    let few : AreFewer c.args.enough c.in-Ok.more = search rules in
-    let one = c.in-Ok.ensures.heard in
+    let few : AreFewer c.args.enough c.in_ok-used.more = search rules in
+    let one = c.in_ok-used.ensures.heard in
     record {
       watched = some_more c.args.viewer.now c.args.bytes.now c.args.before l.rest.now l.updates
-          l.viewer c.in-Ok.used c.feed_once.new.viewer c.in-Ok.more l.invariant.watched
-          c.in-Ok.ensures.counted;
+          l.viewer c.in_ok-used.used c.feed_once.new.viewer c.in_ok-used.more l.invariant.watched
+          c.in_ok-used.ensures.counted;
       few = few;
-      failed = λ f is. absurd (no_answer (c.in-Ok.used, c.in-Ok.more) f (c.in-Ok.ensures.failed f
+      failed = λ f is. absurd (no_answer (c.in_ok-used.used, c.in_ok-used.more) f (c.in_ok-used.ensures.failed f
           (ap (λ (v : Viewer). fault_of v) (l.invariant.failed f is).1 ∙ is)).0);
       heard = heard_more g.A.Watcher.steps (λ (n : ℕ). l.updates ≡ min (c.args.before + n) (2 ^ 64 - 1))
-          (λ (n : ℕ). c.in-Ok.more ≡ min (c.args.before + n) (2 ^ 64 - 1)) c.args.viewer.now
-          c.args.watcher.now c.args.bytes.now l.rest.now l.viewer l.watcher c.in-Ok.used one.0
+          (λ (n : ℕ). c.in_ok-used.more ≡ min (c.args.before + n) (2 ^ 64 - 1)) c.args.viewer.now
+          c.args.watcher.now c.args.bytes.now l.rest.now l.viewer l.watcher c.in_ok-used.used one.0
           c.feed_once.new.viewer c.feed_once.new.watcher l.invariant.heard one.2
-          (λ n was. counts_on c.args.before n one.0 l.updates c.in-Ok.more was one.1);
+          (λ n was. counts_on c.args.before n one.0 l.updates c.in_ok-used.more was one.1);
     }
 
-pub returns-in-Err-clause-stopped : goal.returns-in-Err-clause-stopped
-returns-in-Err-clause-stopped g c =
-    let l = c.loop-rest in
+pub returns-in_err-used-clause-stopped : goal.returns-in_err-used-clause-stopped
+returns-in_err-used-clause-stopped g c =
+    let p = err_from_is_err_and c.from_residual.result c.from_residual.ensures.1 in
+    rw (p.1, p.2) (let l = c.loop-rest in
     some_until c.args.viewer.now c.args.bytes.now c.args.before l.rest.now l.updates l.viewer
-    c.in-Err.fault c.feed_once.new.viewer l.invariant.watched c.in-Err.ensures.ends
+    c.in_err-used.field-0.0 c.feed_once.new.viewer l.invariant.watched c.in_err-used.ensures.ends)
 
-pub returns-in-Err-clause-failed : goal.returns-in-Err-clause-failed
-returns-in-Err-clause-failed g c = λ some f is.
+pub returns-in_err-used-clause-failed : goal.returns-in_err-used-clause-failed
+returns-in_err-used-clause-failed g c =
+    let p = err_from_is_err_and c.from_residual.result c.from_residual.ensures.1 in
+    rw (p.1, p.2) (λ some f is.
     let l = c.loop-rest in
     let was = l.invariant.failed f is in
-    let again = c.in-Err.ensures.failed f (ap (λ (v : Viewer). fault_of v) was.1 ∙ is) in
-    (again_as f c.in-Err.fault again.0, again.1 ∙ was.1)
+    let again = c.in_err-used.ensures.failed f (ap (λ (v : Viewer). fault_of v) was.1 ∙ is) in
+    (again_as f c.in_err-used.field-0.0 again.0, again.1 ∙ was.1))
 
-pub returns-in-Err-clause-heard : goal.returns-in-Err-clause-heard
-returns-in-Err-clause-heard g c =
-    let l = c.loop-rest in
-    let ends = EndsRead c.args.enough c.args.before (Err c.in-Err.fault) c.feed_once.new.viewer in
+pub returns-in_err-used-clause-heard : goal.returns-in_err-used-clause-heard
+returns-in_err-used-clause-heard g c =
+    let p = err_from_is_err_and c.from_residual.result c.from_residual.ensures.1 in
+    rw (p.1, p.2) (let l = c.loop-rest in
+    let ends = EndsRead c.args.enough c.args.before (Err c.in_err-used.field-0.0) c.feed_once.new.viewer in
     hears_still g.A.Watcher.steps ends c.args.viewer.now c.args.watcher.now c.args.bytes.now l.watcher
-    c.feed_once.new.watcher c.in-Err.ensures.unheard
+    c.feed_once.new.watcher c.in_err-used.ensures.unheard
     (heard_ends g.A.Watcher.steps (λ (n : ℕ). l.updates ≡ min (c.args.before + n) (2 ^ 64 - 1)) ends
     c.args.viewer.now c.args.watcher.now c.args.bytes.now l.rest.now l.viewer l.watcher
-    l.invariant.heard (λ n was. c.in-Err.ensures.ends))
+    l.invariant.heard (λ n was. c.in_err-used.ensures.ends)))
 
 pub returns-clause-few : goal.returns-clause-few
 returns-clause-few g c = few_at_most c.args.enough c.loop-rest.updates c.loop-rest.invariant.few
