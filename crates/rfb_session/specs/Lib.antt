@@ -43,5 +43,6 @@ pub mod ViewEngine
 pub mod Looking
 pub mod Watcher
 pub mod ViewOrder
+pub mod OverWire
 pub mod netpbm
 pub mod inside

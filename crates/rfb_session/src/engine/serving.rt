@@ -3,12 +3,13 @@
 ghost use Rattle.std.specs.Prelude.{◌≡◌, ◌<◌, ◌+◌, ◌-◌, ◌^◌, ◌≤◌, [], length, take, true, false, None};
 ghost use Rattle.std.specs.Prelude.{IfOk, IfErr, IfSome, OnOk, OnErr};
 ghost use Rattle.rfb_server.specs.Standing.{fault_of};
-ghost use Rattle.rfb_session.specs.Failed.{FailsAgain, StaysUnfed};
-ghost use Rattle.rfb_session.specs.ServeEngine.{AllServed, GoesOn, ServerBetween};
-ghost use Rattle.rfb_session.specs.ServeEngine.{StopsHearing, StopsServing, StopsUpdating};
+ghost use Rattle.rfb_session.specs.Failed.{FailsAgain};
+ghost use Rattle.rfb_session.specs.OverWire.{AllServedOver, GreetsAndTurnsOver, NoneMissed};
+ghost use Rattle.rfb_session.specs.OverWire.{StaysUnfedOver, StopsByTurnsOver, StopsInTurnOver};
+ghost use Rattle.rfb_session.specs.OverWire.{StopsServingOver, TakesTurnsOver};
+ghost use Rattle.rfb_session.specs.ServeEngine.{GoesOn, ServerBetween, StopsHearing, StopsUpdating};
 ghost use Rattle.rfb_session.specs.ServeOrder.{ServesInOrder, StopsAfterTurns, StopsInOrder};
 ghost use Rattle.rfb_session.specs.ServeOrder.{StopsTurnOver, TurnOver, TurnsToEnd};
-ghost use Rattle.rfb_session.specs.Turns.{GreetsAndTurns, StopsByTurns, StopsInTurn, TakesTurns};
 ghost use Rattle.rfb_session.specs.Turns.{EndsTurn, IsAnsweredBy};
 ghost use Rattle.rfb_session.specs.Wire.{Ended, by_steps};
 
@@ -39,33 +40,18 @@ pub fn serve_over<W: Wire, S: Scene>(
         wire.old server.old scene.old fault wire.new server.new scene.new) }
 
     // The bytes, as `serve` has them.
-    ensures served { IfOk result (λ updates. GoesOn (λ front. AllServed
-        (W.known wire.old).unread (W.known wire.new).unread
-        (W.known wire.old).written (W.known wire.new).written
-        front server.old updates server.new) server.old) }
-    ensures turns { IfOk result (λ updates. GreetsAndTurns S.shows
-        (W.known wire.old).unread (W.known wire.new).unread
-        (W.known wire.old).written (W.known wire.new).written
-        server.old scene.old updates server.new scene.new) }
+    ensures served { IfOk result (λ updates. GoesOn (λ front. AllServedOver
+        (W.known wire.old) (W.known wire.new) front server.old updates server.new) server.old) }
+    ensures turns { IfOk result (λ updates. GreetsAndTurnsOver S.shows
+        (W.known wire.old) (W.known wire.new) server.old scene.old updates server.new scene.new) }
     ensures between { OnOk result (ServerBetween server.new true) }
-    ensures none_failed { OnOk result
-        (((W.known wire.new).failed_reads ≡ (W.known wire.old).failed_reads)
-        × ((W.known wire.new).failed_writes ≡ (W.known wire.old).failed_writes)) }
-    ensures stopped { IfErr result (λ fault. GoesOn (λ front. StopsServing
-        (W.known wire.old).unread (W.known wire.new).unread
-        (W.known wire.old).failed_reads (W.known wire.new).failed_reads
-        (W.known wire.old).written (W.known wire.new).written
-        (W.known wire.old).failed_writes (W.known wire.new).failed_writes
-        front server.old fault server.new) server.old) }
-    ensures in_turn { IfErr result (λ fault. StopsByTurns S.shows
-        (W.known wire.old).unread (W.known wire.new).unread
-        (W.known wire.old).failed_reads (W.known wire.new).failed_reads
-        (W.known wire.old).written (W.known wire.new).written
-        (W.known wire.old).failed_writes (W.known wire.new).failed_writes
-        server.old scene.old fault server.new scene.new) }
-    ensures failed { StaysUnfed (λ f. EngineFault.Server f) (Err EngineFault.Truncated)
-        (fault_of server.old) (W.known wire.old).unread (W.known wire.new).unread
-        server.old result server.new }
+    ensures none_failed { OnOk result (NoneMissed (W.known wire.old) (W.known wire.new)) }
+    ensures stopped { IfErr result (λ fault. GoesOn (λ front. StopsServingOver
+        (W.known wire.old) (W.known wire.new) front server.old fault server.new) server.old) }
+    ensures in_turn { IfErr result (λ fault. StopsByTurnsOver S.shows
+        (W.known wire.old) (W.known wire.new) server.old scene.old fault server.new scene.new) }
+    ensures failed { StaysUnfedOver (λ f. EngineFault.Server f) (Err EngineFault.Truncated)
+        (fault_of server.old) (W.known wire.old) (W.known wire.new) server.old result server.new }
     ensures same_references { (W.known wire.new).lent ≡ (W.known wire.old).lent }
 {
     let greeting = server.greeting();
@@ -90,31 +76,17 @@ fn serve_all<W: Wire, S: Scene>(
         wire.old server.old scene.old updates wire.new server.new scene.new) }
     ensures stopped_in_order { IfErr result (λ fault. StopsAfterTurns W.steps W.known S.shows
         wire.old server.old scene.old fault wire.new server.new scene.new) }
-    ensures served { IfOk result (λ updates. AllServed
-        (W.known wire.old).unread (W.known wire.new).unread
-        (W.known wire.old).written (W.known wire.new).written
-        [] server.old updates server.new) }
-    ensures turns { IfOk result (λ updates. TakesTurns S.shows
-        (W.known wire.old).unread (W.known wire.new).unread
-        (W.known wire.old).written (W.known wire.new).written
-        server.old scene.old updates server.new scene.new) }
-    ensures none_failed { OnOk result
-        (((W.known wire.new).failed_reads ≡ (W.known wire.old).failed_reads)
-        × ((W.known wire.new).failed_writes ≡ (W.known wire.old).failed_writes)) }
-    ensures stopped { IfErr result (λ fault. StopsServing
-        (W.known wire.old).unread (W.known wire.new).unread
-        (W.known wire.old).failed_reads (W.known wire.new).failed_reads
-        (W.known wire.old).written (W.known wire.new).written
-        (W.known wire.old).failed_writes (W.known wire.new).failed_writes
-        [] server.old fault server.new) }
-    ensures in_turn { IfErr result (λ fault. StopsInTurn S.shows
-        (W.known wire.old).unread (W.known wire.new).unread
-        (W.known wire.old).failed_reads (W.known wire.new).failed_reads
-        (W.known wire.old).written (W.known wire.new).written
-        (W.known wire.old).failed_writes (W.known wire.new).failed_writes
-        server.old scene.old fault server.new scene.new) }
-    ensures failed { StaysUnfed (λ f. EngineFault.Server f) (Ok 0) (fault_of server.old)
-        (W.known wire.old).unread (W.known wire.new).unread server.old result server.new }
+    ensures served { IfOk result (λ updates. AllServedOver
+        (W.known wire.old) (W.known wire.new) [] server.old updates server.new) }
+    ensures turns { IfOk result (λ updates. TakesTurnsOver S.shows
+        (W.known wire.old) (W.known wire.new) server.old scene.old updates server.new scene.new) }
+    ensures none_failed { OnOk result (NoneMissed (W.known wire.old) (W.known wire.new)) }
+    ensures stopped { IfErr result (λ fault. StopsServingOver
+        (W.known wire.old) (W.known wire.new) [] server.old fault server.new) }
+    ensures in_turn { IfErr result (λ fault. StopsInTurnOver S.shows
+        (W.known wire.old) (W.known wire.new) server.old scene.old fault server.new scene.new) }
+    ensures failed { StaysUnfedOver (λ f. EngineFault.Server f) (Ok 0) (fault_of server.old)
+        (W.known wire.old) (W.known wire.new) server.old result server.new }
     ensures same_references { (W.known wire.new).lent ≡ (W.known wire.old).lent }
 {
     let mut part = [0; READ_SIZE];
@@ -148,8 +120,8 @@ fn turn<W: Wire, S: Scene>(
     ensures stopped { IfErr result (λ fault. StopsTurnOver W.steps W.known
         wire.old server.old fault wire.new server.new) }
     ensures undrawn { OnErr result (scene.new ≡ scene.old) }
-    ensures failed { StaysUnfed (λ f. EngineFault.Server f) (Ok None) (fault_of server.old)
-        (W.known wire.old).unread (W.known wire.new).unread server.old result server.new }
+    ensures failed { StaysUnfedOver (λ f. EngineFault.Server f) (Ok None) (fault_of server.old)
+        (W.known wire.old) (W.known wire.new) server.old result server.new }
 {
     let Ok(count) = wire.read(part) else {
         return Err(EngineFault::Device);

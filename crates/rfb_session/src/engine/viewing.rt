@@ -3,9 +3,10 @@
 ghost use Rattle.std.specs.Prelude.{◌≡◌, ◌≤◌, ◌<◌, ◌+◌, ◌-◌, ◌^◌, length, take};
 ghost use Rattle.std.specs.Prelude.{IfOk, IfErr, OnOk};
 ghost use Rattle.rfb_viewer.specs.Standing.{fault_of};
-ghost use Rattle.rfb_session.specs.Failed.{FailsAgain, StaysUnfed};
+ghost use Rattle.rfb_session.specs.Failed.{FailsAgain};
 ghost use Rattle.rfb_session.specs.Looking.{HasLooked, Looks, StopsLooking};
-ghost use Rattle.rfb_session.specs.ViewEngine.{HasViewed, StopsViewing};
+ghost use Rattle.rfb_session.specs.OverWire.{HasViewedOver, NoneFailedOver, StaysUnfedOver};
+ghost use Rattle.rfb_session.specs.OverWire.{StopsViewingOver};
 ghost use Rattle.rfb_session.specs.ViewOrder.{StopsViewInOrder, ViewsInOrder};
 ghost use Rattle.rfb_session.specs.Watcher.{EndsLooking, EndsViewing, HearsDown, HearsOf};
 ghost use Rattle.rfb_session.specs.Watcher.{HearsRead};
@@ -45,25 +46,16 @@ pub fn view_over<W: Wire, K: Sink>(
 
     // The bytes, as `view_recording` has them.
     ensures told { IfOk result (λ told. told ≡ updates) }
-    ensures viewed { OnOk result (HasViewed
-        (W.known wire.old).unread (W.known wire.new).unread
-        (W.known wire.old).written (W.known wire.new).written
+    ensures viewed { OnOk result (HasViewedOver (W.known wire.old) (W.known wire.new)
         (K.written kept.old) (K.written kept.new) viewer.old updates viewer.new) }
-    ensures none_failed { OnOk result
-        (((W.known wire.new).failed_reads ≡ (W.known wire.old).failed_reads)
-        × ((W.known wire.new).failed_writes ≡ (W.known wire.old).failed_writes)
-        × (K.failed kept.new ≡ K.failed kept.old)) }
-    ensures stopped { IfErr result (λ fault. StopsViewing
-        (W.known wire.old).unread (W.known wire.new).unread
-        (W.known wire.old).written (W.known wire.new).written
-        (K.written kept.old) (K.written kept.new)
-        ((W.known wire.old).failed_reads + (W.known wire.old).failed_writes + K.failed kept.old)
-        ((W.known wire.new).failed_reads + (W.known wire.new).failed_writes + K.failed kept.new)
+    ensures none_failed { OnOk result (NoneFailedOver (W.known wire.old) (W.known wire.new)
+        (K.failed kept.old) (K.failed kept.new)) }
+    ensures stopped { IfErr result (λ fault. StopsViewingOver (W.known wire.old) (W.known wire.new)
+        (K.written kept.old) (K.written kept.new) (K.failed kept.old) (K.failed kept.new)
         viewer.old updates fault viewer.new) }
     ensures same_reference { K.reference kept.new ≡ K.reference kept.old }
-    ensures failed { StaysUnfed (λ f. EngineFault.Viewer f) (Err EngineFault.Truncated)
-        (fault_of viewer.old) (W.known wire.old).unread (W.known wire.new).unread
-        viewer.old result viewer.new }
+    ensures failed { StaysUnfedOver (λ f. EngineFault.Viewer f) (Err EngineFault.Truncated)
+        (fault_of viewer.old) (W.known wire.old) (W.known wire.new) viewer.old result viewer.new }
     ensures same_references { (W.known wire.new).lent ≡ (W.known wire.old).lent }
 {
     view_watched(wire, kept, viewer, updates, &mut Unwatched)
@@ -96,25 +88,16 @@ pub fn view_watched<W: Wire, K: Sink, A: Watcher>(
 
     // The bytes, as `view_recording` has them.
     ensures told { IfOk result (λ told. told ≡ updates) }
-    ensures viewed { OnOk result (HasViewed
-        (W.known wire.old).unread (W.known wire.new).unread
-        (W.known wire.old).written (W.known wire.new).written
+    ensures viewed { OnOk result (HasViewedOver (W.known wire.old) (W.known wire.new)
         (K.written kept.old) (K.written kept.new) viewer.old updates viewer.new) }
-    ensures none_failed { OnOk result
-        (((W.known wire.new).failed_reads ≡ (W.known wire.old).failed_reads)
-        × ((W.known wire.new).failed_writes ≡ (W.known wire.old).failed_writes)
-        × (K.failed kept.new ≡ K.failed kept.old)) }
-    ensures stopped { IfErr result (λ fault. StopsViewing
-        (W.known wire.old).unread (W.known wire.new).unread
-        (W.known wire.old).written (W.known wire.new).written
-        (K.written kept.old) (K.written kept.new)
-        ((W.known wire.old).failed_reads + (W.known wire.old).failed_writes + K.failed kept.old)
-        ((W.known wire.new).failed_reads + (W.known wire.new).failed_writes + K.failed kept.new)
+    ensures none_failed { OnOk result (NoneFailedOver (W.known wire.old) (W.known wire.new)
+        (K.failed kept.old) (K.failed kept.new)) }
+    ensures stopped { IfErr result (λ fault. StopsViewingOver (W.known wire.old) (W.known wire.new)
+        (K.written kept.old) (K.written kept.new) (K.failed kept.old) (K.failed kept.new)
         viewer.old updates fault viewer.new) }
     ensures same_reference { K.reference kept.new ≡ K.reference kept.old }
-    ensures failed { StaysUnfed (λ f. EngineFault.Viewer f) (Err EngineFault.Truncated)
-        (fault_of viewer.old) (W.known wire.old).unread (W.known wire.new).unread
-        viewer.old result viewer.new }
+    ensures failed { StaysUnfedOver (λ f. EngineFault.Viewer f) (Err EngineFault.Truncated)
+        (fault_of viewer.old) (W.known wire.old) (W.known wire.new) viewer.old result viewer.new }
     ensures same_references { (W.known wire.new).lent ≡ (W.known wire.old).lent }
 {
     let mut part = [0; UPDATE_READ_SIZE];

@@ -1,0 +1,77 @@
+-- What an engine did over a wire, by what is known of the wire before and after: the same of its bytes
+-- and its failures as of those of a source and a sink.
+use Rattle.std.specs.Prelude.{◌≡◌, ℕ, ◌+◌, List, Option, Result}
+use Rattle.rfb_server.specs.declared.server.Server.{Server}
+use Rattle.rfb_viewer.specs.declared.viewer.Viewer.{Viewer}
+use Rattle.rfb_session.specs.declared.engine.fault.EngineFault.{EngineFault}
+use Rattle.rfb_session.specs.Failed.{StaysUnfed}
+use Rattle.rfb_session.specs.ServeEngine.{AllServed, StopsServing}
+use Rattle.rfb_session.specs.Turns.{Showing, GreetsAndTurns, StopsByTurns, StopsInTurn, TakesTurns}
+use Rattle.rfb_session.specs.ViewEngine.{HasViewed, StopsViewing}
+use Rattle.rfb_session.specs.Wire.{Known}
+
+-- no read and no write has failed
+abbrev pub NoneMissed : Known → Known → Type 0
+NoneMissed old new =
+    (new.failed_reads ≡ old.failed_reads) × (new.failed_writes ≡ old.failed_writes)
+
+-- of an end that had failed before
+abbrev pub StaysUnfedOver : {A V F : Type 0} → (F → EngineFault) → Result A EngineFault →
+    Option F → Known → Known → V → Result A EngineFault → V → Type 0
+StaysUnfedOver told ended failed before after old result new =
+    StaysUnfed told ended failed before.unread after.unread old result new
+
+-- ---- a server
+
+abbrev pub AllServedOver : Known → Known → List ℕ → Server → ℕ → Server → Type 0
+AllServedOver before after front old told new =
+    AllServed before.unread after.unread before.written after.written front old told new
+
+abbrev pub StopsServingOver : Known → Known → List ℕ → Server → EngineFault → Server → Type 0
+StopsServingOver before after front old fault new =
+    StopsServing before.unread after.unread before.failed_reads after.failed_reads
+    before.written after.written before.failed_writes after.failed_writes front old fault new
+
+module _ {X : Type 0} where
+  abbrev pub TakesTurnsOver : Showing X → Known → Known → Server → X → ℕ → Server → X → Type 0
+  TakesTurnsOver shows before after old scene told new last =
+      TakesTurns shows before.unread after.unread before.written after.written
+      old scene told new last
+
+  abbrev pub GreetsAndTurnsOver : Showing X → Known → Known → Server → X → ℕ → Server → X → Type 0
+  GreetsAndTurnsOver shows before after old scene told new last =
+      GreetsAndTurns shows before.unread after.unread before.written after.written
+      old scene told new last
+
+  abbrev pub StopsInTurnOver : Showing X → Known → Known → Server → X → EngineFault → Server → X →
+      Type 0
+  StopsInTurnOver shows before after old scene fault new last =
+      StopsInTurn shows before.unread after.unread before.failed_reads after.failed_reads
+      before.written after.written before.failed_writes after.failed_writes
+      old scene fault new last
+
+  abbrev pub StopsByTurnsOver : Showing X → Known → Known → Server → X → EngineFault → Server → X →
+      Type 0
+  StopsByTurnsOver shows before after old scene fault new last =
+      StopsByTurns shows before.unread after.unread before.failed_reads after.failed_reads
+      before.written after.written before.failed_writes after.failed_writes
+      old scene fault new last
+
+-- ---- a viewer
+
+abbrev pub HasViewedOver : Known → Known → Option (List ℕ) → Option (List ℕ) → Viewer → ℕ →
+    Viewer → Type 0
+HasViewedOver before after blank copied old updates new =
+    HasViewed before.unread after.unread before.written after.written blank copied old updates new
+
+-- `failing` and `failed` count failures of what keeps the bytes: none has failed of all
+abbrev pub NoneFailedOver : Known → Known → ℕ → ℕ → Type 0
+NoneFailedOver before after failing failed = (after.failed_reads ≡ before.failed_reads)
+    × (after.failed_writes ≡ before.failed_writes) × (failed ≡ failing)
+
+abbrev pub StopsViewingOver : Known → Known → Option (List ℕ) → Option (List ℕ) → ℕ → ℕ → Viewer →
+    ℕ → EngineFault → Viewer → Type 0
+StopsViewingOver before after blank copied failing failed old updates fault new =
+    StopsViewing before.unread after.unread before.written after.written blank copied
+    (before.failed_reads + before.failed_writes + failing)
+    (after.failed_reads + after.failed_writes + failed) old updates fault new
