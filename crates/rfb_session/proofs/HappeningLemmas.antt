@@ -12,7 +12,8 @@ use Rattle.rfb_session.specs.declared.told.Told.{Told}
 use Rattle.rfb_session.specs.declared.world.World.{World}
 use Rattle.rfb_session.specs.Link.{Ends, server_of}
 use Rattle.rfb_session.specs.LinkCalls.{DoesCall, CallsOnBytes, IsRefusedCall}
-use Rattle.rfb_session.specs.LinkStanding.{LinkStandsFor, LinkDoes, LinkDoesOver, LosesOn, ComposesNothingOver}
+use Rattle.rfb_session.specs.LinkBytes.{ActsOnBytes}
+use Rattle.rfb_session.specs.LinkStanding.{Arrives, LinkStandsFor, LinkDoes, LinkDoesOver, LosesOn, ComposesNothingOver}
 use Rattle.rfb_session.specs.Network.{Network, Steps, Strokes}
 use Rattle.rfb_session.specs.Told.{RefusesUnless, Tells, TellsAlone}
 use Rattle.rfb_session.specs.World.{Acts, HintsAs, DrawsWorld, IsDrawing, IsRefused, IsLost, ComposesNothing, hints_in}
@@ -43,23 +44,22 @@ drawing_happens old new event this told s is draws steps tells acts alone loses 
 
 -- ---- events of the link
 
--- one that does not read the screen
-pub called_happens : (old new : World) (event this : Event) (result : Result Told NoMemory) →
-    event ≡ this → IfOk result (λ told. LinkDoes old.link this told new.link) →
-    IfOk result (λ told. Acts old this told new) → IfOk result (λ told. TellsAlone this told) →
-    IfOk result (λ told. LosesOn old.link this told new.link) →
+-- bytes that arrive
+pub arrived_happens : (old new : World) (event this : Event) (result : Result Told NoMemory) →
+    event ≡ this → IfOk result (λ told. Arrives old.link this told new.link) →
+    ((told : Told) → ActsOnBytes old.link this told new.link → Acts old this told new) →
     ((told : Told) → HintsAs old this told new) → new.screen ≡ old.screen → new.closed ≡ old.closed →
     IfOk result (λ told. Happens old event told new)
-called_happens old new event this (Ok told) is does acts tells lost hints screens closed =
+arrived_happens old new event this (Ok told) is arrives acts hints screens closed =
     subst (λ (ev : Event). Happens old ev told new) (sym is)
     (record {
-      does = link_does old new this told does screens closed;
-      acts = acts;
-      tells = tells;
-      lost = record { link = lost; closed = closed };
+      does = link_does old new this told arrives.does screens closed;
+      acts = acts told arrives.bytes;
+      tells = arrives.tells;
+      lost = record { link = arrives.lost; closed = closed };
       hints = hints told;
     })
-called_happens old new event this (Err error) is does acts tells lost hints screens closed = tt
+arrived_happens old new event this (Err error) is arrives acts hints screens closed = tt
 
 -- a call of the viewer's
 pub call_happens : (old new : World) (event this : Event) (call : Call)

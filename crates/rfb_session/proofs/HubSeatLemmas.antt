@@ -13,7 +13,7 @@ use Rattle.rfb_session.specs.declared.told.Delivery.{Delivery}
 use Rattle.rfb_session.specs.declared.told.NoMemory.{NoMemory}
 use Rattle.rfb_session.specs.declared.told.Told.{Told}
 use Rattle.rfb_session.specs.LinkCalls.{DoesCall, CallsOnBytes}
-use Rattle.rfb_session.specs.LinkStanding.{LinkDoes, LinkDoesOver, LosesOn}
+use Rattle.rfb_session.specs.LinkStanding.{Arrives, LinkDoes, LinkDoesOver, LosesOn}
 use Rattle.rfb_session.specs.Told.{TellsAlone}
 use Rattle.rfb_session.specs.HubSeats.{event_of, LinkActs, LinkHints, SoleAs, SeatDoes}
 use Rattle.rfb_session.proofs.EventCallLemmas.{IsEventOf, does_event}
@@ -73,16 +73,12 @@ not_refused told new old none some = absurd (some none)
 -- a delivery to its session
 pub delivered_happens : (screen : Grid Colour) (old : HubSeat) (event : SlotEvent) (count : ℕ)
     (result : Result Delivery NoMemory) (new : Link) → event ≡ ToServer count →
-    IfOk result (λ d. LinkActs screen old.link (event_of (ToServer count)) d.told new) →
-    IfOk result (λ d. TellsAlone (event_of (ToServer count)) d.told) →
-    IfOk result (λ d. LinkDoes old.link (event_of (ToServer count)) d.told new) →
-    IfOk result (λ d. LosesOn old.link (event_of (ToServer count)) d.told new) →
+    IfOk result (λ d. Arrives old.link (event_of (ToServer count)) d.told new) →
     ((d : Delivery) → LinkHints old.link (event_of (ToServer count)) d.told new) →
     IfOk result (λ d. SoleAs old.link (event_of (ToServer count)) d new) →
-    IfOk result (λ d. d.told.refused ≡ None) →
     IfOk result (λ d. SeatDoes screen old event d (record old { link = new }))
-delivered_happens screen old event count (Ok d) new is acts alone does lost hints sole taken =
-    seat_happens screen old event (ToServer count) d.told d new is refl acts alone
-    (over screen old.link (event_of (ToServer count)) d.told new does) lost (hints d) sole
-    (λ asked. taken) (not_refused d.told new old.link taken)
-delivered_happens screen old event count (Err error) new is acts alone does lost hints sole taken = tt
+delivered_happens screen old event count (Ok d) new is arrives hints sole =
+    seat_happens screen old event (ToServer count) d.told d new is refl arrives.bytes arrives.tells
+    (over screen old.link (event_of (ToServer count)) d.told new arrives.does) arrives.lost (hints d) sole
+    (λ asked. arrives.taken) (not_refused d.told new old.link arrives.taken)
+delivered_happens screen old event count (Err error) new is arrives hints sole = tt

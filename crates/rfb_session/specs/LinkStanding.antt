@@ -25,7 +25,8 @@ use Rattle.rfb_session.specs.Link.{Ends, LinkState, server_of}
 use Rattle.rfb_session.specs.InFlight.{AreMade}
 use Rattle.rfb_session.specs.Carrying.{Carries}
 use Rattle.rfb_session.specs.Network.{Network, Steps, IsReached}
-use Rattle.rfb_session.specs.Told.{RefusesAs, Tells}
+use Rattle.rfb_session.specs.LinkBytes.{ActsOnBytes}
+use Rattle.rfb_session.specs.Told.{RefusesAs, Tells, TellsAlone}
 
 -- ---- what a link is
 
@@ -135,6 +136,14 @@ LosesOn old (ToViewer count) told new =
     (fault : ViewerFault) → viewer_fault_of old ≡ Some fault →
     (told.moved ≡ min (length old.to_viewer) count) × LosesToViewer old told.moved new
 LosesOn old event told new = Unit {0}
+
+-- bytes that arrive, by all that is said of them: none is refused
+pub record Arrives (old : Link) (event : Event) (told : Told) (new : Link) : Type 0 where
+  pub bytes : ActsOnBytes old event told new
+  pub does : LinkDoes old event told new
+  pub lost : LosesOn old event told new
+  pub taken : told.refused ≡ None
+  pub tells : TellsAlone event told
 
 -- ---- where memory is not wanting
 

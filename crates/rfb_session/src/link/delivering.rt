@@ -21,12 +21,11 @@ impl Link {
     ghost use Rattle.rfb_server.specs.Following.{Follows};
     ghost use Rattle.rfb_server.specs.Hints.{hints_in};
     ghost use Rattle.rfb_viewer.specs.declared.fault.ViewerFault.{ViewerFault};
-    ghost use Rattle.rfb_session.specs.LinkStanding.{LinkDoes, session_of_link};
+    ghost use Rattle.rfb_session.specs.LinkStanding.{Arrives, session_of_link};
     ghost use Rattle.rfb_session.specs.LinkStanding.{server_fault_of, viewer_fault_of};
     ghost use Rattle.rfb_session.specs.LinkStanding.{LosesToViewer, LosesToServer};
-    ghost use Rattle.rfb_session.specs.LinkStanding.{LosesOn, IsLostOn, FollowsStill};
-    ghost use Rattle.rfb_session.specs.LinkBytes.{ActsOnBytes, TellsSole, MovesNone};
-    ghost use Rattle.rfb_session.specs.Told.{TellsAlone};
+    ghost use Rattle.rfb_session.specs.LinkStanding.{IsLostOn, FollowsStill};
+    ghost use Rattle.rfb_session.specs.LinkBytes.{TellsSole, MovesNone};
     ghost use Rattle.rfb_session.specs.inside.Delivering.{DeliversToViewer, DeliversToServer};
     ghost use Rattle.rfb_session.specs.inside.Delivering.{HasHeard, EndsHearing};
     ghost use Rattle.rfb_session.specs.inside.Delivering.{HasWatched, EndsWatching};
@@ -35,13 +34,9 @@ impl Link {
     /// in flight then. One that has failed takes them to no effect. Memory can be wanting for
     /// answers, and for a text that the session keeps.
     pub fn move_to_server(&mut self, count: u32) -> Result<Told, NoMemory>
-        ensures bytes { IfOk result (λ told. ActsOnBytes self.old (ToServer count) told self.new) }
-        ensures does { IfOk result (λ told. LinkDoes self.old (ToServer count) told self.new) }
-        ensures lost { IfOk result (λ told. LosesOn self.old (ToServer count) told self.new) }
+        ensures arrives { IfOk result (λ told. Arrives self.old (ToServer count) told self.new) }
         ensures dropped { IsLostOn self.old (ToServer count) → IsOk result }
         ensures none { MovesNone self.old (ToServer count) → IsOk result }
-        ensures taken { IfOk result (λ told. told.refused ≡ None) }
-        ensures tells { IfOk result (λ told. TellsAlone (ToServer count) told) }
         ensures follows { FollowsStill self.old self.new }
         ensures hints { hints_in (session_of_link self.new) ≡ hints_in (session_of_link self.old) }
     {
@@ -51,20 +46,14 @@ impl Link {
 
     /// The same, and tells whether the client asked for the screen alone among the bytes.
     pub fn deliver_to_session(&mut self, count: u32) -> Result<Delivery, NoMemory>
-        ensures bytes { IfOk result (λ delivery.
-            ActsOnBytes self.old (ToServer count) delivery.told self.new) }
+        ensures arrives { IfOk result (λ delivery.
+            Arrives self.old (ToServer count) delivery.told self.new) }
         ensures sole { IfOk result (λ delivery.
             TellsSole self.old delivery.told.moved delivery.sole self.new) }
         ensures failed { server_fault_of self.old ≢ None →
             IfOk result (λ delivery. delivery.sole ≡ false) }
-        ensures does { IfOk result (λ delivery.
-            LinkDoes self.old (ToServer count) delivery.told self.new) }
-        ensures lost { IfOk result (λ delivery.
-            LosesOn self.old (ToServer count) delivery.told self.new) }
         ensures dropped { IsLostOn self.old (ToServer count) → IsOk result }
         ensures none { MovesNone self.old (ToServer count) → IsOk result }
-        ensures taken { IfOk result (λ delivery. delivery.told.refused ≡ None) }
-        ensures tells { IfOk result (λ delivery. TellsAlone (ToServer count) delivery.told) }
         ensures follows { FollowsStill self.old self.new }
         ensures hints { hints_in (session_of_link self.new) ≡ hints_in (session_of_link self.old) }
     {
@@ -80,13 +69,9 @@ impl Link {
     /// flight then. One that has failed takes them to no effect. Memory can be wanting for answers,
     /// for the viewer's screen, and for a text that it keeps.
     pub fn move_to_viewer(&mut self, count: u32) -> Result<Told, NoMemory>
-        ensures bytes { IfOk result (λ told. ActsOnBytes self.old (ToViewer count) told self.new) }
-        ensures does { IfOk result (λ told. LinkDoes self.old (ToViewer count) told self.new) }
-        ensures lost { IfOk result (λ told. LosesOn self.old (ToViewer count) told self.new) }
+        ensures arrives { IfOk result (λ told. Arrives self.old (ToViewer count) told self.new) }
         ensures dropped { IsLostOn self.old (ToViewer count) → IsOk result }
         ensures none { MovesNone self.old (ToViewer count) → IsOk result }
-        ensures taken { IfOk result (λ told. told.refused ≡ None) }
-        ensures tells { IfOk result (λ told. TellsAlone (ToViewer count) told) }
         ensures session { session_of_link self.new ≡ session_of_link self.old }
     {
         let moved = self.to_viewer.len().min(count as usize);

@@ -5,22 +5,30 @@ use Rattle.rfb_session.proofs.DeliveringLemmas.{server_moved}
 use Rattle.rfb_session.proofs.ReachingLemmas.{heard_reaches, heard_tells, deaf_sole}
 use Rattle.rfb_session.proofs.link.Link.deliver_to_session.Goals as goal
 
-pub returns-clause-does : goal.returns-clause-does
-returns-clause-does c =
-    server_moved c.args.self.now c.deliver_to_server.new.self c.args.count c.min-moved.result
-    c.of_moved.result (c.min-moved.ensures ∙ ap (λ (k : ℕ). min k c.args.count) c.len.ensures)
-    c.in_ok-sole.ensures.delivered c.of_moved.ensures.moved
-    c.of_moved.ensures.refused c.of_moved.ensures.composed
-
-pub returns-clause-bytes : goal.returns-clause-bytes
-returns-clause-bytes c = (
-  c.of_moved.ensures.moved ∙ c.min-moved.ensures
-      ∙ ap (λ (k : ℕ). min k c.args.count) c.len.ensures,
-  subst (λ (k : ℕ). ReachesSession c.args.self.now k c.deliver_to_server.new.self)
-      (sym c.of_moved.ensures.moved)
-      (heard_reaches c.args.self.now c.deliver_to_server.new.self c.min-moved.result c.in_ok-sole.sole
-      c.in_ok-sole.ensures.reached),
-)
+pub returns-clause-arrives : goal.returns-clause-arrives
+returns-clause-arrives c =
+    let moved = c.of_moved.ensures.moved ∙ c.min-moved.ensures
+    ∙ ap (λ (k : ℕ). min k c.args.count) c.len.ensures in
+    record {
+      bytes = (
+        moved,
+        subst (λ (k : ℕ). ReachesSession c.args.self.now k c.deliver_to_server.new.self)
+            (sym c.of_moved.ensures.moved)
+            (heard_reaches c.args.self.now c.deliver_to_server.new.self c.min-moved.result
+            c.in_ok-sole.sole c.in_ok-sole.ensures.reached),
+      );
+      does = server_moved c.args.self.now c.deliver_to_server.new.self c.args.count c.min-moved.result
+          c.of_moved.result (c.min-moved.ensures ∙ ap (λ (k : ℕ). min k c.args.count) c.len.ensures)
+          c.in_ok-sole.ensures.delivered c.of_moved.ensures.moved
+          c.of_moved.ensures.refused c.of_moved.ensures.composed;
+      lost = λ fault is. (
+        moved,
+        subst (λ (k : ℕ). LosesToServer c.args.self.now k c.deliver_to_server.new.self)
+            (sym c.of_moved.ensures.moved) (c.in_ok-sole.ensures.lost fault is),
+      );
+      taken = c.of_moved.ensures.refused;
+      tells = (c.of_moved.ensures.refused, c.of_moved.ensures.composed);
+    }
 
 pub returns-clause-sole : goal.returns-clause-sole
 returns-clause-sole c =
@@ -35,11 +43,3 @@ returns-clause-failed c = λ some.
     (heard_tells c.args.self.now c.deliver_to_server.new.self c.min-moved.result c.in_ok-sole.sole
     c.in_ok-sole.ensures.reached)
     some
-
-pub returns-clause-lost : goal.returns-clause-lost
-returns-clause-lost c = λ fault is. (
-  c.of_moved.ensures.moved ∙ c.min-moved.ensures
-      ∙ ap (λ (k : ℕ). min k c.args.count) c.len.ensures,
-  subst (λ (k : ℕ). LosesToServer c.args.self.now k c.deliver_to_server.new.self)
-      (sym c.of_moved.ensures.moved) (c.in_ok-sole.ensures.lost fault is),
-)

@@ -7,7 +7,7 @@ use Rattle.rfb_session.proofs.CalledLemmas.{no_refusal}
 use Rattle.rfb_session.proofs.DrawnLemmas.{same_hints}
 use Rattle.rfb_session.proofs.EventCallLemmas.{request_event, format_event, encodings_event}
 use Rattle.rfb_session.proofs.EventCallLemmas.{key_event, pointer_event, text_event}
-use Rattle.rfb_session.proofs.HappeningLemmas.{drawing_happens, call_happens, call_is_sure, called_happens}
+use Rattle.rfb_session.proofs.HappeningLemmas.{drawing_happens, call_happens, call_is_sure, arrived_happens}
 use Rattle.rfb_session.proofs.HappeningLemmas.{composed_happens, is_sure, nothing_over}
 use Rattle.rfb_session.proofs.world.World.happen.Goals as goal
 
@@ -119,9 +119,9 @@ returns-in-CutText-clause-sure c =
 
 pub returns-in-ToServer-clause-happens : goal.returns-in-ToServer-clause-happens
 returns-in-ToServer-clause-happens c =
-    called_happens c.args.self.now _ _ _ c.move_to_server.result c.in-ToServer.is c.move_to_server.ensures.does
-    (IfOk-weaker c.move_to_server.result _ _ (λ told bytes. (refl, bytes)) c.move_to_server.ensures.bytes) c.move_to_server.ensures.tells
-    c.move_to_server.ensures.lost (λ told. c.move_to_server.ensures.hints) refl refl
+    arrived_happens c.args.self.now _ _ _ c.move_to_server.result c.in-ToServer.is
+    c.move_to_server.ensures.arrives (λ told bytes. (refl, bytes)) (λ told. c.move_to_server.ensures.hints)
+    refl refl
 
 pub returns-in-ToServer-clause-sure : goal.returns-in-ToServer-clause-sure
 returns-in-ToServer-clause-sure c =
@@ -130,9 +130,9 @@ returns-in-ToServer-clause-sure c =
 
 pub returns-in-ToViewer-clause-happens : goal.returns-in-ToViewer-clause-happens
 returns-in-ToViewer-clause-happens c =
-    called_happens c.args.self.now _ _ _ c.move_to_viewer.result c.in-ToViewer.is c.move_to_viewer.ensures.does
-    (IfOk-weaker c.move_to_viewer.result _ _ (λ told bytes. (refl, bytes)) c.move_to_viewer.ensures.bytes) c.move_to_viewer.ensures.tells
-    c.move_to_viewer.ensures.lost (λ told. ap (λ (s : Session). hints_in s) c.move_to_viewer.ensures.session) refl refl
+    arrived_happens c.args.self.now _ _ _ c.move_to_viewer.result c.in-ToViewer.is
+    c.move_to_viewer.ensures.arrives (λ told bytes. (refl, bytes))
+    (λ told. ap (λ (s : Session). hints_in s) c.move_to_viewer.ensures.session) refl refl
 
 pub returns-in-ToViewer-clause-sure : goal.returns-in-ToViewer-clause-sure
 returns-in-ToViewer-clause-sure c =

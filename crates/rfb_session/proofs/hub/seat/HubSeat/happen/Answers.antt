@@ -71,14 +71,13 @@ pub returns-in_ok-move_to_viewer-in-ToViewer-clause-does : goal.returns-in_ok-mo
 returns-in_ok-move_to_viewer-in-ToViewer-clause-does c =
     let ok = c.in_ok-move_to_viewer-in-ToViewer in
     seat_happens c.args.screen.now c.args.self.now _ _ ok.field-0 c.alone-in-ToViewer.result _ c.in-ToViewer.is
-    c.alone-in-ToViewer.ensures.told ok.ensures.bytes ok.ensures.tells (over _ _ _ _ _ ok.ensures.does) ok.ensures.lost
+    c.alone-in-ToViewer.ensures.told ok.ensures.arrives.bytes ok.ensures.arrives.tells (over _ _ _ _ _ ok.ensures.arrives.does) ok.ensures.arrives.lost
     (ap (λ (s : Session). hints_in s) ok.ensures.session) c.alone-in-ToViewer.ensures.sole
     (not_sole c.alone-in-ToViewer.result ok.field-0 c.alone-in-ToViewer.ensures.sole)
-    (not_refused ok.field-0 _ _ ok.ensures.taken)
+    (not_refused ok.field-0 _ _ ok.ensures.arrives.taken)
 
 pub returns-in-ToServer-clause-does : goal.returns-in-ToServer-clause-does
 returns-in-ToServer-clause-does c =
     let to = c.deliver_to_session in
     delivered_happens c.args.screen.now c.args.self.now _ _ to.result _ c.in-ToServer.is
-    to.ensures.bytes to.ensures.tells to.ensures.does to.ensures.lost (λ d. to.ensures.hints) to.ensures.sole
-    to.ensures.taken
+    to.ensures.arrives (λ d. to.ensures.hints) to.ensures.sole
