@@ -5,7 +5,7 @@ use Rattle.std.proofs.lemmas.Iterator.{YieldsList}
 use Rattle.std.proofs.lemmas.Iterator.Consumers.{YieldsList-turn, YieldsList-so_far}
 use Rattle.std.proofs.lemmas.List.Splits.{slice_split_none}
 use Rattle.std.proofs.lemmas.List.Elements.{All-nil, All-cons, All-head, All-tail}
-use Rattle.rfb.specs.declared.script.hub.line.HubNumbered.{HubNumbered}
+use Rattle.rfb.specs.declared.script.hub.hub_step.HubNumbered.{HubNumbered}
 use Rattle.rfb.specs.declared.script.line.Screen.{Screen as Size}
 use Rattle.rfb.specs.HubScript.{AreHubScript, AreOpenHub, AskInHub, AsksInHub, BeginHub, GivesHub, IsBadInHub, IsFirstBadInHub, IsWithoutShow, NamesShown, SaysHub, SaysHubStep, SaysShow, first_line, line_after}
 use Rattle.rfb.specs.Script.{AreEmpty, words_of}

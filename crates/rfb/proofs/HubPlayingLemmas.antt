@@ -20,9 +20,9 @@ use Rattle.rfb_session.specs.HubSteps.LeavesAs.{NoneLeft, Left}
 use Rattle.rfb_session.specs.Played.{name}
 use Rattle.rfb_session.proofs.NetworkLaws.{headline_holds}
 use Rattle.rfb.specs.declared.fault.Fault.{Fault}
-use Rattle.rfb.specs.declared.playing.hub.LineTold.{LineTold}
-use Rattle.rfb.specs.declared.script.hub.line.HubNumbered.{HubNumbered}
-use Rattle.rfb.specs.declared.script.hub.line.HubStep.TheVariants.{Event}
+use Rattle.rfb.specs.declared.script.hub_steps.LineTold.{LineTold}
+use Rattle.rfb.specs.declared.script.hub.hub_step.HubNumbered.{HubNumbered}
+use Rattle.rfb.specs.declared.script.hub.hub_step.HubStep.TheVariants.{Event}
 use Rattle.rfb.specs.declared.script.line.Screen.{Screen as Size}
 use Rattle.rfb.specs.CommandLine.{HubPlayedTo, ShowsSlotTo}
 use Rattle.rfb.specs.Few.{HasFewInHub}

@@ -9,7 +9,7 @@ use Rattle.rfb_session.specs.HubSteps.{HubPlayed}
 use Rattle.std.specs.Io.KnownBytes.{Appends}
 use Rattle.rfb.specs.declared.fault.Failure.{Failure}
 use Rattle.rfb.specs.declared.fault.Failure.TheVariants.{BadLine, Fault, Engine, Picture}
-use Rattle.rfb.specs.declared.script.hub.line.HubNumbered.{HubNumbered}
+use Rattle.rfb.specs.declared.script.hub.hub_step.HubNumbered.{HubNumbered}
 use Rattle.rfb.specs.declared.script.line.Screen.{Screen as Size}
 use Rattle.rfb.specs.CommandLine.{FailsAtAny, HubPlayedTo, LeavesScript, PlaysAny, PlaysScript}
 use Rattle.rfb.specs.HubPlaying.{hub_events}

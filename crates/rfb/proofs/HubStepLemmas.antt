@@ -8,8 +8,8 @@ use Rattle.rfb_viewer.specs.declared.setup.ViewerSetup.{ViewerSetup as Setup}
 use Rattle.rfb_session.specs.declared.hub.event.SlotEvent.{SlotEvent}
 use Rattle.rfb_session.specs.declared.hub.event.SlotEvent.TheVariants.{Request, SetFormat, SetEncodings, Key, Pointer, CutText, Compose, ToServer, ToViewer}
 use Rattle.rfb_session.specs.HubSeats.{event_of}
-use Rattle.rfb.specs.declared.script.hub.line.HubStep.{HubStep}
-use Rattle.rfb.specs.declared.script.hub.line.HubStep.TheVariants.{Event, Settle}
+use Rattle.rfb.specs.declared.script.hub.hub_step.HubStep.{HubStep}
+use Rattle.rfb.specs.declared.script.hub.hub_step.HubStep.TheVariants.{Event, Settle}
 use Rattle.rfb.specs.declared.script.line.Screen.{Screen as Size}
 use Rattle.rfb.specs.Few.{HasFewInHub}
 use Rattle.rfb.specs.HubScript.{AreForeign, AreJoin, IsSlotThen, IsSlotAlone, SaysAt, SaysHub, SaysHubStep, SaysShow}

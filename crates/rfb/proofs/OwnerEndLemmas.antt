@@ -4,9 +4,9 @@ use Rattle.arrayvec.specs.ArrayVec.{ArrayVec as Items}
 use Rattle.std.proofs.lemmas.List.{length-append}
 use Rattle.rfb_picture.specs.declared.rect.Rect.{Rect}
 use Rattle.rfb.specs.declared.script.line.Screen.{Screen as Size}
-use Rattle.rfb.specs.declared.sharing.line.Order.{Order}
-use Rattle.rfb.specs.declared.sharing.line.Refusal.{Refusal}
-use Rattle.rfb.specs.declared.sharing.line.Refusal.TheVariants.{Bad}
+use Rattle.rfb.specs.declared.sharing.order.Order.{Order}
+use Rattle.rfb.specs.declared.sharing.order.Refusal.{Refusal}
+use Rattle.rfb.specs.declared.sharing.order.Refusal.TheVariants.{Bad}
 use Rattle.rfb.specs.declared.sharing.pixels.Pixels.{Pixels}
 use Rattle.rfb.specs.declared.sharing.reader.OwnerReader.{OwnerReader}
 use Rattle.rfb.specs.declared.sharing.stage.Stage.{Stage}

@@ -6,8 +6,8 @@ use Rattle.std.specs.Str.{bytes_eq}
 use Rattle.rfb_picture.specs.declared.rect.Rect.{Rect}
 use Rattle.rfb_pixel.specs.declared.colour.Colour.{Colour}
 use Rattle.rfb.specs.declared.script.line.Screen.{Screen as Size}
-use Rattle.rfb.specs.declared.sharing.line.OwnerLine.{OwnerLine}
-use Rattle.rfb.specs.declared.sharing.line.OwnerLine.TheVariants.{Screen, Fill, Copy, Hint, Scroll, Pixels, End, Quit}
+use Rattle.rfb.specs.declared.sharing.order.OwnerLine.{OwnerLine}
+use Rattle.rfb.specs.declared.sharing.order.OwnerLine.TheVariants.{Screen, Fill, Copy, Hint, Scroll, Pixels, End, Quit}
 use Rattle.rfb.specs.HubScript.{IsSlotAlone}
 use Rattle.rfb.specs.Script.{Begins}
 use Rattle.rfb.specs.Sharing.{ArePlaces, AreScroll, IsShift, SaysNoOwner, SaysOwner}

@@ -5,7 +5,7 @@ use Rattle.std.proofs.lemmas.List.{append_assoc, length-append}
 use Rattle.std.proofs.lemmas.List.Elements.{All-append}
 use Rattle.rfb_picture.specs.declared.rect.Rect.{Rect}
 use Rattle.rfb.specs.declared.script.line.Screen.{Screen as Size}
-use Rattle.rfb.specs.declared.sharing.line.OwnerLine.{OwnerLine}
+use Rattle.rfb.specs.declared.sharing.order.OwnerLine.{OwnerLine}
 use Rattle.rfb.specs.Sharing.{AreAfterPixels, IsInPlace, IsOneLine, IsSpoilt, data_length}
 use Rattle.rfb.specs.OwnerReader.{AreComing}
 

@@ -10,7 +10,7 @@ use Rattle.rfb_session.specs.declared.engine.fault.EngineFault.{EngineFault}
 use Rattle.rfb.specs.declared.fault.Fault.{Fault}
 use Rattle.rfb.specs.declared.fault.Failure.{Failure}
 use Rattle.rfb.specs.declared.fault.Failure.TheVariants as failure
-use Rattle.rfb.specs.declared.play.options.PlayOptions.{PlayOptions}
+use Rattle.rfb.specs.declared.play.play_options.PlayOptions.{PlayOptions}
 use Rattle.rfb_session.proofs.WrittenLaws.{whole_beginning}
 use Rattle.rfb.specs.Recording.{BeginsPicture, EndsShown, FailsToPlay, IsFresh, LeavesRecording, MayWritePicture, PlaysRecording, ShowsEnd, StopsWatching, Watches, WritesPicture, shows_end}
 

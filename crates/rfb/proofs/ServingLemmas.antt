@@ -30,9 +30,9 @@ use Rattle.rfb_session.specs.netpbm.File.{FailsToSpell, SpellsKnown, picture_of}
 use Rattle.rfb.specs.declared.fault.Failure.{Failure}
 use Rattle.rfb.specs.declared.fault.Failure.TheVariants.{BadLine, Fault, Engine, Picture as PictureFailure}
 use Rattle.rfb.specs.declared.fault.Fault.{Fault as FaultOf}
-use Rattle.rfb.specs.declared.serving.options.ScreenChoice.{ScreenChoice}
-use Rattle.rfb.specs.declared.serving.options.ScreenChoice.TheVariants.{Scene as SceneAsked, Picture as PictureAsked}
-use Rattle.rfb.specs.declared.serving.options.ServeOptions.{ServeOptions}
+use Rattle.rfb.specs.declared.serving.serve_words.ScreenChoice.{ScreenChoice}
+use Rattle.rfb.specs.declared.serving.serve_words.ScreenChoice.TheVariants.{Scene as SceneAsked, Picture as PictureAsked}
+use Rattle.rfb.specs.declared.serving.serve_words.ServeOptions.{ServeOptions}
 use Rattle.rfb.specs.declared.serving.screen.ServedScreen.TheVariants.{Scene, Picture}
 use Rattle.rfb.specs.Serving.{FailsAs, FailsToRead, FailsToServe, LeavesServed, ServesAsked, ServesSpelled, ServesWith}
 use Rattle.rfb.specs.Serving.{End, ShowsPicture, IsLineOf, IsServedFrom, IsServedSome, ServesAll, ServesFewer, ServesSo, StopsEarly, TellsEnds}

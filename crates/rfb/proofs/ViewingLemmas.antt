@@ -11,7 +11,7 @@ use Rattle.rfb_session.specs.Wire.{by_bytes}
 use Rattle.rfb.specs.declared.fault.Fault.{Fault}
 use Rattle.rfb.specs.declared.fault.Failure.{Failure}
 use Rattle.rfb.specs.declared.fault.Failure.TheVariants as failure
-use Rattle.rfb.specs.declared.viewing.options.Sight.{Sight}
+use Rattle.rfb.specs.declared.viewing.view_options.Sight.{Sight}
 use Rattle.rfb.specs.Recording.{BeginsPicture, EndsShown, ShowsEnd, WritesPicture, shows_end}
 use Rattle.rfb.specs.Viewing.{FailsToView, IsMadeFor, LeavesSomeView, LeavesView, Saw, ShowsView, StopsSeeing, StopsView, Views}
 

@@ -11,7 +11,7 @@ use Rattle.rfb_session.specs.World.{shown_by}
 use Rattle.rfb.specs.declared.script.line.Numbered.{Numbered}
 use Rattle.rfb.specs.declared.script.line.Screen.{Screen as Size}
 use Rattle.rfb.specs.declared.script.line.Wants.{Wants}
-use Rattle.rfb.specs.declared.script.hub.line.HubNumbered.{HubNumbered}
+use Rattle.rfb.specs.declared.script.hub.hub_step.HubNumbered.{HubNumbered}
 use Rattle.rfb.specs.Playing.{IsPlayed}
 use Rattle.rfb.specs.HubPlaying.{hub_events}
 use Rattle.rfb.specs.HubScript.{AreHubScript, StopsReadingAny}

@@ -6,8 +6,8 @@ use Rattle.rfb_session.specs.declared.hub.event.HubEvent.{HubEvent}
 use Rattle.rfb_session.specs.declared.hub.event.HubEvent.TheVariants.{Of, Foreign}
 use Rattle.rfb_session.specs.declared.hub.event.SlotEvent.{SlotEvent}
 use Rattle.rfb_session.specs.declared.hub.event.SlotEvent.TheVariants.{CutText as SlotText}
-use Rattle.rfb.specs.declared.script.hub.line.HubStep.{HubStep}
-use Rattle.rfb.specs.declared.script.hub.line.HubStep.TheVariants.{Event as HubOneEvent, Settle as HubSettle}
+use Rattle.rfb.specs.declared.script.hub.hub_step.HubStep.{HubStep}
+use Rattle.rfb.specs.declared.script.hub.hub_step.HubStep.TheVariants.{Event as HubOneEvent, Settle as HubSettle}
 use Rattle.rfb.specs.declared.script.line.Step.{Step as ScriptStep}
 use Rattle.rfb.specs.declared.script.line.Step.TheVariants.{Event as OneEvent, Settle}
 

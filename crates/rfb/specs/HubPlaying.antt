@@ -8,10 +8,10 @@ use Rattle.rfb_session.specs.declared.hub.event.HubTold.{HubTold}
 use Rattle.rfb_session.specs.declared.hub.event.SlotEvent.TheVariants.{ToServer, ToViewer}
 use Rattle.rfb_session.specs.Hub.{HubStands}
 use Rattle.rfb_session.specs.HubSteps.{HubSteps, RunsHub}
-use Rattle.rfb.specs.declared.playing.hub.LineTold.{LineTold}
-use Rattle.rfb.specs.declared.script.hub.line.HubNumbered.{HubNumbered}
-use Rattle.rfb.specs.declared.script.hub.line.HubStep.{HubStep}
-use Rattle.rfb.specs.declared.script.hub.line.HubStep.TheVariants.{Event, Settle}
+use Rattle.rfb.specs.declared.script.hub_steps.LineTold.{LineTold}
+use Rattle.rfb.specs.declared.script.hub.hub_step.HubNumbered.{HubNumbered}
+use Rattle.rfb.specs.declared.script.hub.hub_step.HubStep.{HubStep}
+use Rattle.rfb.specs.declared.script.hub.hub_step.HubStep.TheVariants.{Event, Settle}
 
 -- ---- the events of steps
 

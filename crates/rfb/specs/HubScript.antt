@@ -8,9 +8,9 @@ use Rattle.rfb_session.specs.HubSeats.{event_of}
 use Rattle.rfb.specs.declared.fault.Failure.{Failure}
 use Rattle.rfb.specs.declared.fault.Failure.TheVariants.{BadLine, Fault, Engine, Picture}
 use Rattle.rfb.specs.declared.fault.Fault.TheVariants.{NoMemory}
-use Rattle.rfb.specs.declared.script.hub.line.HubNumbered.{HubNumbered}
-use Rattle.rfb.specs.declared.script.hub.line.HubStep.{HubStep}
-use Rattle.rfb.specs.declared.script.hub.line.HubStep.TheVariants.{Event, Settle}
+use Rattle.rfb.specs.declared.script.hub.hub_step.HubNumbered.{HubNumbered}
+use Rattle.rfb.specs.declared.script.hub.hub_step.HubStep.{HubStep}
+use Rattle.rfb.specs.declared.script.hub.hub_step.HubStep.TheVariants.{Event, Settle}
 use Rattle.rfb.specs.declared.script.line.Screen.{Screen as Size}
 use Rattle.rfb.specs.declared.script.line.Wants.{Wants}
 use Rattle.rfb.specs.Script.{AreEmpty, Begins, SaysEvent, StopsReading, words_of}

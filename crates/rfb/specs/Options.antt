@@ -9,8 +9,8 @@ use Rattle.rfb.specs.declared.commands.Task.{Task}
 use Rattle.rfb.specs.declared.commands.Task.TheVariants.{Script, Loop, Play, Serve, View, Share}
 use Rattle.rfb.specs.declared.options.WrongWords.{WrongWords}
 use Rattle.rfb.specs.declared.options.WrongWords.TheVariants.{Words, Value}
-use Rattle.rfb.specs.declared.play.options.PlayOptions.{PlayOptions}
-use Rattle.rfb.specs.declared.sharing.options.ShareOptions.{ShareOptions}
+use Rattle.rfb.specs.declared.play.play_options.PlayOptions.{PlayOptions}
+use Rattle.rfb.specs.declared.sharing.share_words.ShareOptions.{ShareOptions}
 use Rattle.rfb.specs.declared.commands.Verb.{Verb}
 use Rattle.rfb.specs.command.Program.{program, asked, name_of}
 use Rattle.rfb.specs.command.Values.{GivesFormat, HasBadFormat, GivesNumber, MayGiveNumber, IsFlagged, GivesFiles, NamesHost, NamesWord}

@@ -2,10 +2,10 @@
 use Rattle.std.specs.Prelude.{◌≡◌, ◌≢◌, ◌+◌, ◌<◌, ◌⊎◌, ℕ, List, [], ◌∷◌, ◌++◌, Option, None, Some, length}
 use Rattle.rfb_picture.specs.declared.rect.Rect.{Rect}
 use Rattle.rfb.specs.declared.script.line.Screen.{Screen as Size}
-use Rattle.rfb.specs.declared.sharing.line.OwnerLine.{OwnerLine}
-use Rattle.rfb.specs.declared.sharing.line.OwnerLine.TheVariants.{Screen}
-use Rattle.rfb.specs.declared.sharing.line.Order.{Order}
-use Rattle.rfb.specs.declared.sharing.line.Refusal.TheVariants.{Bad}
+use Rattle.rfb.specs.declared.sharing.order.OwnerLine.{OwnerLine}
+use Rattle.rfb.specs.declared.sharing.order.OwnerLine.TheVariants.{Screen}
+use Rattle.rfb.specs.declared.sharing.order.Order.{Order}
+use Rattle.rfb.specs.declared.sharing.order.Refusal.TheVariants.{Bad}
 use Rattle.rfb.specs.declared.sharing.reader.OwnerReader.{OwnerReader}
 use Rattle.rfb.specs.declared.sharing.stage.Stage.{Stage}
 use Rattle.rfb.specs.Script.{words_of}

@@ -18,7 +18,7 @@ use Rattle.rfb_session.specs.PlayingSome.{PlayedFirst, StopsPlayingSome}
 use Rattle.rfb_session.specs.Watching.{StandsBetween}
 use Rattle.rfb.specs.declared.fault.Failure.{Failure}
 use Rattle.rfb.specs.declared.fault.Failure.TheVariants.{BadLine, Fault, Engine, Picture}
-use Rattle.rfb.specs.declared.play.options.PlayOptions.{PlayOptions}
+use Rattle.rfb.specs.declared.play.play_options.PlayOptions.{PlayOptions}
 use Rattle.rfb_session.specs.Pixmap.{pixmap}
 
 -- what a viewer of the program is made with

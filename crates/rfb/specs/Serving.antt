@@ -21,9 +21,9 @@ use Rattle.rfb.specs.declared.fault.Fault.TheVariants.{NoMemory as OutOfMemory}
 use Rattle.rfb.specs.declared.fault.Failure.{Failure}
 use Rattle.rfb.specs.declared.fault.Failure.TheVariants.{BadLine, Fault, Engine, Picture as PictureFailure}
 use Rattle.rfb.specs.declared.script.line.Screen.{Screen as Size}
-use Rattle.rfb.specs.declared.serving.options.ScreenChoice.{ScreenChoice}
-use Rattle.rfb.specs.declared.serving.options.ScreenChoice.TheVariants.{Scene as SceneAsked, Picture as PictureAsked}
-use Rattle.rfb.specs.declared.serving.options.ServeOptions.{ServeOptions}
+use Rattle.rfb.specs.declared.serving.serve_words.ScreenChoice.{ScreenChoice}
+use Rattle.rfb.specs.declared.serving.serve_words.ScreenChoice.TheVariants.{Scene as SceneAsked, Picture as PictureAsked}
+use Rattle.rfb.specs.declared.serving.serve_words.ServeOptions.{ServeOptions}
 use Rattle.rfb.specs.declared.serving.screen.ServedScreen.{ServedScreen}
 use Rattle.rfb.specs.declared.serving.screen.ServedScreen.TheVariants.{Scene, Picture}
 use Rattle.rfb.specs.Playing.{serving_of}

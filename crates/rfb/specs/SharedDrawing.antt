@@ -6,9 +6,9 @@ use Rattle.rfb_server.specs.Drawing.{Scroll as OneScroll}
 use Rattle.rfb_session.specs.declared.share.Share.{Share}
 use Rattle.rfb_session.specs.Share.{screen_of}
 use Rattle.rfb_session.specs.ShareSteps.{DrawsOn}
-use Rattle.rfb.specs.declared.sharing.line.OwnerLine.{OwnerLine}
-use Rattle.rfb.specs.declared.sharing.line.OwnerLine.TheVariants.{Screen, Fill, Copy, Hint, Scroll}
-use Rattle.rfb.specs.declared.sharing.line.OwnerLine.TheVariants.{Pixels, End, Quit}
+use Rattle.rfb.specs.declared.sharing.order.OwnerLine.{OwnerLine}
+use Rattle.rfb.specs.declared.sharing.order.OwnerLine.TheVariants.{Screen, Fill, Copy, Hint, Scroll}
+use Rattle.rfb.specs.declared.sharing.order.OwnerLine.TheVariants.{Pixels, End, Quit}
 
 -- the drawing or the hint that a line with no pixels is, if it is one
 abbrev pub stroke_of : OwnerLine → Option Stroke

@@ -4,8 +4,8 @@ use Rattle.std.specs.Fmt.{decimal}
 use Rattle.hex.specs.Hex.{encode_lower}
 use Rattle.rfb_session.specs.declared.share.event.SeatEvent.{SeatEvent}
 use Rattle.rfb_session.specs.declared.share.event.SeatEvent.TheVariants.{Ready, Key, Pointer, CutText}
-use Rattle.rfb.specs.declared.sharing.line.Refusal.{Refusal}
-use Rattle.rfb.specs.declared.sharing.line.Refusal.TheVariants.{Bad, NoMemory}
+use Rattle.rfb.specs.declared.sharing.order.Refusal.{Refusal}
+use Rattle.rfb.specs.declared.sharing.order.Refusal.TheVariants.{Bad, NoMemory}
 
 -- a viewer came to a seat
 abbrev pub join_line : ℕ → List ℕ

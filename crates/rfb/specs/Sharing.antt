@@ -3,11 +3,11 @@ use Rattle.std.specs.Prelude.{◌≡◌, ◌≢◌, ◌+◌, ◌*◌, ◌<◌, �
 use Rattle.std.specs.Str.Parse.{digits_value}
 use Rattle.rfb_picture.specs.declared.rect.Rect.{Rect}
 use Rattle.rfb.specs.declared.script.line.Screen.{Screen as Size}
-use Rattle.rfb.specs.declared.sharing.line.OwnerLine.{OwnerLine}
-use Rattle.rfb.specs.declared.sharing.line.OwnerLine.TheVariants.{Screen, Fill, Copy, Hint, Scroll, Pixels, End, Quit}
-use Rattle.rfb.specs.declared.sharing.line.Order.{Order}
-use Rattle.rfb.specs.declared.sharing.line.Refusal.{Refusal}
-use Rattle.rfb.specs.declared.sharing.line.Refusal.TheVariants.{Bad, NoMemory}
+use Rattle.rfb.specs.declared.sharing.order.OwnerLine.{OwnerLine}
+use Rattle.rfb.specs.declared.sharing.order.OwnerLine.TheVariants.{Screen, Fill, Copy, Hint, Scroll, Pixels, End, Quit}
+use Rattle.rfb.specs.declared.sharing.order.Order.{Order}
+use Rattle.rfb.specs.declared.sharing.order.Refusal.{Refusal}
+use Rattle.rfb.specs.declared.sharing.order.Refusal.TheVariants.{Bad, NoMemory}
 use Rattle.rfb.specs.HubScript.{IsSlotAlone}
 use Rattle.rfb.specs.Number.{IsNumber}
 use Rattle.rfb.specs.Script.{Begins, words_of}

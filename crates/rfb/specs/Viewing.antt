@@ -6,7 +6,7 @@ use Rattle.rfb_session.specs.ViewEngine.{HasViewed, StopsViewing}
 use Rattle.rfb.specs.declared.fault.Failure.{Failure}
 use Rattle.rfb.specs.declared.fault.Fault.{Fault as OwnFault}
 use Rattle.rfb.specs.declared.fault.Failure.TheVariants.{BadLine, Fault, Engine, Picture}
-use Rattle.rfb.specs.declared.viewing.options.Sight.{Sight}
+use Rattle.rfb.specs.declared.viewing.view_options.Sight.{Sight}
 use Rattle.rfb.specs.Recording.{BeginsPicture, IsFresh, ShowsEnd, WritesPicture, shows_end}
 
 -- a viewer asked and was fed, up to the end of the `updates`-th update; its bytes were there to be

@@ -3,9 +3,9 @@
 //! They stand beside the lines that a command ends with, before the one that says why. Nothing else
 //! depends on them: a sentence that cannot be written is lost.
 
-mod beginning;
 mod escaped;
 mod failing;
+mod greeting;
 mod heard;
 mod hearing;
 mod keeping;

@@ -1,10 +1,10 @@
 //! The words of the command line: which there are, and what they ask for.
 
 pub mod address;
+pub mod common;
 pub mod given;
 mod paths;
 pub mod usage;
-pub mod words;
 
 ghost use Rattle.std.specs.Prelude.{◌≡◌, map, IfOk, MatchResult};
 ghost use Rattle.clap.specs.Words.{FailsBy, fault_of, subcommand_rows_of};

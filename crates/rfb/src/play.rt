@@ -10,17 +10,18 @@ ghost use Rattle.rfb_wire.specs.declared.encoding.Encoding.TheVariants.{Raw};
 ghost use Rattle.rfb.specs.Recording.{EndsShown, MayWritePicture, is_end, shows_end};
 ghost use Rattle.rfb.specs.Recording.{WritesPicture, Watches, StopsWatching};
 
-mod options;
-pub mod words;
+mod play_options;
+mod play_words;
 
 use crate::context::Context;
+use crate::defaults::{fresh_viewer, only_raw};
 use crate::explain::{
     Heard, Hearing, Notes, Origin, Shared, Telling, tell_place, tell_played, tell_server,
 };
 use crate::fault::{Failure, Fault};
-use crate::playing::{fresh_viewer, only_raw};
 use crate::writing::write_ppm;
-pub use options::PlayOptions;
+pub use play_options::PlayOptions;
+pub use play_words::{PLAY, play_options_in};
 use rfb_session::{EngineFault, Tally, Watcher, play_watched};
 use rfb_viewer::Viewer;
 use std::alloc::Global;

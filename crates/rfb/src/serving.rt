@@ -12,8 +12,8 @@ ghost use Rattle.rfb.specs.declared.fault.Failure.TheVariants as Failure;
 ghost use Rattle.rfb.specs.declared.fault.Fault.{Fault};
 
 mod fresh;
-mod options;
 mod screen;
+mod serve_words;
 mod still;
 
 use crate::context::Context;
@@ -23,9 +23,9 @@ use crate::reaching::Timed;
 use crate::serving::fresh::serve_fresh;
 use crate::serving::screen::open_picture;
 use crate::writing::write_whole;
-pub use options::{FOREVER, SERVE, ScreenChoice, ServeOptions, listen_in, serve_options_in};
 use rfb_session::EngineFault;
 pub use screen::ServedScreen;
+pub use serve_words::{FOREVER, SERVE, ScreenChoice, ServeOptions, listen_in, serve_options_in};
 use std::alloc::{AllocError, Global};
 use std::fs::Files;
 use std::io::{Read, Write};

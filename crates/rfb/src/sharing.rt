@@ -4,25 +4,25 @@
 ghost use Rattle.rfb.specs.Context.{KeepsStreams};
 
 mod beginning;
-mod cause;
 mod desk;
 pub mod drawing;
 mod guests;
 mod input;
-pub mod line;
-mod options;
+pub mod notices;
+pub mod order;
+mod owner_cause;
+pub mod owner_line;
 mod pixels;
 pub mod reader;
 mod ready;
+mod share_words;
 mod stage;
-pub mod telling;
-pub mod words;
 
 use crate::context::Context;
 use crate::explain::{Notes, tell_bound, tell_unbound};
 use crate::fault::Failure;
 use crate::sharing::desk::Desk;
-pub use options::{SHARE, ShareOptions, share_options_in};
+pub use share_words::{SHARE, ShareOptions, share_options_in};
 use std::io::{Read, Write};
 use std::net::{Net, OpenListener, TcpListener};
 

@@ -8,19 +8,18 @@ ghost use Rattle.rfb.specs.Viewing.{FailsToView, FailsToViewSome, Saw, StopsSeei
 ghost use Rattle.rfb.specs.Recording.{shows_end};
 ghost use Rattle.rfb.specs.Viewing.{LeavesSomeView, LeavesView, Views, ViewsSome};
 
-mod options;
-pub mod words;
+mod view_options;
+mod view_words;
 
 use crate::context::Context;
+use crate::defaults::fresh_viewer;
 use crate::explain::{
     Heard, Hearing, Notes, Origin, Shared, Telling, Writing, tell_server, tell_unreached,
     tell_unsent,
 };
 use crate::fault::{Failure, Fault};
 use crate::play::{show, show_early};
-use crate::playing::fresh_viewer;
 use crate::reaching::{Patient, connect};
-pub use options::{Sight, ViewOptions};
 use rfb_session::{EngineFault, Lent, Nowhere, Pair, Sink, Tally, Watcher, view_watched};
 use rfb_viewer::Viewer;
 use std::alloc::Global;
@@ -28,6 +27,8 @@ use std::cell::RefCell;
 use std::io::{Read, Write};
 use std::net::{Net, OpenStream};
 use std::time::Clock;
+pub use view_options::{Sight, ViewOptions};
+pub use view_words::{VIEW, view_options_in};
 
 const ENDLESS: &str = "rfb: it waits as long as it takes: there is no --timeout";
 

@@ -3,8 +3,8 @@ use Rattle.std.specs.Prelude.{◌≡◌, ◌⊎◌, ℕ, List, [], ◌∷◌, Op
 use Rattle.clap.specs.Words.{Row, Text, first_of}
 use Rattle.rfb_wire.specs.declared.encoding.Encoding.{Encoding}
 use Rattle.rfb_wire.specs.declared.encoding.Encoding.TheVariants.{Raw}
-use Rattle.rfb.specs.declared.viewing.options.ViewOptions.{ViewOptions}
-use Rattle.rfb.specs.declared.viewing.options.Sight.{Sight}
+use Rattle.rfb.specs.declared.viewing.view_options.ViewOptions.{ViewOptions}
+use Rattle.rfb.specs.declared.viewing.view_options.Sight.{Sight}
 use Rattle.rfb.specs.Address.{GivesServer}
 use Rattle.rfb.specs.Words.{AreEncodings, parts_of}
 use Rattle.rfb.specs.command.Values.{GivesFormat, HasBadFormat, GivesNumber, MayGiveNumber, IsFlagged}

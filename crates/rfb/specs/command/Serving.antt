@@ -1,9 +1,9 @@
 -- What the words of `serve` ask for.
 use Rattle.std.specs.Prelude.{◌≡◌, ◌⊎◌, ℕ, Bool, true, false, List, Some, codes}
 use Rattle.clap.specs.Words.{Row, first_of}
-use Rattle.rfb.specs.declared.serving.options.ScreenChoice.{ScreenChoice}
-use Rattle.rfb.specs.declared.serving.options.ScreenChoice.TheVariants.{Scene, Picture}
-use Rattle.rfb.specs.declared.serving.options.ServeOptions.{ServeOptions}
+use Rattle.rfb.specs.declared.serving.serve_words.ScreenChoice.{ScreenChoice}
+use Rattle.rfb.specs.declared.serving.serve_words.ScreenChoice.TheVariants.{Scene, Picture}
+use Rattle.rfb.specs.declared.serving.serve_words.ServeOptions.{ServeOptions}
 use Rattle.rfb.specs.command.Values.{GivesNumber, MayGiveNumber, IsFlagged, NamesHost, GivesOr, IsAbsent, IsThere}
 
 -- what is shown: a picture, which has its own size, or the test scene

@@ -1,6 +1,6 @@
 //! Sentences for what an engine ended with.
 
-use crate::explain::beginning::{has_version, tell_types};
+use crate::explain::greeting::{has_version, tell_types};
 use crate::explain::naming::EncodingNumber;
 use crate::explain::{Escaped, Heard};
 use rfb_server::ServerFault;

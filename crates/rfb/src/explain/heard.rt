@@ -1,7 +1,7 @@
 //! The first bytes that a server sent, as they come.
 
 use crate::explain::Origin;
-use crate::explain::beginning::VERSION_SIZE;
+use crate::explain::greeting::VERSION_SIZE;
 use arrayvec::ArrayVec;
 use rfb_wire::pieces::append;
 use std::io::Write;

@@ -7,11 +7,12 @@ ghost use Rattle.rfb.specs.Few.{cut_by};
 ghost use Rattle.rfb.specs.Playing.{IsFreshServer, encodings_of, format_of};
 ghost use Rattle.rfb.specs.Recording.{IsFresh};
 
+use crate::defaults::{copy_of, fresh_server, fresh_viewer};
 use crate::fault::Fault;
 use crate::loopback::arriving::{reach_server, reach_viewer, take_some};
 use crate::loopback::link::{Link, PART};
 use crate::loopback::sent::{compose, cut_text, in_flight, of_drawing, send, send_list};
-use crate::playing::{copy_of, fresh_server, fresh_viewer, wishes};
+use crate::script::steps::wishes;
 use crate::script::{Screen, Wants};
 use rfb_server::Server;
 use rfb_session::{Event, Refused};

@@ -1,7 +1,7 @@
 //! Why a line of a script is bad, for a person.
 
 pub mod form;
-mod hub;
+mod hub_cause;
 pub mod kind;
 pub mod reason;
 
@@ -12,7 +12,7 @@ use crate::script::hub::HUB;
 use crate::script::parting::{ends_line, parts_words};
 use crate::script::read::SCREEN;
 use arrayvec::ArrayVec;
-pub use hub::tell_bad_hub_line;
+pub use hub_cause::tell_bad_hub_line;
 use std::io::Write;
 
 // Room for one word more than a line may have.

@@ -23,18 +23,18 @@ ghost use Rattle.rfb.specs.Script.{lines_of};
 use crate::explain::Notes;
 use crate::fault::Failure;
 use crate::script::cause::tell_bad_hub_line;
-use crate::script::hub::line::{HubNumbered, HubStep};
-use crate::script::hub::read::{read_hub, read_hub_step, read_show};
+use crate::script::hub::hub_line::{read_hub, read_hub_step, read_show};
+use crate::script::hub::hub_step::{HubNumbered, HubStep};
 use crate::script::line::Screen;
 use crate::script::parting::ends_line;
-pub use read::{AT, FOREIGN, HUB, JOIN, LEAVE, SHOW};
+pub use hub_line::{AT, FOREIGN, HUB, JOIN, LEAVE, SHOW};
+pub use slot::{SHARED, SOLE, read_slot};
 use std::alloc::Global;
 use std::io::Write;
-pub use words::{SHARED, SOLE, read_slot};
 
-pub mod line;
-mod read;
-pub mod words;
+mod hub_line;
+pub mod hub_step;
+pub mod slot;
 
 /// A script of a hub that was read to its end and has no bad line.
 #[derive(Drop)]

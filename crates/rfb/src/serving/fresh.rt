@@ -5,7 +5,7 @@ ghost use Rattle.rfb.specs.Playing.{IsFreshServer};
 ghost use Rattle.rfb.specs.Serving.{IsServed, IsServedFrom};
 ghost use Rattle.rfb.specs.declared.serving.screen.ServedScreen.TheVariants as ServedScreen;
 
-use crate::playing::fresh_server;
+use crate::defaults::fresh_server;
 use crate::scene::TestScene;
 use crate::script::Screen;
 use crate::serving::screen::ServedScreen;

@@ -1,7 +1,7 @@
 //! One loop over standard input, a listener and connections, by readiness.
 
-mod hearing;
 mod obeying;
+mod owner;
 mod reporting;
 
 use crate::fault::Failure;

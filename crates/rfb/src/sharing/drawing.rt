@@ -4,7 +4,7 @@ ghost use Rattle.std.specs.Prelude.{◌≡◌, option_map};
 ghost use Rattle.rfb_server.specs.Drawing.{stroke};
 ghost use Rattle.rfb.specs.SharedDrawing.{stroke_of};
 
-use crate::sharing::line::OwnerLine;
+use crate::sharing::order::OwnerLine;
 use rfb_session::Drawing;
 
 /// What a line with no pixels asks to be drawn, or the hint that it gives, if it does either.

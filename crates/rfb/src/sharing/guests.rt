@@ -1,14 +1,14 @@
 //! The viewers of a share, each with its connection.
 
 mod admitting;
-mod drawing;
-mod hearing;
-mod serving;
+mod drawn;
+mod receiving;
+mod sending;
 
 use crate::fault::Failure;
 use crate::sharing::ShareOptions;
+use crate::sharing::notices::{tell_fault, tell_leave};
 use crate::sharing::ready::Ready;
-use crate::sharing::telling::{tell_fault, tell_leave};
 use mio::Registry;
 use rfb_session::{SLOTS, Seat, Share};
 use std::alloc::Global;

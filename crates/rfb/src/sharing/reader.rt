@@ -8,10 +8,10 @@ ghost use Rattle.rfb.specs.OwnerReader.{Feeds, FeedsFrom, IsFresh, IsFreshReader
 ghost use Rattle.rfb.specs.declared.sharing.stage.Stage.TheVariants as Stage;
 
 use crate::script::Screen;
-use crate::sharing::line::{Order, OwnerLine, Refusal};
+use crate::sharing::order::{Order, OwnerLine, Refusal};
+use crate::sharing::owner_line::read_owner_line;
 use crate::sharing::pixels::{Pixels, data_length};
 use crate::sharing::stage::{LINE_MAX, Stage, longer};
-use crate::sharing::words::read_owner_line;
 use arrayvec::ArrayVec;
 use rfb_picture::Rect;
 use std::alloc::Global;

@@ -4,7 +4,7 @@ ghost use Rattle.rfb.specs.OwnerReader.{Advances, IsFresh};
 ghost use Rattle.rfb.specs.Sharing.{IsOneLine};
 ghost use Rattle.rfb.specs.declared.sharing.stage.Stage.TheVariants as Stage;
 
-use crate::sharing::line::Refusal;
+use crate::sharing::order::Refusal;
 use crate::sharing::pixels::Pixels;
 use arrayvec::ArrayVec;
 

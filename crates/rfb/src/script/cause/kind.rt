@@ -6,7 +6,7 @@ use crate::script::cause::reason::Reason;
 use crate::script::hub::{SHARED, SOLE, read_slot};
 use crate::script::number::{read_count, read_number};
 use crate::script::words::{read_colour, read_encoding, read_format, read_side};
-use crate::sharing::words::read_shift;
+use crate::sharing::owner_line::read_shift;
 
 // The most hexadecimal digits of foreign bytes.
 const HEX_MAX: usize = 128;

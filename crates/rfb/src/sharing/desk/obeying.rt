@@ -1,13 +1,13 @@
 //! What the owner of a share says, done.
 
+use crate::defaults::TEXT_LIMIT;
 use crate::fault::Failure;
-use crate::playing::TEXT_LIMIT;
 use crate::script::Screen;
 use crate::sharing::ShareOptions;
 use crate::sharing::desk::Desk;
 use crate::sharing::drawing::drawing_of;
 use crate::sharing::guests::Guests;
-use crate::sharing::line::{Order, OwnerLine, Refusal};
+use crate::sharing::order::{Order, OwnerLine, Refusal};
 use crate::sharing::ready::{LISTENER, register};
 use mio::Interest;
 use rfb_session::{Drawing, Share, ShareSetup};

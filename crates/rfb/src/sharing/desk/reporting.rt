@@ -2,10 +2,10 @@
 
 use crate::explain::Notes;
 use crate::fault::Failure;
-use crate::sharing::cause::{tell_bad_owner_line, tell_no_screen};
 use crate::sharing::desk::Desk;
-use crate::sharing::line::Refusal;
-use crate::sharing::telling::tell_refusal;
+use crate::sharing::notices::tell_refusal;
+use crate::sharing::order::Refusal;
+use crate::sharing::owner_cause::{tell_bad_owner_line, tell_no_screen};
 use std::io::Write;
 
 impl<L: Drop, S: Drop> Desk<L, S> {

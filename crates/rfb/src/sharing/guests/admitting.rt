@@ -3,8 +3,8 @@
 use crate::fault::Failure;
 use crate::sharing::ShareOptions;
 use crate::sharing::guests::Guests;
+use crate::sharing::notices::tell_join;
 use crate::sharing::ready::{Ready, register};
-use crate::sharing::telling::tell_join;
 use mio::{Interest, Registry, Token};
 use rfb_session::{Seat, Share};
 use std::io::{ErrorKind, Read, Write};

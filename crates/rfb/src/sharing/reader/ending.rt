@@ -3,10 +3,10 @@
 ghost use Rattle.rfb.specs.OwnerReader.{ClosesFrom, IsFresh};
 ghost use Rattle.rfb.specs.declared.sharing.stage.Stage.TheVariants as Stage;
 
-use crate::sharing::line::{Order, OwnerLine, Refusal};
+use crate::sharing::order::{Order, OwnerLine, Refusal};
+use crate::sharing::owner_line::read_owner_line;
 use crate::sharing::reader::OwnerReader;
 use crate::sharing::stage::{LINE_MAX, Stage};
-use crate::sharing::words::read_owner_line;
 use arrayvec::ArrayVec;
 use std::mem;
 

@@ -1,5 +1,5 @@
 use Rattle.std.proofs.Common.{refl, sym, subst, arith}
-use Rattle.rfb.specs.declared.sharing.line.Order.{Order}
+use Rattle.rfb.specs.declared.sharing.order.Order.{Order}
 use Rattle.rfb.specs.declared.sharing.stage.Stage.{Stage}
 use Rattle.rfb.specs.OwnerReader.{IsFresh}
 use Rattle.rfb.proofs.OwnerEndLemmas.{pixels_close, pixels_cut, refused_closes, refused_cut}

@@ -1,6 +1,6 @@
 use Rattle.std.proofs.Common.{ap, refl, sym, subst, arith, length, ◌≡◌, ◌≤◌, ℕ, List}
 use Rattle.std.proofs.lemmas.Bool.Decides.{nat_tests}
-use Rattle.rfb.specs.declared.sharing.line.OwnerLine.{OwnerLine}
+use Rattle.rfb.specs.declared.sharing.order.OwnerLine.{OwnerLine}
 use Rattle.rfb.specs.declared.sharing.stage.Stage.{Stage}
 use Rattle.rfb.specs.OwnerReader.{IsFresh}
 use Rattle.rfb.specs.Script.{words_of}

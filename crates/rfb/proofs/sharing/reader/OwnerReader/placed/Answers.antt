@@ -1,5 +1,5 @@
 use Rattle.std.proofs.Common.{ap, inl, refl, sym}
-use Rattle.rfb.specs.declared.sharing.line.Order.TheVariants as Order
+use Rattle.rfb.specs.declared.sharing.order.Order.TheVariants as Order
 use Rattle.rfb.proofs.OwnerReaderLemmas.{in_place}
 use Rattle.rfb.proofs.sharing.reader.OwnerReader.placed.Goals as goal
 

@@ -1,8 +1,0 @@
--- The turns so far led to this world.
-use Rattle.rfb.specs.Playing.{deliveries}
-use Rattle.rfb_session.specs.World.{Reaches}
-use Rattle.rfb_session.proofs.RunLaws.{Any}
-use Rattle.rfb.proofs.playing.settle.Given as goal
-
-abbrev pub invariant-loop-turn : goal.invariant-loop-turn
-invariant-loop-turn l = Reaches l.initial.world (deliveries l._turn) l.world Any

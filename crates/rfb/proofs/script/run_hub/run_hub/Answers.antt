@@ -1,0 +1,20 @@
+use Rattle.rfb.specs.HubPlaying.{hub_events}
+use Rattle.rfb.proofs.HubPlayingLemmas.{is_hub_played, leaves_hub}
+use Rattle.rfb.proofs.PlayingLemmas.{on_ok_both}
+use Rattle.rfb.proofs.script.run_hub.run_hub.Goals as goal
+
+pub returns-clause-done : goal.returns-clause-done
+returns-clause-done g c =
+    let script = c.args.script.now in
+    let fresh = c.in_ok-hub.ensures in
+    on_ok_both _ _ _ c.finish-done.result
+    (λ led shown. (c.finish-done.new.hub, is_hub_played script.screen (hub_events script.steps.items) c.in_ok-hub.hub c.finish-done.new.hub fresh.empty fresh.black fresh.made fresh.stands led, shown))
+    c.finish-done.ensures.led c.finish-done.ensures.shown
+
+pub returns-clause-left : goal.returns-clause-left
+returns-clause-left g c =
+    let script = c.args.script.now in
+    let fresh = c.in_ok-hub.ensures in
+    leaves_hub g.W.Write.contents c.args.context.now.output.now c.finish-done.new.context.output.now _ c.finish-done.new.hub c.finish-done.result
+    script.screen script.steps.items script.shown c.finish-done.ensures.left
+    (λ led. is_hub_played script.screen (hub_events script.steps.items) c.in_ok-hub.hub c.finish-done.new.hub fresh.empty fresh.black fresh.made fresh.stands led)

@@ -1,0 +1,159 @@
+//! Reading one line of a hub's script, by itself.
+
+ghost use Rattle.std.specs.Prelude.{◌≢◌, ◌∷◌, ℕ, IfOk, MatchOption, codes};
+ghost use Rattle.rfb.specs.declared.script.hub.hub_step.HubStep.{HubStep};
+ghost use Rattle.rfb.specs.declared.script.line.Screen.{Screen};
+ghost use Rattle.rfb.specs.declared.script.hub.hub_step.HubStep.TheVariants as HubStep;
+ghost use Rattle.rfb.specs.HubScript.{AsksInHub, GivesHub, NamesShown, SaysAt, SaysHub, SaysHubStep, SaysShow};
+ghost use Rattle.rfb.specs.Script.{words_of};
+ghost use Rattle.rfb.specs.Words.{texts};
+
+use crate::script::arguments::{read_fill, read_move, read_size};
+use crate::script::hub::hub_step::HubStep;
+use crate::script::hub::slot::{read_foreign, read_join, read_only_slot, read_slot};
+use crate::script::line::Screen;
+use crate::script::read::{COPY, FILL, HINT, SETTLE, parted, slot_event_of};
+use rfb_session::HubEvent;
+use std::alloc::{AllocError, Global};
+
+/// The words that lines of a hub begin with, beside those of a script.
+pub const HUB: &[u8] = b"hub";
+
+pub const SHOW: &[u8] = b"show";
+
+pub const JOIN: &[u8] = b"join";
+
+pub const LEAVE: &[u8] = b"leave";
+
+pub const FOREIGN: &[u8] = b"foreign";
+
+pub const AT: &[u8] = b"at";
+
+/// The size of a hub's screen, as a line without its newline gives it. It is `None` where the line
+/// gives none.
+pub fn read_hub(line: &[u8]) -> Option<Screen>
+    ensures { MatchOption result (¬ (GivesHub line.now)) (SaysHub (words_of line.now)) }
+{
+    hub_of(parted(line)?.as_slice())
+}
+
+// The same, as the words of a line give it.
+fn hub_of(words: &[&[u8]]) -> Option<Screen>
+    ensures { MatchOption result ((size : Screen) → ¬ (SaysHub (texts words.now) size))
+        (SaysHub (texts words.now)) }
+{
+    let (keyword, rest) = words.split_first()?;
+    if *keyword == HUB {
+        return read_size(rest);
+    }
+    None
+}
+
+/// The slot to be shown, as a line without its newline names it. It is `None` where the line names
+/// none.
+pub fn read_show(line: &[u8]) -> Option<u8>
+    ensures { MatchOption result (¬ (NamesShown line.now)) (SaysShow (words_of line.now)) }
+{
+    shown_by(parted(line)?.as_slice())
+}
+
+// The same, as the words of a line name it.
+fn shown_by(words: &[&[u8]]) -> Option<u8>
+    ensures { MatchOption result ((slot : ℕ) → ¬ (SaysShow (texts words.now) slot))
+        (SaysShow (texts words.now)) }
+{
+    let (keyword, rest) = words.split_first()?;
+    if *keyword == SHOW {
+        return read_only_slot(rest);
+    }
+    None
+}
+
+/// The step that a line without its newline asks for. It is `None` where the line asks for none.
+/// Memory is taken for foreign bytes alone.
+pub fn read_hub_step(alloc: Global, line: &[u8]) -> Result<Option<HubStep>, AllocError>
+    ensures { IfOk result (λ found. MatchOption found
+        (¬ (AsksInHub line.now)) (SaysHubStep (words_of line.now))) }
+{
+    match parted(line) {
+        Some(words) => hub_step_of(alloc, words.as_slice()),
+        None => Ok(None),
+    }
+}
+
+// The step that the words of a line ask for.
+fn hub_step_of(alloc: Global, words: &[&[u8]]) -> Result<Option<HubStep>, AllocError>
+    ensures { IfOk result (λ found. MatchOption found
+        ((step : HubStep) → ¬ (SaysHubStep (texts words.now) step))
+        (SaysHubStep (texts words.now))) }
+{
+    let Some((keyword, rest)) = words.split_first() else {
+        return Ok(None);
+    };
+    if *keyword != FOREIGN {
+        return Ok(spare_step_of(keyword, rest));
+    }
+    match read_foreign(alloc, rest)? {
+        Some((slot, bytes)) => Ok(Some(HubStep::Event(HubEvent::Foreign(slot, bytes)))),
+        None => Ok(None),
+    }
+}
+
+// The step that a keyword other than of foreign bytes and the words after it ask for.
+fn spare_step_of(keyword: &[u8], rest: &[&[u8]]) -> Option<HubStep>
+    requires foreign { keyword.now ≢ codes "foreign" }
+    ensures { MatchOption result
+        ((step : HubStep) → ¬ (SaysHubStep (keyword.now ∷ texts rest.now) step))
+        (SaysHubStep (keyword.now ∷ texts rest.now)) }
+{
+    if keyword == JOIN {
+        let (slot, setup) = read_join(rest)?;
+        return Some(HubStep::Event(HubEvent::Join(slot, setup)));
+    }
+    if keyword == LEAVE {
+        return Some(HubStep::Event(HubEvent::Leave(read_only_slot(rest)?)));
+    }
+    if keyword == AT {
+        return step_at(rest);
+    }
+    Some(HubStep::Event(drawing_of(keyword, rest)?))
+}
+
+// The drawing or the hint that a keyword and the words after it ask for.
+fn drawing_of(keyword: &[u8], rest: &[&[u8]]) -> Option<HubEvent>
+    requires foreign { keyword.now ≢ codes "foreign" }
+    requires join { keyword.now ≢ codes "join" }
+    requires leave { keyword.now ≢ codes "leave" }
+    requires at_slot { keyword.now ≢ codes "at" }
+    ensures { MatchOption result
+        ((step : HubStep) → ¬ (SaysHubStep (keyword.now ∷ texts rest.now) step))
+        (λ event. SaysHubStep (keyword.now ∷ texts rest.now) (HubStep.Event event)) }
+{
+    if keyword == FILL {
+        let (rect, colour) = read_fill(rest)?;
+        return Some(HubEvent::Fill(rect, colour));
+    }
+    if keyword == COPY {
+        let (rect, sx, sy) = read_move(rest)?;
+        return Some(HubEvent::Copy(rect, sx, sy));
+    }
+    if keyword == HINT {
+        let (rect, sx, sy) = read_move(rest)?;
+        return Some(HubEvent::Hint(rect, sx, sy));
+    }
+    None
+}
+
+// The step that the words after `at` ask for.
+fn step_at(words: &[&[u8]]) -> Option<HubStep>
+    ensures { MatchOption result ((step : HubStep) → ¬ (SaysAt (texts words.now) step))
+        (SaysAt (texts words.now)) }
+{
+    let (slot, line) = words.split_first()?;
+    let slot = read_slot(slot)?;
+    let (keyword, rest) = line.split_first()?;
+    if *keyword == SETTLE && rest.is_empty() {
+        return Some(HubStep::Settle(slot));
+    }
+    Some(HubStep::Event(HubEvent::Of(slot, slot_event_of(keyword, rest)?)))
+}
