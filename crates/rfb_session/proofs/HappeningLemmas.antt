@@ -1,5 +1,5 @@
 -- What an event makes of a world, from what it makes of the screen and the link.
-use Rattle.std.proofs.Common.{◌≡◌, ℕ, false, None, ◌⊎◌, inl, inr, Result, Ok, Err, IfOk, IsOk, refl, sym, subst}
+use Rattle.std.proofs.Common.{◌≡◌, false, ◌⊎◌, inl, inr, Result, Ok, Err, IfOk, IsOk, sym, subst}
 use Rattle.rfb_pixel.specs.declared.colour.Colour.{Colour}
 use Rattle.rfb_picture.specs.Grid.{Grid}
 use Rattle.rfb_server.specs.Composing.{IsDue}
@@ -13,7 +13,7 @@ use Rattle.rfb_session.specs.declared.world.World.{World}
 use Rattle.rfb_session.specs.Link.{Ends, server_of}
 use Rattle.rfb_session.specs.LinkCalls.{DoesCall, CallsOnBytes, IsRefusedCall}
 use Rattle.rfb_session.specs.LinkBytes.{ActsOnBytes}
-use Rattle.rfb_session.specs.LinkStanding.{Arrives, LinkStandsFor, LinkDoes, LinkDoesOver, LosesOn, ComposesNothingOver}
+use Rattle.rfb_session.specs.LinkStanding.{Arrives, LinkStandsFor, LinkDoesOver, LosesOn, ComposesNothingOver}
 use Rattle.rfb_session.specs.Network.{Network, Steps, Strokes}
 use Rattle.rfb_session.specs.Told.{RefusesUnless, Tells, TellsAlone}
 use Rattle.rfb_session.specs.World.{Acts, HintsAs, DrawsWorld, IsDrawing, IsRefused, IsLost, ComposesNothing, hints_in}

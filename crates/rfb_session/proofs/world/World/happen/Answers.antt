@@ -1,4 +1,4 @@
-use Rattle.std.proofs.Common.{ℕ, List, Some, length, inl, inr, refl, sym, ap}
+use Rattle.std.proofs.Common.{ℕ, List, Some, inl, inr, refl, sym, ap}
 use Rattle.rfb_server.specs.Drawing.{Fill as OneFill, Put as OnePut, Copy as OneCopy, Hint as OneHint}
 use Rattle.std.proofs.lemmas.Result.{IfOk-weaker}
 use Rattle.rfb_server.specs.declared.session.Session.{Session}
