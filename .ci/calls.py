@@ -17,6 +17,15 @@ TRUNCATED = b"fault 28 Truncated\n"
 NO_VERSION = b"rfb: in place of a version came `%b`: no server of RFB begins like that\n"
 
 
+# What is said where bytes end too early, of an update that has come in part.
+UNWRITTEN = b"rfb: no picture is written: --partial writes that of what came\n"
+WRITTEN = b"rfb: the picture of what came is written all the same\n"
+
+
+def closed_after(format):
+    return b"rfb: the server closed the connection right after it was asked for pixels in %b\n" % format
+
+
 def that_is_at(byte, updates=0):
     return b"rfb: that is at byte %d; whole updates before it: %d\n" % (byte, updates)
 

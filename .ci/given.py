@@ -10,7 +10,7 @@ last line is 'N passed, M failed'.
 
 import sys
 
-from calls import NO_VERSION, TRUNCATED, Call, ends, judged, that_is_at
+from calls import NO_VERSION, TRUNCATED, UNWRITTEN, WRITTEN, Call, ends, judged, that_is_at
 from messages import HELLO, MORE, SERVER
 from pictures import BLACK, SHOWN, SHOWN_LATER
 
@@ -197,7 +197,16 @@ CALLS = [
          ["play", "--explain", "--format", "bgr233"], SERVER, 1, b"",
          b"rfb: this is a recording of rfb, 2 by 1\n"
          b"rfb: the server's bytes end too early, after 69 of them\n"
-         + that_is_at(69, 1) + ANOTHER_FORMAT + TRUNCATED),
+         + that_is_at(69, 1) + ANOTHER_FORMAT + UNWRITTEN + TRUNCATED),
+    Call("explained_recording_that_is_cut", ["play", "--explain"], SERVER[:65], 1, b"",
+         b"rfb: this is a recording of rfb, 2 by 1\n"
+         b"rfb: the server's bytes end too early, after 65 of them\n"
+         + that_is_at(65) + ANOTHER_FORMAT + UNWRITTEN + TRUNCATED),
+    Call("explained_recording_that_is_cut_and_wanted", ["play", "--explain", "--partial"],
+         SERVER[:65], 1, BLACK,
+         b"rfb: this is a recording of rfb, 2 by 1\n"
+         b"rfb: the server's bytes end too early, after 65 of them\n"
+         + that_is_at(65) + ANOTHER_FORMAT + WRITTEN + TRUNCATED),
 ]
 
 

@@ -56,9 +56,10 @@ def connected(port, host="127.0.0.1"):
 
 
 class Server:
-    """Listens on an address, sends the bytes to whom comes first, and ends writing or is silent."""
+    """Listens on an address, sends the bytes to whom comes first, after a pause, and ends writing or
+    is silent."""
 
-    def __init__(self, sent=SERVER, host="127.0.0.1", port=0, late=0, is_silent=False):
+    def __init__(self, sent=SERVER, host="127.0.0.1", port=0, late=0, is_silent=False, pause=0):
         self.came = b""
         self.listener = socket.socket()
         self.listener.setsockopt(socket.SOL_SOCKET, socket.SO_REUSEADDR, 1)
@@ -67,17 +68,18 @@ class Server:
         self.listener.settimeout(20)
         if not late:
             self.listener.listen()
-        self.thread = threading.Thread(target=self.serve, args=(sent, late, is_silent),
+        self.thread = threading.Thread(target=self.serve, args=(sent, late, is_silent, pause),
                                        daemon=True)
         self.thread.start()
 
-    def serve(self, sent, late, is_silent):
+    def serve(self, sent, late, is_silent, pause):
         if late:
             time.sleep(late)
             self.listener.listen()
         try:
             with self.listener, self.listener.accept()[0] as line:
                 line.settimeout(20)
+                time.sleep(pause)
                 line.sendall(sent)
                 if not is_silent:
                     line.shutdown(socket.SHUT_WR)

@@ -13,7 +13,7 @@ import socket
 import struct
 import sys
 
-from calls import DEVICE, Run, ends, failing, folder, judged, limited
+from calls import DEVICE, UNWRITTEN, Run, closed_after, ends, failing, folder, judged, limited
 from messages import (CLIENT, HELLO, SERVER, VERSION, client_init, hextile, message, rectangle, rre,
                       security, security_of_33, security_result, server_init, set_pixel_format,
                       texted)
@@ -110,7 +110,6 @@ def a_screen_without_memory_is_said():
 # ---- streams and connections that fail
 
 RESET = b": Connection reset by peer (os error 104)\n"
-ENDLESS = b"rfb: it waits as long as it takes: there is no --timeout\n"
 VIEWED = b"rfb: connected to rfb, 2 by 1\n"
 
 
@@ -125,7 +124,7 @@ def an_input_that_cannot_be_read_is_said():
     for given, told, place in (
             (b"", b"", b"rfb: that is at byte 0; whole updates before it: 0\n"),
             (SERVER, b"rfb: this is a recording of rfb, 2 by 1\n",
-             b"rfb: that is at byte 69; whole updates before it: 1\n")):
+             b"rfb: that is at byte 69; whole updates before it: 1\n" + UNWRITTEN)):
         with failing(given) as source:
             Run(["play", "--explain"], source=source).ends(
                 1, b"", told + unread + RESET + place + DEVICE)
@@ -137,7 +136,7 @@ def what_a_view_fails_at_is_said():
         # All up to the request, so it waits for an update.
         takes(line, 52)
         breaks(line)
-        run.ends(1, b"", ENDLESS + VIEWED + b"rfb: reading failed" + RESET + DEVICE)
+        run.ends(1, b"", VIEWED + b"rfb: reading failed" + RESET + closed_after(b"rgb888") + DEVICE)
 
 
 def a_loop_without_a_connection_is_said():

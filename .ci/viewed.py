@@ -19,7 +19,8 @@ import tempfile
 import time
 from concurrent.futures import ThreadPoolExecutor
 
-from calls import DEVICE, NO_VERSION, TRUNCATED, Call, Run, ends, judged
+from calls import (DEVICE, NO_VERSION, TRUNCATED, UNWRITTEN, WRITTEN, Call, Run, closed_after, ends,
+                   judged)
 from messages import CLIENT, HELLO, MORE, SERVER
 from peers import OTHER, Server, View, breaks, free_port, halts, viewing
 from pictures import BLACK, SHOWN, scene
@@ -152,10 +153,10 @@ VIEWS = [
          "view 127.0.0.1::PORT --updates=5 --format=bgr233 --encodings=copyrect,rre",
          scene(9, 5, 4, "bgr233"), NINE_BY_FIVE, b"ok 5\n"),
     View("explained_view", "view --explain --port PORT", scene(2, 1), TWO_BY_ONE,
-         errors=ENDLESS + UPDATED),
+         errors=UPDATED),
     View("explained_view_of_three_updates", "view --explain --port PORT --updates 3",
          scene(2, 1, 2), TWO_BY_ONE, b"ok 3\n",
-         ENDLESS + UPDATED + b"rfb: updates so far: 2\nrfb: updates so far: 3\n"),
+         UPDATED + b"rfb: updates so far: 2\nrfb: updates so far: 3\n"),
 ]
 
 # Port 1 is for a service that nobody runs. `.ci/memory.sh` takes these too.
@@ -164,7 +165,7 @@ CALLS = [
     Call("view_where_nothing_listens_for_a_second", ["view", "--port", "1", "--timeout", "1"], b"",
          1, b"", DEVICE, "/dev/null"),
     Call("explained_view_where_nothing_listens", ["view", "--port", "1", "--explain"], b"", 1, b"",
-         ENDLESS + b"rfb: no connection to 127.0.0.1, port 1: Connection refused (os error 111)\n"
+         b"rfb: no connection to 127.0.0.1, port 1: Connection refused (os error 111)\n"
          + DEVICE),
 ]
 
@@ -177,7 +178,14 @@ def a_server_that_ends_is_explained():
             (["--record"], SERVER, 0, SERVER, UPDATED),
             ([], HELLO[:-7] + bytes(4), 1, b"",
              b"rfb: connected to a screen without a name, 2 by 1\n"
-             b"rfb: the server's bytes end too early, after 42 of them\n" + TRUNCATED),
+             b"rfb: the server's bytes end too early, after 42 of them\n"
+             + closed_after(b"rgb888") + TRUNCATED),
+            (["--format=rgb565", "--partial"], HELLO, 1, BLACK,
+             CONNECTED + b"rfb: the server's bytes end too early, after 45 of them\n"
+             + closed_after(b"rgb565") + TRUNCATED),
+            ([], SERVER[:65], 1, b"",
+             CONNECTED + b"rfb: the server's bytes end too early, after 65 of them\n" + UNWRITTEN
+             + TRUNCATED),
             ([], b"220 hi\r\n", 1, b"", NO_VERSION % b"220 hi\\x0d\\x0a" + TRUNCATED),
             (["--record"], b"220 hi\r\n", 1, b"220 hi\r\n",
              NO_VERSION % b"220 hi\\x0d\\x0a" + TRUNCATED),
@@ -188,7 +196,7 @@ def a_server_that_ends_is_explained():
              b"fault 19 Refused\n")):
         server = Server(sent)
         server.shows(["--port", str(server.port), "--explain", *words], status, output,
-                     ENDLESS + told)
+                     told)
 
 
 def an_answer_that_cannot_be_sent_is_explained():
@@ -199,8 +207,25 @@ def an_answer_that_cannot_be_sent_is_explained():
             line.sendall(HELLO)
             breaks(line)
             run.run.send_signal(signal.SIGCONT)
-            run.ends(1, output, ENDLESS + b"rfb: sending to the server failed:"
+            run.ends(1, output, b"rfb: sending to the server failed:"
                      b" Connection reset by peer (os error 104)\n" + DEVICE)
+
+
+def a_view_without_an_end_says_so_after_three_seconds():
+    """Once, and where nothing came for so long."""
+    for sent, pause, is_silent, words, told in (
+            (SERVER, 3.5, False, ["--explain"], ENDLESS + UPDATED),
+            (SERVER, 2, False, ["--explain"], UPDATED),
+            (SERVER, 3.5, False, ["--explain", "--timeout=20"], UPDATED),
+            (SERVER, 3.5, False, [], b"")):
+        server = Server(sent, pause=pause, is_silent=is_silent)
+        server.shows(["--port", str(server.port), *words], errors=told)
+    with viewing() as (run, line):
+        time.sleep(3.5)
+        line.sendall(HELLO)
+        time.sleep(3.5)
+        line.sendall(SERVER[len(HELLO):])
+        run.ends(0, SHOWN, ENDLESS + UPDATED)
 
 
 def a_server_that_is_too_slow_is_explained():
@@ -225,25 +250,27 @@ def a_server_that_is_too_slow_is_explained():
         assert run.told(2) in told, run.told(2)
 
 
-# What a server sends before it is silent, words, what is shown, and what is said before the end.
+# What a server sends before it is silent, words, what is shown, and what is said before the time is
+# up and after that.
 SILENT = [
     (b"", [], b"", b""),
     (HELLO, [], b"", CONNECTED),
-    (SERVER[:65], [], b"", CONNECTED),
-    (SERVER[:65], ["--partial"], BLACK, CONNECTED),
-    (SERVER, ["--updates=2"], b"", UPDATED),
-    (SERVER + MORE[:18], ["--updates=2", "--partial"], SHOWN, UPDATED),
+    (SERVER[:65], [], b"", CONNECTED, UNWRITTEN),
+    (SERVER[:65], ["--partial"], BLACK, CONNECTED, WRITTEN),
+    (SERVER, ["--updates=2"], b"", UPDATED, UNWRITTEN),
+    (SERVER + MORE[:18], ["--updates=2", "--partial"], SHOWN, UPDATED, WRITTEN),
     (HELLO, ["--record"], HELLO, CONNECTED),
+    (SERVER[:65], ["--record"], SERVER[:65], CONNECTED),
 ]
 
 
 def a_view_of_a_silent_server_ends_when_its_time_is_up():
     def is_viewed(row):
-        sent, words, shown, told = row
+        sent, words, shown, told, *more = row
         begun, server = time.time(), Server(sent, is_silent=True)
         up = b"rfb: the time of --timeout is up: %d bytes had come\n" % len(sent)
         server.shows(["--explain", "--timeout=1", f"--port={server.port}", *words], 1, shown,
-                     told + up + DEVICE)
+                     told + up + b"".join(more) + DEVICE)
         lasts = time.time() - begun
         assert 1 <= lasts < 5, (row, lasts)
 
@@ -259,6 +286,7 @@ ROWS = [
     a_view_that_is_cut_short_shows_nothing,
     a_server_that_ends_is_explained,
     an_answer_that_cannot_be_sent_is_explained,
+    a_view_without_an_end_says_so_after_three_seconds,
     a_server_that_is_too_slow_is_explained,
     a_refused_connection_is_tried_again,
     a_refused_connection_rests_before_it_is_tried_again,

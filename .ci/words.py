@@ -13,7 +13,8 @@ import resource
 import socket
 import sys
 
-from calls import (DEVICE, Call, Run, ends, failing, folder, halting, judged, limited, that_is_at)
+from calls import (DEVICE, UNWRITTEN, Call, Run, ends, failing, folder, halting, judged, limited,
+                   that_is_at)
 from messages import HELLO, SERVER
 from pictures import BLACK, FILLED, SCRIPT, SHOWN
 
@@ -228,7 +229,7 @@ def an_input_that_fails_is_explained():
             # No --timeout is up: a recording has none.
             (halting, b"rfb: reading failed: Resource temporarily unavailable (os error 11)\n"
              + that_is_at(65))):
-        fails_after(SERVER[:65], ["play", "--explain"], b"", of + told + DEVICE, [stream])
+        fails_after(SERVER[:65], ["play", "--explain"], b"", of + told + UNWRITTEN + DEVICE, [stream])
 
 
 def errors_that_fail_change_nothing_else():

@@ -3,6 +3,7 @@
 //! They stand beside the lines that a command ends with, before the one that says why. Nothing else
 //! depends on them: a sentence that cannot be written is lost.
 
+mod early;
 mod escaped;
 mod failing;
 mod greeting;
@@ -14,6 +15,7 @@ mod placing;
 mod telling;
 
 use crate::fault::{Failure, Fault};
+pub use early::{Early, tell_closed, tell_part};
 pub use escaped::Escaped;
 pub use failing::{tell_client, tell_server};
 pub use heard::Heard;

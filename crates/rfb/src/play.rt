@@ -16,7 +16,8 @@ mod play_words;
 use crate::context::Context;
 use crate::defaults::{fresh_viewer, only_raw};
 use crate::explain::{
-    Heard, Hearing, Notes, Origin, Shared, Telling, tell_place, tell_played, tell_server,
+    Early, Heard, Hearing, Notes, Origin, Shared, Telling, tell_part, tell_place, tell_played,
+    tell_server,
 };
 use crate::fault::{Failure, Fault};
 use crate::writing::write_ppm;
@@ -54,10 +55,7 @@ pub fn play_recording<P: AllocGlobal, R: Read, W: Write, E: Write>(
     let mut heard = Heard::new(Origin::Recording);
     let input = &mut *context.input;
     let output = &mut *context.output;
-    let done = play_to(options, input, &mut viewer, &mut heard, output, &mut notes);
-    drop(heard);
-    drop(viewer);
-    done
+    play_to(options, input, &mut viewer, &mut heard, output, &mut notes)
 }
 
 // The same with this fresh viewer, and with room for what is read.
@@ -79,9 +77,8 @@ fn play_to<R: Read, W: Write, E: Write>(
     ensures left { OnErr result (LeavesRecording options
         (R.remaining input.old) (W.contents output.old) (W.contents output.new)) }
 {
-    let wanted = options.updates;
     let is_partial = options.is_partial;
-    match watch_heard(wanted, input, viewer, heard, notes) {
+    match watch_heard(options, input, viewer, heard, notes) {
         Ok(_updates) => show(viewer, output),
         Err(fault) => Err(show_early(viewer, is_partial, fault, output)),
     }
@@ -89,30 +86,31 @@ fn play_to<R: Read, W: Write, E: Write>(
 
 // Feeds a viewer as `watch` does, and tells how it goes.
 fn watch_heard<R: Read, N: Write>(
-    updates: Option<u32>,
+    options: PlayOptions,
     input: &mut R,
     viewer: &mut Viewer,
     heard: &mut Heard,
     notes: &mut N,
 ) -> Result<u64, EngineFault>
-    requires some { IfSome updates (λ count. 1 ≤ count) }
     ensures watched { IfOk result (λ told.
-        Watches updates (R.remaining input.old) viewer.old told viewer.new) }
+        Watches options.updates (R.remaining input.old) viewer.old told viewer.new) }
     ensures stopped { IfErr result (λ fault.
-        StopsWatching updates (R.remaining input.old) viewer.old fault viewer.new) }
+        StopsWatching options.updates (R.remaining input.old) viewer.old fault viewer.new) }
 {
     let shared = RefCell::new(&mut *notes);
     let mut telling = Telling::new(Origin::Recording, Shared::new(&shared));
     let hearing = Hearing::new(input, heard, Shared::new(&shared));
-    let ended = watch(hearing, viewer, updates, &mut telling);
-    let (is_ready, whole) = telling.heard();
+    let ended = watch(hearing, viewer, options.updates, &mut telling);
+    let came = Early::new(&telling, viewer, heard);
+    // Both hold the notes.
     drop(telling);
     drop(shared);
     match &ended {
         Ok(updates) => tell_played(*updates, notes),
         Err(fault) => {
             tell_server(*fault, viewer, heard, notes);
-            tell_place(*fault, viewer.taken(), whole, is_ready, notes);
+            tell_place(*fault, viewer.taken(), came, notes);
+            tell_part(*fault, came, options.is_partial, notes);
         }
     }
     ended
@@ -198,10 +196,8 @@ pub fn show<W: Write>(viewer: &Viewer, output: &mut W) -> Result<(), Failure>
         ⊎ BeginsPicture viewer.now (W.contents output.old) (W.contents output.new)) }
     ensures stopped { IfErr result (λ failure. (fault : Fault) × (failure ≡ Failure.Fault fault)) }
 {
-    match write_picture(viewer, output) {
-        Ok(()) => Ok(()),
-        Err(fault) => Err(Failure::Fault(fault)),
-    }
+    write_picture(viewer, output)?;
+    Ok(())
 }
 
 /// Writes what a viewer shows, as PPM. Where there is no picture, nothing is written.

@@ -1,5 +1,6 @@
 //! How long is waited for a peer: a connection to a server, and those that a listener takes.
 
+use rfb_session::turns;
 use std::io::{ErrorKind, Read, Write};
 use std::net::{Net, OpenListener, OpenStream, SocketAddr, TcpStream, ToSocketAddrs};
 use std::time::{Clock, Duration, Instant};
@@ -26,6 +27,11 @@ impl<'a, C: Clock> Deadline<'a, C> {
             None => None,
         };
         Ok(Deadline { clock, end })
+    }
+
+    /// Whether there is no end.
+    fn is_never(&self) -> bool {
+        self.end.is_none()
     }
 
     /// How much time is left, where there is an end. It is an error where none is.
@@ -61,8 +67,7 @@ fn connect_until<N: Net + Clock>(
     port: u16,
     deadline: &Deadline<'_, N>,
 ) -> io::Result<N::Stream> {
-    // Each turn that is not the last sleeps, so these are never all of them.
-    for _turn in 0..u64::MAX {
+    for _turn in 0..turns() {
         let Some(left) = deadline.left()? else {
             return TcpStream::connect(net, (host, port));
         };
@@ -106,7 +111,18 @@ impl<'a, S, C> Patient<'a, S, C> {
     }
 }
 
-impl<S: OpenStream, C> Patient<'_, S, C> {
+impl<S: OpenStream, C: Clock> Patient<'_, S, C> {
+    /// Whether its reads wait as long as it takes.
+    pub fn is_endless(&self) -> bool {
+        self.deadline.is_never()
+    }
+
+    /// Where there is no deadline, each read from here on ends after so long, or waits. A connection
+    /// that cannot be given a limit keeps the one that it has.
+    pub fn rest(&self, limit: Option<Duration>) {
+        let _ = self.stream.set_read_timeout(limit);
+    }
+
     /// The same connection, to write to. What is written goes out at once.
     pub fn answering(&self) -> io::Result<S> {
         let _ = self.stream.set_nodelay(true);
@@ -118,7 +134,7 @@ impl<S: Read + OpenStream, C: Clock> Read for Patient<'_, S, C> {
     /// Reads once, or again after a signal: a process that was stopped and goes on gets one, and its
     /// reads with a limit end by it.
     fn read(&mut self, buf: &mut [u8]) -> io::Result<usize> {
-        for _turn in 0..u64::MAX {
+        for _turn in 0..turns() {
             if let Some(left) = self.deadline.left()? {
                 self.stream.set_read_timeout(Some(left))?;
             }
@@ -193,7 +209,7 @@ impl<S: OpenStream> Steady<S> {
 
 impl<S: Read> Read for Steady<S> {
     fn read(&mut self, buf: &mut [u8]) -> io::Result<usize> {
-        for _turn in 0..u64::MAX {
+        for _turn in 0..turns() {
             match self.stream.read(buf) {
                 Err(error) if error.kind() == ErrorKind::Interrupted => {}
                 ended => return ended,
@@ -205,7 +221,7 @@ impl<S: Read> Read for Steady<S> {
 
 impl<S: Write> Write for Steady<S> {
     fn write(&mut self, buf: &[u8]) -> io::Result<usize> {
-        for _turn in 0..u64::MAX {
+        for _turn in 0..turns() {
             match self.stream.write(buf) {
                 Err(error) if error.kind() == ErrorKind::Interrupted => {}
                 ended => return ended,

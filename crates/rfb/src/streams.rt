@@ -44,6 +44,11 @@ pub fn is_lasting(kind: ErrorKind) -> bool {
     kind != ErrorKind::Interrupted && kind != ErrorKind::WouldBlock
 }
 
+/// Whether a read that ends so has waited for its limit.
+pub fn is_late(kind: ErrorKind) -> bool {
+    kind == ErrorKind::WouldBlock || kind == ErrorKind::TimedOut
+}
+
 /// An output that, where it is a terminal, takes text alone.
 #[derive(Drop)]
 pub struct StandardOutput<'a, W, E> {

@@ -1,26 +1,25 @@
 //! A viewer of a server over a socket.
 
-ghost use Rattle.std.specs.Prelude.{◌≡◌, ◌≤◌, false, None, Err, IfOk, IfErr, OnOk, OnErr};
+ghost use Rattle.std.specs.Prelude.{◌≡◌, false, Err, IfOk, IfErr, OnOk, OnErr};
 ghost use Rattle.rfb_session.specs.declared.engine.fault.EngineFault.{EngineFault};
 ghost use Rattle.rfb.specs.Context.{KeepsStreams};
 ghost use Rattle.rfb.specs.declared.fault.Failure.TheVariants as Failure;
-ghost use Rattle.rfb.specs.Viewing.{FailsToView, FailsToViewSome, Saw, StopsSeeing, StopsView};
+ghost use Rattle.rfb.specs.Viewing.{FailsToView, FailsToViewSome, IsMadeFor, Saw, StopsSeeing, StopsView};
 ghost use Rattle.rfb.specs.Recording.{shows_end};
 ghost use Rattle.rfb.specs.Viewing.{LeavesSomeView, LeavesView, Views, ViewsSome};
 
 mod view_options;
 mod view_words;
+mod waiting;
+mod watching;
 
 use crate::context::Context;
-use crate::defaults::fresh_viewer;
-use crate::explain::{
-    Heard, Hearing, Notes, Origin, Shared, Telling, Writing, tell_server, tell_unreached,
-    tell_unsent,
-};
+use crate::defaults::{copy_of, fresh_viewer};
+use crate::explain::{Notes, Shared, tell_unreached};
 use crate::fault::{Failure, Fault};
 use crate::play::{show, show_early};
 use crate::reaching::{Patient, connect};
-use rfb_session::{EngineFault, Lent, Nowhere, Pair, Sink, Tally, Watcher, view_watched};
+use rfb_session::{EngineFault, Lent, Nowhere};
 use rfb_viewer::Viewer;
 use std::alloc::Global;
 use std::cell::RefCell;
@@ -29,8 +28,8 @@ use std::net::{Net, OpenStream};
 use std::time::Clock;
 pub use view_options::{Sight, ViewOptions};
 pub use view_words::{VIEW, view_options_in};
-
-const ENDLESS: &str = "rfb: it waits as long as it takes: there is no --timeout";
+use waiting::Waiting;
+use watching::watch_heard;
 
 /// Connects to a server, and views it. What is written, and why it fails, is as for `view_on`.
 pub fn view_at<P: AllocGlobal + Net + Clock, R, W: Write, E: Write>(
@@ -52,9 +51,6 @@ pub fn view_at<P: AllocGlobal + Net + Clock, R, W: Write, E: Write>(
 {
     let alloc = context.alloc();
     let mut notes = Notes::new(context.errors, context.explains);
-    if options.timeout.is_none() {
-        let _ = writeln!(notes, "{ENDLESS}");
-    }
     match connect(context.rt, options.host, options.port, options.timeout) {
         Ok(connection) => { view_on(alloc, connection, options.sight, context.output, &mut notes) }
         Err(error) => {
@@ -68,12 +64,12 @@ pub fn view_at<P: AllocGlobal + Net + Clock, R, W: Write, E: Write>(
 /// wanted, and writes the picture that it shows then; or its bytes as they come, if these are
 /// wanted. What is sent goes out at once: the server waits for it. `notes` say how it goes, and why
 /// it fails.
-pub fn view_on<S: Read + Write + OpenStream + Drop, C: Clock, W: Write, E: Write>(
+pub fn view_on<S: Read + Write + OpenStream + Drop, C: Clock, W: Write, N: Write>(
     alloc: Global,
     connection: Patient<'_, S, C>,
     sight: Sight,
     output: &mut W,
-    notes: &mut Notes<'_, E>,
+    notes: &mut N,
 ) -> Result<(), Failure>
     ensures done { OnOk result
         (ViewsSome sight (W.contents output.old) (W.contents output.new)) }
@@ -86,19 +82,28 @@ pub fn view_on<S: Read + Write + OpenStream + Drop, C: Clock, W: Write, E: Write
         (LeavesSomeView sight (W.contents output.old) (W.contents output.new)) }
 {
     let other = connection.answering()?;
-    view_over(alloc, connection, other, sight, output, notes)
+    let shared = RefCell::new(notes);
+    let waiting = Waiting::new(connection, Shared::new(&shared));
+    view_over(
+        alloc,
+        waiting,
+        other,
+        sight,
+        output,
+        &mut Shared::new(&shared),
+    )
 }
 
 // Views a server whose bytes come from `reader`, and that is answered on `writer`. Then the picture
 // is written, or its bytes were as they came. Where the viewer or the bytes end with a fault no
 // picture is; but where the bytes end too early, that of what came is, if it is wanted.
-fn view_over<R: Read + Drop, V: Write + Drop, W: Write, E: Write>(
+fn view_over<R: Read + Drop, V: Write + Drop, W: Write, N: Write>(
     alloc: Global,
     reader: R,
     writer: V,
     sight: Sight,
     output: &mut W,
-    notes: &mut Notes<'_, E>,
+    notes: &mut N,
 ) -> Result<(), Failure>
     ensures done { OnOk result (Views sight (R.remaining reader) (V.contents writer)
         (W.contents output.old) (W.contents output.new)) }
@@ -111,161 +116,94 @@ fn view_over<R: Read + Drop, V: Write + Drop, W: Write, E: Write>(
         (LeavesView sight (R.remaining reader) (V.contents writer)
         (W.contents output.old) (W.contents output.new)) }
 {
-    let updates = sight.updates;
+    let mut viewer = viewer_for(alloc, &sight);
+    view_with(reader, writer, &mut viewer, &sight, output, notes)
+}
+
+// A fresh viewer that is made for a sight.
+fn viewer_for(alloc: Global, sight: &Sight) -> Viewer
+    ensures { IsMadeFor sight.now result }
+{
+    let encodings = copy_of(&sight.wants.encodings);
+    fresh_viewer(alloc, sight.wants.format, encodings)
+}
+
+// The same with this fresh viewer.
+fn view_with<R: Read + Drop, V: Write + Drop, W: Write, N: Write>(
+    reader: R,
+    writer: V,
+    viewer: &mut Viewer,
+    sight: &Sight,
+    output: &mut W,
+    notes: &mut N,
+) -> Result<(), Failure>
+    requires { IsMadeFor sight.now viewer.old }
+    ensures done { OnOk result (Views sight.now (R.remaining reader) (V.contents writer)
+        (W.contents output.old) (W.contents output.new)) }
+    ensures stopped { IfErr result (FailsToView sight.now (R.remaining reader) (V.contents writer)
+        (W.contents output.old) (W.contents output.new)) }
+    ensures unwritten { sight.now.is_recorded ≡ false → (fault : EngineFault) →
+        result ≡ Err (Failure.Engine fault) → shows_end sight.now.is_partial fault ≡ false →
+        output.new ≡ output.old }
+    ensures left { sight.now.is_recorded ≡ false → OnErr result
+        (LeavesView sight.now (R.remaining reader) (V.contents writer)
+        (W.contents output.old) (W.contents output.new)) }
+{
     let is_recorded = sight.is_recorded;
     let is_partial = sight.is_partial;
-    let mut viewer = fresh_viewer(alloc, sight.wants.format, sight.wants.encodings);
-    let mut heard = Heard::new(Origin::Connection);
-    // Each arm lets go of what it made by calls: what an arm's end lets go is proved field by field.
     if is_recorded {
-        let ended = record(
-            reader,
-            writer,
-            &mut viewer,
-            updates,
-            output,
-            &mut heard,
-            notes,
-        );
-        drop(heard);
-        drop(viewer);
-        return ended;
+        return record(reader, writer, viewer, sight, output, notes);
     }
-    match watch_heard(
-        reader,
-        writer,
-        &mut Nowhere,
-        &mut viewer,
-        updates,
-        &mut heard,
-        notes,
-    ) {
-        Ok(_updates) => {
-            let shown = show(&viewer, output);
-            drop(heard);
-            drop(viewer);
-            shown
-        }
-        Err(fault) => {
-            tell_server(fault, &viewer, &heard, notes);
-            let failure = show_early(&viewer, is_partial, fault, output);
-            drop(heard);
-            drop(viewer);
-            Err(failure)
-        }
+    match watch_heard(reader, writer, &mut Nowhere, viewer, sight, notes) {
+        Ok(_updates) => show(viewer, output),
+        Err(fault) => Err(show_early(viewer, is_partial, fault, output)),
     }
 }
 
-// Runs a viewer as `watch` does, and tells how it goes.
-fn watch_heard<R: Read + Drop, V: Write + Drop, K: Sink, N: Write>(
-    reader: R,
-    writer: V,
-    kept: &mut K,
-    viewer: &mut Viewer,
-    updates: u32,
-    heard: &mut Heard,
-    notes: &mut N,
-) -> Result<u32, EngineFault>
-    requires some { 1 ≤ updates }
-    requires unfailed { K.failed kept.old ≡ 0 }
-    ensures saw { IfOk result (λ told.
-        Saw (R.remaining reader) (V.contents writer) (K.written kept.old) (K.written kept.new)
-        viewer.old updates viewer.new) }
-    ensures stopped { IfErr result (λ fault.
-        StopsSeeing (R.remaining reader) (V.contents writer) (K.written kept.old)
-        (K.written kept.new) viewer.old updates fault viewer.new) }
-    ensures same_reference { K.reference kept.new ≡ K.reference kept.old }
-{
-    let mut unsent = None;
-    let shared = RefCell::new(&mut *notes);
-    let mut telling = Telling::new(Origin::Connection, Shared::new(&shared));
-    let hearing = Hearing::new(reader, heard, Shared::new(&shared));
-    let writing = Writing::new(writer, &mut unsent);
-    let ended = watch(hearing, writing, kept, viewer, updates, &mut telling);
-    drop(telling);
-    drop(shared);
-    tell_unsent(&unsent, notes);
-    ended
-}
-
-// Runs a viewer until `updates` updates ended, with what it is fed in a sink that has not failed
-// before.
-fn watch<R: Read + Drop, V: Write + Drop, K: Sink, A: Watcher>(
-    reader: R,
-    writer: V,
-    kept: &mut K,
-    viewer: &mut Viewer,
-    updates: u32,
-    watcher: &mut A,
-) -> Result<u32, EngineFault>
-    requires some { 1 ≤ updates }
-    requires unfailed { K.failed kept.old ≡ 0 }
-    ensures saw { IfOk result (λ told.
-        Saw (R.remaining reader) (V.contents writer) (K.written kept.old) (K.written kept.new)
-        viewer.old updates viewer.new) }
-    ensures stopped { IfErr result (λ fault.
-        StopsSeeing (R.remaining reader) (V.contents writer) (K.written kept.old)
-        (K.written kept.new) viewer.old updates fault viewer.new) }
-    ensures same_reference { K.reference kept.new ≡ K.reference kept.old }
-{
-    let mut source = Tally::new(reader);
-    let mut sink = Tally::new(writer);
-    let mut wire = Pair {
-        source: &mut source,
-        sink: &mut sink,
-    };
-    view_watched(&mut wire, kept, viewer, updates, watcher)
-}
-
-// The same, and writes what the viewer is fed. All of it goes out, however it ends.
+// Runs a viewer, and writes what it is fed. All of it goes out, however it ends.
 fn record<R: Read + Drop, V: Write + Drop, W: Write, N: Write>(
     reader: R,
     writer: V,
     viewer: &mut Viewer,
-    updates: u32,
+    sight: &Sight,
     output: &mut W,
-    heard: &mut Heard,
     notes: &mut N,
 ) -> Result<(), Failure>
-    requires some { 1 ≤ updates }
     ensures saw { OnOk result
         (Saw (R.remaining reader) (V.contents writer) (W.contents output.old)
-        (W.contents output.new) viewer.old updates viewer.new) }
+        (W.contents output.new) viewer.old sight.now.updates viewer.new) }
     ensures stopped { IfErr result (λ failure. StopsView
         (R.remaining reader) (V.contents writer) (W.contents output.old) (W.contents output.new)
-        viewer.old updates failure viewer.new) }
+        viewer.old sight.now.updates failure viewer.new) }
 {
-    match record_fed(reader, writer, viewer, updates, output, heard, notes) {
+    match record_fed(reader, writer, viewer, sight, output, notes) {
         Ok(_updates) => match output.flush() {
             Ok(()) => Ok(()),
             Err(error) => Err(Failure::Fault(Fault::from(error))),
         },
         Err(fault) => {
             let _ = output.flush();
-            tell_server(fault, viewer, heard, notes);
             Err(Failure::Engine(fault))
         }
     }
 }
 
-// Runs a viewer until `updates` updates ended, and writes what it is fed.
+// The same, and what is to go out is left.
 fn record_fed<R: Read + Drop, V: Write + Drop, W: Write, N: Write>(
     reader: R,
     writer: V,
     viewer: &mut Viewer,
-    updates: u32,
+    sight: &Sight,
     output: &mut W,
-    heard: &mut Heard,
     notes: &mut N,
 ) -> Result<u32, EngineFault>
-    requires some { 1 ≤ updates }
     ensures saw { IfOk result (λ told.
         Saw (R.remaining reader) (V.contents writer) (W.contents output.old)
-        (W.contents output.new) viewer.old updates viewer.new) }
+        (W.contents output.new) viewer.old sight.now.updates viewer.new) }
     ensures stopped { IfErr result (λ fault.
         StopsSeeing (R.remaining reader) (V.contents writer) (W.contents output.old)
-        (W.contents output.new) viewer.old updates fault viewer.new) }
+        (W.contents output.new) viewer.old sight.now.updates fault viewer.new) }
 {
     let mut kept = Lent::new(output);
-    watch_heard(reader, writer, &mut kept, viewer, updates, heard, notes)
+    watch_heard(reader, writer, &mut kept, viewer, sight, notes)
 }

@@ -2,9 +2,10 @@
 
 use crate::explain::Origin;
 use crate::explain::greeting::VERSION_SIZE;
+use crate::streams::is_late;
 use arrayvec::ArrayVec;
 use rfb_wire::pieces::append;
-use std::io::Write;
+use std::io::{ErrorKind, Write};
 
 // A line says that more bytes come, each time that this number of them came.
 const STRETCH: u64 = 16_777_216;
@@ -15,6 +16,8 @@ pub struct Heard {
     origin: Origin,
     bytes: ArrayVec<u8, VERSION_SIZE>,
     total: u64,
+    // Whether a read failed that had waited for its limit.
+    is_late: bool,
 }
 
 impl Heard {
@@ -24,6 +27,7 @@ impl Heard {
             origin,
             bytes: ArrayVec::new(),
             total: 0,
+            is_late: false,
         }
     }
 
@@ -35,6 +39,16 @@ impl Heard {
         if before / STRETCH != self.total / STRETCH {
             let _ = writeln!(notes, "rfb: {} bytes came, and more are read", self.total);
         }
+    }
+
+    /// A read failed so.
+    pub fn end(&mut self, kind: ErrorKind) {
+        self.is_late = is_late(kind);
+    }
+
+    /// Whether a read failed that had waited for its limit.
+    pub fn is_late(&self) -> bool {
+        self.is_late
     }
 
     /// Where they come from.

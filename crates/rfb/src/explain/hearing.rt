@@ -6,7 +6,7 @@ use crate::explain::{Heard, Origin};
 use crate::streams::is_lasting;
 use std::cell::RefCell;
 use std::io;
-use std::io::{ErrorKind, Read, Write};
+use std::io::{Read, Write};
 
 /// Notes of which two make use, each in its turn.
 #[derive(Drop)]
@@ -64,7 +64,10 @@ impl<R: Read, N: Write> Read for Hearing<'_, R, N> {
         let result = self.reader.read(buf);
         match &result {
             Ok(count) => self.heard.hear(&buf[..*count], &mut self.notes),
-            Err(error) => tell_read(error, self.heard, &mut self.notes),
+            Err(error) => {
+                self.heard.end(error.kind());
+                tell_read(error, self.heard, &mut self.notes);
+            }
         }
         result
     }
@@ -78,9 +81,8 @@ pub fn tell_played<N: Write>(updates: u64, notes: &mut N) {
 // Says why a read failed, after what was heard.
 fn tell_read<N: Write>(error: &io::Error, heard: &Heard, notes: &mut N) {
     let kind = error.kind();
-    let is_late = kind == ErrorKind::WouldBlock || kind == ErrorKind::TimedOut;
     let _ = match heard.origin() {
-        Origin::Connection if is_late => {
+        Origin::Connection if heard.is_late() => {
             let total = heard.total();
             let bytes = if total == 1 { "byte" } else { "bytes" };
             writeln!(

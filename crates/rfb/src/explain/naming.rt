@@ -1,5 +1,6 @@
 //! Numbers of the protocol with the names that people know them by.
 
+use rfb_pixel::Format;
 use std::fmt;
 
 /// A security type, RFC 6143 sections 7.1.2 and 8.1. One of a list is a byte; that of 3.3 has four.
@@ -41,5 +42,24 @@ impl fmt::Display for EncodingNumber {
             _ => return write!(f, "{}", self.0),
         };
         write!(f, "{} ({name})", self.0)
+    }
+}
+
+/// A format that a viewer asks for, by the name that it has among the words of commands.
+#[derive(Clone, Copy)]
+pub struct FormatName(pub Format);
+
+impl fmt::Display for FormatName {
+    fn fmt<F: fmt::Write>(&self, f: &mut fmt::Formatter<F>) -> fmt::Result {
+        let name = if self.0 == Format::rgb565() {
+            "rgb565"
+        } else if self.0 == Format::bgr233() {
+            "bgr233"
+        } else if self.0 == Format::rgb101010() {
+            "rgb101010"
+        } else {
+            "rgb888"
+        };
+        f.write_str(name)
     }
 }

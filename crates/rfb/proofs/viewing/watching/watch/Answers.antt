@@ -1,6 +1,6 @@
 use Rattle.std.proofs.Common.{ap, refl, arith}
 use Rattle.rfb.proofs.ViewingLemmas.{stops_seeing}
-use Rattle.rfb.proofs.viewing.watch.Goals as goal
+use Rattle.rfb.proofs.viewing.watching.watch.Goals as goal
 
 pub returns-clause-stopped : goal.returns-clause-stopped
 returns-clause-stopped g c =
