@@ -10,7 +10,7 @@ use crate::sharing::ShareOptions;
 use crate::sharing::notices::{tell_fault, tell_leave};
 use crate::sharing::ready::Ready;
 use mio::Registry;
-use rfb_session::{SLOTS, Seat, Share};
+use rfb_session::{SLOTS, Seat, Seats, Share};
 use std::alloc::Global;
 use std::fmt::Display;
 use std::io::{Read, Write};
@@ -22,6 +22,8 @@ use std::os::fd::AsRawFd;
 pub struct Guests<S: Drop> {
     pub share: Share,
     streams: Vec<Option<S>>,
+    // The seats that have one.
+    seated: Seats,
     // Whether a viewer ever came.
     came: bool,
 }
@@ -36,6 +38,7 @@ impl<S: Read + Write + OpenStream + AsRawFd + Drop> Guests<S> {
         Ok(Guests {
             share,
             streams,
+            seated: Seats::none(),
             came: false,
         })
     }
@@ -55,18 +58,7 @@ impl<S: Read + Write + OpenStream + AsRawFd + Drop> Guests<S> {
         self.hear(part, ready, output)?;
         self.serve(ready, output)?;
         output.flush()?;
-        Ok(options.until_idle && self.came && self.count() == 0)
-    }
-
-    // How many viewers there are.
-    fn count(&self) -> usize {
-        let mut count: usize = 0;
-        for stream in &self.streams {
-            if stream.is_some() {
-                count = count.saturating_add(1);
-            }
-        }
-        count
+        Ok(options.until_idle && self.came && self.seated.is_empty())
     }
 
     /// The viewer at the seat of this number is let go, if there is one, with nothing wrong.
@@ -116,6 +108,7 @@ impl<S: Read + Write + OpenStream + AsRawFd + Drop> Guests<S> {
             Some(slot) if slot.is_some() => *slot = None,
             _ => return false,
         }
+        self.seated = self.seated.without(seat);
         self.share.left(seat);
         ready.listener = true;
         true

@@ -49,7 +49,7 @@ impl<S: Read + Write + OpenStream + AsRawFd + Drop> Guests<S> {
         ready: &mut Ready,
         output: &mut W,
     ) -> Result<(), Failure> {
-        if self.count() >= options.viewers as usize {
+        if self.seated.iter().count() >= options.viewers as usize {
             return Ok(());
         }
         match seat_for(&mut self.share, &stream, registry) {
@@ -57,6 +57,7 @@ impl<S: Read + Write + OpenStream + AsRawFd + Drop> Guests<S> {
                 let place = seat.number() as usize;
                 if let Some(slot) = self.streams.get_mut(place) {
                     *slot = Some(stream);
+                    self.seated = self.seated.with(seat);
                 }
                 ready.renew(place);
                 self.came = true;

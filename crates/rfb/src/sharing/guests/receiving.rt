@@ -4,7 +4,7 @@ use crate::fault::{Failure, Fault};
 use crate::sharing::guests::Guests;
 use crate::sharing::notices::tell_event;
 use crate::sharing::ready::Ready;
-use rfb_session::{Heard, Seat, Seats};
+use rfb_session::{Heard, Seat};
 use std::io::{ErrorKind, Read, Write};
 use std::net::OpenStream;
 use std::os::fd::AsRawFd;
@@ -20,7 +20,7 @@ impl<S: Read + Write + OpenStream + AsRawFd + Drop> Guests<S> {
         ready: &mut Ready,
         output: &mut W,
     ) -> Result<(), Failure> {
-        for seat in Seats::all().iter() {
+        for seat in self.seated.iter() {
             self.hear_seat(seat, part, ready, output)?;
         }
         Ok(())

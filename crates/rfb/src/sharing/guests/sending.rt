@@ -3,7 +3,7 @@
 use crate::fault::{Failure, Fault};
 use crate::sharing::guests::Guests;
 use crate::sharing::ready::Ready;
-use rfb_session::{Composing, Seat};
+use rfb_session::{Composing, Seat, turns};
 use std::io::{ErrorKind, Read, Write};
 use std::net::OpenStream;
 use std::os::fd::AsRawFd;
@@ -11,8 +11,8 @@ use std::os::fd::AsRawFd;
 impl<S: Read + Write + OpenStream + AsRawFd + Drop> Guests<S> {
     /// Writes what waits for viewers, and composes updates for those for whom nothing does.
     pub fn serve<W: Write>(&mut self, ready: &mut Ready, output: &mut W) -> Result<(), Failure> {
-        for seat in self.share.to_serve().iter() {
-            if self.serve_seat(seat, ready).is_err() {
+        for seat in self.seated.iter() {
+            if self.share.to_serve().has(seat) && self.serve_seat(seat, ready).is_err() {
                 self.fail(seat, &Fault::Device, ready, output)?;
             }
         }
@@ -38,8 +38,7 @@ impl<S: Read + Write + OpenStream + AsRawFd + Drop> Guests<S> {
         let Some(Some(stream)) = self.streams.get_mut(place) else {
             return Ok(false);
         };
-        // Each turn writes a byte, was interrupted or is the last, so these are never all of them.
-        for _write in 0..u64::MAX {
+        for _write in 0..turns() {
             let waiting = self.share.to_write(seat);
             if waiting.is_empty() {
                 return Ok(true);
