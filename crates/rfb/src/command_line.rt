@@ -129,9 +129,7 @@ where
             BAD_WORDS
         }
         Err(WrongWords::Words(answer)) => {
-            let status = answer_words(plain.as_slice(), &answer, output, errors);
-            drop(answer);
-            status
+            answer_words(plain.as_slice(), &answer, output, errors)
         }
     }
 }

@@ -97,13 +97,7 @@ pub fn commands_of<'a>(alloc: Global, verbs: &[Verb]) -> Result<Vec<Command<'a>>
 {
     let mut commands = Vec::with_capacity(alloc, verbs.len())?;
     for verb in verbs {
-        match command_of(alloc, verb.usage()) {
-            Ok(command) => commands.push(command)?,
-            Err(error) => {
-                drop(commands);
-                return Err(error);
-            }
-        }
+        commands.push(command_of(alloc, verb.usage())?)?;
     }
     Ok(commands)
 }

@@ -54,12 +54,9 @@ pub fn script_through_loopback<P: AllocGlobal + Net, R: Read, W: Write, E: Write
     let alloc = context.alloc();
     let mut text = Vec::new(alloc);
     context.input.read_to_end(&mut text)?;
-    let read = read_explained(alloc, &text, context.errors, context.explains);
-    drop(text);
-    let script = read?;
-    let done = run(context, &script);
-    drop(script);
-    Ok(done?)
+    let script = read_explained(alloc, &text, context.errors, context.explains)?;
+    run(context, &script)?;
+    Ok(())
 }
 
 // Plays a script over a connection, and writes what the viewer shows then.
@@ -74,11 +71,7 @@ fn run<P: AllocGlobal + Net, R, W: Write, E: Write>(
     ensures same { KeepsStreams context.old context.new }
 {
     match connected(context.rt) {
-        Ok(mut link) => {
-            let done = run_over(context, &mut link, script);
-            drop(link);
-            done
-        }
+        Ok(mut link) => run_over(context, &mut link, script),
         Err(error) => {
             tell_unlinked(&error, &mut Notes::new(context.errors, context.explains));
             Err(Fault::from(error))
@@ -99,9 +92,7 @@ fn run_over<P: AllocGlobal, R, W: Write, E: Write, C: Read + Write>(
     ensures same { KeepsStreams context.old context.new }
 {
     let mut ends = Ends::new(context.alloc(), script.screen, &script.wants)?;
-    let done = finish(context, &mut ends, link, &script.steps);
-    drop(ends);
-    done
+    finish(context, &mut ends, link, &script.steps)
 }
 
 // Takes all steps, and writes what the viewer shows then.

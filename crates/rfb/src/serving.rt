@@ -71,16 +71,9 @@ fn serve_file<P: AllocGlobal + Clock + Files + Net, R, W: Write, E: Write>(
     ensures same { KeepsStreams context.old context.new }
 {
     let notes = &mut Notes::new(context.errors, context.explains);
-    match open_picture(context.rt, context.rt.alloc(), path, notes) {
-        Ok(pixmap) => {
-            let screen = ServedScreen::Picture(pixmap);
-            let ended = listen(context, &screen, options);
-            // By a call: what an arm's end lets go is proved field by field.
-            drop(screen);
-            ended
-        }
-        Err(failure) => Err(failure),
-    }
+    let pixmap = open_picture(context.rt, context.rt.alloc(), path, notes)?;
+    let screen = ServedScreen::Picture(pixmap);
+    listen(context, &screen, options)
 }
 
 // Serves them with a screen.
@@ -227,9 +220,7 @@ fn line_of(alloc: Global, ended: Result<u64, EngineFault>) -> Result<String, All
         Ok(updates) => format!(in alloc; "ok {updates}\n"),
         Err(fault) => {
             let text = format!(in alloc; "{fault}")?;
-            let line = format!(in alloc; "fault {text}\n");
-            drop(text);
-            line
+            format!(in alloc; "fault {text}\n")
         }
     }
 }

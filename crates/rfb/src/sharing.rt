@@ -49,16 +49,11 @@ fn listen<N: Net, T: Write>(
     notes: &mut T,
 ) -> Result<N::Listener, Failure> {
     match TcpListener::bind(net, (options.listen, options.port)) {
-        Ok(listener) => match listener.set_nonblocking(true) {
-            Ok(()) => {
-                tell_bound(options.listen, options.port, notes);
-                Ok(listener)
-            }
-            Err(error) => {
-                drop(listener);
-                Err(Failure::from(error))
-            }
-        },
+        Ok(listener) => {
+            listener.set_nonblocking(true)?;
+            tell_bound(options.listen, options.port, notes);
+            Ok(listener)
+        }
         Err(error) => {
             tell_unbound(options.listen, options.port, &error, notes);
             Err(Failure::from(error))

@@ -44,14 +44,7 @@ impl Ends {
         ensures to_viewer { IfOk result (λ ends. ends.to_viewer.items ≡ version_text V38) }
     {
         let server = fresh_server(alloc, screen)?;
-        let to_viewer = match in_flight(alloc, &server.greeting()) {
-            Ok(greeting) => greeting,
-            Err(fault) => {
-                // By a call: what a `?` lets go is proved field by field.
-                drop(server);
-                return Err(fault);
-            }
-        };
+        let to_viewer = in_flight(alloc, &server.greeting())?;
         let (format, encodings) = wishes(wants);
         Ok(Ends {
             alloc,

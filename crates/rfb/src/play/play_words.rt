@@ -37,12 +37,10 @@ pub fn play_options_in<'a>(given: &ArgMatches<'a>) -> Result<PlayOptions, BadVal
     ensures { MatchResult result (GivesPlayOptions (rows_of (found_of given.now)))
         (λ _. HasBadFormat (rows_of (found_of given.now))) }
 {
-    match format_in(given) {
-        Ok(format) => Ok(PlayOptions {
-            format,
-            updates: number_given(given, "updates"),
-            is_partial: is_given(given, "partial"),
-        }),
-        Err(value) => Err(value),
-    }
+    let format = format_in(given)?;
+    Ok(PlayOptions {
+        format,
+        updates: number_given(given, "updates"),
+        is_partial: is_given(given, "partial"),
+    })
 }

@@ -73,9 +73,7 @@ fn run<P: AllocGlobal, R, W: Write, E: Write>(
     ensures same { KeepsStreams context.old context.new }
 {
     let mut world = fresh_world(context.alloc(), script.screen, &script.wants)?;
-    let done = finish(context, &mut world, &script.steps);
-    drop(world);
-    done
+    finish(context, &mut world, &script.steps)
 }
 
 // Takes all steps, and writes what the viewer shows then.
@@ -118,15 +116,9 @@ fn play_all<E: Write>(
 {
     let mut refusals = LineWriter::new(alloc, errors)?;
     for numbered in steps {
-        match play(world, &numbered.step) {
-            Ok(refused) => tell_step(numbered.line, refused, explains, &mut refusals),
-            Err(error) => {
-                drop(refusals);
-                return Err(Fault::from(error));
-            }
-        }
+        let refused = play(world, &numbered.step)?;
+        tell_step(numbered.line, refused, explains, &mut refusals);
     }
-    drop(refusals);
     Ok(())
 }
 

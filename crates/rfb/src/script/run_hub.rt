@@ -33,9 +33,7 @@ pub fn run_hub<P: AllocGlobal, R, W: Write, E: Write>(
     ensures same { KeepsStreams context.old context.new }
 {
     let mut hub = fresh_hub(context.alloc(), script.screen)?;
-    let done = finish(context, &mut hub, script);
-    drop(hub);
-    done
+    finish(context, &mut hub, script)
 }
 
 // Takes all steps, and writes what the viewer shows then.
@@ -79,15 +77,9 @@ fn play_all<E: Write>(
 {
     let mut lines = LineWriter::new(alloc, errors)?;
     for numbered in steps {
-        match play_in_hub(hub, &numbered.step) {
-            Ok(told) => tell_line(numbered.line, told, explains, &mut lines),
-            Err(error) => {
-                drop(lines);
-                return Err(Fault::from(error));
-            }
-        }
+        let told = play_in_hub(hub, &numbered.step)?;
+        tell_line(numbered.line, told, explains, &mut lines);
     }
-    drop(lines);
     Ok(())
 }
 

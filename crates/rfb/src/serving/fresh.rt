@@ -41,12 +41,7 @@ fn serve_scene<R: Read + Drop, W: Write + Drop>(
     ensures { IsServed (ServedScreen.Scene size) (R.remaining reader) (W.contents writer) result }
 {
     match fresh_server(alloc, size) {
-        Ok(mut server) => {
-            let ended = serve_first_scene(alloc, size, &mut server, reader, writer);
-            // By a call: what a body's end lets go is proved field by field.
-            drop(server);
-            ended
-        }
+        Ok(mut server) => serve_first_scene(alloc, size, &mut server, reader, writer),
         Err(_) => Err(EngineFault::NoMemory),
     }
 }
@@ -83,11 +78,7 @@ fn serve_picture<R: Read + Drop, W: Write + Drop>(
         height: pixmap.height,
     };
     match fresh_server(alloc, size) {
-        Ok(mut server) => {
-            let ended = serve_first_picture(alloc, size, pixmap, &mut server, reader, writer);
-            drop(server);
-            ended
-        }
+        Ok(mut server) => serve_first_picture(alloc, size, pixmap, &mut server, reader, writer),
         Err(_) => Err(EngineFault::NoMemory),
     }
 }

@@ -98,20 +98,15 @@ pub fn serve_options_in<'a>(given: &ArgMatches<'a>) -> Result<ServeOptions<'a>, 
     ensures { MatchResult result (GivesServeOptions (rows_of (found_of given.now)))
         (λ _. HasBadServe (rows_of (found_of given.now))) }
 {
-    let screen = match screen_in(given) {
-        Ok(screen) => screen,
-        Err(value) => return Err(value),
-    };
-    match connections_in(given) {
-        Ok(connections) => Ok(ServeOptions {
-            port: number_in(given, "port", 1, u16::MAX),
-            listen: listen_in(given),
-            screen,
-            connections,
-            timeout: number_given(given, "timeout"),
-        }),
-        Err(value) => Err(value),
-    }
+    let screen = screen_in(given)?;
+    let connections = connections_in(given)?;
+    Ok(ServeOptions {
+        port: number_in(given, "port", 1, u16::MAX),
+        listen: listen_in(given),
+        screen,
+        connections,
+        timeout: number_given(given, "timeout"),
+    })
 }
 
 // What is shown: a picture, which has its own size, or the test scene.

@@ -12,6 +12,7 @@ use crate::sharing::input::{Input, begin_input};
 use crate::sharing::reader::OwnerReader;
 use crate::sharing::ready::Ready;
 use mio::{Events, Poll};
+use rfb_session::turns;
 use std::alloc::Global;
 use std::io;
 use std::io::{Read, Write};
@@ -87,9 +88,7 @@ impl<
     ) -> Result<(), Failure> {
         // Not one in each turn: a turn may be short, and then emptying it is half of the work.
         let mut part = [0; READ_AT_ONCE];
-        // A loop by number, since one without an end is no function that returns. At a turn for each
-        // nanosecond these last for five hundred years.
-        for _turn in 0..u64::MAX {
+        for _turn in 0..turns() {
             if self.turn(options, &mut part, input, output, errors)? {
                 break;
             }

@@ -64,19 +64,14 @@ pub fn view_options_in<'a>(given: &ArgMatches<'a>) -> Result<ViewOptions<'a>, Ba
     ensures { MatchResult result (GivesViewOptions (rows_of (found_of given.now)))
         (λ _. HasBadView (rows_of (found_of given.now))) }
 {
-    let address = match address_in(given) {
-        Ok(address) => address,
-        Err(value) => return Err(value),
-    };
-    match sight_in(given) {
-        Ok(sight) => Ok(ViewOptions {
-            host: address.host,
-            port: address.port,
-            timeout: number_given(given, "timeout"),
-            sight,
-        }),
-        Err(value) => Err(value),
-    }
+    let address = address_in(given)?;
+    let sight = sight_in(given)?;
+    Ok(ViewOptions {
+        host: address.host,
+        port: address.port,
+        timeout: number_given(given, "timeout"),
+        sight,
+    })
 }
 
 // What is to be seen of it. The format is judged first.
@@ -84,19 +79,14 @@ fn sight_in<'a>(given: &ArgMatches<'a>) -> Result<Sight, BadValue<'a>>
     ensures { MatchResult result (GivesSight (rows_of (found_of given.now)))
         (λ _. HasBadSight (rows_of (found_of given.now))) }
 {
-    let format = match format_in(given) {
-        Ok(format) => format,
-        Err(value) => return Err(value),
-    };
-    match encodings_in(given) {
-        Ok(encodings) => Ok(Sight {
-            wants: Wants { format, encodings },
-            updates: updates_in(given),
-            is_recorded: is_given(given, "record"),
-            is_partial: is_given(given, "partial"),
-        }),
-        Err(value) => Err(value),
-    }
+    let format = format_in(given)?;
+    let encodings = encodings_in(given)?;
+    Ok(Sight {
+        wants: Wants { format, encodings },
+        updates: updates_in(given),
+        is_recorded: is_given(given, "record"),
+        is_partial: is_given(given, "partial"),
+    })
 }
 
 // How many updates are viewed.

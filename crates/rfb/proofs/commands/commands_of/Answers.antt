@@ -10,7 +10,7 @@ loop-verb-init c = ap (map shape_of) c.in_ok-commands.ensures.items
 
 pub loop-verb-preserved : goal.loop-verb-preserved
 loop-verb-preserved c =
-    one_as_table shape_of shape_named c.loop-verb.commands.items _ _ c.args.verbs.now c.loop-verb.verb-index _ c.loop-verb-test.true c.in_ok-push-in-Ok.ensures.items (c.in-Ok.ensures ∙ c.usage.ensures) c.loop-verb.invariant
+    one_as_table shape_of shape_named c.loop-verb.commands.items _ _ c.args.verbs.now c.loop-verb.verb-index _ c.loop-verb-test.true c.in_ok-push.ensures.items (c.in_ok-command_of.ensures ∙ c.usage.ensures) c.loop-verb.invariant
 
 pub returns : goal.returns
 returns c =

@@ -10,5 +10,5 @@ returns-clause-done g c =
       is_script = some_script (g.R.Read.remaining c.args.context.now.input.now) c.new-text.result.items
           c.read_to_end.new.buf.items script.screen script.wants script.steps.items
           c.new-text.ensures.items c.in_ok-read_to_end.ensures.bytes said;
-      written = c.in_ok-done.ensures.done;
+      written = c.in_ok-run.ensures.done;
     }

@@ -16,7 +16,7 @@ loop-numbered-preserved g c =
     let before = take c.loop-numbered.numbered-index steps in
     let more : take (c.loop-numbered.numbered-index + 1) steps ≡ before ++ c.numbered-item.result ∷ [] =
     take_more steps c.loop-numbered.numbered-index c.numbered-item.result (omega arith) ∙ ap (λ (s : Numbered). before ++ s ∷ []) (sym c.numbered-item.is) in
-    step_more c.args.world.now c.loop-numbered.world c.play.new.world before (take (c.loop-numbered.numbered-index + 1) steps) c.numbered-item.result more c.loop-numbered.invariant c.in-Ok.ensures.taken
+    step_more c.args.world.now c.loop-numbered.world c.play.new.world before (take (c.loop-numbered.numbered-index + 1) steps) c.numbered-item.result more c.loop-numbered.invariant c.in_ok-refused.ensures.taken
 
 pub returns : goal.returns
 returns g c =

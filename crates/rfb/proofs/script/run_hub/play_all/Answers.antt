@@ -14,7 +14,7 @@ loop-numbered-preserved g c =
     let before = take c.loop-numbered.numbered-index steps in
     let more : take (c.loop-numbered.numbered-index + 1) steps ≡ before ++ c.numbered-item.result ∷ [] =
     take_more steps c.loop-numbered.numbered-index c.numbered-item.result (omega arith) ∙ ap (λ (s : HubNumbered). before ++ s ∷ []) (sym c.numbered-item.is) in
-    hub_step_more c.args.hub.now c.loop-numbered.hub c.play_in_hub.new.hub before (take (c.loop-numbered.numbered-index + 1) steps) c.numbered-item.result more c.loop-numbered.invariant c.in-Ok.ensures.leads
+    hub_step_more c.args.hub.now c.loop-numbered.hub c.play_in_hub.new.hub before (take (c.loop-numbered.numbered-index + 1) steps) c.numbered-item.result more c.loop-numbered.invariant c.in_ok-told.ensures.leads
 
 pub returns : goal.returns
 returns g c =
