@@ -75,3 +75,9 @@ pub mod NetpbmHeadLemmas
 pub mod NetpbmPlacesLemmas
 pub mod NetpbmFileLemmas
 pub mod NetpbmWrittenLemmas
+pub mod DoorEventLemmas
+pub mod DoorMoveLemmas
+pub mod DoorTurnLemmas
+pub mod DoorLifeLemmas
+pub mod EchoLemmas
+pub mod TenantLemmas

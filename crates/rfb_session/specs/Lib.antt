@@ -46,3 +46,4 @@ pub mod ViewOrder
 pub mod OverWire
 pub mod netpbm
 pub mod inside
+pub mod doors

@@ -28,6 +28,7 @@
 #![tactic(auto)]
 
 mod channel;
+pub mod doors;
 mod engine;
 mod event;
 mod hub;

@@ -1,0 +1,153 @@
+-- What a loop did at one door, from what the core was told and what the device did.
+use Rattle.std.proofs.Common.{◌≡◌, ℕ, ◌+◌, ◌-◌, ◌<◌, ◌≤◌, Bool, List, [], ◌∷◌}
+use Rattle.std.proofs.Common.{◌++◌, Option, Some, None, take, drop, length}
+use Rattle.std.proofs.Common.{refl, sym, ap, ◌∙◌, subst, append-nil, append_assoc, take-append-drop, arith, length-drop}
+use Rattle.std.specs.Io.KnownBytes.{Appends, Consumes, Keeps, IsAtEnd}
+use Rattle.std.proofs.lemmas.List.{take_all}
+use Rattle.std.proofs.KnownBytes.{Keeps-refl}
+use Rattle.rfb_session.specs.doors.Events.{Event, Ended, Failed, Wrote, Received, Stepping, Runs, Brings, Nothing}
+use Rattle.rfb_session.specs.doors.Devices.{Stays, Gave, Took, HasEnded}
+use Rattle.rfb_session.specs.doors.Turns.{Moves}
+use Rattle.rfb_session.proofs.DoorEventLemmas.{Tells, nothing_told, end_told, fault_told, bytes_left, brought}
+use Rattle.rfb_session.proofs.DoorEventLemmas.{brings_more}
+
+-- ---- known bytes of which none went
+
+pub none_read : (a b : Option (List ℕ)) → Keeps a b → Consumes a b []
+none_read None b kept = tt
+none_read (Some x) None kept = absurd kept
+none_read (Some x) (Some y) kept = sym kept
+
+pub none_written : (a b : Option (List ℕ)) → Keeps a b → Appends a b []
+none_written None b kept = tt
+none_written (Some x) None kept = absurd kept
+none_written (Some x) (Some y) kept = kept ∙ sym (append-nil x)
+
+at_end : (a b : Option (List ℕ)) → IsAtEnd b → HasEnded a b
+at_end None b all = tt
+at_end (Some x) b all = all
+
+-- ---- one door
+
+module _ {C D : Type 0} (steps : Stepping C) (unread written : D → Option (List ℕ)) (failed : D → ℕ)
+    (stands : D → Bool) (door : ℕ) (old new : C) (device device' : D) where
+  moves_by : (events : List Event) (bytes gone : List ℕ) (ended faults : ℕ) → Runs steps old events new →
+      Tells door events bytes gone ended faults → Consumes (unread device) (unread device') bytes →
+      Appends (written device) (written device') gone →
+      (0 < ended → HasEnded (unread device) (unread device')) →
+      failed device' ≡ failed device + faults → stands device' ≡ stands device →
+      Moves steps unread written failed stands door old new device device'
+  moves_by events bytes gone ended faults runs tells reads writes ends fails stays = record {
+    events = events;
+    runs = runs;
+    reads = subst (λ (l : List ℕ). Consumes (unread device) (unread device') l) (sym tells.came_is) reads;
+    writes = subst (λ (l : List ℕ). Appends (written device) (written device') l) (sym tells.left_is)
+        writes;
+    ended = λ some. ends (subst (λ (n : ℕ). 0 < n) tells.ends_are some);
+    fails = fails ∙ ap (λ (n : ℕ). failed device + n) (sym tells.faults_are);
+    stays = stays;
+    others = tells.others;
+  }
+
+  -- nothing was told, and no byte went
+  pub moves_none : new ≡ old →
+      Stays (unread device) (unread device') (written device) (written device')
+      (failed device) (failed device') 0 → stands device' ≡ stands device →
+      Moves steps unread written failed stands door old new device device'
+  moves_none same stays still =
+      moves_by [] [] [] 0 0 same (nothing_told door)
+      (none_read (unread device) (unread device') stays.none_came)
+      (none_written (written device) (written device') stays.none_left)
+      (λ some. absurd (omega arith)) stays.count still
+
+  pub moves_end : steps old (Ended door) new → IsAtEnd (unread device') →
+      Stays (unread device) (unread device') (written device) (written device')
+      (failed device) (failed device') 0 → stands device' ≡ stands device →
+      Moves steps unread written failed stands door old new device device'
+  moves_end step all stays still =
+      moves_by (Ended door ∷ []) [] [] 1 0 (new, step, refl) (end_told door)
+      (none_read (unread device) (unread device') stays.none_came)
+      (none_written (written device) (written device') stays.none_left)
+      (λ some. at_end (unread device) (unread device') all) stays.count still
+
+  pub moves_fault : steps old (Failed door) new →
+      Stays (unread device) (unread device') (written device) (written device')
+      (failed device) (failed device') 1 → stands device' ≡ stands device →
+      Moves steps unread written failed stands door old new device device'
+  moves_fault step stays still =
+      moves_by (Failed door ∷ []) [] [] 0 1 (new, step, refl) (fault_told door)
+      (none_read (unread device) (unread device') stays.none_came)
+      (none_written (written device) (written device') stays.none_left)
+      (λ some. absurd (omega arith)) stays.count still
+
+  -- bytes came, and the core was brought all of them
+  pub moves_in : (count : ℕ) (buf : List ℕ) → Brings steps door old (take count buf) new →
+      Gave count (unread device) (unread device') (written device) (written device')
+      (failed device) (failed device') buf → stands device' ≡ stands device →
+      Moves steps unread written failed stands door old new device device'
+  moves_in count buf brings gave still =
+      let told = brought steps door old (take count buf) new brings in
+      moves_by told.events (take count buf) [] 0 0 told.runs told.tells gave.came
+      (none_written (written device) (written device') gave.none_left)
+      (λ some. absurd (omega arith)) (omega (arith, gave.no_fault)) still
+
+  -- bytes left, and it was told so
+  pub moves_out : (count : ℕ) (buf waiting : List ℕ) → buf ≡ waiting →
+      steps old (Wrote door (take count waiting)) new →
+      Took count (unread device) (unread device') (written device) (written device')
+      (failed device) (failed device') buf → stands device' ≡ stands device →
+      Moves steps unread written failed stands door old new device device'
+  moves_out count buf waiting same step took still =
+      moves_by (Wrote door (take count waiting) ∷ []) [] (take count waiting) 0 0 (new, step, refl)
+      (bytes_left door (take count waiting))
+      (none_read (unread device) (unread device') took.none_came)
+      (subst (λ (l : List ℕ). Appends (written device) (written device') (take count l)) same took.left)
+      (λ some. absurd (omega arith)) (omega (arith, took.no_fault)) still
+
+-- ---- a door that was let be
+
+module _ {C D : Type 0} (steps : Stepping C) (unread written : D → Option (List ℕ)) (failed : D → ℕ)
+    (stands : D → Bool) (door : ℕ) (core : C) (device : D) where
+  pub moves_not : Moves steps unread written failed stands door core core device device
+  moves_not = moves_none steps unread written failed stands door core core device device refl (record {
+    none_came = Keeps-refl (unread device);
+    none_left = Keeps-refl (written device);
+    count = omega arith;
+  }) refl
+
+-- ---- bytes on their way to the core
+
+-- what `&rest[used..]` is
+pub rest_is : (rest : List ℕ) (used : ℕ) → take (length rest - used) (drop used rest) ≡ drop used rest
+rest_is rest used = take_all (length rest - used) (drop used rest) (omega (arith, length-drop used rest))
+
+-- of some bytes these are left, and it still has room for them
+pub record BringsUpTo {C : Type 0} (steps : Stepping C) (space : C → ℕ → ℕ) (door : ℕ)
+    (old new : C) (bytes rest : List ℕ) : Type 0 where
+  pub front : List ℕ
+  pub parts : bytes ≡ front ++ rest
+  pub brings : Brings steps door old front new
+  pub room : length rest ≤ space new door
+
+module _ {C : Type 0} (steps : Stepping C) (space : C → ℕ → ℕ) (door : ℕ) where
+  pub none_brought : (old : C) (bytes : List ℕ) → length bytes ≤ space old door →
+      BringsUpTo steps space door old old bytes bytes
+  none_brought old bytes room = record { front = []; parts = refl; brings = Nothing; room = room }
+
+  pub part_brought : (old mid new : C) (bytes rest : List ℕ) (used : ℕ) →
+      BringsUpTo steps space door old mid bytes rest → steps mid (Received door (take used rest)) new →
+      length (drop used rest) ≤ space new door →
+      BringsUpTo steps space door old new bytes (drop used rest)
+  part_brought old mid new bytes rest used was step room = record {
+    front = was.front ++ take used rest;
+    parts = was.parts ∙ ap (λ (l : List ℕ). was.front ++ l) (sym (take-append-drop used rest))
+        ∙ sym (append_assoc was.front (take used rest) (drop used rest));
+    brings = brings_more steps door old mid new was.front (take used rest) was.brings step;
+    room = room;
+  }
+
+  pub all_brought : (old new : C) (bytes rest : List ℕ) → BringsUpTo steps space door old new bytes rest →
+      rest ≡ [] → Brings steps door old bytes new
+  all_brought old new bytes rest was none =
+      subst (λ (l : List ℕ). Brings steps door old l new)
+      (sym (was.parts ∙ ap (λ (l : List ℕ). was.front ++ l) none ∙ append-nil was.front)) was.brings

@@ -1,0 +1,67 @@
+-- What a loop did at one door, and at all of them.
+use Rattle.std.specs.Prelude.{◌≡◌, ◌≢◌, ℕ, ◌+◌, ◌<◌, ◌≤◌, Bool, List, Option, take, length}
+use Rattle.std.specs.Io.KnownBytes.{Appends, Consumes}
+use Rattle.rfb_session.specs.doors.Events.{Event, Wrote, Turned, Stepping, Runs, Brings, IsQuiet, came, left, ends, faults}
+use Rattle.rfb_session.specs.doors.Events.{Ended as TheEnd, Failed as Fault}
+use Rattle.rfb_session.specs.doors.Devices.{HasEnded, known_at, number_at, flag_at}
+use Rattle.rfb_session.specs.declared.doors.device.Answer.{Answer}
+use Rattle.rfb_session.specs.declared.doors.device.Answer.TheVariants.{Moved, Ended, Again, Waits, Failed}
+
+module _ {C : Type 0} where
+  -- what a core was told of a read at a door, by its answer
+  abbrev pub Hears : Stepping C → ℕ → Answer → C → C → Type 0
+  Hears steps door (Moved count) old new =
+      (bytes : List ℕ) × (length bytes ≡ count) × Brings steps door old bytes new
+  Hears steps door Ended old new = steps old (TheEnd door) new
+  Hears steps door Again old new = new ≡ old
+  Hears steps door Waits old new = new ≡ old
+  Hears steps door Failed old new = steps old (Fault door) new
+
+  -- what it was told of a write there of the bytes that waited
+  abbrev pub Learns : Stepping C → ℕ → List ℕ → Answer → C → C → Type 0
+  Learns steps door waiting (Moved count) old new = steps old (Wrote door (take count waiting)) new
+  Learns steps door waiting Ended old new = ⊥
+  Learns steps door waiting Again old new = new ≡ old
+  Learns steps door waiting Waits old new = new ≡ old
+  Learns steps door waiting Failed old new = steps old (Fault door) new
+
+module _ {C D : Type 0} where
+  -- one door: what the core was told is what was done there, and nothing was told of another
+  pub record Moves (steps : Stepping C) (unread written : D → Option (List ℕ)) (failed : D → ℕ)
+      (stands : D → Bool) (door : ℕ) (old new : C) (device device' : D) : Type 0 where
+    pub events : List Event
+    pub runs : Runs steps old events new
+    pub reads : Consumes (unread device) (unread device') (came door events)
+    pub writes : Appends (written device) (written device') (left door events)
+    pub ended : 0 < ends door events → HasEnded (unread device) (unread device')
+    pub fails : failed device' ≡ failed device + faults door events
+    pub stays : stands device' ≡ stands device
+    pub others : (d : ℕ) → d ≢ door → IsQuiet d events
+
+  -- all doors, each of which stays at its number
+  pub record Turns (steps : Stepping C) (unread written : D → Option (List ℕ)) (failed : D → ℕ)
+      (stands : D → Bool) (old new : C) (doors doors' : List D) : Type 0 where
+    pub events : List Event
+    pub runs : Runs steps old events new
+    pub reads : (d : ℕ) → Consumes (known_at unread doors d) (known_at unread doors' d) (came d events)
+    pub writes : (d : ℕ) → Appends (known_at written doors d) (known_at written doors' d) (left d events)
+    pub ended : (d : ℕ) → 0 < ends d events →
+        HasEnded (known_at unread doors d) (known_at unread doors' d)
+    pub fails : (d : ℕ) → number_at failed doors' d ≡ number_at failed doors d + faults d events
+    pub stays : (d : ℕ) → flag_at stands doors' d ≡ flag_at stands doors d
+    pub beyond : (d : ℕ) → length doors ≤ d → IsQuiet d events
+    pub many : length doors' ≡ length doors
+
+  -- one turn: what was ready was heard, then the core was told the time and wanted to be called next at
+  -- that one, and then what waited was written
+  pub record TurnsOnce (steps : Stepping C) (due : C → Option ℕ) (unread written : D → Option (List ℕ))
+      (failed : D → ℕ) (stands : D → Bool) (next : Option ℕ) (old new : C) (doors doors' : List D)
+      : Type 0 where
+    pub heard : C
+    pub turned : C
+    pub mid : List D
+    pub now : ℕ
+    pub hears : Turns steps unread written failed stands old heard doors mid
+    pub turns : steps heard (Turned now) turned
+    pub next_is : next ≡ due turned
+    pub tells : Turns steps unread written failed stands turned new mid doors'

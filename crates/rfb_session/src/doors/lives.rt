@@ -1,0 +1,72 @@
+//! A run whose doors open and close.
+
+ghost use Rattle.rfb_session.specs.doors.Lives.{Closes, Lives, Opens, telling};
+ghost use Rattle.rfb_session.specs.doors.Tenants.{HasTenants};
+
+use crate::doors::clock::{Clock, Pause};
+use crate::doors::cores::Core;
+use crate::doors::device::Device;
+use crate::doors::host::{Arrivals, Host};
+use crate::doors::place::Place;
+use crate::doors::turns::turn;
+use crate::doors::waiting::{how_long, is_over};
+
+/// Lets a device in, does a turn and closes what is over, time after time, until the clock says
+/// so. It waits between as `run` does. `part` is as for `turn`. The clock and the arrivals are one
+/// value, since what came has to be told apart by its readiness.
+pub fn live<C: Host, D: Device + Drop, S: Clock + Arrivals<D>>(
+    core: &mut C,
+    doors: &mut [Place<D>],
+    shell: &mut S,
+    part: &mut [u8],
+)
+    ensures lives { Lives
+        (telling C.steps C.opens C.closed C.waiting D.unread D.written D.failed S.fresh)
+        core.old core.new doors.old doors.new }
+    ensures tenants { HasTenants
+        (telling C.steps C.opens C.closed C.waiting D.unread D.written D.failed S.fresh)
+        core.old core.new doors.old doors.new }
+{
+    let mut until = Pause::Look;
+    // So many turns are never done.
+    for _turn in 0..u64::MAX {
+        if !shell.wait(until) {
+            return;
+        }
+        open(core, doors, shell);
+        let next = turn(core, doors, shell, part);
+        close(core, doors);
+        until = how_long(core, shell, doors.len(), next);
+    }
+}
+
+/// Lets one device in, if one came and the core has a door for it. What stood there is let go.
+pub fn open<C: Host, D: Device + Drop, A: Arrivals<D>>(
+    core: &mut C,
+    doors: &mut [Place<D>],
+    arrivals: &mut A,
+)
+    ensures { Opens C.opens A.fresh core.old core.new doors.old doors.new }
+{
+    let Some(device) = arrivals.next() else {
+        return;
+    };
+    match core.opened(doors.len()) {
+        Some(door) => {
+            doors[door] = Place::Held(device);
+            arrivals.seated(Some(door));
+        }
+        None => arrivals.seated(None),
+    }
+}
+
+/// Empties each door that may be closed and where nothing waits. What stood there is let go.
+pub fn close<C: Core, D: Drop>(core: &C, doors: &mut [Place<D>])
+    ensures { Closes C.closed C.waiting core.now doors.old doors.new }
+{
+    for door in 0..doors.len() {
+        if is_over(core, door) {
+            doors[door] = Place::Empty;
+        }
+    }
+}

@@ -1,0 +1,5 @@
+//! Loops over memory.
+
+mod devices;
+mod living;
+mod moving;
