@@ -231,6 +231,11 @@ impl PlaceSet {
         ensures height { self.new.height ≡ self.old.height }
     {
         let parts = parts_of(rect, self.width(), self.height());
+        if parts.inner.w == 0 || parts.inner.h == 0 {
+            // It has no cell whole.
+            self.add_part(rect);
+            return;
+        }
         self.add_cells(parts.inner);
         self.add_part(parts.above);
         self.add_part(parts.below);
