@@ -6,12 +6,12 @@ use Rattle.std.proofs.lemmas.Iterator.Consumers.{YieldsList-turn, YieldsList-so_
 use Rattle.std.proofs.lemmas.List.Splits.{slice_split_none}
 use Rattle.std.proofs.lemmas.List.Elements.{All-nil, All-cons, All-head, All-tail}
 use Rattle.rfb.specs.declared.script.hub.hub_step.HubNumbered.{HubNumbered}
-use Rattle.rfb.specs.declared.script.line.Screen.{Screen as Size}
+use Rattle.rfb_session.specs.declared.language.screen.Screen.{Screen as Size}
 use Rattle.rfb.specs.HubScript.{AreHubScript, AreOpenHub, AskInHub, AsksInHub, BeginHub, GivesHub, IsBadInHub, IsFirstBadInHub, IsWithoutShow, NamesShown, SaysHub, SaysHubStep, SaysShow, first_line, line_after}
-use Rattle.rfb.specs.Script.{AreEmpty, words_of}
-use Rattle.rfb.specs.Words.{texts}
+use Rattle.rfb.specs.Script.{AreEmpty}
+use Rattle.rfb_session.specs.language.Words.{words_of, texts}
 use Rattle.rfb.proofs.LinesLemmas.{parted, texts_more}
-use Rattle.rfb.proofs.ScriptLemmas.{heads, texts_length}
+use Rattle.rfb_session.proofs.WordLaws.{heads, texts_length}
 
 -- what lines are that were read so far: empty, a hub's script without its last line, or a whole one
 abbrev pub ReadHub : List (List ℕ) → Option Size → List HubNumbered → Option ℕ → Type 0

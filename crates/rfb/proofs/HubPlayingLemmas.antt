@@ -23,7 +23,7 @@ use Rattle.rfb.specs.declared.fault.Fault.{Fault}
 use Rattle.rfb.specs.declared.script.hub_steps.LineTold.{LineTold}
 use Rattle.rfb.specs.declared.script.hub.hub_step.HubNumbered.{HubNumbered}
 use Rattle.rfb.specs.declared.script.hub.hub_step.HubStep.TheVariants.{Event}
-use Rattle.rfb.specs.declared.script.line.Screen.{Screen as Size}
+use Rattle.rfb_session.specs.declared.language.screen.Screen.{Screen as Size}
 use Rattle.rfb.specs.CommandLine.{HubPlayedTo, ShowsSlotTo}
 use Rattle.rfb.specs.Few.{HasFewInHub}
 use Rattle.rfb.specs.HubPlaying.{LeadsHub, RunsTelling, TellsLine, deliveries_in, ended_with, hub_events, hub_events_of, or_refusal, refusal_with}

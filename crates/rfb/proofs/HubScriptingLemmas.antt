@@ -10,7 +10,7 @@ use Rattle.std.specs.Io.KnownBytes.{Appends}
 use Rattle.rfb.specs.declared.fault.Failure.{Failure}
 use Rattle.rfb.specs.declared.fault.Failure.TheVariants.{BadLine, Fault, Engine, Picture}
 use Rattle.rfb.specs.declared.script.hub.hub_step.HubNumbered.{HubNumbered}
-use Rattle.rfb.specs.declared.script.line.Screen.{Screen as Size}
+use Rattle.rfb_session.specs.declared.language.screen.Screen.{Screen as Size}
 use Rattle.rfb.specs.CommandLine.{FailsAtAny, HubPlayedTo, LeavesScript, PlaysAny, PlaysScript}
 use Rattle.rfb.specs.HubPlaying.{hub_events}
 use Rattle.rfb.specs.HubScript.{AreHubScript, BeginHub, StopsReadingAny, StopsReadingHub}

@@ -10,13 +10,13 @@ use Rattle.rfb_session.specs.declared.hub.event.SlotEvent.TheVariants.{Request, 
 use Rattle.rfb_session.specs.HubSeats.{event_of}
 use Rattle.rfb.specs.declared.script.hub.hub_step.HubStep.{HubStep}
 use Rattle.rfb.specs.declared.script.hub.hub_step.HubStep.TheVariants.{Event, Settle}
-use Rattle.rfb.specs.declared.script.line.Screen.{Screen as Size}
+use Rattle.rfb_session.specs.declared.language.screen.Screen.{Screen as Size}
 use Rattle.rfb.specs.Few.{HasFewInHub}
-use Rattle.rfb.specs.HubScript.{AreForeign, AreJoin, IsSlotThen, IsSlotAlone, SaysAt, SaysHub, SaysHubStep, SaysShow}
-use Rattle.rfb.specs.Script.{Begins, SaysEvent}
-use Rattle.rfb.specs.Words.{AreFill, AreMove, AreSize, texts}
+use Rattle.rfb.specs.HubScript.{AreForeign, AreJoin, IsSlotThen, SaysAt, SaysHub, SaysHubStep, SaysShow}
+use Rattle.rfb_session.specs.language.Words.{IsSlotAlone, Begins, AreFill, AreMove, AreSize, texts}
+use Rattle.rfb.specs.Script.{SaysEvent}
 use Rattle.rfb.proofs.HubWordLemmas.{no_slot_first, nothing_after, none_after, split_texts}
-use Rattle.rfb.proofs.ScriptLemmas.{heads, nothing, no_texts, other_word, same_word, tails, words_are}
+use Rattle.rfb_session.proofs.WordLaws.{heads, nothing, no_texts, other_word, same_word, tails, words_are}
 
 -- two keywords that differ
 apart : (a b : List ℕ) (x y : List (List ℕ)) → bytes_eq a b ≡ false → a ∷ x ≡ b ∷ y → ⊥

@@ -1,37 +1,14 @@
 -- Words of a line of a hub's script: as many as they have to be, each for its value.
-use Rattle.std.proofs.Common.{◌≡◌, ◌≢◌, ◌≤◌, ◌∙◌, ap, sym, subst, Bool, true, false, Option, Some, None, MatchOption, length, ℕ, List, [], ◌∷◌, Bor, Ok, Err, codes}
+use Rattle.std.proofs.Common.{◌≡◌, ◌≢◌, ◌≤◌, ◌∙◌, ap, sym, subst, Bool, true, false, length, ℕ, List, ◌∷◌, Bor, Ok, Err, codes}
 use Rattle.hex.specs.Hex.{decode_of}
 use Rattle.hex.specs.declared.error.FromHexError.{FromHexError}
 use Rattle.rfb_viewer.specs.declared.setup.ViewerSetup.{ViewerSetup as Setup}
 use Rattle.rfb.specs.declared.script.line.Wants.{Wants}
-use Rattle.rfb.specs.HubScript.{AreForeign, AreSetup, IsSlotThen, IsHexWord, IsSetup, IsSlotAlone, IsSlotWord, kind_of_join}
-use Rattle.rfb.specs.Words.{AreWants, texts}
-use Rattle.rfb.proofs.ArgumentLemmas.{word, one_words, two_words}
-use Rattle.rfb.proofs.ScriptLemmas.{heads, nothing, no_texts, tails, texts_length}
-
--- ---- a slot
-
-pub other_length : (w : List ℕ) → length w ≢ 1 → (slot : ℕ) → ¬ (IsSlotWord w slot)
-other_length w other slot said = other (ap (λ (l : List ℕ). length l) said.0)
-
-pub one_of : (a b : ℕ) → a ∷ [] ≡ b ∷ [] → a ≡ b
-one_of a b e = cc
-
-pub no_slot_alone : (words : List (Bor (List ℕ))) (d : Bor (List ℕ)) → length words ≡ 1 → ((slot : ℕ) → ¬ (IsSlotWord (word words 0 d) slot)) → (slot : ℕ) → ¬ (IsSlotAlone (texts words) slot)
-no_slot_alone words d len none slot said =
-    let f = sym (one_words words d len) ∙ said.1 in
-    let e0 : word words 0 d ≡ said.0 = cc in
-    none slot (rw e0 said.2)
-
-pub not_slot_alone : (words : List (Bor (List ℕ))) → length words ≢ 1 → (slot : ℕ) → ¬ (IsSlotAlone (texts words) slot)
-not_slot_alone words other slot said =
-    let s : length (texts words) ≡ 1 = ap (λ (l : List (List ℕ)). length l) said.1 in
-    other (sym (texts_length words) ∙ s)
-
-pub slot_alone : (words : List (Bor (List ℕ))) (d : Bor (List ℕ)) → length words ≡ 1 → (r : Option ℕ) → MatchOption r ((slot : ℕ) → ¬ (IsSlotWord (word words 0 d) slot)) (IsSlotWord (word words 0 d))
-    → MatchOption r ((slot : ℕ) → ¬ (IsSlotAlone (texts words) slot)) (IsSlotAlone (texts words))
-slot_alone words d len None none = no_slot_alone words d len none
-slot_alone words d len (Some slot) is = (word words 0 d, one_words words d len, is)
+use Rattle.rfb.specs.HubScript.{AreForeign, AreSetup, IsSlotThen, IsHexWord, IsSetup, kind_of_join}
+use Rattle.rfb_session.specs.language.Words.{IsSlotWord, texts}
+use Rattle.rfb.specs.Words.{AreWants}
+use Rattle.rfb_session.proofs.ArgumentLaws.{word, two_words}
+use Rattle.rfb_session.proofs.WordLaws.{heads, nothing, no_texts, tails, texts_length}
 
 -- ---- a slot, and what is after it
 

@@ -20,11 +20,5 @@ pub mod ServingLemmas
 pub mod ThroughLemmas
 pub mod UsageLemmas
 pub mod ViewingLemmas
-pub mod WordLemmas
 pub mod LinesLemmas
-pub mod ListLemmas
 pub mod MadeLemmas
-pub mod OwnerEndLemmas
-pub mod OwnerLineLemmas
-pub mod OwnerReaderLemmas
-pub mod OwnerStageLemmas

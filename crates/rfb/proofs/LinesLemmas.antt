@@ -7,12 +7,12 @@ use Rattle.std.proofs.lemmas.Iterator.Consumers.{YieldsList-turn, YieldsList-so_
 use Rattle.std.proofs.lemmas.List.{length_push}
 use Rattle.std.proofs.lemmas.List.Elements.{All-nil, All-cons, All-head, All-tail}
 use Rattle.rfb.specs.declared.script.line.Numbered.{Numbered}
-use Rattle.rfb.specs.declared.script.line.Screen.{Screen as Size}
+use Rattle.rfb_session.specs.declared.language.screen.Screen.{Screen as Size}
 use Rattle.rfb.specs.declared.script.line.Wants.{Wants}
 use Rattle.rfb.specs.declared.script.line.Line.TheVariants.{Screen, Viewer}
-use Rattle.rfb.specs.Words.{texts}
-use Rattle.rfb.specs.Script.{AreEmpty, AreScript, AskAfter, AskFor, AskForAll, GivesSize, IsBadAfter, IsFirstBad, IsNoMore, Says, SaysStep, words_of}
-use Rattle.rfb.proofs.ScriptLemmas.{texts_length}
+use Rattle.rfb_session.specs.language.Words.{texts, words_of}
+use Rattle.rfb.specs.Script.{AreEmpty, AreScript, AskAfter, AskFor, AskForAll, GivesSize, IsBadAfter, IsFirstBad, IsNoMore, Says, SaysStep}
+use Rattle.rfb_session.proofs.WordLaws.{texts_length}
 
 -- what lines are that were read so far: empty, or a script
 abbrev pub ReadSoFar : List (List ℕ) → Option Size → Option Wants → List Numbered → Type 0

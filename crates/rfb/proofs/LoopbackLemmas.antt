@@ -14,7 +14,7 @@ use Rattle.rfb_session.proofs.EngineRunLaws.{ran_fed, ran_none, ran_then}
 use Rattle.rfb_session.proofs.WrittenLaws.{rest_is}
 use Rattle.rfb.specs.declared.fault.Fault.{Fault}
 use Rattle.rfb.specs.declared.script.line.Numbered.{Numbered}
-use Rattle.rfb.specs.declared.script.line.Screen.{Screen}
+use Rattle.rfb_session.specs.declared.language.screen.Screen.{Screen}
 use Rattle.rfb.specs.declared.script.line.Wants.{Wants}
 use Rattle.rfb.specs.Delivery.{IsFed}
 use Rattle.rfb.specs.Loopback.{LeavesSomePicture, WritesSomePicture}

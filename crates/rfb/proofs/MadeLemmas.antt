@@ -6,11 +6,11 @@ use Rattle.rfb_pixel.proofs.FormatLaws.{rgb888-is_format}
 use Rattle.rfb_wire.specs.declared.encoding.Encoding.{Encoding}
 use Rattle.rfb_session.specs.InFlight.{AreMade}
 use Rattle.rfb.specs.declared.script.line.Numbered.{Numbered}
-use Rattle.rfb.specs.declared.script.line.Screen.{Screen as Size}
+use Rattle.rfb_session.specs.declared.language.screen.Screen.{Screen as Size}
 use Rattle.rfb.specs.declared.script.line.Wants.{Wants}
 use Rattle.rfb.specs.Playing.{encodings_of, ends_of, format_of}
 use Rattle.rfb.specs.Script.{AreScript, AskForAll}
-use Rattle.rfb.specs.Words.{IsFormatWord, name_of}
+use Rattle.rfb_session.specs.language.Words.{IsFormatWord, name_of}
 
 rgb565-is_format : IsFormat rgb565
 rgb565-is_format = record {

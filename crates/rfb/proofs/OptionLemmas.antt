@@ -18,7 +18,7 @@ use Rattle.rfb.specs.command.Program.{asked, program}
 use Rattle.rfb.specs.command.Values.{GivesFormat, HasBadFormat, NamesFormat}
 use Rattle.rfb.specs.command.Looking.{GivesEncodings, HasBadEncodings, NamesEncodings}
 use Rattle.rfb.specs.Options.{AreOrdered, AreWrong, HasBadValue, IsOrder, IsWrongValue}
-use Rattle.rfb.specs.Words.{AreEncodings, IsFormatWord, parts_of}
+use Rattle.rfb_session.specs.language.Words.{AreEncodings, IsFormatWord, parts_of}
 
 -- a plain command has no global argument
 pub no_globals : (a b c d : Bool) → (a && (not b && (not c && d))) ≡ true → c ≡ false

@@ -22,7 +22,7 @@ use Rattle.rfb_session.specs.InFlight.{AreMade}
 use Rattle.rfb_session.proofs.NetworkLaws.{first_reached, headline_holds}
 use Rattle.rfb_session.proofs.RunLaws.{Any, neither_failed, reached_more, run_more, run_none}
 use Rattle.rfb.specs.declared.script.line.Numbered.{Numbered}
-use Rattle.rfb.specs.declared.script.line.Screen.{Screen as Size}
+use Rattle.rfb_session.specs.declared.language.screen.Screen.{Screen as Size}
 use Rattle.rfb.specs.declared.script.line.Wants.{Wants}
 use Rattle.rfb.specs.declared.script.line.Step.TheVariants.{Event as OneEvent}
 use Rattle.rfb.specs.Few.{HasFew}

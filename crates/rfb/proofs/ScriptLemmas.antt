@@ -1,9 +1,6 @@
 -- Words of a line, one by one: which lines a keyword can begin.
-use Rattle.std.proofs.Common.{◌==◌, zero, suc, Option, Some, None, MatchOption, ◌≡◌, ◌≢◌, ◌<◌, ◌≤◌, ◌+◌, ◌↔◌, ◌∙◌, ap, sym, refl, subst, Bool, true, false, inl, inr, length, ℕ, List, [], ◌∷◌, Bor, arith, codes}
+use Rattle.std.proofs.Common.{Option, Some, None, MatchOption, ◌≡◌, ◌≢◌, ◌<◌, ◌≤◌, ◌+◌, ◌∙◌, ap, sym, refl, subst, Bool, true, false, length, ℕ, List, [], ◌∷◌, Bor, arith, codes}
 use Rattle.std.specs.Str.{bytes_eq}
-use Rattle.std.proofs.lemmas.Bool.{cases_lt}
-use Rattle.std.proofs.lemmas.Bool.Decides.{nat_tests}
-use Rattle.std.proofs.lemmas.Slice.Eq.{bytes_eq-Decides}
 use Rattle.rfb_picture.specs.declared.rect.Rect.{Rect}
 use Rattle.rfb_pixel.specs.declared.colour.Colour.{Colour}
 use Rattle.rfb_pixel.specs.Format.{PixelFormat}
@@ -12,49 +9,17 @@ use Rattle.rfb_session.specs.declared.event.Event.TheVariants.{Fill, Put, Copy, 
 use Rattle.rfb_session.specs.declared.hub.event.SlotEvent.{SlotEvent}
 use Rattle.rfb_session.specs.declared.hub.event.SlotEvent.TheVariants as Slot
 use Rattle.rfb_session.specs.HubSeats.{event_of}
-use Rattle.rfb.specs.declared.script.line.Screen.{Screen as Size}
+use Rattle.rfb_session.specs.declared.language.screen.Screen.{Screen as Size}
 use Rattle.rfb.specs.declared.script.line.Wants.{Wants}
 use Rattle.rfb.specs.declared.script.line.Step.{Step as ScriptStep}
 use Rattle.rfb.specs.declared.script.line.Step.TheVariants.{Event as OneEvent, Settle}
 use Rattle.rfb.specs.declared.script.line.Line.{Line}
 use Rattle.rfb.specs.declared.script.line.Line.TheVariants.{Screen, Viewer, Step}
-use Rattle.rfb.specs.Words.{AreFill, AreMove, AreRequest, AreSize, AreWants, IsCountAlone, IsFormatAlone, texts}
+use Rattle.rfb_session.specs.language.Words.{AreFill, AreMove, AreSize, texts}
+use Rattle.rfb.specs.Words.{AreRequest, AreWants, IsCountAlone, IsFormatAlone}
 use Rattle.rfb.specs.Few.{HasFew}
-use Rattle.rfb.specs.Script.{Begins, Says, SaysEvent, SaysNothing, SaysStep}
-
--- ---- a keyword
-
-pub same_word : (a b : List ℕ) → bytes_eq a b ≡ true → a ≡ b
-same_word a b same = (bytes_eq-Decides a b).0 same
-
-pub other_word : (a b : List ℕ) → bytes_eq a b ≡ false → a ≢ b
-other_word a b other e = let same : bytes_eq a b ≡ true = (bytes_eq-Decides a b).1 e in cc
-
-pub texts_length : (words : List (Bor (List ℕ))) → length (texts words) ≡ length words
-texts_length [] = refl
-texts_length (w ∷ words) = omega (arith, texts_length words)
-
-pub no_texts : (words : List (Bor (List ℕ))) → length words ≡ 0 → texts words ≡ []
-no_texts [] none = refl
-no_texts (w ∷ words) none = absurd (omega arith)
-
-pub empty_of : (n : ℕ) (b : Bool) → b ≡ (n == 0) → b ≡ true → n ≡ 0
-empty_of n b is holds = grind (arith, nat_tests)
-
-pub some_of : (n : ℕ) (b : Bool) → b ≡ (n == 0) → b ≡ false → n ≡ 0 → ⊥
-some_of zero b is fails none = let e : true ≡ false = sym is ∙ fails in cc
-some_of (suc n) b is fails none = absurd (omega arith)
-
--- ---- words of lines that are the same
-
-pub heads : (a b : List ℕ) (x y : List (List ℕ)) → a ∷ x ≡ b ∷ y → a ≡ b
-heads a b x y e = cc
-
-pub tails : (a b : List ℕ) (x y : List (List ℕ)) → a ∷ x ≡ b ∷ y → y ≡ x
-tails a b x y e = cc
-
-pub nothing : (a : List ℕ) (x : List (List ℕ)) → [] ≡ a ∷ x → ⊥
-nothing a x e = cc
+use Rattle.rfb.specs.Script.{Says, SaysEvent, SaysNothing, SaysStep}
+use Rattle.rfb_session.proofs.WordLaws.{same_word, other_word, no_texts, heads, tails, nothing, words_are}
 
 -- two keywords that differ
 apart : (a b : List ℕ) (x y : List (List ℕ)) → bytes_eq a b ≡ false → a ∷ x ≡ b ∷ y → ⊥
@@ -210,10 +175,6 @@ no_other_event key rest nf nc nh none (CutText text) said = absurd said
 pub no_event_of : (key word : List ℕ) (rest : List (List ℕ)) → bytes_eq key word ≡ true → ((event : Event) → ¬ (SaysEvent (word ∷ rest) event)) → (event : Event) → ¬ (SaysEvent (key ∷ rest) event)
 no_event_of key word rest same none = subst (λ (k : List ℕ). (event : Event) → ¬ (SaysEvent (k ∷ rest) event)) (sym (same_word key word same)) none
 
--- a word that is a keyword, and what is after it
-pub begins_with : (key word : List ℕ) (rest : List (List ℕ)) (Holds : List (List ℕ) → Type 0) → bytes_eq key word ≡ true → Holds rest → Begins word (key ∷ rest) Holds
-begins_with key word rest Holds same holds = (rest, ap (λ (k : List ℕ). k ∷ rest) (same_word key word same), holds)
-
 -- a word alone
 pub alone : (key word : List ℕ) (rest : List (Bor (List ℕ))) → bytes_eq key word ≡ true → length rest ≡ 0 → key ∷ texts rest ≡ word ∷ []
 alone key word rest same none = rw (same_word key word same, no_texts rest none) refl
@@ -269,10 +230,6 @@ no_words (Step (OneEvent event)) said = silent event said
 no_words (Step Settle) said = nothing _ [] said
 
 -- ---- the words of a line by its first one
-
-pub words_are : (words : List (Bor (List ℕ))) (first : Bor (List ℕ)) (rest : List (Bor (List ℕ))) (key : List ℕ) → words ≡ first ∷ rest → bytes_eq first.now key ≡ true → texts words ≡ key ∷ texts rest
-words_are words first rest key e same =
-    ap (λ (ws : List (Bor (List ℕ))). texts ws) e ∙ ap (λ (k : List ℕ). k ∷ texts rest) (same_word first.now key same)
 
 pub line_none : (words : List (Bor (List ℕ))) (first : Bor (List ℕ)) (rest : List (Bor (List ℕ))) (key : List ℕ) → words ≡ first ∷ rest → bytes_eq first.now key ≡ true → SaysNothing (key ∷ texts rest) → SaysNothing (texts words)
 line_none words first rest key e same none = subst (λ (ws : List (List ℕ)). SaysNothing ws) (sym (words_are words first rest key e same)) none
@@ -333,13 +290,6 @@ too_many_words words many = go
     go (Viewer wants) said = over (codes "viewer") said.0 said.1 (let s = ap (λ (l : List (List ℕ)). length l) said.2.2 in omega (arith, s, said.2.4.2))
     go (Step (OneEvent event)) said = event_over event said
     go (Step Settle) said = over (codes "settle") [] said (omega arith)
-
--- a push is refused where there are eight already
-pub eight_already : (n : ℕ) (pushed : Bool) → ((pushed ≡ true) ↔ (n < 8)) → false ≡ pushed → 8 ≤ n
-eight_already n pushed fits refused = elim (cases_lt n 8) [
-  | inl under ↦ let yes = fits.1 under in absurd (cc)
-  | inr over ↦ over
-]
 
 -- ---- no line cuts a text
 

@@ -15,7 +15,7 @@ use Rattle.rfb_session.specs.Devices.{AppendsBeginning}
 use Rattle.rfb_session.specs.ServeEngine.{AllServed, GoesOn, ServerBetween, StopsServing}
 use Rattle.rfb_session.proofs.ServeLaws.{begun_after}
 use Rattle.rfb_session.proofs.WrittenLaws.{no_beginning, whole_beginning}
-use Rattle.rfb.specs.declared.script.line.Screen.{Screen as Size}
+use Rattle.rfb_session.specs.declared.language.screen.Screen.{Screen as Size}
 use Rattle.rfb.specs.declared.serving.screen.ServedScreen.{ServedScreen}
 use Rattle.rfb.specs.Playing.{IsFreshServer, serving_of}
 use Rattle.rfb.specs.Scene.{ShowsScene, pattern}

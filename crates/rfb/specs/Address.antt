@@ -2,7 +2,7 @@
 use Rattle.std.specs.Prelude.{◌≡◌, ◌≢◌, ◌≤◌, ◌<◌, ◌+◌, ◌++◌, ◌⊎◌, ℕ, [], ◌∷◌, Option, Some, None, codes, length, slice_index, nat_le, if◌then◌else◌}
 use Rattle.std.specs.Str.Parse.{digits_value}
 use Rattle.clap.specs.Words.{Text}
-use Rattle.rfb.specs.Number.{IsNumber}
+use Rattle.rfb_session.specs.language.Number.{IsNumber}
 
 -- ---- a word that names one: HOST, HOST:DISPLAY, HOST:PORT or HOST::PORT
 

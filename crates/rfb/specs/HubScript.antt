@@ -11,20 +11,13 @@ use Rattle.rfb.specs.declared.fault.Fault.TheVariants.{NoMemory}
 use Rattle.rfb.specs.declared.script.hub.hub_step.HubNumbered.{HubNumbered}
 use Rattle.rfb.specs.declared.script.hub.hub_step.HubStep.{HubStep}
 use Rattle.rfb.specs.declared.script.hub.hub_step.HubStep.TheVariants.{Event, Settle}
-use Rattle.rfb.specs.declared.script.line.Screen.{Screen as Size}
+use Rattle.rfb_session.specs.declared.language.screen.Screen.{Screen as Size}
 use Rattle.rfb.specs.declared.script.line.Wants.{Wants}
-use Rattle.rfb.specs.Script.{AreEmpty, Begins, SaysEvent, StopsReading, words_of}
-use Rattle.rfb.specs.Words.{AreFill, AreMove, AreSize, AreWants}
+use Rattle.rfb.specs.Script.{AreEmpty, SaysEvent, StopsReading}
+use Rattle.rfb_session.specs.language.Words.{Begins, words_of, AreFill, AreMove, AreSize, IsSlotAlone, IsSlotWord}
+use Rattle.rfb.specs.Words.{AreWants}
 
 -- ---- words
-
--- a word is one digit, and that is the slot
-abbrev pub IsSlotWord : List ℕ → ℕ → Type 0
-IsSlotWord word slot = (word ≡ (48 + slot) ∷ []) × (slot ≤ 9)
-
--- words are a slot, and nothing after it
-abbrev pub IsSlotAlone : List (List ℕ) → ℕ → Type 0
-IsSlotAlone words slot = (s : List ℕ) × (words ≡ s ∷ []) × IsSlotWord s slot
 
 -- words are a slot, and others after it of which this holds
 abbrev pub IsSlotThen : ℕ → List (List ℕ) → (List (List ℕ) → Type 0) → Type 0

@@ -8,17 +8,12 @@ pub mod Few
 pub mod HubPlaying
 pub mod HubScript
 pub mod Loopback
-pub mod Number
 pub mod Options
-pub mod OwnerReader
 pub mod Playing
 pub mod Recording
 pub mod Scene
 pub mod Serving
 pub mod Script
-pub mod SharedDrawing
-pub mod SharedTelling
-pub mod Sharing
 pub mod Viewing
 pub mod Words
 pub mod command

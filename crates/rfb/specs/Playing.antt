@@ -20,7 +20,7 @@ use Rattle.rfb_session.specs.Told.{RefusesAs}
 use Rattle.rfb_session.specs.declared.told.Refused.{Refused}
 use Rattle.rfb_session.specs.World.{StandsFor, NeitherFailed, Reaches, first_network}
 use Rattle.rfb.specs.declared.script.line.Numbered.{Numbered}
-use Rattle.rfb.specs.declared.script.line.Screen.{Screen as Size}
+use Rattle.rfb_session.specs.declared.language.screen.Screen.{Screen as Size}
 use Rattle.rfb.specs.declared.script.line.Wants.{Wants}
 use Rattle.rfb.specs.declared.script.line.Step.{Step as ScriptStep}
 use Rattle.rfb.specs.declared.script.line.Step.TheVariants.{Event as OneEvent, Settle}

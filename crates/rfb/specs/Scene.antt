@@ -10,7 +10,7 @@ use Rattle.rfb_server.specs.declared.server.Server.{Server}
 use Rattle.rfb_server.specs.Hints.{with_hint}
 use Rattle.rfb_server.specs.Server.{black, first_server}
 use Rattle.rfb_server.specs.Standing.{StandsFor, with_screen}
-use Rattle.rfb.specs.declared.script.line.Screen.{Screen as Size}
+use Rattle.rfb_session.specs.declared.language.screen.Screen.{Screen as Size}
 use Rattle.rfb.specs.Playing.{serving_of}
 
 -- ---- the first screen

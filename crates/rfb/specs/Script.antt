@@ -7,27 +7,20 @@ use Rattle.rfb.specs.declared.fault.Failure.{Failure}
 use Rattle.rfb.specs.declared.fault.Failure.TheVariants.{BadLine, Fault, Engine, Picture}
 use Rattle.rfb.specs.declared.fault.Fault.TheVariants.{NoMemory}
 use Rattle.rfb.specs.declared.script.line.Numbered.{Numbered}
-use Rattle.rfb.specs.declared.script.line.Screen.{Screen as Size}
+use Rattle.rfb_session.specs.declared.language.screen.Screen.{Screen as Size}
 use Rattle.rfb.specs.declared.script.line.Wants.{Wants}
 use Rattle.rfb.specs.declared.script.line.Step.{Step as ScriptStep}
 use Rattle.rfb.specs.declared.script.line.Step.TheVariants.{Event as OneEvent, Settle}
 use Rattle.rfb.specs.declared.script.line.Line.{Line}
 use Rattle.rfb.specs.declared.script.line.Line.TheVariants.{Screen, Viewer, Step}
-use Rattle.rfb.specs.Words.{AreFill, AreMove, AreRequest, AreSize, AreWants, IsCountAlone, IsFormatAlone}
+use Rattle.rfb_session.specs.language.Words.{AreFill, AreMove, AreSize, Begins, words_of}
+use Rattle.rfb.specs.Words.{AreRequest, AreWants, IsCountAlone, IsFormatAlone}
 
 -- the lines of a text, parted by newlines; the last one is empty where the text ends in one
 abbrev pub lines_of : List ℕ → List (List ℕ)
 lines_of text = slice_split (λ byte. byte == 10) text
 
--- the words of a line, parted by spaces; two spaces in a row have an empty word between them
-abbrev pub words_of : List ℕ → List (List ℕ)
-words_of line = slice_split (λ byte. byte == 32) line
-
 -- ---- what a line says
-
--- the words are that one, and others after it of which this holds
-abbrev pub Begins : List ℕ → List (List ℕ) → (List (List ℕ) → Type 0) → Type 0
-Begins keyword words Holds = (rest : List (List ℕ)) × (words ≡ keyword ∷ rest) × Holds rest
 
 -- the words of a line ask for one event; no line asks for a row, a key, the pointer, a text or
 -- other encodings

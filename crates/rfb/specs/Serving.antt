@@ -20,7 +20,7 @@ use Rattle.rfb.specs.declared.fault.Fault.{Fault as FaultOf}
 use Rattle.rfb.specs.declared.fault.Fault.TheVariants.{NoMemory as OutOfMemory}
 use Rattle.rfb.specs.declared.fault.Failure.{Failure}
 use Rattle.rfb.specs.declared.fault.Failure.TheVariants.{BadLine, Fault, Engine, Picture as PictureFailure}
-use Rattle.rfb.specs.declared.script.line.Screen.{Screen as Size}
+use Rattle.rfb_session.specs.declared.language.screen.Screen.{Screen as Size}
 use Rattle.rfb.specs.declared.serving.serve_words.ScreenChoice.{ScreenChoice}
 use Rattle.rfb.specs.declared.serving.serve_words.ScreenChoice.TheVariants.{Scene as SceneAsked, Picture as PictureAsked}
 use Rattle.rfb.specs.declared.serving.serve_words.ServeOptions.{ServeOptions}

@@ -5,11 +5,11 @@ ghost use Rattle.rfb_wire.specs.declared.encoding.Encoding.TheVariants.{Raw};
 ghost use Rattle.rfb.specs.Playing.{IsFreshServer};
 ghost use Rattle.rfb.specs.Recording.{IsFresh};
 
-use crate::script::Screen;
 use arrayvec::ArrayVec;
 use rfb_hello::Version;
 use rfb_pixel::Format;
 use rfb_server::{Server, ServerSetup};
+use rfb_session::language::Screen;
 use rfb_viewer::{Viewer, ViewerSetup};
 use rfb_wire::Encoding;
 use std::alloc::{AllocError, Global};

@@ -26,37 +26,32 @@
 
 ghost use Rattle.std.specs.Prelude.{◌≡◌, [], None, IfOk, IfErr, MatchOption};
 ghost use Rattle.rfb.specs.declared.script.line.Line.TheVariants as Line;
-ghost use Rattle.rfb.specs.Script.{AreScript, GivesWants, Says, StopsReading, lines_of, words_of};
+ghost use Rattle.rfb.specs.Script.{AreScript, GivesWants, Says, StopsReading, lines_of};
+ghost use Rattle.rfb_session.specs.language.Words.{words_of};
 
 mod arguments;
 pub mod cause;
 mod hub;
 mod hub_steps;
 mod line;
-mod number;
 mod parting;
 mod read;
 pub mod run;
 mod run_hub;
 pub mod steps;
-mod words;
 
 use crate::explain::Notes;
 use crate::fault::Failure;
 use crate::script::cause::tell_bad_line;
 use crate::script::parting::ends_line;
 use crate::script::read::{read_screen, read_step, read_viewer};
-pub use arguments::{read_fill, read_move, read_size};
 pub use hub::hub_step::{HubNumbered, HubStep};
-pub use hub::slot::read_only_slot;
 pub use hub::{HubScript, begins_hub, read_hub_explained};
-pub use line::{Numbered, Screen, Step, Wants};
-pub use number::read_number;
-pub use read::parted;
+pub use line::{Numbered, Step, Wants};
+use rfb_session::language::Screen;
 pub use run::{SCRIPT, script};
 use std::alloc::Global;
 use std::io::Write;
-pub use words::{MAX_SIDE, read_format, read_list, read_rect};
 
 /// A script that was read to its end and has no bad line.
 #[derive(Drop)]

@@ -5,18 +5,11 @@ ghost use Rattle.rfb.specs.Context.{KeepsStreams};
 
 mod beginning;
 mod desk;
-pub mod drawing;
 mod guests;
 mod input;
-pub mod notices;
-pub mod order;
 mod owner_cause;
-pub mod owner_line;
-mod pixels;
-pub mod reader;
 mod ready;
 mod share_words;
-mod stage;
 
 use crate::context::Context;
 use crate::explain::{Notes, tell_bound, tell_unbound};

@@ -70,6 +70,14 @@ pub mod ViewLemmas
 pub mod LookLemmas
 pub mod ViewOrderLemmas
 pub mod WatcherLemmas
+pub mod WordLaws
+pub mod NumberLemmas
+pub mod ArgumentLaws
+pub mod EncodingLemmas
+pub mod OwnerLineLemmas
+pub mod OwnerReaderLemmas
+pub mod OwnerStageLemmas
+pub mod OwnerEndLemmas
 pub mod NetpbmNumberLemmas
 pub mod NetpbmHeadLemmas
 pub mod NetpbmPlacesLemmas

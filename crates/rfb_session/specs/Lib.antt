@@ -37,6 +37,8 @@ pub mod Share
 pub mod ShareSteps
 pub mod ShareLives
 pub mod ShareViewers
+pub mod language
+pub mod owner
 pub mod Turns
 pub mod ServeOrder
 pub mod ViewEngine

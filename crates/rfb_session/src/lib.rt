@@ -16,6 +16,8 @@
 //!   `run`. A slot's events are `Of(slot, ..)`; drawings are everyone's.
 //! - One screen and up to eight viewers elsewhere: `Share::of`, `join` for each, `received` with
 //!   what came, `to_write` for what waits. It has the servers' ends alone, and knows no socket.
+//! - What the owner of a share says by lines, and lines that say what its viewers do: `owner`, of
+//!   words that `language` reads.
 //! - Pictures and files: `ppm` writes a picture as PPM, and `netpbm::read_ppm` reads one.
 //! - `Link` is a session and a viewer with the bytes in flight, over a screen that it is lent at
 //!   each call: what worlds and hubs are made of.
@@ -32,11 +34,13 @@ pub mod doors;
 mod engine;
 mod event;
 mod hub;
+pub mod language;
 mod latest;
 pub mod law;
 mod link;
 mod loops;
 pub mod netpbm;
+pub mod owner;
 mod reply;
 mod seat;
 mod seats;

@@ -6,7 +6,7 @@ use Rattle.rfb_wire.specs.declared.encoding.Encoding.TheVariants.{Raw}
 use Rattle.rfb.specs.declared.viewing.view_options.ViewOptions.{ViewOptions}
 use Rattle.rfb.specs.declared.viewing.view_options.Sight.{Sight}
 use Rattle.rfb.specs.Address.{GivesServer}
-use Rattle.rfb.specs.Words.{AreEncodings, parts_of}
+use Rattle.rfb_session.specs.language.Words.{AreEncodings, parts_of}
 use Rattle.rfb.specs.command.Values.{GivesFormat, HasBadFormat, GivesNumber, MayGiveNumber, IsFlagged}
 
 -- the server that is given

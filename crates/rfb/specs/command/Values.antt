@@ -4,7 +4,7 @@ use Rattle.std.specs.Str.Parse.{IsNumeral, digits_value, without_leading_plus}
 use Rattle.clap.specs.Words.{Row, Text, first_of, one_of}
 use Rattle.rfb_pixel.specs.Format.{PixelFormat, rgb888}
 use Rattle.rfb.specs.declared.options.paths.Paths.{Paths}
-use Rattle.rfb.specs.Words.{IsFormatWord}
+use Rattle.rfb_session.specs.language.Words.{IsFormatWord}
 
 -- the format that is given by its name, or rgb888
 abbrev pub NamesFormat : Option Text → PixelFormat → Type 0

@@ -9,8 +9,8 @@ ghost use Rattle.rfb.specs.command.Looking.{GivesAddress, HasBadAddress};
 use crate::options::BadValue;
 use crate::options::given::{number_given, within};
 use crate::options::usage::{Mark, Takes, Word};
-use crate::script::read_number;
 use clap::ArgMatches;
+use rfb_session::language::read_number;
 
 const LOOPBACK: &str = "127.0.0.1";
 

@@ -4,12 +4,12 @@ ghost use Rattle.std.specs.Prelude.{◌≡◌, ◌≤◌, ◌<◌, false, true, 
 ghost use Rattle.clap.specs.Words.{first_of, found_of, rows_of};
 ghost use Rattle.rfb_pixel.specs.Format.{PixelFormat};
 ghost use Rattle.rfb.specs.command.Values.{GivesFormat, GivesNumber, GivesOr, HasBadFormat, IsAbsent, IsFlagged, IsThere, MayGiveNumber};
-ghost use Rattle.rfb.specs.Words.{IsFormatWord};
+ghost use Rattle.rfb_session.specs.language.Words.{IsFormatWord};
 
 use crate::options::BadValue;
-use crate::script::read_format;
 use clap::ArgMatches;
 use rfb_pixel::Format;
+use rfb_session::language::read_format;
 
 /// Whether a word that may be given is.
 pub fn is_given(given: &ArgMatches<'_>, name: &str) -> bool

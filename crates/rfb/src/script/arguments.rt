@@ -1,38 +1,22 @@
-//! The words of a line after its first, for each kind of line that has some.
+//! The words of a line after its first, for kinds of line that scripts alone have.
 
 ghost use Rattle.std.specs.Prelude.{ℕ, Bool, MatchOption};
 ghost use Rattle.rfb_picture.specs.declared.rect.Rect.{Rect};
 ghost use Rattle.rfb_pixel.specs.Format.{PixelFormat};
-ghost use Rattle.rfb_pixel.specs.declared.colour.Colour.{Colour};
-ghost use Rattle.rfb.specs.declared.script.line.Screen.{Screen};
 ghost use Rattle.rfb.specs.declared.script.line.Wants.{Wants};
-ghost use Rattle.rfb.specs.Words.{AreFill, AreMove, AreRequest, AreSize, AreWants, IsCountAlone, IsFormatAlone, texts};
+ghost use Rattle.rfb_session.specs.language.Words.{texts};
+ghost use Rattle.rfb.specs.Words.{AreRequest, AreWants, IsCountAlone, IsFormatAlone};
 
-use crate::script::line::{Screen, Wants};
-use crate::script::number::{read_count, read_number};
-use crate::script::words::{read_colour, read_encodings, read_format, read_rect, read_side};
+use crate::script::line::Wants;
 use rfb_picture::Rect;
-use rfb_pixel::{Colour, Format};
+use rfb_pixel::Format;
+use rfb_session::language::{read_count, read_encodings, read_format, read_rect};
 
 /// The word of a request for all.
 pub const FULL: &[u8] = b"full";
 
 /// The word of a request for what has changed.
 pub const INCREMENTAL: &[u8] = b"inc";
-
-/// The size of the screen.
-pub fn read_size(words: &[&[u8]]) -> Option<Screen>
-    ensures { MatchOption result ((size : Screen) → ¬ (AreSize (texts words.now) size))
-        (AreSize (texts words.now)) }
-{
-    let [width, height] = words else {
-        return None;
-    };
-    Some(Screen {
-        width: read_side(width)?,
-        height: read_side(height)?,
-    })
-}
 
 /// What the viewer wants.
 pub fn read_wants(words: &[&[u8]]) -> Option<Wants>
@@ -44,30 +28,6 @@ pub fn read_wants(words: &[&[u8]]) -> Option<Wants>
         format: read_format(format)?,
         encodings: read_encodings(encodings)?,
     })
-}
-
-/// A rectangle and a colour.
-pub fn read_fill(words: &[&[u8]]) -> Option<(Rect, Colour)>
-    ensures { MatchOption result
-        ((rect : Rect) (colour : Colour) → ¬ (AreFill (texts words.now) rect colour))
-        (λ fill. AreFill (texts words.now) fill.0 fill.1) }
-{
-    let [x, y, w, h, colour] = words else {
-        return None;
-    };
-    Some((read_rect(x, y, w, h)?, read_colour(colour)?))
-}
-
-/// A rectangle, and the corner of the one that it is to look as.
-pub fn read_move(words: &[&[u8]]) -> Option<(Rect, u16, u16)>
-    ensures { MatchOption result
-        ((rect : Rect) (sx sy : ℕ) → ¬ (AreMove (texts words.now) rect sx sy))
-        (λ move. AreMove (texts words.now) move.0 move.1 move.2) }
-{
-    let [x, y, w, h, sx, sy] = words else {
-        return None;
-    };
-    Some((read_rect(x, y, w, h)?, read_number(sx)?, read_number(sy)?))
 }
 
 /// Whether a request is incremental, and its area.

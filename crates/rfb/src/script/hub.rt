@@ -25,10 +25,10 @@ use crate::fault::Failure;
 use crate::script::cause::tell_bad_hub_line;
 use crate::script::hub::hub_line::{read_hub, read_hub_step, read_show};
 use crate::script::hub::hub_step::{HubNumbered, HubStep};
-use crate::script::line::Screen;
 use crate::script::parting::ends_line;
 pub use hub_line::{AT, FOREIGN, HUB, JOIN, LEAVE, SHOW};
-pub use slot::{SHARED, SOLE, read_slot};
+use rfb_session::language::Screen;
+pub use slot::{SHARED, SOLE};
 use std::alloc::Global;
 use std::io::Write;
 

@@ -15,9 +15,10 @@ ghost use Rattle.rfb.specs.declared.fault.Fault.TheVariants as Fault;
 
 use crate::defaults::TEXT_LIMIT;
 use crate::fault::Fault;
+use crate::script::HubStep;
 use crate::script::steps::{ALL, TURNS};
-use crate::script::{HubStep, Screen};
 use rfb_hello::Version;
+use rfb_session::language::Screen;
 use rfb_session::{Hub, HubEvent, HubFault, HubSetup, HubTold, NoMemory, SlotEvent};
 use std::alloc::{AllocError, Global};
 

@@ -6,16 +6,8 @@ ghost use Rattle.rfb.specs.Few.{cut_length};
 use arrayvec::ArrayVec;
 use rfb_pixel::Format;
 use rfb_session::Event;
+use rfb_session::language::Screen;
 use rfb_wire::Encoding;
-
-/// The size of the screen in places, each side from 1 to 4,096.
-#[derive(Clone, Copy)]
-pub struct Screen {
-    pub width: u16,
-    pub height: u16,
-    ghost wide: { (1 ≤ width) × (width ≤ 4096) },
-    ghost high: { (1 ≤ height) × (height ≤ 4096) },
-}
 
 /// What the viewer asks the server for, once both are ready: pixels of a format, in one of these
 /// encodings, the best first.

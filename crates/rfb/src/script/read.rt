@@ -1,20 +1,17 @@
 //! Reading one line of a script, by itself.
 
-ghost use Rattle.std.specs.Prelude.{◌≡◌, ◌<◌, ◌∷◌, MatchOption, length};
+ghost use Rattle.std.specs.Prelude.{◌≡◌, ◌∷◌, MatchOption};
 ghost use Rattle.rfb_session.specs.declared.event.Event.{Event};
 ghost use Rattle.rfb_session.specs.declared.hub.event.SlotEvent.{SlotEvent};
 ghost use Rattle.rfb_session.specs.HubSeats.{event_of as world_event};
-ghost use Rattle.rfb.specs.Script.{AsksForStep, GivesSize, GivesWants, Says, SaysEvent, SaysNothing, SaysStep, words_of};
+ghost use Rattle.rfb.specs.Script.{AsksForStep, GivesSize, GivesWants, Says, SaysEvent, SaysNothing, SaysStep};
+ghost use Rattle.rfb_session.specs.language.Words.{words_of, texts};
 ghost use Rattle.rfb.specs.declared.script.line.Line.TheVariants as Line;
 ghost use Rattle.rfb.specs.declared.script.line.Wants.{Wants};
-ghost use Rattle.rfb.specs.Words.{texts};
 
-use crate::script::arguments::{
-    read_bytes, read_fill, read_move, read_only_format, read_request, read_size, read_wants,
-};
-use crate::script::line::{Line, Screen, Step, Wants};
-use crate::script::parting::{PIECES_MAX, pieces};
-use arrayvec::ArrayVec;
+use crate::script::arguments::{read_bytes, read_only_format, read_request, read_wants};
+use crate::script::line::{Line, Step, Wants};
+use rfb_session::language::{Screen, parted, read_fill, read_move, read_size};
 use rfb_session::{Event, SlotEvent};
 
 /// The word that the first line begins with.
@@ -92,14 +89,6 @@ fn read_line(line: &[u8]) -> Option<Line>
     ensures { MatchOption result (SaysNothing (words_of line.now)) (Says (words_of line.now)) }
 {
     line_of(parted(line)?.as_slice())
-}
-
-/// The words of a line, if they are not too many.
-pub fn parted<'a>(line: &'a [u8]) -> Option<ArrayVec<&'a [u8], PIECES_MAX>>
-    ensures { MatchOption result (8 < length (words_of line.now))
-        (λ words. texts words.items ≡ words_of line.now) }
-{
-    pieces(line, b' ')
 }
 
 // What the words of a line say.

@@ -7,9 +7,10 @@ ghost use Rattle.rfb.specs.Playing.{StandsFresh, TakesStep, TellsRefusal, encodi
 
 use crate::defaults::{copy_of, fresh_server, fresh_viewer, only_raw};
 use crate::fault::Fault;
-use crate::script::{Screen, Step, Wants};
+use crate::script::{Step, Wants};
 use arrayvec::ArrayVec;
 use rfb_pixel::Format;
+use rfb_session::language::Screen;
 use rfb_session::{Event, NoMemory, Refused, World};
 use rfb_wire::Encoding;
 use std::alloc::Global;

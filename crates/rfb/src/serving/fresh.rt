@@ -7,10 +7,10 @@ ghost use Rattle.rfb.specs.declared.serving.screen.ServedScreen.TheVariants as S
 
 use crate::defaults::fresh_server;
 use crate::scene::TestScene;
-use crate::script::Screen;
 use crate::serving::screen::ServedScreen;
 use crate::serving::still::{Still, draw_picture};
 use rfb_server::Server;
+use rfb_session::language::Screen;
 use rfb_session::netpbm::Pixmap;
 use rfb_session::{EngineFault, Scene, Tally, serve};
 use std::alloc::Global;

@@ -6,7 +6,7 @@ ghost use Rattle.rfb.specs.Serving.{FailsAs, FailsToRead, FailsToServe};
 
 use crate::explain::{tell_unread, tell_unshown};
 use crate::fault::{Failure, Fault};
-use crate::script::Screen;
+use rfb_session::language::Screen;
 use rfb_session::netpbm::{Pixmap, PixmapError, read_ppm};
 use std::alloc::Global;
 use std::fs::{File, Files};

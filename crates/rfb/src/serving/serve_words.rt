@@ -11,8 +11,8 @@ use crate::options::BadValue;
 use crate::options::common::{LISTEN, PORT};
 use crate::options::given::{is_given, is_there, number_given, number_in, number_or, word_in};
 use crate::options::usage::{Mark, Takes, Usage, Word};
-use crate::script::{MAX_SIDE, Screen};
 use clap::ArgMatches;
+use rfb_session::language::{MAX_SIDE, Screen};
 
 /// What `serve` is asked for.
 #[derive(Clone, Copy)]

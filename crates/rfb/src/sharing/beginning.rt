@@ -1,8 +1,7 @@
 //! What has come since the owner's last line ended, as far as a sentence of it wants.
 
-use crate::sharing::reader::length_of_line;
-use crate::sharing::stage::LINE_MAX;
 use arrayvec::ArrayVec;
+use rfb_session::owner::{LINE_MAX, length_of_line};
 
 // One byte more than a line may have.
 const KEPT: usize = LINE_MAX + 1;

@@ -7,9 +7,9 @@ mod sending;
 
 use crate::fault::Failure;
 use crate::sharing::ShareOptions;
-use crate::sharing::notices::{tell_fault, tell_leave};
 use crate::sharing::ready::Ready;
 use mio::Registry;
+use rfb_session::owner::{tell_fault, tell_leave};
 use rfb_session::{SLOTS, Seat, Seats, Share};
 use std::alloc::Global;
 use std::fmt::Display;
@@ -84,7 +84,8 @@ impl<S: Read + Write + OpenStream + AsRawFd + Drop> Guests<S> {
         if !self.close(seat, ready) {
             return Ok(());
         }
-        tell_leave(output, seat.number())
+        tell_leave(output, seat.number())?;
+        Ok(())
     }
 
     // It is let go for a fault.
@@ -98,7 +99,8 @@ impl<S: Read + Write + OpenStream + AsRawFd + Drop> Guests<S> {
         if !self.close(seat, ready) {
             return Ok(());
         }
-        tell_fault(output, seat.number(), fault)
+        tell_fault(output, seat.number(), fault)?;
+        Ok(())
     }
 
     // Its connection is closed, and its seat is empty. A connection that could not be had may be

@@ -7,13 +7,10 @@ use crate::script::cause::kind::why_not_form;
 use crate::script::cause::reason::Reason;
 use crate::script::cause::{FIRST, LATE_SCREEN, NO_SCREEN, first_words, why_not_words};
 use crate::sharing::beginning::Beginning;
-use crate::sharing::order::OwnerLine;
 use crate::sharing::owner_cause::owner_form::OF_OWNER;
-use crate::sharing::owner_line::{SCREEN, read_owner_line};
-use crate::sharing::pixels::data_length;
-use crate::sharing::stage::LINE_MAX;
 use rfb_picture::Picture;
 use rfb_pixel::Colour;
+use rfb_session::owner::{LINE_MAX, OwnerLine, SCREEN, data_length, read_owner_line};
 use std::io::Write;
 
 // What is wrong with a line of more than `LINE_MAX` bytes.

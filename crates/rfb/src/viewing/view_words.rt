@@ -5,7 +5,7 @@ ghost use Rattle.clap.specs.Words.{found_of, rows_of};
 ghost use Rattle.rfb_wire.specs.declared.encoding.Encoding.{Encoding};
 ghost use Rattle.rfb.specs.command.Values.{GivesNumber};
 ghost use Rattle.rfb.specs.command.Looking.{GivesEncodings, GivesViewOptions, GivesSight, HasBadEncodings, HasBadView, HasBadSight};
-ghost use Rattle.rfb.specs.Words.{AreEncodings, parts_of};
+ghost use Rattle.rfb_session.specs.language.Words.{AreEncodings, parts_of};
 
 use crate::defaults::only_raw;
 use crate::help::Topic;
@@ -14,10 +14,11 @@ use crate::options::address::{ANY_PORT, HOST, SERVER, address_in};
 use crate::options::common::{FORMAT, OUTPUT, PARTIAL};
 use crate::options::given::{format_in, is_given, number_given};
 use crate::options::usage::{Mark, Takes, Usage, Word};
-use crate::script::{Wants, read_list};
+use crate::script::Wants;
 use crate::viewing::{Sight, ViewOptions};
 use arrayvec::ArrayVec;
 use clap::ArgMatches;
+use rfb_session::language::read_list;
 use rfb_wire::Encoding;
 
 /// What `view` is called with.

@@ -4,7 +4,7 @@ use Rattle.std.proofs.lemmas.List.{get_or_default}
 use Rattle.clap.specs.Words.{Shape}
 use Rattle.rfb.specs.declared.commands.Verb.TheVariants.{Script}
 use Rattle.rfb.specs.command.Program.{name_of}
-use Rattle.rfb.proofs.ScriptLemmas.{other_word}
+use Rattle.rfb_session.proofs.WordLaws.{other_word}
 use Rattle.rfb.proofs.commands.verb_named.Goals as goal
 
 pub loop-verb-init : goal.loop-verb-init

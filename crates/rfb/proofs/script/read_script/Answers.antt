@@ -2,10 +2,10 @@ use Rattle.std.proofs.Common.{arith, ◌∙◌, ◌==◌, not, None, Option, Lis
 use Rattle.std.proofs.lemmas.Iterator.Splits.{YieldsList-from_slice_split}
 use Rattle.std.proofs.lemmas.Iterator.Consumers.{YieldsList-end}
 use Rattle.std.proofs.lemmas.List.{length_push}
-use Rattle.rfb.specs.declared.script.line.Screen.{Screen as Size}
+use Rattle.rfb_session.specs.declared.language.screen.Screen.{Screen as Size}
 use Rattle.rfb.specs.declared.script.line.Wants.{Wants}
 use Rattle.rfb.specs.Script.{lines_of, AreEmpty, AreScript}
-use Rattle.rfb.specs.Words.{texts}
+use Rattle.rfb_session.specs.language.Words.{texts}
 use Rattle.rfb.proofs.LinesLemmas.{ReadSoFar, no_chars, some_chars, step_so_far, turn_blank, turn_size, turn_wants, bad_size, bad_step, first_bad_line}
 use Rattle.rfb.proofs.script.read_script.Goals as goal
 

@@ -4,8 +4,9 @@ use crate::script::cause::form::{OF_HUB_SCRIPT, OF_SLOT, form_of};
 use crate::script::cause::kind::{Kind, why_not_form};
 use crate::script::cause::reason::Reason;
 use crate::script::cause::{FIRST, first_words, tell_reason, why_not_words};
-use crate::script::hub::{AT, SHOW, read_slot};
+use crate::script::hub::{AT, SHOW};
 use crate::script::parting::ends_line;
+use rfb_session::language::read_slot;
 use std::io::Write;
 
 // Which word of a line of one slot its keyword is.

@@ -3,10 +3,11 @@
 use crate::script::arguments::{FULL, INCREMENTAL};
 use crate::script::cause::form::Form;
 use crate::script::cause::reason::Reason;
-use crate::script::hub::{SHARED, SOLE, read_slot};
-use crate::script::number::{read_count, read_number};
-use crate::script::words::{read_colour, read_encoding, read_format, read_side};
-use crate::sharing::owner_line::read_shift;
+use crate::script::hub::{SHARED, SOLE};
+use rfb_session::language::{
+    read_colour, read_count, read_encoding, read_format, read_number, read_side, read_slot,
+};
+use rfb_session::owner::read_shift;
 
 // The most hexadecimal digits of foreign bytes.
 const HEX_MAX: usize = 128;

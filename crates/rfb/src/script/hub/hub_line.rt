@@ -2,18 +2,18 @@
 
 ghost use Rattle.std.specs.Prelude.{◌≢◌, ◌∷◌, ℕ, IfOk, MatchOption, codes};
 ghost use Rattle.rfb.specs.declared.script.hub.hub_step.HubStep.{HubStep};
-ghost use Rattle.rfb.specs.declared.script.line.Screen.{Screen};
+ghost use Rattle.rfb_session.specs.declared.language.screen.Screen.{Screen};
 ghost use Rattle.rfb.specs.declared.script.hub.hub_step.HubStep.TheVariants as HubStep;
 ghost use Rattle.rfb.specs.HubScript.{AsksInHub, GivesHub, NamesShown, SaysAt, SaysHub, SaysHubStep, SaysShow};
-ghost use Rattle.rfb.specs.Script.{words_of};
-ghost use Rattle.rfb.specs.Words.{texts};
+ghost use Rattle.rfb_session.specs.language.Words.{words_of, texts};
 
-use crate::script::arguments::{read_fill, read_move, read_size};
 use crate::script::hub::hub_step::HubStep;
-use crate::script::hub::slot::{read_foreign, read_join, read_only_slot, read_slot};
-use crate::script::line::Screen;
-use crate::script::read::{COPY, FILL, HINT, SETTLE, parted, slot_event_of};
+use crate::script::hub::slot::{read_foreign, read_join};
+use crate::script::read::{COPY, FILL, HINT, SETTLE, slot_event_of};
 use rfb_session::HubEvent;
+use rfb_session::language::{
+    Screen, parted, read_fill, read_move, read_only_slot, read_size, read_slot,
+};
 use std::alloc::{AllocError, Global};
 
 /// The words that lines of a hub begin with, beside those of a script.

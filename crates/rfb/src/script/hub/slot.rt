@@ -2,14 +2,15 @@
 
 ghost use Rattle.std.specs.Prelude.{◌≡◌, ℕ, Bool, List, IfOk, MatchOption};
 ghost use Rattle.rfb_viewer.specs.declared.setup.ViewerSetup.{ViewerSetup as Setup};
-ghost use Rattle.rfb.specs.HubScript.{AreForeign, AreJoin, IsHexWord, IsSlotAlone, IsSlotWord, kind_of_join};
-ghost use Rattle.rfb.specs.Words.{texts};
+ghost use Rattle.rfb.specs.HubScript.{AreForeign, AreJoin, IsHexWord, kind_of_join};
+ghost use Rattle.rfb_session.specs.language.Words.{texts};
 
 use crate::defaults::{MAX_PLACES, TEXT_LIMIT};
 use crate::script::arguments::read_wants;
 use hex::FromHexError;
 use rfb_hello::Version;
 use rfb_session::Setup;
+use rfb_session::language::read_slot;
 use std::alloc::{AllocError, Global};
 
 /// Others may go on beside a viewer.
@@ -20,31 +21,6 @@ pub const SOLE: &[u8] = b"sole";
 
 // How many bytes a line of foreign ones has at most.
 const FOREIGN_MAX: usize = 64;
-
-/// A slot: one digit.
-pub fn read_slot(word: &[u8]) -> Option<u8>
-    ensures { MatchOption result ((slot : ℕ) → ¬ (IsSlotWord word.now slot))
-        (IsSlotWord word.now) }
-{
-    let [digit] = word else {
-        return None;
-    };
-    if !digit.is_ascii_digit() {
-        return None;
-    }
-    Some(*digit - b'0')
-}
-
-/// One slot.
-pub fn read_only_slot(words: &[&[u8]]) -> Option<u8>
-    ensures { MatchOption result ((slot : ℕ) → ¬ (IsSlotAlone (texts words.now) slot))
-        (IsSlotAlone (texts words.now)) }
-{
-    let [slot] = words else {
-        return None;
-    };
-    read_slot(slot)
-}
 
 /// A slot, and what the viewer that takes it is made with: one of version 3.8.
 pub fn read_join(words: &[&[u8]]) -> Option<(u8, Setup)>

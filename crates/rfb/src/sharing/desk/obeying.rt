@@ -2,14 +2,13 @@
 
 use crate::defaults::TEXT_LIMIT;
 use crate::fault::Failure;
-use crate::script::Screen;
 use crate::sharing::ShareOptions;
 use crate::sharing::desk::Desk;
-use crate::sharing::drawing::drawing_of;
 use crate::sharing::guests::Guests;
-use crate::sharing::order::{Order, OwnerLine, Refusal};
 use crate::sharing::ready::{LISTENER, register};
 use mio::Interest;
+use rfb_session::language::Screen;
+use rfb_session::owner::{Order, OwnerLine, Refusal, drawing_of};
 use rfb_session::{Drawing, Share, ShareSetup};
 use std::alloc::{AllocError, Global};
 use std::io::{Read, Write};

@@ -3,9 +3,8 @@
 use crate::explain::Notes;
 use crate::fault::Failure;
 use crate::sharing::desk::Desk;
-use crate::sharing::notices::tell_refusal;
-use crate::sharing::order::Refusal;
 use crate::sharing::owner_cause::{tell_bad_owner_line, tell_no_screen};
+use rfb_session::owner::{Refusal, tell_refusal};
 use std::io::Write;
 
 impl<L: Drop, S: Drop> Desk<L, S> {

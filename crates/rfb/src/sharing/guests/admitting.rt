@@ -3,9 +3,9 @@
 use crate::fault::Failure;
 use crate::sharing::ShareOptions;
 use crate::sharing::guests::Guests;
-use crate::sharing::notices::tell_join;
 use crate::sharing::ready::{Ready, register};
 use mio::{Interest, Registry, Token};
+use rfb_session::owner::tell_join;
 use rfb_session::{Seat, Share};
 use std::io::{ErrorKind, Read, Write};
 use std::net::{OpenListener, OpenStream};
@@ -61,7 +61,8 @@ impl<S: Read + Write + OpenStream + AsRawFd + Drop> Guests<S> {
                 }
                 ready.renew(place);
                 self.came = true;
-                tell_join(output, seat.number())
+                tell_join(output, seat.number())?;
+                Ok(())
             }
             None => Ok(()),
         }

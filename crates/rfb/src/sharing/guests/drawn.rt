@@ -2,12 +2,12 @@
 
 ghost use Rattle.std.specs.Prelude.{◌≡◌, is_none};
 ghost use Rattle.rfb_server.specs.Drawing.{stroke};
-ghost use Rattle.rfb.specs.SharedDrawing.{DrawsOne};
+ghost use Rattle.rfb_session.specs.owner.Drawing.{DrawsOne};
 
 use crate::sharing::guests::Guests;
-use crate::sharing::order::Refusal;
 use rfb_server::Outside;
 use rfb_session::Drawing;
+use rfb_session::owner::Refusal;
 
 impl<S: Drop> Guests<S> {
     /// Draws, and gives why not, if it can't be done.

@@ -2,8 +2,8 @@
 
 use crate::fault::{Failure, Fault};
 use crate::sharing::guests::Guests;
-use crate::sharing::notices::tell_event;
 use crate::sharing::ready::Ready;
+use rfb_session::owner::tell_event;
 use rfb_session::{Heard, Seat};
 use std::io::{ErrorKind, Read, Write};
 use std::net::OpenStream;
@@ -96,7 +96,7 @@ impl<S: Read + Write + OpenStream + AsRawFd + Drop> Guests<S> {
             self.let_go(seat, ready, output)?;
         }
         match &heard.event {
-            Some(event) => tell_event(output, heard.seat.number(), event),
+            Some(event) => Ok(tell_event(output, heard.seat.number(), event)?),
             None => Ok(()),
         }
     }

@@ -2,7 +2,7 @@
 
 use crate::script::cause::form::{Form, OF_COPY, OF_FILL, OF_HINT, OF_SCREEN};
 use crate::script::cause::kind::Kind;
-use crate::sharing::owner_line::{END, PIXELS, QUIT, SCROLL};
+use rfb_session::owner::{END, PIXELS, QUIT, SCROLL};
 
 /// The lines that there are.
 pub const OF_OWNER: &[Form] = &[

@@ -1,6 +1,6 @@
 use Rattle.std.proofs.Common.{◌∙◌, sym, arith, true, false}
 use Rattle.rfb.proofs.ArgumentLemmas.{is_request, no_kind, no_request, not_request}
-use Rattle.rfb.proofs.ScriptLemmas.{other_word, same_word}
+use Rattle.rfb_session.proofs.WordLaws.{other_word, same_word}
 use Rattle.rfb.proofs.script.arguments.read_request.Goals as goal
 
 pub returns-in_err-read_rect : goal.returns-in_err-read_rect

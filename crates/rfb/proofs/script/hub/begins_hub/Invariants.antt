@@ -1,6 +1,6 @@
 -- The lines so far are empty.
 use Rattle.rfb.specs.Script.{AreEmpty}
-use Rattle.rfb.specs.Words.{texts}
+use Rattle.rfb_session.specs.language.Words.{texts}
 use Rattle.rfb.proofs.script.hub.begins_hub.Given as goal
 
 abbrev pub invariant-loop-line : goal.invariant-loop-line

@@ -2,10 +2,10 @@ use Rattle.std.proofs.Common.{arith, ◌∙◌, ◌==◌, not, Some, Option, Lis
 use Rattle.std.proofs.lemmas.Iterator.Splits.{YieldsList-from_slice_split}
 use Rattle.std.proofs.lemmas.Iterator.Consumers.{YieldsList-end}
 use Rattle.std.proofs.lemmas.List.{length_push}
-use Rattle.rfb.specs.declared.script.line.Screen.{Screen as Size}
+use Rattle.rfb_session.specs.declared.language.screen.Screen.{Screen as Size}
 use Rattle.rfb.specs.HubScript.{AreHubScript, IsWithoutShow}
 use Rattle.rfb.specs.Script.{lines_of}
-use Rattle.rfb.specs.Words.{texts}
+use Rattle.rfb_session.specs.language.Words.{texts}
 use Rattle.rfb.proofs.LinesLemmas.{no_chars, some_chars}
 use Rattle.rfb.proofs.HubLineLemmas.{ReadHub, line_after_more, line_after_more_chars, hub_bad_after, hub_bad_size, hub_bad_step, hub_blank, hub_first_bad_line, hub_show, hub_size, hub_step, without_show}
 use Rattle.rfb.proofs.script.hub.read_hub_script.Goals as goal

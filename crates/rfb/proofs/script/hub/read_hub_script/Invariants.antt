@@ -2,7 +2,7 @@
 use Rattle.std.proofs.Common.{◌≡◌, length}
 use Rattle.rfb.proofs.HubLineLemmas.{ReadHub}
 use Rattle.rfb.specs.HubScript.{line_after}
-use Rattle.rfb.specs.Words.{texts}
+use Rattle.rfb_session.specs.language.Words.{texts}
 use Rattle.rfb.proofs.script.hub.read_hub_script.Given as goal
 
 abbrev pub invariant-loop-line : goal.invariant-loop-line

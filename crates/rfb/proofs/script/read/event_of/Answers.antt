@@ -1,6 +1,7 @@
 use Rattle.std.proofs.Common.{◌∙◌, sym, codes, List, ℕ}
-use Rattle.rfb.specs.Words.{AreFill, AreMove, texts}
-use Rattle.rfb.proofs.ScriptLemmas.{begins_with, no_event_of, no_other_event, only_fill, only_copy, only_hint}
+use Rattle.rfb_session.specs.language.Words.{AreFill, AreMove, texts}
+use Rattle.rfb_session.proofs.WordLaws.{begins_with}
+use Rattle.rfb.proofs.ScriptLemmas.{no_event_of, no_other_event, only_fill, only_copy, only_hint}
 use Rattle.rfb.proofs.script.read.event_of.Goals as goal
 
 pub returns-in_err-rect : goal.returns-in_err-rect

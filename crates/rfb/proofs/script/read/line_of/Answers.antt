@@ -2,7 +2,8 @@ use Rattle.std.proofs.Common.{◌∙◌, sym, subst, codes, arith, List, ℕ}
 use Rattle.std.proofs.lemmas.Grind.{common_steps}
 use Rattle.rfb.specs.Script.{SaysEvent, SaysNothing}
 use Rattle.rfb.proofs.HubWordLemmas.{split_texts}
-use Rattle.rfb.proofs.ScriptLemmas.{empty_of, line_none, only_event, other_word, only_screen, only_viewer, says_settle, says_size, says_wants}
+use Rattle.rfb_session.proofs.WordLaws.{empty_of, other_word}
+use Rattle.rfb.proofs.ScriptLemmas.{line_none, only_event, only_screen, only_viewer, says_settle, says_size, says_wants}
 use Rattle.rfb.proofs.script.read.line_of.Goals as goal
 
 pub returns-in_err-read_size : goal.returns-in_err-read_size

@@ -1,8 +1,10 @@
 use Rattle.std.proofs.Common.{◌∙◌, sym, arith, codes, List, ℕ}
 use Rattle.std.proofs.lemmas.Grind.{common_steps}
 use Rattle.rfb_session.specs.HubSeats.{event_of}
-use Rattle.rfb.specs.Words.{AreRequest, IsCountAlone, IsFormatAlone, texts}
-use Rattle.rfb.proofs.ScriptLemmas.{alone, begins_with, empty_of, no_event_of, only_request, only_format, only_toviewer, only_toserver}
+use Rattle.rfb.specs.Words.{AreRequest, IsCountAlone, IsFormatAlone}
+use Rattle.rfb_session.specs.language.Words.{texts}
+use Rattle.rfb.proofs.ScriptLemmas.{alone, no_event_of, only_request, only_format, only_toviewer, only_toserver}
+use Rattle.rfb_session.proofs.WordLaws.{begins_with, empty_of}
 use Rattle.rfb.proofs.script.read.slot_event_of.Goals as goal
 
 pub returns-in_err-incremental : goal.returns-in_err-incremental

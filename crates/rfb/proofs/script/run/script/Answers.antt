@@ -5,7 +5,7 @@ use Rattle.rfb_picture.specs.Grid.{Grid}
 use Rattle.rfb_session.specs.declared.world.World.{World}
 use Rattle.rfb_session.specs.World.{shown_by}
 use Rattle.rfb.specs.declared.script.line.Numbered.{Numbered}
-use Rattle.rfb.specs.declared.script.line.Screen.{Screen}
+use Rattle.rfb_session.specs.declared.language.screen.Screen.{Screen}
 use Rattle.rfb.specs.declared.script.line.Wants.{Wants}
 use Rattle.rfb.specs.CommandLine.{LeavesPlayed, LeavesScript, PlaysAny}
 use Rattle.rfb.specs.Playing.{IsPlayed}

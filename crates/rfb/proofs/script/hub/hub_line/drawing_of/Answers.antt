@@ -1,7 +1,7 @@
 use Rattle.std.proofs.Common.{◌∙◌, sym, codes, List, ℕ}
-use Rattle.rfb.specs.Words.{AreFill, AreMove, texts}
+use Rattle.rfb_session.specs.language.Words.{AreFill, AreMove, texts}
 use Rattle.rfb.proofs.HubStepLemmas.{no_hub_step, no_step_of, hub_fill, hub_copy, hub_hint}
-use Rattle.rfb.proofs.ScriptLemmas.{begins_with, other_word}
+use Rattle.rfb_session.proofs.WordLaws.{begins_with, other_word}
 use Rattle.rfb.proofs.script.hub.hub_line.drawing_of.Goals as goal
 
 pub returns-in_err-rect : goal.returns-in_err-rect

@@ -2,7 +2,7 @@ use Rattle.std.proofs.Common.{sym, subst, List, ℕ, MatchOption}
 use Rattle.rfb.specs.declared.script.hub.hub_step.HubStep.{HubStep}
 use Rattle.rfb.specs.HubScript.{SaysHubStep}
 use Rattle.rfb.proofs.HubWordLemmas.{split_texts}
-use Rattle.rfb.proofs.ScriptLemmas.{no_texts}
+use Rattle.rfb_session.proofs.WordLaws.{no_texts}
 use Rattle.rfb.proofs.HubStepLemmas.{eq_of_ne, foreign_found, foreign_none, no_hub_words}
 use Rattle.rfb.proofs.script.hub.hub_line.hub_step_of.Goals as goal
 

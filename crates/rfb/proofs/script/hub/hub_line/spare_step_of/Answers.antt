@@ -1,8 +1,8 @@
 use Rattle.std.proofs.Common.{◌∙◌, sym, codes, List, ℕ}
-use Rattle.rfb.specs.HubScript.{AreJoin, IsSlotAlone}
-use Rattle.rfb.specs.Words.{texts}
+use Rattle.rfb.specs.HubScript.{AreJoin}
+use Rattle.rfb_session.specs.language.Words.{IsSlotAlone, texts}
 use Rattle.rfb.proofs.HubStepLemmas.{at_read, no_step_of, hub_join, hub_leave}
-use Rattle.rfb.proofs.ScriptLemmas.{begins_with}
+use Rattle.rfb_session.proofs.WordLaws.{begins_with}
 use Rattle.rfb.proofs.script.hub.hub_line.spare_step_of.Goals as goal
 
 pub returns-in_err-slot : goal.returns-in_err-slot

@@ -3,7 +3,8 @@ use Rattle.rfb_session.specs.HubSeats.{event_of}
 use Rattle.rfb.specs.Script.{SaysEvent}
 use Rattle.rfb.proofs.HubWordLemmas.{is_after, split_texts}
 use Rattle.rfb.proofs.HubStepLemmas.{no_at_end, no_at_slot, no_at_words}
-use Rattle.rfb.proofs.ScriptLemmas.{empty_of, says_settle}
+use Rattle.rfb_session.proofs.WordLaws.{empty_of}
+use Rattle.rfb.proofs.ScriptLemmas.{says_settle}
 use Rattle.rfb.proofs.script.hub.hub_line.step_at.Goals as goal
 
 pub returns-then-is_empty : goal.returns-then-is_empty

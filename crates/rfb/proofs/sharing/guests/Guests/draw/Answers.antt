@@ -1,5 +1,5 @@
 use Rattle.std.proofs.Common.{refl}
-use Rattle.rfb.specs.SharedDrawing.{Drawn, Outside}
+use Rattle.rfb_session.specs.owner.Drawing.{Drawn, Outside}
 use Rattle.rfb.proofs.sharing.guests.Guests.draw.Goals as goal
 
 pub returns-in-Ok-clause-drawn : goal.returns-in-Ok-clause-drawn

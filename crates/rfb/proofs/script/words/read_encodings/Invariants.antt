@@ -1,7 +1,0 @@
--- The words so far are the names of the encodings.
-use Rattle.std.proofs.Common.{◌≡◌, map, take}
-use Rattle.rfb.specs.Words.{name_of, texts}
-use Rattle.rfb.proofs.script.words.read_encodings.Given as goal
-
-abbrev pub invariant-loop-word : goal.invariant-loop-word
-invariant-loop-word l = texts (take l.word-index l.words) ≡ map name_of l.encodings.items

@@ -1,8 +1,0 @@
-use Rattle.std.proofs.Common.{refl}
-use Rattle.rfb.proofs.sharing.reader.OwnerReader.feed_line.Goals as goal
-
-pub returns-clause-feeds : goal.returns-clause-feeds
-returns-clause-feeds c = record {
-  goes = λ text comes. c.longer.ensures c.args.self.now.screen text comes;
-  known = refl;
-}

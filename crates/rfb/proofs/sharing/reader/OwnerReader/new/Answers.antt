@@ -1,5 +1,0 @@
-use Rattle.std.proofs.Common.{None, refl}
-use Rattle.rfb.proofs.sharing.reader.OwnerReader.new.Goals as goal
-
-pub returns : goal.returns
-returns c = (c.new.ensures None, refl)

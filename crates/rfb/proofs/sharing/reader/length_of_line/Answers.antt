@@ -1,8 +1,0 @@
-use Rattle.std.proofs.Common.{arith}
-use Rattle.std.proofs.lemmas.Bool.Decides.{nat_tests}
-use Rattle.rfb.proofs.OwnerReaderLemmas.{newline_at}
-use Rattle.rfb.proofs.sharing.reader.length_of_line.Goals as goal
-
-pub returns-then-byte-eq-NEWLINE-clause-newline : goal.returns-then-byte-eq-NEWLINE-clause-newline
-returns-then-byte-eq-NEWLINE-clause-newline c = λ less.
-    rw c.loop-byte.invariant.count (newline_at c.args.bytes.now c.loop-byte.byte-index (omega (arith, less, c.loop-byte.invariant.count)) (grind (arith, nat_tests)))
