@@ -91,6 +91,7 @@ OWNER_CAUSES = (
     (b"end", b" has too few words after its first: 0 of 1"),
     (b"scroll 1 2 3 4 5", b" has too few words after its first: 5 of 6"),
     (b"quit 1", b" has too many words after its first: at most 0"),
+    (b"hold 1", b" has too many words after its first: at most 0"),
     (b"pixels 1 2 3 4 5", b" has too many words after its first: at most 4"),
     (b"hint 1 2 3 4 5 6 7 8 9", b" has too many words after its first: at most 6"),
     (b"fill 65536 2 3 4 FF8000", b": `65536` is no number from 0 to 65535"),
@@ -105,6 +106,8 @@ OWNER_CAUSES = (
     (b"hint 0 5 3 4 0 0", b" has a rectangle that leaves the screen, 8 by 8"),
     (b"scroll 0 0 1 9 0 0", b" has a rectangle that leaves the screen, 8 by 8"),
     (b"pixels 7 0 2 1\nabcdef", b" has a rectangle that leaves the screen, 8 by 8"),
+    (b"hold", b": what is drawn is always shown"),
+    (b"show", b": what is drawn is always shown"),
     (b"pixels 7 0 1 1\n\n\n\nquit", b": no newline follows its 3 bytes of pixels"),
     (b"pixels 0 0 8 8\n" + b"ab\n" * 64 + b"!", b": no newline follows its 192 bytes of pixels"),
 )

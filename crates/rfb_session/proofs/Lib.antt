@@ -74,6 +74,7 @@ pub mod WordLaws
 pub mod NumberLemmas
 pub mod ArgumentLaws
 pub mod EncodingLemmas
+pub mod OwnerKeywordLemmas
 pub mod OwnerLineLemmas
 pub mod OwnerReaderLemmas
 pub mod OwnerStageLemmas

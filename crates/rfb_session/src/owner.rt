@@ -8,6 +8,8 @@
 //! scroll X Y W H DX DY       what lies in a rectangle moves to the right and down
 //! pixels X Y W H             the colours of a rectangle follow, three bytes each, and a newline
 //! end S                      the viewer at seat S is let go
+//! hold                       what is drawn after it is not shown yet
+//! show                       it is shown, and what is drawn after that
 //! quit                       all ends
 //! ```
 //!
@@ -23,7 +25,7 @@ mod reader;
 mod stage;
 
 pub use drawing::drawing_of;
-pub use line::{END, PIXELS, QUIT, SCREEN, SCROLL, read_owner_line, read_shift};
+pub use line::{END, HOLD, PIXELS, QUIT, SCREEN, SCROLL, SHOW, read_owner_line, read_shift};
 pub use notices::{tell_event, tell_fault, tell_join, tell_leave, tell_refusal};
 pub use order::{Order, OwnerLine, Refusal};
 pub use pixels::data_length;

@@ -16,6 +16,9 @@ use std::io::Write;
 // What is wrong with a line of more than `LINE_MAX` bytes.
 const LONG: &str = " has more than 96 bytes";
 
+// What is wrong with `hold` and `show`, wherever they stand.
+const ALWAYS_SHOWN: &str = ": what is drawn is always shown";
+
 /// Says why the line with this number, counted from 1, is bad. There is a screen once a line has
 /// said how large it is.
 pub fn tell_bad_owner_line<N: Write>(
@@ -70,12 +73,13 @@ fn why_not_done<'a>(line: &[u8], count: u64, screen: Option<&Picture<Colour>>) -
     let Some(screen) = screen else {
         return Reason::Said(LATE_SCREEN);
     };
-    if let Some(OwnerLine::Pixels(rect)) = read_owner_line(line) {
-        if screen.holds(rect) {
-            return why_not_pixels(count, data_length(rect));
+    match read_owner_line(line) {
+        Some(OwnerLine::Pixels(rect)) if screen.holds(rect) => {
+            why_not_pixels(count, data_length(rect))
         }
+        Some(OwnerLine::Hold | OwnerLine::Show) => Reason::Said(ALWAYS_SHOWN),
+        _ => Reason::Outside(screen.width(), screen.height()),
     }
-    Reason::Outside(screen.width(), screen.height())
 }
 
 // Why pixels on the screen are not drawn.

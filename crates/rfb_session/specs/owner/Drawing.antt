@@ -8,7 +8,7 @@ use Rattle.rfb_session.specs.Share.{screen_of}
 use Rattle.rfb_session.specs.ShareSteps.{DrawsOn}
 use Rattle.rfb_session.specs.declared.owner.order.OwnerLine.{OwnerLine}
 use Rattle.rfb_session.specs.declared.owner.order.OwnerLine.TheVariants.{Screen, Fill, Copy, Hint}
-use Rattle.rfb_session.specs.declared.owner.order.OwnerLine.TheVariants.{Scroll, Pixels, End, Quit}
+use Rattle.rfb_session.specs.declared.owner.order.OwnerLine.TheVariants.{Scroll, Pixels, End, Hold, Show, Quit}
 
 -- the drawing or the hint that a line with no pixels is, if it is one
 abbrev pub stroke_of : OwnerLine → Option Stroke
@@ -19,6 +19,8 @@ stroke_of (Scroll rect dx dy) = Some (OneScroll rect dx dy)
 stroke_of (Screen size) = None
 stroke_of (Pixels rect) = None
 stroke_of (End seat) = None
+stroke_of Hold = None
+stroke_of Show = None
 stroke_of Quit = None
 
 -- a drawing is done; or it leaves the screen, or has not one colour for each of its places, and

@@ -6,7 +6,7 @@ use Rattle.rfb_picture.specs.declared.rect.Rect.{Rect}
 use Rattle.rfb_session.specs.declared.language.screen.Screen.{Screen as Size}
 use Rattle.rfb_session.specs.declared.owner.order.OwnerLine.{OwnerLine}
 use Rattle.rfb_session.specs.declared.owner.order.OwnerLine.TheVariants.{Screen, Fill, Copy, Hint}
-use Rattle.rfb_session.specs.declared.owner.order.OwnerLine.TheVariants.{Scroll, Pixels, End, Quit}
+use Rattle.rfb_session.specs.declared.owner.order.OwnerLine.TheVariants.{Scroll, Pixels, End, Hold, Show, Quit}
 use Rattle.rfb_session.specs.declared.owner.order.Order.{Order}
 use Rattle.rfb_session.specs.declared.owner.order.Refusal.{Refusal}
 use Rattle.rfb_session.specs.declared.owner.order.Refusal.TheVariants.{Bad, NoMemory}
@@ -51,6 +51,8 @@ SaysOwner words (Scroll rect dx dy) =
     Begins (codes "scroll") words (λ rest. AreScroll rest rect dx dy)
 SaysOwner words (Pixels rect) = Begins (codes "pixels") words (λ rest. ArePlaces rest rect)
 SaysOwner words (End seat) = Begins (codes "end") words (λ rest. IsSlotAlone rest seat)
+SaysOwner words Hold = words ≡ codes "hold" ∷ []
+SaysOwner words Show = words ≡ codes "show" ∷ []
 SaysOwner words Quit = words ≡ codes "quit" ∷ []
 
 -- they say nothing

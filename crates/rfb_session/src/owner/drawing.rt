@@ -16,6 +16,7 @@ pub fn drawing_of(line: &OwnerLine) -> Option<Drawing<'static>>
         OwnerLine::Copy(rect, sx, sy) => Some(Drawing::Copy(*rect, *sx, *sy)),
         OwnerLine::Hint(rect, sx, sy) => Some(Drawing::Hint(*rect, *sx, *sy)),
         OwnerLine::Scroll(area, dx, dy) => Some(Drawing::Scroll(*area, *dx, *dy)),
-        OwnerLine::Screen(_) | OwnerLine::Pixels(_) | OwnerLine::End(_) | OwnerLine::Quit => None,
+        OwnerLine::Screen(_) | OwnerLine::Pixels(_) | OwnerLine::End(_) => None,
+        OwnerLine::Hold | OwnerLine::Show | OwnerLine::Quit => None,
     }
 }

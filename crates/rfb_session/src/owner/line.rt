@@ -1,6 +1,6 @@
 //! Reading one line of the owner's, by itself.
 
-ghost use Rattle.std.specs.Prelude.{◌≡◌, ◌≢◌, ◌∷◌, ℕ, ℤ, pos, codes, MatchOption};
+ghost use Rattle.std.specs.Prelude.{◌≡◌, ◌≢◌, ◌∷◌, [], ℕ, ℤ, pos, codes, MatchOption};
 ghost use Rattle.rfb_picture.specs.declared.rect.Rect.{Rect};
 ghost use Rattle.rfb_session.specs.language.Words.{words_of, texts};
 ghost use Rattle.rfb_session.specs.owner.Lines.{ArePlaces, AreScroll, IsShift, IsStep, SaysNoOwner, SaysOwner};
@@ -28,6 +28,10 @@ pub const PIXELS: &[u8] = b"pixels";
 
 pub const END: &[u8] = b"end";
 
+pub const HOLD: &[u8] = b"hold";
+
+pub const SHOW: &[u8] = b"show";
+
 pub const QUIT: &[u8] = b"quit";
 
 const MINUS: u8 = b'-';
@@ -50,19 +54,35 @@ fn owner_line_of(words: &[&[u8]]) -> Option<OwnerLine>
     if *keyword == END {
         return Some(OwnerLine::End(read_only_slot(rest)?));
     }
+    if *keyword == HOLD {
+        return alone(OwnerLine::Hold, rest);
+    }
+    if *keyword == SHOW {
+        return alone(OwnerLine::Show, rest);
+    }
     if *keyword == QUIT {
-        if rest.is_empty() {
-            return Some(OwnerLine::Quit);
-        }
-        return None;
+        return alone(OwnerLine::Quit, rest);
     }
     drawing_of(keyword, rest)
+}
+
+// The line of a keyword after which there is no word.
+fn alone(line: OwnerLine, rest: &[&[u8]]) -> Option<OwnerLine>
+    ensures { MatchOption result (texts rest.now ≢ [])
+        (λ said. (said ≡ line) × (texts rest.now ≡ [])) }
+{
+    if rest.is_empty() {
+        return Some(line);
+    }
+    None
 }
 
 // What a keyword and the words after it ask to be drawn.
 fn drawing_of(keyword: &[u8], rest: &[&[u8]]) -> Option<OwnerLine>
     requires screen { keyword.now ≢ codes "screen" }
     requires end { keyword.now ≢ codes "end" }
+    requires hold { keyword.now ≢ codes "hold" }
+    requires show { keyword.now ≢ codes "show" }
     requires quit { keyword.now ≢ codes "quit" }
     ensures { MatchOption result (SaysNoOwner (keyword.now ∷ texts rest.now))
         (SaysOwner (keyword.now ∷ texts rest.now)) }

@@ -21,6 +21,10 @@ pub enum OwnerLine {
     Pixels(Rect),
     /// The viewer of a seat is let go.
     End(u8),
+    /// What is drawn from here on is not shown yet.
+    Hold,
+    /// What has been drawn is shown, and what is drawn from here on.
+    Show,
     /// All ends.
     Quit,
 }

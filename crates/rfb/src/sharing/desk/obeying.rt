@@ -47,6 +47,8 @@ impl<
                 }
                 None => Ok(Some(Refusal::Bad)),
             },
+            // What is drawn is always shown.
+            Order::Line(OwnerLine::Hold | OwnerLine::Show) => Ok(Some(Refusal::Bad)),
             Order::Line(line) => match (&mut self.guests, drawing_of(&line)) {
                 (Some(guests), Some(drawing)) => Ok(guests.draw(&drawing)),
                 _ => Ok(Some(Refusal::Bad)),

@@ -1,8 +1,9 @@
 use Rattle.std.proofs.Common.{◌∙◌, ap, List, ℕ, ◌∷◌, sym, codes}
-use Rattle.rfb_session.proofs.OwnerLineLemmas.{keyword_none, only_copy, only_fill, only_hint}
-use Rattle.rfb_session.proofs.OwnerLineLemmas.{only_known, only_pixels, only_scroll, scroll_is}
 use Rattle.rfb_session.specs.owner.Lines.{ArePlaces}
 use Rattle.rfb_session.specs.language.Words.{AreFill, AreMove, texts}
+use Rattle.rfb_session.proofs.OwnerKeywordLemmas.{keyword_none, only_copy, only_fill, only_hint, only_known}
+use Rattle.rfb_session.proofs.OwnerKeywordLemmas.{only_pixels, only_scroll}
+use Rattle.rfb_session.proofs.OwnerLineLemmas.{scroll_is}
 use Rattle.rfb_session.proofs.WordLaws.{begins_with, other_word, same_word}
 use Rattle.rfb_session.proofs.owner.line.drawing_of.Goals as goal
 
@@ -68,4 +69,4 @@ returns c =
     only_known c.args.keyword.now _ c.requires.screen (other_word _ _ (sym c.eq.ensures ∙ c.if-eq.false))
     (other_word _ _ (sym c.eq-2.ensures ∙ c.if-eq-2.false)) (other_word _ _ (sym c.eq-3.ensures ∙ c.if-eq-3.false))
     (other_word _ _ (sym c.eq-4.ensures ∙ c.if-eq-4.false)) (other_word _ _ (sym c.eq-5.ensures ∙ c.if-eq-5.false))
-    c.requires.end c.requires.quit
+    c.requires.end c.requires.hold c.requires.show c.requires.quit

@@ -1,8 +1,9 @@
-use Rattle.std.proofs.Common.{◌∙◌, List, ap, sym, codes, ℕ, ◌∷◌}
+use Rattle.std.proofs.Common.{◌∙◌, refl, sym, codes}
+use Rattle.rfb_session.specs.declared.owner.order.OwnerLine.{OwnerLine}
 use Rattle.rfb_session.specs.language.Words.{IsSlotAlone, AreSize}
-use Rattle.rfb_session.proofs.OwnerLineLemmas.{no_first, only_end, only_quit, only_screen, owner_begins}
-use Rattle.rfb_session.proofs.OwnerLineLemmas.{owner_none, owner_words, some_texts}
-use Rattle.rfb_session.proofs.WordLaws.{empty_of, no_texts, words_are}
+use Rattle.rfb_session.proofs.OwnerKeywordLemmas.{alone_says, only_end, only_hold, only_quit, only_screen}
+use Rattle.rfb_session.proofs.OwnerKeywordLemmas.{only_show, owner_begins, owner_none}
+use Rattle.rfb_session.proofs.OwnerLineLemmas.{no_first, owner_words}
 use Rattle.rfb_session.proofs.owner.line.owner_line_of.Goals as goal
 
 pub returns-in_err-read_size : goal.returns-in_err-read_size
@@ -30,18 +31,23 @@ returns-then-eq-2 c =
     (λ rest. IsSlotAlone rest c.in_ok-read_only_slot.field-0) c.in_ok-keyword.ensures.cases.0
     (sym c.eq-2.ensures ∙ c.if-eq-2.true) c.in_ok-read_only_slot.ensures
 
-pub returns-then-is_empty : goal.returns-then-is_empty
-returns-then-is_empty c =
-    words_are c.args.words.now c.in_ok-keyword.keyword.now c.in_ok-keyword.rest.now (codes "quit")
-    c.in_ok-keyword.ensures.cases.0 (sym c.eq-3.ensures ∙ c.if-eq-3.true)
-    ∙ ap (λ (r : List (List ℕ)). codes "quit" ∷ r)
-    (no_texts c.in_ok-keyword.rest.now (empty_of _ _ c.is_empty.ensures c.if-is_empty.true))
-
 pub returns-then-eq-3 : goal.returns-then-eq-3
 returns-then-eq-3 c =
-    owner_none c.args.words.now c.in_ok-keyword.keyword.now c.in_ok-keyword.rest.now (codes "quit")
-    c.in_ok-keyword.ensures.cases.0 (sym c.eq-3.ensures ∙ c.if-eq-3.true)
-    (only_quit _ (some_texts c.in_ok-keyword.rest.now _ c.is_empty.ensures c.if-is_empty.false))
+    alone_says c.args.words.now c.in_ok-keyword.keyword.now c.in_ok-keyword.rest.now (codes "hold") OwnerLine.Hold
+    c.alone.result c.in_ok-keyword.ensures.cases.0 (sym c.eq-3.ensures ∙ c.if-eq-3.true) refl
+    (only_hold _) c.alone.ensures
+
+pub returns-then-eq-4 : goal.returns-then-eq-4
+returns-then-eq-4 c =
+    alone_says c.args.words.now c.in_ok-keyword.keyword.now c.in_ok-keyword.rest.now (codes "show") OwnerLine.Show
+    c.alone-then-eq-4.result c.in_ok-keyword.ensures.cases.0 (sym c.eq-4.ensures ∙ c.if-eq-4.true) refl
+    (only_show _) c.alone-then-eq-4.ensures
+
+pub returns-then-eq-5 : goal.returns-then-eq-5
+returns-then-eq-5 c =
+    alone_says c.args.words.now c.in_ok-keyword.keyword.now c.in_ok-keyword.rest.now (codes "quit") OwnerLine.Quit
+    c.alone-then-eq-5.result c.in_ok-keyword.ensures.cases.0 (sym c.eq-5.ensures ∙ c.if-eq-5.true) refl
+    (only_quit _) c.alone-then-eq-5.ensures
 
 pub returns-in_err-keyword : goal.returns-in_err-keyword
 returns-in_err-keyword c =
