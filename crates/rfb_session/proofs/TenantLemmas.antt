@@ -13,8 +13,9 @@ use Rattle.rfb_session.specs.doors.Events.{Event, Stepping, Runs, came, left, en
 use Rattle.rfb_session.specs.doors.Devices.{flag_of}
 use Rattle.rfb_session.specs.doors.Waiting.{IsOver}
 use Rattle.rfb_session.specs.doors.Places.{is_held}
-use Rattle.rfb_session.specs.doors.Lives.{Telling, Closes, PlaceTurns, Lives, Still, Then, OpensAt}
-use Rattle.rfb_session.specs.doors.Tenants.{Happening, Told, Opened, events_in, IsKept, Goes, Says}
+use Rattle.rfb_session.specs.doors.Lives.{Telling, Opening, Declining, Closes, PlaceTurns, Lives, Still, Then}
+use Rattle.rfb_session.specs.doors.Lives.{OpensAt, TurnsAway}
+use Rattle.rfb_session.specs.doors.Tenants.{Happening, Told, Opened, Declined, events_in, IsKept, Goes, Says}
 use Rattle.rfb_session.specs.doors.Tenants.{HasStood, HasCome, HasTenants}
 use Rattle.rfb_session.proofs.DoorEventLemmas.{came-append, left-append, ends-append, faults-append}
 use Rattle.rfb_session.proofs.DoorTurnLemmas.{slice_get-set_same, slice_get-set_other, some_of, ended_first, ended_then}
@@ -33,25 +34,29 @@ events_in-all_told (event ∷ events) = ap (λ (l : List Event). event ∷ l) (e
 events_in-append : (xs ys : List Happening) → events_in (xs ++ ys) ≡ events_in xs ++ events_in ys
 events_in-append [] ys = refl
 events_in-append (Told event ∷ xs) ys = ap (λ (l : List Event). event ∷ l) (events_in-append xs ys)
-events_in-append (Opened door ∷ xs) ys = events_in-append xs ys
+events_in-append (Opened door from ∷ xs) ys = events_in-append xs ys
+events_in-append (Declined from ∷ xs) ys = events_in-append xs ys
 
 kept_both : (d : ℕ) (xs ys : List Happening) → IsKept d xs → IsKept d ys → IsKept d (xs ++ ys)
 kept_both d [] ys one two = two
 kept_both d (Told event ∷ xs) ys one two = kept_both d xs ys one two
-kept_both d (Opened door ∷ xs) ys one two = (one.0, kept_both d xs ys one.1 two)
+kept_both d (Opened door from ∷ xs) ys one two = (one.0, kept_both d xs ys one.1 two)
+kept_both d (Declined from ∷ xs) ys one two = kept_both d xs ys one two
 
 kept_told : (d : ℕ) (events : List Event) → IsKept d (all_told events)
 kept_told d [] = tt
 kept_told d (event ∷ events) = kept_told d events
 
-module _ {C : Type 0} (steps : Stepping C) (opens : C → ℕ → C → Type 0) where
-  goes_then : (a b c : C) (xs ys : List Happening) → Goes steps opens a xs b → Goes steps opens b ys c →
-      Goes steps opens a (xs ++ ys) c
-  goes_then a b c [] ys one two = subst (λ (s : C). Goes steps opens s ys c) one two
+module _ {C : Type 0} (steps : Stepping C) (opens : Opening C) (declines : Declining C) where
+  goes_then : (a b c : C) (xs ys : List Happening) → Goes steps opens declines a xs b →
+      Goes steps opens declines b ys c → Goes steps opens declines a (xs ++ ys) c
+  goes_then a b c [] ys one two = subst (λ (s : C). Goes steps opens declines s ys c) one two
   goes_then a b c (Told event ∷ xs) ys one two = (one.0, one.1, goes_then one.0 b c xs ys one.2 two)
-  goes_then a b c (Opened door ∷ xs) ys one two = (one.0, one.1, goes_then one.0 b c xs ys one.2 two)
+  goes_then a b c (Opened door from ∷ xs) ys one two = (one.0, one.1, goes_then one.0 b c xs ys one.2 two)
+  goes_then a b c (Declined from ∷ xs) ys one two = (one.0, one.1, goes_then one.0 b c xs ys one.2 two)
 
-  goes_runs : (a b : C) (events : List Event) → Runs steps a events b → Goes steps opens a (all_told events) b
+  goes_runs : (a b : C) (events : List Event) → Runs steps a events b →
+      Goes steps opens declines a (all_told events) b
   goes_runs a b [] runs = runs
   goes_runs a b (event ∷ events) runs = (runs.0, runs.1, goes_runs runs.0 b events runs.2)
 
@@ -138,7 +143,7 @@ module _ {C D : Type 0} (closed : C → ℕ → Bool) (waiting : C → ℕ → L
 module _ {C D : Type 0} (t : Telling C D) (d : ℕ) where
   -- what holds of a device that has stood there holds of it after more
   longer : (old mid new : C) (doors : List (Place D)) (happenings more : List Happening) (y z : D) →
-      Goes t.steps t.opens mid more new → IsKept d more → Says t d y z (events_in more) →
+      Goes t.steps t.opens t.declines mid more new → IsKept d more → Says t d y z (events_in more) →
       HasStood t d doors happenings y ⊎ HasCome t d old mid happenings y →
       HasStood t d doors (happenings ++ more) z ⊎ HasCome t d old new (happenings ++ more) z
   longer old mid new doors happenings more y z goes kept says was = elim was [
@@ -151,13 +156,15 @@ module _ {C D : Type 0} (t : Telling C D) (d : ℕ) where
     | inr come ↦ inr (record {
       before = come.before;
       since = come.since ++ more;
+      from = come.from;
       parts = ap (λ (l : List Happening). l ++ more) come.parts
-          ∙ append_assoc come.before (Opened d ∷ come.since) more;
+          ∙ append_assoc come.before (Opened d come.from ∷ come.since) more;
       first = come.first;
       seated = come.seated;
       goes_before = come.goes_before;
       opened = come.opened;
-      goes_since = goes_then t.steps t.opens come.seated mid new come.since more come.goes_since goes;
+      goes_since = goes_then t.steps t.opens t.declines come.seated mid new come.since more
+          come.goes_since goes;
       device = come.device;
       came_new = come.came_new;
       kept = kept_both d come.since more come.kept kept;
@@ -178,17 +185,17 @@ module _ {C D : Type 0} (t : Telling C D) (old mid opened new : C)
       (sym (turns.stays d) ∙ is_held_at (slice_get after d) z stood) in
       (held.0, held.1, says_turned t d opened new held.0 z opening after held.1 stood turns)
 
-  goes_turned : Goes t.steps t.opens opened (all_told turns.events) new
-  goes_turned = goes_runs t.steps t.opens opened new turns.events turns.runs
+  goes_turned : Goes t.steps t.opens t.declines opened (all_told turns.events) new
+  goes_turned = goes_runs t.steps t.opens t.declines opened new turns.events turns.runs
 
-  -- none was let in
+  -- none came
   tenants_not : (opened ≡ mid) × (opening ≡ before) → HasTenants t old new doors shut
   tenants_not same =
       let more = all_told turns.events in
-      let goes = subst (λ (core : C). Goes t.steps t.opens core more new) same.0 goes_turned in
+      let goes = subst (λ (core : C). Goes t.steps t.opens t.declines core more new) same.0 goes_turned in
       record {
         happenings = life.happenings ++ more;
-        goes = goes_then t.steps t.opens old mid new life.happenings more life.goes goes;
+        goes = goes_then t.steps t.opens t.declines old mid new life.happenings more life.goes goes;
         tenants = λ d z is.
             let stands = stands_before d z is in
             longer t d old mid new doors life.happenings more stands.0 z goes (kept_told d turns.events)
@@ -196,14 +203,29 @@ module _ {C D : Type 0} (t : Telling C D) (old mid opened new : C)
             (life.tenants d stands.0 (ap (λ (l : List (Place D)). slice_get l d) (sym same.1) ∙ stands.1));
       }
 
-  -- one was
-  tenants_at : OpensAt t.opens t.fresh mid opened before opening → HasTenants t old new doors shut
-  tenants_at at =
-      let more = Opened at.door ∷ all_told turns.events in
-      let goes : Goes t.steps t.opens mid more new = (opened, at.opened, goes_turned) in
+  -- one was turned away
+  tenants_away : TurnsAway t.declines mid opened before opening → HasTenants t old new doors shut
+  tenants_away away =
+      let more = Declined away.from ∷ all_told turns.events in
+      let goes : Goes t.steps t.opens t.declines mid more new = (opened, away.declined, goes_turned) in
       record {
         happenings = life.happenings ++ more;
-        goes = goes_then t.steps t.opens old mid new life.happenings more life.goes goes;
+        goes = goes_then t.steps t.opens t.declines old mid new life.happenings more life.goes goes;
+        tenants = λ d z is.
+            let stands = stands_before d z is in
+            longer t d old mid new doors life.happenings more stands.0 z goes (kept_told d turns.events)
+            stands.2
+            (life.tenants d stands.0 (ap (λ (l : List (Place D)). slice_get l d) (sym away.same) ∙ stands.1));
+      }
+
+  -- one was let in
+  tenants_at : OpensAt t.opens t.fresh mid opened before opening → HasTenants t old new doors shut
+  tenants_at at =
+      let more = Opened at.door at.from ∷ all_told turns.events in
+      let goes : Goes t.steps t.opens t.declines mid more new = (opened, at.opened, goes_turned) in
+      record {
+        happenings = life.happenings ++ more;
+        goes = goes_then t.steps t.opens t.declines old mid new life.happenings more life.goes goes;
         tenants = λ d z is.
             let stands = stands_before d z is in
             elim (eqb_tells d at.door) [
@@ -218,15 +240,16 @@ module _ {C D : Type 0} (t : Telling C D) (old mid opened new : C)
       }
     where
       come : (d : ℕ) (z : D) → d ≡ at.door → slice_get after d ≡ Some (Held z) →
-          HasCome t d old new (life.happenings ++ (Opened at.door ∷ all_told turns.events)) z
+          HasCome t d old new (life.happenings ++ (Opened at.door at.from ∷ all_told turns.events)) z
       come d z same stood = record {
         before = life.happenings;
         since = all_told turns.events;
-        parts = ap (λ (n : ℕ). life.happenings ++ (Opened n ∷ all_told turns.events)) (sym same);
+        from = at.from;
+        parts = ap (λ (n : ℕ). life.happenings ++ (Opened n at.from ∷ all_told turns.events)) (sym same);
         first = mid;
         seated = opened;
         goes_before = life.goes;
-        opened = subst (λ (n : ℕ). t.opens mid n opened) (sym same) at.opened;
+        opened = subst (λ (n : ℕ). t.opens mid n at.from opened) (sym same) at.opened;
         goes_since = goes_turned;
         device = at.device;
         came_new = at.came;
@@ -251,5 +274,8 @@ module _ {C D : Type 0} (t : Telling C D) where
       let life = tenants old mid doors before lives in
       elim opens [
         | inl same ↦ tenants_not t old mid opened new doors before opening after doors' life turns closes same
-        | inr at ↦ tenants_at t old mid opened new doors before opening after doors' life turns closes at
+        | inr came ↦ elim came [
+          | inl at ↦ tenants_at t old mid opened new doors before opening after doors' life turns closes at
+          | inr away ↦ tenants_away t old mid opened new doors before opening after doors' life turns closes away
+        ]
       ]

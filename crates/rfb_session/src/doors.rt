@@ -32,7 +32,7 @@ pub use clock::{Clock, Pause};
 pub use cores::Core;
 pub use device::{Answer, Device};
 pub use duplex::{Counted, Duplex};
-pub use host::{Arrivals, Host};
+pub use host::{Arrival, Arrivals, Host};
 pub use incoming::hear;
 pub use lives::{close, live, open};
 pub use outgoing::tell;

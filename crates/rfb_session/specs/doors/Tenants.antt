@@ -6,33 +6,38 @@ use Rattle.rfb_session.specs.declared.doors.place.Place.{Place}
 use Rattle.rfb_session.specs.declared.doors.place.Place.TheVariants.{Held}
 use Rattle.rfb_session.specs.doors.Events.{Event, Stepping, came, left, ends, faults}
 use Rattle.rfb_session.specs.doors.Devices.{HasEnded}
-use Rattle.rfb_session.specs.doors.Lives.{Telling}
+use Rattle.rfb_session.specs.doors.Lives.{Telling, Opening, Declining}
 
--- a core was told something, or it gave a door to a device
+-- a core was told something, it gave a door to a device that came from there, or it gave none
 pub data Happening : Type 0 where
   Told : (event : Event) → Happening
-  Opened : (door : ℕ) → Happening
+  Opened : (door : ℕ) → (from : List ℕ) → Happening
+  Declined : (from : List ℕ) → Happening
 
 -- what it was told in all of these
 abbrev pub events_in : List Happening → List Event
 events_in [] = []
 events_in (Told event ∷ more) = event ∷ events_in more
-events_in (Opened door ∷ more) = events_in more
+events_in (Opened door from ∷ more) = events_in more
+events_in (Declined from ∷ more) = events_in more
 
 -- a door was not given away in them
 abbrev pub IsKept : ℕ → List Happening → Type 0
 IsKept d [] = ⊤
 IsKept d (Told event ∷ more) = IsKept d more
-IsKept d (Opened door ∷ more) = (d ≢ door) × IsKept d more
+IsKept d (Opened door from ∷ more) = (d ≢ door) × IsKept d more
+IsKept d (Declined from ∷ more) = IsKept d more
 
 module _ {C : Type 0} where
   -- these happened to a core, one after the other, and nothing else did
-  abbrev pub Goes : Stepping C → (C → ℕ → C → Type 0) → C → List Happening → C → Type 0
-  Goes steps opens old [] new = new ≡ old
-  Goes steps opens old (Told event ∷ more) new =
-      (mid : C) × steps old event mid × Goes steps opens mid more new
-  Goes steps opens old (Opened door ∷ more) new =
-      (mid : C) × opens old door mid × Goes steps opens mid more new
+  abbrev pub Goes : Stepping C → Opening C → Declining C → C → List Happening → C → Type 0
+  Goes steps opens declines old [] new = new ≡ old
+  Goes steps opens declines old (Told event ∷ more) new =
+      (mid : C) × steps old event mid × Goes steps opens declines mid more new
+  Goes steps opens declines old (Opened door from ∷ more) new =
+      (mid : C) × opens old door from mid × Goes steps opens declines mid more new
+  Goes steps opens declines old (Declined from ∷ more) new =
+      (mid : C) × declines old from mid × Goes steps opens declines mid more new
 
 module _ {C D : Type 0} where
   -- what events say of a door is what was read and written of a device there
@@ -55,12 +60,13 @@ module _ {C D : Type 0} where
       : Type 0 where
     pub before : List Happening
     pub since : List Happening
-    pub parts : happenings ≡ before ++ (Opened d ∷ since)
+    pub from : List ℕ
+    pub parts : happenings ≡ before ++ (Opened d from ∷ since)
     pub first : C
     pub seated : C
-    pub goes_before : Goes t.steps t.opens old before first
-    pub opened : t.opens first d seated
-    pub goes_since : Goes t.steps t.opens seated since new
+    pub goes_before : Goes t.steps t.opens t.declines old before first
+    pub opened : t.opens first d from seated
+    pub goes_since : Goes t.steps t.opens t.declines seated since new
     pub device : D
     pub came_new : t.fresh device
     pub kept : IsKept d since
@@ -69,6 +75,6 @@ module _ {C D : Type 0} where
   -- all that happened, in order, and whatever stands at a door in the end
   pub record HasTenants (t : Telling C D) (old new : C) (doors doors' : List (Place D)) : Type 0 where
     pub happenings : List Happening
-    pub goes : Goes t.steps t.opens old happenings new
+    pub goes : Goes t.steps t.opens t.declines old happenings new
     pub tenants : (d : ℕ) (device' : D) → slice_get doors' d ≡ Some (Held device') →
         HasStood t d doors happenings device' ⊎ HasCome t d old new happenings device'

@@ -1,20 +1,39 @@
 //! Who comes, and where they are let in.
 
-ghost use Rattle.std.specs.Prelude.{◌≡◌, ◌<◌, ℕ, IfSome, None};
+ghost use Rattle.std.specs.Prelude.{◌≡◌, ◌<◌, IfSome, None};
+ghost use Rattle.rfb_session.specs.doors.Lives.{Opening, Declining};
 
 use crate::doors::cores::Core;
+use arrayvec::ArrayString;
 
-/// A core that gives a door to each device that comes.
+/// A core that gives a door to each device that comes, or turns it away.
 pub trait Host: Core {
     // What it may become when it gives a door to a device.
-    ghost opens: { Self → ℕ → Self → Type 0 };
+    ghost opens: { Opening Self };
 
-    /// A device came, and there are so many doors. Tells which one it gets: what stands there is
-    /// let go, so nothing that waited for that one may wait for the newcomer. Or it gets none, and
-    /// the core stays as it is.
-    fn opened(&mut self, doors: usize) -> Option<usize>
-        ensures some { IfSome result (λ door. (door < doors) × opens self.old door self.new) }
-        ensures none { result ≡ None → self.new ≡ self.old };
+    // What it may become when it gives none.
+    ghost declines: { Declining Self };
+
+    /// Whether it would have a newcomer now. Nobody is asked for before it would.
+    fn welcomes(&self) -> bool;
+
+    /// A device came from there, and there are so many doors. Tells which one it gets: what stands
+    /// there is let go, so nothing that waited for that one may wait for the newcomer. Or it gets
+    /// none.
+    fn opened(&mut self, doors: usize, from: &str) -> Option<usize>
+        ensures some { IfSome result (λ door.
+            (door < doors) × opens self.old door from.now self.new) }
+        ensures none { result ≡ None → declines self.old from.now self.new };
+
+    /// Whether all has ended. What waits at a door then is not written any more.
+    fn is_done(&self) -> bool;
+}
+
+/// A device that came, and where it came from, for people to read.
+#[derive(Debug, Drop)]
+pub struct Arrival<D> {
+    pub device: D,
+    pub from: ArrayString<64>,
 }
 
 /// The devices that come.
@@ -24,8 +43,8 @@ pub trait Arrivals<D> {
 
     /// The next device, if one is there. It is asked once a turn, so a clock does not sleep while
     /// another may be there.
-    fn next(&mut self) -> Option<D>
-        ensures { IfSome result fresh };
+    fn next(&mut self) -> Option<Arrival<D>>
+        ensures { IfSome result (λ arrival. fresh arrival.device) };
 
     /// The device that came last stands at this door now; or it got none, and was let go.
     fn seated(&mut self, door: Option<usize>);

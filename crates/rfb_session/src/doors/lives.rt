@@ -6,14 +6,14 @@ ghost use Rattle.rfb_session.specs.doors.Tenants.{HasTenants};
 use crate::doors::clock::{Clock, Pause};
 use crate::doors::cores::Core;
 use crate::doors::device::Device;
-use crate::doors::host::{Arrivals, Host};
+use crate::doors::host::{Arrival, Arrivals, Host};
 use crate::doors::place::Place;
 use crate::doors::turns::turn;
 use crate::doors::waiting::{how_long, is_over};
 
-/// Lets a device in, does a turn and closes what is over, time after time, until the clock says
-/// so. It waits between as `run` does. `part` is as for `turn`. The clock and the arrivals are one
-/// value, since what came has to be told apart by its readiness.
+/// Lets a device in, does a turn and closes what is over, time after time, until the core says that
+/// all has ended, or the clock does. It waits between as `run` does. `part` is as for `turn`. The
+/// clock and the arrivals are one value, since what came has to be told apart by its readiness.
 pub fn live<C: Host, D: Device + Drop, S: Clock + Arrivals<D>>(
     core: &mut C,
     doors: &mut [Place<D>],
@@ -21,16 +21,16 @@ pub fn live<C: Host, D: Device + Drop, S: Clock + Arrivals<D>>(
     part: &mut [u8],
 )
     ensures lives { Lives
-        (telling C.steps C.opens C.closed C.waiting D.unread D.written D.failed S.fresh)
+        (telling C.steps C.opens C.declines C.closed C.waiting D.unread D.written D.failed S.fresh)
         core.old core.new doors.old doors.new }
     ensures tenants { HasTenants
-        (telling C.steps C.opens C.closed C.waiting D.unread D.written D.failed S.fresh)
+        (telling C.steps C.opens C.declines C.closed C.waiting D.unread D.written D.failed S.fresh)
         core.old core.new doors.old doors.new }
 {
     let mut until = Pause::Look;
     // So many turns are never done.
     for _turn in 0..u64::MAX {
-        if !shell.wait(until) {
+        if core.is_done() || !shell.wait(until) {
             return;
         }
         open(core, doors, shell);
@@ -40,18 +40,22 @@ pub fn live<C: Host, D: Device + Drop, S: Clock + Arrivals<D>>(
     }
 }
 
-/// Lets one device in, if one came and the core has a door for it. What stood there is let go.
+/// Lets one device in, if the core would have one, one came, and the core has a door for it. What
+/// stood there is let go.
 pub fn open<C: Host, D: Device + Drop, A: Arrivals<D>>(
     core: &mut C,
     doors: &mut [Place<D>],
     arrivals: &mut A,
 )
-    ensures { Opens C.opens A.fresh core.old core.new doors.old doors.new }
+    ensures { Opens C.opens C.declines A.fresh core.old core.new doors.old doors.new }
 {
-    let Some(device) = arrivals.next() else {
+    if !core.welcomes() {
+        return;
+    }
+    let Some(Arrival { device, from }) = arrivals.next() else {
         return;
     };
-    match core.opened(doors.len()) {
+    match core.opened(doors.len(), from.as_str()) {
         Some(door) => {
             doors[door] = Place::Held(device);
             arrivals.seated(Some(door));

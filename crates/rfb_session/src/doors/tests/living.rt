@@ -5,7 +5,8 @@ ghost use Rattle.rfb_session.specs.doors.Echo.{Echoes, waiting_at, space_at, clo
 
 use super::devices::{Pipe, Ticks};
 use crate::doors::echo::Echo;
-use crate::doors::{Answer, Arrivals, Clock, Core, Counted, Host, Pause, Place, live};
+use crate::doors::{Answer, Arrival, Arrivals, Clock, Core, Counted, Host, Pause, Place, live};
+use arrayvec::ArrayString;
 use std::alloc::AllocError;
 
 // An echo that gives its doors in turn to those who come.
@@ -60,9 +61,15 @@ impl Core for House {
 }
 
 impl Host for House {
-    ghost opens = { λ old door new. new.echo ≡ old.echo };
+    ghost opens = { λ old door from new. new.echo ≡ old.echo };
 
-    fn opened(&mut self, doors: usize) -> Option<usize> {
+    ghost declines = { λ old from new. new.echo ≡ old.echo };
+
+    fn welcomes(&self) -> bool {
+        self.given < 3
+    }
+
+    fn opened(&mut self, doors: usize, _from: &str) -> Option<usize> {
         if self.given < doors {
             let door = self.given;
             self.given += 1;
@@ -70,6 +77,10 @@ impl Host for House {
         } else {
             None
         }
+    }
+
+    fn is_done(&self) -> bool {
+        false
     }
 }
 
@@ -84,10 +95,8 @@ struct Street<'a> {
     refused: usize,
 }
 
-impl<'a> Arrivals<Counted<Pipe<'a>>> for Street<'a> {
-    ghost fresh = { λ d. ⊤ };
-
-    fn next(&mut self) -> Option<Counted<Pipe<'a>>> {
+impl<'a> Street<'a> {
+    fn first_of_all(&mut self) -> Option<Counted<Pipe<'a>>> {
         if self.first.is_some() {
             return self.first.take();
         }
@@ -95,6 +104,18 @@ impl<'a> Arrivals<Counted<Pipe<'a>>> for Street<'a> {
             return self.second.take();
         }
         self.third.take()
+    }
+}
+
+impl<'a> Arrivals<Counted<Pipe<'a>>> for Street<'a> {
+    ghost fresh = { λ d. ⊤ };
+
+    fn next(&mut self) -> Option<Arrival<Counted<Pipe<'a>>>> {
+        let device = self.first_of_all()?;
+        Some(Arrival {
+            device,
+            from: ArrayString::new(),
+        })
     }
 
     fn seated(&mut self, door: Option<usize>) {
