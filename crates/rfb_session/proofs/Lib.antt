@@ -90,3 +90,5 @@ pub mod DoorTurnLemmas
 pub mod DoorLifeLemmas
 pub mod EchoLemmas
 pub mod TenantLemmas
+pub mod DeskLemmas
+pub mod ConsoleLemmas

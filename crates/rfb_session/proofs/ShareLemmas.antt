@@ -26,7 +26,7 @@ use Rattle.rfb_session.specs.LinkBytes.{IsSole, sole_told}
 use Rattle.rfb_session.specs.Share.{seat_in, serving_in, IsFreshIn}
 use Rattle.rfb_session.specs.ShareSeats.{IsSeatOf}
 use Rattle.rfb_session.specs.ShareSlots.{HearsIn, EndsIn}
-use Rattle.rfb_session.specs.ShareSteps.{KeepsScreen, OthersKept, ReceivesAs, RefusesAs, NoneHeard}
+use Rattle.rfb_session.specs.ShareSteps.{KeepsScreen, OthersKept, HearsBy, RefusesAs, NoneHeard}
 use Rattle.rfb_session.specs.ShareSteps.{SeatEnded, asks_alone, event_seen, seat_told}
 use Rattle.rfb_session.specs.Slots.{is_taken, StaysUnless}
 use Rattle.rfb_session.proofs.SlotLemmas.{other}
@@ -137,23 +137,23 @@ seen_none (Some event) none = absurd (apart none)
     apart : Some (event_told event) ≡ None → ⊥
     apart e = cc
 
-pub received_as : (old new : Share) (k : ℕ) (bytes : List ℕ) (used : ℕ) (heard : Heard)
+pub received_as : (heeds : Bool) (old new : Share) (k : ℕ) (bytes : List ℕ) (used : ℕ) (heard : Heard)
     (told : Option ServerTold) (a b : Option ShareSeat) → HearsIn (take used bytes) told a b →
     seat_in old k ≡ a → seat_in new k ≡ b → heard.used ≡ used →
     (told ≡ None → used ≡ length bytes) → heard.seat ≡ k →
     event_seen heard.event ≡ seat_told told →
     ((j : ℕ) → has_bit heard.ended j
-    ≡ (asks_alone told && (not (nat_eq j k) && is_taken (seat_in old j)))) →
+    ≡ ((heeds && asks_alone told) && (not (nat_eq j k) && is_taken (seat_in old j)))) →
     ((j : ℕ) → nat_eq j k ≡ false →
     StaysUnless (has_bit heard.ended j) (seat_in old j) (seat_in new j)) →
-    KeepsScreen old new → ReceivesAs old k bytes heard new
-received_as old new k bytes used heard told None None hears was is some whole seat event ended others
+    KeepsScreen old new → HearsBy heeds old k bytes heard new
+received_as heeds old new k bytes used heard told None None hears was is some whole seat event ended others
     keeps = absurd hears
-received_as old new k bytes used heard told None (Some y) hears was is some whole seat event ended others
+received_as heeds old new k bytes used heard told None (Some y) hears was is some whole seat event ended others
     keeps = absurd hears
-received_as old new k bytes used heard told (Some x) None hears was is some whole seat event ended others
+received_as heeds old new k bytes used heard told (Some x) None hears was is some whole seat event ended others
     keeps = absurd hears
-received_as old new k bytes used heard told (Some x) (Some y) hears was is some whole seat event ended
+received_as heeds old new k bytes used heard told (Some x) (Some y) hears was is some whole seat event ended
     others keeps = record {
       was = x;
       now = y;
@@ -176,7 +176,7 @@ pub refused_there : (old new : Share) (place k : ℕ) (bytes : List ℕ) (fault 
 refused_there old new place k bytes fault is refuses =
     subst (λ (n : ℕ). RefusesAs old n bytes fault new) is refuses
 
-pub received_there : (old new : Share) (place k : ℕ) (bytes : List ℕ) (heard : Heard) →
-    place ≡ k → ReceivesAs old place bytes heard new → ReceivesAs old k bytes heard new
-received_there old new place k bytes heard is receives =
-    subst (λ (n : ℕ). ReceivesAs old n bytes heard new) is receives
+pub received_there : (heeds : Bool) (old new : Share) (place k : ℕ) (bytes : List ℕ) (heard : Heard) →
+    place ≡ k → HearsBy heeds old place bytes heard new → HearsBy heeds old k bytes heard new
+received_there heeds old new place k bytes heard is receives =
+    subst (λ (n : ℕ). HearsBy heeds old n bytes heard new) is receives

@@ -49,3 +49,4 @@ pub mod OverWire
 pub mod netpbm
 pub mod inside
 pub mod doors
+pub mod console

@@ -104,8 +104,8 @@ asks_alone (Some (CutText kept text_length)) = false
 
 -- the session of the seat was fed those that were taken: up to its first item that is answered or
 -- reported, or all. What its viewer did is reported with the seat. Where it asked for the screen
--- alone, all other seats that are taken are reported as emptied
-pub record ReceivesAs (old : Share) (k : ℕ) (bytes : List ℕ) (heard : Heard) (new : Share)
+-- alone, and such wishes are heeded, all other seats that are taken are reported as emptied
+pub record HearsBy (heeds : Bool) (old : Share) (k : ℕ) (bytes : List ℕ) (heard : Heard) (new : Share)
     : Type 0 where
   pub was : ShareSeat
   pub now : ShareSeat
@@ -117,10 +117,14 @@ pub record ReceivesAs (old : Share) (k : ℕ) (bytes : List ℕ) (heard : Heard)
   pub seat_is : heard.seat ≡ k
   pub event_is : event_seen heard.event ≡ seat_told told
   pub ended : (j : ℕ) → has_bit heard.ended j
-      ≡ (asks_alone told && (not (nat_eq j k) && is_taken (seat_in old j)))
+      ≡ ((heeds && asks_alone told) && (not (nat_eq j k) && is_taken (seat_in old j)))
   pub others : (j : ℕ) → nat_eq j k ≡ false →
       StaysUnless (has_bit heard.ended j) (seat_in old j) (seat_in new j)
   pub keeps : KeepsScreen old new
+
+-- the same where such wishes are heeded
+abbrev pub ReceivesAs : Share → ℕ → List ℕ → Heard → Share → Type 0
+ReceivesAs old k bytes heard new = HearsBy true old k bytes heard new
 
 -- there is no viewer there; or its session has ended, and nothing else has changed
 pub data RefusesAs (old : Share) (k : ℕ) (bytes : List ℕ) (fault : ShareFault) (new : Share)

@@ -30,6 +30,7 @@
 #![tactic(auto)]
 
 mod channel;
+pub mod console;
 pub mod doors;
 mod engine;
 mod event;

@@ -16,6 +16,7 @@
 //! Nothing here reads or waits: an `OwnerReader` is fed the bytes as they come, and the lines that
 //! tell go to any writer.
 
+mod beginning;
 mod drawing;
 mod line;
 mod notices;
@@ -24,6 +25,7 @@ mod pixels;
 mod reader;
 mod stage;
 
+pub use beginning::Beginning;
 pub use drawing::drawing_of;
 pub use line::{END, HOLD, PIXELS, QUIT, SCREEN, SCROLL, SHOW, read_owner_line, read_shift};
 pub use notices::{tell_event, tell_fault, tell_join, tell_leave, tell_refusal};

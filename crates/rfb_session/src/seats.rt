@@ -71,6 +71,15 @@ impl Seats {
         }
     }
 
+    /// The seats that are in one of two sets.
+    pub(crate) fn or(self, other: Seats) -> Seats
+        ensures { (k : ℕ) → has_bit result k ≡ (has_bit self k || has_bit other k) }
+    {
+        Seats {
+            bits: self.bits | other.bits,
+        }
+    }
+
     /// Whether no seat is in it.
     pub fn is_empty(self) -> bool
         ensures { result ≡ true → (k : ℕ) → has_bit self k ≡ false }

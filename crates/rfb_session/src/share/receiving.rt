@@ -1,6 +1,6 @@
 //! Bytes that the viewers of a share sent.
 
-ghost use Rattle.std.specs.Prelude.{◌≡◌, ◌≤◌, ◌<◌, length, take, IfOk, IfErr, None};
+ghost use Rattle.std.specs.Prelude.{◌≡◌, ◌≤◌, ◌<◌, ◌&&◌, length, take, IfOk, IfErr, None};
 ghost use Rattle.std.specs.Option.{ForSome};
 ghost use Rattle.rfb_pixel.specs.declared.colour.Colour.{Colour};
 ghost use Rattle.rfb_picture.specs.Grid.{Grid};
@@ -8,7 +8,7 @@ ghost use Rattle.rfb_server.specs.Following.{Follows};
 ghost use Rattle.rfb_server.specs.Told.{seen};
 ghost use Rattle.rfb_session.specs.ShareSeats.{session_at};
 ghost use Rattle.rfb_session.specs.ShareSlots.{HearsIn, EndsIn};
-ghost use Rattle.rfb_session.specs.ShareSteps.{event_seen, seat_told};
+ghost use Rattle.rfb_session.specs.ShareSteps.{asks_alone, event_seen, seat_told};
 
 use crate::link::asks_sole;
 use crate::seat::Seat;
@@ -21,7 +21,7 @@ use rfb_hello::Fed;
 use rfb_server::ServerEvent;
 
 impl Share {
-    ghost use Rattle.rfb_session.specs.ShareSteps.{ReceivesAs, RefusesAs};
+    ghost use Rattle.rfb_session.specs.ShareSteps.{ReceivesAs, RefusesAs, HearsBy};
 
     /// Takes bytes that the viewer of a seat sent, up to the last of its first item that is
     /// answered or reported, or all. An answer waits after what waits there. What the viewer did is
@@ -38,15 +38,39 @@ impl Share {
             ReceivesAs self.old seat bytes.now heard self.new) }
         ensures refused { IfErr result (λ fault. RefusesAs self.old seat bytes.now fault self.new) }
     {
+        self.received_by(seat, bytes, true)
+    }
+
+    /// The same, where a viewer's wish to be alone is heeded, or is not: then no other seat is
+    /// changed.
+    pub fn received_by(
+        &mut self,
+        seat: Seat,
+        bytes: &[u8],
+        heeds: bool,
+    ) -> Result<Heard, ShareFault>
+        ensures used { IfOk result (λ heard. heard.used ≤ length bytes.now) }
+        ensures some { IfOk result (λ heard. 0 < length bytes.now → 0 < heard.used) }
+        ensures heard { IfOk result (λ heard.
+            HearsBy heeds self.old seat bytes.now heard self.new) }
+        ensures refused { IfErr result (λ fault. RefusesAs self.old seat bytes.now fault self.new) }
+    {
         let place = seat.place();
         self.stirred = self.stirred.with(seat);
         let fed = hear_in(&mut self.seats[place], bytes)?;
-        if asks_sole(&fed.event) {
+        if is_sole(heeds, &fed.event) {
             let ended = empty_others(&mut self.seats, place);
             return Ok(told_of(seat, fed, ended));
         }
         Ok(told_of(seat, fed, 0))
     }
+}
+
+// Whether a client of which this is reported is to have the screen alone.
+fn is_sole(heeds: bool, event: &Option<ServerEvent>) -> bool
+    ensures { result ≡ (heeds && asks_alone (seen event.now)) }
+{
+    if heeds { asks_sole(event) } else { false }
 }
 
 // The answer to bytes that were taken there, which emptied those seats.

@@ -1,4 +1,4 @@
-use Rattle.std.proofs.Common.{◌<◌, ◌≡◌, ℕ, true, length, set, sym, refl, ap, ◌∙◌, arith}
+use Rattle.std.proofs.Common.{◌<◌, ◌≡◌, ◌&&◌, ℕ, true, length, set, sym, refl, ap, ◌∙◌, arith}
 use Rattle.std.proofs.lemmas.List.{length-set}
 use Rattle.std.proofs.lemmas.Result.{err_from_is_err_and}
 use Rattle.rfb_picture.specs.Places.{has_bit}
@@ -6,11 +6,11 @@ use Rattle.rfb_server.specs.Following.{Follows}
 use Rattle.rfb_server.specs.Told.{seen}
 use Rattle.rfb_session.specs.ShareSteps.{asks_alone}
 use Rattle.rfb_session.proofs.FollowLemmas.{all_set, all_emptied}
-use Rattle.rfb_session.proofs.ShareLemmas.{refused_there, received_there, refused_as, received_as, alone_is, seen_none}
+use Rattle.rfb_session.proofs.ShareLemmas.{refused_there, received_there, refused_as, received_as, seen_none}
 use Rattle.rfb_session.proofs.SlotLemmas.{at_slot, each_seat, ends_sole, ends_none, flag_others}
 use Rattle.rfb_session.proofs.SlotLemmas.{stays_emptied, stays_clear, seat_set_same, seat_set_other}
 use Rattle.rfb_session.proofs.ShareWorkLemmas.{rest_more, rest_with, rest_emptied}
-use Rattle.rfb_session.proofs.share.Share.received.Goals as goal
+use Rattle.rfb_session.proofs.share.Share.received_by.Goals as goal
 
 pub invariant_of-self : goal.invariant_of-self
 invariant_of-self c =
@@ -53,8 +53,8 @@ returns-in_err-fed-clause-refused c =
     (record { screen = refl; made = refl })
     (λ j differ. seat_set_other s.seats k j c.hear_in.new.slot differ)))
 
-pub invariant_of-self-then-asks_sole : goal.invariant_of-self-then-asks_sole
-invariant_of-self-then-asks_sole c =
+pub invariant_of-self-then-is_sole : goal.invariant_of-self-then-is_sole
+invariant_of-self-then-is_sole c =
     let s = c.args.self.now in
     let k = c.place-place.result in
     let within : k < length s.seats = omega (arith, c.place-place.ensures.below, s.eight) in
@@ -77,19 +77,19 @@ invariant_of-self-then-asks_sole c =
           c.empty_others-ended.ensures.own c.empty_others-ended.ensures.others;
     }
 
-pub returns-then-asks_sole-clause-heard : goal.returns-then-asks_sole-clause-heard
-returns-then-asks_sole-clause-heard c =
+pub returns-then-is_sole-clause-heard : goal.returns-then-is_sole-clause-heard
+returns-then-is_sole-clause-heard c =
     let s = c.args.self.now in
     let k = c.place-place.result in
     let within : k < length s.seats = omega (arith, c.place-place.ensures.below, s.eight) in
     let told = seen c.in_ok-fed.fed.event in
-    let alone : asks_alone told ≡ true =
-    sym (alone_is told c.asks_sole.result c.asks_sole.ensures) ∙ c.if-asks_sole.true in
-    let bits = ends_sole s.seats k c.empty_others-ended.result c.hear_in.new.slot (asks_alone told)
+    let sole = c.args.heeds && asks_alone told in
+    let alone : sole ≡ true = sym c.is_sole.ensures ∙ c.if-is_sole.true in
+    let bits = ends_sole s.seats k c.empty_others-ended.result c.hear_in.new.slot sole
     alone c.empty_others-ended.ensures.ended in
     let ended = c.told_of.ensures.ended in
-    received_there s _ k c.args.seat c.args.bytes.now c.told_of.result c.place-place.ensures.value
-    (received_as s _ k c.args.bytes.now c.in_ok-fed.fed.used c.told_of.result told _ c.hear_in.new.slot
+    received_there c.args.heeds s _ k c.args.seat c.args.bytes.now c.told_of.result c.place-place.ensures.value
+    (received_as c.args.heeds s _ k c.args.bytes.now c.in_ok-fed.fed.used c.told_of.result told _ c.hear_in.new.slot
     c.in_ok-fed.ensures.heard (sym (at_slot s.seats k _ within))
     (c.empty_others-ended.ensures.own ∙ seat_set_same s.seats k c.hear_in.new.slot within)
     c.told_of.ensures.used
@@ -97,12 +97,12 @@ returns-then-asks_sole-clause-heard c =
     (c.told_of.ensures.seat ∙ sym c.place-place.ensures.value) c.told_of.ensures.event
     (λ j. ap (λ (n : ℕ). has_bit n j) ended ∙ bits j)
     (λ j differ. stays_emptied _ _ _ (flag_others s.seats k j c.empty_others-ended.result
-    c.told_of.result.ended (asks_alone told) ended alone bits differ)
+    c.told_of.result.ended sole ended alone bits differ)
     (c.empty_others-ended.ensures.others j differ))
     (record { screen = refl; made = refl }))
 
-pub invariant_of-self-else-asks_sole : goal.invariant_of-self-else-asks_sole
-invariant_of-self-else-asks_sole c =
+pub invariant_of-self-else-is_sole : goal.invariant_of-self-else-is_sole
+invariant_of-self-else-is_sole c =
     let s = c.args.self.now in
     let k = c.place-place.result in
     let within : k < length s.seats = omega (arith, c.place-place.ensures.below, s.eight) in
@@ -124,16 +124,15 @@ returns-clause-heard c =
     let k = c.place-place.result in
     let within : k < length s.seats = omega (arith, c.place-place.ensures.below, s.eight) in
     let told = seen c.in_ok-fed.fed.event in
-    let shares = sym (alone_is told c.asks_sole.result c.asks_sole.ensures)
-    ∙ c.if-asks_sole.false in
+    let shares = sym c.is_sole.ensures ∙ c.if-is_sole.false in
     let heard = c.told_of-2 in
-    received_there s _ k c.args.seat c.args.bytes.now heard.result c.place-place.ensures.value
-    (received_as s _ k c.args.bytes.now c.in_ok-fed.fed.used heard.result told _ c.hear_in.new.slot
+    received_there c.args.heeds s _ k c.args.seat c.args.bytes.now heard.result c.place-place.ensures.value
+    (received_as c.args.heeds s _ k c.args.bytes.now c.in_ok-fed.fed.used heard.result told _ c.hear_in.new.slot
     c.in_ok-fed.ensures.heard (sym (at_slot s.seats k _ within))
     (seat_set_same s.seats k c.hear_in.new.slot within) heard.ensures.used
     (λ none. c.in_ok-fed.ensures.all (seen_none c.in_ok-fed.fed.event none))
     (heard.ensures.seat ∙ sym c.place-place.ensures.value) heard.ensures.event
-    (ends_none s.seats k heard.result.ended (asks_alone told) shares heard.ensures.ended)
+    (ends_none s.seats k heard.result.ended (c.args.heeds && asks_alone told) shares heard.ensures.ended)
     (λ j differ. stays_clear heard.result.ended j _ _ heard.ensures.ended
     (seat_set_other s.seats k j c.hear_in.new.slot differ))
     (record { screen = refl; made = refl }))

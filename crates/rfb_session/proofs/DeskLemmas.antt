@@ -1,0 +1,182 @@
+-- What the calls of a desk come to, one after the other.
+use Rattle.std.proofs.Common.{◌≡◌, ◌≤◌, ◌<◌, ◌+◌, ◌++◌, ◌∙◌, ℕ, Bool, true, false, not, nat_eq, ◌&&◌, List, [], zero, suc}
+use Rattle.std.proofs.Common.{refl, sym, ap, subst, append_assoc, arith, inl, inr, length, cond}
+use Rattle.std.proofs.lemmas.Bool.{false≢true}
+use Rattle.std.proofs.lemmas.Bool.Decides.{eqb_tells, leb_tells}
+use Rattle.rfb_picture.specs.Places.{has_bit}
+use Rattle.rfb_session.specs.declared.console.desk.Desk.{Desk}
+use Rattle.rfb_session.specs.declared.console.guest.Guest.{Guest}
+use Rattle.rfb_session.specs.declared.console.guest.Progress.{Progress}
+use Rattle.rfb_session.specs.declared.console.guest.Progress.TheVariants.{Failing}
+use Rattle.rfb_session.specs.declared.console.plan.Rules.{Rules}
+use Rattle.rfb_session.specs.declared.share.Share.{Share}
+use Rattle.rfb_session.specs.declared.share.event.Heard.{Heard}
+use Rattle.rfb_session.specs.declared.share.event.ShareFault.{ShareFault}
+use Rattle.rfb_session.specs.Share.{seat_in, screen_of}
+use Rattle.rfb_session.specs.ShareSteps.{HearsBy, RefusesAs, asks_alone}
+use Rattle.rfb_session.specs.owner.Telling.{leave_line}
+use Rattle.rfb_session.specs.console.Telling.{leave_lines, told_line}
+use Rattle.rfb_session.specs.console.Desk.{nobody, guest_at, lines_of, is_over, tells_in, KeepsRules}
+use Rattle.rfb_session.specs.console.Steps.{ComposesUpTo, ComposesOne, MayCompose, Parts, TellsEvent, CountsTold}
+use Rattle.rfb_session.specs.console.Steps.{TellsOf, Fails, Stirs, HearsAt, Took, Refused, progress_after}
+
+-- the next seat
+pub composes_next : (n : ℕ) (old mid new : Desk) → ComposesUpTo n old mid → ComposesOne mid n new →
+    ComposesUpTo (n + 1) old new
+composes_next n old mid new before one = record {
+  seats = λ k within. elim (eqb_tells k n) [
+    | inl same ↦
+        subst (λ (m : ℕ). MayCompose (screen_of old.share) (seat_in old.share m) (seat_in new.share m))
+        (sym same.1)
+        (rw (sym before.screen.screen, sym (before.later n (omega arith))) one.seat)
+    | inr other ↦
+        subst (λ (s : _). MayCompose (screen_of old.share) (seat_in old.share k) s)
+        (sym (one.seats k other.0)) (before.seats k (omega (arith, within, other.1)))
+  ];
+  later = λ k from. one.seats k (differs k n (omega (arith, from)))
+      ∙ before.later k (omega (arith, from));
+  screen = record {
+    screen = one.screen.screen ∙ before.screen.screen;
+    made = one.screen.made ∙ before.screen.made;
+  };
+  beside = record {
+    guests = λ k. one.beside.guests k ∙ before.beside.guests k;
+    lines = one.beside.lines ∙ before.beside.lines;
+    rules = record {
+      rules = one.beside.rules.rules ∙ before.beside.rules.rules;
+      hold = one.beside.rules.hold ∙ before.beside.rules.hold;
+    };
+  };
+}
+  where
+    differs : (k n : ℕ) → n < k → nat_eq k n ≡ false
+    differs k n less = elim (eqb_tells k n) [
+      | inl same ↦ absurd (omega (arith, less, same.1))
+      | inr other ↦ other.0
+    ]
+
+-- ---- bytes of a viewer
+
+-- what is not among those that part stays
+parts_not : (k set : ℕ) (old new : Desk) → Parts old set new → has_bit set k ≡ false →
+    guest_at new k ≡ guest_at old k
+parts_not k set old new parts none = elim (leb_tells 8 k) [
+  | inl far ↦ parts.later k far.1
+  | inr near ↦ parts.guests k (omega (arith, near.1))
+      ∙ ap (λ (b : Bool). cond b nobody (guest_at old k)) none
+]
+
+pub tells_of_is : (old mid told new : Desk) (k : ℕ) (heard : Heard) → Parts old heard.ended mid →
+    TellsEvent mid k heard.event told → CountsTold told k new → TellsOf old k heard new
+tells_of_is old mid told new k heard parts tells counts = record {
+  share = counts.share ∙ tells.share ∙ parts.share;
+  progress = λ none. counts.progress ∙ tells.progress
+      ∙ ap (λ (g : Guest). progress_after heard.event g.progress)
+      (parts_not k heard.ended old mid parts none);
+  since = λ none. counts.since ∙ tells.since
+      ∙ ap (λ (g : Guest). g.since) (parts_not k heard.ended old mid parts none);
+  others = λ j within other. counts.others j other ∙ tells.others j other ∙ parts.guests j within;
+  lines = counts.lines ∙ tells.lines
+      ∙ ap (λ (l : List ℕ). l ++ told_line mid.rules.view_only k heard.event) parts.lines
+      ∙ append_assoc (lines_of old) (leave_lines (tells_in old heard.ended) 8)
+      (told_line mid.rules.view_only k heard.event)
+      ∙ ap (λ (r : Rules). lines_of old
+      ++ (leave_lines (tells_in old heard.ended) 8 ++ told_line r.view_only k heard.event))
+      parts.rules.rules;
+  rules = record {
+    rules = counts.rules.rules ∙ tells.rules.rules ∙ parts.rules.rules;
+    hold = counts.rules.hold ∙ tells.rules.hold ∙ parts.rules.hold;
+  };
+}
+
+and_false : (x : Bool) → (x && false) ≡ false
+and_false true = refl
+and_false false = refl
+
+-- whoever wishes to be alone is not let go for it
+pub not_itself : (heeds : Bool) (old new : Share) (k : ℕ) (bytes : List ℕ) (heard : Heard) →
+    HearsBy heeds old k bytes heard new → has_bit heard.ended k ≡ false
+not_itself heeds old new k bytes heard hears = elim (eqb_tells k k) [
+  | inl same ↦ hears.ended k
+      ∙ rw same.0 (and_false (heeds && asks_alone hears.told))
+  | inr other ↦ absurd (other.1 refl)
+]
+
+leave_lines_same : (f g : ℕ → Bool) → ((k : ℕ) → f k ≡ g k) → (n : ℕ) → leave_lines f n ≡ leave_lines g n
+leave_lines_same f g same zero = refl
+leave_lines_same f g same (suc n) =
+    ap (λ (l : List ℕ). l ++ cond (f n) (leave_line n) []) (leave_lines_same f g same n)
+    ∙ ap (λ (b : Bool). leave_lines g n ++ cond b (leave_line n) []) (same n)
+
+module _ (old mid heard_by new : Desk) (k : ℕ) (bytes : List ℕ) (stirs : Stirs old k mid)
+    (guests : (j : ℕ) → guest_at heard_by j ≡ guest_at mid j) (lines : lines_of heard_by ≡ lines_of mid)
+    (rules : KeepsRules mid heard_by) where
+  same_progress : (j : ℕ) → (guest_at heard_by j).progress ≡ (guest_at old j).progress
+  same_progress j = elim (eqb_tells j k) [
+    | inl same ↦ ap (λ (g : Guest). g.progress) (guests j)
+        ∙ subst (λ (n : ℕ). (guest_at mid n).progress ≡ (guest_at old n).progress) (sym same.1) stirs.progress
+    | inr other ↦ ap (λ (g : Guest). g.progress) (guests j ∙ stirs.others j other.0)
+  ]
+
+  pub hears_took : (heard : Heard) →
+      HearsBy (not mid.rules.always_shared) mid.share k bytes heard heard_by.share →
+      TellsOf heard_by k heard new → HearsAt old k bytes heard.used heard.ended new
+  hears_took heard hears tells =
+      let made = rules.rules ∙ stirs.rules.rules in
+      Took heard refl refl
+      (subst (λ (s : Share). HearsBy (not old.rules.always_shared) old.share k bytes heard s)
+      (sym tells.share)
+      (rw (ap (λ (r : Rules). r.always_shared) (sym stirs.rules.rules), sym stirs.share) hears))
+      (tells.progress (not_itself (not mid.rules.always_shared) mid.share heard_by.share k bytes heard hears)
+      ∙ ap (λ (g : Guest). progress_after heard.event g.progress) (guests k)
+      ∙ ap (λ (p : Progress). progress_after heard.event p) stirs.progress)
+      (λ j within other. tells.others j within other
+      ∙ ap (λ (g : Guest). cond (has_bit heard.ended j) nobody g) (guests j ∙ stirs.others j other))
+      (tells.lines
+      ∙ ap (λ (l : List ℕ). l ++ (leave_lines (tells_in heard_by heard.ended) 8
+      ++ told_line heard_by.rules.view_only k heard.event)) (lines ∙ stirs.lines)
+      ∙ ap (λ (l : List ℕ). lines_of old ++ (l ++ told_line heard_by.rules.view_only k heard.event))
+      (leave_lines_same (tells_in heard_by heard.ended) (tells_in old heard.ended)
+      (λ j. ap (λ (p : Progress). has_bit heard.ended j && not (is_over p)) (same_progress j)) 8)
+      ∙ ap (λ (r : Rules). lines_of old
+      ++ (leave_lines (tells_in old heard.ended) 8 ++ told_line r.view_only k heard.event)) made)
+      (record {
+        rules = tells.rules.rules ∙ made;
+        hold = tells.rules.hold ∙ rules.hold ∙ stirs.rules.hold;
+      })
+
+  pub hears_not : (fault : ShareFault) (ended : ℕ) (told : Bool) →
+      RefusesAs mid.share k bytes fault heard_by.share → ((j : ℕ) → has_bit ended j ≡ false) →
+      Fails heard_by k told new → HearsAt old k bytes (length bytes) ended new
+  hears_not fault ended told refuses none fails =
+      let was : (guest_at heard_by k).progress ≡ (guest_at old k).progress =
+      ap (λ (g : Guest). g.progress) (guests k) ∙ stirs.progress in
+      let over : told ≡ not (is_over (guest_at old k).progress) =
+      fails.told_is ∙ ap (λ (p : Progress). not (is_over p)) was in
+      let same = lines ∙ stirs.lines in
+      Refused fault refl none
+      (subst (λ (s : Share). RefusesAs old.share k bytes fault s) (sym fails.share)
+      (rw (sym stirs.share) refuses))
+      (record {
+        line = λ going.
+            let told_now : told ≡ true = over ∙ ap (λ (b : Bool). not b) going in
+            let line = fails.line told_now in
+            (line.0, line.1, line.2 ∙ ap (λ (l : List ℕ). l ++ line.0) same);
+        none = λ gone. fails.none (over ∙ ap (λ (b : Bool). not b) gone) ∙ same;
+      })
+      (over_after told (guest_at heard_by k).progress (guest_at new k).progress fails.told_is fails.progress)
+      (λ j other. fails.others j other ∙ guests j ∙ stirs.others j other)
+      (record {
+        rules = fails.rules.rules ∙ rules.rules ∙ stirs.rules.rules;
+        hold = fails.rules.hold ∙ rules.hold ∙ stirs.rules.hold;
+      })
+    where
+      over_after : (told : Bool) (was now : Progress) → told ≡ not (is_over was) →
+          now ≡ cond told Failing was → is_over now ≡ true
+      over_after true was now is becomes = ap (λ (p : Progress). is_over p) becomes
+      over_after false was now is becomes =
+          ap (λ (p : Progress). is_over p) becomes ∙ over_was (is_over was) is
+        where
+          over_was : (b : Bool) → false ≡ not b → b ≡ true
+          over_was true is = refl
+          over_was false is = absurd (false≢true is)

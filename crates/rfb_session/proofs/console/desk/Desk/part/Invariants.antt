@@ -1,0 +1,6 @@
+-- The seats so far are told of.
+use Rattle.rfb_session.specs.console.Steps.{PartsUpTo}
+use Rattle.rfb_session.proofs.console.desk.Desk.part.Given as goal
+
+abbrev pub invariant-loop-place : goal.invariant-loop-place
+invariant-loop-place l = PartsUpTo l.place l.fn.self l.seats l.self

@@ -1,0 +1,33 @@
+use Rattle.std.proofs.Common.{ℕ, ◌+◌, ◌∙◌, Option, ap, subst, arith}
+use Rattle.rfb_session.specs.console.Console.{IsFull}
+use Rattle.rfb_session.specs.console.Steps.{Admits}
+use Rattle.rfb_session.proofs.console.hosting.ConsoleHost.opened.Goals as goal
+
+pub returns-in_err-admission-clause-none : goal.returns-in_err-admission-clause-none
+returns-in_err-admission-clause-none g c = λ none.
+    let side = c.note_gave_way.ensures.side in
+    IsFull c.in-Some.desk c.admit.new.self c.in-Some.is c.note_gave_way.ensures.desk c.in-Ok.admission.left
+    (subst (λ (seat : Option ℕ). Admits c.in-Some.desk c.args.from.now seat c.in-Ok.admission.left
+    c.admit.new.self) c.in_err-admission.was c.in-Ok.ensures)
+    (record { reader = side.owner.reader; input = side.owner.input })
+
+pub returns-clause-some : goal.returns-clause-some
+returns-clause-some g c =
+    let side = c.note_gave_way.ensures.side in (
+      omega (arith, c.if-doors-lt-READ.false, c.place-door.ensures.below),
+      record {
+        was = c.in-Some.desk;
+        now = c.admit.new.self;
+        was_there = c.in-Some.is;
+        is_there = c.open_room.ensures.desk ∙ c.note_gave_way.ensures.desk;
+        seat = c.in_ok-admission.field-0;
+        door_is = ap (λ (n : ℕ). n + 1) c.place-door.ensures.value;
+        left = c.in-Ok.admission.left;
+        admits = subst (λ (seat : Option ℕ). Admits c.in-Some.desk c.args.from.now seat c.in-Ok.admission.left
+            c.admit.new.self) c.in_ok-admission.was c.in-Ok.ensures;
+        owner = record {
+          reader = c.open_room.ensures.owner.reader ∙ side.owner.reader;
+          input = c.open_room.ensures.owner.input ∙ side.owner.input;
+        };
+      },
+    )

@@ -1,0 +1,5 @@
+pub mod Desk
+pub mod Telling
+pub mod Time
+pub mod Steps
+pub mod Console

@@ -1,0 +1,251 @@
+-- What a console is behind its doors, and what happens there.
+use Rattle.std.specs.Prelude.{◌≡◌, ◌≢◌, ◌<◌, ◌≤◌, ◌⊎◌, ℕ, ◌+◌, ◌-◌, ◌==◌, Bool, true, false, nat_le, ◌&&◌}
+use Rattle.std.specs.Prelude.{List, [], Option, Some, None, length, take, slice_index_or, if◌then◌else◌}
+use Rattle.rfb_server.specs.Drawing.{Stroke, Bytes, Fill as OneFill, Copy as OneCopy, Hint as OneHint}
+use Rattle.rfb_server.specs.Drawing.{Scroll as OneScroll}
+use Rattle.rfb_session.specs.declared.console.Console.{Console}
+use Rattle.rfb_session.specs.declared.console.Outcome.{Outcome}
+use Rattle.rfb_session.specs.declared.console.Outcome.TheVariants.{Quit, Idle, BadLine, NoMemory, Device}
+use Rattle.rfb_session.specs.declared.console.desk.Desk.{Desk}
+use Rattle.rfb_session.specs.declared.console.desk.Hold.TheVariants.{Begins}
+use Rattle.rfb_session.specs.declared.console.plan.Rules.{Rules}
+use Rattle.rfb_session.specs.declared.language.screen.Screen.{Screen as Size}
+use Rattle.rfb_session.specs.declared.owner.order.Order.{Order}
+use Rattle.rfb_session.specs.declared.owner.order.OwnerLine.{OwnerLine}
+use Rattle.rfb_session.specs.declared.owner.order.OwnerLine.TheVariants as Line
+use Rattle.rfb_session.specs.doors.Events.{Event, Received, Ended, Failed, Wrote, Turned}
+use Rattle.rfb_session.specs.owner.Reader.{Feeds, ClosesFrom, IsFreshReader}
+use Rattle.rfb_session.specs.owner.Telling.{leave_line}
+use Rattle.rfb_session.specs.Share.{waits_at}
+use Rattle.rfb_session.specs.console.Desk.{guest_at, lines_of, is_over}
+use Rattle.rfb_session.specs.console.Steps.{HearsAt, LetsGo, LetsGoFor, Admits, TurnsAs, IsFreshDesk, DrawsAs, HoldsAs, ShowsAs}
+use Rattle.rfb_session.specs.console.Steps.{WritesLines, WritesSeat}
+
+-- ---- doors
+
+-- the lines that wait for the owner
+abbrev pub lines_on : Option Desk → List ℕ
+lines_on None = []
+lines_on (Some desk) = lines_of desk
+
+-- the bytes that wait at a seat
+abbrev pub seat_waits : Option Desk → ℕ → List ℕ
+seat_waits None k = []
+seat_waits (Some desk) k = waits_at desk.share k
+
+-- whether nobody sits at a seat, or who sits there has failed
+abbrev pub seat_over : Option Desk → ℕ → Bool
+seat_over None k = true
+seat_over (Some desk) k = is_over (guest_at desk k).progress
+
+-- a door is a seat's: they have the doors 1 to 8
+abbrev pub is_seat : ℕ → Bool
+is_seat d = nat_le 1 d && nat_le d 8
+
+-- what tells the owner has failed
+abbrev pub is_lost : Option Outcome → Bool
+is_lost None = false
+is_lost (Some Quit) = false
+is_lost (Some Idle) = false
+is_lost (Some (BadLine line)) = false
+is_lost (Some NoMemory) = false
+is_lost (Some Device) = true
+
+-- the desk has done so; or there is none; or all has ended before, and nothing was done; or memory for a line
+-- was wanting, with which all ends
+pub data OnDesk (does : Desk → Desk → Type 0) (old : Option Desk) (ended : Option Outcome)
+    (new : Option Desk) (ends : Option Outcome) : Type 0 where
+  NoDesk : old ≡ None → new ≡ None → OnDesk does old ended new ends
+  Over : ended ≢ None → new ≡ old → OnDesk does old ended new ends
+  Done : (a b : Desk) → old ≡ Some a → new ≡ Some b → does a b → OnDesk does old ended new ends
+  RanOut : ends ≡ Some NoMemory → OnDesk does old ended new ends
+
+-- ---- what the owner says
+
+-- a drawing is done, or leaves the screen
+abbrev pub Draws : Stroke → Option Desk → Option Outcome → Option Desk → Option Outcome → Type 0
+Draws stroke old ended new ends = OnDesk (λ a b. (done : Bool) × DrawsAs a stroke done b) old ended new ends
+
+-- the screen is there, or there was no memory for it
+abbrev pub OpensDesk : List ℕ → Rules → Size → Option Desk → Option Outcome → Type 0
+OpensDesk name rules size new ends =
+    ((desk : Desk) × (new ≡ Some desk) × IsFreshDesk size name rules desk) ⊎ (ends ≡ Some NoMemory)
+
+-- a line is done, as far as it can be: nothing is drawn before there is a screen
+abbrev pub ObeysLine : List ℕ → Rules → OwnerLine → Option Desk → Option Outcome → Option Desk → Option Outcome →
+    Type 0
+ObeysLine name rules (Line.Screen size) old ended new ends = OpensDesk name rules size new ends
+ObeysLine name rules (Line.Fill rect colour) old ended new ends = Draws (OneFill rect colour) old ended new ends
+ObeysLine name rules (Line.Copy rect sx sy) old ended new ends = Draws (OneCopy rect sx sy) old ended new ends
+ObeysLine name rules (Line.Hint rect sx sy) old ended new ends = Draws (OneHint rect sx sy) old ended new ends
+ObeysLine name rules (Line.Scroll rect dx dy) old ended new ends = Draws (OneScroll rect dx dy) old ended new ends
+ObeysLine name rules (Line.Pixels rect) old ended new ends = new ≡ old
+ObeysLine name rules (Line.End number) old ended new ends =
+    ((8 ≤ number) × (new ≡ old))
+    ⊎ OnDesk (λ a b. (taken : Bool) × LetsGo a number taken (leave_line number) b) old ended new ends
+ObeysLine name rules Line.Hold old ended new ends = OnDesk (λ a b. HoldsAs a Begins b) old ended new ends
+ObeysLine name rules Line.Show old ended new ends = OnDesk ShowsAs old ended new ends
+ObeysLine name rules Line.Quit old ended new ends = (new ≡ old) × (ends ≡ Some Quit)
+
+abbrev pub Obeys : List ℕ → Rules → Order → Option Desk → Option Outcome → Option Desk → Option Outcome → Type 0
+Obeys name rules Order.Nothing old ended new ends = new ≡ old
+Obeys name rules (Order.Line line) old ended new ends = ObeysLine name rules line old ended new ends
+Obeys name rules (Order.Pixels rect bytes) old ended new ends = Draws (Bytes rect bytes.items) old ended new ends
+Obeys name rules (Order.Refused why) old ended new ends = new ≡ old
+
+abbrev pub ObeysSome : List ℕ → Rules → Option Order → Option Desk → Option Outcome → Option Desk →
+    Option Outcome → Type 0
+ObeysSome name rules None old ended new ends = new ≡ old
+ObeysSome name rules (Some order) old ended new ends = Obeys name rules order old ended new ends
+
+-- ---- doors
+
+-- one thing at the owner's door, one at a seat's, and others at those of lines and of notes
+pub record ByDoor (door : ℕ) (owner : Type 0) (seat : ℕ → Type 0) (lines notes : Type 0) : Type 0 where
+  pub at_owner : door ≡ 0 → owner
+  pub at_seat : (k : ℕ) → k < 8 → door ≡ k + 1 → seat k
+  pub at_lines : door ≡ 9 → lines
+  pub at_notes : door ≡ 10 → notes
+
+module _ {S : Type 0} where
+  abbrev pub waiting_at : Console S → ℕ → List ℕ
+  waiting_at console d =
+      if d == 10 then console.notes.items
+      else (if d == 9 then lines_on console.desk
+      else (if is_seat d then seat_waits console.desk (d - 1) else []))
+
+  abbrev pub space_at : Console S → ℕ → ℕ
+  space_at console d = slice_index_or console.rooms d 0
+
+  abbrev pub closed_at : Console S → ℕ → Bool
+  closed_at console d =
+      if d == 0 then console.has_input_ended
+      else (if d == 9 then is_lost console.outcome
+      else (if d == 10 then console.are_notes_lost
+      else (if is_seat d then seat_over console.desk (d - 1) else true)))
+
+  -- a console that was told nothing
+  pub record IsFreshConsole (console : Console S) : Type 0 where
+    pub desk : console.desk ≡ None
+    pub reader : IsFreshReader console.reader
+    pub outcome : console.outcome ≡ None
+    pub notes : console.notes.items ≡ []
+
+  -- the owner's side is as it was
+  pub record KeepsOwner (old new : Console S) : Type 0 where
+    pub reader : new.reader ≡ old.reader
+    pub input : new.has_input_ended ≡ old.has_input_ended
+
+  -- nothing is done at the desk
+  abbrev pub KeepsDesk : Console S → Console S → Type 0
+  KeepsDesk old new = new.desk ≡ old.desk
+
+  -- all but the desk and the outcome, notes and how many lines came, is as it was
+  pub record KeepsSide (old new : Console S) : Type 0 where
+    pub owner : KeepsOwner old new
+    pub rooms : new.rooms ≡ old.rooms
+    pub rules : new.rules ≡ old.rules
+    pub name : new.name ≡ old.name
+
+  -- nothing but how much is taken at each door
+  pub record KeepsButRooms (old new : Console S) : Type 0 where
+    pub desk : new.desk ≡ old.desk
+    pub outcome : new.outcome ≡ old.outcome
+    pub owner : KeepsOwner old new
+    pub next : new.next ≡ old.next
+
+  -- nothing but notes has changed
+  pub record KeepsButNotes (old new : Console S) : Type 0 where
+    pub desk : new.desk ≡ old.desk
+    pub outcome : new.outcome ≡ old.outcome
+    pub side : KeepsSide old new
+
+  -- ---- what happens
+
+  -- a call of the desk, and nothing at the owner's side
+  pub record DoesOnDesk (does : Desk → Desk → Type 0) (old new : Console S) : Type 0 where
+    pub desk : OnDesk does old.desk old.outcome new.desk new.outcome
+    pub owner : KeepsOwner old new
+
+  -- bytes came at a seat, of which so many were taken
+  abbrev pub HearsBytes : Console S → ℕ → List ℕ → ℕ → Console S → Type 0
+  HearsBytes old k bytes used new = DoesOnDesk (λ a b. (ended : ℕ) × HearsAt a k bytes used ended b) old new
+
+  -- these are they
+  abbrev pub HearsSeat : Console S → ℕ → List ℕ → Console S → Type 0
+  HearsSeat old k part new =
+      (bytes : List ℕ) × (used : ℕ) × (part ≡ take used bytes) × HearsBytes old k bytes used new
+
+  -- the viewer of a seat has left, and its connection has failed
+  abbrev pub LeavesSeat : Console S → ℕ → Console S → Type 0
+  LeavesSeat old k new = DoesOnDesk (λ a b. (taken : Bool) × LetsGo a k taken (leave_line k) b) old new
+
+  abbrev pub LosesSeat : Console S → ℕ → Console S → Type 0
+  LosesSeat old k new = DoesOnDesk (λ a b. (taken : Bool) × LetsGoFor a k taken b) old new
+
+  -- a turn, at this time
+  abbrev pub TurnsDesk : Console S → ℕ → Console S → Type 0
+  TurnsDesk old now new = DoesOnDesk (λ a b. (slow stuck : ℕ) × TurnsAs a now slow stuck b) old new
+
+  -- ---- what the owner says
+
+  -- an order of the owner's is obeyed, as far as it can be
+  abbrev pub ObeysOrder : Console S → Order → Console S → Type 0
+  ObeysOrder old order new = Obeys old.name.items old.rules order old.desk old.outcome new.desk new.outcome
+
+  -- bytes of the owner's: they are read, and what they say is obeyed once; after the end they are not
+  pub data HearsOwner (old : Console S) (part : List ℕ) (new : Console S) : Type 0 where
+    Ignored : old.outcome ≢ None → new.desk ≡ old.desk → KeepsOwner old new → HearsOwner old part new
+    Heard : (order : Option Order) → Feeds old.reader part order new.reader →
+        ObeysSome old.name.items old.rules order old.desk old.outcome new.desk new.outcome →
+        new.has_input_ended ≡ old.has_input_ended → HearsOwner old part new
+
+  -- no more of them come: what came after the last newline is obeyed as a line, once
+  pub data EndsOwner (old new : Console S) : Type 0 where
+    EndedBefore : new.desk ≡ old.desk → new.reader ≡ old.reader → EndsOwner old new
+    EndsNow : (order : Option Order) → ClosesFrom old.reader.screen old.reader.stage order new.reader →
+        (ends : Option Outcome) → ObeysSome old.name.items old.rules order old.desk old.outcome new.desk ends →
+        (ends ≢ None → new.outcome ≡ ends) → new.has_input_ended ≡ true → EndsOwner old new
+
+  -- ---- all that happens at the doors
+
+  -- its owner is not heard any more, and what came of a line is passed over
+  pub record LosesOwner (old new : Console S) : Type 0 where
+    pub desk : new.desk ≡ old.desk
+    pub input : new.has_input_ended ≡ true
+
+  abbrev pub Steps : Console S → Event → Console S → Type 0
+  Steps old (Received door bytes) new =
+      ByDoor door (HearsOwner old bytes new) (λ k. HearsSeat old k bytes new)
+      (KeepsDesk old new) (KeepsDesk old new)
+  Steps old (Ended door) new =
+      ByDoor door (EndsOwner old new) (λ k. LeavesSeat old k new) (KeepsDesk old new) (KeepsDesk old new)
+  Steps old (Failed door) new =
+      ByDoor door (LosesOwner old new) (λ k. LosesSeat old k new)
+      (KeepsDesk old new × (new.outcome ≡ Some Device)) (KeepsDesk old new)
+  Steps old (Wrote door bytes) new =
+      ByDoor door (KeepsDesk old new)
+      (λ k. DoesOnDesk (λ a b. WritesSeat a k (length bytes) b) old new)
+      (DoesOnDesk (λ a b. WritesLines a (length bytes) b) old new) (KeepsDesk old new)
+  Steps old (Turned now) new = TurnsDesk old now new
+
+  -- ---- who comes
+
+  -- a connection from there has the door of a seat, which it has just taken
+  pub record OpensAs (old : Console S) (door : ℕ) (from : List ℕ) (new : Console S) : Type 0 where
+    pub was : Desk
+    pub now : Desk
+    pub was_there : old.desk ≡ Some was
+    pub is_there : new.desk ≡ Some now
+    pub seat : ℕ
+    pub door_is : door ≡ seat + 1
+    pub left : Option ℕ
+    pub admits : Admits was from (Some seat) left now
+    pub owner : KeepsOwner old new
+
+  -- it has none: there is no screen yet, or none is free, which is told; or memory for that was wanting
+  pub data DeclinesAs (old : Console S) (from : List ℕ) (new : Console S) : Type 0 where
+    NotYet : KeepsDesk old new → KeepsOwner old new → DeclinesAs old from new
+    IsFull : (was now : Desk) → old.desk ≡ Some was → new.desk ≡ Some now → (left : Option ℕ) →
+        Admits was from None left now → KeepsOwner old new → DeclinesAs old from new
+    WantsMemory : new.outcome ≡ Some NoMemory → DeclinesAs old from new

@@ -1,0 +1,49 @@
+-- What a desk has: its share, the lines that wait for the owner, and what is known of each viewer.
+use Rattle.std.specs.Prelude.{◌≡◌, ℕ, Bool, true, false, ◌&&◌, not, nat_eq, List, [], ◌++◌, Option, None, slice_index_or}
+use Rattle.rfb_picture.specs.Places.{has_bit}
+use Rattle.rfb_session.specs.declared.console.desk.Desk.{Desk}
+use Rattle.rfb_session.specs.declared.console.guest.Guest.{Guest}
+use Rattle.rfb_session.specs.declared.console.guest.Progress.{Progress}
+use Rattle.rfb_session.specs.declared.console.guest.Progress.TheVariants.{Absent, Shaking, Ready, Failing}
+use Rattle.rfb_session.specs.declared.share.Share.{Share}
+
+-- there is no viewer
+abbrev pub nobody : Guest
+nobody = record { progress = Absent; since = None; idle = None; told = 0 }
+
+-- one has just come
+abbrev pub newcomer : Guest
+newcomer = record { progress = Shaking; since = None; idle = None; told = 0 }
+
+abbrev pub guest_at : Desk → ℕ → Guest
+guest_at desk k = slice_index_or desk.guests k nobody
+
+abbrev pub lines_of : Desk → List ℕ
+lines_of desk = desk.lines.items
+
+-- no more is read there: there is no viewer, or it has failed
+abbrev pub is_over : Progress → Bool
+is_over Absent = true
+is_over Shaking = false
+is_over Ready = false
+is_over Failing = true
+
+-- its handshake is not done, or it has failed: it gives way to whoever comes
+abbrev pub gives_way : Progress → Bool
+gives_way Absent = false
+gives_way Shaking = true
+gives_way Ready = false
+gives_way Failing = true
+
+-- of the seats of a set it is told that their viewers go, but of those that were told to have failed
+abbrev pub tells_in : Desk → ℕ → ℕ → Bool
+tells_in desk set k = has_bit set k && not (is_over (guest_at desk k).progress)
+
+-- the rules, the hold and the screen's sessions are as they were
+pub record KeepsRules (old new : Desk) : Type 0 where
+  pub rules : new.rules ≡ old.rules
+  pub hold : new.hold ≡ old.hold
+
+-- what is known of every other viewer is as it was
+abbrev pub OtherGuests : Desk → ℕ → Desk → Type 0
+OtherGuests old k new = (j : ℕ) → nat_eq j k ≡ false → guest_at new j ≡ guest_at old j

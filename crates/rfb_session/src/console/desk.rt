@@ -1,0 +1,200 @@
+//! A share, the lines that wait for its owner, and what is known of each viewer.
+
+ghost use Rattle.std.specs.Prelude.{◌≡◌, length};
+
+mod admitting;
+mod composing;
+pub(crate) mod hearing;
+mod letting_go;
+pub(crate) mod turning;
+
+use crate::console::guest::{Guest, Progress, TOLD_MOST};
+use crate::console::plan::Rules;
+use crate::language::Screen;
+use crate::seat::Seat;
+use crate::share::Share;
+use crate::slots::SLOTS;
+use rfb_server::{Drawing, Outside, ServerSetup as ShareSetup};
+use std::alloc::{AllocError, Global};
+
+/// Whether updates are held back, since when, and for how long at most.
+#[derive(Clone, Copy, Debug, PartialEq, Eq)]
+pub(crate) enum Hold {
+    /// They are not.
+    Shown,
+    /// They are, from the next turn on.
+    Begins,
+    /// They are, since this time.
+    Since(u64),
+}
+
+/// What is behind the doors of a console once the owner has said how large the screen is.
+#[derive(Debug, Drop)]
+pub(crate) struct Desk {
+    pub share: Share,
+    guests: [Guest; SLOTS],
+    // The lines that wait for the owner.
+    lines: Vec<u8>,
+    rules: Rules,
+    hold: Hold,
+    // Whether a viewer ever came.
+    came: bool,
+    // When it wants the next turn.
+    next: Option<u64>,
+    ghost eight: { length guests ≡ 8 },
+}
+
+impl Desk {
+    ghost use Rattle.std.specs.Prelude.{◌++◌, ◌≤◌, [], ◌<◌, drop, IfOk};
+    ghost use Rattle.rfb_picture.specs.Grid.{uniform};
+    ghost use Rattle.rfb_server.specs.Server.{black};
+    ghost use Rattle.rfb_server.specs.Drawing.{stroke};
+    ghost use Rattle.rfb_session.specs.Share.{waits_at};
+    ghost use Rattle.rfb_session.specs.console.Desk.{lines_of, guest_at, is_over};
+    ghost use Rattle.rfb_session.specs.console.Steps.{IsFreshDesk, DrawsAs, HoldsAs, ShowsAs, WritesLines, WritesSeat, ForgetsTold};
+
+    /// A desk with a black screen of this size, and no viewer.
+    pub(crate) fn new(
+        alloc: Global,
+        screen: Screen,
+        name: &[u8],
+        rules: Rules,
+    ) -> Result<Desk, AllocError>
+        requires name { length name.now ≤ 255 }
+        ensures { IfOk result (IsFreshDesk screen name.now rules) }
+    {
+        let setup = ShareSetup {
+            text_limit: rules.text_limit,
+            ..ShareSetup::usual(screen.width, screen.height, name)
+        };
+        let share = Share::of(alloc, setup)?;
+        let lines = Vec::with_capacity(alloc, LINES_ROOM)?;
+        Ok(Desk {
+            share,
+            guests: [Guest::none(); SLOTS],
+            lines,
+            rules,
+            hold: Hold::Shown,
+            came: false,
+            next: None,
+        })
+    }
+
+    /// The screen's width and height.
+    pub(crate) fn size(&self) -> (u16, u16) {
+        let screen = self.share.picture();
+        (screen.width(), screen.height())
+    }
+
+    /// Draws, as `Share::draw` does, and tells whether it could.
+    pub(crate) fn draw(&mut self, drawing: &Drawing<'_>) -> bool
+        ensures { DrawsAs self.old (stroke drawing.now) result self.new }
+    {
+        match self.share.draw(drawing) {
+            Ok(()) => true,
+            Err(Outside) => false,
+        }
+    }
+
+    /// Updates are held back from here on, or are not any more.
+    pub(crate) fn hold(&mut self, hold: Hold)
+        ensures { HoldsAs self.old hold self.new }
+    {
+        self.hold = hold;
+    }
+
+    /// What was held back is shown: an update is composed for each viewer for which nothing waits,
+    /// before a next scene begins.
+    pub(crate) fn show(&mut self)
+        ensures { ShowsAs self.old self.new }
+    {
+        self.hold(Hold::Shown);
+        self.compose();
+    }
+
+    /// The lines that wait for the owner.
+    pub(crate) fn lines(&self) -> &[u8]
+        ensures { result.now ≡ lines_of self.now }
+    {
+        self.lines.as_slice()
+    }
+
+    /// The first `count` bytes of them are written.
+    pub(crate) fn written_lines(&mut self, count: usize)
+        requires { count ≤ length (lines_of self.old) }
+        ensures { WritesLines self.old count self.new }
+    {
+        self.lines.drain(..count);
+        if self.lines.is_empty() {
+            self.forget_told();
+        }
+    }
+
+    // No line waits that tells of a viewer.
+    fn forget_told(&mut self)
+        ensures { ForgetsTold self.old self.new }
+    {
+        for place in 0..SLOTS {
+            self.forget_told_at(place);
+        }
+    }
+
+    fn forget_told_at(&mut self, place: usize)
+        requires { place < 8 }
+        ensures { ForgetsTold self.old self.new }
+    {
+        self.guests[place].told = 0;
+    }
+
+    /// The bytes that wait for the viewer of a seat.
+    pub(crate) fn to_write(&self, seat: Seat) -> &[u8]
+        ensures { result.now ≡ waits_at self.now.share seat }
+    {
+        self.share.to_write(seat)
+    }
+
+    /// The first `count` bytes that wait at a seat are written.
+    pub(crate) fn written(&mut self, seat: Seat, count: usize)
+        ensures { WritesSeat self.old seat count self.new }
+    {
+        self.share.written(seat, count);
+        self.guests[seat.place()].idle = None;
+    }
+
+    /// Whether no more is read at a seat: there is no viewer, or it has failed.
+    pub(crate) fn is_over(&self, seat: Seat) -> bool
+        ensures { result ≡ is_over (guest_at self.now seat).progress }
+    {
+        match self.guests[seat.place()].progress {
+            Progress::Absent | Progress::Failing => true,
+            Progress::Shaking | Progress::Ready => false,
+        }
+    }
+
+    /// Whether more of a viewer may be told of.
+    pub(crate) fn is_heard(&self, seat: Seat) -> bool {
+        !self.is_over(seat) && self.guests[seat.place()].told < TOLD_MOST
+    }
+
+    /// Whether viewers came, and the last of them has gone.
+    pub(crate) fn is_idle(&self) -> bool {
+        self.came
+            && self
+                .guests
+                .iter()
+                .all(|guest| guest.progress == Progress::Absent)
+    }
+
+    /// Whether a newcomer could be told of.
+    pub(crate) fn has_room(&self) -> bool {
+        self.lines.len() < LINES_ROOM
+    }
+
+    /// When it wants the next turn.
+    pub(crate) fn next(&self) -> Option<u64> {
+        self.next
+    }
+}
+
+// How many bytes of lines there is room for from the beginning. Where more wait, nobody comes.
+const LINES_ROOM: usize = 1 << 16;

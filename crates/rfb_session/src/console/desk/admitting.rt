@@ -1,0 +1,114 @@
+//! Connections that come to a console.
+
+ghost use Rattle.std.specs.Prelude.{◌≡◌, ◌<◌, true, IfOk, IfSome};
+ghost use Rattle.rfb_session.specs.console.Desk.{gives_way, guest_at};
+ghost use Rattle.rfb_session.specs.console.Steps.{Admits, AdmitsAs, Welcomes, TurnsAway, MakesRoom};
+
+use crate::console::desk::Desk;
+use crate::console::guest::{Guest, Progress};
+use crate::console::lines::{tell_busy, tell_come};
+use crate::seat::Seat;
+use crate::slots::SLOTS;
+use std::io;
+
+/// What became of a connection.
+#[derive(Clone, Copy, Debug)]
+pub(crate) struct Admission {
+    /// The seat that it takes, if one is had.
+    pub seat: Option<Seat>,
+    /// Who gave way to it.
+    pub left: Option<Seat>,
+}
+
+impl Desk {
+    /// A connection from there takes a seat, and a line tells it. Where there are as many viewers
+    /// as there may be, the oldest one whose handshake is not done gives way to it; where all are
+    /// done, or there is no memory for a session, a line says so and it gets none. An error is want
+    /// of memory for a line.
+    pub(crate) fn admit(&mut self, from: &str) -> io::Result<Admission>
+        ensures { IfOk result (λ told. Admits self.old from.now told.seat told.left self.new) }
+    {
+        let left = self.make_room()?;
+        let seat = self.admit_one(from)?;
+        Ok(Admission { seat, left })
+    }
+
+    // A connection takes a seat, if one is had.
+    fn admit_one(&mut self, from: &str) -> io::Result<Option<Seat>>
+        ensures { IfOk result (λ seat. AdmitsAs self.old from.now seat self.new) }
+    {
+        if self.is_full() {
+            return self.turn_away(from);
+        }
+        match self.share.join() {
+            Ok(Some(seat)) => {
+                self.welcome(seat);
+                tell_come(&mut self.lines, seat, from)?;
+                Ok(Some(seat))
+            }
+            Ok(None) => self.turn_away(from),
+            Err(_) => self.turn_away(from),
+        }
+    }
+
+    // A viewer has taken a seat.
+    fn welcome(&mut self, seat: Seat)
+        ensures { Welcomes self.old seat self.new }
+    {
+        self.guests[seat.place()] = Guest::new();
+        self.came = true;
+    }
+
+    // There is no seat for a connection.
+    fn turn_away(&mut self, from: &str) -> io::Result<Option<Seat>>
+        ensures { IfOk result (λ seat. TurnsAway self.old from.now seat self.new) }
+    {
+        tell_busy(&mut self.lines, from)?;
+        Ok(None)
+    }
+
+    // Where no more may come, the oldest viewer whose handshake is not done is let go.
+    fn make_room(&mut self) -> io::Result<Option<Seat>>
+        ensures { IfOk result (λ left. MakesRoom self.old left self.new) }
+    {
+        if !self.is_full() {
+            return Ok(None);
+        }
+        let Some(place) = self.oldest_undone() else {
+            return Ok(None);
+        };
+        let seat = Seat::at(place);
+        self.let_go(seat)?;
+        Ok(Some(seat))
+    }
+
+    // Whether there are as many viewers as there may be.
+    fn is_full(&self) -> bool {
+        let mut count: u8 = 0;
+        for guest in &self.guests {
+            if guest.progress != Progress::Absent {
+                count = count.saturating_add(1);
+            }
+        }
+        count >= self.rules.viewers
+    }
+
+    // The place of the viewer whose handshake lasts longest, of those that give way.
+    fn oldest_undone(&self) -> Option<usize>
+        ensures { IfSome result (λ k. (k < 8) × (gives_way (guest_at self.now k).progress ≡ true)) }
+    {
+        let mut found = None;
+        let mut oldest = u64::MAX;
+        for place in 0..SLOTS {
+            let guest = &self.guests[place];
+            if guest.gives_way() {
+                let since = guest.since.unwrap_or(u64::MAX);
+                if found.is_none() || since < oldest {
+                    found = Some(place);
+                    oldest = since;
+                }
+            }
+        }
+        found
+    }
+}

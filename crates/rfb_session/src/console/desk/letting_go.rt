@@ -1,0 +1,109 @@
+//! Viewers that are let go.
+
+ghost use Rattle.std.specs.Prelude.{◌≡◌, ◌<◌, ℕ, List, IfOk, OnOk, cond, []};
+ghost use Rattle.rfb_picture.specs.Places.{has_bit};
+ghost use Rattle.rfb_session.specs.owner.Telling.{leave_line};
+ghost use Rattle.rfb_session.specs.console.Telling.{IsFaultLine};
+ghost use Rattle.rfb_session.specs.console.Desk.{nobody, guest_at, lines_of, KeepsRules, OtherGuests};
+ghost use Rattle.rfb_session.specs.console.Steps.{LetsGo, LetsGoFor, LetsGoIf, LetsAllGo, Vacates, Parts, PartsAt};
+ghost use Rattle.rfb_session.specs.ShareSteps.{LeavesAs};
+
+use crate::console::desk::Desk;
+use crate::console::guest::Guest;
+use crate::console::lines::tell_failed;
+use crate::owner::tell_leave;
+use crate::seat::Seat;
+use crate::seats::Seats;
+use crate::slots::SLOTS;
+use std::fmt::Display;
+use std::io;
+
+impl Desk {
+    /// The viewer of a seat is let go, if there is one, with nothing wrong. A line tells the owner,
+    /// unless one told that it failed, and whether it does is the answer. An error is want of
+    /// memory for the line.
+    pub(crate) fn let_go(&mut self, seat: Seat) -> io::Result<bool>
+        ensures { IfOk result (λ taken. LetsGo self.old seat taken (leave_line seat) self.new) }
+    {
+        if !self.vacate(seat) {
+            return Ok(false);
+        }
+        tell_leave(&mut self.lines, seat.number())?;
+        Ok(true)
+    }
+
+    /// The same for a fault.
+    pub(crate) fn let_go_for<F: Display>(&mut self, seat: Seat, fault: &F) -> io::Result<bool>
+        ensures { IfOk result (λ taken. LetsGoFor self.old seat taken self.new) }
+    {
+        if !self.vacate(seat) {
+            return Ok(false);
+        }
+        tell_failed(&mut self.lines, seat, fault)?;
+        Ok(true)
+    }
+
+    /// The seat is empty, and nobody is told. It tells whether that is to be told: there was a
+    /// viewer, and it was not told to have failed.
+    pub(crate) fn vacate(&mut self, seat: Seat) -> bool
+        ensures { Vacates self.old seat result self.new }
+    {
+        let is_over = self.is_over(seat);
+        self.guests[seat.place()] = Guest::none();
+        let taken = self.share.left(seat);
+        taken && !is_over
+    }
+
+    /// It is told of each of these seats that its viewer went, with nothing wrong. Their sessions
+    /// are gone already.
+    pub(crate) fn part(&mut self, seats: Seats) -> io::Result<()>
+        ensures { OnOk result (Parts self.old seats self.new) }
+    {
+        for place in 0..SLOTS {
+            self.part_at(place, seats)?;
+        }
+        Ok(())
+    }
+
+    fn part_at(&mut self, place: usize, seats: Seats) -> io::Result<()>
+        requires { place < 8 }
+        ensures { OnOk result (PartsAt self.old place (has_bit seats place) self.new) }
+    {
+        let seat = Seat::at(place);
+        if !seats.has(seat) {
+            return Ok(());
+        }
+        let is_over = self.is_over(seat);
+        self.guests[place] = Guest::none();
+        if is_over {
+            return Ok(());
+        }
+        tell_leave(&mut self.lines, seat.number())
+    }
+
+    /// The viewers of these seats are let go, with nothing wrong, and a line tells each.
+    pub(crate) fn let_all_go(&mut self, seats: Seats) -> io::Result<()>
+        ensures { OnOk result (LetsAllGo self.old seats self.new) }
+    {
+        for place in 0..SLOTS {
+            self.let_go_at(place, seats)?;
+        }
+        Ok(())
+    }
+
+    fn let_go_at(&mut self, place: usize, seats: Seats) -> io::Result<()>
+        requires { place < 8 }
+        ensures { OnOk result (LetsGoIf self.old place (has_bit seats place) self.new) }
+    {
+        let seat = Seat::at(place);
+        if !seats.has(seat) {
+            return Ok(());
+        }
+        let is_over = self.is_over(seat);
+        self.vacate(seat);
+        if is_over {
+            return Ok(());
+        }
+        tell_leave(&mut self.lines, seat.number())
+    }
+}

@@ -1,0 +1,159 @@
+//! What time does to the viewers of a console.
+
+ghost use Rattle.std.specs.Prelude.{◌≡◌, ◌<◌, ℕ, IfOk, true};
+ghost use Rattle.rfb_picture.specs.Places.{has_bit};
+ghost use Rattle.rfb_session.specs.console.Desk.{guest_at};
+ghost use Rattle.rfb_session.specs.console.Time.{is_slow, is_stuck};
+ghost use Rattle.rfb_session.specs.console.Steps.{TurnsAs, StampsAll, StampsOne, Stills};
+ghost use Rattle.rfb_session.specs.console.Steps.{ComposesAll, KeepsBeside, ReleasesAll, ReleasesOne};
+
+use crate::console::desk::{Desk, Hold};
+use crate::console::guest::{Progress, sooner};
+use crate::seat::Seat;
+use crate::seats::Seats;
+use crate::slots::SLOTS;
+use std::io;
+
+// How long it waits before it composes again what memory was wanting for, in milliseconds.
+const PAUSE: u64 = 100;
+
+/// Who was let go by time.
+#[derive(Clone, Copy, Debug)]
+pub(crate) struct Late {
+    /// Those whose handshake took too long.
+    pub slow: Seats,
+    /// Those for whom bytes waited for too long.
+    pub stuck: Seats,
+}
+
+impl Desk {
+    /// All that was ready has been heard, and it is this time, in milliseconds. Viewers whose time
+    /// is over are let go, and a line tells each; then updates are composed for the others, unless
+    /// they are held back. An error is want of memory for a line.
+    pub(crate) fn turn(&mut self, now: u64) -> io::Result<Late>
+        ensures { IfOk result (λ late. TurnsAs self.old now late.slow late.stuck self.new) }
+    {
+        self.release_all();
+        self.stamp(now);
+        let late = self.late(now);
+        self.let_all_go(late.slow.or(late.stuck))?;
+        let is_held = self.still(now);
+        let wants = self.compose_unless(is_held);
+        self.plan_next(now, wants);
+        Ok(late)
+    }
+
+    // Updates are composed, unless they are held back.
+    fn compose_unless(&mut self, is_held: bool) -> bool
+        ensures composes { ComposesAll self.old self.new }
+        ensures held { is_held ≡ true → self.new ≡ self.old }
+    {
+        if is_held {
+            return false;
+        }
+        self.compose()
+    }
+
+    // The next turn is wanted when something is due.
+    fn plan_next(&mut self, now: u64, wants: bool)
+        ensures share { self.new.share ≡ self.old.share }
+        ensures beside { KeepsBeside self.old self.new }
+    {
+        self.next = self.due(now, wants);
+    }
+
+    // Viewers that have failed go once all is written that waited for them.
+    fn release_all(&mut self)
+        ensures { ReleasesAll self.old self.new }
+    {
+        for place in 0..SLOTS {
+            self.release_at(place);
+        }
+    }
+
+    fn release_at(&mut self, place: usize)
+        requires { place < 8 }
+        ensures { ReleasesOne self.old place self.new }
+    {
+        let seat = Seat::at(place);
+        if self.guests[place].progress == Progress::Failing
+            && self.share.to_write(seat).is_empty()
+        {
+            self.vacate(seat);
+        }
+    }
+
+    // What has begun since the last turn begins now.
+    fn stamp(&mut self, now: u64)
+        ensures { StampsAll self.old now self.new }
+    {
+        for place in 0..SLOTS {
+            self.stamp_at(place, now);
+        }
+    }
+
+    fn stamp_at(&mut self, place: usize, now: u64)
+        requires { place < 8 }
+        ensures { StampsOne self.old place now self.new }
+    {
+        let waits = !self.share.to_write(Seat::at(place)).is_empty();
+        self.guests[place] = self.guests[place].stamped(now, waits);
+    }
+
+    // Whose time is over.
+    fn late(&self, now: u64) -> Late
+        ensures slow { (k : ℕ) → k < 8 →
+            has_bit result.slow k ≡ is_slow self.now.rules now (guest_at self.now k) }
+        ensures stuck { (k : ℕ) → k < 8 →
+            has_bit result.stuck k ≡ is_stuck self.now.rules now (guest_at self.now k) }
+    {
+        let mut slow = Seats::none();
+        let mut stuck = Seats::none();
+        for place in 0..SLOTS {
+            let guest = self.guests[place];
+            if guest.is_slow(&self.rules, now) {
+                slow = slow.with(Seat::at(place));
+            }
+            if guest.is_stuck(&self.rules, now) {
+                stuck = stuck.with(Seat::at(place));
+            }
+        }
+        Late { slow, stuck }
+    }
+
+    // Whether updates are held back now. A hold that lasts too long ends.
+    fn still(&mut self, now: u64) -> bool
+        ensures { Stills self.old now result self.new }
+    {
+        match self.hold {
+            Hold::Shown => false,
+            Hold::Begins => {
+                self.hold = Hold::Since(now);
+                true
+            }
+            Hold::Since(since) => {
+                if now.saturating_sub(since) < self.rules.hold {
+                    return true;
+                }
+                self.hold = Hold::Shown;
+                false
+            }
+        }
+    }
+
+    // When the next turn is wanted even if nothing happens before.
+    fn due(&self, now: u64, wants: bool) -> Option<u64> {
+        let mut next = if wants {
+            Some(now.saturating_add(PAUSE))
+        } else {
+            None
+        };
+        if let Hold::Since(since) = self.hold {
+            next = sooner(next, Some(since.saturating_add(self.rules.hold)));
+        }
+        for guest in &self.guests {
+            next = sooner(next, guest.due(&self.rules));
+        }
+        next
+    }
+}

@@ -1,0 +1,129 @@
+//! What is known of a viewer beside its session.
+
+use crate::console::plan::Rules;
+
+/// How far a viewer has come.
+#[derive(Clone, Copy, Debug, PartialEq, Eq)]
+pub(crate) enum Progress {
+    /// There is none.
+    Absent,
+    /// Its handshake is not done.
+    Shaking,
+    /// Its handshake is done.
+    Ready,
+    /// Its session has failed. What waits for it is written yet.
+    Failing,
+}
+
+/// A seat, and how its viewer stands with time and with the owner.
+#[derive(Clone, Copy, Debug)]
+pub(crate) struct Guest {
+    pub progress: Progress,
+    // Since when its handshake lasts, or since when it fails, once a turn has told the time.
+    pub since: Option<u64>,
+    // Since when bytes wait for it of which it took none while it sent none, once a turn has told.
+    pub idle: Option<u64>,
+    // How many bytes of lines that tell of it wait for the owner.
+    pub told: u32,
+}
+
+impl Guest {
+    ghost use Rattle.std.specs.Prelude.{◌≡◌};
+    ghost use Rattle.rfb_session.specs.console.Desk.{nobody, newcomer, gives_way};
+    ghost use Rattle.rfb_session.specs.console.Time.{stamped, is_slow, is_stuck};
+
+    /// There is no viewer.
+    pub(crate) fn none() -> Guest
+        ensures { result ≡ nobody }
+    {
+        Guest {
+            progress: Progress::Absent,
+            since: None,
+            idle: None,
+            told: 0,
+        }
+    }
+
+    /// One has just come.
+    pub(crate) fn new() -> Guest
+        ensures { result ≡ newcomer }
+    {
+        Guest {
+            progress: Progress::Shaking,
+            ..Guest::none()
+        }
+    }
+
+    /// Whether it gives way to whoever comes: its handshake is not done, or it has failed.
+    pub(crate) fn gives_way(&self) -> bool
+        ensures { result ≡ gives_way self.now.progress }
+    {
+        matches!(self.progress, Progress::Shaking | Progress::Failing)
+    }
+
+    /// What has begun since the last turn begins now: a handshake, and bytes that wait.
+    pub(crate) fn stamped(self, now: u64, waits: bool) -> Guest
+        ensures { result ≡ stamped now waits self }
+    {
+        let since = if self.gives_way() {
+            Some(self.since.unwrap_or(now))
+        } else {
+            None
+        };
+        let idle = if waits {
+            Some(self.idle.unwrap_or(now))
+        } else {
+            None
+        };
+        Guest {
+            since,
+            idle,
+            ..self
+        }
+    }
+
+    /// Whether its handshake takes too long, or it has failed for that long.
+    pub(crate) fn is_slow(&self, rules: &Rules, now: u64) -> bool
+        ensures { result ≡ is_slow rules.now now self.now }
+    {
+        match self.since {
+            Some(since) => rules.handshake <= now.saturating_sub(since),
+            None => false,
+        }
+    }
+
+    /// Whether bytes wait for it for too long.
+    pub(crate) fn is_stuck(&self, rules: &Rules, now: u64) -> bool
+        ensures { result ≡ is_stuck rules.now now self.now }
+    {
+        match (self.idle, rules.timeout) {
+            (Some(since), Some(limit)) => limit <= now.saturating_sub(since),
+            _ => false,
+        }
+    }
+
+    /// When its time is over, if nothing changes.
+    pub(crate) fn due(&self, rules: &Rules) -> Option<u64> {
+        let slow = match self.since {
+            Some(since) => Some(since.saturating_add(rules.handshake)),
+            None => None,
+        };
+        let stuck = match (self.idle, rules.timeout) {
+            (Some(since), Some(limit)) => Some(since.saturating_add(limit)),
+            _ => None,
+        };
+        sooner(slow, stuck)
+    }
+}
+
+/// The sooner of two times, if there is one.
+pub(crate) fn sooner(one: Option<u64>, other: Option<u64>) -> Option<u64> {
+    match (one, other) {
+        (Some(one), Some(other)) => Some(one.min(other)),
+        (Some(time), None) | (None, Some(time)) => Some(time),
+        (None, None) => None,
+    }
+}
+
+/// How many bytes of lines may wait of a viewer before no more of it is read.
+pub(crate) const TOLD_MOST: u32 = 4096;

@@ -1,0 +1,119 @@
+//! Notes of a console: which of the owner's lines are bad, and sentences.
+
+ghost use Rattle.rfb_session.specs.console.Console.{KeepsButNotes};
+
+use crate::console::Console;
+use crate::console::desk::hearing::Hearing;
+use crate::console::speaker::{Note, Saying, Speaker, Why};
+use crate::owner::{Refusal, tell_refusal};
+use crate::seat::Seat;
+use crate::seats::Seats;
+
+// More notes than these are dropped: whoever reads them does not.
+const NOTES_MOST: usize = 8 << 20;
+
+impl<S: Speaker + Drop> Console<S> {
+    /// The last line of the owner's is not done: a sentence, and a line.
+    pub(crate) fn note_refusal(&mut self, why: Refusal)
+        ensures { KeepsButNotes self.old self.new }
+    {
+        self.say_refusal(why);
+        self.add_refusal(why);
+    }
+
+    /// The sentence alone.
+    pub(crate) fn say_refusal(&mut self, why: Refusal)
+        ensures { KeepsButNotes self.old self.new }
+    {
+        let mut note = Note::new();
+        let screen = match &self.desk {
+            Some(desk) => Some(desk.size()),
+            None => None,
+        };
+        let saying = Saying::Refused {
+            number: self.count,
+            why,
+            said: &self.said,
+            screen,
+        };
+        self.speaker.say(&saying, &mut note);
+        self.add_note(&note);
+    }
+
+    /// The viewer at a seat is let go.
+    pub(crate) fn note_left(&mut self, seat: Seat, why: Why)
+        ensures { KeepsButNotes self.old self.new }
+    {
+        let mut note = Note::new();
+        let saying = Saying::Left {
+            seat: seat.number(),
+            why,
+        };
+        self.speaker.say(&saying, &mut note);
+        self.add_note(&note);
+    }
+
+    /// Who gave way to a newcomer, if anybody did.
+    pub(crate) fn note_gave_way(&mut self, left: Option<Seat>)
+        ensures { KeepsButNotes self.old self.new }
+    {
+        if let Some(seat) = left {
+            self.note_left(seat, Why::Newcomer);
+        }
+    }
+
+    /// The viewers at these seats are let go.
+    pub(crate) fn note_all_left(&mut self, seats: Seats, why: Why)
+        ensures { KeepsButNotes self.old self.new }
+    {
+        for seat in seats.iter() {
+            self.note_left(seat, why);
+        }
+    }
+
+    /// What became of bytes of a viewer's.
+    pub(crate) fn note_heard(&mut self, seat: Seat, heard: &Hearing)
+        ensures { KeepsButNotes self.old self.new }
+    {
+        self.note_all_left(heard.ended, Why::Alone(seat.number()));
+        if let Some(fault) = heard.fault {
+            self.note_left(seat, Why::Failed(fault));
+        }
+    }
+
+    /// The input has ended, and no line said how large the screen is.
+    pub(crate) fn note_no_screen(&mut self, number: u64)
+        ensures { KeepsButNotes self.old self.new }
+    {
+        let mut note = Note::new();
+        self.speaker.say(&Saying::NoScreen { number }, &mut note);
+        self.add_note(&note);
+    }
+
+    fn add_note(&mut self, note: &Note)
+        ensures { KeepsButNotes self.old self.new }
+    {
+        if self.takes_notes() {
+            let length = self.notes.len();
+            if self.notes.extend_from_slice(note.as_bytes()).is_err() {
+                self.notes.truncate(length);
+            }
+        }
+    }
+
+    fn add_refusal(&mut self, why: Refusal)
+        ensures { KeepsButNotes self.old self.new }
+    {
+        if self.takes_notes() {
+            let length = self.notes.len();
+            if tell_refusal(&mut self.notes, self.count, why).is_err() {
+                self.notes.truncate(length);
+                self.are_notes_wanting = true;
+            }
+        }
+    }
+
+    fn takes_notes(&self) -> bool {
+        !self.are_notes_lost && self.notes.len() < NOTES_MOST
+    }
+}

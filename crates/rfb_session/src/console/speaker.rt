@@ -1,0 +1,70 @@
+//! Sentences about what happens at a console, which others make.
+
+use crate::owner::{Beginning, Refusal};
+use crate::share::event::ShareFault;
+use arrayvec::ArrayString;
+
+/// How many bytes a note has at most.
+pub const NOTE_MAX: usize = 512;
+
+/// A sentence or two, with their newlines. What does not fit is left out.
+pub type Note = ArrayString<NOTE_MAX>;
+
+/// Why a viewer is let go.
+#[derive(Clone, Copy, Debug, PartialEq, Eq)]
+pub enum Why {
+    /// It closed its connection.
+    Closed,
+    /// Its connection failed.
+    Device,
+    /// Its session failed, since it sent what no client does or memory was wanting.
+    Failed(ShareFault),
+    /// The owner said so.
+    Owner,
+    /// Another one, at this seat, wished to be alone.
+    Alone(u8),
+    /// Its handshake was not done within so many milliseconds.
+    Handshake(u64),
+    /// Bytes waited for it for so many milliseconds, of which it took none.
+    Stuck(u64),
+    /// Another one came, and its own handshake was not done.
+    Newcomer,
+}
+
+/// What there is to say.
+#[derive(Drop)]
+pub enum Saying<'a> {
+    /// A line of the owner's is not done.
+    Refused {
+        /// Its number, counted from 1.
+        number: u64,
+        why: Refusal,
+        /// What has come of it.
+        said: &'a Beginning,
+        /// The screen's width and height, once they are known.
+        screen: Option<(u16, u16)>,
+    },
+    /// The input ended before a line said how large the screen is.
+    NoScreen {
+        number: u64,
+    },
+    /// The viewer at a seat is let go.
+    Left {
+        seat: u8,
+        why: Why,
+    },
+}
+
+/// Who makes sentences.
+pub trait Speaker {
+    /// Writes what there is to say to a person, or nothing.
+    fn say(&self, saying: &Saying<'_>, note: &mut Note);
+}
+
+/// Nobody, who says nothing.
+#[derive(Clone, Copy, Debug, Drop)]
+pub struct Silent;
+
+impl Speaker for Silent {
+    fn say(&self, _saying: &Saying<'_>, _note: &mut Note) {}
+}
