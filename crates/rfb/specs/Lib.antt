@@ -10,6 +10,7 @@ pub mod HubScript
 pub mod Loopback
 pub mod Options
 pub mod Playing
+pub mod Ready
 pub mod Recording
 pub mod Scene
 pub mod Serving

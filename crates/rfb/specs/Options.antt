@@ -25,6 +25,12 @@ pub record GivesShareOptions (rows : List Row) (options : ShareOptions) : Type 0
   pub few : (1 ≤ options.viewers) × (options.viewers ≤ 8)
   pub name : NamesWord (codes "rfb") (first_of (codes "name") rows) options.name.now
   pub until_idle : IsFlagged (codes "until-idle") rows options.until_idle
+  pub handshake : GivesNumber (codes "handshake") 1 4294967295 rows options.handshake
+  pub timeout : MayGiveNumber (codes "timeout") 1 4294967295 rows options.timeout
+  pub hold : GivesNumber (codes "hold") 1 4294967295 rows options.hold
+  pub always_shared : IsFlagged (codes "always-shared") rows options.is_always_shared
+  pub view_only : IsFlagged (codes "view-only") rows options.is_view_only
+  pub quiet : IsFlagged (codes "quiet") rows options.is_quiet
 
 -- what `play` is asked for
 pub record GivesPlayOptions (rows : List Row) (options : PlayOptions) : Type 0 where

@@ -17,7 +17,7 @@ mod telling;
 use crate::fault::{Failure, Fault};
 pub use early::{Early, tell_closed, tell_part};
 pub use escaped::Escaped;
-pub use failing::{tell_client, tell_server};
+pub use failing::{Flaw, tell_client, tell_server};
 pub use heard::Heard;
 pub use hearing::{Hearing, Shared, tell_played};
 pub use keeping::Writing;
@@ -96,6 +96,14 @@ pub fn tell_unbound<N: Write>(host: &str, port: u16, error: &io::Error, notes: &
         notes,
         "rfb: cannot listen on {}:{port}: {error}",
         Escaped(host.as_bytes())
+    );
+}
+
+/// Says that standard output is closed, where it is needed.
+pub fn tell_closed_output<N: Write>(notes: &mut N) {
+    let _ = writeln!(
+        notes,
+        "rfb: standard output is closed, and lines go there that say what viewers do"
     );
 }
 

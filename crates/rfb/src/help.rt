@@ -133,14 +133,19 @@ Standard input has a line for each thing that is drawn. One space parts two word
   scroll X Y W H DX DY        what lies in it moves so far to the right and down, or back with a minus
   hint X Y W H SX SY          a hint for viewers: it looks as the one at (SX, SY) did
   pixels X Y W H              three bytes for each of its pixels follow, and a newline
+  hold                        what follows is a scene: no viewer is shown a part of it
+  show                        the scene is whole; without this it is after --hold seconds
   end N                       the viewer of seat N is let go
   quit                        all ends
 A bad line is reported on standard error with its number, and nothing of it is drawn. When standard
 input ends the screen stays as it is.
 
 Standard output has a line for each thing that viewers do; N is a seat, 0 to 7:
-  join N, leave N ok, leave N fault C NAME
-                              one came; one went; one was let go, and why
+  come N ADDRESS              a connection took the seat
+  join N                      its handshake is done: it is a viewer
+  leave N ok, leave N fault C NAME
+                              it went, or was let go for a fault
+  busy ADDRESS                a connection got no seat
   key N down|up K             a key, by its keysym
   pointer N BUTTONS X Y       the pointer, and the buttons that are down, a bit each
   text N HEX                  a text that was cut, at most 1024 bytes of it

@@ -1,38 +1,71 @@
 //! A share over sockets: a screen that a program draws by lines on standard input, for up to eight
 //! viewers at once, whose doings it reads as lines on standard output.
+//!
+//! The core of it is a `Console`, which has no IO. `live` moves bytes between the console and its
+//! doors, at which tenants stand. The `Shell` tells which of them are ready.
 
 ghost use Rattle.rfb.specs.Context.{KeepsStreams};
 
-mod beginning;
-mod desk;
-mod guests;
-mod input;
 mod owner_cause;
 mod ready;
+mod setup;
 mod share_words;
+mod shell;
+mod speaker;
+mod standard;
+mod tenant;
 
 use crate::context::Context;
-use crate::explain::{Notes, tell_bound, tell_unbound};
-use crate::fault::Failure;
-use crate::sharing::desk::Desk;
+use crate::explain::{Notes, tell_bound, tell_closed_output, tell_unbound};
+use crate::fault::{Failure, Fault};
+use crate::sharing::setup::setup_of;
+use crate::sharing::shell::Shell;
+use crate::sharing::speaker::Reporter;
+use crate::sharing::standard::{Streams, open_streams};
+use crate::sharing::tenant::Tenant;
+use rfb_session::SLOTS;
+use rfb_session::console::{Console, DOORS, Outcome};
+use rfb_session::doors::{Counted, Place, live};
 pub use share_words::{SHARE, ShareOptions, share_options_in};
+use std::alloc::{AllocError, Global};
 use std::io::{Read, Write};
 use std::net::{Net, OpenListener, TcpListener};
+use std::time::Clock;
 
-/// Shares a screen until a line says `quit`, or with the last viewer if that is wanted. The input is
-/// standard input. A line of its that is bad is reported. It fails where nothing can listen there,
-/// where there is no memory for the screen, where a line cannot be written, or where the input ends
-/// before it gives the size of the screen.
-pub fn share_at<P: AllocGlobal + Net, R: Read, W: Write, E: Write>(
+// How many bytes are read at once: as many as a pipe holds.
+const READ_AT_ONCE: usize = 65536;
+
+/// Shares a screen until a line says `quit`, or with the last viewer if that is wanted. The input
+/// is standard input. A line of its that is bad is reported. It fails where standard output is
+/// closed, where nothing can listen there, where there is no memory for the screen, where a line
+/// cannot be written, or where the input ends before it gives the size of the screen.
+pub fn share_at<P: AllocGlobal + Clock + Net, R: Read, W: Write, E: Write>(
     context: &mut Context<P, R, W, E>,
     options: ShareOptions<'_>,
 ) -> Result<(), Failure>
     ensures same { KeepsStreams context.old context.new }
 {
-    let notes = &mut Notes::new(context.errors, context.explains);
+    let streams = open_streams();
+    let says = context.explains && streams.errors && !options.is_quiet;
+    let notes = &mut Notes::new(context.errors, says);
+    if !streams.output {
+        tell_closed_output(notes);
+        return Err(Failure::Fault(Fault::Device));
+    }
     let listener = listen(context.rt, &options, notes)?;
-    let mut desk = Desk::new(context.rt, context.alloc(), listener, context.explains)?;
-    desk.run(&options, context.input, context.output, context.errors)
+    let alloc = context.alloc();
+    let shell = &mut Shell::new(context.rt, alloc, listener, streams)?;
+    let console = &mut Console::new(alloc, &setup_of(&options), Reporter::new(says));
+    let mut part = Vec::from_elem(alloc, 0, READ_AT_ONCE)?;
+    let mut doors = doors_of(
+        alloc,
+        context.input,
+        context.output,
+        context.errors,
+        streams,
+    )?;
+    live(console, &mut doors, shell, &mut part);
+    result_of(console.outcome())
 }
 
 // A listener that does not wait.
@@ -51,5 +84,49 @@ fn listen<N: Net, T: Write>(
             tell_unbound(options.listen, options.port, &error, notes);
             Err(Failure::from(error))
         }
+    }
+}
+
+// A device at a door, or nobody.
+type Door<'a, R, W, E, S> = Place<Counted<Tenant<'a, R, W, E, S>>>;
+
+// The doors: the streams of the process at theirs, and nobody at the others.
+fn doors_of<'a, R: Read, W: Write, E: Write, S: Read + Write + Drop>(
+    alloc: Global,
+    input: &'a mut R,
+    output: &'a mut W,
+    errors: &'a mut E,
+    streams: Streams,
+) -> Result<Vec<Door<'a, R, W, E, S>>, AllocError> {
+    let mut doors = Vec::with_capacity(alloc, DOORS)?;
+    doors.push(held(if streams.input {
+        Tenant::Input(input)
+    } else {
+        Tenant::Missing
+    }))?;
+    for _seat in 0..SLOTS {
+        doors.push(Place::Empty)?;
+    }
+    doors.push(held(Tenant::Output(output)))?;
+    doors.push(held(if streams.errors {
+        Tenant::Errors(errors)
+    } else {
+        Tenant::Missing
+    }))?;
+    Ok(doors)
+}
+
+// A stream at its door.
+fn held<'a, R, W, E, S>(tenant: Tenant<'a, R, W, E, S>) -> Door<'a, R, W, E, S> {
+    Place::Held(Counted::new(tenant))
+}
+
+// How a share has ended. Where its console does not say so, waiting has failed.
+fn result_of(outcome: Option<Outcome>) -> Result<(), Failure> {
+    match outcome {
+        Some(Outcome::Quit | Outcome::Idle) => Ok(()),
+        Some(Outcome::BadLine(number)) => Err(Failure::BadLine(number)),
+        Some(Outcome::NoMemory) => Err(Failure::Fault(Fault::NoMemory)),
+        Some(Outcome::Device) | None => Err(Failure::Fault(Fault::Device)),
     }
 }

@@ -5,6 +5,7 @@ use Rattle.clap.specs.Simple.{new_shape}
 use Rattle.rfb.specs.declared.commands.Verb.{Verb}
 use Rattle.rfb.specs.declared.commands.Verb.TheVariants as verbs
 use Rattle.rfb.specs.command.Rules.{format_rule, server_rule, host_rule, listen_rule, encodings_rule, record_rule, partial_rule, input_rule, output_rule, any_port_rule, port_rule, side_rule, connections_rule, forever_rule, picture_rule, viewers_rule, name_rule, idle_rule, first_updates_rule, timeout_rule, updates_rule}
+use Rattle.rfb.specs.command.Rules.{handshake_rule, hold_rule, shared_rule, view_only_rule, quiet_rule}
 
 -- a command of these words
 abbrev pub command : Text → List Rule → Shape
@@ -33,7 +34,8 @@ view_shape = command (codes "view")
 
 abbrev pub share_shape : Shape
 share_shape = command (codes "share")
-    (port_rule ∷ listen_rule ∷ viewers_rule ∷ name_rule ∷ idle_rule ∷ [])
+    (port_rule ∷ listen_rule ∷ viewers_rule ∷ name_rule ∷ idle_rule ∷ handshake_rule ∷ timeout_rule
+    ∷ hold_rule ∷ shared_rule ∷ view_only_rule ∷ quiet_rule ∷ [])
 
 abbrev pub shape_named : Verb → Shape
 shape_named verbs.Script = script_shape

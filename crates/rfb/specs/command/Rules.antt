@@ -100,6 +100,30 @@ name_rule = word_rule (codes "name") (codes "rfb")
 abbrev pub idle_rule : Rule
 idle_rule = flag_rule (codes "until-idle")
 
+-- a number of seconds, or else this one
+abbrev pub seconds_rule : Text → Text → Rule
+seconds_rule name default = record (number_rule name 1 4294967295) { defaults = default ∷ [] }
+
+-- how long a handshake may take
+abbrev pub handshake_rule : Rule
+handshake_rule = seconds_rule (codes "handshake") (codes "10")
+
+-- how long a scene is held back
+abbrev pub hold_rule : Rule
+hold_rule = seconds_rule (codes "hold") (codes "1")
+
+-- no viewer has the screen alone
+abbrev pub shared_rule : Rule
+shared_rule = flag_rule (codes "always-shared")
+
+-- what viewers do is left out
+abbrev pub view_only_rule : Rule
+view_only_rule = flag_rule (codes "view-only")
+
+-- there are no sentences
+abbrev pub quiet_rule : Rule
+quiet_rule = flag_rule (codes "quiet")
+
 -- how many updates are played, or else all
 abbrev pub first_updates_rule : Rule
 first_updates_rule = number_rule (codes "updates") 1 4294967295

@@ -6,8 +6,8 @@ use crate::explain::{Escaped, Heard};
 use rfb_server::ServerFault;
 use rfb_session::EngineFault;
 use rfb_viewer::{Viewer, ViewerFault};
-use std::io;
 use std::io::Write;
+use std::{fmt, io};
 
 /// Says why what a server sent was no more looked at. `viewer` is the one that was fed it.
 pub fn tell_server<N: Write>(fault: EngineFault, viewer: &Viewer, heard: &Heard, notes: &mut N) {
@@ -109,7 +109,7 @@ fn flaw_of_server(fault: ViewerFault) -> &'static str {
 /// Says why what a client sent was no more looked at.
 pub fn tell_client<N: Write>(fault: EngineFault, notes: &mut N) {
     let _ = match fault {
-        EngineFault::Server(fault) => tell_server_fault(fault, notes),
+        EngineFault::Server(fault) => writeln!(notes, "rfb: {}", Flaw(fault)),
         EngineFault::Truncated => writeln!(
             notes,
             "rfb: the viewer left before its handshake or a message was whole"
@@ -123,22 +123,28 @@ pub fn tell_client<N: Write>(fault: EngineFault, notes: &mut N) {
     };
 }
 
-// What a client did wrong.
-fn tell_server_fault<N: Write>(fault: ServerFault, notes: &mut N) -> io::Result<()> {
-    match fault {
-        ServerFault::UnknownMessage(kind) => writeln!(
-            notes,
-            "rfb: the viewer sent a message of type {kind}, which no client has in RFC 6143"
-        ),
-        ServerFault::BadBits
-        | ServerFault::DepthTooLarge
-        | ServerFault::BadMax
-        | ServerFault::ShiftTooLarge
-        | ServerFault::FieldsOverlap => writeln!(
-            notes,
-            "rfb: the viewer asked for a pixel format that cannot be: {fault}"
-        ),
-        other => writeln!(notes, "rfb: {}", flaw_of_client(other)),
+/// What a client did wrong. It prints as a clause.
+#[derive(Clone, Copy)]
+pub struct Flaw(pub ServerFault);
+
+impl fmt::Display for Flaw {
+    fn fmt<F: fmt::Write>(&self, f: &mut fmt::Formatter<F>) -> fmt::Result {
+        match self.0 {
+            ServerFault::UnknownMessage(kind) => write!(
+                f,
+                "the viewer sent a message of type {kind}, which no client has in RFC 6143"
+            ),
+            ServerFault::BadBits
+            | ServerFault::DepthTooLarge
+            | ServerFault::BadMax
+            | ServerFault::ShiftTooLarge
+            | ServerFault::FieldsOverlap => write!(
+                f,
+                "the viewer asked for a pixel format that cannot be: {}",
+                self.0
+            ),
+            other => f.write_str(flaw_of_client(other)),
+        }
     }
 }
 

@@ -109,6 +109,18 @@ pub fn number_given(given: &ArgMatches<'_>, name: &str) -> Option<u32>
     }
 }
 
+/// The number that is given, or else another.
+pub fn count_or(given: &ArgMatches<'_>, name: &str, otherwise: u32) -> u32
+    requires { 1 ≤ otherwise }
+    ensures number { GivesOr name.now 4294967295 otherwise (rows_of (found_of given.now)) result }
+    ensures some { 1 ≤ result }
+{
+    match number_given(given, name) {
+        Some(number) => number,
+        None => otherwise,
+    }
+}
+
 // A number, or 1 in place of 0.
 fn at_least_one(number: u32) -> u32
     ensures same { 1 ≤ number → result ≡ number }

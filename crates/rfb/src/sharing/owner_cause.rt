@@ -6,42 +6,20 @@ use crate::script::cause::form::form_of;
 use crate::script::cause::kind::why_not_form;
 use crate::script::cause::reason::Reason;
 use crate::script::cause::{FIRST, LATE_SCREEN, NO_SCREEN, first_words, why_not_words};
-use crate::sharing::beginning::Beginning;
 use crate::sharing::owner_cause::owner_form::OF_OWNER;
-use rfb_picture::Picture;
-use rfb_pixel::Colour;
-use rfb_session::owner::{LINE_MAX, OwnerLine, SCREEN, data_length, read_owner_line};
-use std::io::Write;
+use rfb_picture::Rect;
+use rfb_session::owner::{Beginning, LINE_MAX, OwnerLine, SCREEN, data_length, read_owner_line};
 
 // What is wrong with a line of more than `LINE_MAX` bytes.
 const LONG: &str = " has more than 96 bytes";
 
-// What is wrong with `hold` and `show`, wherever they stand.
-const ALWAYS_SHOWN: &str = ": what is drawn is always shown";
-
-/// Says why the line with this number, counted from 1, is bad. There is a screen once a line has
-/// said how large it is.
-pub fn tell_bad_owner_line<N: Write>(
-    said: &Beginning,
-    screen: Option<&Picture<Colour>>,
-    number: u64,
-    notes: &mut N,
-) {
-    tell_reason(number, why_bad(said, screen), notes);
+/// Why the line after the last one is bad, where none says how large the screen is.
+pub fn no_screen() -> Reason<'static> {
+    Reason::Said(NO_SCREEN)
 }
 
-/// Says that no line before the end, whose number this is, said how large the screen is.
-pub fn tell_no_screen<N: Write>(number: u64, notes: &mut N) {
-    tell_reason(number, Reason::Said(NO_SCREEN), notes);
-}
-
-// Says it of the line with this number.
-fn tell_reason<N: Write>(number: u64, reason: Reason<'_>, notes: &mut N) {
-    let _ = writeln!(notes, "rfb: line {number} of standard input{reason}");
-}
-
-// Why a line is bad.
-fn why_bad<'a>(said: &'a Beginning, screen: Option<&Picture<Colour>>) -> Reason<'a> {
+/// Why a line is bad. There is a screen, of this width and height, once a line has said so.
+pub fn why_bad<'a>(said: &'a Beginning, screen: Option<(u16, u16)>) -> Reason<'a> {
     let line = said.line();
     if line.len() > LINE_MAX {
         return Reason::Said(LONG);
@@ -69,17 +47,22 @@ fn why_no_line(line: &[u8], is_later: bool) -> Option<Reason<'_>> {
 }
 
 // Why a line that says something is not done, with so many bytes after it.
-fn why_not_done<'a>(line: &[u8], count: u64, screen: Option<&Picture<Colour>>) -> Reason<'a> {
-    let Some(screen) = screen else {
+fn why_not_done<'a>(line: &[u8], count: u64, screen: Option<(u16, u16)>) -> Reason<'a> {
+    let Some((width, height)) = screen else {
         return Reason::Said(LATE_SCREEN);
     };
-    match read_owner_line(line) {
-        Some(OwnerLine::Pixels(rect)) if screen.holds(rect) => {
-            why_not_pixels(count, data_length(rect))
+    if let Some(OwnerLine::Pixels(rect)) = read_owner_line(line) {
+        if lies_within(rect, width, height) {
+            return why_not_pixels(count, data_length(rect));
         }
-        Some(OwnerLine::Hold | OwnerLine::Show) => Reason::Said(ALWAYS_SHOWN),
-        _ => Reason::Outside(screen.width(), screen.height()),
     }
+    Reason::Outside(width, height)
+}
+
+// Whether a rectangle lies on a screen of this size.
+fn lies_within(rect: Rect, width: u16, height: u16) -> bool {
+    u32::from(rect.x) + u32::from(rect.w) <= u32::from(width)
+        && u32::from(rect.y) + u32::from(rect.h) <= u32::from(height)
 }
 
 // Why pixels on the screen are not drawn.

@@ -1,68 +1,63 @@
-//! What may be read or written without waiting.
+//! Which doors may be read or written without waiting.
 
-use mio::unix::SourceFd;
-use mio::{Interest, Registry, Token};
-use rfb_session::SLOTS;
-use std::io;
-use std::os::fd::AsRawFd;
+ghost use Rattle.std.specs.Prelude.{◌≡◌};
+ghost use Rattle.rfb.specs.Ready.{is_ready};
 
-/// The token of the listener; a connection has the number of its seat.
-pub const LISTENER: Token = Token(SLOTS);
+use rfb_session::console::DOORS;
 
-/// The token of standard input.
-pub const OWNER: Token = Token(SLOTS + 1);
-
-/// What was reported to be ready, and did not say since that it is not.
+/// What was reported to be ready, and did not answer since that it is not.
 #[derive(Drop)]
 pub struct Ready {
-    pub owner: bool,
-    pub listener: bool,
-    pub reads: [bool; SLOTS],
-    pub writes: [bool; SLOTS],
+    reads: [bool; DOORS],
+    writes: [bool; DOORS],
 }
 
 impl Ready {
     /// Nothing is.
     pub fn new() -> Ready {
         Ready {
-            owner: false,
-            listener: false,
-            reads: [false; SLOTS],
-            writes: [false; SLOTS],
+            reads: [false; DOORS],
+            writes: [false; DOORS],
         }
     }
 
-    /// Something has come to be ready. A connection that is closed has both.
-    pub fn note(&mut self, token: Token) {
-        if token == OWNER {
-            self.owner = true;
-        } else if token == LISTENER {
-            self.listener = true;
-        } else {
-            self.renew(token.0);
+    /// Whether a door is worth a read.
+    pub fn reads(&self, door: usize) -> bool
+        ensures { result ≡ is_ready self.now.reads door }
+    {
+        match self.reads.get(door) {
+            Some(ready) => *ready,
+            None => false,
         }
     }
 
-    /// A seat is read from and written to until it says that it is not ready.
-    pub fn renew(&mut self, place: usize) {
-        if place < SLOTS {
-            self.reads[place] = true;
-            self.writes[place] = true;
+    /// Whether it is worth a write.
+    pub fn writes(&self, door: usize) -> bool
+        ensures { result ≡ is_ready self.now.writes door }
+    {
+        match self.writes.get(door) {
+            Some(ready) => *ready,
+            None => false,
         }
     }
 
-    /// Whether there is something to read that was left for the next turn.
-    pub fn is_left(&self) -> bool {
-        self.owner || self.listener || self.reads.contains(&true)
+    /// A door is ready for both, or may be: a try will tell.
+    pub fn note(&mut self, door: usize) {
+        self.note_reads(door, true);
+        self.note_writes(door, true);
     }
-}
 
-/// From now on something is among the sources.
-pub fn register<F: AsRawFd>(
-    registry: &Registry,
-    source: &F,
-    token: Token,
-    interest: Interest,
-) -> io::Result<()> {
-    registry.register(&mut SourceFd(&source.as_raw_fd()), token, interest)
+    /// Whether a door is worth a read is known anew.
+    pub fn note_reads(&mut self, door: usize, is_ready: bool) {
+        if let Some(ready) = self.reads.get_mut(door) {
+            *ready = is_ready;
+        }
+    }
+
+    /// Whether it is worth a write is.
+    pub fn note_writes(&mut self, door: usize, is_ready: bool) {
+        if let Some(ready) = self.writes.get_mut(door) {
+            *ready = is_ready;
+        }
+    }
 }

@@ -7,7 +7,7 @@ ghost use Rattle.rfb.specs.Options.{GivesShareOptions};
 
 use crate::help::Topic;
 use crate::options::common::{LISTEN, PORT};
-use crate::options::given::{is_given, number_in};
+use crate::options::given::{count_or, is_given, number_given, number_in};
 use crate::options::usage::{Mark, Takes, Usage, Word};
 use crate::serving::listen_in;
 use clap::ArgMatches;
@@ -24,12 +24,30 @@ pub struct ShareOptions<'a> {
     pub name: &'a str,
     /// Whether all ends with the last viewer.
     pub until_idle: bool,
+    /// Within how many seconds a viewer's handshake has to be done.
+    pub handshake: u32,
+    /// If there is a number, a viewer is let go for which bytes waited for so many seconds while it
+    /// took none of them and sent none.
+    pub timeout: Option<u32>,
+    /// For how many seconds a scene is held back at most.
+    pub hold: u32,
+    /// Whether a viewer that asks for the screen alone shares it all the same.
+    pub is_always_shared: bool,
+    /// Whether what viewers do with keys, pointers and texts is left out.
+    pub is_view_only: bool,
+    /// Whether there are no sentences, whatever else asks for them.
+    pub is_quiet: bool,
 }
 
 const NAME: &str = "rfb";
 
 // How many viewers there are at once at most.
 const MOST_VIEWERS: u16 = 8;
+
+// The seconds that a handshake and a scene have where no number is given.
+const HANDSHAKE: u32 = 10;
+
+const HOLD: u32 = 1;
 
 /// What `share` is called with.
 pub const SHARE: &Usage<'static> = &Usage {
@@ -57,6 +75,42 @@ pub const SHARE: &Usage<'static> = &Usage {
             takes: Takes::Nothing,
             help: "Ends once viewers came and the last of them has gone",
         },
+        Word {
+            name: "handshake",
+            mark: Mark::Long,
+            takes: Takes::NumberOr("S", u32::MAX, "10"),
+            help: "The seconds that a viewer's handshake may take, 1 to 4294967295",
+        },
+        Word {
+            name: "timeout",
+            mark: Mark::Long,
+            takes: Takes::Number("S", u32::MAX),
+            help: "The seconds that bytes may wait for a viewer that takes none, 1 to 4294967295",
+        },
+        Word {
+            name: "hold",
+            mark: Mark::Long,
+            takes: Takes::NumberOr("S", u32::MAX, "1"),
+            help: "The seconds that a scene may take, 1 to 4294967295",
+        },
+        Word {
+            name: "always-shared",
+            mark: Mark::Long,
+            takes: Takes::Nothing,
+            help: "Lets no viewer have the screen alone",
+        },
+        Word {
+            name: "view-only",
+            mark: Mark::Long,
+            takes: Takes::Nothing,
+            help: "Reports no key, pointer or text of a viewer's",
+        },
+        Word {
+            name: "quiet",
+            mark: Mark::Long,
+            takes: Takes::Nothing,
+            help: "Writes no sentences to standard error",
+        },
     ],
 };
 
@@ -70,6 +124,12 @@ pub fn share_options_in<'a>(given: &ArgMatches<'a>) -> ShareOptions<'a>
         viewers: number_in(given, "viewers", 1, MOST_VIEWERS),
         name: name_in(given),
         until_idle: is_given(given, "until-idle"),
+        handshake: count_or(given, "handshake", HANDSHAKE),
+        timeout: number_given(given, "timeout"),
+        hold: count_or(given, "hold", HOLD),
+        is_always_shared: is_given(given, "always-shared"),
+        is_view_only: is_given(given, "view-only"),
+        is_quiet: is_given(given, "quiet"),
     }
 }
 

@@ -1,0 +1,96 @@
+//! The system as the loop of a share knows it: which doors are ready, the time, and who comes.
+
+mod entry;
+mod pace;
+
+use crate::sharing::ready::Ready;
+use crate::sharing::standard::{Blocking, ERRORS, INPUT, OUTPUT, Streams};
+use mio::unix::SourceFd;
+use mio::{Events, Interest, Poll, Registry, Token};
+use rfb_session::console::{DOORS, LINES, NOTES, OWNER};
+use std::alloc::Global;
+use std::io;
+use std::net::Net;
+use std::os::fd::{AsRawFd, RawFd};
+use std::time::{Clock, Instant};
+
+// The token of the listener; a door has its number.
+const LISTENER: Token = Token(DOORS);
+
+// How many sources there are at most: each door but what is missing, and the listener.
+const SOURCES: usize = DOORS + 1;
+
+// What is known of the listener.
+#[derive(Clone, Copy, PartialEq, Eq)]
+enum Ear {
+    // Nobody waits.
+    Quiet,
+    // Somebody may.
+    Ringing,
+    // Somebody may, who could not be had: the process has too many descriptors, say. It is tried
+    // again once anything else has happened, which may have closed one.
+    Barred,
+}
+
+/// A poll over the doors and a listener, and a clock.
+#[derive(Drop)]
+pub struct Shell<'a, L, C> {
+    clock: &'a C,
+    start: Instant,
+    // The time that was read last, in milliseconds from the start on.
+    time: u64,
+    poll: Poll,
+    events: Events<Global>,
+    ready: Ready,
+    input: Blocking,
+    output: Blocking,
+    errors: Blocking,
+    listener: L,
+    ear: Ear,
+    // The connection that was accepted last.
+    newest: Option<RawFd>,
+    // Whether anything happened since the last wait began.
+    is_stirred: bool,
+}
+
+impl<'a, L: AsRawFd + Drop, C: Net + Clock> Shell<'a, L, C> {
+    /// Looks at the standard streams that there are, and at a listener that does not wait.
+    pub fn new(
+        rt: &'a C,
+        alloc: Global,
+        listener: L,
+        streams: Streams,
+    ) -> io::Result<Shell<'a, L, C>> {
+        let poll = Poll::new(rt)?;
+        let registry = poll.registry();
+        let (reads, writes) = (Interest::READABLE, Interest::WRITABLE);
+        let input = Blocking::at(OWNER, INPUT, reads, streams.input, registry);
+        let output = Blocking::at(LINES, OUTPUT, writes, streams.output, registry);
+        let errors = Blocking::at(NOTES, ERRORS, writes, streams.errors, registry);
+        register(registry, listener.as_raw_fd(), LISTENER, reads)?;
+        let mut ready = Ready::new();
+        ready.note_reads(OWNER, input.is_constant());
+        ready.note_writes(LINES, output.is_constant());
+        ready.note_writes(NOTES, errors.is_constant());
+        Ok(Shell {
+            clock: rt,
+            start: Instant::now(rt)?,
+            time: 0,
+            poll,
+            events: Events::with_capacity(alloc, SOURCES)?,
+            ready,
+            input,
+            output,
+            errors,
+            listener,
+            ear: Ear::Quiet,
+            newest: None,
+            is_stirred: false,
+        })
+    }
+}
+
+// From now on a descriptor is among the sources.
+fn register(registry: &Registry, fd: RawFd, token: Token, interest: Interest) -> io::Result<()> {
+    registry.register(&mut SourceFd(&fd), token, interest)
+}

@@ -1,0 +1,82 @@
+//! The connections that come to a share.
+
+ghost use Rattle.std.specs.Prelude.{⊤};
+
+use crate::sharing::shell::{Ear, Shell, register};
+use crate::sharing::tenant::Tenant;
+use arrayvec::ArrayString;
+use libc::net::{SHUT_RDWR, shutdown};
+use mio::{Interest, Token};
+use rfb_session::doors::{Arrival, Arrivals, Counted};
+use std::fmt::Write as _;
+use std::io::ErrorKind;
+use std::net::{OpenListener, OpenStream, SocketAddr};
+use std::os::fd::AsRawFd;
+
+impl<'t, R, W, E, L, C> Arrivals<Counted<Tenant<'t, R, W, E, L::Stream>>> for Shell<'_, L, C>
+where
+    L: OpenListener + Drop,
+    L::Stream: OpenStream + AsRawFd + Drop,
+{
+    ghost fresh = { λ _. ⊤ };
+
+    /// Accepts one connection, where one may be there.
+    fn next(&mut self) -> Option<Arrival<Counted<Tenant<'t, R, W, E, L::Stream>>>> {
+        if self.ear != Ear::Ringing {
+            return None;
+        }
+        match self.listener.accept() {
+            Ok((stream, address)) => {
+                self.is_stirred = true;
+                self.newest = Some(stream.as_raw_fd());
+                arrival(stream, address)
+            }
+            Err(error) => {
+                self.miss(error.kind());
+                None
+            }
+        }
+    }
+
+    /// It is among the sources from here on. One that cannot be is shut down, so it ends at once.
+    fn seated(&mut self, door: Option<usize>) {
+        let (Some(door), Some(fd)) = (door, self.newest.take()) else {
+            return;
+        };
+        let both = Interest::READABLE | Interest::WRITABLE;
+        if register(self.poll.registry(), fd, Token(door), both).is_err() {
+            let _ = shutdown(fd, SHUT_RDWR);
+        }
+        self.ready.note(door);
+    }
+}
+
+impl<L: Drop, C> Shell<'_, L, C> {
+    // No connection was had, and why.
+    fn miss(&mut self, kind: ErrorKind) {
+        match kind {
+            ErrorKind::WouldBlock => self.ear = Ear::Quiet,
+            // The next one may be there.
+            ErrorKind::Interrupted | ErrorKind::ConnectionAborted => self.is_stirred = true,
+            _ => self.ear = Ear::Barred,
+        }
+    }
+}
+
+// A connection that does not wait, and whose bytes go out at once, and where it came from. One that
+// would wait is let go.
+fn arrival<'t, R, W, E, S: OpenStream + Drop>(
+    stream: S,
+    address: SocketAddr,
+) -> Option<Arrival<Counted<Tenant<'t, R, W, E, S>>>> {
+    if stream.set_nonblocking(true).is_err() {
+        return None;
+    }
+    let _ = stream.set_nodelay(true);
+    let mut from = ArrayString::new();
+    let _ = write!(from, "{address}");
+    Some(Arrival {
+        device: Counted::new(Tenant::Connection(stream)),
+        from,
+    })
+}

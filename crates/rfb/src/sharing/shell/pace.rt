@@ -1,0 +1,120 @@
+//! When the loop of a share does its next turn, and which doors it tries in it.
+
+ghost use Rattle.rfb.specs.Ready.{is_ready};
+
+use crate::sharing::shell::{Ear, LISTENER, Shell};
+use rfb_session::console::{LINES, NOTES, OWNER};
+use rfb_session::doors::{Answer, Clock, Pause};
+use std::time;
+use std::time::Duration;
+
+impl<L: Drop, C: time::Clock> Clock for Shell<'_, L, C> {
+    ghost readable = { λ shell d. is_ready shell.ready.reads d };
+
+    ghost writable = { λ shell d. is_ready shell.ready.writes d };
+
+    /// The time when the last wait ended.
+    fn now(&self) -> u64 {
+        self.time
+    }
+
+    /// It does not sleep while somebody may wait at the listener whom the core was not asked about:
+    /// what happened in the last turn may have made it welcome newcomers. It ends the loop where
+    /// waiting fails.
+    fn wait(&mut self, pause: Pause) -> bool {
+        self.read_time();
+        let limit = self.limit(pause);
+        self.is_stirred = limit != Some(Duration::ZERO);
+        if self.poll.poll(&mut self.events, limit).is_err() {
+            return false;
+        }
+        self.read_time();
+        for event in self.events.iter() {
+            self.is_stirred = true;
+            if event.token() == LISTENER {
+                self.ear = Ear::Ringing;
+            } else {
+                // A connection that is closed is ready for both.
+                self.ready.note(event.token().0);
+            }
+        }
+        true
+    }
+
+    fn reads(&self, door: usize) -> bool {
+        self.ready.reads(door)
+    }
+
+    fn writes(&self, door: usize) -> bool {
+        self.ready.writes(door)
+    }
+
+    /// Of standard input one read waits for nothing, and a second one may.
+    fn heard(&mut self, door: usize, answer: Answer) {
+        let is_ready = match answer {
+            Answer::Again => return,
+            Answer::Moved(_) => self.may_read_on(door),
+            Answer::Waits | Answer::Ended | Answer::Failed => false,
+        };
+        self.stir(answer);
+        self.ready.note_reads(door, is_ready);
+    }
+
+    /// To standard output and standard error one write waits for nothing, and a second one may.
+    fn told(&mut self, door: usize, answer: Answer) {
+        let is_ready = match answer {
+            Answer::Again => return,
+            Answer::Moved(_) => self.may_write_on(door),
+            Answer::Waits | Answer::Ended | Answer::Failed => false,
+        };
+        self.stir(answer);
+        self.ready.note_writes(door, is_ready);
+    }
+}
+
+impl<L: Drop, C: time::Clock> Shell<'_, L, C> {
+    // How long it may sleep: until a door is ready where there is no number.
+    fn limit(&mut self, pause: Pause) -> Option<Duration> {
+        if self.is_stirred && self.ear == Ear::Barred {
+            self.ear = Ear::Ringing;
+        }
+        if self.is_stirred && self.ear == Ear::Ringing {
+            return Some(Duration::ZERO);
+        }
+        match pause {
+            Pause::Look => Some(Duration::ZERO),
+            Pause::Until(time) => Some(Duration::from_millis(time.saturating_sub(self.time))),
+            Pause::Ready => None,
+        }
+    }
+
+    // What time it is. Where the clock fails it stands still.
+    fn read_time(&mut self) {
+        if let Ok(passed) = self.start.elapsed(self.clock) {
+            let seconds = passed.as_secs().saturating_mul(1000);
+            let time = seconds.saturating_add(u64::from(passed.subsec_millis()));
+            self.time = self.time.max(time);
+        }
+    }
+
+    // Something happened, unless a door only said that it is not ready.
+    fn stir(&mut self, answer: Answer) {
+        if answer != Answer::Waits {
+            self.is_stirred = true;
+        }
+    }
+
+    // Whether a door that was read can be read again without waiting.
+    fn may_read_on(&self, door: usize) -> bool {
+        door != OWNER || self.input.is_ready_again(self.poll.registry())
+    }
+
+    // Whether one that was written can be written again.
+    fn may_write_on(&self, door: usize) -> bool {
+        match door {
+            LINES => self.output.is_ready_again(self.poll.registry()),
+            NOTES => self.errors.is_ready_again(self.poll.registry()),
+            _ => true,
+        }
+    }
+}

@@ -1,0 +1,109 @@
+//! The standard streams of the process: which of them it has, and when they are ready.
+
+use libc::net::{POLLNVAL, POLLOUT, poll};
+use libc::types::pollfd;
+use mio::unix::SourceFd;
+use mio::{Interest, Registry, Token};
+use std::os::fd::RawFd;
+
+/// The descriptors of standard input, standard output and standard error.
+pub const INPUT: RawFd = 0;
+
+pub const OUTPUT: RawFd = 1;
+
+pub const ERRORS: RawFd = 2;
+
+/// Which of the standard streams the process was started with.
+#[derive(Clone, Copy)]
+pub struct Streams {
+    pub input: bool,
+    pub output: bool,
+    pub errors: bool,
+}
+
+/// Looks which standard streams are open. It is asked before anything is opened, since what is
+/// opened then takes the place of one that is not.
+pub fn open_streams() -> Streams {
+    let mut asked = [asked_of(INPUT, 0), asked_of(OUTPUT, 0), asked_of(ERRORS, 0)];
+    let _ = poll(&mut asked, 0);
+    let [input, output, errors] = asked;
+    Streams {
+        input: is_open(input),
+        output: is_open(output),
+        errors: is_open(errors),
+    }
+}
+
+/// Whether a write to a stream does not wait, or would fail. Two streams may be one pipe, and
+/// others may write there too, so one that was ready need not be any more.
+pub fn takes_more(fd: RawFd) -> bool {
+    let mut asked = [asked_of(fd, POLLOUT)];
+    let count = poll(&mut asked, 0);
+    count != 0
+}
+
+// What is asked of a descriptor, beside whether it is open.
+fn asked_of(fd: RawFd, events: i16) -> pollfd {
+    pollfd {
+        fd,
+        events,
+        revents: 0,
+    }
+}
+
+// Whether it is.
+fn is_open(asked: pollfd) -> bool {
+    asked.revents & POLLNVAL == 0
+}
+
+/// A stream of the process, which blocks: it is used once where it says that it is ready, and then
+/// it has to say so again.
+#[derive(Clone, Copy)]
+pub struct Blocking {
+    fd: RawFd,
+    door: usize,
+    interest: Interest,
+    // Whether it says when it is ready. A file never does, and always is; and so is a stream that
+    // the process does not have.
+    tells: bool,
+}
+
+impl Blocking {
+    /// The stream with this descriptor, at a door. It is among the sources from here on, if it is
+    /// open.
+    pub fn at(
+        door: usize,
+        fd: RawFd,
+        interest: Interest,
+        is_open: bool,
+        registry: &Registry,
+    ) -> Blocking {
+        let tells = is_open
+            && registry
+                .register(&mut SourceFd(&fd), Token(door), interest)
+                .is_ok();
+        Blocking {
+            fd,
+            door,
+            interest,
+            tells,
+        }
+    }
+
+    /// Whether it is ready now for all that is known. Where it says when it is, it is asked to say
+    /// so again.
+    pub fn is_ready_again(&self, registry: &Registry) -> bool {
+        if !self.tells {
+            return true;
+        }
+        let token = Token(self.door);
+        registry
+            .reregister(&mut SourceFd(&self.fd), token, self.interest)
+            .is_err()
+    }
+
+    /// Whether it is always ready.
+    pub fn is_constant(&self) -> bool {
+        !self.tells
+    }
+}
