@@ -106,8 +106,6 @@ OWNER_CAUSES = (
     (b"hint 0 5 3 4 0 0", b" has a rectangle that leaves the screen, 8 by 8"),
     (b"scroll 0 0 1 9 0 0", b" has a rectangle that leaves the screen, 8 by 8"),
     (b"pixels 7 0 2 1\nabcdef", b" has a rectangle that leaves the screen, 8 by 8"),
-    (b"hold", b": what is drawn is always shown"),
-    (b"show", b": what is drawn is always shown"),
     (b"pixels 7 0 1 1\n\n\n\nquit", b": no newline follows its 3 bytes of pixels"),
     (b"pixels 0 0 8 8\n" + b"ab\n" * 64 + b"!", b": no newline follows its 192 bytes of pixels"),
 )

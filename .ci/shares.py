@@ -12,13 +12,11 @@ many viewers come one after another. The last line is 'N passed, M failed'.
 import os
 import socket
 import struct
-import sys
 import threading
 import time
-import traceback
 
 from messages import key, pixel_format, request, set_encodings
-from sharing import Share, Viewer, viewers, wait_for
+from sharing import Share, Viewer, run_rows, viewers, wait_for
 
 MANY = int(os.environ.get("MANY", "400"))
 
@@ -442,26 +440,5 @@ ROWS = [each_line_draws_and_each_event_is_reported, a_scroll_is_sent_as_a_copy,
         what_is_long_or_wide_is_taken_whole, an_update_that_was_written_is_kept_no_more]
 
 
-def main():
-    Share.program = os.path.abspath(sys.argv[1])
-    passed = failed = 0
-    named = [globals()[name] for name in sys.argv[2:]]
-    for row in named or ROWS:
-        start = time.time()
-        try:
-            told = row()
-        except Exception:
-            traceback.print_exc(file=sys.stdout)
-            failed += 1
-            continue
-        passed += 1
-        if named or told:
-            print(f"{row.__name__}: {told or 'ok'}, {time.time() - start:.1f} s")
-    print(f"{passed} passed, {failed} failed")
-    return 1 if failed else 0
-
-
 if __name__ == "__main__":
-    status = main()
-    sys.stdout.flush()
-    os._exit(status)
+    run_rows(ROWS, (idle, video))

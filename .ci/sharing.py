@@ -4,8 +4,10 @@ import os
 import socket
 import struct
 import subprocess
+import sys
 import threading
 import time
+import traceback
 
 from messages import VERSION, request
 from peers import breaks, connected, free_port
@@ -26,18 +28,26 @@ class Share:
     program = None
     runner = []
 
-    def __init__(self, *words):
+    def __init__(self, *words, owner=subprocess.PIPE, hears=True):
+        """Its owner's lines may be a file, and its own may be heard later on."""
         self.port = free_port()
         self.run = subprocess.Popen(
             [*self.runner, self.program, "share", "--port", str(self.port), *words],
-            stdin=subprocess.PIPE, stdout=subprocess.PIPE, stderr=subprocess.PIPE)
+            stdin=owner, stdout=subprocess.PIPE, stderr=subprocess.PIPE)
         self.output = b""
         self.errors = b""
         self.threads = []
-        for name, stream in (("output", self.run.stdout), ("errors", self.run.stderr)):
-            thread = threading.Thread(target=self.listen, args=(name, stream), daemon=True)
-            thread.start()
-            self.threads.append(thread)
+        self.hear("errors", self.run.stderr)
+        if hears:
+            self.hear_output()
+
+    def hear_output(self):
+        self.hear("output", self.run.stdout)
+
+    def hear(self, name, stream):
+        thread = threading.Thread(target=self.listen, args=(name, stream), daemon=True)
+        thread.start()
+        self.threads.append(thread)
 
     def listen(self, name, stream):
         while True:
@@ -170,3 +180,26 @@ class Viewer:
 
 def viewers(share, count):
     return [Viewer(share).hello() for _ in range(count)]
+
+
+def run_rows(rows, others=()):
+    """Runs rows with the program that the first word names: all, or those that more words name. Its
+    last line is 'N passed, M failed'. The process ends here, whatever its threads do."""
+    Share.program = os.path.abspath(sys.argv[1])
+    by_name = {row.__name__: row for row in (*rows, *others)}
+    named = [by_name[name] for name in sys.argv[2:]]
+    passed = failed = 0
+    for row in named or rows:
+        start = time.time()
+        try:
+            told = row()
+        except Exception:
+            traceback.print_exc(file=sys.stdout)
+            failed += 1
+            continue
+        passed += 1
+        if named or told:
+            print(f"{row.__name__}: {told or 'ok'}, {time.time() - start:.1f} s")
+    print(f"{passed} passed, {failed} failed")
+    sys.stdout.flush()
+    os._exit(1 if failed else 0)
