@@ -329,6 +329,7 @@ def many_connections_come_one_after_another():
     share = Share()
     share.say("screen 64 64\n")
     other = Viewer(share).hello()
+    usual = share.descriptors()
     figures = []
     for number in range(MANY):
         viewer = Viewer(share)
@@ -341,8 +342,9 @@ def many_connections_come_one_after_another():
             wait_for(lambda: len(lines_of(share, b"leave")) == number + 1, number)
         if number in (MANY // 2, MANY - 1):
             wait_for(lambda: len(lines_of(share, b"leave")) == number + 1, number)
-            figures.append((share.memory(), share.descriptors()))
-    assert figures[0][1] == figures[1][1] and figures[1][0] - figures[0][0] <= 64, figures
+            wait_for(lambda: share.descriptors() == usual, (number, usual))
+            figures.append((share.memory(), usual))
+    assert figures[1][0] - figures[0][0] <= 64, figures
     assert len(lines_of(share, b"come")) == MANY + 1, len(lines_of(share, b"come"))
     other.ask(0)
     other.update()
