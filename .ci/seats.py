@@ -342,8 +342,7 @@ def many_connections_come_one_after_another():
             wait_for(lambda: len(lines_of(share, b"leave")) == number + 1, number)
         if number in (MANY // 2, MANY - 1):
             wait_for(lambda: len(lines_of(share, b"leave")) == number + 1, number)
-            wait_for(lambda: share.descriptors() == usual, (number, usual))
-            figures.append((share.memory(), usual))
+            figures.append(share.settled(usual))
     assert figures[1][0] - figures[0][0] <= 64, figures
     assert len(lines_of(share, b"come")) == MANY + 1, len(lines_of(share, b"come"))
     other.ask(0)

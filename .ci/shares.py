@@ -328,9 +328,7 @@ def many_come_one_after_another():
         viewer.close()
         share.tells(b"leave 1 ok", k + 1)
         if k in (MANY // 4, MANY // 2, MANY - 1):
-            # A connection is closed after its line is written.
-            wait_for(lambda: share.descriptors() == usual, (k, usual))
-            figures.append((share.memory(), usual))
+            figures.append(share.settled(usual))
     assert figures[-1][0] - figures[1][0] <= 16, figures
     other.ask(0)
     other.update()

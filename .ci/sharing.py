@@ -84,6 +84,12 @@ class Share:
     def descriptors(self):
         return len(os.listdir(f"/proc/{self.run.pid}/fd"))
 
+    def settled(self, usual):
+        """Its memory and its descriptors, once it has as many as usual: it closes a connection after
+        the line that tells of it."""
+        wait_for(lambda: self.descriptors() == usual, usual)
+        return self.memory(), usual
+
 
 class Viewer:
     """A client of version 3.8 that takes Raw and CopyRect at rgb888."""
