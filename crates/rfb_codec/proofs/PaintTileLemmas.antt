@@ -135,28 +135,33 @@ nth_place skip k list = place_of (take 2 (drop (k * (skip + 2) + skip) list))
 after_one : (skip k : ℕ) (list : List ℕ) → nth_place skip k (drop (skip + 2) list) ≡ nth_place skip (k + 1) list
 after_one skip k list = ap (λ (ys : List ℕ). place_of (take 2 ys)) (drop-drop (k * (skip + 2) + skip) (skip + 2) list ∙ ap (λ (n : ℕ). drop n list) (omega arith))
 
--- all are inside where each is
-pub all_inside : (w h skip n : ℕ) (list : List ℕ) → ((k : ℕ) → k < n → is_on_screen w h (nth_place skip k list) ≡ true) → are_inside w h (places_from skip n list) ≡ true
-all_inside w h skip zero list each_is = refl
-all_inside w h skip (suc n) list each_is =
-    let first : is_on_screen w h (place_of (take 2 (drop skip list))) ≡ true = subst (λ (k : ℕ). is_on_screen w h (place_of (take 2 (drop k list))) ≡ true) (omega arith) (each_is 0 (omega arith)) in
-    let more = all_inside w h skip n (drop (skip + 2) list) (λ k below. subst (λ (r : Rect). is_on_screen w h r ≡ true) (sym (after_one skip k list)) (each_is (k + 1) (omega arith))) in
-    rw (first, more) refl
-
--- and not where one is not
-pub one_outside : (w h skip n k : ℕ) (list : List ℕ) → k < n → is_on_screen w h (nth_place skip k list) ≡ false → are_inside w h (places_from skip n list) ≡ false
-one_outside w h skip zero k list below off = absurd (omega arith)
-one_outside w h skip (suc n) zero list below off =
-    let first : is_on_screen w h (place_of (take 2 (drop skip list))) ≡ false = subst (λ (k : ℕ). is_on_screen w h (place_of (take 2 (drop k list))) ≡ false) (omega arith) off in
-    rw first refl
-one_outside w h skip (suc n) (suc k) list below off =
-    let far : suc k ≡ k + 1 = omega arith in
-    let more = one_outside w h skip n k (drop (skip + 2) list) (omega arith) (subst (λ (r : Rect). is_on_screen w h r ≡ false) (sym (after_one skip k list)) (rw far at off)) in
-    rw more (either (is_on_screen w h (place_of (take 2 (drop skip list)))))
+-- a further one is looked at after the others
+pub inside_more : (w h skip n : ℕ) (list : List ℕ) →
+    are_inside w h (places_from skip (suc n) list)
+    ≡ (are_inside w h (places_from skip n list) && is_on_screen w h (nth_place skip n list))
+inside_more w h skip zero list =
+    let here = place_of (take 2 (drop skip list)) in
+    let first : nth_place skip 0 list ≡ here =
+    ap (λ (k : ℕ). place_of (take 2 (drop k list))) (omega arith) in
+    subst (λ (r : Rect). (is_on_screen w h here && true) ≡ (true && is_on_screen w h r)) (sym first)
+    (last (is_on_screen w h here))
   where
-    either : (b : Bool) → (b && false) ≡ false
-    either true = refl
-    either false = refl
+    last : (b : Bool) → (b && true) ≡ (true && b)
+    last true = refl
+    last false = refl
+inside_more w h skip (suc n) list =
+    let rest = drop (skip + 2) list in
+    let here = is_on_screen w h (place_of (take 2 (drop skip list))) in
+    let inside = are_inside w h (places_from skip n rest) in
+    let later : nth_place skip n rest ≡ nth_place skip (suc n) list =
+    after_one skip n list ∙ ap (λ (k : ℕ). nth_place skip k list) (omega arith) in
+    ap (λ (b : Bool). here && b)
+    (inside_more w h skip n rest ∙ ap (λ (r : Rect). inside && is_on_screen w h r) later)
+    ∙ grouped here inside (is_on_screen w h (nth_place skip (suc n) list))
+  where
+    grouped : (a b c : Bool) → (a && (b && c)) ≡ ((a && b) && c)
+    grouped true b c = refl
+    grouped false b c = refl
 
 -- ---- a tile from its mask on
 

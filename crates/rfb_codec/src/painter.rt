@@ -166,6 +166,42 @@ impl Painter {
                 done: false,
             });
         }
+        self.take_pieces(bytes, picture)
+    }
+
+    // The same piece by piece. It is a call, since a byte that only joins those pending needs no room
+    // for a step.
+    #[inline(never)]
+    fn take_pieces(&mut self, bytes: &[u8], picture: &mut Picture<Colour>) -> Result<Painted, Flaw>
+        requires { Holds picture.old self.old.rect }
+        // how much was taken
+        ensures used { IfOk result (λ answer. answer.used ≤ length bytes.now) }
+        ensures some { IfOk result (λ answer. is_ended self.old.rect self.old.stage ≡ false →
+            0 < length bytes.now → 0 < answer.used) }
+        ensures all { IfOk result (λ answer. answer.done ≡ false → answer.used ≡ length bytes.now) }
+        ensures ended { IfOk result (λ answer.
+            answer.done ≡ is_ended self.new.rect self.new.stage) }
+        // what it makes of the picture
+        ensures done { IfOk result (λ answer. answer.done ≡ true →
+            Paints self.old picture.old (take answer.used bytes.now) self.new picture.new) }
+        ensures copied { IfOk result (λ answer. answer.done ≡ true →
+            CopiesFrom self.old picture.old (take answer.used bytes.now) self.new) }
+        ensures more { IfOk result (λ answer. answer.done ≡ false →
+            Waits self.old picture.old bytes.now self.new picture.new) }
+        ensures fault { IfErr result (λ flaw.
+            Refuses self.old picture.old bytes.now picture.new flaw.fault) }
+        // with which byte a fault comes
+        ensures with { IfErr result (λ flaw. ShowsWith self.old picture.old bytes.now flaw) }
+        ensures begun { IfErr result (λ flaw. 0 < flaw.used) }
+        ensures within { IfErr result (λ flaw. flaw.used ≤ length bytes.now) }
+        // what stays
+        ensures rect { self.new.rect ≡ self.old.rect }
+        ensures form { self.new.form ≡ self.old.form }
+        ensures encoding { encoding_at self.new.stage ≡ encoding_at self.old.stage }
+        ensures width { picture.new.width ≡ picture.old.width }
+        ensures height { picture.new.height ≡ picture.old.height }
+    {
+        prove!(self.rectangle.lies_in(picture));
         let step = pieces::feed(
             &self.rectangle,
             self.stage,

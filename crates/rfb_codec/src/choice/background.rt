@@ -6,6 +6,7 @@ ghost use Rattle.rfb_codec.specs.Choice.{IsBackground};
 ghost use Rattle.rfb_codec.specs.inside.Background.{HasMore, IsStopped, IsLed, IsRun, EndsRun, Leads, hash_of, changes_in, is_restless};
 
 use crate::block::PLACES;
+use crate::hextile::tiles::TILE_PLACES;
 use arrayvec::ArrayVec;
 use rfb_pixel::run_of;
 use std::result::Result;
@@ -16,10 +17,8 @@ const FEW: usize = 512;
 
 const ASIDE: usize = 64;
 
-// The slots of the large table, and the places of a tile.
+// The slots of the large table.
 const MANY: usize = 4096;
-
-const TILE: usize = 256;
 
 // How many places are looked at to tell noise.
 const SAMPLE: usize = 64;
@@ -47,7 +46,7 @@ pub(crate) fn background_of(pixels: &[u32], most: usize) -> Option<u32>
     ensures more { IfNone result (HasMore most pixels.now) }
 {
     // Of a tile of noise nothing else is asked.
-    if pixels.len() <= TILE && has_more::<FEW>(pixels, most) {
+    if pixels.len() <= TILE_PLACES && has_more::<FEW>(pixels, most) {
         return None;
     }
     match tally::<FEW, ASIDE>(pixels, most.min(FEW / 2)) {
@@ -55,8 +54,8 @@ pub(crate) fn background_of(pixels: &[u32], most: usize) -> Option<u32>
         Err(Stop::Pixels) if most <= FEW / 2 => return None,
         Err(_) => {}
     }
-    if pixels.len() <= TILE {
-        return tally::<FEW, TILE>(pixels, most).ok();
+    if pixels.len() <= TILE_PLACES {
+        return tally::<FEW, TILE_PLACES>(pixels, most).ok();
     }
     if has_more::<MANY>(pixels, most) {
         return None;

@@ -9,6 +9,9 @@ use rfb_picture::Rect;
 /// How many columns and rows a tile has, but for those at the right and at the lower edge.
 pub const TILE: u16 = 16;
 
+/// The most places of a tile.
+pub const TILE_PLACES: usize = 256;
+
 // How many tiles lie along `places` places.
 fn tiles_along(places: u16) -> usize
     ensures value { result ≡ across places }

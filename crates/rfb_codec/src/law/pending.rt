@@ -14,8 +14,7 @@ ghost use Rattle.rfb_wire.specs.Pending.{server_pending};
 ghost use Rattle.rfb_codec.specs.declared.subrect.Subrect.{Subrect};
 ghost use Rattle.rfb_codec.specs.Rre.{SpellsRreHead, SpellsInside};
 ghost use Rattle.rfb_codec.specs.Tile.{Tile, is_raw};
-ghost use Rattle.rfb_codec.specs.Hextile.{SpellsNextTile, tile_count};
-ghost use Rattle.rfb_codec.specs.Hextile.{next_tile};
+ghost use Rattle.rfb_codec.specs.Hextile.{SpellsNextTile, next_tile, tile_count};
 ghost use Rattle.rfb_codec.specs.UpdateStream.{UpdatePoint};
 ghost use Rattle.rfb_codec.specs.Pending.{tile_pending, data_pending, update_pending};
 

@@ -26,9 +26,9 @@ pub fn fill(rect: Rect, colour: Colour, picture: &mut Picture<Colour>)
     }
 }
 
-// The same by the longest pieces that its rows have.
+/// The same by a call, and by the longest pieces that its rows have.
 #[inline(never)]
-fn fill_wide(rect: Rect, colour: Colour, picture: &mut Picture<Colour>)
+pub fn fill_wide(rect: Rect, colour: Colour, picture: &mut Picture<Colour>)
     requires { IsPaintable picture.old rect }
     ensures value { picture.new ≡ filled rect colour picture.old }
     ensures width { picture.new.width ≡ picture.old.width }

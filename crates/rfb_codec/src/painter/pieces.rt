@@ -30,9 +30,8 @@ pub fn is_ended(rect: Rect, stage: Stage) -> bool
     }
 }
 
-/// Takes bytes of the data up to their last one, piece by piece. On a fault nothing is pending. It
-/// is not inlined, since a byte that only joins those pending needs none of it.
-#[inline(never)]
+/// Takes bytes of the data up to their last one, piece by piece. On a fault nothing is pending.
+#[inline(always)]
 pub fn feed(
     rectangle: &Rectangle,
     stage: Stage,

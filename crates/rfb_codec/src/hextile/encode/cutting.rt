@@ -6,12 +6,10 @@ ghost use Rattle.rfb_wire.specs.RectHead.{IsOnScreen};
 ghost use Rattle.rfb_codec.specs.HextileRule.{HasPixelsOf};
 
 use crate::block::Block;
+use crate::hextile::tiles::TILE_PLACES;
 use arrayvec::ArrayVec;
 use rfb_picture::Rect;
 use rfb_wire::pieces::append;
-
-/// The most places of a tile.
-pub const TILE_PLACES: usize = 256;
 
 /// Room for the pixels of a tile.
 pub type TilePixels = ArrayVec<u32, TILE_PLACES>;

@@ -12,7 +12,7 @@ ghost use Rattle.rfb_codec.specs.Painter.{over};
 use super::reading::place_of;
 use super::tile_read::{Seen, TileRead, or_zero};
 use crate::hextile::layout::TileLayout;
-use crate::painter::fill::fill;
+use crate::painter::fill::{fill, fill_wide};
 use crate::raw::paint_rows;
 use crate::subrect::Subrect;
 use rfb_picture::{Picture, Rect};
@@ -99,7 +99,8 @@ fn draw_subs(
     }
 }
 
-// The same, by one loop for every format.
+// The same, by one loop for every format. The background is filled by a call: with that inlined too,
+// this would be too large to be inlined itself.
 #[inline(always)]
 fn draw_each(
     format: Format,
@@ -117,7 +118,7 @@ fn draw_each(
     ensures width { picture.new.width ≡ picture.old.width }
     ensures height { picture.new.height ≡ picture.old.height }
 {
-    fill(rect, unpacked(format, pixels.background), picture);
+    fill_wide(rect, unpacked(format, pixels.background), picture);
     let own = unpacked(format, pixels.foreground);
     for n in 0..count {
         let part = sub_at(format, pixels.foreground, colored, n, list);

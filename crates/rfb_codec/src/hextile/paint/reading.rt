@@ -5,6 +5,7 @@ ghost use Rattle.std.specs.Prelude.{slice_index, MatchOption, IfErr, None, true,
 ghost use Rattle.rfb_pixel.specs.Format.{size_of};
 ghost use Rattle.rfb_wire.specs.stream.Reading.{More, Got};
 ghost use Rattle.rfb_wire.specs.stream.Parts.{optional};
+ghost use Rattle.rfb_wire.specs.RectStream.{is_on_screen};
 ghost use Rattle.rfb_wire.specs.stream.Placing.{FaultsWith};
 ghost use Rattle.rfb_codec.specs.Tile.{Tile, is_raw, subrects_colored, mask_fault, tile_colour, after_mask, are_inside, places_of, place_of, tile_after};
 ghost use Rattle.rfb_codec.specs.inside.TileRead.{LiesIn, tile_of_read, TellsTile, IsShort, IsCount, places_from};
@@ -200,20 +201,29 @@ fn fits(format: Format, width: u16, height: u16, read: TileRead, bytes: &[u8]) -
     }
 }
 
-// Whether `count` places lie in a tile, each after `skip` bytes of a pixel.
+// Whether `count` places lie in a tile, each after `skip` bytes of a pixel. It looks at all of them,
+// so that the compiler can take several at once; it is inlined, where `skip` may be known.
+#[inline(always)]
 fn are_places_inside(width: u16, height: u16, skip: usize, count: usize, list: &[u8]) -> bool
     requires all { count * (skip + 2) ≤ length list.now }
     requires pixel { skip ≤ 4 }
     ensures { result ≡ are_inside width height (places_from skip count list.now) }
 {
+    let mut inside = true;
     for i in 0..count {
         let at = i * (skip + 2) + skip;
-        let place = place_of(&list[at..at + 2]);
-        if place.x + place.w > width || place.y + place.h > height {
-            return false;
-        }
+        inside &= is_inside(width, height, place_of(&list[at..at + 2]));
     }
-    true
+    inside
+}
+
+// Whether a place lies in a tile.
+#[inline(always)]
+fn is_inside(width: u16, height: u16, place: Rect) -> bool
+    requires { (place.x ≤ 15) × (place.y ≤ 15) × (place.w ≤ 16) × (place.h ≤ 16) }
+    ensures { result ≡ is_on_screen width height place }
+{
+    place.x + place.w <= width && place.y + place.h <= height
 }
 
 /// The place that two bytes are: x and y in one, and width and height less one in the other.

@@ -19,15 +19,15 @@ loop-n-init c =
     let before = c.args.picture.now in
     record {
       shown =
-          c.fill.ensures.value
+          c.fill_wide.ensures.value
           ∙ ap (λ k. filled rect k before) c.unpacked.ensures
           ∙ ap (λ (all : List Subrect). over rect (λ x y. colour_of f (pixel_at c.args.pixels.background all x y)) before) (subs_in-none f c.args.pixels.foreground c.args.colored c.args.list.now);
-      width = c.fill.ensures.width;
-      height = c.fill.ensures.height;
+      width = c.fill_wide.ensures.width;
+      height = c.fill_wide.ensures.height;
     }
 
-pub fill-requires-in-loop-n : goal.fill-requires-in-loop-n
-fill-requires-in-loop-n c =
+pub fill-requires : goal.fill-requires
+fill-requires c =
     let rect = c.args.rect in
     let is = c.sub_at-part.ensures in
     let on : IsOnScreen rect.w rect.h c.sub_at-part.result.rect = subst (λ (s : Subrect). IsOnScreen rect.w rect.h s.rect) (sym is) (c.requires.inside.inside c.loop-n.n c.loop-n-test.true) in
@@ -58,15 +58,15 @@ loop-n-preserved c =
     let on : IsOnScreen rect.w rect.h s.rect = subst (λ (s : Subrect). IsOnScreen rect.w rect.h s.rect) (sym is) (c.requires.inside.inside n c.loop-n-test.true) in
     record {
       shown =
-          c.fill-in-loop-n.ensures.value
+          c.fill.ensures.value
           ∙ ap (λ (r : Rect). filled r c.colour_at-colour.result c.loop-n.picture) c.moved_by-places.ensures
           ∙ ap (λ k. filled (moved rect s.rect) k c.loop-n.picture) c.colour_at-colour.ensures
           ∙ ap (λ g. filled (moved rect s.rect) (colour_of f s.pixel) g) c.loop-n.invariant.shown
           ∙ over_filled f rect c.args.pixels.background subs s before c.requires.place.whole on
           ∙ ap (λ (t : Subrect). over rect (λ x y. colour_of f (pixel_at c.args.pixels.background (subs ++ t ∷ []) x y)) before) is
           ∙ ap (λ (all : List Subrect). over rect (λ x y. colour_of f (pixel_at c.args.pixels.background all x y)) before) (subs_in-more f c.args.pixels.foreground c.args.colored n c.args.list.now);
-      width = c.fill-in-loop-n.ensures.width ∙ c.loop-n.invariant.width;
-      height = c.fill-in-loop-n.ensures.height ∙ c.loop-n.invariant.height;
+      width = c.fill.ensures.width ∙ c.loop-n.invariant.width;
+      height = c.fill.ensures.height ∙ c.loop-n.invariant.height;
     }
 
 pub returns-clause-value : goal.returns-clause-value

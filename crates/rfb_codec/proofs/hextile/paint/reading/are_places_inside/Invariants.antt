@@ -1,7 +1,7 @@
-use Rattle.std.proofs.Common.{◌≡◌, ℕ, ◌<◌, true}
-use Rattle.rfb_wire.specs.RectStream.{is_on_screen}
-use Rattle.rfb_codec.proofs.PaintTileLemmas.{nth_place}
+use Rattle.std.proofs.Common.{◌≡◌}
+use Rattle.rfb_codec.specs.Tile.{are_inside}
+use Rattle.rfb_codec.specs.inside.TileRead.{places_from}
 use Rattle.rfb_codec.proofs.hextile.paint.reading.are_places_inside.Given as goal
 
 abbrev pub invariant-loop-i : goal.invariant-loop-i
-invariant-loop-i l = (k : ℕ) → k < l.i → is_on_screen l.width l.height (nth_place l.skip k l.list) ≡ true
+invariant-loop-i l = l.inside ≡ are_inside l.width l.height (places_from l.skip l.i l.list)
