@@ -1,6 +1,7 @@
 -- The server's end, step by step.
-use Rattle.std.proofs.Common.{◌≡◌, ℕ, ◌<◌, ◌≤◌, ◌&&◌, if◌then◌else◌, nat_le, Bool, List, [], ◌∷◌, ◌++◌, Option, Some, None, Result, is_some, true, false, Ok, Err, length, take, slice_index, refl, sym, subst, ◌∙◌, ap, append-nil, arith}
+use Rattle.std.proofs.Common.{◌≡◌, ℕ, ◌+◌, ◌-◌, ◌<◌, ◌≤◌, ◌&&◌, if◌then◌else◌, nat_le, Bool, List, [], ◌∷◌, ◌++◌, Option, Some, None, Result, is_some, true, false, Ok, Err, length, take, slice_index, refl, sym, subst, ◌∙◌, ap, append-nil, length-append, arith}
 use Rattle.std.proofs.lemmas.Bool.Decides.{nat_tests}
+use Rattle.std.proofs.lemmas.List.{length-take}
 use Rattle.rfb_wire.specs.stream.Reading.{Got, Bad}
 use Rattle.rfb_wire.specs.stream.End.{IsMachine, FedBy, RefusedBy, StepsBy}
 use Rattle.rfb_wire.proofs.stream_laws.RepeatLaws.{checked_reads}
@@ -18,7 +19,7 @@ use Rattle.arrayvec.specs.ArrayVec.{ArrayVec}
 use Rattle.rfb_hello.specs.Version.{is_version_text, minor_of, version_of}
 use Rattle.rfb_hello.specs.ClientHandshake.{AwaitsVersion, ProtocolVersion, after_version, client_version_fault, client_item}
 use Rattle.rfb_hello.specs.ServerEnd.{ServerSetup, as_reply, security_bytes, server_end}
-use Rattle.rfb_hello.specs.ServerProgress.{ProgressStandsFor}
+use Rattle.rfb_hello.specs.ServerProgress.{ProgressStandsFor, least_left}
 use Rattle.rfb_hello.specs.inside.ServerPiece.{progress_after}
 use Rattle.rfb_hello.specs.ServerStanding.{StandsFor, setup_of}
 use Rattle.rfb_hello.proofs.ClientHandshakeLaws.{client_handshake_laws}
@@ -96,3 +97,18 @@ version_refused setup old new text unit all fault was whole size bad s prefix st
     let read : client_item setup.offer AwaitsVersion (all ++ []) ≡ Bad fault = (checked_reads 12 (client_version_fault setup.offer) (λ zs. ProtocolVersion (version_of zs))).blames fault all [] (size, bad_there) in
     let next : client_item setup.offer s (prefix ++ unit) ≡ Bad fault = rw (here.0, bytes) (subst (λ (zs : List ℕ). client_item setup.offer AwaitsVersion zs ≡ Bad fault) (append-nil all) read) in
     rw next refl
+
+-- ---- what is left
+
+after_leaves : (version : Version) → 1 ≤ least_left (progress_after version)
+after_leaves V33 = omega arith
+after_leaves V37 = omega arith
+after_leaves V38 = omega arith
+
+-- of a version that came whole no more is counted than its bytes
+pub version_leaves : (version : Version) (text whole bytes : List ℕ) (used : ℕ) →
+    whole ≡ text ++ take used bytes → length whole ≡ 12 → used ≤ length bytes →
+    12 - length text + 1 ≤ used + least_left (progress_after version)
+version_leaves version text whole bytes used is twelve within =
+    let both = ap length is ∙ length-append text (take used bytes) in
+    omega (arith, after_leaves version, both, twelve, length-take used bytes, within)

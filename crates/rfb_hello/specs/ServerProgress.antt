@@ -1,5 +1,5 @@
 -- How far a server's handshake has come: what it stands for, and whether it goes on.
-use Rattle.std.specs.Prelude.{◌≡◌, ◌<◌, ℕ, List, [], length, Option, Some, None, Bool, true, false}
+use Rattle.std.specs.Prelude.{◌≡◌, ◌<◌, ◌+◌, ◌-◌, ℕ, List, [], length, Option, Some, None, Bool, true, false}
 use Rattle.rfb_hello.specs.declared.fault.HelloFault.{HelloFault}
 use Rattle.rfb_hello.specs.declared.server_hello.progress.Progress.{Progress}
 use Rattle.rfb_hello.specs.declared.server_hello.progress.Progress.TheVariants.{Version as VersionPart, Choice, Init, Done, Failed}
@@ -30,3 +30,12 @@ is_open (Choice version) = true
 is_open (Init version) = true
 is_open (Done version shared) = false
 is_open (Failed fault) = false
+
+-- how many bytes the client sends at least before its handshake is done: what its version lacks and
+-- ClientInit, since version 3.3 has no choice; its choice and ClientInit; ClientInit; or none
+abbrev pub least_left : Progress → ℕ
+least_left (VersionPart text) = 12 - length text.items + 1
+least_left (Choice version) = 2
+least_left (Init version) = 1
+least_left (Done version shared) = 0
+least_left (Failed fault) = 0

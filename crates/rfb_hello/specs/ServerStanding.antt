@@ -6,6 +6,7 @@ use Rattle.rfb_hello.specs.declared.server_hello.ServerHello.{ServerHello}
 use Rattle.rfb_hello.specs.ClientHandshake.{ClientPoint}
 use Rattle.rfb_hello.specs.ServerEnd.{ServerSetup}
 use Rattle.rfb_hello.specs.ServerProgress.{ProgressStandsFor, fault_in, is_open as goes_on}
+use Rattle.rfb_hello.specs.ServerProgress.{least_left}
 
 -- the setup that it was made with
 abbrev pub setup_of : ServerHello → ServerSetup
@@ -30,3 +31,7 @@ fault_of hello = fault_in hello.progress
 -- the client's bytes go on in the handshake
 abbrev pub is_open : ServerHello → Bool
 is_open hello = goes_on hello.progress
+
+-- how many bytes the client sends at least before its handshake is done
+abbrev pub left_of : ServerHello → ℕ
+left_of hello = least_left hello.progress

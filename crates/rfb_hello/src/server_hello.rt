@@ -7,6 +7,8 @@ ghost use Rattle.rfb_hello.specs.ClientHandshake.{AwaitsVersion, ClientPoint};
 ghost use Rattle.rfb_hello.specs.Pending.{client_handshake_pending};
 ghost use Rattle.rfb_hello.specs.ServerEnd.{ServerSetup, as_reply, server_end, server_init_bytes};
 ghost use Rattle.rfb_hello.specs.ServerStanding.{StandsFor, fault_of, is_open, setup_of};
+ghost use Rattle.rfb_hello.specs.ServerStanding.{left_of};
+ghost use Rattle.rfb_hello.specs.inside.ServerPiece.{RefusesAs, TakesAs};
 ghost use Rattle.rfb_hello.specs.declared.server_hello.progress.Progress.{Progress};
 ghost use Rattle.arrayvec.specs.ArrayVec.{ArrayVec as Items};
 
@@ -80,6 +82,7 @@ impl ServerHello {
             → FedBy (server_end setup) (StandsFor setup)
             self.old (take fed.used bytes.now) fed.event self.new) }
         ensures setup { setup_of self.new ≡ setup_of self.old }
+        ensures left { IfOk result (λ fed. left_of self.old ≤ fed.used + left_of self.new) }
 
         // When a fault comes, and that it stays.
         ensures fault { IfErr result (λ fault. (setup : ServerSetup)
@@ -108,6 +111,15 @@ impl ServerHello {
         self.progress.is_open()
     }
 
+    /// How many bytes the client sends at least before its handshake is done: what its version
+    /// lacks, its choice of a security type, which version 3.3 does without, and ClientInit. None
+    /// once it is done, or has failed.
+    pub fn left(&self) -> usize
+        ensures { result ≡ left_of self.now }
+    {
+        self.progress.left()
+    }
+
     /// How many bytes are pending: those of the client's next item after its last whole piece. It
     /// keeps no others.
     pub fn pending(&self) -> usize
@@ -126,14 +138,12 @@ impl ServerHello {
         requires some { 0 < length bytes.now }
         requires open { is_open self.old ≡ true }
         ensures used { IfOk result (λ taken. (0 < taken.0) × (taken.0 ≤ length bytes.now)) }
+        ensures left { IfOk result (λ taken. left_of self.old ≤ taken.0 + left_of self.new) }
         ensures open { IfOk result (λ taken. taken.1 ≡ None → is_open self.new ≡ true) }
         ensures going { IfOk result (λ taken. fault_of self.new ≡ None) }
-        ensures fed { IfOk result (λ taken. (setup : ServerSetup)
-            → FedBy (server_end setup) (StandsFor setup)
-            self.old (take taken.0 bytes.now) taken.1 self.new) }
+        ensures fed { IfOk result (TakesAs self.old bytes.now self.new) }
         ensures setup { setup_of self.new ≡ setup_of self.old }
-        ensures fault { IfErr result (λ fault. (setup : ServerSetup)
-            → RefusedBy (server_end setup) (StandsFor setup) self.old bytes.now fault) }
+        ensures fault { IfErr result (RefusesAs self.old bytes.now) }
         ensures fails { IfErr result (λ fault. fault_of self.new ≡ Some fault) }
     {
         match self.progress {
@@ -152,13 +162,11 @@ impl ServerHello {
         requires some { 0 < length bytes.now }
         requires open { (text : Items ℕ) × (self.old.progress ≡ Progress.Version text) }
         ensures used { IfOk result (λ taken. (0 < taken.0) × (taken.0 ≤ length bytes.now)) }
+        ensures left { IfOk result (λ taken. left_of self.old ≤ taken.0 + left_of self.new) }
         ensures open { IfOk result (λ taken. is_open self.new ≡ true) }
-        ensures fed { IfOk result (λ taken. (setup : ServerSetup)
-            → FedBy (server_end setup) (StandsFor setup)
-            self.old (take taken.0 bytes.now) taken.1 self.new) }
+        ensures fed { IfOk result (TakesAs self.old bytes.now self.new) }
         ensures setup { setup_of self.new ≡ setup_of self.old }
-        ensures fault { IfErr result (λ fault. (setup : ServerSetup)
-            → RefusedBy (server_end setup) (StandsFor setup) self.old bytes.now fault) }
+        ensures fault { IfErr result (RefusesAs self.old bytes.now) }
         ensures fails { IfErr result (λ fault. fault_of self.new ≡ Some fault) }
     {
         let Progress::Version(text) = &mut self.progress else {
@@ -187,6 +195,7 @@ impl ServerHello {
         ensures steps { (setup : ServerSetup)
             → StepsBy (server_end setup) (StandsFor setup) self.old (choice ∷ []) result self.new }
         ensures setup { setup_of self.new ≡ setup_of self.old }
+        ensures left { IfOk result (λ event. left_of self.new ≡ 1) }
         ensures open { IfOk result (λ event. is_open self.new ≡ true) }
         ensures fails { IfErr result (λ fault. fault_of self.new ≡ Some fault) }
     {

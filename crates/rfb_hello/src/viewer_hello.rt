@@ -28,6 +28,9 @@ use crate::viewer_hello::progress::Progress;
 use arrayvec::ArrayVec;
 use std::alloc::Global;
 
+// How many bytes of an item were taken, and the item's event once it is whole.
+type Taken = (usize, Result<Option<ViewerStep>, HelloFault>);
+
 /// The viewer's end of a handshake. It is fed what the server sends, and returns what is to be sent
 /// back, the screen's size and its name. It takes security type None alone. It takes memory for a
 /// name or a reason alone, as much as is kept of it, once its length is known.
@@ -165,7 +168,7 @@ impl ViewerHello {
 
     // Takes bytes of the server's next item, as many of it as there are. Returns how many these
     // were, and the item's event once it is whole.
-    fn take(&mut self, bytes: &[u8]) -> (usize, Result<Option<ViewerStep>, HelloFault>)
+    fn take(&mut self, bytes: &[u8]) -> Taken
         requires some { 0 < length bytes.now }
         requires open { is_open self.old ≡ true }
         ensures { TakesPiece self.old bytes.now result.0 result.1 self.new }

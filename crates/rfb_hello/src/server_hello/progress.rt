@@ -1,11 +1,11 @@
 //! How far a server's handshake has come.
 
 ghost use Rattle.std.specs.Prelude.{◌≡◌, ◌≤◌, false};
-ghost use Rattle.rfb_hello.specs.ServerProgress.{is_open};
+ghost use Rattle.rfb_hello.specs.ServerProgress.{is_open, least_left};
 ghost use Rattle.rfb_hello.specs.inside.ServerPiece.{part_in};
 
 use crate::fault::HelloFault;
-use crate::version::{VERSION_PART, Version};
+use crate::version::{VERSION_PART, VERSION_SIZE, Version};
 use arrayvec::ArrayVec;
 
 /// What the client's next bytes are.
@@ -40,6 +40,18 @@ impl Progress {
         match self {
             Progress::Version(text) => text.len(),
             Progress::Choice(_) | Progress::Init(_) | Progress::Done(..) | Progress::Failed(_) => 0,
+        }
+    }
+    /// How many bytes the client sends at least before its handshake is done.
+    pub fn left(&self) -> usize
+        ensures { result ≡ least_left self.now }
+    {
+        match self {
+            // What its version lacks, and ClientInit: at version 3.3 there is no choice.
+            Progress::Version(text) => VERSION_SIZE - text.len() + 1,
+            Progress::Choice(_) => 2,
+            Progress::Init(_) => 1,
+            Progress::Done(..) | Progress::Failed(_) => 0,
         }
     }
 }

@@ -18,19 +18,16 @@ use crate::offered::Offered;
 use crate::pieces::{SECURITY_NONE, WORD_PART, WORD_SIZE, has_none, reply_of};
 use crate::step::{MAX_ANSWER, ViewerStep};
 use crate::version::{VERSION_PART, VERSION_SIZE, Version};
-use crate::viewer_hello::ViewerHello;
 use crate::viewer_hello::progress::{Cause, Progress};
 use crate::viewer_hello::type_list::TypeList;
+use crate::viewer_hello::{Taken, ViewerHello};
 use arrayvec::ArrayVec;
 use byteorder::{BigEndian, ByteOrder};
 use rfb_wire::pieces::gather;
 
 impl ViewerHello {
     // Takes bytes of the server's version.
-    pub(super) fn take_version(
-        &mut self,
-        bytes: &[u8],
-    ) -> (usize, Result<Option<ViewerStep>, HelloFault>)
+    pub(super) fn take_version(&mut self, bytes: &[u8]) -> Taken
         requires some { 0 < length bytes.now }
         requires open { (part : Items ℕ) × (self.old.progress ≡ Progress.Version part) }
         ensures { TakesPiece self.old bytes.now result.0 result.1 self.new }
@@ -51,10 +48,7 @@ impl ViewerHello {
     }
 
     // Takes bytes of the word that 3.3 has for a security type.
-    pub(super) fn take_word(
-        &mut self,
-        bytes: &[u8],
-    ) -> (usize, Result<Option<ViewerStep>, HelloFault>)
+    pub(super) fn take_word(&mut self, bytes: &[u8]) -> Taken
         requires some { 0 < length bytes.now }
         requires open { (part : Items ℕ) × (self.old.progress ≡ Progress.Word part) }
         ensures { TakesPiece self.old bytes.now result.0 result.1 self.new }
@@ -102,10 +96,7 @@ impl ViewerHello {
     }
 
     // Takes security types, which are judged at the last of them.
-    pub(super) fn take_types(
-        &mut self,
-        bytes: &[u8],
-    ) -> (usize, Result<Option<ViewerStep>, HelloFault>)
+    pub(super) fn take_types(&mut self, bytes: &[u8]) -> Taken
         requires some { 0 < length bytes.now }
         requires open { (version : Version) × (list : TypesSoFar)
             × (self.old.progress ≡ Progress.Types version list) }
@@ -130,10 +121,7 @@ impl ViewerHello {
     }
 
     // Takes bytes of SecurityResult.
-    pub(super) fn take_result(
-        &mut self,
-        bytes: &[u8],
-    ) -> (usize, Result<Option<ViewerStep>, HelloFault>)
+    pub(super) fn take_result(&mut self, bytes: &[u8]) -> Taken
         requires some { 0 < length bytes.now }
         requires open { (version : Version) × (part : Items ℕ)
             × (self.old.progress ≡ Progress.Result version part) }

@@ -17,8 +17,8 @@ use crate::pieces::{INIT_PART, WORD_PART, WORD_SIZE, read_text};
 use crate::step::{INIT_SIZE, ViewerStep};
 use crate::text::Text;
 use crate::version::Version;
-use crate::viewer_hello::ViewerHello;
 use crate::viewer_hello::progress::{Cause, Progress};
+use crate::viewer_hello::{Taken, ViewerHello};
 use byteorder::{BigEndian, ByteOrder};
 use rfb_wire::pieces::gather;
 use std::alloc::AllocError;
@@ -26,10 +26,7 @@ use std::mem;
 
 impl ViewerHello {
     // Takes bytes of the length of a reason.
-    pub(super) fn take_reason_length(
-        &mut self,
-        bytes: &[u8],
-    ) -> (usize, Result<Option<ViewerStep>, HelloFault>)
+    pub(super) fn take_reason_length(&mut self, bytes: &[u8]) -> Taken
         requires some { 0 < length bytes.now }
         requires open { (cause : Cause) × (part : Items ℕ)
             × (self.old.progress ≡ Progress.ReasonLength cause part) }
@@ -60,10 +57,7 @@ impl ViewerHello {
     }
 
     // Takes bytes of a reason.
-    pub(super) fn take_reason(
-        &mut self,
-        bytes: &[u8],
-    ) -> (usize, Result<Option<ViewerStep>, HelloFault>)
+    pub(super) fn take_reason(&mut self, bytes: &[u8]) -> Taken
         requires some { 0 < length bytes.now }
         requires open { (cause : Cause) × (n more : ℕ) × (kept : KeptText)
             × (self.old.progress ≡ Progress.Reason cause n more kept) }
@@ -91,10 +85,7 @@ impl ViewerHello {
     }
 
     // Takes bytes of ServerInit, up to the name: judges the screen, and makes room for its name.
-    pub(super) fn take_init(
-        &mut self,
-        bytes: &[u8],
-    ) -> (usize, Result<Option<ViewerStep>, HelloFault>)
+    pub(super) fn take_init(&mut self, bytes: &[u8]) -> Taken
         requires some { 0 < length bytes.now }
         requires open { (version : Version) × (part : Items ℕ)
             × (self.old.progress ≡ Progress.Init version part) }
@@ -162,10 +153,7 @@ impl ViewerHello {
     }
 
     // Takes bytes of the screen's name.
-    pub(super) fn take_name(
-        &mut self,
-        bytes: &[u8],
-    ) -> (usize, Result<Option<ViewerStep>, HelloFault>)
+    pub(super) fn take_name(&mut self, bytes: &[u8]) -> Taken
         requires some { 0 < length bytes.now }
         requires open { (version : Version) × (width height n more : ℕ) × (kept : KeptText)
             × (self.old.progress ≡ Progress.Name version width height n more kept) }

@@ -6,7 +6,7 @@ use Rattle.rfb_hello.specs.ClientHandshake.{client_version_fault}
 use Rattle.rfb_hello.specs.ServerEnd.{as_reply, security_bytes, server_end}
 use Rattle.rfb_hello.specs.inside.ServerPiece.{progress_after}
 use Rattle.rfb_hello.specs.ServerStanding.{StandsFor}
-use Rattle.rfb_hello.proofs.ServerHelloLemmas.{server_machine, version_told, version_refused}
+use Rattle.rfb_hello.proofs.ServerHelloLemmas.{server_machine, version_told, version_refused, version_leaves}
 use Rattle.rfb_hello.proofs.server_hello.ServerHello.take_version.Goals as goal
 
 pub returns-in-Ok-clause-fed : goal.returns-in-Ok-clause-fed
@@ -33,3 +33,10 @@ returns-in-Err-clause-fault c = λ setup.
     let same : c.as_slice.result.now ≡ whole = c.as_slice.ensures.value in
     let bad : client_version_fault old.offer whole ≡ Some c.in-Err.fault = ap (client_version_fault old.offer) (sym same) ∙ sym (rw c.in-Err.is at c.offered.ensures.fault) in
     rw c.fail.ensures.value (front_refuses (server_end setup) (server_machine setup) (StandsFor setup) old old used bytes c.in-Err.fault (version_refused setup old old c.in-Version.text (take used bytes) whole c.in-Err.fault c.in-Version.is gathered.0 gathered.1 bad))
+
+pub returns-in-Ok-clause-left : goal.returns-in-Ok-clause-left
+returns-in-Ok-clause-left c =
+    let gathered = rw c.in-Some.is at c.gather-used.ensures.whole in
+    rw (c.in-Version.is, c.after_version-self.ensures)
+    (version_leaves c.in-Ok.version c.in-Version.text.items c.in-Some.whole.items
+    c.args.bytes.now c.gather-used.result.0 gathered.0 gathered.1 c.gather-used.ensures.used.1)
