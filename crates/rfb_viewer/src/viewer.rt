@@ -183,8 +183,9 @@ impl Viewer {
     }
 
     // Takes the same bytes where the viewer has not failed, and says how many these are, at a fault
-    // those up to the byte with which it came.
-    #[inline(always)]
+    // those up to the byte with which it came. It is a call, so that it writes what it tells where
+    // that is wanted.
+    #[inline(never)]
     fn take_all(&mut self, bytes: &[u8], used: &mut usize) -> Result<Fed<ViewerEvent>, ViewerFault>
         requires none { used.old ≡ 0 }
         requires going { fault_of self.old ≡ None }
