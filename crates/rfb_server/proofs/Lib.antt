@@ -5,6 +5,7 @@ pub mod ComposingLaws
 pub mod FollowingLaws
 pub mod DrawingLaws
 pub mod MarksLemmas
+pub mod EnteringLemmas
 pub mod GreetLemmas
 pub mod AskingLemmas
 pub mod EncodingLemmas

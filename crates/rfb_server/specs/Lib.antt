@@ -11,6 +11,8 @@ pub mod Composing
 pub mod Progress
 pub mod Following
 pub mod Standing
+pub mod Intake
+pub mod Late
 pub mod Failing
 pub mod Counted
 pub mod Hints

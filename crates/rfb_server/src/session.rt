@@ -6,8 +6,9 @@ ghost use Rattle.rfb_picture.specs.Grid.{Holds};
 ghost use Rattle.rfb_server.specs.inside.Marks.{AreAlike};
 ghost use Rattle.rfb_server.specs.Progress.{is_partial};
 
+mod entering;
 mod input;
-mod places;
+pub(crate) mod places;
 mod update;
 
 use crate::drawing::Notice;
@@ -17,6 +18,7 @@ use crate::record::Record;
 use crate::session::input::progress::Progress;
 use crate::session::places::Places;
 use circular_buffer::HeapCircularBuffer;
+pub(crate) use input::handshake::event_of;
 use rfb_codec::Block;
 use rfb_hello::{ServerHello, Version};
 use rfb_picture::{Area, Picture, PlaceSet, Rect};

@@ -8,6 +8,7 @@ mod counted;
 mod cuts;
 mod drawings;
 mod hints;
+mod late;
 mod long_streams;
 mod memory;
 mod model;

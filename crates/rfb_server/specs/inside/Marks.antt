@@ -16,17 +16,25 @@ pub record AreAlike (known : Grid (Option ℕ)) (area : Places) (marks : Grid Bo
   pub columns : known.width ≤ 4096
   pub rows : known.height ≤ 4096
 
+-- of each place of a screen of that size it is not known what its viewer has
+abbrev pub none_known : ℕ → ℕ → Grid (Option ℕ)
+none_known width height = uniform width height None
+
+-- each place of a screen of that size is marked
+abbrev pub all_marked : ℕ → ℕ → Grid Bool
+all_marked width height =
+    filled (record { x = 0; y = 0; w = width; h = height }) true (uniform width height false)
+
 -- these are all places of a screen of that size
 pub record AreAllPlaces (width height : ℕ) (marks : Grid Bool) : Type 0 where
-  pub value : marks ≡
-      filled (record { x = 0; y = 0; w = width; h = height }) true (uniform width height false)
+  pub value : marks ≡ all_marked width height
   pub columns : marks.width ≡ width
   pub rows : marks.height ≡ height
 
 -- of a screen of that size nothing is known yet, nothing asked, and every place is marked
 pub record AreUntouched (width height : ℕ) (known : Grid (Option ℕ)) (area : Places)
     (marks : Grid Bool) : Type 0 where
-  pub known_is : known ≡ uniform width height None
+  pub known_is : known ≡ none_known width height
   pub known_wide : known.width ≡ width
   pub known_high : known.height ≡ height
   pub area_is : area ≡ no_places width height

@@ -2,7 +2,7 @@
 
 mod cut_text;
 mod encodings;
-mod handshake;
+pub(super) mod handshake;
 mod head;
 mod message;
 mod pixel_format;

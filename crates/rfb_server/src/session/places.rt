@@ -10,7 +10,7 @@ use std::alloc::{AllocError, Global};
 
 /// What the viewer has, what it asked for, and where the screen may differ from that.
 #[derive(Drop)]
-pub(super) struct Places {
+pub(crate) struct Places {
     pub known: Record,
     pub area: Area,
     pub marks: PlaceSet,

@@ -62,7 +62,7 @@ fn progress_after(goes_on: bool) -> Progress
 }
 
 // The event of a session that a step of the handshake is.
-fn event_of(step: Option<ServerStep>) -> Option<ServerEvent>
+pub(crate) fn event_of(step: Option<ServerStep>) -> Option<ServerEvent>
     ensures { seen result ≡ step_told step }
 {
     match step {
