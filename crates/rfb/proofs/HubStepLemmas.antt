@@ -1,8 +1,6 @@
 -- Words of a line of a hub's script: which lines a keyword can begin.
 use Rattle.std.proofs.Common.{◌≡◌, ◌≢◌, ◌<◌, ◌≤◌, ◌+◌, ◌∙◌, ap, sym, refl, subst, Bool, true, false, not, Option, Some, None, MatchOption, length, ℕ, List, [], ◌∷◌, Bor, arith, codes}
 use Rattle.std.specs.Str.{bytes_eq}
-use Rattle.rfb_picture.specs.declared.rect.Rect.{Rect}
-use Rattle.rfb_pixel.specs.declared.colour.Colour.{Colour}
 use Rattle.rfb_session.specs.declared.hub.event.HubEvent.TheVariants.{Fill, Put, Copy, Hint, Join, Leave, Of, Foreign}
 use Rattle.rfb_viewer.specs.declared.setup.ViewerSetup.{ViewerSetup as Setup}
 use Rattle.rfb_session.specs.declared.hub.event.SlotEvent.{SlotEvent}
@@ -13,9 +11,11 @@ use Rattle.rfb.specs.declared.script.hub.hub_step.HubStep.TheVariants.{Event, Se
 use Rattle.rfb_session.specs.declared.language.screen.Screen.{Screen as Size}
 use Rattle.rfb.specs.Few.{HasFewInHub}
 use Rattle.rfb.specs.HubScript.{AreForeign, AreJoin, IsSlotThen, SaysAt, SaysHub, SaysHubStep, SaysShow}
-use Rattle.rfb_session.specs.language.Words.{IsSlotAlone, Begins, AreFill, AreMove, AreSize, texts}
+use Rattle.rfb_session.specs.language.Words.{IsSlotAlone, Begins, AreSize, texts}
 use Rattle.rfb.specs.Script.{SaysEvent}
 use Rattle.rfb.proofs.HubWordLemmas.{no_slot_first, nothing_after, none_after, split_texts}
+use Rattle.rfb_session.specs.declared.language.drawing.DrawingLine.TheVariants as Drawing
+use Rattle.rfb_session.proofs.DrawingLineLemmas.{DrawNothing}
 use Rattle.rfb_session.proofs.WordLaws.{heads, nothing, no_texts, other_word, same_word, tails, words_are}
 
 -- two keywords that differ
@@ -23,42 +23,6 @@ apart : (a b : List ℕ) (x y : List (List ℕ)) → bytes_eq a b ≡ false → 
 apart a b x y other e = other_word a b other (heads a b x y e)
 
 -- ---- the steps of a keyword
-
-pub hub_fill : (rest : List (List ℕ)) → ((rect : Rect) (colour : Colour) → ¬ (AreFill rest rect colour)) → (step : HubStep) → ¬ (SaysHubStep (codes "fill" ∷ rest) step)
-hub_fill rest none (Event (Fill rect colour)) said =
-    let e = tails _ _ rest said.0 said.1 in none rect colour (subst (λ (r : List (List ℕ)). AreFill r rect colour) e said.2)
-hub_fill rest none (Event (Copy rect sx sy)) said = apart (codes "fill") (codes "copy") rest said.0 refl said.1
-hub_fill rest none (Event (Hint rect sx sy)) said = apart (codes "fill") (codes "hint") rest said.0 refl said.1
-hub_fill rest none (Event (Join slot setup)) said = apart (codes "fill") (codes "join") rest said.0 refl said.1
-hub_fill rest none (Event (Leave slot)) said = apart (codes "fill") (codes "leave") rest said.0 refl said.1
-hub_fill rest none (Event (Foreign slot bytes)) said = apart (codes "fill") (codes "foreign") rest said.0 refl said.1
-hub_fill rest none (Event (Of slot event)) said = apart (codes "fill") (codes "at") rest said.0 refl said.1
-hub_fill rest none (Settle slot) said = apart (codes "fill") (codes "at") rest said.0 refl said.1
-hub_fill rest none (Event (Put x y row)) said = absurd said
-
-pub hub_copy : (rest : List (List ℕ)) → ((rect : Rect) (sx sy : ℕ) → ¬ (AreMove rest rect sx sy)) → (step : HubStep) → ¬ (SaysHubStep (codes "copy" ∷ rest) step)
-hub_copy rest none (Event (Fill rect colour)) said = apart (codes "copy") (codes "fill") rest said.0 refl said.1
-hub_copy rest none (Event (Copy rect sx sy)) said =
-    let e = tails _ _ rest said.0 said.1 in none rect sx sy (subst (λ (r : List (List ℕ)). AreMove r rect sx sy) e said.2)
-hub_copy rest none (Event (Hint rect sx sy)) said = apart (codes "copy") (codes "hint") rest said.0 refl said.1
-hub_copy rest none (Event (Join slot setup)) said = apart (codes "copy") (codes "join") rest said.0 refl said.1
-hub_copy rest none (Event (Leave slot)) said = apart (codes "copy") (codes "leave") rest said.0 refl said.1
-hub_copy rest none (Event (Foreign slot bytes)) said = apart (codes "copy") (codes "foreign") rest said.0 refl said.1
-hub_copy rest none (Event (Of slot event)) said = apart (codes "copy") (codes "at") rest said.0 refl said.1
-hub_copy rest none (Settle slot) said = apart (codes "copy") (codes "at") rest said.0 refl said.1
-hub_copy rest none (Event (Put x y row)) said = absurd said
-
-pub hub_hint : (rest : List (List ℕ)) → ((rect : Rect) (sx sy : ℕ) → ¬ (AreMove rest rect sx sy)) → (step : HubStep) → ¬ (SaysHubStep (codes "hint" ∷ rest) step)
-hub_hint rest none (Event (Fill rect colour)) said = apart (codes "hint") (codes "fill") rest said.0 refl said.1
-hub_hint rest none (Event (Copy rect sx sy)) said = apart (codes "hint") (codes "copy") rest said.0 refl said.1
-hub_hint rest none (Event (Hint rect sx sy)) said =
-    let e = tails _ _ rest said.0 said.1 in none rect sx sy (subst (λ (r : List (List ℕ)). AreMove r rect sx sy) e said.2)
-hub_hint rest none (Event (Join slot setup)) said = apart (codes "hint") (codes "join") rest said.0 refl said.1
-hub_hint rest none (Event (Leave slot)) said = apart (codes "hint") (codes "leave") rest said.0 refl said.1
-hub_hint rest none (Event (Foreign slot bytes)) said = apart (codes "hint") (codes "foreign") rest said.0 refl said.1
-hub_hint rest none (Event (Of slot event)) said = apart (codes "hint") (codes "at") rest said.0 refl said.1
-hub_hint rest none (Settle slot) said = apart (codes "hint") (codes "at") rest said.0 refl said.1
-hub_hint rest none (Event (Put x y row)) said = absurd said
 
 pub hub_join : (rest : List (List ℕ)) → ((slot : ℕ) (setup : Setup) → ¬ (AreJoin rest slot setup)) → (step : HubStep) → ¬ (SaysHubStep (codes "join" ∷ rest) step)
 hub_join rest none (Event (Fill rect colour)) said = apart (codes "join") (codes "fill") rest said.0 refl said.1
@@ -120,17 +84,19 @@ says_at rest (Event (Join slot setup)) said = absurd said
 says_at rest (Event (Leave slot)) said = absurd said
 says_at rest (Event (Foreign slot bytes)) said = absurd said
 
--- another keyword has none
-pub no_hub_step : (key : List ℕ) (rest : List (List ℕ)) → key ≢ codes "fill" → key ≢ codes "copy" → key ≢ codes "hint" → key ≢ codes "join" → key ≢ codes "leave" → key ≢ codes "foreign" → key ≢ codes "at" → (step : HubStep) → ¬ (SaysHubStep (key ∷ rest) step)
-no_hub_step key rest nfill ncopy nhint njoin nleave nforeign nat (Event (Fill rect colour)) said = nfill (heads key _ rest said.0 said.1)
-no_hub_step key rest nfill ncopy nhint njoin nleave nforeign nat (Event (Copy rect sx sy)) said = ncopy (heads key _ rest said.0 said.1)
-no_hub_step key rest nfill ncopy nhint njoin nleave nforeign nat (Event (Hint rect sx sy)) said = nhint (heads key _ rest said.0 said.1)
-no_hub_step key rest nfill ncopy nhint njoin nleave nforeign nat (Event (Join slot setup)) said = njoin (heads key _ rest said.0 said.1)
-no_hub_step key rest nfill ncopy nhint njoin nleave nforeign nat (Event (Leave slot)) said = nleave (heads key _ rest said.0 said.1)
-no_hub_step key rest nfill ncopy nhint njoin nleave nforeign nat (Event (Foreign slot bytes)) said = nforeign (heads key _ rest said.0 said.1)
-no_hub_step key rest nfill ncopy nhint njoin nleave nforeign nat (Event (Of slot event)) said = nat (heads key _ rest said.0 said.1)
-no_hub_step key rest nfill ncopy nhint njoin nleave nforeign nat (Settle slot) said = nat (heads key _ rest said.0 said.1)
-no_hub_step key rest nfill ncopy nhint njoin nleave nforeign nat (Event (Put x y row)) said = absurd said
+-- another keyword has those of a drawing and of a hint alone
+pub only_drawn : (key : List ℕ) (rest : List (List ℕ)) → key ≢ codes "join" → key ≢ codes "leave" →
+    key ≢ codes "foreign" → key ≢ codes "at" → DrawNothing (key ∷ rest) → (step : HubStep) →
+    ¬ (SaysHubStep (key ∷ rest) step)
+only_drawn key rest join leave foreign at none (Event (Fill rect colour)) said = none (Drawing.Fill rect colour) said
+only_drawn key rest join leave foreign at none (Event (Copy rect sx sy)) said = none (Drawing.Copy rect sx sy) said
+only_drawn key rest join leave foreign at none (Event (Hint rect sx sy)) said = none (Drawing.Hint rect sx sy) said
+only_drawn key rest join leave foreign at none (Event (Join slot setup)) said = join (heads key _ rest said.0 said.1)
+only_drawn key rest join leave foreign at none (Event (Leave slot)) said = leave (heads key _ rest said.0 said.1)
+only_drawn key rest join leave foreign at none (Event (Foreign slot bytes)) said = foreign (heads key _ rest said.0 said.1)
+only_drawn key rest join leave foreign at none (Event (Of slot event)) said = at (heads key _ rest said.0 said.1)
+only_drawn key rest join leave foreign at none (Settle slot) said = at (heads key _ rest said.0 said.1)
+only_drawn key rest join leave foreign at none (Event (Put x y row)) said = absurd said
 
 -- a word that is a keyword has the steps of it
 pub no_step_of : (key word : List ℕ) (rest : List (List ℕ)) → bytes_eq key word ≡ true → ((step : HubStep) → ¬ (SaysHubStep (word ∷ rest) step)) → (step : HubStep) → ¬ (SaysHubStep (key ∷ rest) step)
@@ -287,25 +253,23 @@ foreign_none words first rest e same none step said =
 
 -- ---- the first line, and the last
 
-pub hub_words : (words : List (Bor (List ℕ))) (first : Bor (List ℕ)) (rest : List (Bor (List ℕ))) → words ≡ first ∷ rest → bytes_eq first.now (codes "hub") ≡ true → (r : Option Size) → MatchOption r ((size : Size) → ¬ (AreSize (texts rest) size)) (AreSize (texts rest))
-    → MatchOption r ((size : Size) → ¬ (SaysHub (texts words) size)) (SaysHub (texts words))
-hub_words words first rest e same None none = λ size says.
-    none size (subst (λ (r : List (List ℕ)). AreSize r size) (tails (codes "hub") (codes "hub") (texts rest) says.0 (sym (words_are words first rest (codes "hub") e same) ∙ says.1)) says.2)
-hub_words words first rest e same (Some size) are = (texts rest, words_are words first rest (codes "hub") e same, are)
+pub hub_words : (all : List (List ℕ)) (rest : List (Bor (List ℕ))) → all ≡ codes "hub" ∷ texts rest → (r : Option Size) → MatchOption r ((size : Size) → ¬ (AreSize (texts rest) size)) (AreSize (texts rest))
+    → MatchOption r (¬ ((size : Size) × SaysHub all size)) (SaysHub all)
+hub_words all rest e None none = λ gives.
+    none gives.0 (subst (λ (r : List (List ℕ)). AreSize r gives.0) (tails (codes "hub") (codes "hub") (texts rest) gives.1.0 (sym e ∙ gives.1.1)) gives.1.2)
+hub_words all rest e (Some size) are = (texts rest, e, are)
 
-pub show_words : (words : List (Bor (List ℕ))) (first : Bor (List ℕ)) (rest : List (Bor (List ℕ))) → words ≡ first ∷ rest → bytes_eq first.now (codes "show") ≡ true → (r : Option ℕ) → MatchOption r ((slot : ℕ) → ¬ (IsSlotAlone (texts rest) slot)) (IsSlotAlone (texts rest))
-    → MatchOption r ((slot : ℕ) → ¬ (SaysShow (texts words) slot)) (SaysShow (texts words))
-show_words words first rest e same None none = λ slot says.
-    none slot (subst (λ (r : List (List ℕ)). IsSlotAlone r slot) (tails (codes "show") (codes "show") (texts rest) says.0 (sym (words_are words first rest (codes "show") e same) ∙ says.1)) says.2)
-show_words words first rest e same (Some slot) are = (texts rest, words_are words first rest (codes "show") e same, are)
+pub no_hub_line : (all : List (List ℕ)) → ((rest : List (List ℕ)) → all ≢ codes "hub" ∷ rest) → ¬ ((size : Size) × SaysHub all size)
+no_hub_line all none gives = none gives.1.0 gives.1.1
 
-pub hub_line : (r : Option Size) (all : List (List ℕ)) → MatchOption r ((size : Size) → ¬ (SaysHub all size)) (SaysHub all) → MatchOption r (¬ ((size : Size) × SaysHub all size)) (SaysHub all)
-hub_line None all none = λ gives. none gives.0 gives.1
-hub_line (Some size) all says = says
+pub show_words : (all : List (List ℕ)) (rest : List (Bor (List ℕ))) → all ≡ codes "show" ∷ texts rest → (r : Option ℕ) → MatchOption r ((slot : ℕ) → ¬ (IsSlotAlone (texts rest) slot)) (IsSlotAlone (texts rest))
+    → MatchOption r (¬ ((slot : ℕ) × SaysShow all slot)) (SaysShow all)
+show_words all rest e None none = λ names.
+    none names.0 (subst (λ (r : List (List ℕ)). IsSlotAlone r names.0) (tails (codes "show") (codes "show") (texts rest) names.1.0 (sym e ∙ names.1.1)) names.1.2)
+show_words all rest e (Some slot) are = (texts rest, e, are)
 
-pub show_line : (r : Option ℕ) (all : List (List ℕ)) → MatchOption r ((slot : ℕ) → ¬ (SaysShow all slot)) (SaysShow all) → MatchOption r (¬ ((slot : ℕ) × SaysShow all slot)) (SaysShow all)
-show_line None all none = λ names. none names.0 names.1
-show_line (Some slot) all says = says
+pub no_show_line : (all : List (List ℕ)) → ((rest : List (List ℕ)) → all ≢ codes "show" ∷ rest) → ¬ ((slot : ℕ) × SaysShow all slot)
+no_show_line all none names = none names.1.0 names.1.1
 
 -- ---- no step has too many bytes
 

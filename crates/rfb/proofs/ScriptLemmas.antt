@@ -2,7 +2,6 @@
 use Rattle.std.proofs.Common.{Option, Some, None, MatchOption, ◌≡◌, ◌≢◌, ◌<◌, ◌≤◌, ◌+◌, ◌∙◌, ap, sym, refl, subst, Bool, true, false, length, ℕ, List, [], ◌∷◌, Bor, arith, codes}
 use Rattle.std.specs.Str.{bytes_eq}
 use Rattle.rfb_picture.specs.declared.rect.Rect.{Rect}
-use Rattle.rfb_pixel.specs.declared.colour.Colour.{Colour}
 use Rattle.rfb_pixel.specs.Format.{PixelFormat}
 use Rattle.rfb_session.specs.declared.event.Event.{Event}
 use Rattle.rfb_session.specs.declared.event.Event.TheVariants.{Fill, Put, Copy, Hint, Request, SetFormat, SetEncodings, Key, Pointer, CutText, Compose, ToServer, ToViewer}
@@ -15,10 +14,12 @@ use Rattle.rfb.specs.declared.script.line.Step.{Step as ScriptStep}
 use Rattle.rfb.specs.declared.script.line.Step.TheVariants.{Event as OneEvent, Settle}
 use Rattle.rfb.specs.declared.script.line.Line.{Line}
 use Rattle.rfb.specs.declared.script.line.Line.TheVariants.{Screen, Viewer, Step}
-use Rattle.rfb_session.specs.language.Words.{AreFill, AreMove, AreSize, texts}
+use Rattle.rfb_session.specs.language.Words.{AreSize, texts}
 use Rattle.rfb.specs.Words.{AreRequest, AreWants, IsCountAlone, IsFormatAlone}
 use Rattle.rfb.specs.Few.{HasFew}
 use Rattle.rfb.specs.Script.{Says, SaysEvent, SaysNothing, SaysStep}
+use Rattle.rfb_session.specs.declared.language.drawing.DrawingLine.TheVariants as Drawing
+use Rattle.rfb_session.proofs.DrawingLineLemmas.{DrawNothing}
 use Rattle.rfb_session.proofs.WordLaws.{same_word, other_word, no_texts, heads, tails, nothing, words_are}
 
 -- two keywords that differ
@@ -26,54 +27,6 @@ apart : (a b : List ℕ) (x y : List (List ℕ)) → bytes_eq a b ≡ false → 
 apart a b x y other e = other_word a b other (heads a b x y e)
 
 -- ---- the events of a keyword
-
-pub only_fill : (rest : List (List ℕ)) → ((rect : Rect) (colour : Colour) → ¬ (AreFill rest rect colour)) → (event : Event) → ¬ (SaysEvent (codes "fill" ∷ rest) event)
-only_fill rest none (Fill rect colour) said =
-    let e = tails _ _ rest said.0 said.1 in none rect colour (subst (λ (r : List (List ℕ)). AreFill r rect colour) e said.2)
-only_fill rest none (Copy rect sx sy) said = apart (codes "fill") (codes "copy") rest said.0 refl said.1
-only_fill rest none (Hint rect sx sy) said = apart (codes "fill") (codes "hint") rest said.0 refl said.1
-only_fill rest none (Request incremental rect) said = apart (codes "fill") (codes "request") rest said.0 refl said.1
-only_fill rest none (SetFormat format) said = apart (codes "fill") (codes "format") rest said.0 refl said.1
-only_fill rest none (ToServer n) said = apart (codes "fill") (codes "toserver") rest said.0 refl said.1
-only_fill rest none (ToViewer n) said = apart (codes "fill") (codes "toviewer") rest said.0 refl said.1
-only_fill rest none Compose said = apart (codes "fill") (codes "compose") rest [] refl said
-only_fill rest none (Put x y row) said = absurd said
-only_fill rest none (SetEncodings encodings) said = absurd said
-only_fill rest none (Key down key) said = absurd said
-only_fill rest none (Pointer buttons x y) said = absurd said
-only_fill rest none (CutText text) said = absurd said
-
-pub only_copy : (rest : List (List ℕ)) → ((rect : Rect) (sx sy : ℕ) → ¬ (AreMove rest rect sx sy)) → (event : Event) → ¬ (SaysEvent (codes "copy" ∷ rest) event)
-only_copy rest none (Fill rect colour) said = apart (codes "copy") (codes "fill") rest said.0 refl said.1
-only_copy rest none (Copy rect sx sy) said =
-    let e = tails _ _ rest said.0 said.1 in none rect sx sy (subst (λ (r : List (List ℕ)). AreMove r rect sx sy) e said.2)
-only_copy rest none (Hint rect sx sy) said = apart (codes "copy") (codes "hint") rest said.0 refl said.1
-only_copy rest none (Request incremental rect) said = apart (codes "copy") (codes "request") rest said.0 refl said.1
-only_copy rest none (SetFormat format) said = apart (codes "copy") (codes "format") rest said.0 refl said.1
-only_copy rest none (ToServer n) said = apart (codes "copy") (codes "toserver") rest said.0 refl said.1
-only_copy rest none (ToViewer n) said = apart (codes "copy") (codes "toviewer") rest said.0 refl said.1
-only_copy rest none Compose said = apart (codes "copy") (codes "compose") rest [] refl said
-only_copy rest none (Put x y row) said = absurd said
-only_copy rest none (SetEncodings encodings) said = absurd said
-only_copy rest none (Key down key) said = absurd said
-only_copy rest none (Pointer buttons x y) said = absurd said
-only_copy rest none (CutText text) said = absurd said
-
-pub only_hint : (rest : List (List ℕ)) → ((rect : Rect) (sx sy : ℕ) → ¬ (AreMove rest rect sx sy)) → (event : Event) → ¬ (SaysEvent (codes "hint" ∷ rest) event)
-only_hint rest none (Fill rect colour) said = apart (codes "hint") (codes "fill") rest said.0 refl said.1
-only_hint rest none (Copy rect sx sy) said = apart (codes "hint") (codes "copy") rest said.0 refl said.1
-only_hint rest none (Hint rect sx sy) said =
-    let e = tails _ _ rest said.0 said.1 in none rect sx sy (subst (λ (r : List (List ℕ)). AreMove r rect sx sy) e said.2)
-only_hint rest none (Request incremental rect) said = apart (codes "hint") (codes "request") rest said.0 refl said.1
-only_hint rest none (SetFormat format) said = apart (codes "hint") (codes "format") rest said.0 refl said.1
-only_hint rest none (ToServer n) said = apart (codes "hint") (codes "toserver") rest said.0 refl said.1
-only_hint rest none (ToViewer n) said = apart (codes "hint") (codes "toviewer") rest said.0 refl said.1
-only_hint rest none Compose said = apart (codes "hint") (codes "compose") rest [] refl said
-only_hint rest none (Put x y row) said = absurd said
-only_hint rest none (SetEncodings encodings) said = absurd said
-only_hint rest none (Key down key) said = absurd said
-only_hint rest none (Pointer buttons x y) said = absurd said
-only_hint rest none (CutText text) said = absurd said
 
 pub only_request : (rest : List (List ℕ)) → ((incremental : Bool) (rect : Rect) → ¬ (AreRequest rest incremental rect)) → (event : Event) → ¬ (SaysEvent (codes "request" ∷ rest) event)
 only_request rest none (Fill rect colour) said = apart (codes "request") (codes "fill") rest said.0 refl said.1
@@ -156,20 +109,22 @@ no_event key rest nf nc nh nr nm ns nv ncompose (Pointer buttons x y) said = abs
 no_event key rest nf nc nh nr nm ns nv ncompose (CutText text) said = absurd said
 
 -- a keyword of no drawing and no hint has the events of a slot alone
-pub no_other_event : (key : List ℕ) (rest : List (List ℕ)) → bytes_eq key (codes "fill") ≡ false → bytes_eq key (codes "copy") ≡ false → bytes_eq key (codes "hint") ≡ false → ((event : SlotEvent) → ¬ (SaysEvent (key ∷ rest) (event_of event))) → (event : Event) → ¬ (SaysEvent (key ∷ rest) event)
-no_other_event key rest nf nc nh none (Fill rect colour) said = other_word key (codes "fill") nf (heads key _ rest said.0 said.1)
-no_other_event key rest nf nc nh none (Copy rect sx sy) said = other_word key (codes "copy") nc (heads key _ rest said.0 said.1)
-no_other_event key rest nf nc nh none (Hint rect sx sy) said = other_word key (codes "hint") nh (heads key _ rest said.0 said.1)
-no_other_event key rest nf nc nh none (Request incremental rect) said = none (Slot.Request incremental rect) said
-no_other_event key rest nf nc nh none (SetFormat format) said = none (Slot.SetFormat format) said
-no_other_event key rest nf nc nh none (ToServer n) said = none (Slot.ToServer n) said
-no_other_event key rest nf nc nh none (ToViewer n) said = none (Slot.ToViewer n) said
-no_other_event key rest nf nc nh none Compose said = none Slot.Compose said
-no_other_event key rest nf nc nh none (Put x y row) said = absurd said
-no_other_event key rest nf nc nh none (SetEncodings encodings) said = absurd said
-no_other_event key rest nf nc nh none (Key down code) said = absurd said
-no_other_event key rest nf nc nh none (Pointer buttons x y) said = absurd said
-no_other_event key rest nf nc nh none (CutText text) said = absurd said
+pub no_other_event : (key : List ℕ) (rest : List (List ℕ)) → DrawNothing (key ∷ rest) →
+    ((event : SlotEvent) → ¬ (SaysEvent (key ∷ rest) (event_of event))) → (event : Event) →
+    ¬ (SaysEvent (key ∷ rest) event)
+no_other_event key rest drawing none (Fill rect colour) said = drawing (Drawing.Fill rect colour) said
+no_other_event key rest drawing none (Copy rect sx sy) said = drawing (Drawing.Copy rect sx sy) said
+no_other_event key rest drawing none (Hint rect sx sy) said = drawing (Drawing.Hint rect sx sy) said
+no_other_event key rest drawing none (Request incremental rect) said = none (Slot.Request incremental rect) said
+no_other_event key rest drawing none (SetFormat format) said = none (Slot.SetFormat format) said
+no_other_event key rest drawing none (ToServer n) said = none (Slot.ToServer n) said
+no_other_event key rest drawing none (ToViewer n) said = none (Slot.ToViewer n) said
+no_other_event key rest drawing none Compose said = none Slot.Compose said
+no_other_event key rest drawing none (Put x y row) said = absurd said
+no_other_event key rest drawing none (SetEncodings encodings) said = absurd said
+no_other_event key rest drawing none (Key down code) said = absurd said
+no_other_event key rest drawing none (Pointer buttons x y) said = absurd said
+no_other_event key rest drawing none (CutText text) said = absurd said
 
 -- a word that is a keyword has the events of it
 pub no_event_of : (key word : List ℕ) (rest : List (List ℕ)) → bytes_eq key word ≡ true → ((event : Event) → ¬ (SaysEvent (word ∷ rest) event)) → (event : Event) → ¬ (SaysEvent (key ∷ rest) event)
@@ -231,6 +186,14 @@ no_words (Step Settle) said = nothing _ [] said
 
 -- ---- the words of a line by its first one
 
+-- no words, and words with another first one, have nothing after this one
+pub none_after_end : (words : List (Bor (List ℕ))) (key : List ℕ) → length words ≡ 0 → (rest : List (List ℕ)) → texts words ≢ key ∷ rest
+none_after_end words key none rest e = nothing key rest (sym (no_texts words none) ∙ e)
+
+pub none_after_other : (words : List (Bor (List ℕ))) (first : Bor (List ℕ)) (rest : List (Bor (List ℕ))) (key : List ℕ) → words ≡ first ∷ rest → bytes_eq first.now key ≡ false → (after : List (List ℕ)) → texts words ≢ key ∷ after
+none_after_other words first rest key e other after is =
+    apart first.now key (texts rest) after other (sym (ap (λ (ws : List (Bor (List ℕ))). texts ws) e) ∙ is)
+
 pub line_none : (words : List (Bor (List ℕ))) (first : Bor (List ℕ)) (rest : List (Bor (List ℕ))) (key : List ℕ) → words ≡ first ∷ rest → bytes_eq first.now key ≡ true → SaysNothing (key ∷ texts rest) → SaysNothing (texts words)
 line_none words first rest key e same none = subst (λ (ws : List (List ℕ)). SaysNothing ws) (sym (words_are words first rest key e same)) none
 
@@ -248,15 +211,14 @@ says_settle words first rest e same none =
 abbrev pub GiveWants : List (List ℕ) → Type 0
 GiveWants all = (wants : Wants) × Says all (Viewer wants)
 
-pub viewer_words : (words : List (Bor (List ℕ))) (first : Bor (List ℕ)) (rest : List (Bor (List ℕ))) → words ≡ first ∷ rest → bytes_eq first.now (codes "viewer") ≡ true → (r : Option Wants) → MatchOption r ((wants : Wants) → ¬ (AreWants (texts rest) wants)) (AreWants (texts rest))
-    → MatchOption r ((wants : Wants) → ¬ (Says (texts words) (Viewer wants))) (λ wants. Says (texts words) (Viewer wants))
-viewer_words words first rest e same None none = λ wants says.
-    only_viewer (texts rest) none (Viewer wants) (subst (λ (ws : List (List ℕ)). Says ws (Viewer wants)) (words_are words first rest (codes "viewer") e same) says)
-viewer_words words first rest e same (Some wants) are = (texts rest, words_are words first rest (codes "viewer") e same, are)
+pub viewer_words : (all : List (List ℕ)) (rest : List (Bor (List ℕ))) → all ≡ codes "viewer" ∷ texts rest → (r : Option Wants) → MatchOption r ((wants : Wants) → ¬ (AreWants (texts rest) wants)) (AreWants (texts rest))
+    → MatchOption r (¬ (GiveWants all)) (λ wants. Says all (Viewer wants))
+viewer_words all rest e None none = λ gives.
+    only_viewer (texts rest) none (Viewer gives.0) (subst (λ (ws : List (List ℕ)). Says ws (Viewer gives.0)) e gives.1)
+viewer_words all rest e (Some wants) are = (texts rest, e, are)
 
-pub viewer_line : (r : Option Wants) (all : List (List ℕ)) → MatchOption r ((wants : Wants) → ¬ (Says all (Viewer wants))) (λ wants. Says all (Viewer wants)) → MatchOption r (¬ (GiveWants all)) (λ wants. Says all (Viewer wants))
-viewer_line None all none = λ gives. none gives.0 gives.1
-viewer_line (Some wants) all says = says
+pub no_viewer_words : (all : List (List ℕ)) → ((rest : List (List ℕ)) → all ≢ codes "viewer" ∷ rest) → ¬ (GiveWants all)
+no_viewer_words all none gives = none gives.1.0 gives.1.1
 
 -- ---- no line has nine words
 

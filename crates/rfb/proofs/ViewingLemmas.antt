@@ -123,6 +123,22 @@ viewing_flushed unread left before after blank mid copied failing failed old upd
 viewing_flushed unread left before after blank mid copied failing failed old updates (ends.Server fault) new none kept = none
 viewing_flushed unread left before after blank mid copied failing failed old updates ends.NoMemory new none kept = none
 
+pub saw_flushed : (read answered blank mid copied : Option (List ℕ)) (first : Viewer) (updates : ℕ) (last : Viewer) →
+    Saw read answered blank mid first updates last → Keeps mid copied → Saw read answered blank copied first updates last
+saw_flushed read answered blank mid copied first updates last saw kept = record {
+  left = saw.left;
+  after = saw.after;
+  viewed = record {
+    fed = saw.viewed.fed;
+    later = saw.viewed.later;
+    sent = saw.viewed.sent;
+    read = saw.viewed.read;
+    runs = saw.viewed.runs;
+    wrote = saw.viewed.wrote;
+    kept = Appends-kept blank mid copied saw.viewed.fed saw.viewed.kept kept;
+  };
+}
+
 pub stops_flushed : (read answered blank mid copied : Option (List ℕ)) (first : Viewer) (updates : ℕ) (fault : EngineFault)
     (last : Viewer) → StopsSeeing read answered blank mid first updates fault last → Keeps mid copied →
     StopsSeeing read answered blank copied first updates fault last

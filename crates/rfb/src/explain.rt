@@ -22,8 +22,8 @@ pub use heard::Heard;
 pub use hearing::{Hearing, Shared, tell_played};
 pub use keeping::Writing;
 pub use placing::tell_place;
-use std::io;
 use std::io::Write;
+use std::{fmt, io};
 pub use telling::{Origin, Telling};
 
 const NOT_READY: &str = "\
@@ -32,6 +32,12 @@ rfb: the viewer has no picture yet: it has one once its handshake is done, which
 const NO_SUCH_SLOT: &str = "rfb: there is no viewer in the slot that the last line names";
 
 const NO_MEMORY: &str = "rfb: the system has refused memory";
+
+// Why something cannot be done with a file.
+const NO_PICTURE: &str = "\
+a picture is a PPM (P6) of 1 to 4096 pixels a side, with 255 or 65535 as its largest component";
+
+const TERMINAL: &str = "it is a terminal, which shows no picture and no recording";
 
 /// Where sentences go: to `errors`, or nowhere.
 #[derive(Drop)]
@@ -119,37 +125,29 @@ pub fn tell_unshowable<N: Write>(error: &io::Error, notes: &mut N) {
 
 /// Says that a file cannot be read.
 pub fn tell_unread<N: Write>(path: &str, error: &io::Error, notes: &mut N) {
-    let _ = writeln!(
-        notes,
-        "rfb: cannot read {}: {error}",
-        Escaped(path.as_bytes())
-    );
+    tell_not_done("read", path, error, notes);
 }
 
 /// Says that a file's picture cannot be shown.
 pub fn tell_unshown<N: Write>(path: &str, notes: &mut N) {
-    let _ = writeln!(
-        notes,
-        "rfb: cannot show {}: a picture is a PPM (P6) of 1 to 4096 pixels a side, with 255 or 65535 \
-         as its largest component",
-        Escaped(path.as_bytes())
-    );
+    tell_not_done("show", path, NO_PICTURE, notes);
 }
 
 /// Says that a file cannot be written.
 pub fn tell_unwritten<N: Write>(path: &str, error: &io::Error, notes: &mut N) {
-    let _ = writeln!(
-        notes,
-        "rfb: cannot write {}: {error}",
-        Escaped(path.as_bytes())
-    );
+    tell_not_done("write", path, error, notes);
 }
 
 /// Says that a file is a terminal, and no place for a picture.
 pub fn tell_terminal<N: Write>(path: &str, notes: &mut N) {
+    tell_not_done("write", path, TERMINAL, notes);
+}
+
+// Says what cannot be done with a file, and why.
+fn tell_not_done<D: fmt::Display + Drop, N: Write>(what: &str, path: &str, why: D, notes: &mut N) {
     let _ = writeln!(
         notes,
-        "rfb: cannot write {}: it is a terminal, which shows no picture and no recording",
+        "rfb: cannot {what} {}: {why}",
         Escaped(path.as_bytes())
     );
 }

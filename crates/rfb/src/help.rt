@@ -43,7 +43,7 @@ Status:
   2  the words of the command ask for nothing that there is
 
 With --explain, at any command, sentences on standard error say how it goes and why it fails. At a
-terminal, and with RFB_EXPLAIN=1 in the environment, they do by themselves.
+terminal, with RFB_EXPLAIN=1 in the environment, and at `share`, they do by themselves.
 
 `rfb help faults` has refusals and faults by number, docs/PROTOCOL.md the language of scripts.";
 
@@ -137,8 +137,8 @@ Standard input has a line for each thing that is drawn. One space parts two word
   show                        the scene is whole; without this it is after --hold seconds
   end N                       the viewer of seat N is let go
   quit                        all ends
-A bad line is reported on standard error with its number, and nothing of it is drawn. When standard
-input ends the screen stays as it is.
+A bad line is reported on standard error with its number, and nothing of it is drawn. Sentences there
+say why, and why a viewer leaves. When standard input ends the screen stays as it is.
 
 Standard output has a line for each thing that viewers do; N is a seat, 0 to 7:
   come N ADDRESS              a connection took the seat

@@ -25,6 +25,7 @@ use crate::script::run::tell_step;
 use crate::script::steps::{ALL, TURNS};
 use crate::script::{Numbered, Script, Step, read_explained};
 use rfb_session::{Event, Refused};
+use std::io;
 use std::io::{LineWriter, Read, Write};
 use std::net::Net;
 
@@ -54,7 +55,8 @@ pub fn script_through_loopback<P: AllocGlobal + Net, R: Read, W: Write, E: Write
     let alloc = context.alloc();
     let mut text = Vec::new(alloc);
     context.input.read_to_end(&mut text)?;
-    let script = read_explained(alloc, &text, context.errors, context.explains)?;
+    let notes = &mut Notes::new(context.errors, context.explains);
+    let script = read_explained(alloc, &text, notes)?;
     run(context, &script)?;
     Ok(())
 }
@@ -70,29 +72,19 @@ fn run<P: AllocGlobal + Net, R, W: Write, E: Write>(
         (W.contents context.old.output.now) (W.contents context.new.output.now)) }
     ensures same { KeepsStreams context.old context.new }
 {
-    match connected(context.rt) {
-        Ok(mut link) => run_over(context, &mut link, script),
-        Err(error) => {
-            tell_unlinked(&error, &mut Notes::new(context.errors, context.explains));
-            Err(Fault::from(error))
-        }
-    }
+    let notes = &mut Notes::new(context.errors, context.explains);
+    let mut link = connected_or_told(context.rt, notes)?;
+    let mut ends = Ends::new(context.alloc(), script.screen, &script.wants)?;
+    finish(context, &mut ends, &mut link, &script.steps)
 }
 
-// The same with two fresh ends, over this connection.
-fn run_over<P: AllocGlobal, R, W: Write, E: Write, C: Read + Write>(
-    context: &mut Context<P, R, W, E>,
-    link: &mut Link<C>,
-    script: &Script,
-) -> Result<(), Fault>
-    ensures done { OnOk result (WritesSomePicture
-        (W.contents context.old.output.now) (W.contents context.new.output.now)) }
-    ensures left { OnErr result (LeavesSomePicture
-        (W.contents context.old.output.now) (W.contents context.new.output.now)) }
-    ensures same { KeepsStreams context.old context.new }
-{
-    let mut ends = Ends::new(context.alloc(), script.screen, &script.wants)?;
-    finish(context, &mut ends, link, &script.steps)
+// A connection of this process to itself. Where there is none, it says why.
+fn connected_or_told<P: Net, N: Write>(net: &P, notes: &mut N) -> io::Result<Link<P::Stream>> {
+    let connected = connected(net);
+    if let Err(error) = &connected {
+        tell_unlinked(error, notes);
+    }
+    connected
 }
 
 // Takes all steps, and writes what the viewer shows then.

@@ -36,12 +36,17 @@ use streams::{StandardInput, StandardOutput};
 // The variable that, where it is 1, asks for sentences as `--explain` does.
 const EXPLAIN_VARIABLE: &str = "RFB_EXPLAIN";
 
+// The command at which they are said always, and its word against them.
+const SHARE: &str = "share";
+
+const QUIET: &str = "--quiet";
+
 fn main(rt: HostRuntime) -> ExitCode {
     let words = match words(&rt) {
         Ok(words) => words,
         Err(error) => return ExitCode::from(without_words(error, &mut rt.stderr())),
     };
-    let explains = words.iter().any(|word| word.as_str() == EXPLAIN);
+    let explains = has(&words, EXPLAIN) && !has(&words, QUIET);
     let mut reading_errors = rt.stderr();
     let notes = Notes::new(&mut reading_errors, explains);
     let mut input = StandardInput::new(rt.stdin(), notes);
@@ -55,14 +60,30 @@ fn main(rt: HostRuntime) -> ExitCode {
 }
 
 // The words that the program was called with, its own name first. `--explain` is after them where a
-// person reads the errors, or the environment asks for it. A word that is not UTF-8 is an error of
-// the kind `InvalidData`.
+// person reads the errors, the environment asks for it, or a screen is shared; unless `--quiet` is
+// among them. A word that is not UTF-8 is an error of the kind `InvalidData`.
 fn words(rt: &HostRuntime) -> io::Result<Vec<String>> {
     let mut words: Vec<String> = env::args(rt)?.collect(rt.alloc())?;
-    if rt.stderr().is_terminal() || is_asked(rt) {
+    let is_wanted = rt.stderr().is_terminal() || is_asked(rt) || is_sharing(&words);
+    if is_wanted && !has(&words, QUIET) {
         words.push(format!(in rt.alloc(); "{EXPLAIN}")?)?;
     }
     Ok(words)
+}
+
+// Whether this is one of the words.
+fn has(words: &[String], wanted: &str) -> bool {
+    words.iter().any(|word| word.as_str() == wanted)
+}
+
+// Whether they name the command that shares a screen.
+fn is_sharing(words: &[String]) -> bool {
+    for word in words.iter().skip(1) {
+        if word.as_str() != EXPLAIN {
+            return word.as_str() == SHARE;
+        }
+    }
+    false
 }
 
 // Whether the environment asks for sentences.

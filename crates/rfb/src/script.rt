@@ -33,6 +33,7 @@ mod arguments;
 pub mod cause;
 mod hub;
 mod hub_steps;
+mod keyword;
 mod line;
 mod parting;
 mod read;
@@ -40,7 +41,6 @@ pub mod run;
 mod run_hub;
 pub mod steps;
 
-use crate::explain::Notes;
 use crate::fault::Failure;
 use crate::script::cause::tell_bad_line;
 use crate::script::parting::ends_line;
@@ -106,12 +106,11 @@ pub fn read_script(alloc: Global, text: &[u8]) -> Result<Script, Failure>
     }
 }
 
-/// The same, and says why a line is bad, if sentences are wanted.
-pub fn read_explained<E: Write>(
+/// The same, and `notes` say why a line is bad.
+pub fn read_explained<N: Write>(
     alloc: Global,
     text: &[u8],
-    errors: &mut E,
-    explains: bool,
+    notes: &mut N,
 ) -> Result<Script, Failure>
     ensures read { IfOk result (λ script.
         AreScript (lines_of text.now) script.screen script.wants script.steps.items) }
@@ -119,7 +118,7 @@ pub fn read_explained<E: Write>(
 {
     let read = read_script(alloc, text);
     if let Err(Failure::BadLine(number)) = &read {
-        tell_bad_line(text, *number, &mut Notes::new(errors, explains));
+        tell_bad_line(text, *number, notes);
     }
     read
 }

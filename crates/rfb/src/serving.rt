@@ -93,15 +93,28 @@ fn listen<P: AllocGlobal + Clock + Net, R, W: Write, E: Write>(
     let net = context.rt;
     let alloc = context.alloc();
     let mut notes = Notes::new(context.errors, context.explains);
-    match TcpListener::bind(net, (options.listen, options.port)) {
+    let listener = listener_at(net, options.listen, options.port, &mut notes)?;
+    let timed = Timed::new(listener, net, options.timeout);
+    let count = options.connections;
+    serve_on(alloc, &timed, screen, count, context.output, &mut notes)
+}
+
+/// Listens on a port of an address, and says so, or why not.
+pub fn listener_at<N: Net, T: Write>(
+    net: &N,
+    host: &str,
+    port: u16,
+    notes: &mut T,
+) -> Result<N::Listener, Failure>
+    ensures { IfErr result (λ failure. (fault : Fault) × (failure ≡ Failure.Fault fault)) }
+{
+    match TcpListener::bind(net, (host, port)) {
         Ok(listener) => {
-            tell_bound(options.listen, options.port, &mut notes);
-            let timed = Timed::new(listener, net, options.timeout);
-            let count = options.connections;
-            serve_on(alloc, &timed, screen, count, context.output, &mut notes)
+            tell_bound(host, port, notes);
+            Ok(listener)
         }
         Err(error) => {
-            tell_unbound(options.listen, options.port, &error, &mut notes);
+            tell_unbound(host, port, &error, notes);
             Err(Failure::from(error))
         }
     }

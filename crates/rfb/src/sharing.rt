@@ -16,8 +16,9 @@ mod standard;
 mod tenant;
 
 use crate::context::Context;
-use crate::explain::{Notes, tell_bound, tell_closed_output, tell_unbound};
+use crate::explain::{Notes, tell_closed_output};
 use crate::fault::{Failure, Fault};
+use crate::serving::listener_at;
 use crate::sharing::setup::setup_of;
 use crate::sharing::shell::Shell;
 use crate::sharing::speaker::Reporter;
@@ -29,16 +30,17 @@ use rfb_session::doors::{Counted, Place, live};
 pub use share_words::{SHARE, ShareOptions, share_options_in};
 use std::alloc::{AllocError, Global};
 use std::io::{Read, Write};
-use std::net::{Net, OpenListener, TcpListener};
+use std::net::{Net, OpenListener};
 use std::time::Clock;
 
 // How many bytes are read at once: as many as a pipe holds.
 const READ_AT_ONCE: usize = 65536;
 
 /// Shares a screen until a line says `quit`, or with the last viewer if that is wanted. The input
-/// is standard input. A line of its that is bad is reported. It fails where standard output is
-/// closed, where nothing can listen there, where there is no memory for the screen, where a line
-/// cannot be written, or where the input ends before it gives the size of the screen.
+/// is standard input. A line of its that is bad is reported. Sentences are said, unless the options
+/// are against them. It fails where standard output is closed, where nothing can listen there, where
+/// there is no memory for the screen, where a line cannot be written, or where the input ends before
+/// it gives the size of the screen.
 pub fn share_at<P: AllocGlobal + Clock + Net, R: Read, W: Write, E: Write>(
     context: &mut Context<P, R, W, E>,
     options: ShareOptions<'_>,
@@ -46,16 +48,17 @@ pub fn share_at<P: AllocGlobal + Clock + Net, R: Read, W: Write, E: Write>(
     ensures same { KeepsStreams context.old context.new }
 {
     let streams = open_streams();
-    let says = context.explains && streams.errors && !options.is_quiet;
+    let says = streams.errors && !options.is_quiet;
     let notes = &mut Notes::new(context.errors, says);
     if !streams.output {
         tell_closed_output(notes);
         return Err(Failure::Fault(Fault::Device));
     }
-    let listener = listen(context.rt, &options, notes)?;
+    let listener = listener_at(context.rt, options.listen, options.port, notes)?;
+    listener.set_nonblocking(true)?;
     let alloc = context.alloc();
     let shell = &mut Shell::new(context.rt, alloc, listener, streams)?;
-    let console = &mut Console::new(alloc, &setup_of(&options), Reporter::new(says));
+    let console = &mut Console::new(alloc, &setup_of(&options), Reporter { are_wanted: says });
     let mut part = Vec::from_elem(alloc, 0, READ_AT_ONCE)?;
     let mut doors = doors_of(
         alloc,
@@ -66,25 +69,6 @@ pub fn share_at<P: AllocGlobal + Clock + Net, R: Read, W: Write, E: Write>(
     )?;
     live(console, &mut doors, shell, &mut part);
     result_of(console.outcome())
-}
-
-// A listener that does not wait.
-fn listen<N: Net, T: Write>(
-    net: &N,
-    options: &ShareOptions<'_>,
-    notes: &mut T,
-) -> Result<N::Listener, Failure> {
-    match TcpListener::bind(net, (options.listen, options.port)) {
-        Ok(listener) => {
-            listener.set_nonblocking(true)?;
-            tell_bound(options.listen, options.port, notes);
-            Ok(listener)
-        }
-        Err(error) => {
-            tell_unbound(options.listen, options.port, &error, notes);
-            Err(Failure::from(error))
-        }
-    }
 }
 
 // A device at a door, or nobody.

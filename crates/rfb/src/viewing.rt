@@ -4,7 +4,7 @@ ghost use Rattle.std.specs.Prelude.{◌≡◌, false, Err, IfOk, IfErr, OnOk, On
 ghost use Rattle.rfb_session.specs.declared.engine.fault.EngineFault.{EngineFault};
 ghost use Rattle.rfb.specs.Context.{KeepsStreams};
 ghost use Rattle.rfb.specs.declared.fault.Failure.TheVariants as Failure;
-ghost use Rattle.rfb.specs.Viewing.{FailsToView, FailsToViewSome, IsMadeFor, Saw, StopsSeeing, StopsView};
+ghost use Rattle.rfb.specs.Viewing.{FailsToView, FailsToViewSome, IsMadeFor, Saw, StopsSeeing};
 ghost use Rattle.rfb.specs.Recording.{shows_end};
 ghost use Rattle.rfb.specs.Viewing.{LeavesSomeView, LeavesView, Views, ViewsSome};
 
@@ -16,7 +16,7 @@ mod watching;
 use crate::context::Context;
 use crate::defaults::{copy_of, fresh_viewer};
 use crate::explain::{Notes, Shared, tell_unreached};
-use crate::fault::{Failure, Fault};
+use crate::fault::Failure;
 use crate::play::{show, show_early};
 use crate::reaching::{Patient, connect};
 use rfb_session::{EngineFault, Lent, Nowhere};
@@ -117,7 +117,18 @@ fn view_over<R: Read + Drop, V: Write + Drop, W: Write, N: Write>(
         (W.contents output.old) (W.contents output.new)) }
 {
     let mut viewer = viewer_for(alloc, &sight);
-    view_with(reader, writer, &mut viewer, &sight, output, notes)
+    if sight.is_recorded {
+        // What is recorded goes out, however it ends.
+        let recorded = record(reader, writer, &mut viewer, &sight, output, notes);
+        let flushed = output.flush();
+        recorded?;
+        flushed?;
+        return Ok(());
+    }
+    match watch_heard(reader, writer, &mut Nowhere, &mut viewer, &sight, notes) {
+        Ok(_updates) => show(&viewer, output),
+        Err(fault) => Err(show_early(&viewer, sight.is_partial, fault, output)),
+    }
 }
 
 // A fresh viewer that is made for a sight.
@@ -128,68 +139,8 @@ fn viewer_for(alloc: Global, sight: &Sight) -> Viewer
     fresh_viewer(alloc, sight.wants.format, encodings)
 }
 
-// The same with this fresh viewer.
-fn view_with<R: Read + Drop, V: Write + Drop, W: Write, N: Write>(
-    reader: R,
-    writer: V,
-    viewer: &mut Viewer,
-    sight: &Sight,
-    output: &mut W,
-    notes: &mut N,
-) -> Result<(), Failure>
-    requires { IsMadeFor sight.now viewer.old }
-    ensures done { OnOk result (Views sight.now (R.remaining reader) (V.contents writer)
-        (W.contents output.old) (W.contents output.new)) }
-    ensures stopped { IfErr result (FailsToView sight.now (R.remaining reader) (V.contents writer)
-        (W.contents output.old) (W.contents output.new)) }
-    ensures unwritten { sight.now.is_recorded ≡ false → (fault : EngineFault) →
-        result ≡ Err (Failure.Engine fault) → shows_end sight.now.is_partial fault ≡ false →
-        output.new ≡ output.old }
-    ensures left { sight.now.is_recorded ≡ false → OnErr result
-        (LeavesView sight.now (R.remaining reader) (V.contents writer)
-        (W.contents output.old) (W.contents output.new)) }
-{
-    let is_recorded = sight.is_recorded;
-    let is_partial = sight.is_partial;
-    if is_recorded {
-        return record(reader, writer, viewer, sight, output, notes);
-    }
-    match watch_heard(reader, writer, &mut Nowhere, viewer, sight, notes) {
-        Ok(_updates) => show(viewer, output),
-        Err(fault) => Err(show_early(viewer, is_partial, fault, output)),
-    }
-}
-
-// Runs a viewer, and writes what it is fed. All of it goes out, however it ends.
+// Runs a viewer, and writes what it is fed. What is to go out is left.
 fn record<R: Read + Drop, V: Write + Drop, W: Write, N: Write>(
-    reader: R,
-    writer: V,
-    viewer: &mut Viewer,
-    sight: &Sight,
-    output: &mut W,
-    notes: &mut N,
-) -> Result<(), Failure>
-    ensures saw { OnOk result
-        (Saw (R.remaining reader) (V.contents writer) (W.contents output.old)
-        (W.contents output.new) viewer.old sight.now.updates viewer.new) }
-    ensures stopped { IfErr result (λ failure. StopsView
-        (R.remaining reader) (V.contents writer) (W.contents output.old) (W.contents output.new)
-        viewer.old sight.now.updates failure viewer.new) }
-{
-    match record_fed(reader, writer, viewer, sight, output, notes) {
-        Ok(_updates) => match output.flush() {
-            Ok(()) => Ok(()),
-            Err(error) => Err(Failure::Fault(Fault::from(error))),
-        },
-        Err(fault) => {
-            let _ = output.flush();
-            Err(Failure::Engine(fault))
-        }
-    }
-}
-
-// The same, and what is to go out is left.
-fn record_fed<R: Read + Drop, V: Write + Drop, W: Write, N: Write>(
     reader: R,
     writer: V,
     viewer: &mut Viewer,

@@ -1,5 +1,6 @@
 -- What a console does for its owner.
-use Rattle.std.proofs.Common.{◌≡◌, ◌≢◌, ◌<◌, ◌+◌, ◌∙◌, ℕ, List, Option, Some, None, subst, arith}
+use Rattle.std.proofs.Common.{◌≡◌, ◌≢◌, ◌<◌, ◌≤◌, ◌+◌, ◌∙◌, ℕ, List, Option, Some, None, subst, ap, arith}
+use Rattle.std.proofs.Common.{length, take, length-take}
 use Rattle.rfb_server.specs.Drawing.{Stroke, Fill as OneFill, Copy as OneCopy, Hint as OneHint, Scroll as OneScroll}
 use Rattle.rfb_session.specs.declared.console.Console.{Console}
 use Rattle.rfb_session.specs.declared.console.Outcome.{Outcome}
@@ -8,9 +9,10 @@ use Rattle.rfb_session.specs.declared.console.plan.Rules.{Rules}
 use Rattle.rfb_session.specs.declared.owner.order.OwnerLine.{OwnerLine}
 use Rattle.rfb_session.specs.declared.owner.order.OwnerLine.TheVariants as Line
 use Rattle.rfb_session.specs.owner.Drawing.{stroke_of}
-use Rattle.rfb_session.specs.console.Console.{ByDoor, Draws, ObeysLine, Steps, DoesOnDesk, KeepsOwner, KeepsButRooms}
+use Rattle.rfb_session.specs.console.Console.{ByDoor, Draws, ObeysLine, Does, DoesOnDesk, KeepsOwner, KeepsButRooms}
+use Rattle.rfb_session.specs.console.Console.{KeepsDesk, Stays, Steps, waiting_at}
 use Rattle.rfb_session.specs.console.Console.{HearsOwner, Ignored, Heard, EndsOwner, EndedBefore, EndsNow}
-use Rattle.rfb_session.specs.doors.Events.{Received}
+use Rattle.rfb_session.specs.doors.Events.{Received, Wrote}
 
 same_some : {X : Type 0} (x y : X) → Some x ≡ Some y → y ≡ x
 same_some x y same = cc
@@ -39,58 +41,52 @@ module _ (name : List ℕ) (rules : Rules) (old : Option Desk) (ended : Option O
 
 -- ---- one door
 
-module _ (door : ℕ) (owner : Type 0) (seat : ℕ → Type 0) (lines notes : Type 0) where
-  pub by_owner : door ≡ 0 → owner → ByDoor door owner seat lines notes
+module _ (door : ℕ) (owner : Type 0) (seat : ℕ → Type 0) (lines other : Type 0) where
+  pub by_owner : door ≡ 0 → owner → ByDoor door owner seat lines other
   by_owner is done = record {
     at_owner = λ same. done;
     at_seat = λ k within same. absurd (omega (arith, is, same));
     at_lines = λ same. absurd (omega (arith, is, same));
-    at_notes = λ same. absurd (omega (arith, is, same));
+    at_other = λ far. absurd (omega (arith, is, far));
   }
 
-  pub by_seat : (k : ℕ) → k < 8 → door ≡ k + 1 → seat k → ByDoor door owner seat lines notes
+  pub by_seat : (k : ℕ) → k < 8 → door ≡ k + 1 → seat k → ByDoor door owner seat lines other
   by_seat k within is done = record {
     at_owner = λ same. absurd (omega (arith, is, same));
     at_seat = λ j below same. subst (λ (n : ℕ). seat n) (omega (arith, is, same)) done;
     at_lines = λ same. absurd (omega (arith, within, is, same));
-    at_notes = λ same. absurd (omega (arith, within, is, same));
+    at_other = λ far. absurd (omega (arith, within, is, far));
   }
 
-  pub by_lines : door ≡ 9 → lines → ByDoor door owner seat lines notes
+  pub by_lines : door ≡ 9 → lines → ByDoor door owner seat lines other
   by_lines is done = record {
     at_owner = λ same. absurd (omega (arith, is, same));
     at_seat = λ k within same. absurd (omega (arith, within, is, same));
     at_lines = λ same. done;
-    at_notes = λ same. absurd (omega (arith, is, same));
+    at_other = λ far. absurd (omega (arith, is, far));
   }
 
-  pub by_notes : door ≡ 10 → notes → ByDoor door owner seat lines notes
+  pub by_notes : door ≡ 10 → other → ByDoor door owner seat lines other
   by_notes is done = record {
     at_owner = λ same. absurd (omega (arith, is, same));
     at_seat = λ k within same. absurd (omega (arith, within, is, same));
     at_lines = λ same. absurd (omega (arith, is, same));
-    at_notes = λ same. done;
+    at_other = λ far. done;
   }
 
-  -- at a door of no seat nothing is done
-  pub by_none : ((k : ℕ) → k < 8 → door ≢ k + 1) → (door ≡ 0 → owner) → lines → notes →
-      ByDoor door owner seat lines notes
-  by_none none owner_does lines_do notes_do = record {
+  -- at a door of no seat
+  pub by_none : ((k : ℕ) → k < 8 → door ≢ k + 1) → (door ≡ 0 → owner) → (door ≡ 9 → lines) → other →
+      ByDoor door owner seat lines other
+  by_none none owner_does lines_do other_does = record {
     at_owner = owner_does;
     at_seat = λ k within same. absurd (none k within same);
-    at_lines = λ same. lines_do;
-    at_notes = λ same. notes_do;
+    at_lines = lines_do;
+    at_other = λ far. other_does;
   }
 
-  -- nor at any other
-  pub by_else : ((k : ℕ) → k < 8 → door ≢ k + 1) → door ≢ 0 → door ≢ 9 → door ≢ 10 →
-      ByDoor door owner seat lines notes
-  by_else none not_owner not_lines not_notes = record {
-    at_owner = λ same. absurd (not_owner same);
-    at_seat = λ k within same. absurd (none k within same);
-    at_lines = λ same. absurd (not_lines same);
-    at_notes = λ same. absurd (not_notes same);
-  }
+-- so many are taken
+pub many : (n : ℕ) (w : List ℕ) → n ≤ length w → n ≡ length (take n w)
+many n w bound = omega (arith, bound, length-take n w)
 
 -- ---- after the last call of a step
 
@@ -106,6 +102,36 @@ module _ {S : Type 0} where
     };
   }
 
+  pub kept_by : (old new : Console S) → KeepsButRooms old new → KeepsDesk old new
+  kept_by old new keeps = record { desk = keeps.desk; owner = keeps.owner }
+
+  -- bytes that left, as many as waited at least, are those that waited first
+  pub wrote_so : (old new : Console S) (door count : ℕ) → count ≤ length (waiting_at old door) →
+      Does old (Wrote door (take count (waiting_at old door))) new → Stays old new →
+      Steps old (Wrote door (take count (waiting_at old door))) new
+  wrote_so old new door count bound does stays = record {
+    does = does;
+    left = ap (λ (n : ℕ). take n (waiting_at old door)) (many count (waiting_at old door) bound);
+    stays = stays;
+  }
+
+  -- what was kept is kept, and so it stays
+  pub keeps_then : (old mid new : Console S) → KeepsDesk old mid → KeepsButRooms mid new → KeepsDesk old new
+  keeps_then old mid new kept keeps = record {
+    desk = keeps.desk ∙ kept.desk;
+    owner = record {
+      reader = keeps.owner.reader ∙ kept.owner.reader;
+      input = keeps.owner.input ∙ kept.owner.input;
+    };
+  }
+
+  pub stays_then : (old mid new : Console S) → Stays old mid → Stays mid new → Stays old new
+  stays_then old mid new first second = record {
+    rules = second.rules ∙ first.rules;
+    name = second.name ∙ first.name;
+    ended = λ was. second.ended (first.ended was);
+  }
+
   pub hears_then : (old mid new : Console S) (part : List ℕ) → HearsOwner old part mid →
       KeepsButRooms mid new → HearsOwner old part new
   hears_then old mid new part (Ignored ended desk owner) keeps =
@@ -118,19 +144,19 @@ module _ {S : Type 0} where
       (keeps.owner.input ∙ input)
 
   pub ends_then : (old mid new : Console S) → EndsOwner old mid → KeepsButRooms mid new → EndsOwner old new
-  ends_then old mid new (EndedBefore desk reader) keeps =
-      EndedBefore (keeps.desk ∙ desk) (keeps.owner.reader ∙ reader)
+  ends_then old mid new (EndedBefore before desk reader) keeps =
+      EndedBefore before (keeps.desk ∙ desk) (keeps.owner.reader ∙ reader)
   ends_then old mid new (EndsNow order closes ends obeys outcome input) keeps =
       EndsNow order (rw keeps.owner.reader closes) ends (rw keeps.desk obeys)
       (λ some. keeps.outcome ∙ outcome some) (keeps.owner.input ∙ input)
 
   pub received_then : (old mid new : Console S) (door : ℕ) (part : List ℕ) →
-      Steps old (Received door part) mid → KeepsButRooms mid new → Steps old (Received door part) new
+      Does old (Received door part) mid → KeepsButRooms mid new → Does old (Received door part) new
   received_then old mid new door part done keeps = record {
     at_owner = λ is. hears_then old mid new part (done.at_owner is) keeps;
     at_seat = λ k within is.
         let hears = done.at_seat k within is in
         (hears.0, hears.1, hears.2, does_then _ old mid new hears.3 keeps.desk keeps.outcome keeps.owner);
-    at_lines = λ is. keeps.desk ∙ done.at_lines is;
-    at_notes = λ is. keeps.desk ∙ done.at_notes is;
+    at_lines = λ is. keeps_then old mid new (done.at_lines is) keeps;
+    at_other = λ far. keeps_then old mid new (done.at_other far) keeps;
   }

@@ -1,8 +1,11 @@
 -- What the calls of a desk come to, one after the other.
-use Rattle.std.proofs.Common.{◌≡◌, ◌≤◌, ◌<◌, ◌+◌, ◌++◌, ◌∙◌, ℕ, Bool, true, false, not, nat_eq, ◌&&◌, List, [], zero, suc}
-use Rattle.std.proofs.Common.{refl, sym, ap, subst, append_assoc, arith, inl, inr, length, cond}
+use Rattle.std.proofs.Common.{◌≡◌, ◌<◌, ◌+◌, ◌++◌, ◌∙◌, ℕ, Bool, true, false, not, nat_eq, ◌&&◌, ◌||◌, List, []}
+use Rattle.std.proofs.Common.{zero, suc}
+use Rattle.std.proofs.Common.{refl, sym, ap, subst, append_assoc, arith, inl, inr, length, cond, Option}
 use Rattle.std.proofs.lemmas.Bool.{false≢true}
 use Rattle.std.proofs.lemmas.Bool.Decides.{eqb_tells, leb_tells}
+use Rattle.rfb_pixel.specs.declared.colour.Colour.{Colour}
+use Rattle.rfb_picture.specs.Grid.{Grid}
 use Rattle.rfb_picture.specs.Places.{has_bit}
 use Rattle.rfb_session.specs.declared.console.desk.Desk.{Desk}
 use Rattle.rfb_session.specs.declared.console.guest.Guest.{Guest}
@@ -12,26 +15,55 @@ use Rattle.rfb_session.specs.declared.console.plan.Rules.{Rules}
 use Rattle.rfb_session.specs.declared.share.Share.{Share}
 use Rattle.rfb_session.specs.declared.share.event.Heard.{Heard}
 use Rattle.rfb_session.specs.declared.share.event.ShareFault.{ShareFault}
+use Rattle.rfb_session.specs.declared.share.seat.ShareSeat.{ShareSeat}
 use Rattle.rfb_session.specs.Share.{seat_in, screen_of}
+use Rattle.rfb_session.specs.ShareWork.{RestsIn}
 use Rattle.rfb_session.specs.ShareSteps.{HearsBy, RefusesAs, asks_alone}
 use Rattle.rfb_session.specs.owner.Telling.{leave_line}
 use Rattle.rfb_session.specs.console.Telling.{leave_lines, told_line}
 use Rattle.rfb_session.specs.console.Desk.{nobody, guest_at, lines_of, is_over, tells_in, KeepsRules}
-use Rattle.rfb_session.specs.console.Steps.{ComposesUpTo, ComposesOne, MayCompose, Parts, TellsEvent, CountsTold}
-use Rattle.rfb_session.specs.console.Steps.{TellsOf, Fails, Stirs, HearsAt, Took, Refused, progress_after}
+use Rattle.rfb_session.specs.console.Viewers.{Parts, TellsEvent, CountsTold}
+use Rattle.rfb_session.specs.console.Turns.{ComposesUpTo, ComposesOne, TriesOne}
+use Rattle.rfb_session.specs.console.Turns.{Serves, Rested, Tried, Wanted}
+use Rattle.rfb_session.specs.console.Viewers.{TellsOf, Fails, Stirs, HearsAt, Took, Refused, progress_after}
 
--- the next seat
-pub composes_next : (n : ℕ) (old mid new : Desk) → ComposesUpTo n old mid → ComposesOne mid n new →
-    ComposesUpTo (n + 1) old new
-composes_next n old mid new before one = record {
+-- one seat more
+serves_one : (screen : Grid Colour) (tries wants more : Bool) (a b : Option ShareSeat) →
+    (tries ≡ false → RestsIn screen a) → (wants ≡ true → more ≡ true) → TriesOne screen tries wants a b →
+    Serves screen more a b
+serves_one screen false wants more a b rests told same = Rested (rests refl) same
+serves_one screen true false more a b rests told tried = Tried tried.0 tried.1
+serves_one screen true true more a b rests told wanted = Wanted (told refl) wanted
+
+serves_more : (screen : Grid Colour) (wants more : Bool) (a b : Option ShareSeat) → (wants ≡ true → more ≡ true) →
+    Serves screen wants a b → Serves screen more a b
+serves_more screen wants more a b told (Rested rests same) = Rested rests same
+serves_more screen wants more a b told (Tried found composes) = Tried found composes
+serves_more screen wants more a b told (Wanted is wanted) = Wanted (told is) wanted
+
+or_first : (a b : Bool) → a ≡ true → (a || b) ≡ true
+or_first true b is = refl
+or_first false b is = absurd (false≢true is)
+
+or_second : (a b : Bool) → b ≡ true → (a || b) ≡ true
+or_second true b is = refl
+or_second false b is = is
+
+pub composes_next : (n : ℕ) (old mid new : Desk) (tries wants more : Bool) →
+    (tries ≡ false → RestsIn (screen_of old.share) (seat_in old.share n)) → ComposesUpTo n old wants mid →
+    ComposesOne mid n tries more new → ComposesUpTo (n + 1) old (wants || more) new
+composes_next n old mid new tries wants more rests before one = record {
   seats = λ k within. elim (eqb_tells k n) [
     | inl same ↦
-        subst (λ (m : ℕ). MayCompose (screen_of old.share) (seat_in old.share m) (seat_in new.share m))
+        subst (λ (m : ℕ). Serves (screen_of old.share) (wants || more) (seat_in old.share m) (seat_in new.share m))
         (sym same.1)
-        (rw (sym before.screen.screen, sym (before.later n (omega arith))) one.seat)
+        (serves_one (screen_of old.share) tries more (wants || more) (seat_in old.share n) (seat_in new.share n)
+        rests (or_second wants more) (rw (sym before.screen.screen, sym (before.later n (omega arith))) one.seat))
     | inr other ↦
-        subst (λ (s : _). MayCompose (screen_of old.share) (seat_in old.share k) s)
-        (sym (one.seats k other.0)) (before.seats k (omega (arith, within, other.1)))
+        subst (λ (s : Option ShareSeat). Serves (screen_of old.share) (wants || more) (seat_in old.share k) s)
+        (sym (one.seats k other.0))
+        (serves_more (screen_of old.share) wants (wants || more) _ _ (or_first wants more)
+        (before.seats k (omega (arith, within, other.1))))
   ];
   later = λ k from. one.seats k (differs k n (omega (arith, from)))
       ∙ before.later k (omega (arith, from));
@@ -164,19 +196,15 @@ module _ (old mid heard_by new : Desk) (k : ℕ) (bytes : List ℕ) (stirs : Sti
             (line.0, line.1, line.2 ∙ ap (λ (l : List ℕ). l ++ line.0) same);
         none = λ gone. fails.none (over ∙ ap (λ (b : Bool). not b) gone) ∙ same;
       })
-      (over_after told (guest_at heard_by k).progress (guest_at new k).progress fails.told_is fails.progress)
+      (fails.progress ∙ ap (λ (p : Progress). cond told Failing p) was
+      ∙ ap (λ (b : Bool). cond b Failing (guest_at old k).progress) over
+      ∙ failed_so (is_over (guest_at old k).progress) (guest_at old k).progress)
       (λ j other. fails.others j other ∙ guests j ∙ stirs.others j other)
       (record {
         rules = fails.rules.rules ∙ rules.rules ∙ stirs.rules.rules;
         hold = fails.rules.hold ∙ rules.hold ∙ stirs.rules.hold;
       })
     where
-      over_after : (told : Bool) (was now : Progress) → told ≡ not (is_over was) →
-          now ≡ cond told Failing was → is_over now ≡ true
-      over_after true was now is becomes = ap (λ (p : Progress). is_over p) becomes
-      over_after false was now is becomes =
-          ap (λ (p : Progress). is_over p) becomes ∙ over_was (is_over was) is
-        where
-          over_was : (b : Bool) → false ≡ not b → b ≡ true
-          over_was true is = refl
-          over_was false is = absurd (false≢true is)
+      failed_so : (over : Bool) (p : Progress) → cond (not over) Failing p ≡ cond over p Failing
+      failed_so true p = refl
+      failed_so false p = refl

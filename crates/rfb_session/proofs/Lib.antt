@@ -74,6 +74,7 @@ pub mod WordLaws
 pub mod NumberLemmas
 pub mod ArgumentLaws
 pub mod EncodingLemmas
+pub mod DrawingLineLemmas
 pub mod OwnerKeywordLemmas
 pub mod OwnerLineLemmas
 pub mod OwnerReaderLemmas
@@ -91,4 +92,11 @@ pub mod DoorLifeLemmas
 pub mod EchoLemmas
 pub mod TenantLemmas
 pub mod DeskLemmas
+pub mod DeskTurnLemmas
+pub mod WakeLemmas
+pub mod BoundLemmas
 pub mod ConsoleLemmas
+pub mod ConsoleMoveLemmas
+pub mod ConsoleStepLemmas
+pub mod SeatHistoryLemmas
+pub mod LineHistoryLemmas

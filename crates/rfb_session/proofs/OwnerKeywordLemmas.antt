@@ -3,13 +3,14 @@ use Rattle.std.proofs.Common.{Option, Some, None, MatchOption, ◌≡◌, ◌≢
 use Rattle.std.proofs.Common.{ℕ, ℤ, List, [], ◌∷◌, Bor, codes}
 use Rattle.std.specs.Str.{bytes_eq}
 use Rattle.rfb_picture.specs.declared.rect.Rect.{Rect}
-use Rattle.rfb_pixel.specs.declared.colour.Colour.{Colour}
 use Rattle.rfb_session.specs.declared.language.screen.Screen.{Screen as Size}
 use Rattle.rfb_session.specs.declared.owner.order.OwnerLine.{OwnerLine}
 use Rattle.rfb_session.specs.declared.owner.order.OwnerLine.TheVariants.{Screen, Fill, Copy, Hint}
 use Rattle.rfb_session.specs.declared.owner.order.OwnerLine.TheVariants.{Scroll, Pixels, End, Hold, Show, Quit}
-use Rattle.rfb_session.specs.language.Words.{IsSlotAlone, Begins, AreFill, AreMove, AreSize, texts}
+use Rattle.rfb_session.specs.language.Words.{IsSlotAlone, Begins, AreSize, texts}
 use Rattle.rfb_session.specs.owner.Lines.{ArePlaces, AreScroll, SaysNoOwner, SaysOwner}
+use Rattle.rfb_session.specs.declared.language.drawing.DrawingLine.TheVariants as Drawing
+use Rattle.rfb_session.proofs.DrawingLineLemmas.{DrawNothing}
 use Rattle.rfb_session.proofs.WordLaws.{heads, nothing, other_word, same_word, tails, words_are}
 
 -- two keywords that differ
@@ -30,51 +31,6 @@ only_screen rest none (End seat) said = apart (codes "screen") (codes "end") res
 only_screen rest none Hold said = apart (codes "screen") (codes "hold") rest [] refl said
 only_screen rest none Show said = apart (codes "screen") (codes "show") rest [] refl said
 only_screen rest none Quit said = apart (codes "screen") (codes "quit") rest [] refl said
-
-pub only_fill : (rest : List (List ℕ)) → ((rect : Rect) (colour : Colour) → ¬ (AreFill rest rect colour)) →
-    SaysNoOwner (codes "fill" ∷ rest)
-only_fill rest none (Screen size) said = apart (codes "fill") (codes "screen") rest said.0 refl said.1
-only_fill rest none (Fill rect colour) said =
-    let e = tails _ _ rest said.0 said.1 in none rect colour
-    (subst (λ (r : List (List ℕ)). AreFill r rect colour) e said.2)
-only_fill rest none (Copy rect sx sy) said = apart (codes "fill") (codes "copy") rest said.0 refl said.1
-only_fill rest none (Hint rect sx sy) said = apart (codes "fill") (codes "hint") rest said.0 refl said.1
-only_fill rest none (Scroll rect dx dy) said = apart (codes "fill") (codes "scroll") rest said.0 refl said.1
-only_fill rest none (Pixels rect) said = apart (codes "fill") (codes "pixels") rest said.0 refl said.1
-only_fill rest none (End seat) said = apart (codes "fill") (codes "end") rest said.0 refl said.1
-only_fill rest none Hold said = apart (codes "fill") (codes "hold") rest [] refl said
-only_fill rest none Show said = apart (codes "fill") (codes "show") rest [] refl said
-only_fill rest none Quit said = apart (codes "fill") (codes "quit") rest [] refl said
-
-pub only_copy : (rest : List (List ℕ)) → ((rect : Rect) (sx sy : ℕ) → ¬ (AreMove rest rect sx sy)) →
-    SaysNoOwner (codes "copy" ∷ rest)
-only_copy rest none (Screen size) said = apart (codes "copy") (codes "screen") rest said.0 refl said.1
-only_copy rest none (Fill rect colour) said = apart (codes "copy") (codes "fill") rest said.0 refl said.1
-only_copy rest none (Copy rect sx sy) said =
-    let e = tails _ _ rest said.0 said.1 in none rect sx sy
-    (subst (λ (r : List (List ℕ)). AreMove r rect sx sy) e said.2)
-only_copy rest none (Hint rect sx sy) said = apart (codes "copy") (codes "hint") rest said.0 refl said.1
-only_copy rest none (Scroll rect dx dy) said = apart (codes "copy") (codes "scroll") rest said.0 refl said.1
-only_copy rest none (Pixels rect) said = apart (codes "copy") (codes "pixels") rest said.0 refl said.1
-only_copy rest none (End seat) said = apart (codes "copy") (codes "end") rest said.0 refl said.1
-only_copy rest none Hold said = apart (codes "copy") (codes "hold") rest [] refl said
-only_copy rest none Show said = apart (codes "copy") (codes "show") rest [] refl said
-only_copy rest none Quit said = apart (codes "copy") (codes "quit") rest [] refl said
-
-pub only_hint : (rest : List (List ℕ)) → ((rect : Rect) (sx sy : ℕ) → ¬ (AreMove rest rect sx sy)) →
-    SaysNoOwner (codes "hint" ∷ rest)
-only_hint rest none (Screen size) said = apart (codes "hint") (codes "screen") rest said.0 refl said.1
-only_hint rest none (Fill rect colour) said = apart (codes "hint") (codes "fill") rest said.0 refl said.1
-only_hint rest none (Copy rect sx sy) said = apart (codes "hint") (codes "copy") rest said.0 refl said.1
-only_hint rest none (Hint rect sx sy) said =
-    let e = tails _ _ rest said.0 said.1 in none rect sx sy
-    (subst (λ (r : List (List ℕ)). AreMove r rect sx sy) e said.2)
-only_hint rest none (Scroll rect dx dy) said = apart (codes "hint") (codes "scroll") rest said.0 refl said.1
-only_hint rest none (Pixels rect) said = apart (codes "hint") (codes "pixels") rest said.0 refl said.1
-only_hint rest none (End seat) said = apart (codes "hint") (codes "end") rest said.0 refl said.1
-only_hint rest none Hold said = apart (codes "hint") (codes "hold") rest [] refl said
-only_hint rest none Show said = apart (codes "hint") (codes "show") rest [] refl said
-only_hint rest none Quit said = apart (codes "hint") (codes "quit") rest [] refl said
 
 pub only_scroll : (rest : List (List ℕ)) → ((rect : Rect) (dx dy : ℤ) → ¬ (AreScroll rest rect dx dy)) →
     SaysNoOwner (codes "scroll" ∷ rest)
@@ -155,29 +111,29 @@ only_quit rest some Show said = apart (codes "quit") (codes "show") rest [] refl
 only_quit rest some Quit said = some (sym (tails _ _ rest [] said))
 
 -- any other keyword
-pub only_known : (key : List ℕ) (rest : List (List ℕ)) → key ≢ codes "screen" → key ≢ codes "fill" →
-    key ≢ codes "copy" → key ≢ codes "hint" → key ≢ codes "scroll" → key ≢ codes "pixels" → key ≢ codes "end" →
-    key ≢ codes "hold" → key ≢ codes "show" → key ≢ codes "quit" → SaysNoOwner (key ∷ rest)
-only_known key rest screen_ fill_ copy_ hint_ scroll_ pixels_ end_ hold_ show_ quit_ (Screen size) said = screen_
-    (heads key _ rest said.0 said.1)
-only_known key rest screen_ fill_ copy_ hint_ scroll_ pixels_ end_ hold_ show_ quit_ (Fill rect colour) said = fill_
-    (heads key _ rest said.0 said.1)
-only_known key rest screen_ fill_ copy_ hint_ scroll_ pixels_ end_ hold_ show_ quit_ (Copy rect sx sy) said = copy_
-    (heads key _ rest said.0 said.1)
-only_known key rest screen_ fill_ copy_ hint_ scroll_ pixels_ end_ hold_ show_ quit_ (Hint rect sx sy) said = hint_
-    (heads key _ rest said.0 said.1)
-only_known key rest screen_ fill_ copy_ hint_ scroll_ pixels_ end_ hold_ show_ quit_ (Scroll rect dx dy) said = scroll_
-    (heads key _ rest said.0 said.1)
-only_known key rest screen_ fill_ copy_ hint_ scroll_ pixels_ end_ hold_ show_ quit_ (Pixels rect) said = pixels_
-    (heads key _ rest said.0 said.1)
-only_known key rest screen_ fill_ copy_ hint_ scroll_ pixels_ end_ hold_ show_ quit_ (End seat) said = end_
-    (heads key _ rest said.0 said.1)
-only_known key rest screen_ fill_ copy_ hint_ scroll_ pixels_ end_ hold_ show_ quit_ Hold said = hold_
-    (heads key _ rest [] said)
-only_known key rest screen_ fill_ copy_ hint_ scroll_ pixels_ end_ hold_ show_ quit_ Show said = show_
-    (heads key _ rest [] said)
-only_known key rest screen_ fill_ copy_ hint_ scroll_ pixels_ end_ hold_ show_ quit_ Quit said = quit_
-    (heads key _ rest [] said)
+pub only_known : (key : List ℕ) (rest : List (List ℕ)) → key ≢ codes "screen" → key ≢ codes "scroll" →
+    key ≢ codes "pixels" → key ≢ codes "end" → key ≢ codes "hold" → key ≢ codes "show" → key ≢ codes "quit" →
+    DrawNothing (key ∷ rest) → SaysNoOwner (key ∷ rest)
+only_known key rest screen_ scroll_ pixels_ end_ hold_ show_ quit_ drawing_ (Screen size) said =
+    screen_ (heads key _ rest said.0 said.1)
+only_known key rest screen_ scroll_ pixels_ end_ hold_ show_ quit_ drawing_ (Fill rect colour) said =
+    drawing_ (Drawing.Fill rect colour) said
+only_known key rest screen_ scroll_ pixels_ end_ hold_ show_ quit_ drawing_ (Copy rect sx sy) said =
+    drawing_ (Drawing.Copy rect sx sy) said
+only_known key rest screen_ scroll_ pixels_ end_ hold_ show_ quit_ drawing_ (Hint rect sx sy) said =
+    drawing_ (Drawing.Hint rect sx sy) said
+only_known key rest screen_ scroll_ pixels_ end_ hold_ show_ quit_ drawing_ (Scroll rect dx dy) said =
+    scroll_ (heads key _ rest said.0 said.1)
+only_known key rest screen_ scroll_ pixels_ end_ hold_ show_ quit_ drawing_ (Pixels rect) said =
+    pixels_ (heads key _ rest said.0 said.1)
+only_known key rest screen_ scroll_ pixels_ end_ hold_ show_ quit_ drawing_ (End seat) said =
+    end_ (heads key _ rest said.0 said.1)
+only_known key rest screen_ scroll_ pixels_ end_ hold_ show_ quit_ drawing_ Hold said =
+    hold_ (heads key _ rest [] said)
+only_known key rest screen_ scroll_ pixels_ end_ hold_ show_ quit_ drawing_ Show said =
+    show_ (heads key _ rest [] said)
+only_known key rest screen_ scroll_ pixels_ end_ hold_ show_ quit_ drawing_ Quit said =
+    quit_ (heads key _ rest [] said)
 
 -- no words say nothing
 pub no_owner_words : SaysNoOwner []

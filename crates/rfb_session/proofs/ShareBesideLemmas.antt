@@ -13,7 +13,7 @@ use Rattle.rfb_session.specs.Share.{seat_in, screen_of}
 use Rattle.rfb_session.specs.ShareSeats.{waiting_in, WantsRoom}
 use Rattle.rfb_session.specs.ShareSlots.{WantsRoomIn}
 use Rattle.rfb_session.specs.ShareSteps.{JoinsAs, Full, Joined, LeavesAs, ReceivesAs, RefusesAs}
-use Rattle.rfb_session.specs.ShareSteps.{NoneHeard, SeatEnded, WritesAs, ComposesAs, WantsRoomAs}
+use Rattle.rfb_session.specs.ShareSteps.{NoneHeard, SeatEmptied, SeatEnded, WritesAs, ComposesAs, WantsRoomAs}
 use Rattle.rfb_session.specs.ShareSteps.{KeepsScreen}
 use Rattle.rfb_session.specs.ShareViewers.{StaysWatched}
 use Rattle.rfb_session.proofs.SlotLemmas.{not_both, other}
@@ -67,6 +67,8 @@ pub beside_refused : (old new : Share) (j k : ℕ) (bytes : List ℕ) (fault : S
     nat_eq k j ≡ false → RefusesAs old j bytes fault new → StaysWatched old k new
 beside_refused old new j k bytes fault differ (NoneHeard is none all) =
     watched_alone old new k all.screen (all.seats k)
+beside_refused old new j k bytes fault differ (SeatEmptied is was there gone keeps others) =
+    watched_alone old new k keeps (others k differ)
 beside_refused old new j k bytes fault differ
     (SeatEnded of is was now there here ends keeps others) =
     watched_alone old new k keeps (others k differ)

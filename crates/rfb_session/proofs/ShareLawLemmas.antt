@@ -1,15 +1,19 @@
 -- Each call of a share carries the life of its seats on.
-use Rattle.std.proofs.Common.{◌≡◌, ℕ, List, [], ◌++◌, take, Option, Some, None, refl, sym, ap, ◌∙◌}
+use Rattle.std.proofs.Common.{◌≡◌, ◌≢◌, ℕ, List, [], ◌++◌, take, Option, Some, None, refl, sym, ap, ◌∙◌}
 use Rattle.std.proofs.Common.{subst, append-nil}
 use Rattle.rfb_pixel.specs.declared.colour.Colour.{Colour}
 use Rattle.rfb_picture.specs.Grid.{Grid}
 use Rattle.rfb_server.specs.Server.{Serving}
+use Rattle.rfb_server.specs.declared.fault.ServerFault.{ServerFault}
 use Rattle.rfb_session.specs.declared.share.Share.{Share}
 use Rattle.rfb_session.specs.declared.share.event.Composing.{Composing}
 use Rattle.rfb_session.specs.declared.share.event.Composing.TheVariants.{Composed, NotDue, Waiting}
 use Rattle.rfb_session.specs.declared.share.event.Composing.TheVariants.{NoSuchSeat}
 use Rattle.rfb_session.specs.declared.share.event.Heard.{Heard}
 use Rattle.rfb_session.specs.declared.share.event.ShareFault.{ShareFault}
+use Rattle.rfb_session.specs.declared.share.event.ShareFault.TheVariants.{NoMemory}
+use Rattle.rfb_session.specs.declared.share.event.ShareFault.TheVariants.{NoSuchSeat as Vacant}
+use Rattle.rfb_session.specs.declared.share.event.ShareFault.TheVariants.{Session as OfSession}
 use Rattle.rfb_session.specs.declared.share.seat.ShareSeat.{ShareSeat}
 use Rattle.rfb_session.specs.Share.{seat_in, screen_of, serving_in, waits_at, waiting_for}
 use Rattle.rfb_session.specs.ShareLives.{Lives, LivesAt, GoesOn}
@@ -17,7 +21,7 @@ use Rattle.rfb_session.specs.ShareSeats.{waiting_in, ComposesAt, WritesAt, IsNot
 use Rattle.rfb_session.specs.ShareSlots.{ComposesIn, WantsRoomIn}
 use Rattle.rfb_server.specs.Drawing.{Stroke, notice_of}
 use Rattle.rfb_session.specs.ShareSteps.{JoinsAs, Full, Joined, DrawsOn, ReceivesAs}
-use Rattle.rfb_session.specs.ShareSteps.{RefusesAs, NoneHeard, SeatEnded, WritesAs, ComposesAs}
+use Rattle.rfb_session.specs.ShareSteps.{RefusesAs, NoneHeard, SeatEmptied, SeatEnded, WritesAs, ComposesAs}
 use Rattle.rfb_session.specs.ShareSteps.{WantsRoomAs, KeepsScreen}
 use Rattle.rfb_session.specs.Slots.{OnSlot}
 use Rattle.rfb_session.proofs.SlotLemmas.{one_seat, not_both}
@@ -25,7 +29,7 @@ use Rattle.rfb_session.proofs.ShareLifeLemmas.{lived_first, lives_heard, lives_e
 use Rattle.rfb_session.proofs.ShareLifeLemmas.{lives_kept, lives_drawn, lives_sent}
 
 -- the same seat, over a screen that is the same
-over : (serving : Serving) (old new : Share) (seat : ShareSeat) (heard taken : List ℕ) →
+pub over : (serving : Serving) (old new : Share) (seat : ShareSeat) (heard taken : List ℕ) →
     KeepsScreen old new → Lives serving (screen_of old) seat heard taken →
     Lives serving (screen_of new) seat heard taken
 over serving old new seat heard taken keeps lives =
@@ -95,11 +99,14 @@ received_lives serving old new k bytes told heard taken r was =
     }
 
 pub refused_lives : (serving : Serving) (old new : Share) (k : ℕ) (bytes : List ℕ)
-    (fault : ShareFault) (heard taken : List ℕ) → RefusesAs old k bytes fault new →
+    (fault : ShareFault) (heard taken : List ℕ) → fault ≢ NoMemory →
+    RefusesAs old k bytes fault new →
     LivesAt serving old k heard taken → LivesAt serving new k (heard ++ bytes) taken
-refused_lives serving old new k bytes fault heard taken (NoneHeard is none all) was =
+refused_lives serving old new k bytes fault heard taken other (NoneHeard is none all) was =
     absurd (not_both (seat_in old k) was.seat was.there none)
-refused_lives serving old new k bytes fault heard taken
+refused_lives serving old new k bytes fault heard taken other
+    (SeatEmptied is before there gone keeps others) was = absurd (other is)
+refused_lives serving old new k bytes fault heard taken other
     (SeatEnded of is before now there here ends keeps others) was =
     let same = one_seat (seat_in old k) was.seat before was.there there in
     record {
@@ -128,7 +135,7 @@ written_lives serving old new k count heard taken writes was =
     }
 
 -- what a composing makes of the seat's life, whatever is answered
-composed_seat : (serving : Serving) (screen : Grid Colour) (told : Composing) (a b : ShareSeat)
+pub composed_seat : (serving : Serving) (screen : Grid Colour) (told : Composing) (a b : ShareSeat)
     (heard taken : List ℕ) → ComposesAt screen told a b → Lives serving screen a heard taken →
     Lives serving screen b heard taken
 composed_seat serving screen Composed a b heard taken composes lives =
@@ -180,7 +187,7 @@ composed_lives serving old new k told heard taken composes was =
           (composed_seat serving (screen_of old) told was.seat one.0 heard taken one.2 was.lives);
     }
 
-wanted_in : (serving : Serving) (screen : Grid Colour) (a b : Option ShareSeat)
+pub wanted_in : (serving : Serving) (screen : Grid Colour) (a b : Option ShareSeat)
     (seat : ShareSeat) (heard taken : List ℕ) → WantsRoomIn screen a b → a ≡ Some seat →
     Lives serving screen seat heard taken →
     (new : ShareSeat) × (b ≡ Some new) × Lives serving screen new heard taken
@@ -215,3 +222,18 @@ alone_lives serving old new k heard taken keeps same was = record {
   there = same ∙ was.there;
   lives = over serving old new was.seat heard taken keeps was.lives;
 }
+
+-- want of memory for a session is none of the other faults
+pub not_vacant : Vacant ≡ NoMemory → ⊥
+not_vacant is = cc
+
+pub not_ended : (fault : ServerFault) → OfSession fault ≡ NoMemory → ⊥
+not_ended fault is = cc
+
+-- a seat whose session there is no memory for is emptied
+pub refused_emptied : (old new : Share) (k : ℕ) (bytes : List ℕ) →
+    RefusesAs old k bytes NoMemory new → seat_in new k ≡ None
+refused_emptied old new k bytes (NoneHeard is none all) = absurd (not_vacant (sym is))
+refused_emptied old new k bytes (SeatEmptied is before there gone keeps others) = gone
+refused_emptied old new k bytes (SeatEnded of is before now there here ends keeps others) =
+    absurd (not_ended of (sym is))

@@ -19,14 +19,14 @@ use Rattle.rfb_server.specs.Told.{seen, event_told}
 use Rattle.rfb_session.specs.declared.share.Share.{Share}
 use Rattle.rfb_session.specs.declared.share.event.Heard.{Heard}
 use Rattle.rfb_session.specs.declared.share.event.ShareFault.{ShareFault}
-use Rattle.rfb_session.specs.declared.share.event.ShareFault.TheVariants.{NoSuchSeat}
+use Rattle.rfb_session.specs.declared.share.event.ShareFault.TheVariants.{NoSuchSeat, NoMemory}
 use Rattle.rfb_session.specs.declared.share.event.ShareFault.TheVariants.{Session as SessionFault}
 use Rattle.rfb_session.specs.declared.share.seat.ShareSeat.{ShareSeat}
 use Rattle.rfb_session.specs.LinkBytes.{IsSole, sole_told}
 use Rattle.rfb_session.specs.Share.{seat_in, serving_in, IsFreshIn}
 use Rattle.rfb_session.specs.ShareSeats.{IsSeatOf}
 use Rattle.rfb_session.specs.ShareSlots.{HearsIn, EndsIn}
-use Rattle.rfb_session.specs.ShareSteps.{KeepsScreen, OthersKept, HearsBy, RefusesAs, NoneHeard}
+use Rattle.rfb_session.specs.ShareSteps.{KeepsScreen, OthersKept, HearsBy, RefusesAs, NoneHeard, SeatEmptied}
 use Rattle.rfb_session.specs.ShareSteps.{SeatEnded, asks_alone, event_seen, seat_told}
 use Rattle.rfb_session.specs.Slots.{is_taken, StaysUnless}
 use Rattle.rfb_session.proofs.SlotLemmas.{other}
@@ -103,6 +103,11 @@ refused_as old new k bytes NoSuchSeat None None ends was is keeps others =
 refused_as old new k bytes NoSuchSeat None (Some y) ends was is keeps others = absurd ends
 refused_as old new k bytes NoSuchSeat (Some x) None ends was is keeps others = absurd ends
 refused_as old new k bytes NoSuchSeat (Some x) (Some y) ends was is keeps others = absurd ends
+refused_as old new k bytes NoMemory None None ends was is keeps others = absurd ends
+refused_as old new k bytes NoMemory None (Some y) ends was is keeps others = absurd ends
+refused_as old new k bytes NoMemory (Some x) (Some y) ends was is keeps others = absurd ends
+refused_as old new k bytes NoMemory (Some x) None ends was is keeps others =
+    SeatEmptied refl x was is keeps others
 refused_as old new k bytes (SessionFault f) None None ends was is keeps others = absurd ends
 refused_as old new k bytes (SessionFault f) None (Some y) ends was is keeps others = absurd ends
 refused_as old new k bytes (SessionFault f) (Some x) None ends was is keeps others = absurd ends

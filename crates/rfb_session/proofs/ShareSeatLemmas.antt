@@ -2,7 +2,7 @@
 use Rattle.std.proofs.Common.{◌≡◌, ℕ, ◌+◌, ◌≤◌, Bool, true, false, List, [], ◌∷◌, ◌++◌, length}
 use Rattle.std.proofs.Common.{length-append, length-drop, take, drop, append-nil, Option, None}
 use Rattle.std.proofs.Common.{Some, Result, Ok, Err, refl, sym, ap, ◌∙◌, subst, arith}
-use Rattle.std.proofs.Math.Logic.{∥∥₁_elim, ∥∥₁_map}
+use Rattle.std.proofs.Math.Logic.{∥∥₁_elim, ∥∥₁_map, ∥∥₁_prop}
 use Rattle.std.proofs.lemmas.List.{drop-append-le, length-take}
 use Rattle.std.specs.Coded.{le_prop}
 use Rattle.arrayvec.specs.ArrayVec.{ArrayVec}
@@ -15,6 +15,9 @@ use Rattle.rfb_hello.specs.declared.version.Version.TheVariants.{V33, V37, V38}
 use Rattle.rfb_hello.specs.Version.{version_text}
 use Rattle.rfb_hello.specs.ClientHandshake.{AwaitsVersion, AwaitsChoice, AwaitsInit, Begun}
 use Rattle.rfb_server.specs.declared.fault.ServerFault.{ServerFault}
+use Rattle.rfb_server.specs.declared.late.feeding.LateFault.{LateFault}
+use Rattle.rfb_server.specs.declared.late.feeding.LateFault.TheVariants.{Session as OfSession}
+use Rattle.rfb_server.specs.declared.late.feeding.LateFault.TheVariants.{NoMemory as Wanting}
 use Rattle.rfb_server.specs.declared.session.Session.{Session}
 use Rattle.rfb_server.specs.ClientBytes.{ClientAt}
 use Rattle.rfb_server.specs.Server.{Serving, ServerState, server, first_server}
@@ -29,9 +32,24 @@ use Rattle.rfb_session.specs.declared.share.waiting.Waiting.{Waiting}
 use Rattle.rfb_session.specs.declared.share.waiting.Waiting.TheVariants.{Answers, Update}
 use Rattle.rfb_session.specs.InFlight.{server_reply}
 use Rattle.rfb_session.specs.ShareRoom.{kept_in, answers_in, answers_left, AnswersFit}
-use Rattle.rfb_session.specs.ShareRoom.{HasRoomForAnswers, memory_of}
-use Rattle.rfb_session.specs.ShareSeats.{IsFresh, Hears, waiting_in, is_update, holds_update}
+use Rattle.rfb_session.specs.ShareRoom.{HasRoomForAnswers, IsCut, memory_of}
+use Rattle.rfb_session.specs.ShareSeats.{IsFresh, Hears, Ends, waiting_in, is_update, holds_update}
+use Rattle.rfb_session.specs.ShareSlots.{EndsAtSeat, fault_of_late}
 use Rattle.rfb_session.proofs.ShareRoomLemmas.{fewer_left}
+
+-- a seat with another session
+abbrev seat_of : (seat : ShareSeat) (session : Session) →
+    seat.written ≤ length (kept_in seat.waiting) → answers_in seat.waiting ≤ 297 →
+    ∥ HasRoomForAnswers session seat.waiting ∥₁ → ShareSeat
+seat_of seat session within few roomy = record {
+  alloc = seat.alloc;
+  session = session;
+  waiting = seat.waiting;
+  written = seat.written;
+  within = within;
+  few = few;
+  roomy = roomy;
+}
 
 -- ---- whether a session has failed
 
@@ -43,6 +61,51 @@ not_failed (Some f) old new result a failed is = absurd (apart (sym (failed f re
   where
     apart : Err f ≡ Ok a → ⊥
     apart e = cc
+
+-- the same of a session that takes its memory late
+pub not_ended : {A : Type 0} (o : Option ServerFault) (same : Type 0) (result : Result A LateFault) (a : A) →
+    ((fault : ServerFault) → o ≡ Some fault → (result ≡ Err (OfSession fault)) × same) →
+    result ≡ Ok a → o ≡ None
+not_ended None same result a failed is = refl
+not_ended (Some f) same result a failed is = absurd (apart (sym (failed f refl).0 ∙ is))
+  where
+    apart : Err (OfSession f) ≡ Ok a → ⊥
+    apart e = cc
+
+-- a seat with the session that it had is the old one
+pub seat_kept : (seat : ShareSeat) (session : Session)
+    (within : seat.written ≤ length (kept_in seat.waiting)) (few : answers_in seat.waiting ≤ 297)
+    (roomy : ∥ HasRoomForAnswers session seat.waiting ∥₁) → session ≡ seat.session →
+    seat_of seat session within few roomy ≡ seat
+seat_kept seat session within few roomy is =
+    subst (λ (s : Session). (r : ∥ HasRoomForAnswers s seat.waiting ∥₁) →
+    seat_of seat s within few r ≡ seat) (sym is) same roomy
+  where
+    same : (r : ∥ HasRoomForAnswers seat.session seat.waiting ∥₁) →
+        seat_of seat seat.session within few r ≡ seat
+    same r = ap (λ w. seat_of seat seat.session w few r) (le_prop within seat.within)
+        ∙ ap (λ f. seat_of seat seat.session seat.within f r) (le_prop few seat.few)
+        ∙ ap (λ q. seat_of seat seat.session seat.within seat.few q) (∥∥₁_prop r seat.roomy)
+
+-- bytes that were not taken: its session has ended, or there was no memory for it
+pub refused_late : (bytes : List ℕ) (why : LateFault) (old new : ShareSeat) →
+    ((fault : ServerFault) → why ≡ OfSession fault → Ends bytes fault old new) →
+    (why ≡ Wanting → new ≡ old) → EndsAtSeat bytes (fault_of_late why) old new
+refused_late bytes (OfSession fault) old new ends same = ends fault refl
+refused_late bytes Wanting old new ends same = same refl
+
+-- then its answers fit as they did
+pub fits_refused : (old new : Session) (waiting : Waiting) (why : LateFault) →
+    ((fault : ServerFault) → why ≡ OfSession fault → session_fault new ≡ Some fault) →
+    (why ≡ Wanting → new ≡ old) → ∥ HasRoomForAnswers old waiting ∥₁ →
+    ∥ HasRoomForAnswers new waiting ∥₁
+fits_refused old new waiting (OfSession fault) fails same roomy =
+    ∥∥₁_map roomy (λ has going. absurd (apart (sym (fails fault refl) ∙ going)))
+  where
+    apart : Some fault ≡ None → ⊥
+    apart e = cc
+fits_refused old new waiting Wanting fails same roomy =
+    subst (λ (s : Session). ∥ HasRoomForAnswers s waiting ∥₁) (sym (same refl)) roomy
 
 -- ---- a fresh seat
 
@@ -322,3 +385,27 @@ pub update_stays : (waiting : Waiting) (event : Option ServerTold) →
 update_stays (Answers answers) event some before after fit fewer =
     absurd (is_not_both false refl some)
 update_stays (Update update) event some before after fit fewer = omega (arith, fit, fewer)
+
+-- ---- an update of which some bytes are kept no more
+
+pub cut_few : (old new : Waiting) → IsCut old new → answers_in old ≤ 297 → answers_in new ≤ 297
+cut_few (Answers a) new is few = subst (λ (w : Waiting). answers_in w ≤ 297) (sym is) few
+cut_few (Update a) (Answers b) is few = absurd is
+cut_few (Update a) (Update b) is few = omega arith
+
+pub cut_fits : (session : Session) (old new : Waiting) → IsCut old new →
+    ∥ HasRoomForAnswers session old ∥₁ → ∥ HasRoomForAnswers session new ∥₁
+cut_fits session (Answers a) new is roomy =
+    subst (λ (w : Waiting). ∥ HasRoomForAnswers session w ∥₁) (sym is) roomy
+cut_fits session (Update a) (Answers b) is roomy = absurd is
+cut_fits session (Update a) (Update b) is roomy = ∥∥₁_map roomy (λ has going.
+    let one = has going in
+    record {
+      serving = one.serving;
+      screen = one.screen;
+      state = one.state;
+      prefix = one.prefix;
+      stands = one.stands;
+      name = one.name;
+      fit = one.fit;
+    })

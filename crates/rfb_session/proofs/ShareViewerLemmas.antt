@@ -21,6 +21,7 @@ use Rattle.rfb_viewer.specs.Viewer.{first_viewer, viewer as viewer_end}
 use Rattle.rfb_session.specs.declared.share.Share.{Share}
 use Rattle.rfb_session.specs.declared.share.event.Heard.{Heard}
 use Rattle.rfb_session.specs.declared.share.event.ShareFault.TheVariants.{Session as OfSession}
+use Rattle.rfb_session.specs.declared.share.event.ShareFault.TheVariants.{NoMemory as Wanting}
 use Rattle.rfb_session.specs.declared.share.seat.ShareSeat.{ShareSeat}
 use Rattle.rfb_session.specs.Carrying.{Carries}
 use Rattle.rfb_session.specs.InFlight.{AreMade, Flies, first_flight, server_reply, viewer_reply}
@@ -31,7 +32,7 @@ use Rattle.rfb_session.specs.Share.{seat_in, screen_of, serving_in, waits_at, wa
 use Rattle.rfb_session.specs.ShareSeats.{waiting_in, WritesAt, IsNotifiedIn}
 use Rattle.rfb_server.specs.Drawing.{Stroke, IsInside, drawn_by, notice_of}
 use Rattle.rfb_session.specs.ShareSteps.{JoinsAs, Full, Joined, DrawsOn}
-use Rattle.rfb_session.specs.ShareSteps.{ReceivesAs, RefusesAs, NoneHeard, SeatEnded, WritesAs}
+use Rattle.rfb_session.specs.ShareSteps.{ReceivesAs, RefusesAs, NoneHeard, SeatEmptied, SeatEnded, WritesAs}
 use Rattle.rfb_session.specs.ShareViewers.{IsWatchedBy, Watches}
 use Rattle.rfb_session.proofs.CarryLemmas.{viewer_fed, server_fed, server_keeps}
 use Rattle.rfb_session.proofs.DeliveringLemmas.{server_reached, viewer_reached}
@@ -189,6 +190,11 @@ pub watched_never : (e : Ends) (old new : Share) (k : ℕ) (bytes : List ℕ) (f
     Watches e old k viewer to_server on_way → ⊥
 watched_never e old new k bytes fault viewer to_server later on_way some is
     (NoneHeard told none all) (n, w) = not_both (seat_in old k) w.seat w.there none
+watched_never e old new k bytes fault viewer to_server later on_way some is
+    (SeatEmptied told was there gone keeps others) (n, w) = apart told
+  where
+    apart : OfSession fault ≡ Wanting → ⊥
+    apart e = cc
 watched_never e old new k bytes fault viewer to_server later on_way some is
     (SeatEnded of told was now there here ends keeps others) (n, w) =
     let same : fault ≡ of = one told in

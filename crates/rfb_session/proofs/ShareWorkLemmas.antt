@@ -21,7 +21,7 @@ use Rattle.rfb_session.specs.Share.{seat_in, waiting_for}
 use Rattle.rfb_session.specs.ShareSeats.{session_at, WritesAt}
 use Rattle.rfb_session.specs.ShareSlots.{ComposesIn, WantsRoomIn}
 use Rattle.rfb_session.specs.ShareSteps.{HasNoWork, IsIdle}
-use Rattle.rfb_session.specs.ShareWork.{Rests, OthersRest}
+use Rattle.rfb_session.specs.ShareWork.{Rests, RestsIn, OthersRest}
 use Rattle.rfb_session.specs.Slots.{seat_at, OnSlot}
 use Rattle.rfb_session.proofs.SlotLemmas.{below, not_both, not_clear, on_seat, other}
 use Rattle.rfb_session.proofs.SlotLemmas.{seat_set_same, seat_set_other}
@@ -170,7 +170,7 @@ idle_rests screen Composed a b composes idle seat is = absurd idle
 idle_rests screen Waiting a b composes idle seat is = absurd idle
 
 -- a session that has not failed stands for something, so it can't owe one where none is due
-not_owed : (screen : Grid Colour) (seat : ShareSeat) → session_fault (session_at seat) ≡ None →
+pub not_owed : (screen : Grid Colour) (seat : ShareSeat) → session_fault (session_at seat) ≡ None →
     NoneDue screen (session_at seat) → OwesUpdate screen (session_at seat) → ⊥
 not_owed screen seat going none owes = ∥∥₁_elim seat.roomy (λ x y. absurd x) (λ room.
     let one = room going in
@@ -236,3 +236,13 @@ no_work share k rest clear = by (seat_in share k) refl
               (subst (λ (o : Option ShareSeat). WantsRoomIn share.screen o (seat_in new k)) is
               wants.seat);
         }
+
+-- and whoever sits there rests
+pub rests_in : (share : Share) (k : ℕ) → OthersRest share.screen share.seats share.stirred →
+    has_bit share.stirred k ≡ false → RestsIn share.screen (seat_in share k)
+rests_in share k rest clear = by (seat_in share k) refl
+  where
+    by : (o : Option ShareSeat) → seat_in share k ≡ o → RestsIn share.screen (seat_in share k)
+    by None is = subst (λ (o : Option ShareSeat). RestsIn share.screen o) (sym is) tt
+    by (Some seat) is =
+        subst (λ (o : Option ShareSeat). RestsIn share.screen o) (sym is) (rest k seat clear is)

@@ -28,6 +28,12 @@ abbrev pub answers_in : Waiting → ℕ
 answers_in (Answers answers) = length answers.items
 answers_in (Update bytes) = 0
 
+-- of answers nothing has changed, and of an update an update is left
+abbrev pub IsCut : Waiting → Waiting → Type 0
+IsCut (Answers old) new = new ≡ Answers old
+IsCut (Update old) (Answers new) = ⊥
+IsCut (Update old) (Update new) = Unit {0}
+
 -- how many bytes of answers a client may still be sent: at most 6 for its security type and the
 -- result, and ServerInit with a name of at most 255 bytes; none after the handshake
 abbrev pub answers_left : ClientAt → ℕ

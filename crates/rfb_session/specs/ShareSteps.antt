@@ -17,7 +17,7 @@ use Rattle.rfb_session.specs.declared.share.event.SeatEvent.TheVariants.{Key as 
 use Rattle.rfb_session.specs.declared.share.event.SeatEvent.TheVariants.{Pointer as PointerEvent}
 use Rattle.rfb_session.specs.declared.share.event.SeatEvent.TheVariants.{CutText as TextEvent}
 use Rattle.rfb_session.specs.declared.share.event.ShareFault.{ShareFault}
-use Rattle.rfb_session.specs.declared.share.event.ShareFault.TheVariants.{NoSuchSeat, Session}
+use Rattle.rfb_session.specs.declared.share.event.ShareFault.TheVariants.{NoSuchSeat, Session, NoMemory}
 use Rattle.rfb_session.specs.declared.share.seat.ShareSeat.{ShareSeat}
 use Rattle.rfb_session.specs.Share.{seat_in, screen_of, serving_in, waits_at, IsFreshIn, AllTaken}
 use Rattle.rfb_session.specs.ShareSeats.{Hears, Ends, WritesAt, IsNotifiedIn}
@@ -126,10 +126,14 @@ pub record HearsBy (heeds : Bool) (old : Share) (k : ℕ) (bytes : List ℕ) (he
 abbrev pub ReceivesAs : Share → ℕ → List ℕ → Heard → Share → Type 0
 ReceivesAs old k bytes heard new = HearsBy true old k bytes heard new
 
--- there is no viewer there; or its session has ended, and nothing else has changed
+-- there is no viewer there, and nothing has changed; or there is no memory for its session, and the
+-- seat is emptied; or its session has ended, and nothing else has changed
 pub data RefusesAs (old : Share) (k : ℕ) (bytes : List ℕ) (fault : ShareFault) (new : Share)
     : Type 0 where
   NoneHeard : fault ≡ NoSuchSeat → seat_in old k ≡ None → KeepsAll old new →
+      RefusesAs old k bytes fault new
+  SeatEmptied : fault ≡ NoMemory → (was : ShareSeat) → seat_in old k ≡ Some was →
+      seat_in new k ≡ None → KeepsScreen old new → OthersKept old k new →
       RefusesAs old k bytes fault new
   SeatEnded : (of : ServerFault) → fault ≡ Session of → (was now : ShareSeat) →
       seat_in old k ≡ Some was → seat_in new k ≡ Some now → Ends bytes of was now →

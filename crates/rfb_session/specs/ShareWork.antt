@@ -1,5 +1,5 @@
 -- The seats of a share that have no work: nothing is to be written there, and nothing to be composed.
-use Rattle.std.specs.Prelude.{◌≡◌, ℕ, false, List, [], Option, Some}
+use Rattle.std.specs.Prelude.{◌≡◌, ℕ, false, List, [], Option, Some, None}
 use Rattle.rfb_pixel.specs.declared.colour.Colour.{Colour}
 use Rattle.rfb_picture.specs.Grid.{Grid}
 use Rattle.rfb_picture.specs.Places.{has_bit}
@@ -12,6 +12,11 @@ use Rattle.rfb_session.specs.Slots.{seat_at}
 pub record Rests (screen : Grid Colour) (seat : ShareSeat) : Type 0 where
   pub written : waiting_in seat ≡ []
   pub none : NoneDue screen (session_at seat)
+
+-- so it is where anybody sits
+abbrev pub RestsIn : Grid Colour → Option ShareSeat → Type 0
+RestsIn screen None = Unit {0}
+RestsIn screen (Some seat) = Rests screen seat
 
 -- so it is with each seat that is taken and not in the set
 abbrev pub OthersRest : Grid Colour → List (Option ShareSeat) → ℕ → Type 0

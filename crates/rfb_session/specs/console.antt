@@ -1,5 +1,7 @@
 pub mod Desk
 pub mod Telling
 pub mod Time
-pub mod Steps
+pub mod Viewers
+pub mod Turns
 pub mod Console
+pub mod History

@@ -19,6 +19,7 @@ pub(crate) mod desk;
 mod entrances;
 pub(crate) mod guest;
 mod hosting;
+pub mod laws;
 pub(crate) mod lines;
 mod listening;
 pub(crate) mod names;
@@ -34,6 +35,7 @@ use crate::console::desk::Desk;
 pub use crate::console::plan::{ConsoleSetup, Rules};
 pub use crate::console::speaker::{NOTE_MAX, Note, Saying, Silent, Speaker, Why};
 use crate::owner::{Beginning, OwnerReader};
+use crate::seats::Seats;
 use arrayvec::ArrayVec;
 use std::alloc::Global;
 
@@ -88,6 +90,8 @@ pub struct Console<S: Drop> {
     // How many bytes each door takes before the next turn.
     rooms: [usize; READ],
     notes: Vec<u8>,
+    // The seats of whose viewer a sentence says that it is let go.
+    parted: Seats,
     are_notes_lost: bool,
     // There was no memory for a line that tells of a bad one.
     are_notes_wanting: bool,
@@ -99,6 +103,7 @@ pub struct Console<S: Drop> {
     next: Option<u64>,
     speaker: S,
     ghost nine: { length rooms ≡ 9 },
+    ghost few_notes: { length notes.items ≤ 8388608 },
 }
 
 impl<S: Speaker + Drop> Console<S> {
@@ -124,6 +129,7 @@ impl<S: Speaker + Drop> Console<S> {
             desk: None,
             rooms,
             notes: Vec::new(alloc),
+            parted: Seats::none(),
             are_notes_lost: false,
             are_notes_wanting: false,
             outcome: None,

@@ -70,40 +70,9 @@ impl Hub {
     ghost use Rattle.rfb_session.specs.Hub.{NoneFailed, AllShowKnown, AllShowLatest, AllHeadlines};
     ghost use Rattle.rfb_session.specs.Slots.{is_taken};
 
-    /// A hub with a black screen and eight empty slots. Each session offers versions up to `offer`,
-    /// names the screen, and keeps at most `text_limit` bytes of each text that its viewer cuts.
-    /// Where there is no memory it gives the error, and nothing is kept.
-    pub fn new(
-        alloc: Global,
-        width: u16,
-        height: u16,
-        name: &[u8],
-        offer: Version,
-        text_limit: u32,
-    ) -> Result<Hub, AllocError>
-        requires columns { width ≤ 4096 }
-        requires rows { height ≤ 4096 }
-        requires name { length name.now ≤ 255 }
-        ensures empty { IfOk result (λ hub. IsEmptyHub hub) }
-        ensures screen { IfOk result (λ hub. hub.screen ≡ uniform width height black) }
-        ensures made { IfOk result (λ hub. serving_in hub
-            ≡ serving_with offer width height name.now text_limit) }
-        ensures open { IfOk result (λ hub. is_shut hub ≡ false) }
-        ensures stands { IfOk result HubStands }
-    {
-        let screen = Picture::new(alloc, width, height, BLACK)?;
-        Ok(Hub {
-            alloc,
-            screen,
-            name: name_of(name),
-            offer,
-            text_limit,
-            slots: [None, None, None, None, None, None, None, None],
-            closed: false,
-        })
-    }
-
-    /// A hub as `new` makes it, of these.
+    /// A hub with a black screen and eight empty slots. Each session offers versions up to
+    /// `setup.offer`, names the screen, and keeps at most `setup.text_limit` bytes of each text that
+    /// its viewer cuts. Where there is no memory it gives the error, and nothing is kept.
     pub fn of(alloc: Global, setup: HubSetup) -> Result<Hub, AllocError>
         requires columns { setup.width ≤ 4096 }
         requires rows { setup.height ≤ 4096 }
@@ -116,14 +85,16 @@ impl Hub {
         ensures open { IfOk result (λ hub. is_shut hub ≡ false) }
         ensures stands { IfOk result HubStands }
     {
-        Hub::new(
+        let screen = Picture::new(alloc, setup.width, setup.height, BLACK)?;
+        Ok(Hub {
             alloc,
-            setup.width,
-            setup.height,
-            setup.name,
-            setup.offer,
-            setup.text_limit,
-        )
+            screen,
+            name: name_of(setup.name),
+            offer: setup.offer,
+            text_limit: setup.text_limit,
+            slots: [None, None, None, None, None, None, None, None],
+            closed: false,
+        })
     }
 
     /// What an event is, happens, and it tells how many bytes it moved, its refusal, whether an

@@ -58,37 +58,8 @@ impl Share {
     ghost use Rattle.rfb_session.specs.Share.{fault_in};
 
     /// A share with a black screen and eight empty seats. Each session offers versions up to
-    /// `offer`, names the screen, and keeps at most `text_limit` bytes of each text that its viewer
-    /// cuts. Where there is no memory it gives the error, and nothing is kept.
-    pub fn new(
-        alloc: Global,
-        width: u16,
-        height: u16,
-        name: &[u8],
-        offer: Version,
-        text_limit: u32,
-    ) -> Result<Share, AllocError>
-        requires columns { width ≤ 4096 }
-        requires rows { height ≤ 4096 }
-        requires name { length name.now ≤ 255 }
-        ensures empty { IfOk result IsEmptyShare }
-        ensures screen { IfOk result (λ share. screen_of share ≡ uniform width height black) }
-        ensures made { IfOk result (λ share. serving_in share
-            ≡ serving_with offer width height name.now text_limit) }
-    {
-        let screen = Picture::new(alloc, width, height, BLACK)?;
-        Ok(Share {
-            alloc,
-            screen,
-            name: name_of(name),
-            offer,
-            text_limit,
-            seats: [None, None, None, None, None, None, None, None],
-            stirred: Seats::none(),
-        })
-    }
-
-    /// A share as `new` makes it, of these.
+    /// `setup.offer`, names the screen, and keeps at most `setup.text_limit` bytes of each text that
+    /// its viewer cuts. Where there is no memory it gives the error, and nothing is kept.
     pub fn of(alloc: Global, setup: ShareSetup) -> Result<Share, AllocError>
         requires columns { setup.width ≤ 4096 }
         requires rows { setup.height ≤ 4096 }
@@ -99,14 +70,16 @@ impl Share {
         ensures made { let setup = setup.entry in IfOk result (λ share. serving_in share
             ≡ serving_with setup.offer setup.width setup.height setup.name.now setup.text_limit) }
     {
-        Share::new(
+        let screen = Picture::new(alloc, setup.width, setup.height, BLACK)?;
+        Ok(Share {
             alloc,
-            setup.width,
-            setup.height,
-            setup.name,
-            setup.offer,
-            setup.text_limit,
-        )
+            screen,
+            name: name_of(setup.name),
+            offer: setup.offer,
+            text_limit: setup.text_limit,
+            seats: [None, None, None, None, None, None, None, None],
+            stirred: Seats::none(),
+        })
     }
 
     /// Lends the screen.

@@ -1,7 +1,9 @@
 //! What a step answers.
 
 ghost use Rattle.std.specs.Prelude.{◌≡◌, false, None, Some};
+ghost use Rattle.rfb_session.specs.Told.{refused_as};
 
+use rfb_viewer::CallFault;
 use std::alloc::AllocError;
 use thiserror::Error;
 
@@ -20,6 +22,18 @@ pub enum Refused {
     /// The area that is asked for has no place, or leaves the screen.
     #[error("27 AreaOutside")]
     AreaOutside,
+}
+
+impl From<CallFault> for Refused {
+    fn from(fault: CallFault) -> Refused
+        ensures { Some result ≡ refused_as (Some fault) }
+    {
+        match fault {
+            CallFault::NotReady => Refused::NotReady,
+            CallFault::Busy => Refused::Busy,
+            CallFault::AreaOutside => Refused::AreaOutside,
+        }
+    }
 }
 
 /// What became of an event.

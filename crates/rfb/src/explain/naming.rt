@@ -7,20 +7,22 @@ use std::fmt;
 #[derive(Clone, Copy)]
 pub struct SecurityType(pub u32);
 
+// The names of the first ones, and of those from 16 on.
+const FIRST: [&str; 3] = ["Invalid", "None", "VNC Authentication"];
+
+const LATER: [&str; 5] = ["Tight", "Ultra", "TLS", "VeNCrypt", "GTK-VNC SASL"];
+
 impl fmt::Display for SecurityType {
     fn fmt<F: fmt::Write>(&self, f: &mut fmt::Formatter<F>) -> fmt::Result {
-        let name = match self.0 {
-            0 => "Invalid",
-            1 => "None",
-            2 => "VNC Authentication",
-            16 => "Tight",
-            17 => "Ultra",
-            18 => "TLS",
-            19 => "VeNCrypt",
-            20 => "GTK-VNC SASL",
-            _ => return write!(f, "{}", self.0),
+        let number = self.0;
+        let name = match number.checked_sub(16) {
+            Some(later) => LATER.get(later as usize),
+            None => FIRST.get(number as usize),
         };
-        write!(f, "{} ({name})", self.0)
+        match name {
+            Some(name) => write!(f, "{number} ({name})"),
+            None => write!(f, "{number}"),
+        }
     }
 }
 

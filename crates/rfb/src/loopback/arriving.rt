@@ -6,7 +6,7 @@ ghost use Rattle.rfb_viewer.specs.declared.fault.ViewerFault.TheVariants as View
 ghost use Rattle.rfb.specs.Delivery.{Hears, ReachesServer, ReachesViewer, Watches, server_end, viewer_end};
 
 use crate::fault::Fault;
-use crate::loopback::link::{Link, PART};
+use crate::loopback::link::{Link, PART, carry};
 use rfb_server::{Server, ServerFault};
 use rfb_session::{server_reply, viewer_reply};
 use rfb_viewer::{Viewer, ViewerFault};
@@ -45,7 +45,7 @@ pub fn reach_server<C: Read + Write>(
         (C.remaining (server_end link.old)) (C.remaining (server_end link.new))
         server.old to_viewer.old.items to_viewer.new.items server.new) }
 {
-    link.to_server(bytes)?;
+    carry(bytes, &mut link.viewer, &mut link.server)?;
     hear(bytes, server, to_viewer)
 }
 
@@ -61,7 +61,7 @@ pub fn reach_viewer<C: Read + Write>(
         (C.remaining (viewer_end link.old)) (C.remaining (viewer_end link.new))
         viewer.old to_server.old.items to_server.new.items viewer.new) }
 {
-    link.to_viewer(bytes)?;
+    carry(bytes, &mut link.server, &mut link.viewer)?;
     watch(bytes, viewer, to_server)
 }
 

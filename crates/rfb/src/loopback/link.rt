@@ -14,31 +14,8 @@ pub const PART: usize = 4096;
 /// Both ends of a connection.
 #[derive(Drop)]
 pub struct Link<C> {
-    server: C,
-    viewer: C,
-}
-
-impl<C: Read + Write> Link<C> {
-    /// Sends these bytes from the viewer's end to the server's, and puts what came there in their
-    /// place.
-    pub fn to_server(&mut self, bytes: &mut [u8]) -> io::Result<()>
-        ensures sent { OnOk result
-            (Appends (C.contents self.old.viewer) (C.contents self.new.viewer) bytes.old) }
-        ensures came { OnOk result
-            (Consumes (C.remaining self.old.server) (C.remaining self.new.server) bytes.new) }
-    {
-        carry(bytes, &mut self.viewer, &mut self.server)
-    }
-
-    /// The same the other way.
-    pub fn to_viewer(&mut self, bytes: &mut [u8]) -> io::Result<()>
-        ensures sent { OnOk result
-            (Appends (C.contents self.old.server) (C.contents self.new.server) bytes.old) }
-        ensures came { OnOk result
-            (Consumes (C.remaining self.old.viewer) (C.remaining self.new.viewer) bytes.new) }
-    {
-        carry(bytes, &mut self.server, &mut self.viewer)
-    }
+    pub server: C,
+    pub viewer: C,
 }
 
 /// A connection over the loopback address. What is written goes out at once: the other end reads
@@ -52,8 +29,8 @@ pub fn connected<N: Net>(net: &N) -> io::Result<Link<N::Stream>> {
     Ok(Link { server, viewer })
 }
 
-// Writes these bytes to one end, and reads as many at the other, in their place.
-fn carry<C: Read + Write>(bytes: &mut [u8], from: &mut C, to: &mut C) -> io::Result<()>
+/// Writes these bytes to one end, and reads as many at the other, in their place.
+pub fn carry<C: Read + Write>(bytes: &mut [u8], from: &mut C, to: &mut C) -> io::Result<()>
     ensures sent { OnOk result (Appends (C.contents from.old) (C.contents from.new) bytes.old) }
     ensures came { OnOk result (Consumes (C.remaining to.old) (C.remaining to.new) bytes.new) }
 {

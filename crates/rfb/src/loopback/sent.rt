@@ -92,7 +92,7 @@ pub fn send<const N: usize>(
             to_server.write_all(&message)?;
             Ok(None)
         }
-        Err(fault) => Ok(Some(of_call(fault))),
+        Err(fault) => Ok(Some(Refused::from(fault))),
     }
 }
 
@@ -112,7 +112,7 @@ pub fn send_list(
             to_server.write_all(message.as_slice())?;
             Ok(None)
         }
-        Err(fault) => Ok(Some(of_call(*fault))),
+        Err(fault) => Ok(Some(Refused::from(*fault))),
     }
 }
 
@@ -123,16 +123,5 @@ pub fn of_drawing(drawing: Result<(), Outside>) -> Option<Refused>
     match drawing {
         Ok(()) => None,
         Err(Outside) => Some(Refused::Outside),
-    }
-}
-
-// Why a call was refused.
-fn of_call(fault: CallFault) -> Refused
-    ensures { Some result ≡ refused_as (Some fault) }
-{
-    match fault {
-        CallFault::NotReady => Refused::NotReady,
-        CallFault::Busy => Refused::Busy,
-        CallFault::AreaOutside => Refused::AreaOutside,
     }
 }

@@ -5,12 +5,11 @@ mod hub_cause;
 pub mod kind;
 pub mod reason;
 
-use crate::script::cause::form::{OF_SCRIPT, form_of};
+use crate::script::cause::form::{OF_SCRIPT, OF_SLOT, form_of};
 use crate::script::cause::kind::why_not_form;
 use crate::script::cause::reason::Reason;
-use crate::script::hub::HUB;
+use crate::script::keyword::{HUB, SCREEN};
 use crate::script::parting::{ends_line, parts_words};
-use crate::script::read::SCREEN;
 use arrayvec::ArrayVec;
 pub use hub_cause::tell_bad_hub_line;
 use std::io::Write;
@@ -40,10 +39,8 @@ const HUB_ALONE: &str = ": `hub W H`, each side 1 to 4096, stands first, with `r
 
 /// Says why the line with this number, counted from 1, is bad.
 pub fn tell_bad_line<N: Write>(text: &[u8], number: u64, notes: &mut N) {
-    let mut at = 0u64;
     let mut is_first = true;
-    for line in text.split(ends_line) {
-        at = at.saturating_add(1);
+    for (at, line) in (1..u64::MAX).zip(text.split(ends_line)) {
         if at == number {
             tell_reason(number, why_bad(line, is_first), notes);
             return;
@@ -108,7 +105,7 @@ fn why_no_line(line: &[u8], is_first: bool) -> Reason<'_> {
     if *keyword == HUB {
         return Reason::Said(HUB_ALONE);
     }
-    let Some(form) = form_of(keyword, OF_SCRIPT) else {
+    let Some(form) = form_of(keyword, OF_SCRIPT).or(form_of(keyword, OF_SLOT)) else {
         return Reason::Keyword(keyword);
     };
     if is_first != (*keyword == SCREEN) {

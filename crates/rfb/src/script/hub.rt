@@ -20,13 +20,11 @@ ghost use Rattle.std.specs.Prelude.{◌↔◌, ◌≡◌, ◌+◌, true, if◌th
 ghost use Rattle.rfb.specs.HubScript.{AreHubScript, BeginHub, StopsReadingHub};
 ghost use Rattle.rfb.specs.Script.{lines_of};
 
-use crate::explain::Notes;
 use crate::fault::Failure;
 use crate::script::cause::tell_bad_hub_line;
 use crate::script::hub::hub_line::{read_hub, read_hub_step, read_show};
 use crate::script::hub::hub_step::{HubNumbered, HubStep};
 use crate::script::parting::ends_line;
-pub use hub_line::{AT, FOREIGN, HUB, JOIN, LEAVE, SHOW};
 use rfb_session::language::Screen;
 pub use slot::{SHARED, SOLE};
 use std::alloc::Global;
@@ -47,12 +45,11 @@ pub struct HubScript {
     pub shown: u8,
 }
 
-/// Reads a whole script of a hub, and says why a line is bad, if sentences are wanted.
-pub fn read_hub_explained<E: Write>(
+/// Reads a whole script of a hub, and `notes` say why a line is bad.
+pub fn read_hub_explained<N: Write>(
     alloc: Global,
     text: &[u8],
-    errors: &mut E,
-    explains: bool,
+    notes: &mut N,
 ) -> Result<HubScript, Failure>
     ensures read { IfOk result (λ script.
         AreHubScript (lines_of text.now) script.screen script.steps.items script.shown) }
@@ -60,7 +57,7 @@ pub fn read_hub_explained<E: Write>(
 {
     let read = read_hub_script(alloc, text);
     if let Err(Failure::BadLine(number)) = &read {
-        tell_bad_hub_line(text, *number, &mut Notes::new(errors, explains));
+        tell_bad_hub_line(text, *number, notes);
     }
     read
 }
@@ -77,9 +74,9 @@ pub fn begins_hub(text: &[u8]) -> bool
     false
 }
 
-/// Reads a whole script of a hub. It fails at the first bad line, or where memory is refused. A
-/// text that names no slot to be shown is bad at the line after its last one.
-pub fn read_hub_script(alloc: Global, text: &[u8]) -> Result<HubScript, Failure>
+// Reads a whole script of a hub. It fails at the first bad line, or where memory is refused. A
+// text that names no slot to be shown is bad at the line after its last one.
+fn read_hub_script(alloc: Global, text: &[u8]) -> Result<HubScript, Failure>
     ensures read { IfOk result (λ script.
         AreHubScript (lines_of text.now) script.screen script.steps.items script.shown) }
     ensures stopped { IfErr result (StopsReadingHub (lines_of text.now)) }

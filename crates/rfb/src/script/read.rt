@@ -1,6 +1,6 @@
 //! Reading one line of a script, by itself.
 
-ghost use Rattle.std.specs.Prelude.{◌≡◌, ◌∷◌, MatchOption};
+ghost use Rattle.std.specs.Prelude.{◌≡◌, ◌≢◌, ◌∷◌, ℕ, List, MatchOption};
 ghost use Rattle.rfb_session.specs.declared.event.Event.{Event};
 ghost use Rattle.rfb_session.specs.declared.hub.event.SlotEvent.{SlotEvent};
 ghost use Rattle.rfb_session.specs.HubSeats.{event_of as world_event};
@@ -10,34 +10,12 @@ ghost use Rattle.rfb.specs.declared.script.line.Line.TheVariants as Line;
 ghost use Rattle.rfb.specs.declared.script.line.Wants.{Wants};
 
 use crate::script::arguments::{read_bytes, read_only_format, read_request, read_wants};
+use crate::script::keyword::{
+    COMPOSE, FORMAT, REQUEST, SCREEN, SETTLE, TO_SERVER, TO_VIEWER, VIEWER,
+};
 use crate::script::line::{Line, Step, Wants};
-use rfb_session::language::{Screen, parted, read_fill, read_move, read_size};
+use rfb_session::language::{DrawingLine, Screen, parted, read_drawing, read_size};
 use rfb_session::{Event, SlotEvent};
-
-/// The word that the first line begins with.
-pub const SCREEN: &[u8] = b"screen";
-
-/// The word that the second line may begin with.
-pub const VIEWER: &[u8] = b"viewer";
-
-// The words that later lines begin with.
-pub const FILL: &[u8] = b"fill";
-
-pub const COPY: &[u8] = b"copy";
-
-pub const HINT: &[u8] = b"hint";
-
-pub const REQUEST: &[u8] = b"request";
-
-pub const FORMAT: &[u8] = b"format";
-
-pub const COMPOSE: &[u8] = b"compose";
-
-pub const TO_VIEWER: &[u8] = b"toviewer";
-
-pub const TO_SERVER: &[u8] = b"toserver";
-
-pub const SETTLE: &[u8] = b"settle";
 
 /// The screen's size, as a line without its newline gives it. It is `None` where the line gives
 /// none.
@@ -57,20 +35,8 @@ pub fn read_viewer(line: &[u8]) -> Option<Wants>
     ensures { MatchOption result (¬ (GivesWants line.now))
         (λ wants. Says (words_of line.now) (Line.Viewer wants)) }
 {
-    wants_of(parted(line)?.as_slice())
-}
-
-// What the viewer wants, as the words of a line give it.
-fn wants_of(words: &[&[u8]]) -> Option<Wants>
-    ensures { MatchOption result
-        ((wants : Wants) → ¬ (Says (texts words.now) (Line.Viewer wants)))
-        (λ wants. Says (texts words.now) (Line.Viewer wants)) }
-{
-    let (keyword, rest) = words.split_first()?;
-    if *keyword == VIEWER {
-        return read_wants(rest);
-    }
-    None
+    let words = parted(line)?;
+    read_wants(words_after(words.as_slice(), VIEWER)?)
 }
 
 /// The step that a line without its newline asks for. It is `None` where the line asks for none.
@@ -89,6 +55,19 @@ fn read_line(line: &[u8]) -> Option<Line>
     ensures { MatchOption result (SaysNothing (words_of line.now)) (Says (words_of line.now)) }
 {
     line_of(parted(line)?.as_slice())
+}
+
+/// The words of a line after its first, if that is this keyword.
+pub fn words_after<'w, 'a>(words: &'w [&'a [u8]], keyword: &[u8]) -> Option<&'w [&'a [u8]]>
+    ensures { MatchOption result
+        ((rest : List (List ℕ)) → texts words.now ≢ keyword.now ∷ rest)
+        (λ rest. texts words.now ≡ keyword.now ∷ texts rest.now) }
+{
+    let (first, rest) = words.split_first()?;
+    if *first == keyword {
+        return Some(rest);
+    }
+    None
 }
 
 // What the words of a line say.
@@ -117,19 +96,12 @@ fn event_of(keyword: &[u8], rest: &[&[u8]]) -> Option<Event>
         ((event : Event) → ¬ (SaysEvent (keyword.now ∷ texts rest.now) event))
         (SaysEvent (keyword.now ∷ texts rest.now)) }
 {
-    if keyword == FILL {
-        let (rect, colour) = read_fill(rest)?;
-        return Some(Event::Fill(rect, colour));
+    match read_drawing(keyword, rest) {
+        Some(DrawingLine::Fill(rect, colour)) => Some(Event::Fill(rect, colour)),
+        Some(DrawingLine::Copy(rect, sx, sy)) => Some(Event::Copy(rect, sx, sy)),
+        Some(DrawingLine::Hint(rect, sx, sy)) => Some(Event::Hint(rect, sx, sy)),
+        None => Some(as_event(slot_event_of(keyword, rest)?)),
     }
-    if keyword == COPY {
-        let (rect, sx, sy) = read_move(rest)?;
-        return Some(Event::Copy(rect, sx, sy));
-    }
-    if keyword == HINT {
-        let (rect, sx, sy) = read_move(rest)?;
-        return Some(Event::Hint(rect, sx, sy));
-    }
-    Some(as_event(slot_event_of(keyword, rest)?))
 }
 
 /// The event of one slot of a hub, or of both ends of a script, that a keyword and the words after

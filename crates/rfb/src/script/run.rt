@@ -10,6 +10,7 @@ ghost use Rattle.rfb_session.specs.InFlight.{AreMade};
 ghost use Rattle.rfb.specs.declared.fault.Failure.TheVariants as Failure;
 
 use crate::context::Context;
+use crate::explain::Notes;
 use crate::fault::{Failure, Fault};
 use crate::help::Topic;
 use crate::options::common::{INPUT, OUTPUT};
@@ -49,12 +50,13 @@ pub fn script<P: AllocGlobal, R: Read, W: Write, E: Write>(
     let mut text = Vec::new(alloc);
     context.input.read_to_end(&mut text)?;
     let lines = text.as_slice();
+    let notes = &mut Notes::new(context.errors, context.explains);
     if begins_hub(lines) {
-        let hub = read_hub_explained(alloc, lines, context.errors, context.explains)?;
+        let hub = read_hub_explained(alloc, lines, notes)?;
         run_hub(context, &hub)?;
         return Ok(());
     }
-    let script = read_explained(alloc, lines, context.errors, context.explains)?;
+    let script = read_explained(alloc, lines, notes)?;
     run(context, &script)?;
     Ok(())
 }

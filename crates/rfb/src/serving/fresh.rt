@@ -40,10 +40,8 @@ fn serve_scene<R: Read + Drop, W: Write + Drop>(
 ) -> Result<u64, EngineFault>
     ensures { IsServed (ServedScreen.Scene size) (R.remaining reader) (W.contents writer) result }
 {
-    match fresh_server(alloc, size) {
-        Ok(mut server) => serve_first_scene(alloc, size, &mut server, reader, writer),
-        Err(_) => Err(EngineFault::NoMemory),
-    }
+    let mut server = fresh_server(alloc, size)?;
+    serve_first_scene(alloc, size, &mut server, reader, writer)
 }
 
 // The same on a server that was fed nothing.
@@ -57,10 +55,8 @@ fn serve_first_scene<R: Read + Drop, W: Write + Drop>(
     requires fresh { IsFreshServer size server.old }
     ensures { IsServed (ServedScreen.Scene size) (R.remaining reader) (W.contents writer) result }
 {
-    match TestScene::new(alloc, server) {
-        Ok(mut scene) => serve_shown(alloc, server, &mut scene, reader, writer),
-        Err(_) => Err(EngineFault::NoMemory),
-    }
+    let mut scene = TestScene::new(alloc, server)?;
+    serve_shown(alloc, server, &mut scene, reader, writer)
 }
 
 // Serves them with a picture.
@@ -77,10 +73,8 @@ fn serve_picture<R: Read + Drop, W: Write + Drop>(
         width: pixmap.width,
         height: pixmap.height,
     };
-    match fresh_server(alloc, size) {
-        Ok(mut server) => serve_first_picture(alloc, size, pixmap, &mut server, reader, writer),
-        Err(_) => Err(EngineFault::NoMemory),
-    }
+    let mut server = fresh_server(alloc, size)?;
+    serve_first_picture(alloc, size, pixmap, &mut server, reader, writer)
 }
 
 // The same on a server that was fed nothing.

@@ -98,13 +98,11 @@ pub fn serve_options_in<'a>(given: &ArgMatches<'a>) -> Result<ServeOptions<'a>, 
     ensures { MatchResult result (GivesServeOptions (rows_of (found_of given.now)))
         (λ _. HasBadServe (rows_of (found_of given.now))) }
 {
-    let screen = screen_in(given)?;
-    let connections = connections_in(given)?;
     Ok(ServeOptions {
+        screen: screen_in(given)?,
+        connections: connections_in(given)?,
         port: number_in(given, "port", 1, u16::MAX),
         listen: listen_in(given),
-        screen,
-        connections,
         timeout: number_given(given, "timeout"),
     })
 }

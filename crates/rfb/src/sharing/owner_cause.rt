@@ -5,18 +5,13 @@ mod owner_form;
 use crate::script::cause::form::form_of;
 use crate::script::cause::kind::why_not_form;
 use crate::script::cause::reason::Reason;
-use crate::script::cause::{FIRST, LATE_SCREEN, NO_SCREEN, first_words, why_not_words};
+use crate::script::cause::{FIRST, LATE_SCREEN, first_words, why_not_words};
 use crate::sharing::owner_cause::owner_form::OF_OWNER;
 use rfb_picture::Rect;
 use rfb_session::owner::{Beginning, LINE_MAX, OwnerLine, SCREEN, data_length, read_owner_line};
 
 // What is wrong with a line of more than `LINE_MAX` bytes.
 const LONG: &str = " has more than 96 bytes";
-
-/// Why the line after the last one is bad, where none says how large the screen is.
-pub fn no_screen() -> Reason<'static> {
-    Reason::Said(NO_SCREEN)
-}
 
 /// Why a line is bad. There is a screen, of this width and height, once a line has said so.
 pub fn why_bad<'a>(said: &'a Beginning, screen: Option<(u16, u16)>) -> Reason<'a> {

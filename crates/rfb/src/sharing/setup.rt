@@ -28,10 +28,7 @@ pub fn setup_of<'a>(options: &ShareOptions<'a>) -> ConsoleSetup<'a>
             always_shared: options.is_always_shared,
             view_only: options.is_view_only,
             handshake: millis(options.handshake),
-            timeout: match options.timeout {
-                Some(seconds) => Some(millis(seconds)),
-                None => None,
-            },
+            timeout: options.timeout.map(millis),
             hold: millis(options.hold),
         },
     }

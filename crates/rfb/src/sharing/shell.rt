@@ -6,7 +6,7 @@ mod pace;
 use crate::sharing::ready::Ready;
 use crate::sharing::standard::{Blocking, ERRORS, INPUT, OUTPUT, Streams};
 use mio::unix::SourceFd;
-use mio::{Events, Interest, Poll, Registry, Token};
+use mio::{Events, Interest, Poll, Token};
 use rfb_session::console::{DOORS, LINES, NOTES, OWNER};
 use std::alloc::Global;
 use std::io;
@@ -41,7 +41,9 @@ pub struct Shell<'a, L, C> {
     time: u64,
     poll: Poll,
     events: Events<Global>,
-    ready: Ready,
+    // What is worth a read, and what a write.
+    reads: Ready,
+    writes: Ready,
     input: Blocking,
     output: Blocking,
     errors: Blocking,
@@ -67,18 +69,19 @@ impl<'a, L: AsRawFd + Drop, C: Net + Clock> Shell<'a, L, C> {
         let input = Blocking::at(OWNER, INPUT, reads, streams.input, registry);
         let output = Blocking::at(LINES, OUTPUT, writes, streams.output, registry);
         let errors = Blocking::at(NOTES, ERRORS, writes, streams.errors, registry);
-        register(registry, listener.as_raw_fd(), LISTENER, reads)?;
-        let mut ready = Ready::new();
-        ready.note_reads(OWNER, input.is_constant());
-        ready.note_writes(LINES, output.is_constant());
-        ready.note_writes(NOTES, errors.is_constant());
+        registry.register(&mut SourceFd(&listener.as_raw_fd()), LISTENER, reads)?;
+        let (mut reads, mut writes) = (Ready::none(), Ready::none());
+        reads.note(OWNER, input.is_constant());
+        writes.note(LINES, output.is_constant());
+        writes.note(NOTES, errors.is_constant());
         Ok(Shell {
             clock: rt,
             start: Instant::now(rt)?,
             time: 0,
             poll,
             events: Events::with_capacity(alloc, SOURCES)?,
-            ready,
+            reads,
+            writes,
             input,
             output,
             errors,
@@ -88,9 +91,4 @@ impl<'a, L: AsRawFd + Drop, C: Net + Clock> Shell<'a, L, C> {
             is_stirred: false,
         })
     }
-}
-
-// From now on a descriptor is among the sources.
-fn register(registry: &Registry, fd: RawFd, token: Token, interest: Interest) -> io::Result<()> {
-    registry.register(&mut SourceFd(&fd), token, interest)
 }

@@ -38,8 +38,7 @@ pub fn open_streams() -> Streams {
 /// others may write there too, so one that was ready need not be any more.
 pub fn takes_more(fd: RawFd) -> bool {
     let mut asked = [asked_of(fd, POLLOUT)];
-    let count = poll(&mut asked, 0);
-    count != 0
+    poll(&mut asked, 0) != 0
 }
 
 // What is asked of a descriptor, beside whether it is open.

@@ -18,8 +18,9 @@ use Rattle.rfb_session.specs.owner.Reader.{Feeds, ClosesFrom, IsFreshReader}
 use Rattle.rfb_session.specs.owner.Telling.{leave_line}
 use Rattle.rfb_session.specs.Share.{waits_at}
 use Rattle.rfb_session.specs.console.Desk.{guest_at, lines_of, is_over}
-use Rattle.rfb_session.specs.console.Steps.{HearsAt, LetsGo, LetsGoFor, Admits, TurnsAs, IsFreshDesk, DrawsAs, HoldsAs, ShowsAs}
-use Rattle.rfb_session.specs.console.Steps.{WritesLines, WritesSeat}
+use Rattle.rfb_session.specs.console.Viewers.{HearsAt, LetsGo, LetsGoFor, Admits}
+use Rattle.rfb_session.specs.console.Turns.{TurnsAs, IsFreshDesk, DrawsAs, HoldsAs, ShowsAs}
+use Rattle.rfb_session.specs.console.Turns.{WritesLines, WritesSeat}
 
 -- ---- doors
 
@@ -100,12 +101,12 @@ ObeysSome name rules (Some order) old ended new ends = Obeys name rules order ol
 
 -- ---- doors
 
--- one thing at the owner's door, one at a seat's, and others at those of lines and of notes
-pub record ByDoor (door : ℕ) (owner : Type 0) (seat : ℕ → Type 0) (lines notes : Type 0) : Type 0 where
+-- one thing at the owner's door, one at a seat's, another at that of lines, and one at any other
+pub record ByDoor (door : ℕ) (owner : Type 0) (seat : ℕ → Type 0) (lines other : Type 0) : Type 0 where
   pub at_owner : door ≡ 0 → owner
   pub at_seat : (k : ℕ) → k < 8 → door ≡ k + 1 → seat k
   pub at_lines : door ≡ 9 → lines
-  pub at_notes : door ≡ 10 → notes
+  pub at_other : 9 < door → other
 
 module _ {S : Type 0} where
   abbrev pub waiting_at : Console S → ℕ → List ℕ
@@ -136,16 +137,22 @@ module _ {S : Type 0} where
     pub reader : new.reader ≡ old.reader
     pub input : new.has_input_ended ≡ old.has_input_ended
 
-  -- nothing is done at the desk
-  abbrev pub KeepsDesk : Console S → Console S → Type 0
-  KeepsDesk old new = new.desk ≡ old.desk
+  -- nothing is done at the desk, and nothing at the owner's side
+  pub record KeepsDesk (old new : Console S) : Type 0 where
+    pub desk : new.desk ≡ old.desk
+    pub owner : KeepsOwner old new
+
+  -- what it was made with is as it was, and if all had ended before it stays so
+  pub record Stays (old new : Console S) : Type 0 where
+    pub rules : new.rules ≡ old.rules
+    pub name : new.name ≡ old.name
+    pub ended : old.outcome ≢ None → new.outcome ≢ None
 
   -- all but the desk and the outcome, notes and how many lines came, is as it was
   pub record KeepsSide (old new : Console S) : Type 0 where
     pub owner : KeepsOwner old new
     pub rooms : new.rooms ≡ old.rooms
-    pub rules : new.rules ≡ old.rules
-    pub name : new.name ≡ old.name
+    pub stays : Stays old new
 
   -- nothing but how much is taken at each door
   pub record KeepsButRooms (old new : Console S) : Type 0 where
@@ -153,11 +160,13 @@ module _ {S : Type 0} where
     pub outcome : new.outcome ≡ old.outcome
     pub owner : KeepsOwner old new
     pub next : new.next ≡ old.next
+    pub stays : Stays old new
 
   -- nothing but notes has changed
   pub record KeepsButNotes (old new : Console S) : Type 0 where
     pub desk : new.desk ≡ old.desk
     pub outcome : new.outcome ≡ old.outcome
+    pub next : new.next ≡ old.next
     pub side : KeepsSide old new
 
   -- ---- what happens
@@ -165,6 +174,11 @@ module _ {S : Type 0} where
   -- a call of the desk, and nothing at the owner's side
   pub record DoesOnDesk (does : Desk → Desk → Type 0) (old new : Console S) : Type 0 where
     pub desk : OnDesk does old.desk old.outcome new.desk new.outcome
+    pub owner : KeepsOwner old new
+
+  -- the same, also once all has ended
+  pub record DoesAlways (does : Desk → Desk → Type 0) (old new : Console S) : Type 0 where
+    pub desk : OnDesk does old.desk None new.desk None
     pub owner : KeepsOwner old new
 
   -- bytes came at a seat, of which so many were taken
@@ -187,6 +201,10 @@ module _ {S : Type 0} where
   abbrev pub TurnsDesk : Console S → ℕ → Console S → Type 0
   TurnsDesk old now new = DoesOnDesk (λ a b. (slow stuck : ℕ) × TurnsAs a now slow stuck b) old new
 
+  -- unless all has ended, the next one is wanted when the desk wants it
+  abbrev pub NamesNext : Console S → Type 0
+  NamesNext new = new.outcome ≡ None → (desk : Desk) → new.desk ≡ Some desk → new.next ≡ desk.next
+
   -- ---- what the owner says
 
   -- an order of the owner's is obeyed, as far as it can be
@@ -202,7 +220,8 @@ module _ {S : Type 0} where
 
   -- no more of them come: what came after the last newline is obeyed as a line, once
   pub data EndsOwner (old new : Console S) : Type 0 where
-    EndedBefore : new.desk ≡ old.desk → new.reader ≡ old.reader → EndsOwner old new
+    EndedBefore : (old.has_input_ended ≡ true) ⊎ (old.outcome ≢ None) → new.desk ≡ old.desk →
+        new.reader ≡ old.reader → EndsOwner old new
     EndsNow : (order : Option Order) → ClosesFrom old.reader.screen old.reader.stage order new.reader →
         (ends : Option Outcome) → ObeysSome old.name.items old.rules order old.desk old.outcome new.desk ends →
         (ends ≢ None → new.outcome ≡ ends) → new.has_input_ended ≡ true → EndsOwner old new
@@ -212,22 +231,37 @@ module _ {S : Type 0} where
   -- its owner is not heard any more, and what came of a line is passed over
   pub record LosesOwner (old new : Console S) : Type 0 where
     pub desk : new.desk ≡ old.desk
+    pub reader : new.reader ≡ old.reader
     pub input : new.has_input_ended ≡ true
 
-  abbrev pub Steps : Console S → Event → Console S → Type 0
-  Steps old (Received door bytes) new =
+  abbrev pub Does : Console S → Event → Console S → Type 0
+  Does old (Received door bytes) new =
       ByDoor door (HearsOwner old bytes new) (λ k. HearsSeat old k bytes new)
       (KeepsDesk old new) (KeepsDesk old new)
-  Steps old (Ended door) new =
+  Does old (Ended door) new =
       ByDoor door (EndsOwner old new) (λ k. LeavesSeat old k new) (KeepsDesk old new) (KeepsDesk old new)
-  Steps old (Failed door) new =
+  Does old (Failed door) new =
       ByDoor door (LosesOwner old new) (λ k. LosesSeat old k new)
       (KeepsDesk old new × (new.outcome ≡ Some Device)) (KeepsDesk old new)
-  Steps old (Wrote door bytes) new =
+  Does old (Wrote door bytes) new =
       ByDoor door (KeepsDesk old new)
-      (λ k. DoesOnDesk (λ a b. WritesSeat a k (length bytes) b) old new)
-      (DoesOnDesk (λ a b. WritesLines a (length bytes) b) old new) (KeepsDesk old new)
-  Steps old (Turned now) new = TurnsDesk old now new
+      (λ k. DoesAlways (λ a b. WritesSeat a k (length bytes) b) old new)
+      (DoesAlways (λ a b. WritesLines a (length bytes) b) old new) (KeepsDesk old new)
+  Does old (Turned now) new = TurnsDesk old now new × NamesNext new
+
+  -- bytes that left are those that waited first
+  abbrev pub Left : Console S → Event → Type 0
+  Left old (Received door bytes) = Unit {0}
+  Left old (Ended door) = Unit {0}
+  Left old (Failed door) = Unit {0}
+  Left old (Wrote door bytes) = bytes ≡ take (length bytes) (waiting_at old door)
+  Left old (Turned now) = Unit {0}
+
+  -- so it is at each event
+  pub record Steps (old : Console S) (event : Event) (new : Console S) : Type 0 where
+    pub does : Does old event new
+    pub left : Left old event
+    pub stays : Stays old new
 
   -- ---- who comes
 
@@ -242,10 +276,15 @@ module _ {S : Type 0} where
     pub left : Option ℕ
     pub admits : Admits was from (Some seat) left now
     pub owner : KeepsOwner old new
+    pub stays : Stays old new
 
   -- it has none: there is no screen yet, or none is free, which is told; or memory for that was wanting
-  pub data DeclinesAs (old : Console S) (from : List ℕ) (new : Console S) : Type 0 where
-    NotYet : KeepsDesk old new → KeepsOwner old new → DeclinesAs old from new
+  pub data Declines (old : Console S) (from : List ℕ) (new : Console S) : Type 0 where
+    NotYet : KeepsDesk old new → Declines old from new
     IsFull : (was now : Desk) → old.desk ≡ Some was → new.desk ≡ Some now → (left : Option ℕ) →
-        Admits was from None left now → KeepsOwner old new → DeclinesAs old from new
-    WantsMemory : new.outcome ≡ Some NoMemory → DeclinesAs old from new
+        Admits was from None left now → KeepsOwner old new → Declines old from new
+    WantsMemory : new.outcome ≡ Some NoMemory → Declines old from new
+
+  pub record DeclinesAs (old : Console S) (from : List ℕ) (new : Console S) : Type 0 where
+    pub declines : Declines old from new
+    pub stays : Stays old new

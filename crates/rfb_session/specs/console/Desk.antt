@@ -1,11 +1,12 @@
 -- What a desk has: its share, the lines that wait for the owner, and what is known of each viewer.
-use Rattle.std.specs.Prelude.{◌≡◌, ℕ, Bool, true, false, ◌&&◌, not, nat_eq, List, [], ◌++◌, Option, None, slice_index_or}
+use Rattle.std.specs.Prelude.{◌≡◌, ◌+◌, ℕ, zero, suc, Bool, true, false, ◌&&◌, not, nat_eq, List}
+use Rattle.std.specs.Prelude.{None}
+use Rattle.std.specs.Prelude.{slice_index_or, cond}
 use Rattle.rfb_picture.specs.Places.{has_bit}
 use Rattle.rfb_session.specs.declared.console.desk.Desk.{Desk}
 use Rattle.rfb_session.specs.declared.console.guest.Guest.{Guest}
 use Rattle.rfb_session.specs.declared.console.guest.Progress.{Progress}
 use Rattle.rfb_session.specs.declared.console.guest.Progress.TheVariants.{Absent, Shaking, Ready, Failing}
-use Rattle.rfb_session.specs.declared.share.Share.{Share}
 
 -- there is no viewer
 abbrev pub nobody : Guest
@@ -34,6 +35,28 @@ gives_way Absent = false
 gives_way Shaking = true
 gives_way Ready = false
 gives_way Failing = true
+
+-- it has failed
+abbrev pub is_failing : Progress → Bool
+is_failing Absent = false
+is_failing Shaking = false
+is_failing Ready = false
+is_failing Failing = true
+
+-- there is a viewer
+abbrev pub is_here : Progress → Bool
+is_here Absent = false
+is_here Shaking = true
+is_here Ready = true
+is_here Failing = true
+
+-- how many there are at the first `count` seats, and at all
+abbrev pub seated_in : Desk → ℕ → ℕ
+seated_in desk zero = 0
+seated_in desk (suc count) = seated_in desk count + cond (is_here (guest_at desk count).progress) 1 0
+
+abbrev pub seated : Desk → ℕ
+seated desk = seated_in desk 8
 
 -- of the seats of a set it is told that their viewers go, but of those that were told to have failed
 abbrev pub tells_in : Desk → ℕ → ℕ → Bool

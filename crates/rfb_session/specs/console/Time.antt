@@ -1,5 +1,5 @@
 -- What time does to a viewer.
-use Rattle.std.specs.Prelude.{ℕ, ◌-◌, nat_le, Bool, true, false, cond, List, [], ◌∷◌, Option, Some, None}
+use Rattle.std.specs.Prelude.{ℕ, ◌+◌, ◌-◌, ◌≤◌, ◌<◌, nat_le, Bool, true, false, cond, List, [], ◌∷◌, Option, Some, None}
 use Rattle.rfb_session.specs.declared.console.guest.Guest.{Guest}
 use Rattle.rfb_session.specs.declared.console.plan.Rules.{Rules}
 use Rattle.rfb_session.specs.console.Desk.{gives_way}
@@ -37,3 +37,25 @@ is_stuck rules now guest = lasts rules.timeout now guest.idle
 abbrev pub waits_for : List ℕ → Bool
 waits_for [] = false
 waits_for (byte ∷ bytes) = true
+
+-- ---- times to wake
+
+-- something is wanted at that time or before
+abbrev pub IsBy : ℕ → Option ℕ → Type 0
+IsBy limit None = ⊥
+IsBy limit (Some time) = time ≤ limit
+
+-- the same of the time at which what began then, if it did, has lasted so long
+abbrev pub IsByEnd : ℕ → Option ℕ → Option ℕ → Type 0
+IsByEnd limit None next = Unit {0}
+IsByEnd limit (Some since) next = IsBy (since + limit) next
+
+-- and where there is a limit at all
+abbrev pub IsByLimit : Option ℕ → Option ℕ → Option ℕ → Type 0
+IsByLimit None since next = Unit {0}
+IsByLimit (Some limit) since next = IsByEnd limit since next
+
+-- a time comes before it is wanted
+abbrev pub IsBefore : ℕ → Option ℕ → Type 0
+IsBefore time None = Unit {0}
+IsBefore time (Some next) = time < next

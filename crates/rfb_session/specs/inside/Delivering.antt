@@ -1,18 +1,32 @@
 -- Bytes that are delivered on a link.
-use Rattle.std.specs.Prelude.{◌≡◌, ◌≢◌, ℕ, Bool, List, ◌++◌, take, drop, None}
+use Rattle.std.specs.Prelude.{◌≡◌, ◌≢◌, ℕ, Bool, List, ◌++◌, take, drop, None, Some}
+use Rattle.rfb_server.specs.declared.fault.ServerFault.{ServerFault}
+use Rattle.rfb_server.specs.declared.fault.ServerFault.TheVariants.{NoMemory as ServerWants}
 use Rattle.rfb_server.specs.declared.session.Session.{Session}
 use Rattle.rfb_server.specs.Standing.{session_fault}
+use Rattle.rfb_viewer.specs.declared.fault.ViewerFault.{ViewerFault}
+use Rattle.rfb_viewer.specs.declared.fault.ViewerFault.TheVariants.{NoMemory as ViewerWants}
 use Rattle.rfb_viewer.specs.declared.viewer.Viewer.{Viewer}
 use Rattle.rfb_viewer.specs.Standing.{fault_of}
 use Rattle.rfb_session.specs.declared.link.Link.{Link}
 use Rattle.rfb_session.specs.Link.{Ends, LinkState}
 use Rattle.rfb_session.specs.LinkSteps.{MovesToViewer, MovesToServer}
-use Rattle.rfb_session.specs.LinkStanding.{LinkStandsFor}
+use Rattle.rfb_session.specs.LinkStanding.{LinkStandsFor, server_fault_of, viewer_fault_of}
 use Rattle.rfb_session.specs.LinkBytes.{HearsOver, IsSole, SessionEndsBy, ViewerEndsBy}
 use Rattle.rfb_session.specs.InFlight.{AreMade}
 use Rattle.rfb_session.specs.Network.{Network, IsReached}
 use Rattle.rfb_session.specs.EngineRun.{TakesNone}
 use Rattle.rfb_session.specs.Watching.{ViewerFeeds}
+
+-- this holds where the viewer has failed, and not for want of memory
+abbrev pub IfViewerEnded : Link → Type 0 → Type 0
+IfViewerEnded link Holds =
+    (fault : ViewerFault) → viewer_fault_of link ≡ Some fault → fault ≢ ViewerWants → Holds
+
+-- the same of the session
+abbrev pub IfSessionEnded : Link → Type 0 → Type 0
+IfSessionEnded link Holds =
+    (fault : ServerFault) → server_fault_of link ≡ Some fault → fault ≢ ServerWants → Holds
 
 -- `count` bytes reach the viewer
 abbrev pub DeliversToViewer : Link → ℕ → Link → Type 0

@@ -51,7 +51,8 @@ impl Desk {
     ghost use Rattle.rfb_server.specs.Drawing.{stroke};
     ghost use Rattle.rfb_session.specs.Share.{waits_at};
     ghost use Rattle.rfb_session.specs.console.Desk.{lines_of, guest_at, is_over};
-    ghost use Rattle.rfb_session.specs.console.Steps.{IsFreshDesk, DrawsAs, HoldsAs, ShowsAs, WritesLines, WritesSeat, ForgetsTold};
+    ghost use Rattle.rfb_session.specs.console.Turns.{IsFreshDesk, DrawsAs, HoldsAs, ShowsAs};
+    ghost use Rattle.rfb_session.specs.console.Turns.{WritesLines, WritesSeat, ForgetsTold};
 
     /// A desk with a black screen of this size, and no viewer.
     pub(crate) fn new(
@@ -125,20 +126,15 @@ impl Desk {
         ensures { WritesLines self.old count self.new }
     {
         self.lines.drain(..count);
-        if self.lines.is_empty() {
-            self.forget_told();
+        if !self.lines.is_empty() {
+            return;
         }
-    }
-
-    // No line waits that tells of a viewer.
-    fn forget_told(&mut self)
-        ensures { ForgetsTold self.old self.new }
-    {
         for place in 0..SLOTS {
             self.forget_told_at(place);
         }
     }
 
+    // No line waits that tells of a viewer.
     fn forget_told_at(&mut self, place: usize)
         requires { place < 8 }
         ensures { ForgetsTold self.old self.new }
@@ -191,7 +187,9 @@ impl Desk {
     }
 
     /// When it wants the next turn.
-    pub(crate) fn next(&self) -> Option<u64> {
+    pub(crate) fn next(&self) -> Option<u64>
+        ensures { result ≡ self.now.next }
+    {
         self.next
     }
 }

@@ -1,5 +1,8 @@
 //! What is known of a viewer beside its session.
 
+ghost use Rattle.std.specs.Prelude.{ℕ};
+ghost use Rattle.rfb_session.specs.console.Time.{IsBy};
+
 use crate::console::plan::Rules;
 
 /// How far a viewer has come.
@@ -29,8 +32,10 @@ pub(crate) struct Guest {
 
 impl Guest {
     ghost use Rattle.std.specs.Prelude.{◌≡◌};
-    ghost use Rattle.rfb_session.specs.console.Desk.{nobody, newcomer, gives_way};
+    ghost use Rattle.rfb_session.specs.console.Turns.{WakesFor};
+    ghost use Rattle.rfb_session.specs.console.Desk.{nobody, newcomer, gives_way, is_here};
     ghost use Rattle.rfb_session.specs.console.Time.{stamped, is_slow, is_stuck};
+    ghost use Rattle.rfb_session.specs.console.Time.{IsByEnd, IsByLimit};
 
     /// There is no viewer.
     pub(crate) fn none() -> Guest
@@ -59,6 +64,16 @@ impl Guest {
         ensures { result ≡ gives_way self.now.progress }
     {
         matches!(self.progress, Progress::Shaking | Progress::Failing)
+    }
+
+    /// Whether there is a viewer.
+    pub(crate) fn is_here(&self) -> bool
+        ensures { result ≡ is_here self.now.progress }
+    {
+        match self.progress {
+            Progress::Absent => false,
+            Progress::Shaking | Progress::Ready | Progress::Failing => true,
+        }
     }
 
     /// What has begun since the last turn begins now: a handshake, and bytes that wait.
@@ -103,21 +118,38 @@ impl Guest {
     }
 
     /// When its time is over, if nothing changes.
-    pub(crate) fn due(&self, rules: &Rules) -> Option<u64> {
-        let slow = match self.since {
+    pub(crate) fn due(&self, rules: &Rules) -> Option<u64>
+        ensures { WakesFor rules.now self.now result }
+    {
+        sooner(self.slow_at(rules), self.stuck_at(rules))
+    }
+
+    // When its handshake, or its failing, has lasted too long.
+    fn slow_at(&self, rules: &Rules) -> Option<u64>
+        ensures { IsByEnd rules.now.handshake self.now.since result }
+    {
+        match self.since {
             Some(since) => Some(since.saturating_add(rules.handshake)),
             None => None,
-        };
-        let stuck = match (self.idle, rules.timeout) {
+        }
+    }
+
+    // When bytes have waited for it for too long.
+    fn stuck_at(&self, rules: &Rules) -> Option<u64>
+        ensures { IsByLimit rules.now.timeout self.now.idle result }
+    {
+        match (self.idle, rules.timeout) {
             (Some(since), Some(limit)) => Some(since.saturating_add(limit)),
             _ => None,
-        };
-        sooner(slow, stuck)
+        }
     }
 }
 
 /// The sooner of two times, if there is one.
-pub(crate) fn sooner(one: Option<u64>, other: Option<u64>) -> Option<u64> {
+pub(crate) fn sooner(one: Option<u64>, other: Option<u64>) -> Option<u64>
+    ensures first { (limit : ℕ) → IsBy limit one → IsBy limit result }
+    ensures second { (limit : ℕ) → IsBy limit other → IsBy limit result }
+{
     match (one, other) {
         (Some(one), Some(other)) => Some(one.min(other)),
         (Some(time), None) | (None, Some(time)) => Some(time),

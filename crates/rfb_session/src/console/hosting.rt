@@ -30,7 +30,7 @@ impl<S: Speaker + Drop> Host for Console<S> {
             self.outcome = Some(Outcome::NoMemory);
             return None;
         };
-        self.note_gave_way(admission.left);
+        self.note_gave_way(admission.left, admission.seat);
         let door = admission.seat?.place() + 1;
         self.open_room(door, ROOM_OF_SEAT);
         Some(door)

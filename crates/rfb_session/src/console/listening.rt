@@ -2,8 +2,11 @@
 
 ghost use Rattle.std.specs.Prelude.{◌≡◌, ◌≢◌, ◌≤◌, ◌<◌, ◌+◌, length, take, None};
 ghost use Rattle.rfb_session.specs.doors.Events.{Received};
-ghost use Rattle.rfb_session.specs.console.Console.{Steps, space_at, KeepsSide, KeepsButRooms, KeepsButNotes, ObeysOrder};
-ghost use Rattle.rfb_session.specs.console.Console.{HearsOwner, EndsOwner, LosesOwner, HearsBytes, LeavesSeat, LosesSeat};
+ghost use Rattle.rfb_session.specs.console.Console.{Does, space_at, KeepsSide, KeepsButRooms};
+ghost use Rattle.rfb_session.specs.console.Console.{KeepsButNotes};
+ghost use Rattle.rfb_session.specs.console.Console.{ObeysOrder, Stays};
+ghost use Rattle.rfb_session.specs.console.Console.{HearsOwner, EndsOwner, LosesOwner, HearsBytes};
+ghost use Rattle.rfb_session.specs.console.Console.{LeavesSeat, LosesSeat};
 
 use crate::console::entrances::seat_at;
 use crate::console::speaker::{Speaker, Why};
@@ -26,6 +29,7 @@ impl<S: Speaker + Drop> Console<S> {
         ensures used { (0 < result) × (result ≤ length bytes.now) }
         ensures hears { HearsOwner self.old (take result bytes.now) self.new }
         ensures rooms { self.new.rooms ≡ self.old.rooms }
+        ensures stays { Stays self.old self.new }
     {
         if self.outcome.is_some() {
             return bytes.len();
@@ -41,7 +45,8 @@ impl<S: Speaker + Drop> Console<S> {
     /// No more of them come: the last line may lack its newline. Where there is no screen then, all
     /// ends.
     pub(crate) fn end_owner(&mut self)
-        ensures { EndsOwner self.old self.new }
+        ensures ends { EndsOwner self.old self.new }
+        ensures stays { Stays self.old self.new }
     {
         if self.has_input_ended {
             return;
@@ -73,7 +78,8 @@ impl<S: Speaker + Drop> Console<S> {
 
     /// They can't be read any more. What came of a line is passed over.
     pub(crate) fn lose_owner(&mut self)
-        ensures { LosesOwner self.old self.new }
+        ensures loses { LosesOwner self.old self.new }
+        ensures stays { Stays self.old self.new }
     {
         self.has_input_ended = true;
         self.end_without_screen();
@@ -151,8 +157,9 @@ impl<S: Speaker + Drop> Console<S> {
     pub(crate) fn hear_at(&mut self, door: usize, bytes: &[u8]) -> usize
         requires some { 0 < length bytes.now }
         ensures used { (0 < result) × (result ≤ length bytes.now) }
-        ensures steps { Steps self.old (Received door (take result bytes.now)) self.new }
+        ensures does { Does self.old (Received door (take result bytes.now)) self.new }
         ensures rooms { self.new.rooms ≡ self.old.rooms }
+        ensures stays { Stays self.old self.new }
     {
         if door == OWNER {
             return self.hear_owner(bytes);

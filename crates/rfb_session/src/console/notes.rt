@@ -1,5 +1,6 @@
 //! Notes of a console: which of the owner's lines are bad, and sentences.
 
+ghost use Rattle.std.specs.Prelude.{◌≤◌, length};
 ghost use Rattle.rfb_session.specs.console.Console.{KeepsButNotes};
 
 use crate::console::Console;
@@ -9,8 +10,12 @@ use crate::owner::{Refusal, tell_refusal};
 use crate::seat::Seat;
 use crate::seats::Seats;
 
-// More notes than these are dropped: whoever reads them does not.
+// How many bytes of notes wait at most. What does not fit is dropped: whoever reads them does not.
 const NOTES_MOST: usize = 8 << 20;
+
+// Where more notes wait than these, sentences are. So viewers that come and go make the owner wait
+// for nobody.
+const SENTENCES_MOST: usize = 1 << 15;
 
 impl<S: Speaker + Drop> Console<S> {
     /// The last line of the owner's is not done: a sentence, and a line.
@@ -40,10 +45,14 @@ impl<S: Speaker + Drop> Console<S> {
         self.add_note(&note);
     }
 
-    /// The viewer at a seat is let go.
+    /// The viewer at a seat is let go. One that has failed was before, whatever ends it then.
     pub(crate) fn note_left(&mut self, seat: Seat, why: Why)
         ensures { KeepsButNotes self.old self.new }
     {
+        if self.parted.has(seat) {
+            return;
+        }
+        self.parted = self.parted.with(seat);
         let mut note = Note::new();
         let saying = Saying::Left {
             seat: seat.number(),
@@ -53,12 +62,15 @@ impl<S: Speaker + Drop> Console<S> {
         self.add_note(&note);
     }
 
-    /// Who gave way to a newcomer, if anybody did.
-    pub(crate) fn note_gave_way(&mut self, left: Option<Seat>)
+    /// Who gave way to a newcomer, if anybody did, and the seat that it takes.
+    pub(crate) fn note_gave_way(&mut self, left: Option<Seat>, taken: Option<Seat>)
         ensures { KeepsButNotes self.old self.new }
     {
         if let Some(seat) = left {
             self.note_left(seat, Why::Newcomer);
+        }
+        if let Some(seat) = taken {
+            self.parted = self.parted.without(seat);
         }
     }
 
@@ -93,27 +105,39 @@ impl<S: Speaker + Drop> Console<S> {
     fn add_note(&mut self, note: &Note)
         ensures { KeepsButNotes self.old self.new }
     {
-        if self.takes_notes() {
+        if self.takes_notes(SENTENCES_MOST) {
             let length = self.notes.len();
             if self.notes.extend_from_slice(note.as_bytes()).is_err() {
                 self.notes.truncate(length);
             }
+            trim(&mut self.notes, length);
         }
     }
 
     fn add_refusal(&mut self, why: Refusal)
         ensures { KeepsButNotes self.old self.new }
     {
-        if self.takes_notes() {
+        if self.takes_notes(NOTES_MOST) {
             let length = self.notes.len();
             if tell_refusal(&mut self.notes, self.count, why).is_err() {
                 self.notes.truncate(length);
                 self.are_notes_wanting = true;
             }
+            trim(&mut self.notes, length);
         }
     }
 
-    fn takes_notes(&self) -> bool {
-        !self.are_notes_lost && self.notes.len() < NOTES_MOST
+    fn takes_notes(&self, most: usize) -> bool {
+        !self.are_notes_lost && self.notes.len() < most
+    }
+}
+
+// Where too many bytes of notes wait there are only the first few again.
+fn trim(notes: &mut Vec<u8>, few: usize)
+    requires { few ≤ 8388608 }
+    ensures { length notes.new.items ≤ 8388608 }
+{
+    if notes.len() > NOTES_MOST {
+        notes.truncate(few);
     }
 }

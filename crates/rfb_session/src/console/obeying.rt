@@ -3,9 +3,11 @@
 ghost use Rattle.std.specs.Prelude.{◌≡◌, ◌⊎◌, ◌≤◌, Some, Bool};
 ghost use Rattle.rfb_server.specs.Drawing.{stroke};
 ghost use Rattle.rfb_session.specs.owner.Telling.{leave_line};
-ghost use Rattle.rfb_session.specs.console.Steps.{LetsGo, HoldsAs, ShowsAs};
+ghost use Rattle.rfb_session.specs.console.Viewers.{LetsGo};
+ghost use Rattle.rfb_session.specs.console.Turns.{HoldsAs, ShowsAs};
 ghost use Rattle.rfb_session.specs.declared.console.desk.Hold.TheVariants.{Begins};
-ghost use Rattle.rfb_session.specs.console.Console.{ObeysOrder, ObeysLine, OpensDesk, Draws, OnDesk};
+ghost use Rattle.rfb_session.specs.console.Console.{ObeysOrder, ObeysLine, OpensDesk, Draws};
+ghost use Rattle.rfb_session.specs.console.Console.{OnDesk};
 ghost use Rattle.rfb_session.specs.console.Console.{KeepsSide};
 
 use crate::console::desk::{Desk, Hold};

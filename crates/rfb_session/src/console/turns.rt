@@ -1,7 +1,9 @@
 //! The turns of a console.
 
-ghost use Rattle.std.specs.Prelude.{◌≡◌};
-ghost use Rattle.rfb_session.specs.console.Console.{TurnsDesk, KeepsSide, KeepsOwner, KeepsButRooms, KeepsButNotes};
+ghost use Rattle.std.specs.Prelude.{◌≡◌, None};
+ghost use Rattle.rfb_session.specs.console.Console.{TurnsDesk, NamesNext, Stays};
+ghost use Rattle.rfb_session.specs.console.Console.{KeepsSide, KeepsOwner, KeepsButRooms};
+ghost use Rattle.rfb_session.specs.console.Console.{KeepsButNotes};
 
 use crate::console::desk::turning::Late;
 use crate::console::entrances::seat_at;
@@ -20,6 +22,7 @@ impl<S: Speaker + Drop> Console<S> {
     /// The desk's turn, at this time.
     pub(crate) fn turn_desk(&mut self, now: u64)
         ensures turns { TurnsDesk self.old now self.new }
+        ensures next { NamesNext self.new }
         ensures side { KeepsSide self.old self.new }
     {
         if self.are_notes_wanting {
@@ -55,6 +58,7 @@ impl<S: Speaker + Drop> Console<S> {
     // All ends with the last viewer, if that is wanted.
     fn end_if_idle(&mut self)
         ensures desk { self.new.desk ≡ self.old.desk }
+        ensures next { self.new.next ≡ self.old.next }
         ensures side { KeepsSide self.old self.new }
     {
         let is_idle = match &self.desk {
@@ -71,6 +75,8 @@ impl<S: Speaker + Drop> Console<S> {
         ensures desk { self.new.desk ≡ self.old.desk }
         ensures outcome { self.new.outcome ≡ self.old.outcome }
         ensures owner { KeepsOwner self.old self.new }
+        ensures next { self.old.outcome ≡ None → self.new.next ≡ self.old.next }
+        ensures stays { Stays self.old self.new }
     {
         self.open_owner();
         self.open_seats();

@@ -39,6 +39,7 @@ pub struct Counted<S> {
 }
 
 impl<S> Counted<S> {
+    ghost use Rattle.rfb_session.specs.declared.doors.device.Answer.TheVariants as Answer;
     ghost use Rattle.rfb_session.specs.doors.Counting.{within, failures};
 
     /// Counts from here on.
@@ -50,6 +51,16 @@ impl<S> Counted<S> {
             inner,
             has_failed: false,
         }
+    }
+
+    // It has failed: nothing is read or written any more.
+    fn fail(&mut self) -> Answer
+        ensures answer { result ≡ Answer.Failed }
+        ensures inner { within self.new ≡ within self.old }
+        ensures failed { self.new.has_failed ≡ true }
+    {
+        self.has_failed = true;
+        Answer::Failed
     }
 
     /// Gives the duplex back.
@@ -81,10 +92,7 @@ impl<S: Duplex> Device for Counted<S> {
             Err(error) => match error.kind() {
                 ErrorKind::Interrupted => Answer::Again,
                 ErrorKind::WouldBlock => Answer::Waits,
-                _ => {
-                    self.has_failed = true;
-                    Answer::Failed
-                }
+                _ => self.fail(),
             },
         }
     }
@@ -94,18 +102,12 @@ impl<S: Duplex> Device for Counted<S> {
             return Answer::Waits;
         }
         match self.inner.write(buf) {
-            Ok(0) => {
-                self.has_failed = true;
-                Answer::Failed
-            }
+            Ok(0) => self.fail(),
             Ok(count) => Answer::Moved(count),
             Err(error) => match error.kind() {
                 ErrorKind::Interrupted => Answer::Again,
                 ErrorKind::WouldBlock => Answer::Waits,
-                _ => {
-                    self.has_failed = true;
-                    Answer::Failed
-                }
+                _ => self.fail(),
             },
         }
     }

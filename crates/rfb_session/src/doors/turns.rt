@@ -48,27 +48,17 @@ pub fn turn<C: Core, D: Device, K: Clock>(
     ensures once { TurnsOnce C.steps C.due D.unread D.written D.failed D.stands
         result core.old core.new doors.old doors.new }
 {
-    hear_all(core, doors, clock, part);
-    let next = core.turned(clock.now());
-    tell_all(core, doors, clock);
-    next
-}
-
-// Reads once at each door that is worth it.
-fn hear_all<C: Core, D: Device, K: Clock>(
-    core: &mut C,
-    doors: &mut [D],
-    clock: &mut K,
-    part: &mut [u8],
-)
-    ensures { Turns C.steps D.unread D.written D.failed D.stands
-        core.old core.new doors.old doors.new }
-{
     for door in 0..doors.len() {
         hear_at(core, doors, clock, part, door);
     }
+    let next = core.turned(clock.now());
+    for door in 0..doors.len() {
+        tell_at(core, doors, clock, door);
+    }
+    next
 }
 
+// Reads once at a door, if it is worth it.
 fn hear_at<C: Core, D: Device, K: Clock>(
     core: &mut C,
     doors: &mut [D],
@@ -86,16 +76,7 @@ fn hear_at<C: Core, D: Device, K: Clock>(
     }
 }
 
-// Writes once at each door that is worth it.
-fn tell_all<C: Core, D: Device, K: Clock>(core: &mut C, doors: &mut [D], clock: &mut K)
-    ensures { Turns C.steps D.unread D.written D.failed D.stands
-        core.old core.new doors.old doors.new }
-{
-    for door in 0..doors.len() {
-        tell_at(core, doors, clock, door);
-    }
-}
-
+// Writes once at a door, if it is worth it.
 fn tell_at<C: Core, D: Device, K: Clock>(core: &mut C, doors: &mut [D], clock: &mut K, door: usize)
     requires { door < length doors.old }
     ensures { Turns C.steps D.unread D.written D.failed D.stands

@@ -5,7 +5,7 @@ ghost use Rattle.std.specs.Io.{WritesAtMost};
 ghost use Rattle.std.specs.Io.KnownBytes.{WriteAppends};
 
 use crate::engine::device::Sink;
-use crate::engine::failure::is_failure;
+use crate::engine::failure::counted;
 use std::io;
 use std::io::Write;
 
@@ -41,11 +41,7 @@ impl<'a, W: Write> Sink for Lent<'a, W> {
     ghost reference = { λ s. Some s.writer.ghost_name };
 
     fn write(&mut self, buf: &[u8]) -> io::Result<usize> {
-        let result = self.writer.write(buf);
-        if is_failure(&result, buf) {
-            self.failures += 1;
-        }
-        result
+        counted(self.writer.write(buf), buf, &mut self.failures)
     }
 
     fn failures(&self) -> u64 {

@@ -5,7 +5,7 @@ ghost use Rattle.std.specs.Io.{ReadsAtMost, WritesAtMost};
 ghost use Rattle.std.specs.Io.KnownBytes.{ReadConsumes, WriteAppends};
 
 use crate::engine::device::{Sink, Source};
-use crate::engine::failure::is_failure;
+use crate::engine::failure::counted;
 use std::io;
 use std::io::{Read, Write};
 
@@ -61,11 +61,7 @@ impl<W: Write> Sink for Tally<W> {
     ghost reference = { λ t. None };
 
     fn write(&mut self, buf: &[u8]) -> io::Result<usize> {
-        let result = self.inner.write(buf);
-        if is_failure(&result, buf) {
-            self.failures += 1;
-        }
-        result
+        counted(self.inner.write(buf), buf, &mut self.failures)
     }
 
     fn failures(&self) -> u64 {

@@ -61,10 +61,7 @@ impl Hub {
         ensures { HubSteps self.old (Leave slot) result self.new }
     {
         let place = slot as usize;
-        if place >= SLOTS {
-            return told_refused(HubFault::NoSuchSlot);
-        }
-        if !empty(&mut self.slots[place]) {
+        if place >= SLOTS || !empty(&mut self.slots[place]) {
             return told_refused(HubFault::NoSuchSlot);
         }
         told_made()
@@ -78,10 +75,7 @@ impl Hub {
         ensures spared { NeedsNoMemory self.old (Foreign slot bytes.now) → IsOk result }
     {
         let place = slot as usize;
-        if place >= SLOTS {
-            return Ok(told_refused(HubFault::NoSuchSlot));
-        }
-        if !take_foreign(&mut self.slots[place], bytes)? {
+        if place >= SLOTS || !take_foreign(&mut self.slots[place], bytes)? {
             return Ok(told_refused(HubFault::NoSuchSlot));
         }
         Ok(told_made())

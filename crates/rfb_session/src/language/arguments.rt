@@ -53,8 +53,8 @@ pub fn read_only_slot(words: &[&[u8]]) -> Option<u8>
     ensures { MatchOption result ((slot : ℕ) → ¬ (IsSlotAlone (texts words.now) slot))
         (IsSlotAlone (texts words.now)) }
 {
-    let [slot] = words else {
-        return None;
-    };
-    read_slot(slot)
+    match words {
+        [slot] => read_slot(slot),
+        _ => None,
+    }
 }

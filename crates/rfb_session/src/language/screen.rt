@@ -2,6 +2,9 @@
 
 ghost use Rattle.std.specs.Prelude.{◌≤◌};
 
+/// The word that the line of the size begins with.
+pub const SCREEN: &[u8] = b"screen";
+
 /// The size of the screen in places, each side from 1 to 4,096.
 #[derive(Clone, Copy)]
 pub struct Screen {

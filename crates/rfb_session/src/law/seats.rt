@@ -1,12 +1,13 @@
 //! Laws of a share's seats: what they come to by all calls, with nothing to run.
 
-ghost use Rattle.std.specs.Prelude.{◌≡◌, ℕ, List, [], ◌++◌, take, Option, Some};
+ghost use Rattle.std.specs.Prelude.{◌≡◌, ◌≢◌, ℕ, List, [], ◌++◌, take, Option, Some};
 ghost use Rattle.rfb_server.specs.Server.{Serving};
 ghost use Rattle.rfb_session.specs.declared.share.Share.{Share};
 ghost use Rattle.rfb_session.specs.declared.share.event.Composing.{Composing};
 ghost use Rattle.rfb_server.specs.Drawing.{Stroke};
 ghost use Rattle.rfb_session.specs.declared.share.event.Heard.{Heard};
 ghost use Rattle.rfb_session.specs.declared.share.event.ShareFault.{ShareFault};
+ghost use Rattle.rfb_session.specs.declared.share.event.ShareFault.TheVariants.{NoMemory};
 ghost use Rattle.rfb_session.specs.Share.{seat_in, screen_of, serving_in, waits_at};
 ghost use Rattle.rfb_session.specs.ShareLives.{LivesAt};
 ghost use Rattle.rfb_session.specs.ShareSteps.{JoinsAs, DrawsOn, ReceivesAs, RefusesAs};
@@ -27,8 +28,11 @@ pub fn a_seat_lives_as_its_calls_say()
         LivesAt serving old k heard taken →
         LivesAt serving new k (heard ++ take told.used bytes) taken }
     ensures refused { (serving : Serving) (old new : Share) (k : ℕ) (bytes : List ℕ)
-        (fault : ShareFault) (heard taken : List ℕ) → RefusesAs old k bytes fault new →
+        (fault : ShareFault) (heard taken : List ℕ) → fault ≢ NoMemory →
+        RefusesAs old k bytes fault new →
         LivesAt serving old k heard taken → LivesAt serving new k (heard ++ bytes) taken }
+    ensures emptied { (old new : Share) (k : ℕ) (bytes : List ℕ) →
+        RefusesAs old k bytes NoMemory new → seat_in new k ≡ None }
     ensures written { (serving : Serving) (old new : Share) (k count : ℕ)
         (heard taken : List ℕ) → WritesAs old k count new → LivesAt serving old k heard taken →
         LivesAt serving new k heard (taken ++ take count (waits_at old k)) }

@@ -7,7 +7,7 @@ ghost use Rattle.rfb_session.specs.Told.{refused_as};
 use crate::link::Link;
 use crate::told::{NoMemory, Refused, Told};
 use arrayvec::ArrayVec;
-use rfb_viewer::{AppendFault, Call, CallFault};
+use rfb_viewer::{AppendFault, Call};
 use rfb_wire::Encoding;
 
 impl Link {
@@ -30,7 +30,7 @@ impl Link {
     {
         match self.to_server.send_call(&mut self.viewer, call) {
             Ok(()) => Ok(Told::taken()),
-            Err(AppendFault::Refused(fault)) => Ok(Told::of_refusal(refusal_of(fault))),
+            Err(AppendFault::Refused(fault)) => Ok(Told::of_refusal(Refused::from(fault))),
             Err(AppendFault::NoMemory) => Err(NoMemory),
         }
     }
@@ -44,16 +44,5 @@ pub(crate) fn copy_of(encodings: &ArrayVec<Encoding, 4>) -> ArrayVec<Encoding, 4
     match copy.try_extend_from_slice(encodings.as_slice()) {
         Ok(()) => copy,
         Err(_) => unreachable!(),
-    }
-}
-
-// The refusal of a call, as a step reports it.
-fn refusal_of(fault: CallFault) -> Refused
-    ensures { Some result ≡ refused_as (Some fault) }
-{
-    match fault {
-        CallFault::NotReady => Refused::NotReady,
-        CallFault::Busy => Refused::Busy,
-        CallFault::AreaOutside => Refused::AreaOutside,
     }
 }

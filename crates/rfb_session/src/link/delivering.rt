@@ -29,6 +29,7 @@ impl Link {
     ghost use Rattle.rfb_session.specs.inside.Delivering.{DeliversToViewer, DeliversToServer};
     ghost use Rattle.rfb_session.specs.inside.Delivering.{HasHeard, EndsHearing};
     ghost use Rattle.rfb_session.specs.inside.Delivering.{HasWatched, EndsWatching};
+    ghost use Rattle.rfb_session.specs.inside.Delivering.{IfSessionEnded, IfViewerEnded};
 
     /// Bytes reach the session, at most `count`, or all that are in flight to it. Its answers are
     /// in flight then. One that has failed takes them to no effect. Memory can be wanting for
@@ -87,8 +88,7 @@ impl Link {
         ensures delivered { OnOk result (DeliversToViewer self.old count self.new) }
         ensures lost { (fault : ViewerFault) → viewer_fault_of self.old ≡ Some fault →
             OnOk result (LosesToViewer self.old count self.new) }
-        ensures dropped { (fault : ViewerFault) → viewer_fault_of self.old ≡ Some fault →
-            fault ≢ ViewerWants → IsOk result }
+        ensures dropped { IfViewerEnded self.old (IsOk result) }
         ensures none { count ≡ 0 → IsOk result }
         ensures session { session_of_link self.new ≡ session_of_link self.old }
     {
@@ -111,8 +111,7 @@ impl Link {
         ensures delivered { IfOk result (λ used. DeliversToViewer self.old used self.new) }
         ensures lost { (fault : ViewerFault) → viewer_fault_of self.old ≡ Some fault →
             IfOk result (λ used. LosesToViewer self.old used self.new) }
-        ensures dropped { (fault : ViewerFault) → viewer_fault_of self.old ≡ Some fault →
-            fault ≢ ViewerWants → IsOk result }
+        ensures dropped { IfViewerEnded self.old (IsOk result) }
         ensures session { session_of_link self.new ≡ session_of_link self.old }
     {
         match self.viewer.feed(self.to_viewer.first(count)) {
@@ -140,8 +139,7 @@ impl Link {
         ensures delivered { OnOk result (DeliversToServer self.old count self.new) }
         ensures lost { (fault : ServerFault) → server_fault_of self.old ≡ Some fault →
             OnOk result (LosesToServer self.old count self.new) }
-        ensures dropped { (fault : ServerFault) → server_fault_of self.old ≡ Some fault →
-            fault ≢ ServerWants → IsOk result }
+        ensures dropped { IfSessionEnded self.old (IsOk result) }
         ensures none { count ≡ 0 → IsOk result }
         ensures follows { FollowsStill self.old self.new }
         ensures hints { hints_in (session_of_link self.new) ≡ hints_in (session_of_link self.old) }
@@ -168,8 +166,7 @@ impl Link {
         ensures delivered { IfOk result (λ fed. DeliversToServer self.old fed.0 self.new) }
         ensures lost { (fault : ServerFault) → server_fault_of self.old ≡ Some fault →
             IfOk result (λ fed. LosesToServer self.old fed.0 self.new) }
-        ensures dropped { (fault : ServerFault) → server_fault_of self.old ≡ Some fault →
-            fault ≢ ServerWants → IsOk result }
+        ensures dropped { IfSessionEnded self.old (IsOk result) }
         ensures follows { FollowsStill self.old self.new }
         ensures hints { hints_in (session_of_link self.new) ≡ hints_in (session_of_link self.old) }
     {

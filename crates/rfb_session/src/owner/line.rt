@@ -7,19 +7,10 @@ ghost use Rattle.rfb_session.specs.owner.Lines.{ArePlaces, AreScroll, IsShift, I
 ghost use Rattle.rfb_session.specs.declared.owner.order.OwnerLine.{OwnerLine};
 
 use crate::language::{
-    parted, read_fill, read_move, read_number, read_only_slot, read_rect, read_size,
+    DrawingLine, SCREEN, parted, read_drawing, read_number, read_only_slot, read_rect, read_size,
 };
 use crate::owner::order::OwnerLine;
 use rfb_picture::Rect;
-
-/// The word that the first line begins with.
-pub const SCREEN: &[u8] = b"screen";
-
-const FILL: &[u8] = b"fill";
-
-const COPY: &[u8] = b"copy";
-
-const HINT: &[u8] = b"hint";
 
 // The words that no line of a script begins with.
 pub const SCROLL: &[u8] = b"scroll";
@@ -87,18 +78,6 @@ fn drawing_of(keyword: &[u8], rest: &[&[u8]]) -> Option<OwnerLine>
     ensures { MatchOption result (SaysNoOwner (keyword.now ∷ texts rest.now))
         (SaysOwner (keyword.now ∷ texts rest.now)) }
 {
-    if keyword == FILL {
-        let (rect, colour) = read_fill(rest)?;
-        return Some(OwnerLine::Fill(rect, colour));
-    }
-    if keyword == COPY {
-        let (rect, sx, sy) = read_move(rest)?;
-        return Some(OwnerLine::Copy(rect, sx, sy));
-    }
-    if keyword == HINT {
-        let (rect, sx, sy) = read_move(rest)?;
-        return Some(OwnerLine::Hint(rect, sx, sy));
-    }
     if keyword == SCROLL {
         let (rect, dx, dy) = read_scroll(rest)?;
         return Some(OwnerLine::Scroll(rect, dx, dy));
@@ -106,7 +85,11 @@ fn drawing_of(keyword: &[u8], rest: &[&[u8]]) -> Option<OwnerLine>
     if keyword == PIXELS {
         return Some(OwnerLine::Pixels(read_places(rest)?));
     }
-    None
+    match read_drawing(keyword, rest)? {
+        DrawingLine::Fill(rect, colour) => Some(OwnerLine::Fill(rect, colour)),
+        DrawingLine::Copy(rect, sx, sy) => Some(OwnerLine::Copy(rect, sx, sy)),
+        DrawingLine::Hint(rect, sx, sy) => Some(OwnerLine::Hint(rect, sx, sy)),
+    }
 }
 
 // A rectangle alone.

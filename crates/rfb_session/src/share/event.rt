@@ -1,11 +1,11 @@
 //! What the calls of a share tell.
 
 ghost use Rattle.std.specs.Prelude.{◌≡◌, true, false};
-ghost use Rattle.rfb_session.specs.declared.share.event.ShareFault.TheVariants as ShareFault;
+ghost use Rattle.rfb_session.specs.ShareSlots.{fault_of_late};
 
 use crate::seat::Seat;
 use crate::seats::Seats;
-use rfb_server::ServerFault;
+use rfb_server::{LateFault, ServerFault};
 use thiserror::Error;
 
 /// What a viewer did.
@@ -46,13 +46,19 @@ pub enum ShareFault {
     /// The seat's session has ended, by what its client did wrong or for want of memory for a text.
     #[error("{0}")]
     Session(ServerFault),
+    /// Its handshake is about to be done, and there is no memory for its session: it is emptied.
+    #[error("30 NoMemory")]
+    NoMemory,
 }
 
-impl From<ServerFault> for ShareFault {
-    ghost from_gives = { λ fault ends. ends ≡ ShareFault.Session fault };
+impl From<LateFault> for ShareFault {
+    ghost from_gives = { λ fault ends. ends ≡ fault_of_late fault };
 
-    fn from(fault: ServerFault) -> ShareFault {
-        ShareFault::Session(fault)
+    fn from(fault: LateFault) -> ShareFault {
+        match fault {
+            LateFault::Session(fault) => ShareFault::Session(fault),
+            LateFault::NoMemory => ShareFault::NoMemory,
+        }
     }
 }
 

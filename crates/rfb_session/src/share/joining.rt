@@ -7,15 +7,15 @@ use crate::share::Share;
 use crate::share::seat::ShareSeat;
 use crate::slots::{empty, first_empty, seat_in};
 use crate::told::NoMemory;
-use rfb_server::Session;
+use rfb_server::{LateSession, ServerSetup as ShareSetup};
 
 impl Share {
     ghost use Rattle.rfb_session.specs.Share.{IsFreshIn, AllTaken};
     ghost use Rattle.rfb_session.specs.ShareSteps.{JoinsAs, LeavesAs};
 
     /// A viewer takes the first empty seat, with a session of its own, whose greeting waits. Where
-    /// all are taken it gives none. Its memory is taken before anything is changed, all that it
-    /// will have but for updates and texts.
+    /// all are taken it gives none. Memory for hints is taken, before anything is changed; that of
+    /// what it is sent is taken at the end of its handshake.
     pub fn join(&mut self) -> Result<Option<Seat>, NoMemory>
         ensures joins { IfOk result (λ seat. JoinsAs self.old seat self.new) }
         ensures full { AllTaken self.old → result ≡ Ok None }
@@ -35,14 +35,14 @@ impl Share {
     fn fresh_seat(&self) -> Result<ShareSeat, NoMemory>
         ensures { IfOk result (λ seat. IsFreshIn self.now seat) }
     {
-        let session = Session::new(
-            self.alloc,
-            self.screen.width(),
-            self.screen.height(),
-            self.name.as_slice(),
-            self.offer,
-            self.text_limit,
-        )?;
+        let setup = ShareSetup {
+            width: self.screen.width(),
+            height: self.screen.height(),
+            name: self.name.as_slice(),
+            offer: self.offer,
+            text_limit: self.text_limit,
+        };
+        let session = LateSession::new(self.alloc, setup)?;
         Ok(ShareSeat::new(self.alloc, session))
     }
 

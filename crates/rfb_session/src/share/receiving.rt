@@ -1,11 +1,14 @@
 //! Bytes that the viewers of a share sent.
 
-ghost use Rattle.std.specs.Prelude.{◌≡◌, ◌≤◌, ◌<◌, ◌&&◌, length, take, IfOk, IfErr, None};
+ghost use Rattle.std.specs.Prelude.{◌≡◌, ◌≢◌, ◌≤◌, ◌<◌, ◌&&◌, length, take, IfOk, IfErr, None};
+ghost use Rattle.std.specs.Bool.{OnTrue, OnFalse};
 ghost use Rattle.std.specs.Option.{ForSome};
 ghost use Rattle.rfb_pixel.specs.declared.colour.Colour.{Colour};
 ghost use Rattle.rfb_picture.specs.Grid.{Grid};
 ghost use Rattle.rfb_server.specs.Following.{Follows};
+ghost use Rattle.rfb_server.specs.Intake.{AreTaken};
 ghost use Rattle.rfb_server.specs.Told.{seen};
+ghost use Rattle.rfb_session.specs.declared.share.event.ShareFault.TheVariants.{NoMemory};
 ghost use Rattle.rfb_session.specs.ShareSeats.{session_at};
 ghost use Rattle.rfb_session.specs.ShareSlots.{HearsIn, EndsIn};
 ghost use Rattle.rfb_session.specs.ShareSteps.{asks_alone, event_seen, seat_told};
@@ -30,7 +33,8 @@ impl Share {
     ///
     /// What a client did wrong comes as a fault of its seat, and want of memory for a text; so does
     /// it again at each later call, which takes nothing. What waits there goes on to wait, and no
-    /// other seat is changed. No other memory is taken.
+    /// other seat is changed. Where the bytes may end its handshake, the memory of its session is
+    /// taken first; where there is none the seat is emptied.
     pub fn received(&mut self, seat: Seat, bytes: &[u8]) -> Result<Heard, ShareFault>
         ensures used { IfOk result (λ heard. heard.used ≤ length bytes.now) }
         ensures some { IfOk result (λ heard. 0 < length bytes.now → 0 < heard.used) }
@@ -90,9 +94,7 @@ fn told_of(seat: Seat, fed: Fed<ServerEvent>, ended: u8) -> Heard
 
 // The viewer of a seat is heard, where there is one.
 fn hear_in(slot: &mut Option<ShareSeat>, bytes: &[u8]) -> Result<Fed<ServerEvent>, ShareFault>
-    ensures used { IfOk result (λ fed. fed.used ≤ length bytes.now) }
-    ensures all { IfOk result (λ fed. fed.event ≡ None → fed.used ≡ length bytes.now) }
-    ensures some { IfOk result (λ fed. 0 < length bytes.now → 0 < fed.used) }
+    ensures taken { IfOk result (AreTaken bytes.now) }
     ensures heard { IfOk result (λ fed.
         HearsIn (take fed.used bytes.now) (seen fed.event) slot.old slot.new) }
     ensures ended { IfErr result (λ fault. EndsIn bytes.now fault slot.old slot.new) }
@@ -103,8 +105,24 @@ fn hear_in(slot: &mut Option<ShareSeat>, bytes: &[u8]) -> Result<Fed<ServerEvent
     let Some(seat) = slot else {
         return Err(ShareFault::NoSuchSeat);
     };
-    let fed = seat.hear(bytes)?;
-    Ok(fed)
+    match seat.hear(bytes) {
+        Ok(fed) => Ok(fed),
+        Err(fault) => {
+            if is_wanting(fault) {
+                *slot = None;
+                return Err(fault);
+            }
+            Err(fault)
+        }
+    }
+}
+
+// Whether there is no memory for the session of a seat.
+fn is_wanting(fault: ShareFault) -> bool
+    ensures yes { OnTrue result (fault ≡ NoMemory) }
+    ensures no { OnFalse result (fault ≢ NoMemory) }
+{
+    matches!(fault, ShareFault::NoMemory)
 }
 
 // What a viewer did, if that is reported: answers are not.

@@ -2,11 +2,12 @@
 
 ghost use Rattle.std.specs.Prelude.{◌≡◌, ◌≢◌, ◌≤◌, ◌<◌, ◌++◌, ℕ, [], length, take, drop};
 ghost use Rattle.std.specs.Prelude.{true, false, None, Some, IfOk, IfErr, OnErr};
+ghost use Rattle.rfb_server.specs.Intake.{AreTaken};
 ghost use Rattle.rfb_server.specs.Told.{seen};
 ghost use Rattle.rfb_session.specs.ShareRoom.{kept_in, answers_in, HasRoomForAnswers};
 
 use crate::reply::server_reply;
-use crate::share::event::Composing;
+use crate::share::event::{Composing, ShareFault};
 use crate::share::waiting::Waiting;
 use crate::slots::Follower;
 use crate::told::NoMemory;
@@ -14,7 +15,7 @@ use arrayvec::ArrayVec;
 use rfb_hello::Fed;
 use rfb_picture::Picture;
 use rfb_pixel::Colour;
-use rfb_server::{Notice, ServerEvent, ServerFault, Session};
+use rfb_server::{LateSession, Notice, ServerEvent, ServerFault};
 use rfb_wire::pieces::append;
 use std::alloc::Global;
 
@@ -23,7 +24,7 @@ use std::alloc::Global;
 #[derive(Debug, Drop)]
 pub struct ShareSeat {
     alloc: Global,
-    session: Session,
+    session: LateSession,
     waiting: Waiting,
     // How many of the bytes kept are written.
     written: usize,
@@ -39,11 +40,12 @@ impl ShareSeat {
     ghost use Rattle.rfb_server.specs.Following.{Follows};
     ghost use Rattle.rfb_server.specs.Standing.{session_fault};
     ghost use Rattle.rfb_session.specs.ShareSeats.{waiting_in, session_at, is_update, IsFresh};
-    ghost use Rattle.rfb_session.specs.ShareSeats.{IsSeatOf, Hears, Ends, ComposesAt, WantsRoom};
+    ghost use Rattle.rfb_session.specs.ShareSeats.{IsSeatOf, Hears, ComposesAt, WantsRoom};
     ghost use Rattle.rfb_session.specs.ShareSeats.{WritesAt};
+    ghost use Rattle.rfb_session.specs.ShareSlots.{EndsAtSeat};
 
     /// A seat of a session that was fed nothing, with its greeting.
-    pub(crate) fn new(alloc: Global, session: Session) -> ShareSeat
+    pub(crate) fn new(alloc: Global, session: LateSession) -> ShareSeat
         requires fresh { IsFresh session }
         ensures { IsSeatOf session result }
     {
@@ -57,14 +59,12 @@ impl ShareSeat {
         }
     }
 
-    /// Takes bytes of the viewer's, as `Session::feed` does. The answer waits after what waited.
-    pub(crate) fn hear(&mut self, bytes: &[u8]) -> Result<Fed<ServerEvent>, ServerFault>
-        ensures used { IfOk result (λ fed. fed.used ≤ length bytes.now) }
-        ensures all { IfOk result (λ fed. fed.event ≡ None → fed.used ≡ length bytes.now) }
-        ensures some { IfOk result (λ fed. 0 < length bytes.now → 0 < fed.used) }
+    /// Takes bytes of the viewer's, as `LateSession::feed` does. The answer waits after what waited.
+    pub(crate) fn hear(&mut self, bytes: &[u8]) -> Result<Fed<ServerEvent>, ShareFault>
+        ensures taken { IfOk result (AreTaken bytes.now) }
         ensures heard { IfOk result (λ fed.
             Hears (take fed.used bytes.now) (seen fed.event) self.old self.new) }
-        ensures ended { IfErr result (λ fault. Ends bytes.now fault self.old self.new) }
+        ensures ended { IfErr result (λ fault. EndsAtSeat bytes.now fault self.old self.new) }
         ensures follows { (screen : Grid Colour) → Follows screen (session_at self.old)
             → Follows screen (session_at self.new) }
     {
@@ -84,14 +84,13 @@ impl ShareSeat {
         &self.waiting.kept()[self.written..]
     }
 
-    /// The first `count` bytes that wait are written, or all. After the last of them their memory
-    /// is given back.
+    /// The first `count` bytes that wait are written, or all. Their memory is given back.
     pub(crate) fn write(&mut self, count: usize)
         ensures { WritesAt count self.old self.new }
     {
         let kept = self.waiting.kept().len();
         if count < kept - self.written {
-            self.written += count;
+            self.written = self.waiting.cut(self.written + count);
             return;
         }
         self.waiting = Waiting::Answers(ArrayVec::new());

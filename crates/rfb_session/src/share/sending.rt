@@ -6,6 +6,7 @@ ghost use Rattle.rfb_picture.specs.Places.{has_bit};
 ghost use Rattle.rfb_server.specs.Following.{Follows};
 ghost use Rattle.rfb_session.specs.ShareSeats.{session_at, WritesAt};
 ghost use Rattle.rfb_session.specs.ShareSlots.{ComposesIn, WantsRoomIn};
+ghost use Rattle.rfb_session.specs.ShareWork.{RestsIn};
 ghost use Rattle.rfb_session.specs.Slots.{OnSlot};
 
 use crate::seat::Seat;
@@ -19,7 +20,7 @@ use rfb_picture::Picture;
 use rfb_pixel::Colour;
 
 impl Share {
-    ghost use Rattle.rfb_session.specs.Share.{waits_at, is_update_at};
+    ghost use Rattle.rfb_session.specs.Share.{waits_at, is_update_at, screen_of, seat_in};
     ghost use Rattle.rfb_session.specs.ShareSteps.{WritesAs, ComposesAs, WantsRoomAs, HasNoWork};
 
     /// The seats that may have work: bytes to write, or an update to compose. In any other nothing
@@ -27,7 +28,9 @@ impl Share {
     /// or a viewer's bytes. A seat of these may have none either: it goes out of the set once
     /// composing finds nothing to do.
     pub fn to_serve(&self) -> Seats
-        ensures { (k : ℕ) → has_bit result k ≡ false → HasNoWork self.now k }
+        ensures work { (k : ℕ) → has_bit result k ≡ false → HasNoWork self.now k }
+        ensures rests { (k : ℕ) → has_bit result k ≡ false →
+            RestsIn (screen_of self.now) (seat_in self.now k) }
     {
         self.stirred
     }

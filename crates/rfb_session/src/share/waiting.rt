@@ -1,6 +1,6 @@
 //! The bytes that wait to be written to a viewer.
 
-ghost use Rattle.std.specs.Prelude.{◌≡◌};
+ghost use Rattle.std.specs.Prelude.{◌≡◌, ◌≤◌, length, drop};
 
 use arrayvec::ArrayVec;
 
@@ -19,7 +19,30 @@ pub(crate) enum Waiting {
 }
 
 impl Waiting {
-    ghost use Rattle.rfb_session.specs.ShareRoom.{kept_in};
+    ghost use Rattle.rfb_session.specs.ShareRoom.{kept_in, memory_of, IsCut};
+
+    /// The first of those kept are written, so many of them. An update gives their memory back, and
+    /// what was reserved for it, where it is the first time or at least half of it is written. How
+    /// many written ones are still kept is the answer.
+    pub(crate) fn cut(&mut self, written: usize) -> usize
+        requires { written ≤ length (kept_in self.old) }
+        ensures rest { drop result (kept_in self.new) ≡ drop written (kept_in self.old) }
+        ensures within { result ≤ length (kept_in self.new) }
+        ensures memory { memory_of self.new ≤ memory_of self.old }
+        ensures kind { IsCut self.old self.new }
+    {
+        let Waiting::Update(bytes) = self else {
+            return written;
+        };
+        let len = bytes.len();
+        if bytes.capacity() == len && written < len / 2 {
+            return written;
+        }
+        bytes.copy_within(written.., 0);
+        bytes.truncate(len - written);
+        bytes.shrink_to_fit();
+        0
+    }
 
     /// Lends all of them.
     pub(crate) fn kept(&self) -> &[u8]

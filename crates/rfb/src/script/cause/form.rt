@@ -1,9 +1,9 @@
 //! The lines that there are, by their keywords, and what their words are to be.
 
 use crate::script::cause::kind::Kind;
-use crate::script::hub::{FOREIGN, HUB, JOIN, LEAVE, SHOW};
-use crate::script::read::{
-    COMPOSE, COPY, FILL, FORMAT, HINT, REQUEST, SCREEN, SETTLE, TO_SERVER, TO_VIEWER, VIEWER,
+use crate::script::keyword::{
+    COMPOSE, COPY, FILL, FOREIGN, FORMAT, HINT, HUB, JOIN, LEAVE, REQUEST, SCREEN, SETTLE, SHOW,
+    TO_SERVER, TO_VIEWER, VIEWER,
 };
 
 /// A kind of line.
@@ -17,20 +17,21 @@ pub struct Form {
     pub least: usize,
 }
 
-/// The lines of a script.
-pub const OF_SCRIPT: &[Form] = &[
-    OF_SCREEN,
-    OF_VIEWER,
-    OF_FILL,
-    OF_COPY,
-    OF_HINT,
-    OF_REQUEST,
-    OF_FORMAT,
-    OF_TO_VIEWER,
-    OF_TO_SERVER,
-    OF_COMPOSE,
-    OF_SETTLE,
-];
+// A kind of line: its keyword, how many words after it are due, and what these and others are.
+macro_rules! form {
+    ($keyword:ident, $least:literal, [$($kind:ident),*]) => {
+        Form {
+            keyword: $keyword,
+            kinds: &[$(Kind::$kind),*],
+            least: $least,
+        }
+    };
+}
+
+pub(crate) use form;
+
+/// The lines of a script, but for those that may stand after `at` and a slot too.
+pub const OF_SCRIPT: &[Form] = &[OF_SCREEN, OF_VIEWER, OF_FILL, OF_COPY, OF_HINT];
 
 /// The lines of a hub's script, but for those of one slot.
 pub const OF_HUB_SCRIPT: &[Form] = &[
@@ -48,144 +49,44 @@ pub const OF_SLOT: &[Form] = &[
 ];
 
 /// The lines that a share's owner has too.
-pub const OF_SCREEN: Form = Form {
-    keyword: SCREEN,
-    kinds: &[Kind::Side, Kind::Side],
-    least: 2,
-};
+pub const OF_SCREEN: Form = form!(SCREEN, 2, [Side, Side]);
 
-const OF_HUB: Form = Form {
-    keyword: HUB,
-    kinds: &[Kind::Side, Kind::Side],
-    least: 2,
-};
+const OF_HUB: Form = form!(HUB, 2, [Side, Side]);
 
-const OF_VIEWER: Form = Form {
-    keyword: VIEWER,
-    kinds: &[
-        Kind::Format,
-        Kind::Encoding,
-        Kind::Encoding,
-        Kind::Encoding,
-        Kind::Encoding,
-    ],
-    least: 2,
-};
+const OF_VIEWER: Form = form!(VIEWER, 2, [Format, Encoding, Encoding, Encoding, Encoding]);
 
-const OF_JOIN: Form = Form {
-    keyword: JOIN,
-    kinds: &[
-        Kind::Slot,
-        Kind::Join,
-        Kind::Format,
-        Kind::Encoding,
-        Kind::Encoding,
-        Kind::Encoding,
-        Kind::Encoding,
-    ],
-    least: 4,
-};
+const OF_JOIN: Form = form!(
+    JOIN,
+    4,
+    [Slot, Join, Format, Encoding, Encoding, Encoding, Encoding]
+);
 
-const OF_LEAVE: Form = Form {
-    keyword: LEAVE,
-    kinds: &[Kind::Slot],
-    least: 1,
-};
+const OF_LEAVE: Form = form!(LEAVE, 1, [Slot]);
 
-const OF_SHOW: Form = Form {
-    keyword: SHOW,
-    kinds: &[Kind::Slot],
-    least: 1,
-};
+const OF_SHOW: Form = form!(SHOW, 1, [Slot]);
 
-const OF_FOREIGN: Form = Form {
-    keyword: FOREIGN,
-    kinds: &[Kind::Slot, Kind::Hex],
-    least: 2,
-};
+const OF_FOREIGN: Form = form!(FOREIGN, 2, [Slot, Hex]);
 
 /// The same.
-pub const OF_FILL: Form = Form {
-    keyword: FILL,
-    kinds: &[
-        Kind::Number,
-        Kind::Number,
-        Kind::Number,
-        Kind::Number,
-        Kind::Colour,
-    ],
-    least: 5,
-};
+pub const OF_FILL: Form = form!(FILL, 5, [Number, Number, Number, Number, Colour]);
 
 /// The same.
-pub const OF_COPY: Form = Form {
-    keyword: COPY,
-    kinds: &[
-        Kind::Number,
-        Kind::Number,
-        Kind::Number,
-        Kind::Number,
-        Kind::Number,
-        Kind::Number,
-    ],
-    least: 6,
-};
+pub const OF_COPY: Form = form!(COPY, 6, [Number, Number, Number, Number, Number, Number]);
 
 /// The same.
-pub const OF_HINT: Form = Form {
-    keyword: HINT,
-    kinds: &[
-        Kind::Number,
-        Kind::Number,
-        Kind::Number,
-        Kind::Number,
-        Kind::Number,
-        Kind::Number,
-    ],
-    least: 6,
-};
+pub const OF_HINT: Form = form!(HINT, 6, [Number, Number, Number, Number, Number, Number]);
 
-const OF_REQUEST: Form = Form {
-    keyword: REQUEST,
-    kinds: &[
-        Kind::Request,
-        Kind::Number,
-        Kind::Number,
-        Kind::Number,
-        Kind::Number,
-    ],
-    least: 5,
-};
+const OF_REQUEST: Form = form!(REQUEST, 5, [Request, Number, Number, Number, Number]);
 
-const OF_FORMAT: Form = Form {
-    keyword: FORMAT,
-    kinds: &[Kind::Format],
-    least: 1,
-};
+const OF_FORMAT: Form = form!(FORMAT, 1, [Format]);
 
-const OF_TO_VIEWER: Form = Form {
-    keyword: TO_VIEWER,
-    kinds: &[Kind::Count],
-    least: 1,
-};
+const OF_TO_VIEWER: Form = form!(TO_VIEWER, 1, [Count]);
 
-const OF_TO_SERVER: Form = Form {
-    keyword: TO_SERVER,
-    kinds: &[Kind::Count],
-    least: 1,
-};
+const OF_TO_SERVER: Form = form!(TO_SERVER, 1, [Count]);
 
-const OF_COMPOSE: Form = Form {
-    keyword: COMPOSE,
-    kinds: &[],
-    least: 0,
-};
+const OF_COMPOSE: Form = form!(COMPOSE, 0, []);
 
-const OF_SETTLE: Form = Form {
-    keyword: SETTLE,
-    kinds: &[],
-    least: 0,
-};
+const OF_SETTLE: Form = form!(SETTLE, 0, []);
 
 /// The line of these that begins with a keyword.
 pub fn form_of(keyword: &[u8], forms: &[Form]) -> Option<Form> {

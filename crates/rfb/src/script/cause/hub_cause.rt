@@ -4,7 +4,7 @@ use crate::script::cause::form::{OF_HUB_SCRIPT, OF_SLOT, form_of};
 use crate::script::cause::kind::{Kind, why_not_form};
 use crate::script::cause::reason::Reason;
 use crate::script::cause::{FIRST, first_words, tell_reason, why_not_words};
-use crate::script::hub::{AT, SHOW};
+use crate::script::keyword::{AT, SHOW};
 use crate::script::parting::ends_line;
 use rfb_session::language::read_slot;
 use std::io::Write;
@@ -24,10 +24,8 @@ const NO_LINE: &str = ": a line of the slot stands after `at S`";
 /// Says why the line with this number, counted from 1, is bad. A script without a last line is bad
 /// after its end.
 pub fn tell_bad_hub_line<N: Write>(text: &[u8], number: u64, notes: &mut N) {
-    let mut at = 0u64;
     let mut has_shown = false;
-    for line in text.split(ends_line) {
-        at = at.saturating_add(1);
+    for (at, line) in (1..u64::MAX).zip(text.split(ends_line)) {
         if at == number && !line.is_empty() {
             tell_reason(number, why_bad(line, has_shown), notes);
             return;

@@ -1,6 +1,6 @@
 //! Reading one line of a hub's script, by itself.
 
-ghost use Rattle.std.specs.Prelude.{◌≢◌, ◌∷◌, ℕ, IfOk, MatchOption, codes};
+ghost use Rattle.std.specs.Prelude.{◌≢◌, ◌∷◌, IfOk, MatchOption, codes};
 ghost use Rattle.rfb.specs.declared.script.hub.hub_step.HubStep.{HubStep};
 ghost use Rattle.rfb_session.specs.declared.language.screen.Screen.{Screen};
 ghost use Rattle.rfb.specs.declared.script.hub.hub_step.HubStep.TheVariants as HubStep;
@@ -9,44 +9,21 @@ ghost use Rattle.rfb_session.specs.language.Words.{words_of, texts};
 
 use crate::script::hub::hub_step::HubStep;
 use crate::script::hub::slot::{read_foreign, read_join};
-use crate::script::read::{COPY, FILL, HINT, SETTLE, slot_event_of};
+use crate::script::keyword::{AT, FOREIGN, HUB, JOIN, LEAVE, SETTLE, SHOW};
+use crate::script::read::{slot_event_of, words_after};
 use rfb_session::HubEvent;
 use rfb_session::language::{
-    Screen, parted, read_fill, read_move, read_only_slot, read_size, read_slot,
+    DrawingLine, Screen, parted, read_drawing, read_only_slot, read_size, read_slot,
 };
 use std::alloc::{AllocError, Global};
-
-/// The words that lines of a hub begin with, beside those of a script.
-pub const HUB: &[u8] = b"hub";
-
-pub const SHOW: &[u8] = b"show";
-
-pub const JOIN: &[u8] = b"join";
-
-pub const LEAVE: &[u8] = b"leave";
-
-pub const FOREIGN: &[u8] = b"foreign";
-
-pub const AT: &[u8] = b"at";
 
 /// The size of a hub's screen, as a line without its newline gives it. It is `None` where the line
 /// gives none.
 pub fn read_hub(line: &[u8]) -> Option<Screen>
     ensures { MatchOption result (¬ (GivesHub line.now)) (SaysHub (words_of line.now)) }
 {
-    hub_of(parted(line)?.as_slice())
-}
-
-// The same, as the words of a line give it.
-fn hub_of(words: &[&[u8]]) -> Option<Screen>
-    ensures { MatchOption result ((size : Screen) → ¬ (SaysHub (texts words.now) size))
-        (SaysHub (texts words.now)) }
-{
-    let (keyword, rest) = words.split_first()?;
-    if *keyword == HUB {
-        return read_size(rest);
-    }
-    None
+    let words = parted(line)?;
+    read_size(words_after(words.as_slice(), HUB)?)
 }
 
 /// The slot to be shown, as a line without its newline names it. It is `None` where the line names
@@ -54,19 +31,8 @@ fn hub_of(words: &[&[u8]]) -> Option<Screen>
 pub fn read_show(line: &[u8]) -> Option<u8>
     ensures { MatchOption result (¬ (NamesShown line.now)) (SaysShow (words_of line.now)) }
 {
-    shown_by(parted(line)?.as_slice())
-}
-
-// The same, as the words of a line name it.
-fn shown_by(words: &[&[u8]]) -> Option<u8>
-    ensures { MatchOption result ((slot : ℕ) → ¬ (SaysShow (texts words.now) slot))
-        (SaysShow (texts words.now)) }
-{
-    let (keyword, rest) = words.split_first()?;
-    if *keyword == SHOW {
-        return read_only_slot(rest);
-    }
-    None
+    let words = parted(line)?;
+    read_only_slot(words_after(words.as_slice(), SHOW)?)
 }
 
 /// The step that a line without its newline asks for. It is `None` where the line asks for none.
@@ -116,32 +82,11 @@ fn spare_step_of(keyword: &[u8], rest: &[&[u8]]) -> Option<HubStep>
     if keyword == AT {
         return step_at(rest);
     }
-    Some(HubStep::Event(drawing_of(keyword, rest)?))
-}
-
-// The drawing or the hint that a keyword and the words after it ask for.
-fn drawing_of(keyword: &[u8], rest: &[&[u8]]) -> Option<HubEvent>
-    requires foreign { keyword.now ≢ codes "foreign" }
-    requires join { keyword.now ≢ codes "join" }
-    requires leave { keyword.now ≢ codes "leave" }
-    requires at_slot { keyword.now ≢ codes "at" }
-    ensures { MatchOption result
-        ((step : HubStep) → ¬ (SaysHubStep (keyword.now ∷ texts rest.now) step))
-        (λ event. SaysHubStep (keyword.now ∷ texts rest.now) (HubStep.Event event)) }
-{
-    if keyword == FILL {
-        let (rect, colour) = read_fill(rest)?;
-        return Some(HubEvent::Fill(rect, colour));
+    match read_drawing(keyword, rest)? {
+        DrawingLine::Fill(rect, colour) => Some(HubStep::Event(HubEvent::Fill(rect, colour))),
+        DrawingLine::Copy(rect, sx, sy) => Some(HubStep::Event(HubEvent::Copy(rect, sx, sy))),
+        DrawingLine::Hint(rect, sx, sy) => Some(HubStep::Event(HubEvent::Hint(rect, sx, sy))),
     }
-    if keyword == COPY {
-        let (rect, sx, sy) = read_move(rest)?;
-        return Some(HubEvent::Copy(rect, sx, sy));
-    }
-    if keyword == HINT {
-        let (rect, sx, sy) = read_move(rest)?;
-        return Some(HubEvent::Hint(rect, sx, sy));
-    }
-    None
 }
 
 // The step that the words after `at` ask for.

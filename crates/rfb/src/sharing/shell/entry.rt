@@ -2,10 +2,11 @@
 
 ghost use Rattle.std.specs.Prelude.{⊤};
 
-use crate::sharing::shell::{Ear, Shell, register};
+use crate::sharing::shell::{Ear, Shell};
 use crate::sharing::tenant::Tenant;
 use arrayvec::ArrayString;
 use libc::net::{SHUT_RDWR, shutdown};
+use mio::unix::SourceFd;
 use mio::{Interest, Token};
 use rfb_session::doors::{Arrival, Arrivals, Counted};
 use std::fmt::Write as _;
@@ -32,7 +33,12 @@ where
                 arrival(stream, address)
             }
             Err(error) => {
-                self.miss(error.kind());
+                match error.kind() {
+                    ErrorKind::WouldBlock => self.ear = Ear::Quiet,
+                    // The next one may be there.
+                    ErrorKind::Interrupted | ErrorKind::ConnectionAborted => self.is_stirred = true,
+                    _ => self.ear = Ear::Barred,
+                }
                 None
             }
         }
@@ -44,22 +50,15 @@ where
             return;
         };
         let both = Interest::READABLE | Interest::WRITABLE;
-        if register(self.poll.registry(), fd, Token(door), both).is_err() {
+        let registry = self.poll.registry();
+        if registry
+            .register(&mut SourceFd(&fd), Token(door), both)
+            .is_err()
+        {
             let _ = shutdown(fd, SHUT_RDWR);
         }
-        self.ready.note(door);
-    }
-}
-
-impl<L: Drop, C> Shell<'_, L, C> {
-    // No connection was had, and why.
-    fn miss(&mut self, kind: ErrorKind) {
-        match kind {
-            ErrorKind::WouldBlock => self.ear = Ear::Quiet,
-            // The next one may be there.
-            ErrorKind::Interrupted | ErrorKind::ConnectionAborted => self.is_stirred = true,
-            _ => self.ear = Ear::Barred,
-        }
+        self.reads.note(door, true);
+        self.writes.note(door, true);
     }
 }
 

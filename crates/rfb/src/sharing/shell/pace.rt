@@ -9,9 +9,9 @@ use std::time;
 use std::time::Duration;
 
 impl<L: Drop, C: time::Clock> Clock for Shell<'_, L, C> {
-    ghost readable = { λ shell d. is_ready shell.ready.reads d };
+    ghost readable = { λ shell d. is_ready shell.reads.doors d };
 
-    ghost writable = { λ shell d. is_ready shell.ready.writes d };
+    ghost writable = { λ shell d. is_ready shell.writes.doors d };
 
     /// The time when the last wait ended.
     fn now(&self) -> u64 {
@@ -35,40 +35,36 @@ impl<L: Drop, C: time::Clock> Clock for Shell<'_, L, C> {
                 self.ear = Ear::Ringing;
             } else {
                 // A connection that is closed is ready for both.
-                self.ready.note(event.token().0);
+                self.reads.note(event.token().0, true);
+                self.writes.note(event.token().0, true);
             }
         }
         true
     }
 
     fn reads(&self, door: usize) -> bool {
-        self.ready.reads(door)
+        self.reads.has(door)
     }
 
     fn writes(&self, door: usize) -> bool {
-        self.ready.writes(door)
+        self.writes.has(door)
     }
 
     /// Of standard input one read waits for nothing, and a second one may.
     fn heard(&mut self, door: usize, answer: Answer) {
-        let is_ready = match answer {
-            Answer::Again => return,
-            Answer::Moved(_) => self.may_read_on(door),
-            Answer::Waits | Answer::Ended | Answer::Failed => false,
-        };
-        self.stir(answer);
-        self.ready.note_reads(door, is_ready);
+        if answer != Answer::Again {
+            let goes_on = self.stir(answer) && self.may_read_on(door);
+            self.reads.note(door, goes_on);
+        }
     }
 
     /// To standard output and standard error one write waits for nothing, and a second one may.
+    /// Where nothing was to be written it is asked to try again.
     fn told(&mut self, door: usize, answer: Answer) {
-        let is_ready = match answer {
-            Answer::Again => return,
-            Answer::Moved(_) => self.may_write_on(door),
-            Answer::Waits | Answer::Ended | Answer::Failed => false,
-        };
-        self.stir(answer);
-        self.ready.note_writes(door, is_ready);
+        if answer != Answer::Again {
+            let goes_on = self.stir(answer) && self.may_write_on(door);
+            self.writes.note(door, goes_on);
+        }
     }
 }
 
@@ -97,11 +93,10 @@ impl<L: Drop, C: time::Clock> Shell<'_, L, C> {
         }
     }
 
-    // Something happened, unless a door only said that it is not ready.
-    fn stir(&mut self, answer: Answer) {
-        if answer != Answer::Waits {
-            self.is_stirred = true;
-        }
+    // Something happened, unless a door only said that it is not ready. Tells whether it may be.
+    fn stir(&mut self, answer: Answer) -> bool {
+        self.is_stirred |= answer != Answer::Waits;
+        matches!(answer, Answer::Moved(_))
     }
 
     // Whether a door that was read can be read again without waiting.

@@ -1,11 +1,12 @@
 //! Connections that come to a console.
 
-ghost use Rattle.std.specs.Prelude.{◌≡◌, ◌<◌, true, IfOk, IfSome};
-ghost use Rattle.rfb_session.specs.console.Desk.{gives_way, guest_at};
-ghost use Rattle.rfb_session.specs.console.Steps.{Admits, AdmitsAs, Welcomes, TurnsAway, MakesRoom};
+ghost use Rattle.std.specs.Prelude.{◌≡◌, ◌<◌, true, IfOk, IfSome, nat_le};
+ghost use Rattle.rfb_session.specs.console.Desk.{gives_way, guest_at, seated};
+ghost use Rattle.rfb_session.specs.console.Viewers.{Admits, AdmitsAs, Welcomes, TurnsAway};
+ghost use Rattle.rfb_session.specs.console.Viewers.{MakesRoom};
 
 use crate::console::desk::Desk;
-use crate::console::guest::{Guest, Progress};
+use crate::console::guest::Guest;
 use crate::console::lines::{tell_busy, tell_come};
 use crate::seat::Seat;
 use crate::slots::SLOTS;
@@ -83,14 +84,23 @@ impl Desk {
     }
 
     // Whether there are as many viewers as there may be.
-    fn is_full(&self) -> bool {
-        let mut count: u8 = 0;
-        for guest in &self.guests {
-            if guest.progress != Progress::Absent {
-                count = count.saturating_add(1);
+    fn is_full(&self) -> bool
+        ensures { result ≡ nat_le self.now.rules.viewers (seated self.now) }
+    {
+        self.seated() >= self.rules.viewers
+    }
+
+    // How many viewers there are.
+    fn seated(&self) -> u8
+        ensures { result ≡ seated self.now }
+    {
+        let mut count = 0;
+        for place in 0..SLOTS {
+            if self.guests[place].is_here() {
+                count += 1;
             }
         }
-        count >= self.rules.viewers
+        count
     }
 
     // The place of the viewer whose handshake lasts longest, of those that give way.

@@ -3,7 +3,8 @@
 ghost use Rattle.std.specs.Prelude.{◌≡◌, ◌≤◌, ◌<◌, ◌++◌, ℕ, List, length, IfOk, OnOk, []};
 ghost use Rattle.rfb_session.specs.console.Telling.{told_line};
 ghost use Rattle.rfb_session.specs.console.Desk.{guest_at, lines_of, KeepsRules, OtherGuests};
-ghost use Rattle.rfb_session.specs.console.Steps.{HearsAt, Stirs, TellsOf, TellsEvent, CountsTold, Fails};
+ghost use Rattle.rfb_session.specs.console.Viewers.{HearsAt, Stirs, TellsOf, TellsEvent};
+ghost use Rattle.rfb_session.specs.console.Viewers.{CountsTold, Fails};
 ghost use Rattle.rfb_session.specs.ShareSteps.{RefusesAs};
 
 use crate::console::desk::Desk;

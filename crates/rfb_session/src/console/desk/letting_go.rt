@@ -4,8 +4,10 @@ ghost use Rattle.std.specs.Prelude.{◌≡◌, ◌<◌, ℕ, List, IfOk, OnOk, c
 ghost use Rattle.rfb_picture.specs.Places.{has_bit};
 ghost use Rattle.rfb_session.specs.owner.Telling.{leave_line};
 ghost use Rattle.rfb_session.specs.console.Telling.{IsFaultLine};
-ghost use Rattle.rfb_session.specs.console.Desk.{nobody, guest_at, lines_of, KeepsRules, OtherGuests};
-ghost use Rattle.rfb_session.specs.console.Steps.{LetsGo, LetsGoFor, LetsGoIf, LetsAllGo, Vacates, Parts, PartsAt};
+ghost use Rattle.rfb_session.specs.console.Desk.{nobody, guest_at, lines_of, KeepsRules};
+ghost use Rattle.rfb_session.specs.console.Desk.{OtherGuests};
+ghost use Rattle.rfb_session.specs.console.Viewers.{LetsGo, LetsGoFor, LetsGoIf, LetsAllGo};
+ghost use Rattle.rfb_session.specs.console.Viewers.{Vacates, Parts, PartsAt};
 ghost use Rattle.rfb_session.specs.ShareSteps.{LeavesAs};
 
 use crate::console::desk::Desk;
@@ -96,14 +98,9 @@ impl Desk {
         ensures { OnOk result (LetsGoIf self.old place (has_bit seats place) self.new) }
     {
         let seat = Seat::at(place);
-        if !seats.has(seat) {
-            return Ok(());
+        if seats.has(seat) {
+            self.share.left(seat);
         }
-        let is_over = self.is_over(seat);
-        self.vacate(seat);
-        if is_over {
-            return Ok(());
-        }
-        tell_leave(&mut self.lines, seat.number())
+        self.part_at(place, seats)
     }
 }

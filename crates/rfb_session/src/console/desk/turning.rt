@@ -1,11 +1,12 @@
 //! What time does to the viewers of a console.
 
-ghost use Rattle.std.specs.Prelude.{◌≡◌, ◌<◌, ℕ, IfOk, true};
+ghost use Rattle.std.specs.Prelude.{◌≡◌, ◌<◌, ◌+◌, ℕ, IfOk, true, false};
 ghost use Rattle.rfb_picture.specs.Places.{has_bit};
 ghost use Rattle.rfb_session.specs.console.Desk.{guest_at};
-ghost use Rattle.rfb_session.specs.console.Time.{is_slow, is_stuck};
-ghost use Rattle.rfb_session.specs.console.Steps.{TurnsAs, StampsAll, StampsOne, Stills};
-ghost use Rattle.rfb_session.specs.console.Steps.{ComposesAll, KeepsBeside, ReleasesAll, ReleasesOne};
+ghost use Rattle.rfb_session.specs.console.Time.{is_slow, is_stuck, IsBy};
+ghost use Rattle.rfb_session.specs.console.Turns.{TurnsAs, StampsAll, StampsOne, Stills};
+ghost use Rattle.rfb_session.specs.console.Turns.{ComposesAll, KeepsBeside, ReleasesAll};
+ghost use Rattle.rfb_session.specs.console.Turns.{ReleasesOne, Wakes, WakesAt};
 
 use crate::console::desk::{Desk, Hold};
 use crate::console::guest::{Progress, sooner};
@@ -45,7 +46,7 @@ impl Desk {
 
     // Updates are composed, unless they are held back.
     fn compose_unless(&mut self, is_held: bool) -> bool
-        ensures composes { ComposesAll self.old self.new }
+        ensures composes { is_held ≡ false → ComposesAll self.old result self.new }
         ensures held { is_held ≡ true → self.new ≡ self.old }
     {
         if is_held {
@@ -58,6 +59,7 @@ impl Desk {
     fn plan_next(&mut self, now: u64, wants: bool)
         ensures share { self.new.share ≡ self.old.share }
         ensures beside { KeepsBeside self.old self.new }
+        ensures wakes { Wakes self.new now wants self.new.next }
     {
         self.next = self.due(now, wants);
     }
@@ -142,18 +144,33 @@ impl Desk {
     }
 
     // When the next turn is wanted even if nothing happens before.
-    fn due(&self, now: u64, wants: bool) -> Option<u64> {
-        let mut next = if wants {
-            Some(now.saturating_add(PAUSE))
-        } else {
-            None
-        };
-        if let Hold::Since(since) = self.hold {
-            next = sooner(next, Some(since.saturating_add(self.rules.hold)));
-        }
-        for guest in &self.guests {
-            next = sooner(next, guest.due(&self.rules));
+    fn due(&self, now: u64, wants: bool) -> Option<u64>
+        ensures { Wakes self.now now wants result }
+    {
+        let mut next = sooner(self.hold_ends(), pause(now, wants));
+        for place in 0..SLOTS {
+            next = sooner(next, self.guests[place].due(&self.rules));
         }
         next
     }
+
+    // When the hold ends, if updates are held back.
+    fn hold_ends(&self) -> Option<u64>
+        ensures { WakesAt self.now.rules.hold self.now.hold result }
+    {
+        match self.hold {
+            Hold::Shown | Hold::Begins => None,
+            Hold::Since(since) => Some(since.saturating_add(self.rules.hold)),
+        }
+    }
+}
+
+// When memory that was wanting may be there.
+fn pause(now: u64, wants: bool) -> Option<u64>
+    ensures { wants ≡ true → IsBy (now + 100) result }
+{
+    if wants {
+        return Some(now.saturating_add(PAUSE));
+    }
+    None
 }

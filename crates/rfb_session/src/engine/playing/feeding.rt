@@ -55,11 +55,10 @@ pub(super) fn feed_all<R: Source, A: Watcher>(
         if count == 0 {
             return Ok(updates);
         }
-        let more = feed_read(&part[..count], viewer, updates, enough, watcher)?;
-        if are_enough(more, enough) {
-            return Ok(more);
+        updates = feed_read(&part[..count], viewer, updates, enough, watcher)?;
+        if are_enough(updates, enough) {
+            return Ok(updates);
         }
-        updates = more;
     }
     Ok(updates)
 }

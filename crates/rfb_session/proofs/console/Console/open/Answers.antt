@@ -1,5 +1,5 @@
 use Rattle.std.proofs.Common.{ℕ, List, refl, inl, subst}
-use Rattle.rfb_session.specs.console.Steps.{IsFreshDesk}
+use Rattle.rfb_session.specs.console.Turns.{IsFreshDesk}
 use Rattle.rfb_session.proofs.console.Console.open.Goals as goal
 
 pub returns-in-Ok-clause-opens : goal.returns-in-Ok-clause-opens

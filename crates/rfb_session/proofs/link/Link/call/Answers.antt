@@ -50,7 +50,7 @@ returns-in-Err-Refused-clause-bytes c =
     record {
       sends = sends_none (message_of call) (message_bytes call) (λ s. called call s) _
           c.in-Err-Refused.fault c.args.self.now _ c.of_refusal.result
-          (c.of_refusal.ensures.refused ∙ c.refusal_of.ensures)
+          (c.of_refusal.ensures.refused ∙ c.from.ensures)
           (rw c.in-Err-Refused.field-0-is at c.in-Err-Refused.ensures.refuses);
       same = c.in-Err-Refused.ensures.unnoted;
     }
@@ -72,7 +72,7 @@ returns-in-Err-Refused-clause-does c = λ e n made reached stands.
     }) in (
       one.0,
       one.1,
-      (c.of_refusal.ensures.refused ∙ c.refusal_of.ensures) ∙ ap (λ o. refused_as o)
+      (c.of_refusal.ensures.refused ∙ c.from.ensures) ∙ ap (λ o. refused_as o)
           (some ∙ refusal_there e c.args.self.now n call stands reached),
       one.2,
     )

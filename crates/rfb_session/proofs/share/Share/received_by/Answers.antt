@@ -93,7 +93,7 @@ returns-then-is_sole-clause-heard c =
     c.in_ok-fed.ensures.heard (sym (at_slot s.seats k _ within))
     (c.empty_others-ended.ensures.own ∙ seat_set_same s.seats k c.hear_in.new.slot within)
     c.told_of.ensures.used
-    (λ none. c.in_ok-fed.ensures.all (seen_none c.in_ok-fed.fed.event none))
+    (λ none. c.in_ok-fed.ensures.taken.all (seen_none c.in_ok-fed.fed.event none))
     (c.told_of.ensures.seat ∙ sym c.place-place.ensures.value) c.told_of.ensures.event
     (λ j. ap (λ (n : ℕ). has_bit n j) ended ∙ bits j)
     (λ j differ. stays_emptied _ _ _ (flag_others s.seats k j c.empty_others-ended.result
@@ -130,7 +130,7 @@ returns-clause-heard c =
     (received_as c.args.heeds s _ k c.args.bytes.now c.in_ok-fed.fed.used heard.result told _ c.hear_in.new.slot
     c.in_ok-fed.ensures.heard (sym (at_slot s.seats k _ within))
     (seat_set_same s.seats k c.hear_in.new.slot within) heard.ensures.used
-    (λ none. c.in_ok-fed.ensures.all (seen_none c.in_ok-fed.fed.event none))
+    (λ none. c.in_ok-fed.ensures.taken.all (seen_none c.in_ok-fed.fed.event none))
     (heard.ensures.seat ∙ sym c.place-place.ensures.value) heard.ensures.event
     (ends_none s.seats k heard.result.ended (c.args.heeds && asks_alone told) shares heard.ensures.ended)
     (λ j differ. stays_clear heard.result.ended j _ _ heard.ensures.ended

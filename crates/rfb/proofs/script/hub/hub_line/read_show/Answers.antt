@@ -1,8 +1,17 @@
-use Rattle.rfb.proofs.HubStepLemmas.{show_line, too_many_for_show}
+use Rattle.rfb.proofs.HubStepLemmas.{no_show_line, show_words, too_many_for_show}
 use Rattle.rfb.proofs.script.hub.hub_line.read_show.Goals as goal
 
-pub returns-in_err-parted : goal.returns-in_err-parted
-returns-in_err-parted c = rw c.from_residual.ensures (λ gives. too_many_for_show _ c.in_err-parted.ensures gives.0 gives.1)
+pub returns-in_err-words : goal.returns-in_err-words
+returns-in_err-words c =
+    rw c.from_residual.ensures (λ gives. too_many_for_show _ c.in_err-words.ensures gives.0 gives.1)
+
+pub returns-in_err-words_after : goal.returns-in_err-words_after
+returns-in_err-words_after c =
+    rw c.from_residual-in_err-words_after.ensures
+    (no_show_line _ (rw (← c.in_ok-words.ensures, ← c.as_slice.ensures.value) c.in_err-words_after.ensures))
 
 pub returns : goal.returns
-returns c = show_line c.shown_by.result _ (rw (← c.in_ok-parted.ensures, ← c.as_slice.ensures.value) c.shown_by.ensures)
+returns c =
+    show_words _ c.in_ok-words_after.field-0.now
+    (rw (← c.in_ok-words.ensures, ← c.as_slice.ensures.value) c.in_ok-words_after.ensures)
+    c.read_only_slot.result c.read_only_slot.ensures

@@ -1,5 +1,5 @@
 -- The seats so far are told of.
-use Rattle.rfb_session.specs.console.Steps.{PartsUpTo}
+use Rattle.rfb_session.specs.console.Viewers.{PartsUpTo}
 use Rattle.rfb_session.proofs.console.desk.Desk.part.Given as goal
 
 abbrev pub invariant-loop-place : goal.invariant-loop-place

@@ -1,5 +1,5 @@
 -- The seats so far have their time.
-use Rattle.rfb_session.specs.console.Steps.{StampsUpTo}
+use Rattle.rfb_session.specs.console.Turns.{StampsUpTo}
 use Rattle.rfb_session.proofs.console.desk.Desk.stamp.Given as goal
 
 abbrev pub invariant-loop-place : goal.invariant-loop-place

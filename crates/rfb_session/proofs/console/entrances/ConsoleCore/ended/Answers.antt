@@ -1,25 +1,41 @@
 use Rattle.std.proofs.Common.{subst}
 use Rattle.rfb_session.specs.declared.console.Console.{Console}
 use Rattle.rfb_session.specs.console.Console.{KeepsButRooms}
-use Rattle.rfb_session.proofs.ConsoleLemmas.{by_owner, by_seat, by_none, does_then, ends_then}
-use Rattle.rfb_session.proofs.console.entrances.ConsoleCore.ended.Goals.{then-door-eq-OWNER, else-door-eq-OWNER+in-Some, else-door-eq-OWNER+in_default}
+use Rattle.rfb_session.proofs.ConsoleLemmas.{by_owner, by_seat, by_none, does_then, ends_then, kept_by, stays_then}
+use Rattle.rfb_session.proofs.console.entrances.ConsoleCore.ended.Goals.{then-door-eq-OWNER}
+use Rattle.rfb_session.proofs.console.entrances.ConsoleCore.ended.Goals.{else-door-eq-OWNER+in-Some}
+use Rattle.rfb_session.proofs.console.entrances.ConsoleCore.ended.Goals.{else-door-eq-OWNER+in_default}
 use Rattle.rfb_session.proofs.console.entrances.ConsoleCore.ended.Goals as goal
 
 pub returns : goal.returns
 returns g c =
-    let after = λ (s : Console g.row.S.Denot). KeepsButRooms s c.close_room.new.self in
+    let new = c.close_room.new.self in
+    let after = λ (s : Console g.row.S.Denot). KeepsButRooms s new in
     elim c.if-door-eq-OWNER.branch [
       | then-door-eq-OWNER w ↦
-          by_owner c.args.door _ _ _ _ w.if-door-eq-OWNER.true
-          (ends_then c.args.self.now w.end_owner.new.self c.close_room.new.self w.end_owner.ensures
-          (subst after w.self-is c.close_room.ensures))
+          let keeps = subst after w.self-is c.close_room.ensures in
+          record {
+            does = by_owner c.args.door _ _ _ _ w.if-door-eq-OWNER.true
+                (ends_then c.args.self.now w.end_owner.new.self new w.end_owner.ensures.ends keeps);
+            left = tt;
+            stays = stays_then c.args.self.now w.end_owner.new.self new w.end_owner.ensures.stays keeps.stays;
+          }
       | else-door-eq-OWNER+in-Some w ↦
           let keeps = subst after w.self-is c.close_room.ensures in
-          by_seat c.args.door _ _ _ _ w.in-Some.seat w.in-Some.ensures.some.1 w.in-Some.ensures.some.0
-          (does_then _ c.args.self.now w.let_seat_go.new.self c.close_room.new.self
-          w.let_seat_go.ensures.leaves keeps.desk keeps.outcome keeps.owner)
+          record {
+            does = by_seat c.args.door _ _ _ _ w.in-Some.seat w.in-Some.ensures.some.1 w.in-Some.ensures.some.0
+                (does_then _ c.args.self.now w.let_seat_go.new.self new w.let_seat_go.ensures.leaves
+                keeps.desk keeps.outcome keeps.owner);
+            left = tt;
+            stays = stays_then c.args.self.now w.let_seat_go.new.self new w.let_seat_go.ensures.side.stays
+                keeps.stays;
+          }
       | else-door-eq-OWNER+in_default w ↦
           let keeps = subst after w.self-is c.close_room.ensures in
-          by_none c.args.door _ _ _ _ (w.seat_at.ensures.none w.in_default.is)
-          (λ is. absurd (w.if-door-eq-OWNER.false is)) keeps.desk keeps.desk
+          record {
+            does = by_none c.args.door _ _ _ _ (w.seat_at.ensures.none w.in_default.is)
+                (λ is. absurd (w.if-door-eq-OWNER.false is)) (λ is. kept_by _ _ keeps) (kept_by _ _ keeps);
+            left = tt;
+            stays = keeps.stays;
+          }
     ]

@@ -1,7 +1,9 @@
-use Rattle.std.proofs.Common.{subst, ◌∙◌}
+use Rattle.std.proofs.Common.{◌≡◌, Some, None, subst, ◌∙◌}
 use Rattle.rfb_session.specs.declared.console.Console.{Console}
+use Rattle.rfb_session.specs.declared.console.Outcome.{Outcome}
 use Rattle.rfb_session.specs.console.Console.{KeepsButRooms}
-use Rattle.rfb_session.proofs.ConsoleLemmas.{by_owner, by_seat, by_lines, by_notes, by_else, does_then}
+use Rattle.rfb_session.proofs.ConsoleLemmas.{by_owner, by_seat, by_lines, by_notes, by_none, does_then, kept_by}
+use Rattle.rfb_session.proofs.ConsoleLemmas.{stays_then}
 use Rattle.rfb_session.proofs.console.entrances.ConsoleCore.failed.Goals.{then-door-eq-OWNER}
 use Rattle.rfb_session.proofs.console.entrances.ConsoleCore.failed.Goals.{else-door-eq-OWNER+then-door-eq-LINES}
 use Rattle.rfb_session.proofs.console.entrances.ConsoleCore.failed.Goals.{else-door-eq-OWNER+else-door-eq-LINES+then-door-eq-NOTES}
@@ -9,28 +11,73 @@ use Rattle.rfb_session.proofs.console.entrances.ConsoleCore.failed.Goals.{else-d
 use Rattle.rfb_session.proofs.console.entrances.ConsoleCore.failed.Goals.{else-door-eq-OWNER+else-door-eq-LINES+else-door-eq-NOTES+in_default}
 use Rattle.rfb_session.proofs.console.entrances.ConsoleCore.failed.Goals as goal
 
+some_none : (ends : Outcome) → Some ends ≡ None → ⊥
+some_none ends same = cc
+
 pub returns : goal.returns
 returns g c =
-    let after = λ (s : Console g.row.S.Denot). KeepsButRooms s c.close_room.new.self in
+    let old = c.args.self.now in
+    let new = c.close_room.new.self in
+    let after = λ (s : Console g.row.S.Denot). KeepsButRooms s new in
     elim c.if-door-eq-OWNER.branch [
       | then-door-eq-OWNER w ↦
           let keeps = subst after w.self-is c.close_room.ensures in
-          by_owner c.args.door _ _ _ _ w.if-door-eq-OWNER.true (record {
-            desk = keeps.desk ∙ w.lose_owner.ensures.desk;
-            input = keeps.owner.input ∙ w.lose_owner.ensures.input;
-          })
+          record {
+            does = by_owner c.args.door _ _ _ _ w.if-door-eq-OWNER.true (record {
+              desk = keeps.desk ∙ w.lose_owner.ensures.loses.desk;
+              reader = keeps.owner.reader ∙ w.lose_owner.ensures.loses.reader;
+              input = keeps.owner.input ∙ w.lose_owner.ensures.loses.input;
+            });
+            left = tt;
+            stays = stays_then old w.lose_owner.new.self new w.lose_owner.ensures.stays keeps.stays;
+          }
       | else-door-eq-OWNER+then-door-eq-LINES w ↦
           let keeps = subst after w.self-is c.close_room.ensures in
-          by_lines c.args.door _ _ _ _ w.if-door-eq-LINES.true (keeps.desk, keeps.outcome)
+          record {
+            does = by_lines c.args.door _ _ _ _ w.if-door-eq-LINES.true (
+              record {
+                desk = keeps.desk;
+                owner = record { reader = keeps.owner.reader; input = keeps.owner.input };
+              },
+              keeps.outcome,
+            );
+            left = tt;
+            stays = record {
+              rules = keeps.stays.rules;
+              name = keeps.stays.name;
+              ended = λ was. keeps.stays.ended (some_none _);
+            };
+          }
       | else-door-eq-OWNER+else-door-eq-LINES+then-door-eq-NOTES w ↦
           let keeps = subst after w.self-is c.close_room.ensures in
-          by_notes c.args.door _ _ _ _ w.if-door-eq-NOTES.true (keeps.desk ∙ w.lose_notes.ensures.desk)
+          let loses = w.lose_notes.ensures in
+          record {
+            does = by_notes c.args.door _ _ _ _ w.if-door-eq-NOTES.true (record {
+              desk = keeps.desk ∙ loses.desk;
+              owner = record {
+                reader = keeps.owner.reader ∙ loses.side.owner.reader;
+                input = keeps.owner.input ∙ loses.side.owner.input;
+              };
+            });
+            left = tt;
+            stays = stays_then old w.lose_notes.new.self new loses.side.stays keeps.stays;
+          }
       | else-door-eq-OWNER+else-door-eq-LINES+else-door-eq-NOTES+in-Some w ↦
           let keeps = subst after w.self-is c.close_room.ensures in
-          by_seat c.args.door _ _ _ _ w.in-Some.seat w.in-Some.ensures.some.1 w.in-Some.ensures.some.0
-          (does_then _ c.args.self.now w.lose_seat.new.self c.close_room.new.self
-          w.lose_seat.ensures.loses keeps.desk keeps.outcome keeps.owner)
+          record {
+            does = by_seat c.args.door _ _ _ _ w.in-Some.seat w.in-Some.ensures.some.1 w.in-Some.ensures.some.0
+                (does_then _ old w.lose_seat.new.self new w.lose_seat.ensures.loses keeps.desk keeps.outcome
+                keeps.owner);
+            left = tt;
+            stays = stays_then old w.lose_seat.new.self new w.lose_seat.ensures.side.stays keeps.stays;
+          }
       | else-door-eq-OWNER+else-door-eq-LINES+else-door-eq-NOTES+in_default w ↦
-          by_else c.args.door _ _ _ _ (w.seat_at.ensures.none w.in_default.is)
-          w.if-door-eq-OWNER.false w.if-door-eq-LINES.false w.if-door-eq-NOTES.false
+          let keeps = subst after w.self-is c.close_room.ensures in
+          record {
+            does = by_none c.args.door _ _ _ _ (w.seat_at.ensures.none w.in_default.is)
+                (λ is. absurd (w.if-door-eq-OWNER.false is)) (λ is. absurd (w.if-door-eq-LINES.false is))
+                (kept_by _ _ keeps);
+            left = tt;
+            stays = keeps.stays;
+          }
     ]

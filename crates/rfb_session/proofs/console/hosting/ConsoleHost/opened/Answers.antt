@@ -1,15 +1,19 @@
 use Rattle.std.proofs.Common.{ℕ, ◌+◌, ◌∙◌, Option, ap, subst, arith}
 use Rattle.rfb_session.specs.console.Console.{IsFull}
-use Rattle.rfb_session.specs.console.Steps.{Admits}
+use Rattle.rfb_session.specs.console.Viewers.{Admits}
 use Rattle.rfb_session.proofs.console.hosting.ConsoleHost.opened.Goals as goal
 
 pub returns-in_err-admission-clause-none : goal.returns-in_err-admission-clause-none
 returns-in_err-admission-clause-none g c = λ none.
     let side = c.note_gave_way.ensures.side in
-    IsFull c.in-Some.desk c.admit.new.self c.in-Some.is c.note_gave_way.ensures.desk c.in-Ok.admission.left
-    (subst (λ (seat : Option ℕ). Admits c.in-Some.desk c.args.from.now seat c.in-Ok.admission.left
-    c.admit.new.self) c.in_err-admission.was c.in-Ok.ensures)
-    (record { reader = side.owner.reader; input = side.owner.input })
+    record {
+      declines = IsFull c.in-Some.desk c.admit.new.self c.in-Some.is c.note_gave_way.ensures.desk
+          c.in-Ok.admission.left
+          (subst (λ (seat : Option ℕ). Admits c.in-Some.desk c.args.from.now seat c.in-Ok.admission.left
+          c.admit.new.self) c.in_err-admission.was c.in-Ok.ensures)
+          (record { reader = side.owner.reader; input = side.owner.input });
+      stays = record { rules = side.stays.rules; name = side.stays.name; ended = side.stays.ended };
+    }
 
 pub returns-clause-some : goal.returns-clause-some
 returns-clause-some g c =
@@ -28,6 +32,11 @@ returns-clause-some g c =
         owner = record {
           reader = c.open_room.ensures.owner.reader ∙ side.owner.reader;
           input = c.open_room.ensures.owner.input ∙ side.owner.input;
+        };
+        stays = record {
+          rules = c.open_room.ensures.stays.rules ∙ side.stays.rules;
+          name = c.open_room.ensures.stays.name ∙ side.stays.name;
+          ended = λ was. c.open_room.ensures.stays.ended (side.stays.ended was);
         };
       },
     )

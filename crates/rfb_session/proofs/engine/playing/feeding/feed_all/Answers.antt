@@ -86,55 +86,55 @@ returns-then-count-eq0-clause-played g c =
 pub returns-then-are_enough-clause-first : goal.returns-then-are_enough-clause-first
 returns-then-are_enough-clause-first g c =
     let l = c.loop-turn in
-    let many : AreNoFewer c.args.enough c.in_ok-more.more = search rules in
+    let many : AreNoFewer c.args.enough c.in_ok-updates.updates = search rules in
     λ same. reading_enough c.args.enough (g.R.Source.unread c.args.source.now) (g.R.Source.unread l.source)
     (g.R.Source.unread c.read.new.self) c.args.viewer.now l._turn l.updates l.viewer
-    (take c.in-Ok.count c.read.new.buf) c.in_ok-more.more c.feed_read.new.viewer
+    (take c.in-Ok.count c.read.new.buf) c.in_ok-updates.updates c.feed_read.new.viewer
     l.invariant.reading c.in-Ok.ensures.bytes.0 l.invariant.few many (omega arith)
-    (c.in_ok-more.ensures.first same)
+    (c.in_ok-updates.ensures.first same)
 
 pub returns-then-are_enough-clause-played : goal.returns-then-are_enough-clause-played
 returns-then-are_enough-clause-played g c =
-    let many : AreNoFewer c.args.enough c.in_ok-more.more = search rules in
-    λ few. absurd (few_not_many c.args.enough c.in_ok-more.more few many)
+    let many : AreNoFewer c.args.enough c.in_ok-updates.updates = search rules in
+    λ few. absurd (few_not_many c.args.enough c.in_ok-updates.updates few many)
 
 pub returns-then-are_enough-clause-heard : goal.returns-then-are_enough-clause-heard
 returns-then-are_enough-clause-heard g c =
     let l = c.loop-turn in
     over_ends g.A.Watcher.steps (λ (n : ℕ). l.updates ≡ most n)
-    (EndsRead c.args.enough l.updates (Ok c.in_ok-more.more) c.feed_read.new.viewer)
-    (EndsPlaying c.args.enough (Ok c.in_ok-more.more) c.feed_read.new.viewer)
+    (EndsRead c.args.enough l.updates (Ok c.in_ok-updates.updates) c.feed_read.new.viewer)
+    (EndsPlaying c.args.enough (Ok c.in_ok-updates.updates) c.feed_read.new.viewer)
     (g.R.Source.unread c.args.source.now) (g.R.Source.unread l.source) (g.R.Source.unread c.read.new.self)
     c.args.viewer.now c.args.watcher.now l.viewer l.watcher (take c.in-Ok.count c.read.new.buf)
-    c.feed_read.new.watcher l.invariant.heard c.in-Ok.ensures.bytes.0 c.in_ok-more.ensures.heard
+    c.feed_read.new.watcher l.invariant.heard c.in-Ok.ensures.bytes.0 c.in_ok-updates.ensures.heard
     (λ m n later last was ends. (
-      goes_on m n l.updates c.in_ok-more.more was ends.0,
+      goes_on m n l.updates c.in_ok-updates.updates was ends.0,
       ends.1,
       ends.2,
     ))
 
-pub returns-in_err-more-clause-stopped : goal.returns-in_err-more-clause-stopped
-returns-in_err-more-clause-stopped g c =
+pub returns-in_err-updates-clause-stopped : goal.returns-in_err-updates-clause-stopped
+returns-in_err-updates-clause-stopped g c =
     let p = err_from_is_err_and c.from_residual.result c.from_residual.ensures.1 in
     rw (p.1, p.2) (let l = c.loop-turn in
     until_up_to c.args.enough (g.R.Source.unread c.args.source.now) (g.R.Source.unread c.read.new.self)
     (g.R.Source.failed c.args.source.now) (g.R.Source.failed c.read.new.self) c.args.viewer.now
-    c.in_err-more.field-0.0 c.feed_read.new.viewer
+    c.in_err-updates.field-0.0 c.feed_read.new.viewer
     (reading_until (g.R.Source.unread c.args.source.now) (g.R.Source.unread l.source)
     (g.R.Source.unread c.read.new.self) c.args.viewer.now l._turn l.updates l.viewer
-    (take c.in-Ok.count c.read.new.buf) c.in_err-more.field-0.0 c.feed_read.new.viewer
-    l.invariant.reading c.in-Ok.ensures.bytes.0 c.in_err-more.ensures.stopped))
+    (take c.in-Ok.count c.read.new.buf) c.in_err-updates.field-0.0 c.feed_read.new.viewer
+    l.invariant.reading c.in-Ok.ensures.bytes.0 c.in_err-updates.ensures.stopped))
 
-pub returns-in_err-more-clause-heard : goal.returns-in_err-more-clause-heard
-returns-in_err-more-clause-heard g c =
+pub returns-in_err-updates-clause-heard : goal.returns-in_err-updates-clause-heard
+returns-in_err-updates-clause-heard g c =
     let p = err_from_is_err_and c.from_residual.result c.from_residual.ensures.1 in
     rw (p.1, p.2) (let l = c.loop-turn in
     over_ends g.A.Watcher.steps (λ (n : ℕ). l.updates ≡ most n)
-    (EndsRead c.args.enough l.updates (Err c.in_err-more.field-0.0) c.feed_read.new.viewer)
-    (EndsPlaying c.args.enough (Err (ViewerEnded c.in_err-more.field-0.0)) c.feed_read.new.viewer)
+    (EndsRead c.args.enough l.updates (Err c.in_err-updates.field-0.0) c.feed_read.new.viewer)
+    (EndsPlaying c.args.enough (Err (ViewerEnded c.in_err-updates.field-0.0)) c.feed_read.new.viewer)
     (g.R.Source.unread c.args.source.now) (g.R.Source.unread l.source) (g.R.Source.unread c.read.new.self)
     c.args.viewer.now c.args.watcher.now l.viewer l.watcher (take c.in-Ok.count c.read.new.buf)
-    c.feed_read.new.watcher l.invariant.heard c.in-Ok.ensures.bytes.0 c.in_err-more.ensures.heard
+    c.feed_read.new.watcher l.invariant.heard c.in-Ok.ensures.bytes.0 c.in_err-updates.ensures.heard
     (λ m n later last was ends. ends))
 
 pub loop-turn-preserved : goal.loop-turn-preserved
@@ -142,31 +142,31 @@ loop-turn-preserved g c =
     let l = c.loop-turn in
     let size : length c.read.new.buf ≡ 32768 = search rules in
     let some : 0 < c.in-Ok.count = search rules in
-    let few : AreFewer c.args.enough c.in_ok-more.more = search rules in
+    let few : AreFewer c.args.enough c.in_ok-updates.updates = search rules in
     record {
       reading = reading_more (g.R.Source.unread c.args.source.now) (g.R.Source.unread l.source)
           (g.R.Source.unread c.read.new.self) c.args.viewer.now l._turn l.updates l.viewer
-          (take c.in-Ok.count c.read.new.buf) c.in_ok-more.more c.feed_read.new.viewer
+          (take c.in-Ok.count c.read.new.buf) c.in_ok-updates.updates c.feed_read.new.viewer
           l.invariant.reading c.in-Ok.ensures.bytes.0
           (some_taken c.in-Ok.count c.read.new.buf some (search rules))
-          (c.in_ok-more.ensures.watched few);
+          (c.in_ok-updates.ensures.watched few);
       few = few;
       none_failed = c.in-Ok.ensures.count ∙ l.invariant.none_failed;
       size = size;
       failed = λ f is.
-          let again = c.in_ok-more.ensures.failed
+          let again = c.in_ok-updates.ensures.failed
           (some_taken c.in-Ok.count c.read.new.buf some (search rules)) f
           (ap (λ (v : Viewer). fault_of v) (l.invariant.failed f is).2 ∙ is) in
-          absurd (no_answer c.in_ok-more.more f again.0);
+          absurd (no_answer c.in_ok-updates.updates f again.0);
       heard = over_more g.A.Watcher.steps (λ (n : ℕ). l.updates ≡ most n)
-          (λ (n : ℕ). c.in_ok-more.more ≡ most n)
-          (EndsRead c.args.enough l.updates (Ok c.in_ok-more.more) c.feed_read.new.viewer)
+          (λ (n : ℕ). c.in_ok-updates.updates ≡ most n)
+          (EndsRead c.args.enough l.updates (Ok c.in_ok-updates.updates) c.feed_read.new.viewer)
           (g.R.Source.unread c.args.source.now) (g.R.Source.unread l.source)
           (g.R.Source.unread c.read.new.self) c.args.viewer.now c.args.watcher.now l.viewer l.watcher
           (take c.in-Ok.count c.read.new.buf) c.feed_read.new.viewer c.feed_read.new.watcher
-          l.invariant.heard c.in-Ok.ensures.bytes.0 c.in_ok-more.ensures.heard
+          l.invariant.heard c.in-Ok.ensures.bytes.0 c.in_ok-updates.ensures.heard
           (λ m n later last was ends. (
-            goes_on m n l.updates c.in_ok-more.more was ends.0,
+            goes_on m n l.updates c.in_ok-updates.updates was ends.0,
             ends.1,
             ends.2 few,
           ));
@@ -198,10 +198,10 @@ pub returns-then-are_enough-clause-failed : goal.returns-then-are_enough-clause-
 returns-then-are_enough-clause-failed g c = λ f is.
     let l = c.loop-turn in
     let some : 0 < c.in-Ok.count = search rules in
-    let again = c.in_ok-more.ensures.failed
+    let again = c.in_ok-updates.ensures.failed
     (some_taken c.in-Ok.count c.read.new.buf some (search rules)) f
     (ap (λ (v : Viewer). fault_of v) (l.invariant.failed f is).2 ∙ is) in
-    absurd (no_answer c.in_ok-more.more f again.0)
+    absurd (no_answer c.in_ok-updates.updates f again.0)
 
 pub returns-in_default-clause-failed : goal.returns-in_default-clause-failed
 returns-in_default-clause-failed g c = λ f is.
@@ -230,17 +230,17 @@ returns-then-count-eq0-clause-failed g c = λ f is.
       ),
     )
 
-pub returns-in_err-more-clause-failed : goal.returns-in_err-more-clause-failed
-returns-in_err-more-clause-failed g c =
+pub returns-in_err-updates-clause-failed : goal.returns-in_err-updates-clause-failed
+returns-in_err-updates-clause-failed g c =
     let p = err_from_is_err_and c.from_residual.result c.from_residual.ensures.1 in
     rw (p.1, p.2) (λ f is.
     let l = c.loop-turn in
     let some : 0 < c.in-Ok.count = search rules in
     let was = l.invariant.failed f is in
-    let again = c.in_err-more.ensures.failed
+    let again = c.in_err-updates.ensures.failed
     (some_taken c.in-Ok.count c.read.new.buf some (search rules)) f
     (ap (λ (v : Viewer). fault_of v) was.2 ∙ is) in
-    (again.1 ∙ was.2, inl (told_as f c.in_err-more.field-0.0 again.0)))
+    (again.1 ∙ was.2, inl (told_as f c.in_err-updates.field-0.0 again.0)))
 
 pub returns-clause-failed : goal.returns-clause-failed
 returns-clause-failed g c = λ f is.

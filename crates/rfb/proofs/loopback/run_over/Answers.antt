@@ -1,7 +1,0 @@
-use Rattle.rfb.proofs.LoopbackLemmas.{some_picture}
-use Rattle.rfb.proofs.loopback.run_over.Goals as goal
-
-pub returns-clause-done : goal.returns-clause-done
-returns-clause-done g c =
-    some_picture c.finish.new.ends.viewer (g.W.Write.contents c.args.context.now.output.now)
-    (g.W.Write.contents c.finish.new.context.output.now) c.finish.result c.finish.ensures.done

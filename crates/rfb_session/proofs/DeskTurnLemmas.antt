@@ -1,0 +1,150 @@
+-- A turn of a desk, seat by seat.
+use Rattle.std.proofs.Common.{◌≡◌, ◌<◌, ◌++◌, ◌∙◌, ◌||◌, ◌&&◌, ℕ, zero, suc, Bool, true, false, not, List, [], Option}
+use Rattle.std.proofs.Common.{None}
+use Rattle.std.proofs.Common.{refl, sym, ap, subst, arith, cond}
+use Rattle.rfb_picture.specs.Places.{has_bit}
+use Rattle.rfb_session.specs.declared.console.desk.Desk.{Desk}
+use Rattle.rfb_session.specs.declared.console.desk.Hold.{Hold}
+use Rattle.rfb_session.specs.declared.console.guest.Guest.{Guest}
+use Rattle.rfb_session.specs.declared.console.plan.Rules.{Rules}
+use Rattle.rfb_session.specs.declared.share.Share.{Share}
+use Rattle.rfb_session.specs.declared.share.seat.ShareSeat.{ShareSeat}
+use Rattle.rfb_session.specs.Share.{seat_in, screen_of, serving_in, waiting_for}
+use Rattle.rfb_session.specs.ShareSteps.{KeepsScreen}
+use Rattle.rfb_session.specs.owner.Telling.{leave_line}
+use Rattle.rfb_session.specs.console.Telling.{leave_lines}
+use Rattle.rfb_session.specs.console.Desk.{nobody, guest_at, lines_of, is_over, tells_in}
+use Rattle.rfb_session.specs.console.Time.{stamped, is_slow, is_stuck, waits_for}
+use Rattle.rfb_session.specs.console.Viewers.{LetsAllGo}
+use Rattle.rfb_session.specs.console.Turns.{ReleasesAll, StampsAll, Stills, ComposesAll, KeepsBeside, Wakes}
+use Rattle.rfb_session.specs.console.Turns.{ServesUnless, hold_after, holds_at}
+use Rattle.rfb_session.specs.console.Turns.{TurnsAs, seat_kept, guest_then, is_late, tells_late, seat_left}
+
+leave_lines_below : (f g : ℕ → Bool) (n : ℕ) → ((k : ℕ) → k < n → f k ≡ g k) → leave_lines f n ≡ leave_lines g n
+leave_lines_below f g zero same = refl
+leave_lines_below f g (suc n) same =
+    ap (λ (l : List ℕ). l ++ cond (f n) (leave_line n) [])
+    (leave_lines_below f g n (λ k within. same k (omega (arith, within))))
+    ∙ ap (λ (b : Bool). leave_lines g n ++ cond b (leave_line n) []) (same n (omega arith))
+
+-- what a desk has after all that a turn does before updates are composed
+module _ (old released begins stays shows : Desk) (now slow stuck late : ℕ) (held : Bool)
+    (releases : ReleasesAll old released) (stamps : StampsAll released now begins)
+    (slow_is : (k : ℕ) → k < 8 → has_bit slow k ≡ is_slow begins.rules now (guest_at begins k))
+    (stuck_is : (k : ℕ) → k < 8 → has_bit stuck k ≡ is_stuck begins.rules now (guest_at begins k))
+    (late_is : (k : ℕ) → has_bit late k ≡ (has_bit slow k || has_bit stuck k))
+    (goes : LetsAllGo begins late stays) (stills : Stills stays now held shows) where
+  begun : (k : ℕ) → k < 8 → guest_at begins k ≡ guest_then old now k
+  begun k within = stamps.guests k within
+      ∙ ap (λ (o : Option ShareSeat). stamped now (waits_for (waiting_for o)) (guest_at released k))
+      (releases.seats k within)
+      ∙ ap (λ (g : Guest). stamped now (waits_for (waiting_for (seat_kept old k))) g) (releases.guests k within)
+
+  rules_begin : begins.rules ≡ old.rules
+  rules_begin = stamps.rules.rules ∙ releases.rules.rules
+
+  slow_then : (k : ℕ) → k < 8 → has_bit slow k ≡ is_slow old.rules now (guest_then old now k)
+  slow_then k within = slow_is k within
+      ∙ ap (λ (r : Rules). is_slow r now (guest_at begins k)) rules_begin
+      ∙ ap (λ (g : Guest). is_slow old.rules now g) (begun k within)
+
+  stuck_then : (k : ℕ) → k < 8 → has_bit stuck k ≡ is_stuck old.rules now (guest_then old now k)
+  stuck_then k within = stuck_is k within
+      ∙ ap (λ (r : Rules). is_stuck r now (guest_at begins k)) rules_begin
+      ∙ ap (λ (g : Guest). is_stuck old.rules now g) (begun k within)
+
+  late_then : (k : ℕ) → k < 8 → has_bit late k ≡ is_late old now k
+  late_then k within = late_is k
+      ∙ ap (λ (b : Bool). b || has_bit stuck k) (slow_then k within)
+      ∙ ap (λ (b : Bool). is_slow old.rules now (guest_then old now k) || b) (stuck_then k within)
+
+  guest_shown : (k : ℕ) → k < 8 → guest_at shows k ≡ cond (is_late old now k) nobody (guest_then old now k)
+  guest_shown k within = stills.guests k ∙ goes.guests k within
+      ∙ ap (λ (b : Bool). cond b nobody (guest_at begins k)) (late_then k within)
+      ∙ ap (λ (g : Guest). cond (is_late old now k) nobody g) (begun k within)
+
+  seat_shown : (k : ℕ) → k < 8 → seat_in shows.share k ≡ seat_left old now k
+  seat_shown k within = ap (λ (s : Share). seat_in s k) stills.share ∙ goes.seats k within
+      ∙ ap (λ (b : Bool). cond b None (seat_in begins.share k)) (late_then k within)
+      ∙ ap (λ (s : Share). cond (is_late old now k) None (seat_in s k)) stamps.share
+      ∙ ap (λ (o : Option ShareSeat). cond (is_late old now k) None o) (releases.seats k within)
+
+  lines_shown : lines_of shows ≡ lines_of old ++ leave_lines (tells_late old now) 8
+  lines_shown = stills.lines ∙ goes.lines
+      ∙ ap (λ (l : List ℕ). l ++ leave_lines (tells_in begins late) 8) (stamps.lines ∙ releases.lines)
+      ∙ ap (λ (l : List ℕ). lines_of old ++ l) (leave_lines_below (tells_in begins late) (tells_late old now) 8
+      (λ k within. ap (λ (b : Bool). b && not (is_over (guest_at begins k).progress)) (late_then k within)
+      ∙ ap (λ (g : Guest). is_late old now k && not (is_over g.progress)) (begun k within)))
+
+  screen_shown : KeepsScreen old.share shows.share
+  screen_shown = record {
+    screen = ap (λ (s : Share). screen_of s) stills.share ∙ goes.screen.screen
+        ∙ ap (λ (s : Share). screen_of s) stamps.share ∙ releases.screen.screen;
+    made = ap (λ (s : Share). serving_in s) stills.share ∙ goes.screen.made
+        ∙ ap (λ (s : Share). serving_in s) stamps.share ∙ releases.screen.made;
+  }
+
+  rules_stay : stays.rules ≡ old.rules
+  rules_stay = goes.rules.rules ∙ rules_begin
+
+  hold_stays : stays.hold ≡ old.hold
+  hold_stays = goes.rules.hold ∙ stamps.rules.hold ∙ releases.rules.hold
+
+  held_then : held ≡ holds_at old.rules.hold now old.hold
+  held_then = stills.held_is ∙ ap (λ (r : Rules). holds_at r.hold now stays.hold) rules_stay
+      ∙ ap (λ (h : Hold). holds_at old.rules.hold now h) hold_stays
+
+  hold_then : shows.hold ≡ hold_after old.rules.hold now old.hold
+  hold_then = stills.hold ∙ ap (λ (r : Rules). hold_after r.hold now stays.hold) rules_stay
+      ∙ ap (λ (h : Hold). hold_after old.rules.hold now h) hold_stays
+
+  -- and then they are, or they are held back
+  pub turns_so : (composed new : Desk) (wants : Bool) → (held ≡ true → composed ≡ shows) →
+      (held ≡ false → ComposesAll shows wants composed) → new.share ≡ composed.share →
+      KeepsBeside composed new → Wakes new now wants new.next → TurnsAs old now slow stuck new
+  turns_so composed new wants kept composes share beside wakes = by held refl
+    where
+      turns : KeepsBeside shows composed → KeepsScreen shows.share composed.share →
+          ((k : ℕ) → k < 8 → ServesUnless held (screen_of old.share) wants (seat_left old now k)
+          (seat_in composed.share k)) → TurnsAs old now slow stuck new
+      turns aside screen seats = record {
+        slow_is = slow_then;
+        stuck_is = stuck_then;
+        guests = λ k within. beside.guests k ∙ aside.guests k ∙ guest_shown k within;
+        lines = beside.lines ∙ aside.lines ∙ lines_shown;
+        held = held;
+        held_is = held_then;
+        hold = beside.rules.hold ∙ aside.rules.hold ∙ hold_then;
+        wants = wants;
+        seats = λ k within. subst (λ (s : Share). ServesUnless held (screen_of old.share) wants
+            (seat_left old now k) (seat_in s k)) (sym share) (seats k within);
+        screen = record {
+          screen = ap (λ (s : Share). screen_of s) share ∙ screen.screen ∙ screen_shown.screen;
+          made = ap (λ (s : Share). serving_in s) share ∙ screen.made ∙ screen_shown.made;
+        };
+        rules = beside.rules.rules ∙ aside.rules.rules ∙ stills.made ∙ rules_stay;
+        next = wakes;
+      }
+
+      same_beside : KeepsBeside shows shows
+      same_beside = record {
+        guests = λ k. refl;
+        lines = refl;
+        rules = record { rules = refl; hold = refl };
+      }
+
+      by : (b : Bool) → held ≡ b → TurnsAs old now slow stuck new
+      by true is =
+          let same = kept is in
+          turns (subst (λ (d : Desk). KeepsBeside shows d) (sym same) same_beside)
+          (subst (λ (d : Desk). KeepsScreen shows.share d.share) (sym same)
+          (record { screen = refl; made = refl }))
+          (λ k within. subst (λ (h : Bool). ServesUnless h (screen_of old.share) wants (seat_left old now k)
+          (seat_in composed.share k)) (sym is)
+          (ap (λ (d : Desk). seat_in d.share k) same ∙ seat_shown k within))
+      by false is =
+          let all = composes is in
+          turns all.beside all.screen
+          (λ k within. subst (λ (h : Bool). ServesUnless h (screen_of old.share) wants (seat_left old now k)
+          (seat_in composed.share k)) (sym is)
+          (rw (sym screen_shown.screen, sym (seat_shown k within)) (all.seats k within)))

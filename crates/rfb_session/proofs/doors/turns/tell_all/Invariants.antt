@@ -1,8 +1,0 @@
--- What was done at the doors so far.
-use Rattle.rfb_session.specs.doors.Turns.{Turns}
-use Rattle.rfb_session.proofs.doors.turns.tell_all.Given as goal
-
-abbrev pub invariant-loop-door : goal.invariant-loop-door
-invariant-loop-door g l =
-    Turns g.C.Core.steps g.D.Device.unread g.D.Device.written g.D.Device.failed g.D.Device.stands
-    l.initial.core l.core l.initial.doors l.doors

@@ -1,0 +1,243 @@
+-- What time does at a desk, what is shown and drawn there, and what is written of what waits.
+use Rattle.std.specs.Prelude.{◌≡◌, ◌<◌, ◌≤◌, ◌+◌, ◌-◌, ℕ, Bool, true, false, ◌&&◌, ◌||◌, not, nat_eq, nat_lt, cond}
+use Rattle.std.specs.Prelude.{List, [], ◌++◌, drop, Option, None}
+use Rattle.rfb_pixel.specs.declared.colour.Colour.{Colour}
+use Rattle.rfb_picture.specs.Grid.{Grid, uniform}
+use Rattle.rfb_picture.specs.Places.{has_bit}
+use Rattle.rfb_server.specs.Drawing.{Stroke}
+use Rattle.rfb_server.specs.Server.{black}
+use Rattle.rfb_session.specs.declared.console.desk.Desk.{Desk}
+use Rattle.rfb_session.specs.declared.console.desk.Hold.{Hold}
+use Rattle.rfb_session.specs.declared.console.desk.Hold.TheVariants.{Shown, Begins, Since}
+use Rattle.rfb_session.specs.declared.console.guest.Guest.{Guest}
+use Rattle.rfb_session.specs.declared.console.plan.Rules.{Rules}
+use Rattle.rfb_session.specs.declared.language.screen.Screen.{Screen as Size}
+use Rattle.rfb_session.specs.declared.share.event.Composing.{Composing}
+use Rattle.rfb_session.specs.declared.share.seat.ShareSeat.{ShareSeat}
+use Rattle.rfb_session.specs.Share.{seat_in, screen_of, waits_at, waiting_for, IsEmptyShare}
+use Rattle.rfb_session.specs.ShareSlots.{ComposesIn, WantsRoomIn}
+use Rattle.rfb_session.specs.ShareSteps.{KeepsScreen, WritesAs}
+use Rattle.rfb_session.specs.ShareWork.{RestsIn}
+use Rattle.rfb_session.specs.owner.Drawing.{DrawsOne}
+use Rattle.rfb_session.specs.console.Telling.{leave_lines}
+use Rattle.rfb_session.specs.console.Desk.{nobody, guest_at, lines_of, is_over, is_failing, KeepsRules, OtherGuests}
+use Rattle.rfb_session.specs.console.Time.{stamped, is_slow, is_stuck, waits_for, IsBy, IsByEnd, IsByLimit}
+
+-- ---- time and updates
+
+-- all but the share is as it was
+pub record KeepsBeside (old new : Desk) : Type 0 where
+  pub guests : (k : ℕ) → guest_at new k ≡ guest_at old k
+  pub lines : lines_of new ≡ lines_of old
+  pub rules : KeepsRules old new
+
+-- a seat where an update was tried: it was composed, or found not due, or bytes wait there, or nobody is there;
+-- or memory for it was wanting. Where none was tried it is as it was
+abbrev pub TriesOne : Grid Colour → Bool → Bool → Option ShareSeat → Option ShareSeat → Type 0
+TriesOne screen false wants old new = new ≡ old
+TriesOne screen true false old new = (told : Composing) × ComposesIn screen told old new
+TriesOne screen true true old new = WantsRoomIn screen old new
+
+pub record ComposesOne (old : Desk) (k : ℕ) (tries wants : Bool) (new : Desk) : Type 0 where
+  pub seat : TriesOne (screen_of old.share) tries wants (seat_in old.share k) (seat_in new.share k)
+  pub seats : (j : ℕ) → nat_eq j k ≡ false → seat_in new.share j ≡ seat_in old.share j
+  pub screen : KeepsScreen old.share new.share
+  pub beside : KeepsBeside old new
+
+-- a seat is served: nothing waits and no update is due there, and it is as it was; or an update was tried; or
+-- memory for it was wanting, and that is told
+pub data Serves (screen : Grid Colour) (wants : Bool) (old new : Option ShareSeat) : Type 0 where
+  Rested : RestsIn screen old → new ≡ old → Serves screen wants old new
+  Tried : (told : Composing) → ComposesIn screen told old new → Serves screen wants old new
+  Wanted : wants ≡ true → WantsRoomIn screen old new → Serves screen wants old new
+
+-- the first `count` seats are
+pub record ComposesUpTo (count : ℕ) (old : Desk) (wants : Bool) (new : Desk) : Type 0 where
+  pub seats : (k : ℕ) → k < count →
+      Serves (screen_of old.share) wants (seat_in old.share k) (seat_in new.share k)
+  pub later : (k : ℕ) → count ≤ k → seat_in new.share k ≡ seat_in old.share k
+  pub screen : KeepsScreen old.share new.share
+  pub beside : KeepsBeside old new
+
+abbrev pub ComposesAll : Desk → Bool → Desk → Type 0
+ComposesAll old wants new = ComposesUpTo 8 old wants new
+
+-- a viewer that has failed goes with the last byte that waited for it
+abbrev pub is_done : Desk → ℕ → Bool
+is_done desk k = is_failing (guest_at desk k).progress && not (waits_for (waits_at desk.share k))
+
+-- who sits at a seat after that, and what is known of them
+abbrev pub seat_kept : Desk → ℕ → Option ShareSeat
+seat_kept desk k = cond (is_done desk k) None (seat_in desk.share k)
+
+abbrev pub guest_kept : Desk → ℕ → Guest
+guest_kept desk k = cond (is_done desk k) nobody (guest_at desk k)
+
+pub record ReleasesOne (old : Desk) (k : ℕ) (new : Desk) : Type 0 where
+  pub seat : seat_in new.share k ≡ seat_kept old k
+  pub seats : (j : ℕ) → nat_eq j k ≡ false → seat_in new.share j ≡ seat_in old.share j
+  pub screen : KeepsScreen old.share new.share
+  pub guest : guest_at new k ≡ guest_kept old k
+  pub others : OtherGuests old k new
+  pub lines : lines_of new ≡ lines_of old
+  pub rules : KeepsRules old new
+
+pub record ReleasesUpTo (count : ℕ) (old new : Desk) : Type 0 where
+  pub seats : (k : ℕ) → k < count → seat_in new.share k ≡ seat_kept old k
+  pub seats_later : (k : ℕ) → count ≤ k → seat_in new.share k ≡ seat_in old.share k
+  pub screen : KeepsScreen old.share new.share
+  pub guests : (k : ℕ) → k < count → guest_at new k ≡ guest_kept old k
+  pub guests_later : (k : ℕ) → count ≤ k → guest_at new k ≡ guest_at old k
+  pub lines : lines_of new ≡ lines_of old
+  pub rules : KeepsRules old new
+
+abbrev pub ReleasesAll : Desk → Desk → Type 0
+ReleasesAll old new = ReleasesUpTo 8 old new
+
+-- what began since the last turn began now
+pub record StampsOne (old : Desk) (k now : ℕ) (new : Desk) : Type 0 where
+  pub share : new.share ≡ old.share
+  pub guest : guest_at new k ≡ stamped now (waits_for (waits_at old.share k)) (guest_at old k)
+  pub others : OtherGuests old k new
+  pub lines : lines_of new ≡ lines_of old
+  pub rules : KeepsRules old new
+
+pub record StampsUpTo (count : ℕ) (old : Desk) (now : ℕ) (new : Desk) : Type 0 where
+  pub share : new.share ≡ old.share
+  pub guests : (k : ℕ) → k < count →
+      guest_at new k ≡ stamped now (waits_for (waits_at old.share k)) (guest_at old k)
+  pub later : (k : ℕ) → count ≤ k → guest_at new k ≡ guest_at old k
+  pub lines : lines_of new ≡ lines_of old
+  pub rules : KeepsRules old new
+
+abbrev pub StampsAll : Desk → ℕ → Desk → Type 0
+StampsAll old now new = StampsUpTo 8 old now new
+
+-- whether updates are held back at this time, and the hold after it: one that lasts too long ends
+abbrev pub holds_at : ℕ → ℕ → Hold → Bool
+holds_at limit now Shown = false
+holds_at limit now Begins = true
+holds_at limit now (Since since) = nat_lt (now - since) limit
+
+abbrev pub hold_after : ℕ → ℕ → Hold → Hold
+hold_after limit now Shown = Shown
+hold_after limit now Begins = Since now
+hold_after limit now (Since since) = cond (nat_lt (now - since) limit) (Since since) Shown
+
+pub record Stills (old : Desk) (now : ℕ) (held : Bool) (new : Desk) : Type 0 where
+  pub held_is : held ≡ holds_at old.rules.hold now old.hold
+  pub hold : new.hold ≡ hold_after old.rules.hold now old.hold
+  pub made : new.rules ≡ old.rules
+  pub share : new.share ≡ old.share
+  pub guests : (k : ℕ) → guest_at new k ≡ guest_at old k
+  pub lines : lines_of new ≡ lines_of old
+
+-- ---- a turn
+
+-- when the next one is wanted: no later than a viewer's time is over, or the hold, and soon where memory was
+-- wanting
+pub record WakesFor (rules : Rules) (guest : Guest) (next : Option ℕ) : Type 0 where
+  pub slow : IsByEnd rules.handshake guest.since next
+  pub stuck : IsByLimit rules.timeout guest.idle next
+
+abbrev pub WakesAt : ℕ → Hold → Option ℕ → Type 0
+WakesAt limit Shown next = Unit {0}
+WakesAt limit Begins next = Unit {0}
+WakesAt limit (Since since) next = IsBy (since + limit) next
+
+pub record Wakes (desk : Desk) (now : ℕ) (wants : Bool) (next : Option ℕ) : Type 0 where
+  pub guests : (k : ℕ) → k < 8 → WakesFor desk.rules (guest_at desk k) next
+  pub hold : WakesAt desk.rules.hold desk.hold next
+  pub again : wants ≡ true → IsBy (now + 100) next
+
+-- what is known of a viewer at that time, and whether its time is over
+abbrev pub guest_then : Desk → ℕ → ℕ → Guest
+guest_then desk now k = stamped now (waits_for (waiting_for (seat_kept desk k))) (guest_kept desk k)
+
+abbrev pub is_late : Desk → ℕ → ℕ → Bool
+is_late desk now k = is_slow desk.rules now (guest_then desk now k) || is_stuck desk.rules now (guest_then desk now k)
+
+-- it is told, unless its viewer was told to have failed
+abbrev pub tells_late : Desk → ℕ → ℕ → Bool
+tells_late desk now k = is_late desk now k && not (is_over (guest_then desk now k).progress)
+
+-- who is left then
+abbrev pub seat_left : Desk → ℕ → ℕ → Option ShareSeat
+seat_left desk now k = cond (is_late desk now k) None (seat_kept desk k)
+
+-- a seat is served, unless updates are held back
+abbrev pub ServesUnless : Bool → Grid Colour → Bool → Option ShareSeat → Option ShareSeat → Type 0
+ServesUnless true screen wants old new = new ≡ old
+ServesUnless false screen wants old new = Serves screen wants old new
+
+-- a turn: who failed goes once all is written, whoever's time is over is let go, and a line tells each; the
+-- others' time goes on, and their seats are served, unless updates are held back
+pub record TurnsAs (old : Desk) (now slow stuck : ℕ) (new : Desk) : Type 0 where
+  pub slow_is : (k : ℕ) → k < 8 → has_bit slow k ≡ is_slow old.rules now (guest_then old now k)
+  pub stuck_is : (k : ℕ) → k < 8 → has_bit stuck k ≡ is_stuck old.rules now (guest_then old now k)
+  pub guests : (k : ℕ) → k < 8 → guest_at new k ≡ cond (is_late old now k) nobody (guest_then old now k)
+  pub lines : lines_of new ≡ lines_of old ++ leave_lines (tells_late old now) 8
+  pub held : Bool
+  pub held_is : held ≡ holds_at old.rules.hold now old.hold
+  pub hold : new.hold ≡ hold_after old.rules.hold now old.hold
+  pub wants : Bool
+  pub seats : (k : ℕ) → k < 8 →
+      ServesUnless held (screen_of old.share) wants (seat_left old now k) (seat_in new.share k)
+  pub screen : KeepsScreen old.share new.share
+  pub rules : new.rules ≡ old.rules
+  pub next : Wakes new now wants new.next
+
+-- ---- what the owner says
+
+-- a black screen of that size, of that name, and no viewer
+pub record IsFreshDesk (size : Size) (name : List ℕ) (rules : Rules) (desk : Desk) : Type 0 where
+  pub empty : IsEmptyShare desk.share
+  pub screen : screen_of desk.share ≡ uniform size.width size.height black
+  pub guests : (k : ℕ) → guest_at desk k ≡ nobody
+  pub lines : lines_of desk ≡ []
+  pub rules_are : desk.rules ≡ rules
+  pub hold : desk.hold ≡ Shown
+
+-- a drawing is done, or leaves the screen and nothing is
+pub record DrawsAs (old : Desk) (stroke : Stroke) (done : Bool) (new : Desk) : Type 0 where
+  pub drawn : DrawsOne old.share stroke new.share done
+  pub beside : KeepsBeside old new
+
+pub record HoldsAs (old : Desk) (hold : Hold) (new : Desk) : Type 0 where
+  pub hold_is : new.hold ≡ hold
+  pub made : new.rules ≡ old.rules
+  pub share : new.share ≡ old.share
+  pub guests : (k : ℕ) → guest_at new k ≡ guest_at old k
+  pub lines : lines_of new ≡ lines_of old
+
+-- what was held back is shown: updates are composed
+pub record ShowsAs (old new : Desk) : Type 0 where
+  pub mid : Desk
+  pub holds : HoldsAs old Shown mid
+  pub wants : Bool
+  pub composes : ComposesAll mid wants new
+
+-- ---- bytes that are written
+
+-- no line waits that tells of a viewer
+pub record ForgetsTold (old new : Desk) : Type 0 where
+  pub share : new.share ≡ old.share
+  pub lines : lines_of new ≡ lines_of old
+  pub progress : (k : ℕ) → (guest_at new k).progress ≡ (guest_at old k).progress
+  pub rules : KeepsRules old new
+
+-- the first `count` bytes of the lines are gone
+pub record WritesLines (old : Desk) (count : ℕ) (new : Desk) : Type 0 where
+  pub share : new.share ≡ old.share
+  pub lines : lines_of new ≡ drop count (lines_of old)
+  pub progress : (k : ℕ) → (guest_at new k).progress ≡ (guest_at old k).progress
+  pub rules : KeepsRules old new
+
+-- the first `count` that wait at a seat are gone, and its time begins anew
+pub record WritesSeat (old : Desk) (k count : ℕ) (new : Desk) : Type 0 where
+  pub share : WritesAs old.share k count new.share
+  pub waits : waits_at new.share k ≡ drop count (waits_at old.share k)
+  pub guest : guest_at new k ≡ record (guest_at old k) { idle = None }
+  pub others : OtherGuests old k new
+  pub lines : lines_of new ≡ lines_of old
+  pub rules : KeepsRules old new

@@ -1,0 +1,228 @@
+-- What becomes of the viewers of a desk: who is let go, what they send, and who comes.
+use Rattle.std.specs.Prelude.{◌≡◌, ◌<◌, ◌≤◌, ℕ, suc, Bool, true, false, ◌&&◌, not, nat_eq, cond, length}
+use Rattle.std.specs.Prelude.{List, [], ◌++◌, Option, Some, None}
+use Rattle.rfb_picture.specs.Places.{has_bit}
+use Rattle.rfb_session.specs.declared.console.desk.Desk.{Desk}
+use Rattle.rfb_session.specs.declared.console.guest.Progress.{Progress}
+use Rattle.rfb_session.specs.declared.console.guest.Progress.TheVariants.{Ready, Failing}
+use Rattle.rfb_session.specs.declared.share.event.Heard.{Heard}
+use Rattle.rfb_session.specs.declared.share.event.SeatEvent.{SeatEvent}
+use Rattle.rfb_session.specs.declared.share.event.SeatEvent.TheVariants.{Key, Pointer, CutText}
+use Rattle.rfb_session.specs.declared.share.event.SeatEvent.TheVariants.{Ready as IsReady}
+use Rattle.rfb_session.specs.declared.share.event.ShareFault.{ShareFault}
+use Rattle.rfb_session.specs.Share.{seat_in}
+use Rattle.rfb_session.specs.ShareSteps.{LeavesAs, JoinsAs, KeepsScreen, RefusesAs, HearsBy}
+use Rattle.rfb_session.specs.owner.Telling.{leave_line}
+use Rattle.rfb_session.specs.console.Telling.{IsFaultLine, leave_lines, told_line, come_line, busy_line}
+use Rattle.rfb_session.specs.console.Desk.{nobody, newcomer, guest_at, lines_of, is_over, gives_way, tells_in}
+use Rattle.rfb_session.specs.console.Desk.{KeepsRules, OtherGuests, seated}
+
+-- ---- viewers that are let go
+
+-- a seat is emptied, and nothing else has changed; the answer says whether that is to be told: somebody was
+-- there, who was not told to have failed
+pub record Vacates (old : Desk) (k : ℕ) (told : Bool) (new : Desk) : Type 0 where
+  pub taken : Bool
+  pub told_is : told ≡ (taken && not (is_over (guest_at old k).progress))
+  pub share : LeavesAs old.share k taken new.share
+  pub guest : guest_at new k ≡ nobody
+  pub others : OtherGuests old k new
+  pub lines : lines_of new ≡ lines_of old
+  pub rules : KeepsRules old new
+
+-- a seat is emptied, and the line tells it where that is to be told
+pub record LetsGo (old : Desk) (k : ℕ) (told : Bool) (line : List ℕ) (new : Desk) : Type 0 where
+  pub taken : Bool
+  pub told_is : told ≡ (taken && not (is_over (guest_at old k).progress))
+  pub share : LeavesAs old.share k taken new.share
+  pub guest : guest_at new k ≡ nobody
+  pub others : OtherGuests old k new
+  pub lines : lines_of new ≡ lines_of old ++ cond told line []
+  pub rules : KeepsRules old new
+
+-- the same, where the line names a fault
+pub record LetsGoFor (old : Desk) (k : ℕ) (told : Bool) (new : Desk) : Type 0 where
+  pub taken : Bool
+  pub told_is : told ≡ (taken && not (is_over (guest_at old k).progress))
+  pub share : LeavesAs old.share k taken new.share
+  pub guest : guest_at new k ≡ nobody
+  pub others : OtherGuests old k new
+  pub line : told ≡ true → (line : List ℕ) × IsFaultLine k line × (lines_of new ≡ lines_of old ++ line)
+  pub none : told ≡ false → lines_of new ≡ lines_of old
+  pub rules : KeepsRules old new
+
+-- a seat, if it is one of them, is emptied, and a line tells it where that is to be told
+pub record LetsGoIf (old : Desk) (k : ℕ) (goes : Bool) (new : Desk) : Type 0 where
+  pub seat : seat_in new.share k ≡ cond goes None (seat_in old.share k)
+  pub seats : (j : ℕ) → nat_eq j k ≡ false → seat_in new.share j ≡ seat_in old.share j
+  pub screen : KeepsScreen old.share new.share
+  pub guest : guest_at new k ≡ cond goes nobody (guest_at old k)
+  pub others : OtherGuests old k new
+  pub lines : lines_of new
+      ≡ lines_of old ++ cond (goes && not (is_over (guest_at old k).progress)) (leave_line k) []
+  pub rules : KeepsRules old new
+
+-- of the first `count` seats those in a set are emptied, in order, and a line tells each
+pub record LetsGoUpTo (count : ℕ) (old : Desk) (set : ℕ) (new : Desk) : Type 0 where
+  pub seats : (k : ℕ) → k < count → seat_in new.share k ≡ cond (has_bit set k) None (seat_in old.share k)
+  pub seats_later : (k : ℕ) → count ≤ k → seat_in new.share k ≡ seat_in old.share k
+  pub screen : KeepsScreen old.share new.share
+  pub guests : (k : ℕ) → k < count → guest_at new k ≡ cond (has_bit set k) nobody (guest_at old k)
+  pub guests_later : (k : ℕ) → count ≤ k → guest_at new k ≡ guest_at old k
+  pub lines : lines_of new ≡ lines_of old ++ leave_lines (tells_in old set) count
+  pub rules : KeepsRules old new
+
+abbrev pub LetsAllGo : Desk → ℕ → Desk → Type 0
+LetsAllGo old set new = LetsGoUpTo 8 old set new
+
+-- of a seat, if it is one of them, nothing is known any more, and a line tells it
+pub record PartsAt (old : Desk) (k : ℕ) (parts : Bool) (new : Desk) : Type 0 where
+  pub share : new.share ≡ old.share
+  pub guest : guest_at new k ≡ cond parts nobody (guest_at old k)
+  pub others : OtherGuests old k new
+  pub lines : lines_of new
+      ≡ lines_of old ++ cond (parts && not (is_over (guest_at old k).progress)) (leave_line k) []
+  pub rules : KeepsRules old new
+
+-- of the first `count` seats those in a set, in their order
+pub record PartsUpTo (count : ℕ) (old : Desk) (set : ℕ) (new : Desk) : Type 0 where
+  pub share : new.share ≡ old.share
+  pub guests : (k : ℕ) → k < count → guest_at new k ≡ cond (has_bit set k) nobody (guest_at old k)
+  pub later : (k : ℕ) → count ≤ k → guest_at new k ≡ guest_at old k
+  pub lines : lines_of new ≡ lines_of old ++ leave_lines (tells_in old set) count
+  pub rules : KeepsRules old new
+
+abbrev pub Parts : Desk → ℕ → Desk → Type 0
+Parts old set new = PartsUpTo 8 old set new
+
+-- ---- bytes of a viewer
+
+-- its time begins anew
+pub record Stirs (old : Desk) (k : ℕ) (new : Desk) : Type 0 where
+  pub share : new.share ≡ old.share
+  pub progress : (guest_at new k).progress ≡ (guest_at old k).progress
+  pub since : (guest_at new k).since ≡ (guest_at old k).since
+  pub idle : (guest_at new k).idle ≡ None
+  pub others : OtherGuests old k new
+  pub lines : lines_of new ≡ lines_of old
+  pub rules : KeepsRules old new
+
+-- how far a viewer is after it has done something
+abbrev pub progress_after : Option SeatEvent → Progress → Progress
+progress_after None progress = progress
+progress_after (Some (IsReady shared)) progress = Ready
+progress_after (Some (Key down key)) progress = progress
+progress_after (Some (Pointer buttons x y)) progress = progress
+progress_after (Some (CutText kept text_length)) progress = progress
+
+-- the owner is told what a viewer did
+pub record TellsEvent (old : Desk) (k : ℕ) (event : Option SeatEvent) (new : Desk) : Type 0 where
+  pub share : new.share ≡ old.share
+  pub progress : (guest_at new k).progress ≡ progress_after event (guest_at old k).progress
+  pub since : (guest_at new k).since ≡ (guest_at old k).since
+  pub others : OtherGuests old k new
+  pub lines : lines_of new ≡ lines_of old ++ told_line old.rules.view_only k event
+  pub rules : KeepsRules old new
+
+-- how much of it is told is counted
+pub record CountsTold (old : Desk) (k : ℕ) (new : Desk) : Type 0 where
+  pub share : new.share ≡ old.share
+  pub progress : (guest_at new k).progress ≡ (guest_at old k).progress
+  pub since : (guest_at new k).since ≡ (guest_at old k).since
+  pub others : OtherGuests old k new
+  pub lines : lines_of new ≡ lines_of old
+  pub rules : KeepsRules old new
+
+-- and before that who was let go for it, which it is not itself
+pub record TellsOf (old : Desk) (k : ℕ) (heard : Heard) (new : Desk) : Type 0 where
+  pub share : new.share ≡ old.share
+  pub progress : has_bit heard.ended k ≡ false →
+      (guest_at new k).progress ≡ progress_after heard.event (guest_at old k).progress
+  pub since : has_bit heard.ended k ≡ false → (guest_at new k).since ≡ (guest_at old k).since
+  pub others : (j : ℕ) → j < 8 → nat_eq j k ≡ false →
+      guest_at new j ≡ cond (has_bit heard.ended j) nobody (guest_at old j)
+  pub lines : lines_of new
+      ≡ lines_of old ++ (leave_lines (tells_in old heard.ended) 8 ++ told_line old.rules.view_only k heard.event)
+  pub rules : KeepsRules old new
+
+-- its session has failed, which is told once
+pub record Fails (old : Desk) (k : ℕ) (told : Bool) (new : Desk) : Type 0 where
+  pub share : new.share ≡ old.share
+  pub told_is : told ≡ not (is_over (guest_at old k).progress)
+  pub progress : (guest_at new k).progress ≡ cond told Failing (guest_at old k).progress
+  pub others : OtherGuests old k new
+  pub line : told ≡ true → (line : List ℕ) × IsFaultLine k line × (lines_of new ≡ lines_of old ++ line)
+  pub none : told ≡ false → lines_of new ≡ lines_of old
+  pub rules : KeepsRules old new
+
+-- a line tells that it failed, unless nobody is there or it has failed before
+pub record TellsFault (old : Desk) (k : ℕ) (new : Desk) : Type 0 where
+  pub line : is_over (guest_at old k).progress ≡ false →
+      (line : List ℕ) × IsFaultLine k line × (lines_of new ≡ lines_of old ++ line)
+  pub none : is_over (guest_at old k).progress ≡ true → lines_of new ≡ lines_of old
+
+-- how far it is after its session has failed
+abbrev pub progress_failed : Progress → Progress
+progress_failed progress = cond (is_over progress) progress Failing
+
+-- they were taken at the seat's session, and what its viewer did is told; or that session has ended, or
+-- there is none, and it is told once that it failed
+pub data HearsAt (old : Desk) (k : ℕ) (bytes : List ℕ) (used ended : ℕ) (new : Desk) : Type 0 where
+  Took : (heard : Heard) → used ≡ heard.used → ended ≡ heard.ended →
+      HearsBy (not old.rules.always_shared) old.share k bytes heard new.share →
+      (guest_at new k).progress ≡ progress_after heard.event (guest_at old k).progress →
+      ((j : ℕ) → j < 8 → nat_eq j k ≡ false →
+      guest_at new j ≡ cond (has_bit heard.ended j) nobody (guest_at old j)) →
+      lines_of new ≡ lines_of old
+      ++ (leave_lines (tells_in old heard.ended) 8 ++ told_line old.rules.view_only k heard.event) →
+      KeepsRules old new → HearsAt old k bytes used ended new
+  Refused : (fault : ShareFault) → used ≡ length bytes → ((j : ℕ) → has_bit ended j ≡ false) →
+      RefusesAs old.share k bytes fault new.share → TellsFault old k new →
+      (guest_at new k).progress ≡ progress_failed (guest_at old k).progress →
+      OtherGuests old k new → KeepsRules old new →
+      HearsAt old k bytes used ended new
+
+-- ---- connections
+
+-- nobody had to go, or one that gives way was let go
+pub record MakesRoom (old : Desk) (left : Option ℕ) (new : Desk) : Type 0 where
+  pub none : left ≡ None → new ≡ old
+  pub one : (k : ℕ) → left ≡ Some k →
+      (k < 8) × (gives_way (guest_at old k).progress ≡ true)
+      × ((taken : Bool) × LetsGo old k taken (leave_line k) new)
+
+-- a viewer has just taken a seat
+pub record Welcomes (old : Desk) (k : ℕ) (new : Desk) : Type 0 where
+  pub share : new.share ≡ old.share
+  pub more : seated new ≤ suc (seated old)
+  pub guest : guest_at new k ≡ newcomer
+  pub others : OtherGuests old k new
+  pub lines : lines_of new ≡ lines_of old
+  pub rules : KeepsRules old new
+
+-- a line tells that there is no seat for a connection from there
+pub record TurnsAway (old : Desk) (from : List ℕ) (seat : Option ℕ) (new : Desk) : Type 0 where
+  pub none : seat ≡ None
+  pub share : new.share ≡ old.share
+  pub guests : (k : ℕ) → guest_at new k ≡ guest_at old k
+  pub lines : lines_of new ≡ lines_of old ++ busy_line from
+  pub rules : KeepsRules old new
+
+-- a viewer from there has taken that seat, and a line tells it; there are no more viewers than may be
+pub record SeatsOne (old : Desk) (from : List ℕ) (k : ℕ) (new : Desk) : Type 0 where
+  pub joins : JoinsAs old.share (Some k) new.share
+  pub guest : guest_at new k ≡ newcomer
+  pub others : OtherGuests old k new
+  pub lines : lines_of new ≡ lines_of old ++ come_line k from
+  pub few : seated new ≤ new.rules.viewers
+  pub rules : KeepsRules old new
+
+-- one of the two
+abbrev pub AdmitsAs : Desk → List ℕ → Option ℕ → Desk → Type 0
+AdmitsAs old from None new = TurnsAway old from None new
+AdmitsAs old from (Some k) new = SeatsOne old from k new
+
+pub record Admits (old : Desk) (from : List ℕ) (seat left : Option ℕ) (new : Desk) : Type 0 where
+  pub mid : Desk
+  pub room : MakesRoom old left mid
+  pub admits : AdmitsAs mid from seat new
