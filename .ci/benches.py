@@ -33,6 +33,10 @@ def the_cost_of_a_hub_is_printed():
     assert b"\nresident, KiB: 1 viewers " in printed("hub.py", [Run.program, "--once"])
 
 
+def the_cost_of_a_delivery_is_printed():
+    assert printed("delivery.py", [Run.program, "--once"]).startswith(b"a delivery of one byte, ")
+
+
 def the_cost_of_serving_is_printed():
     assert b"\na step of the scene in Hextile: " in printed("serve.py", [Run.program, "--once"])
 
@@ -61,6 +65,7 @@ def the_recordings_of_a_bench_show_what_their_fills_draw():
 
 ROWS = [
     the_cost_of_a_hub_is_printed,
+    the_cost_of_a_delivery_is_printed,
     the_cost_of_serving_is_printed,
     the_cost_of_a_share_is_printed,
     the_largest_memory_of_a_run_is_printed,

@@ -61,8 +61,9 @@ STAND_INS = {
     "qemu-system-x86_64": "exec rfb serve --port 5905 --forever >/dev/null",
     "vncsnapshot": "exec rfb view --port 5950 --timeout 20 >/dev/null",
 }
-# The same of one that needs a display, and goes on until somebody ends it.
-NEVER_ENDS = {"vncviewer": "exec rfb view --port 5950 --timeout 20 --updates 2 >/dev/null"}
+# The same of what needs a display or a browser, and goes on until somebody ends it.
+NEVER_ENDS = {"vncviewer": "exec rfb view --port 5950 --timeout 20 --updates 2 >/dev/null",
+              "websockify": "exec rfb view --port 5962 --timeout 20 >/dev/null"}
 
 # What a line of a block may begin with, so that no text is run in place of a command.
 PROGRAMS = ("alias", "cmp", "install", "kill", "printf", "python3", "rfb", *STAND_INS, *NEVER_ENDS)

@@ -29,6 +29,7 @@ trap 'rm -rf "$room"' EXIT
 tests='
 rfb_server tests::memory::an_update_that_was_refused_memory_is_composed_by_the_next_call 0
 rfb_server tests::memory::a_text_that_was_refused_memory_fails_the_server_for_good 0
+rfb_server tests::late::a_session_that_was_refused_memory_is_ready_by_the_same_byte 0
 rfb_viewer tests::long_texts::want_of_memory_is_reported_for_good 0
 rfb_viewer tests::calls::a_text_without_memory_leaves_the_buffer 1
 rfb_session world::tests::memory::a_world_that_is_refused_memory_is_closed 0

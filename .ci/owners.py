@@ -12,13 +12,23 @@ import sys
 from calls import Call, Run, ends, failing, judged
 from peers import free_port
 
+PORT = free_port()
+LISTENS = b"rfb: listening on 127.0.0.1:%d\n" % PORT
+NO_SCREEN = b": the lines end before it, and none says `screen W H`"
+
+
 def bad_lines(*numbers):
     return b"".join(b"line %d: bad line\n" % number for number in numbers)
 
 
+def why_bad(number, cause):
+    return b"rfb: line %d of standard input%s\n" % (number, cause) + bad_lines(number)
+
+
 CALLS = [
-    Call("share_of_nothing", ["share", "--port", str(free_port())], b"", 1, b"", bad_lines(1)),
-    Call("share_with_bad_lines", ["share", "--port", str(free_port())], b"""fill 0 0 1 1 FFFFFF
+    Call("share_of_nothing", ["share", f"--port={PORT}"], b"", 1, b"",
+         LISTENS + why_bad(1, NO_SCREEN)),
+    Call("share_with_bad_lines", ["share", "--quiet", f"--port={PORT}"], b"""fill 0 0 1 1 FFFFFF
 screen 4 3
 
 screen 4 3
@@ -43,7 +53,7 @@ no line
 
 
 def an_owners_line_says_what_its_words_say():
-    words = ["share", "--port", str(free_port())]
+    words = ["share", "--quiet", "--port", str(free_port())]
     ends(words, b"screen 8 8\nfill 1 2 3 4 FF8000\nfill 1 2 3 4 ffff80800000\ncopy 1 2 3 4 5 4\n"
          b"hint 1 2 3 4 0 4\nscroll 1 2 3 4 -32767 8\nend 7\nquit\n", 0)
     ends(words, b"screen 4097 1\nscreen 0 1\nscreen 4096 1\nquit\n", 0, b"", bad_lines(1, 2))
@@ -61,7 +71,7 @@ def an_owners_line_says_what_its_words_say():
 
 
 def an_owners_last_line_may_lack_its_newline():
-    words = ["share", "--port", str(free_port())]
+    words = ["share", "--quiet", "--explain", "--port", str(free_port())]
     ends(words, b"screen 2 1\nquit", 0)
     ends(words, b"screen 2 1\npixels 0 0 1 1\nab\nquit\nx\nquit", 0, b"", bad_lines(2, 3))
     # No line says the size of the screen.
@@ -113,8 +123,8 @@ OWNER_CAUSES = (
 # All that an owner says, where it makes no screen; the number of the last line, and what is said
 # of it.
 OWNER_ENDS = (
-    (b"", 1, b": the lines end before it, and none says `screen W H`"),
-    (b"\n\n", 3, b": the lines end before it, and none says `screen W H`"),
+    (b"", 1, NO_SCREEN),
+    (b"\n\n", 3, NO_SCREEN),
     (b"quit", 1, b": `screen W H` stands first, and once"),
     (b"pixels 0 0 1 1\nab", 1, b": `screen W H` stands first, and once"),
     (b"\nscreen 0 1", 2, b": `0` is no number from 1 to 4096"),
@@ -124,23 +134,16 @@ OWNER_ENDS = (
 )
 
 
-def why_bad(number, cause):
-    return b"rfb: line %d of standard input%s\n" % (number, cause) + bad_lines(number)
-
-
 def an_owners_bad_line_is_explained():
-    port = free_port()
-    words = ["share", "--explain", "--port", str(port)]
-    listens = b"rfb: listening on 127.0.0.1:%d\n" % port
+    words = ["share", f"--port={PORT}"]
     lines = b"".join(line + b"\n" for line, _ in OWNER_CAUSES)
     causes = [why_bad(number, cause) for number, (_, cause) in enumerate(OWNER_CAUSES, 2)]
-    ends(words, b"screen 8 8\n" + lines + b"quit\n", 0, b"", listens + b"".join(causes))
+    ends(words, b"screen 8 8\n" + lines + b"quit\n", 0, b"", LISTENS + b"".join(causes))
     for given, number, cause in OWNER_ENDS:
-        ends(words, given, 1, b"", listens + why_bad(number, cause))
+        ends(words, given, 1, b"", LISTENS + why_bad(number, cause))
     ends(words, b"paint\nfill 0 0 1 1 000000\n", 1, b"",
-         listens + why_bad(1, b" begins with `paint`, as no line there does")
-         + why_bad(2, b": `screen W H` stands first, and once")
-         + why_bad(3, b": the lines end before it, and none says `screen W H`"))
+         LISTENS + why_bad(1, b" begins with `paint`, as no line there does")
+         + why_bad(2, b": `screen W H` stands first, and once") + why_bad(3, NO_SCREEN))
 
 
 ROWS = [

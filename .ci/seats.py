@@ -7,6 +7,7 @@ Each row starts a share and clients, and looks at what they see and at what the 
 is how many connections come one after another. The last line is 'N passed, M failed'.
 """
 
+import fcntl
 import os
 import socket
 import struct
@@ -107,7 +108,7 @@ def eight_that_say_nothing_keep_no_ninth_out():
 
 
 def a_handshake_has_its_time_and_no_more():
-    share = Share("--handshake", "1", "--explain")
+    share = Share("--handshake", "1")
     share.say("screen 2 1\n")
     viewer = Viewer(share).hello()
     slow = connected(share.port)
@@ -121,8 +122,7 @@ def a_handshake_has_its_time_and_no_more():
     taken = time.time() - start
     assert 0.9 < taken < 2, taken
     wait_for(lambda: lines_of(share, b"leave"), share.output)
-    why = b"rfb: the viewer at seat 1 was let go: its handshake was not done within 1 second\n"
-    wait_for(lambda: why in share.errors, share.errors)
+    share.says(b"the viewer at seat 1 leaves: its handshake was not done within 1 s")
     # Who has done it may be silent for as long as it likes.
     time.sleep(1.2)
     viewer.ask(0)
@@ -133,7 +133,7 @@ def a_handshake_has_its_time_and_no_more():
 
 def a_viewer_that_takes_nothing_of_what_waits_is_let_go(width=2048, height=1536):
     """Who waits for what changes is not, nor one that sends meanwhile."""
-    share = Share("--timeout", "1", "--explain")
+    share = Share("--timeout", "1")
     share.say(f"screen {width} {height}\n")
     silent, stuck, busy = viewers(share, 3)
     silent.ask(0)
@@ -148,8 +148,7 @@ def a_viewer_that_takes_nothing_of_what_waits_is_let_go(width=2048, height=1536)
         assert time.time() < start + 10, share.output
     taken = time.time() - start
     assert 0.9 < taken < 3, taken
-    why = b"seat 1 was let go: bytes waited for it for 1 second, and it took none\n"
-    wait_for(lambda: why in share.errors, share.errors)
+    share.says(b"the viewer at seat 1 leaves: bytes waited for it for 1 s, and it took none")
     while time.time() < start + 3:
         busy.send(key(65))
         time.sleep(0.1)
@@ -198,13 +197,13 @@ def of_a_view_alone_nothing_is_told_but_who_comes_and_goes():
 
 
 def the_owner_lets_a_viewer_go():
-    share = Share("--explain")
+    share = Share()
     share.say("screen 2 1\n")
     three = viewers(share, 3)
     share.say("end 1\nend 5\nend 1\n")
     assert three[1].has_ended()
     share.tells(b"leave 1 ok")
-    wait_for(lambda: b"seat 1 was let go: a line says `end 1`\n" in share.errors, share.errors)
+    share.says(b"the viewer at seat 1 leaves: a line says `end 1`")
     for viewer in three[0], three[2]:
         viewer.ask(0)
         viewer.update()
@@ -213,12 +212,57 @@ def the_owner_lets_a_viewer_go():
     share.quits()
 
 
+def of_each_that_leaves_one_sentence_says_why(width=2048, height=1536):
+    """Of one that has failed too, which takes nothing of what waits for it: time lets it go then, or
+    a newcomer."""
+    share = Share("--handshake", "1", "--viewers", "3")
+    share.say(f"screen {width} {height}\n")
+    unknown = "the viewer sent a message of type 99, which no client has in RFC 6143"
+    told = []
+
+    def leaves(seat, line, why):
+        told.append(b"leave %d %b" % (seat, line))
+        share.tells(told[-1], told.count(told[-1]))
+        sentences.append(f"rfb: the viewer at seat {seat} leaves: {why}".encode())
+
+    def fails(viewer):
+        viewer.ask(0)
+        viewer.get(100)
+        viewer.send(b"\x63")
+        leaves(0, b"fault 7 UnknownMessage", unknown)
+
+    sentences = [b"rfb: listening on 127.0.0.1:%d" % share.port]
+    failing, closing, breaking = viewers(share, 3)
+    fails(failing)
+    closing.close()
+    leaves(1, b"ok", "it closed its connection")
+    breaking.close(reset=True)
+    leaves(2, b"fault 29 Device", "its connection broke")
+    silent = Viewer(share)
+    leaves(1, b"ok", "its handshake was not done within 1 s")
+    failing, closing, other = viewers(share, 3)
+    fails(failing)
+    newcomer = Viewer(share).hello()
+    share.tells(b"join 0", 3)
+    closing.close()
+    leaves(1, b"ok", "it closed its connection")
+    silent = Viewer(share)
+    alone = Viewer(share).hello(0)
+    leaves(1, b"ok", "its handshake was not done, and another one came")
+    for seat in 0, 2:
+        leaves(seat, b"ok", "the one at seat 1 asked for the screen alone")
+    share.say("end 1\n")
+    leaves(1, b"ok", "a line says `end 1`")
+    share.quits()
+    assert share.errors.split(b"\n") == [*sentences, b""], share.errors
+
+
 # ---- who waits for whom
 
 def a_flood_of_keys_that_nobody_hears_holds_no_viewer_up(seconds=5):
     """Standard output is not read; seven viewers follow a screen that moves, and then each key is
     told, in order."""
-    share = Share(hears=False)
+    share = Share(hears=["errors"])
     share.say("screen 64 48\n")
     eight = viewers(share, 8)
     flooding, seven = eight[0], eight[1:]
@@ -255,7 +299,7 @@ def a_flood_of_keys_that_nobody_hears_holds_no_viewer_up(seconds=5):
         longest = max(longest, time.time() - begun)
         frames += 1
     assert longest < 2, longest
-    share.hear_output()
+    share.hear("output")
     done.set()
     thread.join()
     share.tells(b"key 0 down %d" % (sent[0] - 1))
@@ -325,8 +369,10 @@ def a_stuck_viewer_has_each_byte_in_the_end(width=2048, height=1536):
 
 
 def many_connections_come_one_after_another():
-    """Each third is a viewer, each third says nothing, and each third ends by a reset."""
-    share = Share()
+    """Each third is a viewer, each third says nothing, and each third ends by a reset. Nobody reads
+    the sentences that say so, and the owner is heard all the same."""
+    share = Share(hears=["output"])
+    fcntl.fcntl(share.run.stderr, fcntl.F_SETPIPE_SZ, 4096)
     share.say("screen 64 64\n")
     other = Viewer(share).hello()
     usual = share.descriptors()
@@ -345,8 +391,9 @@ def many_connections_come_one_after_another():
             figures.append(share.settled(usual))
     assert figures[1][0] - figures[0][0] <= 64, figures
     assert len(lines_of(share, b"come")) == MANY + 1, len(lines_of(share, b"come"))
-    other.ask(0)
-    other.update()
+    share.say("fill 0 0 64 64 010203\n")
+    other.sees(63, 63, (1, 2, 3))
+    share.hear("errors")
     share.quits()
     return f"{MANY} connections; KiB and descriptors at half and at the end: {figures}"
 
@@ -386,7 +433,7 @@ def no_viewer_sees_a_part_of_a_scene(scenes=20, lines=200):
     for thread in threads:
         thread.join(10)
     assert not wrong, wrong[0]
-    assert not share.errors, share.errors
+    assert b"bad line" not in share.errors, share.errors
     share.quits()
 
 
@@ -453,6 +500,7 @@ ROWS = [a_seat_is_told_of_from_its_first_byte_to_its_last,
         a_handshake_has_its_time_and_no_more, a_viewer_that_takes_nothing_of_what_waits_is_let_go,
         who_wants_the_screen_alone_has_it_unless_all_share,
         of_a_view_alone_nothing_is_told_but_who_comes_and_goes, the_owner_lets_a_viewer_go,
+        of_each_that_leaves_one_sentence_says_why,
         a_flood_of_keys_that_nobody_hears_holds_no_viewer_up,
         what_one_does_wrong_is_nothing_to_three_others, a_stuck_viewer_has_each_byte_in_the_end,
         many_connections_come_one_after_another, no_viewer_sees_a_part_of_a_scene,

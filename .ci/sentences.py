@@ -1,5 +1,5 @@
 #!/usr/bin/env python3
-"""The sentences of --explain: each where it is true, beside the bytes of which it is said.
+"""The sentences of --explain, and of `share`: each where it is true, beside what it is said of.
 
     .ci/sentences.py PROGRAM..
 
@@ -8,6 +8,7 @@ Each row compares all of standard error. Bytes are made by functions named after
 are not here. The last line is 'N passed, M failed'.
 """
 
+import os
 import resource
 import socket
 import struct
@@ -17,6 +18,7 @@ from calls import DEVICE, UNWRITTEN, Run, closed_after, ends, failing, folder, j
 from messages import (CLIENT, HELLO, SERVER, VERSION, client_init, hextile, message, rectangle, rre,
                       security, security_of_33, security_result, server_init, set_pixel_format,
                       texted)
+from owners import LISTENS, NO_SCREEN, PORT, why_bad
 from peers import Server, breaks, free_port, takes, viewing, visits
 
 # ---- what a server does wrong
@@ -128,6 +130,22 @@ def an_input_that_cannot_be_read_is_said():
         with failing(given) as source:
             Run(["play", "--explain"], source=source).ends(
                 1, b"", told + unread + RESET + place + DEVICE)
+    with failing(b"") as source:
+        Run(["share", f"--port={PORT}"], source=source).ends(
+            1, b"", LISTENS + unread + RESET + why_bad(1, NO_SCREEN))
+
+
+def a_share_whose_lines_cannot_be_written_says_so():
+    words, given = ["share", f"--port={PORT}"], b"screen 2 1\n"
+    for quiet in [], ["--quiet"]:
+        with open("/dev/full", "wb") as full:
+            run = Run([*words, *quiet], given, output=full)
+            visits(PORT, b"")
+            run.ends(1, b"", (b"" if quiet else LISTENS + b"rfb: cannot write standard output: "
+                              b"No space left on device (os error 28)\n") + DEVICE)
+        told = b"rfb: standard output is closed, and lines go there that say what viewers do\n"
+        Run([*words, *quiet], given, before=lambda: os.close(1)).ends(
+            1, b"", (b"" if quiet else told) + DEVICE)
 
 
 def what_a_view_fails_at_is_said():
@@ -221,6 +239,7 @@ ROWS = [
     each_encoding_is_named,
     a_screen_without_memory_is_said,
     an_input_that_cannot_be_read_is_said,
+    a_share_whose_lines_cannot_be_written_says_so,
     what_a_view_fails_at_is_said,
     a_loop_without_a_connection_is_said,
     what_a_script_lacks_is_said,

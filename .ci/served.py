@@ -182,7 +182,7 @@ def what_cannot_be_listened_on_is_said():
                 ("192.0.2.1", "Cannot assign requested address (os error 99)"), ("a..b", unknown)):
             ends([command, "--explain", f"--port={port}", "--listen", address], b"", 1, b"",
                  f"rfb: cannot listen on {address}:{port}: {why}\n".encode() + DEVICE)
-    ends(["share", "--explain", f"--port={port}"], b"screen 2 1\nquit\n", 0, b"",
+    ends(["share", f"--port={port}"], b"screen 2 1\nquit\n", 0, b"",
          f"rfb: listening on 127.0.0.1:{port}\n".encode())
 
 

@@ -24,7 +24,7 @@ MANY = int(os.environ.get("MANY", "400"))
 # ---- rows
 
 def each_line_draws_and_each_event_is_reported():
-    share = Share("--name", "wall")
+    share = Share("--name", "wall", "--quiet")
     share.say("screen 4 3\n\nfill 0 0 4 3 102030\nfill 1 1 2 1 ff0000\n")
     viewer = Viewer(share).hello()
     assert viewer.name == b"wall" and (viewer.width, viewer.height) == (4, 3)
@@ -50,7 +50,7 @@ def each_line_draws_and_each_event_is_reported():
     viewer.sees(0, 0, (1, 2, 3))
     assert viewer.at(3, 2) == (0, 255, 0)
     wanted = b"".join(b"line %d: bad line\n" % (first + k) for k in range(len(bad)))
-    wait_for(lambda: share.errors.endswith(wanted), share.errors)
+    wait_for(lambda: share.errors == wanted, share.errors)
     viewer.send(key(0xFF0D) + key(97, 0))
     viewer.send(struct.pack(">BBHH", 5, 1, 2, 1) + struct.pack(">BxxxI", 6, 5) + b"hi\0\xffz")
     for line in (b"join 0", b"key 0 down 65293", b"key 0 up 97", b"pointer 0 1 2 1",
@@ -122,7 +122,7 @@ def the_last_line_may_lack_its_newline():
             (b"fill 1 0 1 1 01020", white, bad),
             (b"screen 2 1", white, bad),
             (b"x" * 97, white, bad)):
-        share = Share("--until-idle")
+        share = Share("--until-idle", "--quiet")
         share.say(b"screen 2 1\nfill 0 0 2 1 ffffff\n" + last)
         share.run.stdin.close()
         wait_for(lambda: share.errors == errors, (last, share.errors))
@@ -145,13 +145,14 @@ def a_last_line_that_is_bad_is_explained():
             (b"pixels 0 0 1 1\nabcd", b": no newline follows its 3 bytes of pixels"),
             (b"pixels 1 0 2 1\nabc", b" has a rectangle that leaves the screen, 2 by 1"),
             (b"paint", b" begins with `paint`, as no line there does")):
-        share = Share("--explain", "--until-idle")
+        share = Share("--until-idle")
         share.say(b"screen 2 1\n\n" + last)
         share.run.stdin.close()
         Viewer(share).hello().close()
         share.ends()
         told = b"rfb: listening on 127.0.0.1:%d\n" % share.port
         told += b"rfb: line 3 of standard input" + cause + b"\nline 3: bad line\n"
+        told += b"rfb: the viewer at seat 0 leaves: it closed its connection\n"
         wait_for(lambda: share.errors == told, (last, share.errors))
 
 

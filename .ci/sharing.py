@@ -28,8 +28,8 @@ class Share:
     program = None
     runner = []
 
-    def __init__(self, *words, owner=subprocess.PIPE, hears=True):
-        """Its owner's lines may be a file, and its own may be heard later on."""
+    def __init__(self, *words, owner=subprocess.PIPE, hears=("output", "errors")):
+        """Its owner's lines may be a file, and what it writes may be heard later on."""
         self.port = free_port()
         self.run = subprocess.Popen(
             [*self.runner, self.program, "share", "--port", str(self.port), *words],
@@ -37,14 +37,11 @@ class Share:
         self.output = b""
         self.errors = b""
         self.threads = []
-        self.hear("errors", self.run.stderr)
-        if hears:
-            self.hear_output()
+        for name in hears:
+            self.hear(name)
 
-    def hear_output(self):
-        self.hear("output", self.run.stdout)
-
-    def hear(self, name, stream):
+    def hear(self, name):
+        stream = self.run.stdout if name == "output" else self.run.stderr
         thread = threading.Thread(target=self.listen, args=(name, stream), daemon=True)
         thread.start()
         self.threads.append(thread)
@@ -62,6 +59,9 @@ class Share:
 
     def tells(self, line, times=1):
         wait_for(lambda: self.output.split(b"\n").count(line) >= times, (line, self.output[-300:]))
+
+    def says(self, sentence):
+        wait_for(lambda: b"rfb: %b\n" % sentence in self.errors, (sentence, self.errors[-300:]))
 
     def ends(self, status=0):
         assert self.run.wait(10) == status, (self.run.returncode, self.errors)
