@@ -1,20 +1,244 @@
 #!/usr/bin/env python3
-"""What a share costs: `rfb share` under callgrind, beside clients.
+"""What a share costs: `rfb share` beside a server of libvncserver that does the same, and under
+callgrind.
 
     bench/share.py [PROGRAM] [--once]
 
-One place changes, and each viewer that has asked gets its update and asks again: the instructions of
-some rounds, less those of fewer, over the difference. Frames of `pixels` beside eight viewers that
-have not asked, of three less of one, over the places of two. Needs valgrind. The clients are those
-of `.ci/sharing.py`.
+A table of what is measured from outside, by viewers that cost little (`peer/crowd.c`): it needs a C
+compiler, and libvncserver for its second column (`peer/share.c`). Then instructions, which need
+valgrind: one place changes, and each viewer that has asked gets its update and asks again, some
+rounds less fewer, over the difference; and frames of `pixels` beside eight viewers that have not
+asked, three less one, over the places of two.
 """
 
+import gzip
+import os
+import shutil
+import statistics
+import subprocess
+import sys
+import tempfile
+import time
+
 import callgrind
+from messages import key
+from peers import connected
 from sharing import Share, Viewer, viewers
 
-Share.program, Share.runner = callgrind.program(), callgrind.RUNNER
-ROUNDS = (1, 2) if callgrind.ONCE else (50, 250)
-SIZE = (64, 48) if callgrind.ONCE else (1920, 1080)
+ONCE, HERE = callgrind.ONCE, callgrind.HERE
+SIZE = (64, 48) if ONCE else (1920, 1080)
+CONSOLE = 2 if ONCE else 1500
+FRAMES = 2 if ONCE else 40
+LINES = 3 if ONCE else 300
+RAW, HEXTILE = (0,), (5, 0)
+# A viewer that lists CopyRect draws the cursor by itself: else libvncserver looks for one.
+COPIES = (1, -239, *HEXTILE)
+
+
+class Crowd:
+    """Viewers of a share, by processes that are no part of this one."""
+
+    program = None
+
+    def __init__(self, share, count, encodings=RAW, does="changes"):
+        words = [self.program, str(share.port), str(count), does, *map(str, encodings)]
+        connected(share.port).close()
+        self.run = subprocess.Popen(words, stdin=subprocess.PIPE, stdout=subprocess.PIPE, text=True,
+                                    bufsize=1)
+        assert self.run.stdout.readline() == "ready\n", words
+
+    def looks_for(self, x, y, colour):
+        self.run.stdin.write(f"{x} {y} {colour}\n")
+        assert self.run.stdout.readline() == "armed\n"
+
+    def found(self):
+        """When the last viewer showed what they look for, in seconds."""
+        return int(self.run.stdout.readline()) / 1e9
+
+    def leaves(self):
+        self.run.kill()
+        self.run.wait()
+
+
+def begun(width, height):
+    """A share, of which another process reads what it tells."""
+    share = Share(hears=["errors"])
+    subprocess.Popen(["cat"], stdin=share.run.stdout, stdout=subprocess.DEVNULL)
+    share.say(f"screen {width} {height}\n")
+    return share
+
+
+# ---- from outside
+
+def console():
+    """Lines a second of a console, and processor seconds: all of them at once, eight viewers."""
+    with open(os.path.join(HERE, "..", "examples", "console.py")) as file:
+        text = file.read().replace("40, 12, 2", "40, 12, 2" if ONCE else "160, 60, 2")
+    printed = "".join(f"{k:08} the quick brown fox jumps over it\n"[:43] for k in range(CONSOLE))
+    lines = subprocess.run([sys.executable, "-c", text], input=printed.encode(),
+                           stdout=subprocess.PIPE, check=True).stdout
+    first, rest = lines.split(b"\n", 1)
+    share = begun(*map(int, first.split()[1:]))
+    crowd = Crowd(share, 8, COPIES)
+    before, start = share.ticks(), time.monotonic()
+    crowd.looks_for(0, 0, "010203")
+    share.say(rest + b"fill 0 0 1 1 010203\n")
+    taken = crowd.found() - start
+    seconds = (share.ticks() - before) / 100
+    crowd.leaves()
+    share.quits()
+    return f"{CONSOLE / taken:,.0f}; {seconds:.1f}"
+
+
+def picture():
+    """The rows of a picture of windows, red, green and blue of each place."""
+    width, height = SIZE
+    rows = [bytearray(3 * width) for _ in range(height)]
+    with gzip.open(os.path.join(HERE, "office.fills.gz"), "rt") as fills:
+        for line in fills:
+            x, y, w, h = map(int, line.split()[1:5])
+            data = bytes.fromhex(line.split()[5]) * min(w, max(0, width - x))
+            for row in rows[y:y + h]:
+                row[3 * x:3 * x + len(data)] = data
+    return rows
+
+
+def frames(count, encodings, rows=[]):
+    """Processor seconds for frames, each of which all viewers have before the next one."""
+    rows[:] = rows or picture()
+    share = begun(*SIZE)
+    crowd = Crowd(share, count, encodings)
+    before = share.ticks()
+    for frame in range(FRAMES):
+        moved = rows[9 * frame:] + rows[:9 * frame]
+        crowd.looks_for(0, 0, f"{frame + 1:06x}")
+        share.say(b"pixels 0 0 %d %d\n" % SIZE + (frame + 1).to_bytes(3, "big")
+                  + b"".join(moved)[3:] + b"\n")
+        crowd.found()
+    seconds = (share.ticks() - before) / 100
+    crowd.leaves()
+    share.quits()
+    return f"{seconds:.2f}"
+
+
+def memory():
+    """The largest memory beside eight viewers, and of a connection before its handshake."""
+    share = begun(*SIZE)
+    connected(share.port).close()
+    time.sleep(0.3)
+    before = share.memory()
+    silent = [connected(share.port) for _ in range(8)]
+    for stream in silent:
+        stream.recv(12)
+    each = (share.memory() - before) / 8
+    for stream in silent:
+        stream.close()
+    crowd = Crowd(share, 8)
+    for frame in range(3):
+        crowd.looks_for(0, 0, f"{frame + 1:06x}")
+        share.say("fill 0 0 %d %d %06x\n" % (*SIZE, frame + 1))
+        crowd.found()
+    with open(f"/proc/{share.run.pid}/status") as status:
+        most = next(int(line.split()[1]) for line in status if line.startswith("VmHWM"))
+    crowd.leaves()
+    share.quits()
+    return f"{most / 1024:.1f} MiB; {each:.0f} KiB"
+
+
+def delay(beside=0, does=None):
+    """From an owner's line to the pixel at a viewer, in milliseconds: the median."""
+    share = begun(*SIZE)
+    others = Crowd(share, beside, RAW, does) if beside else None
+    crowd = Crowd(share, 1)
+    times = []
+    for line in range(LINES):
+        crowd.looks_for(line % SIZE[0], 7, f"{line + 1:06x}")
+        start = time.monotonic()
+        share.say(f"fill {line % SIZE[0]} 7 1 1 {line + 1:06x}\n")
+        times.append(crowd.found() - start)
+        time.sleep(0.003)
+    for each in filter(None, (crowd, others)):
+        each.leaves()
+    share.quits()
+    return f"{1000 * statistics.median(times):.2f}"
+
+
+def writes():
+    """Writes to standard output for 1,000 keys that come at once."""
+    share = Share()
+    share.say("screen 2 1\n")
+    viewer = Viewer(share).hello()
+
+    def written():
+        with open(f"/proc/{share.run.pid}/io") as io:
+            return next(int(line.split()[1]) for line in io if line.startswith("syscw"))
+
+    share.tells(b"join 0")
+    before = written()
+    viewer.send(b"".join(key(k) for k in range(1000)))
+    share.tells(b"key 0 down 999")
+    count = written() - before
+    share.quits()
+    return f"{count}"
+
+
+def idle():
+    """Processor seconds of ten in which nothing happens, beside eight viewers."""
+    share = begun(*SIZE)
+    crowd = Crowd(share, 8)
+    time.sleep(0.5)
+    before = share.ticks()
+    time.sleep(0.1 if ONCE else 10)
+    seconds = (share.ticks() - before) / 100
+    crowd.leaves()
+    share.quits()
+    return f"{seconds:.2f}"
+
+
+ROWS = [
+    ("a console of 1,280 by 720, eight viewers: lines a second; processor seconds", console),
+    ("frames as `pixels`, processor seconds: one viewer, Raw", lambda: frames(1, RAW)),
+    ("the same in Hextile", lambda: frames(1, HEXTILE)),
+    ("eight viewers, Raw", lambda: frames(8, RAW)),
+    ("the same in Hextile", lambda: frames(8, HEXTILE)),
+    ("largest memory, eight viewers; a connection before its handshake", memory),
+    ("a line to its pixel, median, in ms: alone", delay),
+    ("beside a flood of pointers", lambda: delay(1, "pointers")),
+    ("beside seven that ask for whole screens", lambda: delay(7, "whole")),
+    ("writes to standard output for 1,000 events at once", writes),
+    ("processor seconds of ten, idle, eight viewers", idle),
+]
+
+
+def built(room, name, *libraries):
+    """A program of `peer` in C, or nothing where it cannot be had."""
+    words = ["cc", "-O2", "-o", os.path.join(room, name), os.path.join(HERE, "peer", name + ".c")]
+    if not shutil.which("cc") or subprocess.run([*words, *libraries], check=False,
+                                                stderr=subprocess.DEVNULL).returncode:
+        return None
+    return words[3]
+
+
+def table(program):
+    with tempfile.TemporaryDirectory() as room:
+        Crowd.program, peer = built(room, "crowd"), built(room, "share", "-lvncserver")
+        if not Crowd.program:
+            print("there is no C compiler here: no table")
+            return
+        if not peer:
+            print("there is no libvncserver here: the last column is empty")
+        print("| Work | `rfb share` | libvncserver |\n|---|---|---|")
+        for name, row in ROWS:
+            cells = []
+            for Share.program in (program, peer):
+                of_peer = Share.program == peer
+                cells.append("-" if not Share.program or of_peer and row == writes else row())
+            print(f"| {name} | {' | '.join(cells)} |", flush=True)
+
+
+# ---- instructions
+
+ROUNDS = (1, 2) if ONCE else (50, 250)
 
 
 def counted(share):
@@ -53,7 +277,7 @@ def a_round(count, stuck=False):
     return (many - few) / (ROUNDS[1] - ROUNDS[0])
 
 
-def frames(count):
+def drawn(count):
     """Frames of different bytes, read, drawn and marked for eight viewers."""
     width, height = SIZE
     share = Share()
@@ -65,11 +289,17 @@ def frames(count):
     return counted(share)
 
 
-places = 2 * SIZE[0] * SIZE[1]
-print(f"pixels, eight viewers: {(frames(3) - frames(1)) / places:.2f} instructions a place",
-      flush=True)
-for count in (8,) if callgrind.ONCE else (0, 1, 8):
-    print(f"one place changes, {count} viewers: {a_round(count):,.0f} instructions", flush=True)
-for stuck in (True,) if callgrind.ONCE else (False, True):
-    print(f"seven viewers, {'a stuck one beside them' if stuck else 'no other'}: "
-          f"{a_round(7, stuck):,.0f} instructions", flush=True)
+def instructions_of_all():
+    places = 2 * SIZE[0] * SIZE[1]
+    print(f"pixels, eight viewers: {(drawn(3) - drawn(1)) / places:.2f} instructions a place",
+          flush=True)
+    for count in (8,) if ONCE else (0, 1, 8):
+        print(f"one place changes, {count} viewers: {a_round(count):,.0f} instructions", flush=True)
+    for stuck in (True,) if ONCE else (False, True):
+        print(f"seven viewers, {'a stuck one beside them' if stuck else 'no other'}: "
+              f"{a_round(7, stuck):,.0f} instructions", flush=True)
+
+
+table(callgrind.program())
+Share.program, Share.runner = callgrind.program(), callgrind.RUNNER
+instructions_of_all()
